@@ -1,0 +1,6 @@
+-- Type tables: what they are, what their octets are, when they pass (document 01, "Tables" and "Refused" 1 to 6).
+-- Assumes nothing.
+pub mod Syntax
+pub mod Octets
+pub mod Rules
+pub mod Passes

@@ -1,0 +1,84 @@
+-- The octet form of a table, and which tables have one (document 01, "Tables").
+-- Assumes nothing.
+use mathlib.Core.Bool.{Bool, true, false, _&&_}
+use mathlib.Core.List.{List, [], _∷_, _++_, map}
+use mathlib.Core.Path.{_≡_}
+use Prim.Native.Nat.{ℕ, _+_, _≤_}
+use lib.Dec.{leb}
+use lib.ListN.{length}
+use Rattle.octets.specs.Lists.{all, joined}
+use Rattle.octets.specs.Numbers.{octetsOf}
+use Rattle.table.specs.Syntax.{Tag, Member, Boolean, Integer, BitString, OctetString, Null, Enumerated, Body, Plain, Sequence, Set, SequenceOf, SetOf, Choice, Record}
+
+unfoldable pub kind : Body → ℕ
+kind (Plain Boolean) = 1
+kind (Plain Integer) = 2
+kind (Plain BitString) = 3
+kind (Plain OctetString) = 4
+kind (Plain Null) = 5
+kind (Plain (Enumerated ns)) = 10
+kind (Sequence ms) = 16
+kind (Set ms) = 17
+kind (SequenceOf t) = 48
+kind (SetOf t) = 49
+kind (Choice ts) = 50
+
+unfoldable pub tagOctets : Tag → List ℕ
+tagOctets g = g .class ∷ octetsOf (g .number)
+
+abbrev pub flag : Bool → ℕ
+flag true = 1
+flag false = 0
+
+unfoldable pub memberOctets : Member → List ℕ
+memberOctets m = m .type ∷ flag (m .optional) ∷ []
+
+-- "the kind's own part"
+unfoldable pub own : Body → List ℕ
+own (Plain Boolean) = []
+own (Plain Integer) = []
+own (Plain BitString) = []
+own (Plain OctetString) = []
+own (Plain Null) = []
+own (Plain (Enumerated ns)) = length ns ∷ joined (map octetsOf ns)
+own (Sequence ms) = length ms ∷ joined (map memberOctets ms)
+own (Set ms) = length ms ∷ joined (map memberOctets ms)
+own (SequenceOf t) = t ∷ []
+own (SetOf t) = t ∷ []
+own (Choice ts) = length ts ∷ ts
+
+-- "A record is the mark 54 59, the kind (one octet), a count of tags (0 to 4), the tags, and the kind's own part."
+unfoldable pub recordOctets : Record → List ℕ
+recordOctets r =
+    0x54 ∷ 0x59 ∷ kind (r .body) ∷ length (r .tags) ∷ (joined (map tagOctets (r .tags)) ++ own (r .body))
+
+-- "strictly rising"; none is below low
+unfoldable pub rising : ℕ → List ℕ → Bool
+rising low [] = true
+rising low (n ∷ ns) = leb low n && rising (n + 1) ns
+
+-- the counts of the own part
+unfoldable pub bodyShaped : Body → Bool
+bodyShaped (Plain Boolean) = true
+bodyShaped (Plain Integer) = true
+bodyShaped (Plain BitString) = true
+bodyShaped (Plain OctetString) = true
+bodyShaped (Plain Null) = true
+bodyShaped (Plain (Enumerated ns)) = leb 1 (length ns) && leb (length ns) 32 && rising 0 ns
+bodyShaped (Sequence ms) = leb (length ms) 16
+bodyShaped (Set ms) = leb (length ms) 16
+bodyShaped (SequenceOf t) = true
+bodyShaped (SetOf t) = true
+bodyShaped (Choice ts) = leb 1 (length ts) && leb (length ts) 16
+
+-- a record within the limits
+unfoldable pub recordShaped : Record → Bool
+recordShaped r = leb (length (r .tags)) 4 && all (λ g. leb (g .class) 3) (r .tags) && bodyShaped (r .body)
+
+-- "A table is 1 to 128 type records, numbered from 0, in at most 8,192 octets." These octets are those of these records.
+pub record Spells (b : List ℕ) (rs : List Record) : Type 0 where
+  pub is : b ≡ joined (map recordOctets rs)
+  pub shaped : all recordShaped rs ≡ true
+  pub some : 1 ≤ length rs
+  pub few : length rs ≤ 128
+  pub short : length b ≤ 8192

@@ -1,0 +1,91 @@
+-- The rules that a table of well-formed records must keep, each for a record number t, and n records (document 01, "Tables" and "Refused" 2 to 6).
+-- Assumes nothing.
+use mathlib.Core.Bool.{Bool, true, false}
+use mathlib.Core.List.{List, [], _∷_, _++_, List·Memᴰ as In}
+use mathlib.Core.Path.{_≡_}
+use Prim.Native.Nat.{ℕ, _≤_, _<_}
+use lib.ListN.{length, getD}
+use Rattle.table.specs.Syntax.{Tag, Member, Simple, Body, Plain, Sequence, Set, SequenceOf, SetOf, Choice, Record, Table, references, isChoice, universal}
+
+-- 2: "record number not there"
+pub record Dangling (T : Table) (n t : ℕ) : Type 0 where
+  pub number : ℕ
+  pub named : In number (references (T t .body))
+  pub beyond : n ≤ number
+
+-- 3: "tag missing on a kind other than CHOICE, or UNIVERSAL tag that is not last, not the kind's number, or on a CHOICE"
+pub data Mistagged (r : Record) : Type 0 where
+  missing : r .tags ≡ [] → isChoice (r .body) ≡ false → Mistagged r
+  not-last : (before after : List Tag) (g h : Tag) → r .tags ≡ before ++ (g ∷ h ∷ after) → g .class ≡ 0 → Mistagged r
+  not-its-number : (before : List Tag) (g : Tag) → r .tags ≡ before ++ (g ∷ []) → g .class ≡ 0 → (g .number ≡ universal (r .body) → ⊥) → Mistagged r
+  on-choice : (g : Tag) → In g (r .tags) → g .class ≡ 0 → isChoice (r .body) ≡ true → Mistagged r
+
+-- the alternatives of a CHOICE without tags; of any other record nothing
+unfoldable pub bodyBelow : Body → List ℕ
+bodyBelow (Plain k) = []
+bodyBelow (Sequence ms) = []
+bodyBelow (Set ms) = []
+bodyBelow (SequenceOf t) = []
+bodyBelow (SetOf t) = []
+bodyBelow (Choice ts) = ts
+
+unfoldable pub tagsBelow : List Tag → Body → List ℕ
+tagsBelow [] b = bodyBelow b
+tagsBelow (g ∷ gs) b = []
+
+abbrev pub below : Table → ℕ → List ℕ
+below T t = tagsBelow (T t .tags) (T t .body)
+
+-- u is t, or is reached from t through CHOICEs without tags alone
+pub data Reaches (T : Table) (u : ℕ) : ℕ → Type 0 where
+  here : Reaches T u u
+  through : {t : ℕ} (a : ℕ) → In a (below T t) → Reaches T u a → Reaches T u t
+
+-- 4: "CHOICE without tags reaches itself through such CHOICEs alone"
+pub record Circular (T : Table) (t : ℕ) : Type 0 where
+  pub alternative : ℕ
+  pub of : In alternative (below T t)
+  pub back : Reaches T t alternative
+
+-- "First tags: those of a record with tags are its outermost tag. The first tags of a CHOICE without tags are those of all its alternatives."
+pub data First (T : Table) (g : Tag) : ℕ → Type 0 where
+  outermost : {t : ℕ} (gs : List Tag) → T t .tags ≡ g ∷ gs → First T g t
+  inside : {t : ℕ} (a : ℕ) → In a (below T t) → First T g a → First T g t
+
+-- what "no two members (in a CHOICE, alternatives)" speaks of
+unfoldable pub parts : Body → List ℕ
+parts (Plain k) = []
+parts (Sequence ms) = references (Sequence ms)
+parts (Set ms) = references (Set ms)
+parts (SequenceOf t) = []
+parts (SetOf t) = []
+parts (Choice ts) = ts
+
+-- 5: "In a SEQUENCE, a SET or a CHOICE, no two members (in a CHOICE, alternatives) may share a first tag."
+pub record Sharing (T : Table) (t : ℕ) : Type 0 where
+  pub i : ℕ
+  pub j : ℕ
+  pub apart : i < j
+  pub within : j < length (parts (T t .body))
+  pub tag : Tag
+  pub first : First T tag (getD (parts (T t .body)) i 0)
+  pub second : First T tag (getD (parts (T t .body)) j 0)
+
+unfoldable pub members : Body → List Member
+members (Plain k) = []
+members (Sequence ms) = ms
+members (Set ms) = ms
+members (SequenceOf t) = []
+members (SetOf t) = []
+members (Choice ts) = []
+
+-- "Each record must have a finite value (document 000, section 3): an optional member may be missing, an OF list may be empty,
+-- a CHOICE needs one alternative that has a finite value."
+pub data Finite (T : Table) : ℕ → Type 0 where
+  all-mandatory : {t : ℕ} → isChoice (T t .body) ≡ false
+      → ((m : Member) → In m (members (T t .body)) → m .optional ≡ false → Finite T (m .type)) → Finite T t
+  one-alternative : {t : ℕ} (ts : List ℕ) (a : ℕ) → T t .body ≡ Choice ts → In a ts → Finite T a → Finite T t
+
+-- 6: "no finite value"
+abbrev pub Infinite : Table → ℕ → Type 0
+Infinite T t = Finite T t → ⊥
