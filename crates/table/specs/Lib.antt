@@ -3,4 +3,5 @@
 pub mod Syntax
 pub mod Octets
 pub mod Rules
+pub mod Reading
 pub mod Passes
