@@ -4,4 +4,7 @@ pub mod Syntax
 pub mod Octets
 pub mod Rules
 pub mod Reading
+pub mod Decide
+pub mod Verdict
+pub mod Examples
 pub mod Passes
