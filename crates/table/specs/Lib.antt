@@ -8,3 +8,7 @@ pub mod Decide
 pub mod Verdict
 pub mod Examples
 pub mod Passes
+pub mod Fields
+pub mod Index
+pub mod Walk
+pub mod Marks

@@ -78,6 +78,10 @@ membersEnd b p =
     if (not (all (λ x. leb x 1) (everyAt 2 b (p + 2) (getD b p 0)))) 0 λ _.
     countedEnd 2 0 16 b p
 
+-- where one record number ends
+unfoldable pub referenceEnd : List ℕ → ℕ → ℕ
+referenceEnd b p = if (leb (length b) p) 0 λ _. p + 1
+
 -- where the own part at p of kind k ends; 0 if it is not shaped
 unfoldable pub ownEnd : List ℕ → ℕ → ℕ → ℕ
 ownEnd b k p =
@@ -86,8 +90,8 @@ ownEnd b k p =
     if (eqb k 10) (enumeratedEnd b p) λ _.
     if (eqb k 16) (membersEnd b p) λ _.
     if (eqb k 17) (membersEnd b p) λ _.
-    if (eqb k 48) (if (leb (length b) p) 0 λ _. p + 1) λ _.
-    if (eqb k 49) (if (leb (length b) p) 0 λ _. p + 1) λ _.
+    if (eqb k 48) (referenceEnd b p) λ _.
+    if (eqb k 49) (referenceEnd b p) λ _.
     if (eqb k 50) (countedEnd 1 1 16 b p) λ _.
     0
 
