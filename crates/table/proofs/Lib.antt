@@ -1,0 +1,3 @@
+-- Reading a table's octets is the inverse of the octet form.
+-- Assumes nothing.
+pub mod Pieces
