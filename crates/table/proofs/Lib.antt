@@ -1,3 +1,4 @@
 -- Reading a table's octets is the inverse of the octet form.
 -- Assumes nothing.
 pub mod Pieces
+pub mod Own

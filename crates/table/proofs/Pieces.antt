@@ -142,3 +142,16 @@ pub every-only : (b : List ℕ) (p : ℕ) (ts : List ℕ) (u : List ℕ) → dro
 unfolding everyAt
 every-only b p [] u e = refl
 every-only b p (t ∷ ts) u e = rw (at-first b p 0 _ _ e, every-only b (p + 1) ts u (behind b p (t ∷ []) _ e))
+
+-- how many octets there are
+
+pub length-tagged : (gs : List Tag) → length (joined (map tagOctets gs)) ≡ 3 * length gs
+unfolding tagOctets
+length-tagged = length-joined tagOctets 3 λ g. refl
+
+pub length-numbered : (ns : List ℕ) → length (joined (map octetsOf ns)) ≡ 2 * length ns
+length-numbered = length-joined octetsOf 2 λ n. refl
+
+pub length-membered : (ms : List Member) → length (joined (map memberOctets ms)) ≡ 2 * length ms
+unfolding memberOctets
+length-membered = length-joined memberOctets 2 λ m. refl
