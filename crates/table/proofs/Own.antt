@@ -113,3 +113,68 @@ own-back b o p l k =
     at k 49 (OwnAt b p) (one-own b (SetOf (getD b p 0)) 49 p refl refl refl) λ e₄₉.
     at k 50 (OwnAt b p) (choice-back b p) λ e₅₀.
     λ h. absurd (h (test (eqb k 0) (λ z. rw z) λ z. rw (z, above-five k z e₁ e₂ e₃ e₄ e₅, e₁₀, e₁₆, e₁₇, e₄₈, e₄₉, e₅₀)))
+
+record Found (size least most : ℕ) (b : List ℕ) (p n : ℕ) : Type 0 where
+  count : getD b p 0 ≡ n
+  end : countedEnd size least most b p ≡ p + 1 + size * n
+
+counted-only : (size least most : ℕ) (b : List ℕ) (p n : ℕ) (xs u : List ℕ) → p ≤ length b → drop p b ≡ (n ∷ xs) ++ u
+    → length xs ≡ size * n → least ≤ n → n ≤ most → Found size least most b p n
+unfolding countedEnd
+counted-only size least most b p n xs u l e z low high =
+    let w = length-behind b p (n ∷ xs) u l e in
+    record { count = at-first b p 0 _ _ e; end =
+    rw (at-first b p 0 _ _ e, lt-leb (length b) p (omega arith), le-leb least n low, le-leb n most high, le-leb (p + 1 + size * n) (length b) (omega arith)) }
+
+-- the body x is read at p, up to its end
+pub record Read (b : List ℕ) (p : ℕ) (x : Body) : Type 0 where
+  pub body : bodyAt b (kind x) p ≡ x
+  pub end : ownEnd b (kind x) p ≡ p + length (own x)
+
+members-read : (b : List ℕ) (p : ℕ) (ms : List Member) (u : List ℕ) → p ≤ length b → drop p b ≡ (length ms ∷ joined (map memberOctets ms)) ++ u
+    → leb (length ms) 16 ≡ true → (membersAt b (p + 1) (getD b p 0) ≡ ms) × (membersEnd b p ≡ p + length (length ms ∷ joined (map memberOctets ms)))
+unfolding membersEnd
+members-read b p ms u l e s =
+    let c = counted-only 2 0 16 b p (length ms) (joined (map memberOctets ms)) u l e (length-membered ms) (omega arith) (leb-true _ _ s) in
+    let t = behind b p (length ms ∷ []) _ e in
+    let q : p + 2 ≡ p + 1 + 1 = omega arith in
+    (rw (c .count) (members-only b (p + 1) ms u t),
+    rw (c .end, ne-eqb (p + 1 + 2 * length ms) 0 (omega arith), c .count, q, flags-only b (p + 1) ms u t, length-membered ms) (omega arith))
+
+enumerated-read : (b : List ℕ) (p : ℕ) (ns : List ℕ) (u : List ℕ) → p ≤ length b → drop p b ≡ (length ns ∷ joined (map octetsOf ns)) ++ u
+    → bodyShaped (Plain (Enumerated ns)) ≡ true
+    → (numbersAt b (p + 1) (getD b p 0) ≡ ns) × (enumeratedEnd b p ≡ p + length (length ns ∷ joined (map octetsOf ns)))
+unfolding enumeratedEnd bodyShaped
+enumerated-read b p ns u l e s =
+    let s₁ = both _ _ s in
+    let s₂ = both _ _ (s₁ .0) in
+    let c = counted-only 2 1 32 b p (length ns) (joined (map octetsOf ns)) u l e (length-numbered ns) (leb-true _ _ (s₂ .0)) (leb-true _ _ (s₂ .1)) in
+    let t = numbers-only b (p + 1) ns u (behind b p (length ns ∷ []) _ e) in
+    (rw (c .count) t,
+    rw (c .end, ne-eqb (p + 1 + 2 * length ns) 0 (omega arith), c .count, t, s₁ .1, length-numbered ns) (omega arith))
+
+choice-read : (b : List ℕ) (p : ℕ) (ts : List ℕ) (u : List ℕ) → p ≤ length b → drop p b ≡ (length ts ∷ ts) ++ u → bodyShaped (Choice ts) ≡ true
+    → (everyAt 1 b (p + 1) (getD b p 0) ≡ ts) × (countedEnd 1 1 16 b p ≡ p + length (length ts ∷ ts))
+unfolding bodyShaped
+choice-read b p ts u l e s =
+    let s₁ = both _ _ s in
+    let c = counted-only 1 1 16 b p (length ts) ts u l e (omega arith) (leb-true _ _ (s₁ .0)) (leb-true _ _ (s₁ .1)) in
+    (rw (c .count) (every-only b (p + 1) ts u (behind b p (length ts ∷ []) _ e)), rw (c .end) (omega arith))
+
+pub own-only : (b : List ℕ) (p : ℕ) (x : Body) (u : List ℕ) → p ≤ length b → drop p b ≡ own x ++ u → bodyShaped x ≡ true → Read b p x
+unfolding own kind bodyAt ownEnd bodyShaped
+own-only b p (Plain Boolean) u l e s = record { body = refl; end = omega arith }
+own-only b p (Plain Integer) u l e s = record { body = refl; end = omega arith }
+own-only b p (Plain BitString) u l e s = record { body = refl; end = omega arith }
+own-only b p (Plain OctetString) u l e s = record { body = refl; end = omega arith }
+own-only b p (Plain Null) u l e s = record { body = refl; end = omega arith }
+own-only b p (Plain (Enumerated ns)) u l e s = let r = enumerated-read b p ns u l e s in record { body = ap (λ l. Plain (Enumerated l)) (r .0); end = r .1 }
+own-only b p (Sequence ms) u l e s = let r = members-read b p ms u l e s in record { body = ap (λ l. Sequence l) (r .0); end = r .1 }
+own-only b p (Set ms) u l e s = let r = members-read b p ms u l e s in record { body = ap (λ l. Set l) (r .0); end = r .1 }
+own-only b p (SequenceOf t) u l e s =
+    let w = length-behind b p (t ∷ []) u l e in
+    record { body = ap (λ n. SequenceOf n) (at-first b p 0 t u e); end = rw (lt-leb (length b) p (omega arith)) }
+own-only b p (SetOf t) u l e s =
+    let w = length-behind b p (t ∷ []) u l e in
+    record { body = ap (λ n. SetOf n) (at-first b p 0 t u e); end = rw (lt-leb (length b) p (omega arith)) }
+own-only b p (Choice ts) u l e s = let r = choice-read b p ts u l e s in record { body = ap (λ l. Choice l) (r .0); end = r .1 }
