@@ -2,3 +2,4 @@
 -- Assumes nothing.
 pub mod Pieces
 pub mod Own
+pub mod Reading
