@@ -3,3 +3,4 @@
 pub mod Pieces
 pub mod Own
 pub mod Reading
+pub mod Scan
