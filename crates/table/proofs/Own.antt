@@ -1,18 +1,18 @@
 -- A kind's own part: what is read at a place has the octets there, and what has them is read.
 -- Assumes nothing.
-use mathlib.Core.Bool.{Bool, true, false, not, _&&_}
+use mathlib.Core.Bool.{true, false}
 use mathlib.Core.List.{List, [], _∷_, _++_, map}
 use mathlib.Core.Path.{_≡_, refl, sym, ap, subst, _∙_}
-use Prim.Native.Nat.{ℕ, zero, suc, _+_, _*_, _≤_, _<_}
+use Prim.Native.Nat.{ℕ, _+_, _*_, _≤_}
 use native.Mathlib.Omega.{arith}
 use lib.Dec.{leb, eqb}
 use lib.ListN.{length, drop, getD}
-use borrow.Author.Tests.{leb-true, leb-false, le-leb, lt-leb, eqb-true, eqb-false, ne-eqb, not-false}
+use borrow.Author.Tests.{leb-true, leb-false, le-leb, lt-leb, eqb-true, eqb-false, ne-eqb}
 use Rattle.octets.specs.Tests.{if, test}
 use Rattle.octets.specs.Lists.{all, joined}
 use Rattle.octets.specs.Numbers.{Octets, octetsOf}
 use Rattle.octets.proofs.Lists.{both, behind, length-behind, at-first, drop-one}
-use Rattle.table.specs.Syntax.{Tag, Member, Boolean, Integer, BitString, OctetString, Null, Enumerated, Body, Plain, Sequence, Set, SequenceOf, SetOf, Choice}
+use Rattle.table.specs.Syntax.{Member, Boolean, Integer, BitString, OctetString, Null, Enumerated, Body, Plain, Sequence, Set, SequenceOf, SetOf, Choice}
 use Rattle.table.specs.Octets.{kind, memberOctets, own, rising, bodyShaped}
 use Rattle.table.specs.Reading.{numbersAt, membersAt, everyAt, bodyAt, countedEnd, enumeratedEnd, membersEnd, ownEnd}
 use Rattle.table.proofs.Pieces.{length-numbers, length-members, length-every, numbers-back, members-back, every-back, numbers-only, members-only, flags-only, every-only, length-numbered, length-membered}
@@ -89,23 +89,27 @@ one-own b x k p o n s h =
     let l = leb-false (length b) p e in
     rw e (counted-own b k p (p + 1) x _ [] o refl n s refl (omega arith) (omega arith))
 
+plain-own : (b : List ℕ) (x : Body) (k p : ℕ) → p ≤ length b → own x ≡ [] → kind x ≡ k → bodyShaped x ≡ true → Own b k p p x
+plain-own b x k p l o n s = record { is = rw o; named = n; shaped = s; more = omega arith; within = l }
+
 at : (k i : ℕ) (P : ℕ → Type 0) → P i → (eqb k i ≡ false → P k) → P k
 at k i P x f = test (eqb k i) (λ e. subst P (sym (eqb-true k i e)) x) f
 
 abbrev OwnAt : List ℕ → ℕ → ℕ → Type 0
 OwnAt b p k = (ownEnd b k p ≡ 0 → ⊥) → Own b k p (ownEnd b k p) (bodyAt b k p)
 
-above-five : (k : ℕ) → eqb k 0 ≡ false → eqb k 1 ≡ false → eqb k 2 ≡ false → eqb k 3 ≡ false → eqb k 4 ≡ false → eqb k 5 ≡ false → leb k 5 ≡ false
+above-five : (k : ℕ) → eqb k 0 ≡ false → eqb k 1 ≡ false → eqb k 2 ≡ false → eqb k 3 ≡ false → eqb k 4 ≡ false → eqb k 5 ≡ false
+    → leb k 5 ≡ false
 above-five k e₀ e₁ e₂ e₃ e₄ e₅ = lt-leb k 5 (omega (arith, eqb-false))
 
 pub own-back : (b : List ℕ) → Octets b → (p : ℕ) → p ≤ length b → (k : ℕ) → OwnAt b p k
 unfolding ownEnd bodyAt own kind bodyShaped
 own-back b o p l k =
-    at k 1 (OwnAt b p) (λ h. record { is = refl; named = refl; shaped = refl; more = omega arith; within = l }) λ e₁.
-    at k 2 (OwnAt b p) (λ h. record { is = refl; named = refl; shaped = refl; more = omega arith; within = l }) λ e₂.
-    at k 3 (OwnAt b p) (λ h. record { is = refl; named = refl; shaped = refl; more = omega arith; within = l }) λ e₃.
-    at k 4 (OwnAt b p) (λ h. record { is = refl; named = refl; shaped = refl; more = omega arith; within = l }) λ e₄.
-    at k 5 (OwnAt b p) (λ h. record { is = refl; named = refl; shaped = refl; more = omega arith; within = l }) λ e₅.
+    at k 1 (OwnAt b p) (λ h. plain-own b (Plain Boolean) 1 p l refl refl refl) λ e₁.
+    at k 2 (OwnAt b p) (λ h. plain-own b (Plain Integer) 2 p l refl refl refl) λ e₂.
+    at k 3 (OwnAt b p) (λ h. plain-own b (Plain BitString) 3 p l refl refl refl) λ e₃.
+    at k 4 (OwnAt b p) (λ h. plain-own b (Plain OctetString) 4 p l refl refl refl) λ e₄.
+    at k 5 (OwnAt b p) (λ h. plain-own b (Plain Null) 5 p l refl refl refl) λ e₅.
     at k 10 (OwnAt b p) (enumerated-back b o p) λ e₁₀.
     at k 16 (OwnAt b p) (members-own b (λ ms. Sequence ms) 16 p (λ ms. refl) (λ ms. refl) (λ ms. refl)) λ e₁₆.
     at k 17 (OwnAt b p) (members-own b (λ ms. Set ms) 17 p (λ ms. refl) (λ ms. refl) (λ ms. refl)) λ e₁₇.

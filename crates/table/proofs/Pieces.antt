@@ -1,18 +1,17 @@
 -- Tags, numbers, members and alternatives: what is read at a place has the octets there, and what has them is read.
 -- Assumes nothing.
 use mathlib.Core.Bool.{Bool, true, false, _&&_}
-use mathlib.Core.List.{List, [], _∷_, _++_, map, append-assoc}
-use mathlib.Core.Path.{_≡_, refl, sym, ap, _∙_}
-use Prim.Native.Nat.{ℕ, zero, suc, _+_, _*_, _≤_, _<_}
-use native.Mathlib.Nat.{add-zero}
+use mathlib.Core.List.{List, [], _∷_, _++_, map}
+use mathlib.Core.Path.{_≡_, refl, ap, _∙_}
+use Prim.Native.Nat.{ℕ, zero, suc, _+_, _*_, _≤_}
 use native.Mathlib.Omega.{arith}
 use lib.Dec.{leb, eqb}
-use lib.ListN.{length, drop, getD, length-append}
+use lib.ListN.{length, drop, getD}
 use borrow.Author.Tests.{leb-true, eqb-true, eqb-false}
-use Rattle.octets.specs.Tests.{if, test}
+use Rattle.octets.specs.Tests.{test}
 use Rattle.octets.specs.Lists.{all, joined}
 use Rattle.octets.specs.Numbers.{Octets, two, octetsOf}
-use Rattle.octets.proofs.Lists.{both, map-same, all-map, all-yes, behind, at-part, at-first, length-joined, itemsAt, length-items, items-back, items-only, drop-one, drop-two, two-back, two-only}
+use Rattle.octets.proofs.Lists.{map-same, all-map, all-yes, behind, at-part, at-first, length-joined, itemsAt, length-items, items-back, items-only, drop-one, drop-two, two-back, two-only}
 use Rattle.table.specs.Syntax.{Tag, Member}
 use Rattle.table.specs.Octets.{tagOctets, memberOctets, flag}
 use Rattle.table.specs.Reading.{tagsAt, numbersAt, membersAt, everyAt}

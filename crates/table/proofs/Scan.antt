@@ -1,19 +1,19 @@
 -- All records of a table: the scan finds those that the octets spell, or the first that is not shaped.
 -- Assumes nothing.
-use mathlib.Core.Bool.{Bool, true, false, not, _&&_, false≢true}
+use mathlib.Core.Bool.{Bool, true, false, false≢true}
 use mathlib.Core.List.{List, [], _∷_, _++_, map, append-assoc, append-nil}
 use mathlib.Core.Path.{_≡_, refl, sym, ap, _∙_}
-use Prim.Native.Nat.{ℕ, zero, suc, _+_, _*_, _≤_, _<_}
+use Prim.Native.Nat.{ℕ, zero, suc, _+_, _≤_, _<_}
 use native.Mathlib.Omega.{arith}
 use lib.Dec.{leb, eqb}
 use lib.ListN.{length, drop, getD, length-append, length-drop, List·getD-eq-default}
 use lib.Seq.{drop-length}
 use borrow.Author.Tests.{leb-true, leb-false, eqb-true, eqb-false, eq-eqb, ne-eqb}
-use Rattle.octets.specs.Tests.{if, test}
+use Rattle.octets.specs.Tests.{test}
 use Rattle.octets.specs.Lists.{all, joined}
 use Rattle.octets.specs.Numbers.{Octets}
 use Rattle.octets.proofs.Lists.{both, behind, length-behind}
-use Rattle.table.specs.Syntax.{Record, Table, absent, table}
+use Rattle.table.specs.Syntax.{Record, absent, table}
 use Rattle.table.specs.Octets.{recordOctets, recordShaped, Spells, Begins, Misshapen, over-long, no-record, too-many}
 use Rattle.table.specs.Reading.{tagsAt, everyAt, bodyAt, recordAt, recordEnd, Scan, scanFrom, scan, look}
 use Rattle.table.proofs.Reading.{Back, record-back, record-only}
@@ -21,7 +21,9 @@ use Rattle.table.proofs.Reading.{Back, record-back, record-only}
 -- behind all octets a record is absent
 absent-at : (b : List ℕ) → length b ≤ 8192 → recordAt b 65535 ≡ absent
 unfolding recordAt bodyAt tagsAt everyAt
-absent-at b h = rw (List·getD-eq-default b 0 {n = 65538} (omega arith), List·getD-eq-default b 0 {n = 65537} (omega arith), List·getD-eq-default b 0 {n = 65539} (omega arith))
+absent-at b h =
+    rw (List·getD-eq-default b 0 {n = 65538} (omega arith), List·getD-eq-default b 0 {n = 65537} (omega arith),
+    List·getD-eq-default b 0 {n = 65539} (omega arith))
 
 looks-cons : (b : List ℕ) (o : ℕ) (ps : List ℕ) (rs : List Record) → ((t : ℕ) → recordAt b (getD ps t 65535) ≡ table rs t)
     → (t : ℕ) → recordAt b (getD (o ∷ ps) t 65535) ≡ table (recordAt b o ∷ rs) t
@@ -29,7 +31,8 @@ unfolding table
 looks-cons b o ps rs h zero = refl
 looks-cons b o ps rs h (suc t) = h t
 
-low-cons : (m o : ℕ) (ps : List ℕ) → o < m → ((t : ℕ) → t < length ps → getD ps t 65535 < m) → (t : ℕ) → t < length (o ∷ ps) → getD (o ∷ ps) t 65535 < m
+low-cons : (m o : ℕ) (ps : List ℕ) → o < m → ((t : ℕ) → t < length ps → getD ps t 65535 < m)
+    → (t : ℕ) → t < length (o ∷ ps) → getD (o ∷ ps) t 65535 < m
 low-cons m o ps l h zero i = l
 low-cons m o ps l h (suc t) i = h t (omega arith)
 
@@ -78,7 +81,8 @@ module _ (b : List ℕ) (octets : Octets b) (short : length b ≤ 8192) where
       test (eqb (recordEnd b o) 0) (λ e. rw e (stop (suc k) os o false l (λ x. absurd (false≢true x)) (λ x i. eqb-true _ _ e))) λ e₁.
       let c = record-back b o octets (eqb-false _ _ e₁) in
       test (eqb (recordEnd b o) (length b)) (λ e₂. rw (e₁, e₂)
-          (more k os o _ c (λ x. absurd (false≢true (sym x))) (stop k _ (recordEnd b o) true (c .within) (λ x. eqb-true _ _ e₂) (λ x. absurd (false≢true (sym x))))))
+          (more k os o _ c (λ x. absurd (false≢true (sym x)))
+          (stop k _ (recordEnd b o) true (c .within) (λ x. eqb-true _ _ e₂) (λ x. absurd (false≢true (sym x))))))
       λ e₂. rw (e₁, e₂) (more k os o _ c (λ w. eqb-false _ _ e₂) (h (os ++ (o ∷ [])) (recordEnd b o) (c .within)))
 
   scanned : (k : ℕ) (os : List ℕ) (o : ℕ) → o ≤ length b → Scanned b k os o (scanFrom b k os o)
@@ -129,13 +133,14 @@ unfolding recordOctets
 record-size r = omega arith
 
 -- one record at o, and what stands behind it
-step-more : (b : List ℕ) (k : ℕ) (os : List ℕ) (o : ℕ) (r : Record) (w : List ℕ) → o ≤ length b → drop o b ≡ recordOctets r ++ w → recordShaped r ≡ true
-    → 1 ≤ length w → scanFrom b (suc k) os o ≡ scanFrom b k (os ++ (o ∷ [])) (o + length (recordOctets r))
+step-more : (b : List ℕ) (k : ℕ) (os : List ℕ) (o : ℕ) (r : Record) (w : List ℕ) → o ≤ length b → drop o b ≡ recordOctets r ++ w
+    → recordShaped r ≡ true → 1 ≤ length w → scanFrom b (suc k) os o ≡ scanFrom b k (os ++ (o ∷ [])) (o + length (recordOctets r))
 unfolding scanFrom
 step-more b k os o r w l e s h =
     let y = simp (length-drop, length-append) at (ap length e) in
     let z = record-size r in
-    rw (record-only b o r w l e s .1, ne-eqb (o + length (recordOctets r)) 0 (omega arith), ne-eqb (o + length (recordOctets r)) (length b) (omega arith))
+    rw (record-only b o r w l e s .1, ne-eqb (o + length (recordOctets r)) 0 (omega arith),
+    ne-eqb (o + length (recordOctets r)) (length b) (omega arith))
 
 step-last : (b : List ℕ) (k : ℕ) (os : List ℕ) (o : ℕ) (r : Record) → o ≤ length b → drop o b ≡ recordOctets r ++ [] → recordShaped r ≡ true
     → scanFrom b (suc k) os o ≡ record { whole = true; offsets = os ++ (o ∷ []) }
@@ -143,10 +148,12 @@ unfolding scanFrom
 step-last b k os o r l e s =
     let y = simp (length-drop, append-nil) at (ap length e) in
     let z = record-size r in
-    rw (record-only b o r [] l e s .1, ne-eqb (o + length (recordOctets r)) 0 (omega arith), eq-eqb (o + length (recordOctets r)) (length b) (omega arith))
+    rw (record-only b o r [] l e s .1, ne-eqb (o + length (recordOctets r)) 0 (omega arith),
+    eq-eqb (o + length (recordOctets r)) (length b) (omega arith))
 
 spells-from : (b : List ℕ) (rs : List Record) (k : ℕ) (os : List ℕ) (o : ℕ) → o ≤ length b → drop o b ≡ joined (map recordOctets rs)
-    → all recordShaped rs ≡ true → 1 ≤ length rs → length rs ≤ k → (scanFrom b k os o .whole ≡ true) × (length (scanFrom b k os o .offsets) ≡ length os + length rs)
+    → all recordShaped rs ≡ true → 1 ≤ length rs → length rs ≤ k
+    → (scanFrom b k os o .whole ≡ true) × (length (scanFrom b k os o .offsets) ≡ length os + length rs)
 unfolding joined all
 spells-from b [] k os o l e s i h = absurd (omega arith)
 spells-from b (r ∷ rs) zero os o l e s i h = absurd (omega arith)
@@ -155,11 +162,12 @@ spells-from b (r ∷ q ∷ rs) (suc k) os o l e s i h =
     let z = record-size q in
     let y = length-append (recordOctets q) (joined (map recordOctets rs)) in
     let t = both (recordShaped r) _ s in
-    let x = spells-from b (q ∷ rs) k (os ++ (o ∷ [])) (o + length (recordOctets r)) (length-behind b o (recordOctets r) _ l e) (behind b o (recordOctets r) _ e) (t .1) (omega arith) (omega arith) in
+    let x = spells-from b (q ∷ rs) k (os ++ (o ∷ [])) (o + length (recordOctets r)) (length-behind b o (recordOctets r) _ l e)
+        (behind b o (recordOctets r) _ e) (t .1) (omega arith) (omega arith) in
     rw (step-more b k os o r _ l e (t .0) (omega arith)) (x .0, x .1 ∙ rw length-append (omega arith))
 
-unique-from : (b : List ℕ) (rs rs′ : List Record) (o : ℕ) → o ≤ length b → drop o b ≡ joined (map recordOctets rs) → drop o b ≡ joined (map recordOctets rs′)
-    → all recordShaped rs ≡ true → all recordShaped rs′ ≡ true → rs ≡ rs′
+unique-from : (b : List ℕ) (rs rs′ : List Record) (o : ℕ) → o ≤ length b → drop o b ≡ joined (map recordOctets rs)
+    → drop o b ≡ joined (map recordOctets rs′) → all recordShaped rs ≡ true → all recordShaped rs′ ≡ true → rs ≡ rs′
 unfolding joined all
 unique-from b [] [] o l e e′ s s′ = refl
 unique-from b [] (r ∷ rs) o l e e′ s s′ =
@@ -176,7 +184,8 @@ unique-from b (r ∷ rs) (q ∷ qs) o l e e′ s s′ =
     let x = record-only b o r _ l e (t .0) in
     let x′ = record-only b o q _ l e′ (t′ .0) in
     let i : o + length (recordOctets r) ≡ o + length (recordOctets q) = omega arith in
-    let j = unique-from b rs qs (o + length (recordOctets r)) (length-behind b o (recordOctets r) _ l e) (behind b o (recordOctets r) _ e) (rw i (behind b o (recordOctets q) _ e′)) (t .1) (t′ .1) in
+    let j = unique-from b rs qs (o + length (recordOctets r)) (length-behind b o (recordOctets r) _ l e)
+        (behind b o (recordOctets r) _ e) (rw i (behind b o (recordOctets q) _ e′)) (t .1) (t′ .1) in
     rw (← x .0, x′ .0, j)
 
 -- octets spell one list of records
@@ -196,8 +205,9 @@ spells-looks {b} octets x t =
     rw (unique x (f .spells)) (f .looks t)
 
 -- the records before one that is not shaped, or before one too many
-stops-from : (b : List ℕ) (rs : List Record) (w : List ℕ) (k : ℕ) (os : List ℕ) (o : ℕ) → o ≤ length b → drop o b ≡ joined (map recordOctets rs) ++ w
-    → all recordShaped rs ≡ true → length rs ≤ k → (1 ≤ length rs → 1 ≤ length w) → (length rs < k → (p : ℕ) → drop p b ≡ w → recordEnd b p ≡ 0)
+stops-from : (b : List ℕ) (rs : List Record) (w : List ℕ) (k : ℕ) (os : List ℕ) (o : ℕ) → o ≤ length b
+    → drop o b ≡ joined (map recordOctets rs) ++ w → all recordShaped rs ≡ true → length rs ≤ k → (1 ≤ length rs → 1 ≤ length w)
+    → (length rs < k → (p : ℕ) → drop p b ≡ w → recordEnd b p ≡ 0)
     → (scanFrom b k os o .whole ≡ false) × (length (scanFrom b k os o .offsets) ≡ length os + length rs)
 unfolding joined all scanFrom
 stops-from b [] w zero os o l e s h i n = (refl, omega arith)
@@ -208,7 +218,8 @@ stops-from b (r ∷ rs) w (suc k) os o l e s h i n =
     let e′ = e ∙ append-assoc (recordOctets r) (joined (map recordOctets rs)) w in
     let y = length-append (joined (map recordOctets rs)) w in
     let i′ = i (omega arith) in
-    let x = stops-from b rs w k (os ++ (o ∷ [])) (o + length (recordOctets r)) (length-behind b o (recordOctets r) _ l e′) (behind b o (recordOctets r) _ e′) (t .1) (omega arith) (λ z. i′) (λ z. n (omega arith)) in
+    let x = stops-from b rs w k (os ++ (o ∷ [])) (o + length (recordOctets r)) (length-behind b o (recordOctets r) _ l e′)
+        (behind b o (recordOctets r) _ e′) (t .1) (omega arith) (λ z. i′) (λ z. n (omega arith)) in
     rw (step-more b k os o r _ l e′ (t .0) (omega arith)) (x .0, x .1 ∙ rw length-append (omega arith))
 
 length-some : (w : List ℕ) → (w ≡ [] → ⊥) → 1 ≤ length w
@@ -227,7 +238,8 @@ unfolding scan
 misshapen-scan b k octets l (over-long h) = absurd (omega arith)
 misshapen-scan b k octets l (no-record w s x f n d) =
     let c = x .count in
-    let y = stops-from b (x .records) w 128 [] 0 (omega arith) (x .is) (x .shaped) (omega arith) (λ z. length-some w (λ q. let m = n q in omega arith)) (λ z. no-record-at b octets w d) in
+    let y = stops-from b (x .records) w 128 [] 0 (omega arith) (x .is) (x .shaped) (omega arith)
+        (λ z. length-some w (λ q. let m = n q in omega arith)) (λ z. no-record-at b octets w d) in
     (y .0, y .1 ∙ (omega arith))
 misshapen-scan b k octets l (too-many w s x d) =
     let y = stops-from b (x .records) w 128 [] 0 (omega arith) (x .is) (x .shaped) (omega arith) (λ z. length-some w d) (λ z. absurd (omega arith)) in
@@ -249,7 +261,8 @@ misshapen b short e x =
     no-record w short begins q nil (λ r u s i.
     let m = record-only b (x .end) r u (x .within) i s .1 in
     let o = n .1 q in
-    let z = record-size r in omega arith))
+    let z = record-size r in
+    omega arith))
 
 pub scan-misshapen : (b : List ℕ) → Octets b → length b ≤ 8192 → scan b .whole ≡ false → Misshapen b (length (scan b .offsets))
 unfolding scan
