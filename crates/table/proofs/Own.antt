@@ -127,8 +127,11 @@ counted-only : (size least most : ℕ) (b : List ℕ) (p n : ℕ) (xs u : List �
 unfolding countedEnd
 counted-only size least most b p n xs u l e z low high =
     let w = length-behind b p (n ∷ xs) u l e in
-    record { count = at-first b p 0 _ _ e; end =
-    rw (at-first b p 0 _ _ e, lt-leb (length b) p (omega arith), le-leb least n low, le-leb n most high, le-leb (p + 1 + size * n) (length b) (omega arith)) }
+    record {
+      count = at-first b p 0 _ _ e;
+      end =
+          rw (at-first b p 0 _ _ e, lt-leb (length b) p (omega arith), le-leb least n low, le-leb n most high, le-leb (p + 1 + size * n) (length b) (omega arith));
+    }
 
 -- the body x is read at p, up to its end
 pub record Read (b : List ℕ) (p : ℕ) (x : Body) : Type 0 where
@@ -141,9 +144,10 @@ unfolding membersEnd
 members-read b p ms u l e s =
     let c = counted-only 2 0 16 b p (length ms) (joined (map memberOctets ms)) u l e (length-membered ms) (omega arith) (leb-true _ _ s) in
     let t = behind b p (length ms ∷ []) _ e in
-    let q : p + 2 ≡ p + 1 + 1 = omega arith in
-    (rw (c .count) (members-only b (p + 1) ms u t),
-    rw (c .end, ne-eqb (p + 1 + 2 * length ms) 0 (omega arith), c .count, q, flags-only b (p + 1) ms u t, length-membered ms) (omega arith))
+    let q : p + 2 ≡ p + 1 + 1 = omega arith in (
+      rw (c .count) (members-only b (p + 1) ms u t),
+      rw (c .end, ne-eqb (p + 1 + 2 * length ms) 0 (omega arith), c .count, q, flags-only b (p + 1) ms u t, length-membered ms) (omega arith),
+    )
 
 enumerated-read : (b : List ℕ) (p : ℕ) (ns : List ℕ) (u : List ℕ) → p ≤ length b → drop p b ≡ (length ns ∷ joined (map octetsOf ns)) ++ u
     → bodyShaped (Plain (Enumerated ns)) ≡ true
@@ -153,9 +157,10 @@ enumerated-read b p ns u l e s =
     let s₁ = both _ _ s in
     let s₂ = both _ _ (s₁ .0) in
     let c = counted-only 2 1 32 b p (length ns) (joined (map octetsOf ns)) u l e (length-numbered ns) (leb-true _ _ (s₂ .0)) (leb-true _ _ (s₂ .1)) in
-    let t = numbers-only b (p + 1) ns u (behind b p (length ns ∷ []) _ e) in
-    (rw (c .count) t,
-    rw (c .end, ne-eqb (p + 1 + 2 * length ns) 0 (omega arith), c .count, t, s₁ .1, length-numbered ns) (omega arith))
+    let t = numbers-only b (p + 1) ns u (behind b p (length ns ∷ []) _ e) in (
+      rw (c .count) t,
+      rw (c .end, ne-eqb (p + 1 + 2 * length ns) 0 (omega arith), c .count, t, s₁ .1, length-numbered ns) (omega arith),
+    )
 
 choice-read : (b : List ℕ) (p : ℕ) (ts : List ℕ) (u : List ℕ) → p ≤ length b → drop p b ≡ (length ts ∷ ts) ++ u → bodyShaped (Choice ts) ≡ true
     → (everyAt 1 b (p + 1) (getD b p 0) ≡ ts) × (countedEnd 1 1 16 b p ≡ p + length (length ts ∷ ts))

@@ -36,8 +36,14 @@ headed b o h =
     test (leb (getD b (o + 3) 0) 4) (λ e₄.
     test (leb (ownAt b o) (length b)) (λ e₅.
     test (all (λ x. leb x 3) (everyAt 3 b (o + 4) (getD b (o + 3) 0))) (λ e₆.
-    record { first = eqb-true _ _ e₂; second = eqb-true _ _ e₃; few = leb-true _ _ e₄;
-    fits = leb-true _ _ e₅; classed = e₆; end = rw (e₁, e₂, e₃, e₄, e₅, e₆) })
+    record {
+      first = eqb-true _ _ e₂;
+      second = eqb-true _ _ e₃;
+      few = leb-true _ _ e₄;
+      fits = leb-true _ _ e₅;
+      classed = e₆;
+      end = rw (e₁, e₂, e₃, e₄, e₅, e₆);
+    })
     λ e. absurd (h (rw (e₁, e₂, e₃, e₄, e₅, e))))
     λ e. absurd (h (rw (e₁, e₂, e₃, e₄, e))))
     λ e. absurd (h (rw (e₁, e₂, e₃, e))))
@@ -68,12 +74,24 @@ record-back b o s h =
     let c = headed b o h in
     let n = getD b (o + 3) 0 in
     let w : Own b (getD b (o + 2) 0) (ownAt b o) (recordEnd b o) (bodyAt b (getD b (o + 2) 0) (ownAt b o)) =
-        rw (c .end) (own-back b s (ownAt b o) (c .fits) (getD b (o + 2) 0) (rw (c .end) at h)) in
+    rw (c .end) (own-back b s (ownAt b o) (c .fits) (getD b (o + 2) 0) (rw (c .end) at h)) in
     let i : drop o b ≡ recordOctets (recordAt b o) ++ drop (recordEnd b o) b =
-        four b o (omega arith) ∙ rw (w .named, length-tags b (o + 4) n, c .first, c .second, append-assoc,
-        ← w .is, ← tags-back b s (o + 4) n (c .fits)) in
-    record { is = i; shaped = rw (length-tags b (o + 4) n, le-leb n 4 (c .few), ← classes b (o + 4) n, c .classed) (w .shaped);
-    more = omega arith; within = w .within; size = size-of b o (recordEnd b o) (recordOctets (recordAt b o)) (omega arith) (w .within) i }
+    four b o (omega arith) ∙ rw (
+      w .named,
+      length-tags b (o + 4) n,
+      c .first,
+      c .second,
+      append-assoc,
+      ← w .is,
+      ← tags-back b s (o + 4) n (c .fits),
+    ) in
+    record {
+      is = i;
+      shaped = rw (length-tags b (o + 4) n, le-leb n 4 (c .few), ← classes b (o + 4) n, c .classed) (w .shaped);
+      more = omega arith;
+      within = w .within;
+      size = size-of b o (recordEnd b o) (recordOctets (recordAt b o)) (omega arith) (w .within) i;
+    }
 
 record Limits (r : Record) : Type 0 where
   few : length (r .tags) ≤ 4
@@ -99,13 +117,25 @@ record-only b o r u l e s =
     let y = length-tagged (r .tags) in
     let i = behind b o (0x54 ∷ 0x59 ∷ kind (r .body) ∷ n ∷ []) _ e ∙ append-assoc (joined (map tagOctets (r .tags))) (own (r .body)) u in
     let t = tags-only b (o + 4) (r .tags) (own (r .body) ++ u) i in
-    let x = own-only b (o + 4 + 3 * n) (r .body) u (omega arith) 
-        (rw y at (behind b (o + 4) (joined (map tagOctets (r .tags))) (own (r .body) ++ u) i)) (c .shaped) in
+    let x = own-only b (o + 4 + 3 * n) (r .body) u (omega arith)
+    (rw y at (behind b (o + 4) (joined (map tagOctets (r .tags))) (own (r .body) ++ u) i)) (c .shaped) in
     let f₀ = at-first b o 0 _ _ e in
     let f₁ = at-part b o 1 0 _ e in
     let f₂ = at-part b o 2 0 _ e in
-    let f₃ = at-part b o 3 0 _ e in
-    (rw (f₂, f₃, t, x .body),
-    rw (f₀, f₁, f₂, f₃, le-leb (o + 4) (length b) (omega arith), le-leb n 4 (c .few),
-    le-leb (o + 4 + 3 * n) (length b) (omega arith), classes b (o + 4) n, t, c .classed, x .end)
-    (omega arith))
+    let f₃ = at-part b o 3 0 _ e in (
+      rw (f₂, f₃, t, x .body),
+      rw (
+        f₀,
+        f₁,
+        f₂,
+        f₃,
+        le-leb (o + 4) (length b) (omega arith),
+        le-leb n 4 (c .few),
+        le-leb (o + 4 + 3 * n) (length b) (omega arith),
+        classes b (o + 4) n,
+        t,
+        c .classed,
+        x .end,
+      )
+          (omega arith),
+    )

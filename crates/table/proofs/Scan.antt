@@ -22,8 +22,11 @@ use Rattle.table.proofs.Reading.{Back, record-back, record-only}
 absent-at : (b : List ℕ) → length b ≤ 8192 → recordAt b 65535 ≡ absent
 unfolding recordAt bodyAt tagsAt everyAt
 absent-at b h =
-    rw (List·getD-eq-default b 0 {n = 65538} (omega arith), List·getD-eq-default b 0 {n = 65537} (omega arith),
-    List·getD-eq-default b 0 {n = 65539} (omega arith))
+    rw (
+      List·getD-eq-default b 0 {n = 65538} (omega arith),
+      List·getD-eq-default b 0 {n = 65537} (omega arith),
+      List·getD-eq-default b 0 {n = 65539} (omega arith),
+    )
 
 looks-cons : (b : List ℕ) (o : ℕ) (ps : List ℕ) (rs : List Record) → ((t : ℕ) → recordAt b (getD ps t 65535) ≡ table rs t)
     → (t : ℕ) → recordAt b (getD (o ∷ ps) t 65535) ≡ table (recordAt b o ∷ rs) t
@@ -41,6 +44,12 @@ unfolding all table
 all-table f [] e t h = absurd (omega arith)
 all-table f (r ∷ rs) e zero h = both (f r) _ e .0
 all-table f (r ∷ rs) e (suc t) h = all-table f rs (both (f r) _ e .1) t (omega arith)
+
+pub table-beyond : (rs : List Record) (t : ℕ) → length rs ≤ t → table rs t ≡ absent
+unfolding table
+table-beyond [] t h = refl
+table-beyond (r ∷ rs) zero h = absurd (omega arith)
+table-beyond (r ∷ rs) (suc t) h = table-beyond rs t (omega arith)
 
 -- what a scan from o with room for k more records tells
 record Scanned (b : List ℕ) (k : ℕ) (os : List ℕ) (o : ℕ) (s : Scan) : Type 0 where
@@ -62,17 +71,40 @@ module _ (b : List ℕ) (octets : Octets b) (short : length b ≤ 8192) where
   stop : (k : ℕ) (os : List ℕ) (o : ℕ) (w : Bool) → o ≤ length b → (w ≡ true → o ≡ length b) → (w ≡ false → 0 < k → recordEnd b o ≡ 0)
       → Scanned b k os o (record { whole = w; offsets = os })
   unfolding joined all table
-  stop k os o w l y n = record { places = []; records = []; end = o; offsets = sym (append-nil os); as-many = refl; few = omega arith; is = refl; shaped = refl;
-      looks = λ t. absent-at b short; low = λ t i. absurd (omega arith); within = l; yes = y; no = λ e. (λ i. (refl, i), n e) }
+  stop k os o w l y n = record {
+    places = [];
+    records = [];
+    end = o;
+    offsets = sym (append-nil os);
+    as-many = refl;
+    few = omega arith;
+    is = refl;
+    shaped = refl;
+    looks = λ t. absent-at b short;
+    low = λ t i. absurd (omega arith);
+    within = l;
+    yes = y;
+    no = λ e. (λ i. (refl, i), n e);
+  }
 
   more : (k : ℕ) (os : List ℕ) (o : ℕ) (s : Scan) → Back b o → (s .whole ≡ false → recordEnd b o ≡ length b → ⊥)
       → Scanned b k (os ++ (o ∷ [])) (recordEnd b o) s → Scanned b (suc k) os o s
   unfolding joined all
-  more k os o s c d x = record { places = o ∷ x .places; records = recordAt b o ∷ x .records; end = x .end;
-      offsets = x .offsets ∙ append-assoc os (o ∷ []) (x .places); as-many = ap suc (x .as-many); few = omega arith;
-      is = c .is ∙ rw (x .is, append-assoc); shaped = rw (c .shaped) (x .shaped); looks = looks-cons b o (x .places) (x .records) (x .looks);
-      low = low-cons (length b) o (x .places) (omega arith) (x .low); within = x .within;
-      yes = x .yes; no = λ e. (λ i. absurd (d e (x .no e .0 i .1)), λ i. x .no e .1 (omega arith)) }
+  more k os o s c d x = record {
+    places = o ∷ x .places;
+    records = recordAt b o ∷ x .records;
+    end = x .end;
+    offsets = x .offsets ∙ append-assoc os (o ∷ []) (x .places);
+    as-many = ap suc (x .as-many);
+    few = omega arith;
+    is = c .is ∙ rw (x .is, append-assoc);
+    shaped = rw (c .shaped) (x .shaped);
+    looks = looks-cons b o (x .places) (x .records) (x .looks);
+    low = low-cons (length b) o (x .places) (omega arith) (x .low);
+    within = x .within;
+    yes = x .yes;
+    no = λ e. (λ i. absurd (d e (x .no e .0 i .1)), λ i. x .no e .1 (omega arith));
+  }
 
   next : (k : ℕ) (os : List ℕ) (o : ℕ) → o ≤ length b → ((ps : List ℕ) (p : ℕ) → p ≤ length b → Scanned b k ps p (scanFrom b k ps p))
       → Scanned b (suc k) os o (scanFrom b (suc k) os o)
@@ -81,8 +113,8 @@ module _ (b : List ℕ) (octets : Octets b) (short : length b ≤ 8192) where
       test (eqb (recordEnd b o) 0) (λ e. rw e (stop (suc k) os o false l (λ x. absurd (false≢true x)) (λ x i. eqb-true _ _ e))) λ e₁.
       let c = record-back b o octets (eqb-false _ _ e₁) in
       test (eqb (recordEnd b o) (length b)) (λ e₂. rw (e₁, e₂)
-          (more k os o _ c (λ x. absurd (false≢true (sym x)))
-          (stop k _ (recordEnd b o) true (c .within) (λ x. eqb-true _ _ e₂) (λ x. absurd (false≢true (sym x))))))
+      (more k os o _ c (λ x. absurd (false≢true (sym x)))
+      (stop k _ (recordEnd b o) true (c .within) (λ x. eqb-true _ _ e₂) (λ x. absurd (false≢true (sym x))))))
       λ e₂. rw (e₁, e₂) (more k os o _ c (λ w. eqb-false _ _ e₂) (h (os ++ (o ∷ [])) (recordEnd b o) (c .within)))
 
   scanned : (k : ℕ) (os : List ℕ) (o : ℕ) → o ≤ length b → Scanned b k os o (scanFrom b k os o)
@@ -101,6 +133,7 @@ pub record Found (b : List ℕ) : Type 0 where
   pub spells : Spells b records
   pub count : length records ≡ length (scan b .offsets)
   pub looks : (t : ℕ) → look b (scan b .offsets) t ≡ table records t
+  pub beyond : (t : ℕ) → length (scan b .offsets) ≤ t → look b (scan b .offsets) t ≡ absent
   pub low : (t : ℕ) → t < length (scan b .offsets) → getD (scan b .offsets) t 65535 < 8192
   pub few : length (scan b .offsets) ≤ 128
   pub some : 1 ≤ length (scan b .offsets)
@@ -118,10 +151,17 @@ found b short e x =
     let s = some-found b (x .records) i e in
     let n = x .as-many in
     let l : (t : ℕ) → look b (scan b .offsets) t ≡ table (x .records) t = λ t. rw (x .offsets) (x .looks t) in
-    record { records = x .records; spells = record { is = i; shaped = x .shaped; some = s; few = omega arith; short = short };
-    count = rw (x .offsets) n; looks = l; low = rw (x .offsets) (λ t h. let y = x .low t h in omega arith);
-    few = rw (x .offsets) (x .few); some = rw (x .offsets) (omega arith);
-    shaped = λ t h. rw (l t) (all-table recordShaped (x .records) (x .shaped) t (rw (x .offsets, ← n) at h)) }
+    record {
+      records = x .records;
+      spells = record { is = i; shaped = x .shaped; some = s; few = omega arith; short = short };
+      count = rw (x .offsets) n;
+      looks = l;
+      beyond = λ t h. l t ∙ table-beyond (x .records) t (rw (x .offsets, ← n) at h);
+      low = rw (x .offsets) (λ t h. let y = x .low t h in omega arith);
+      few = rw (x .offsets) (x .few);
+      some = rw (x .offsets) (omega arith);
+      shaped = λ t h. rw (l t) (all-table recordShaped (x .records) (x .shaped) t (rw (x .offsets, ← n) at h));
+    }
 
 pub scan-spells : (b : List ℕ) → Octets b → length b ≤ 8192 → scan b .whole ≡ true → Found b
 unfolding scan
@@ -139,8 +179,11 @@ unfolding scanFrom
 step-more b k os o r w l e s h =
     let y = simp (length-drop, length-append) at (ap length e) in
     let z = record-size r in
-    rw (record-only b o r w l e s .1, ne-eqb (o + length (recordOctets r)) 0 (omega arith),
-    ne-eqb (o + length (recordOctets r)) (length b) (omega arith))
+    rw (
+      record-only b o r w l e s .1,
+      ne-eqb (o + length (recordOctets r)) 0 (omega arith),
+      ne-eqb (o + length (recordOctets r)) (length b) (omega arith),
+    )
 
 step-last : (b : List ℕ) (k : ℕ) (os : List ℕ) (o : ℕ) (r : Record) → o ≤ length b → drop o b ≡ recordOctets r ++ [] → recordShaped r ≡ true
     → scanFrom b (suc k) os o ≡ record { whole = true; offsets = os ++ (o ∷ []) }
@@ -148,8 +191,11 @@ unfolding scanFrom
 step-last b k os o r l e s =
     let y = simp (length-drop, append-nil) at (ap length e) in
     let z = record-size r in
-    rw (record-only b o r [] l e s .1, ne-eqb (o + length (recordOctets r)) 0 (omega arith),
-    eq-eqb (o + length (recordOctets r)) (length b) (omega arith))
+    rw (
+      record-only b o r [] l e s .1,
+      ne-eqb (o + length (recordOctets r)) 0 (omega arith),
+      eq-eqb (o + length (recordOctets r)) (length b) (omega arith),
+    )
 
 spells-from : (b : List ℕ) (rs : List Record) (k : ℕ) (os : List ℕ) (o : ℕ) → o ≤ length b → drop o b ≡ joined (map recordOctets rs)
     → all recordShaped rs ≡ true → 1 ≤ length rs → length rs ≤ k
@@ -163,7 +209,7 @@ spells-from b (r ∷ q ∷ rs) (suc k) os o l e s i h =
     let y = length-append (recordOctets q) (joined (map recordOctets rs)) in
     let t = both (recordShaped r) _ s in
     let x = spells-from b (q ∷ rs) k (os ++ (o ∷ [])) (o + length (recordOctets r)) (length-behind b o (recordOctets r) _ l e)
-        (behind b o (recordOctets r) _ e) (t .1) (omega arith) (omega arith) in
+    (behind b o (recordOctets r) _ e) (t .1) (omega arith) (omega arith) in
     rw (step-more b k os o r _ l e (t .0) (omega arith)) (x .0, x .1 ∙ rw length-append (omega arith))
 
 unique-from : (b : List ℕ) (rs rs′ : List Record) (o : ℕ) → o ≤ length b → drop o b ≡ joined (map recordOctets rs)
@@ -185,7 +231,7 @@ unique-from b (r ∷ rs) (q ∷ qs) o l e e′ s s′ =
     let x′ = record-only b o q _ l e′ (t′ .0) in
     let i : o + length (recordOctets r) ≡ o + length (recordOctets q) = omega arith in
     let j = unique-from b rs qs (o + length (recordOctets r)) (length-behind b o (recordOctets r) _ l e)
-        (behind b o (recordOctets r) _ e) (rw i (behind b o (recordOctets q) _ e′)) (t .1) (t′ .1) in
+    (behind b o (recordOctets r) _ e) (rw i (behind b o (recordOctets q) _ e′)) (t .1) (t′ .1) in
     rw (← x .0, x′ .0, j)
 
 -- octets spell one list of records
@@ -219,7 +265,7 @@ stops-from b (r ∷ rs) w (suc k) os o l e s h i n =
     let y = length-append (joined (map recordOctets rs)) w in
     let i′ = i (omega arith) in
     let x = stops-from b rs w k (os ++ (o ∷ [])) (o + length (recordOctets r)) (length-behind b o (recordOctets r) _ l e′)
-        (behind b o (recordOctets r) _ e′) (t .1) (omega arith) (λ z. i′) (λ z. n (omega arith)) in
+    (behind b o (recordOctets r) _ e′) (t .1) (omega arith) (λ z. i′) (λ z. n (omega arith)) in
     rw (step-more b k os o r _ l e′ (t .0) (omega arith)) (x .0, x .1 ∙ rw length-append (omega arith))
 
 length-some : (w : List ℕ) → (w ≡ [] → ⊥) → 1 ≤ length w
@@ -239,7 +285,7 @@ misshapen-scan b k octets l (over-long h) = absurd (omega arith)
 misshapen-scan b k octets l (no-record w s x f n d) =
     let c = x .count in
     let y = stops-from b (x .records) w 128 [] 0 (omega arith) (x .is) (x .shaped) (omega arith)
-        (λ z. length-some w (λ q. let m = n q in omega arith)) (λ z. no-record-at b octets w d) in
+    (λ z. length-some w (λ q. let m = n q in omega arith)) (λ z. no-record-at b octets w d) in
     (y .0, y .1 ∙ (omega arith))
 misshapen-scan b k octets l (too-many w s x d) =
     let y = stops-from b (x .records) w 128 [] 0 (omega arith) (x .is) (x .shaped) (omega arith) (λ z. length-some w d) (λ z. absurd (omega arith)) in
