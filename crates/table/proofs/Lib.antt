@@ -4,3 +4,4 @@ pub mod Pieces
 pub mod Own
 pub mod Reading
 pub mod Scan
+pub mod Spelled

@@ -139,3 +139,8 @@ record-only b o r u l e s =
       )
           (omega arith),
     )
+
+-- a record has at least four octets
+pub record-size : (r : Record) → 4 ≤ length (recordOctets r)
+unfolding recordOctets
+record-size r = omega arith
