@@ -1,0 +1,3 @@
+-- Laws that every crate shares: on lists, and on octets by their places.
+-- Assumes nothing.
+pub mod Lists
