@@ -79,7 +79,7 @@ membersEnd b p =
     countedEnd 2 0 16 b p
 
 -- where one record number ends
-unfoldable pub referenceEnd : List ℕ → ℕ → ℕ
+abbrev pub referenceEnd : List ℕ → ℕ → ℕ
 referenceEnd b p = if (leb (length b) p) 0 λ _. p + 1
 
 -- where the own part at p of kind k ends; 0 if it is not shaped
