@@ -2,6 +2,9 @@
 -- Assumes nothing.
 pub mod Pieces
 pub mod Own
+pub mod Walk
+pub mod Nodes
+pub mod Straight
 pub mod Reading
 pub mod Scan
 pub mod Spelled

@@ -9,7 +9,7 @@ use lib.ListN.{length, getD, set}
 use Rattle.octets.specs.Lists.{lowest}
 use Rattle.table.specs.Syntax.{Tag, Table, absent, Record}
 use Rattle.table.specs.Octets.{recordShaped}
-use Rattle.table.specs.Rules.{below, Mistagged}
+use Rattle.table.specs.Rules.{below, parts, Mistagged}
 use Rattle.table.specs.Decide.{begins}
 use Rattle.table.specs.Passes.{Nested}
 
@@ -24,12 +24,12 @@ like T t = lowest (λ u. sameOutermost (T u .tags) (T t .tags)) t
 -- every alternative is there, and `nodes` has what stands for each record
 pub record Ready (T : Table) (n : ℕ) (nodes : List ℕ) : Type 0 where
   pub closed : (t a : ℕ) → t < n → In a (below T t) → a < n
-  pub size : length nodes ≡ n
+  pub size : n ≤ length nodes
   pub right : (t : ℕ) → t < n → getD nodes t 0 ≡ like T t
 
 -- what the verdict has found before it judges shared tags
 pub record Straight (T : Table) (n : ℕ) : Type 0 where
-  pub there : (t a : ℕ) → t < n → In a (below T t) → a < n
+  pub there : (t a : ℕ) → t < n → In a (parts (T t .body)) → a < n
   pub shaped : (t : ℕ) → t < n → recordShaped (T t) ≡ true
   pub tagged : (t : ℕ) → t < n → Mistagged (T t) → ⊥
   pub ends : (t : ℕ) → t < n → Nested T n t

@@ -51,7 +51,7 @@ fn lowest_like(table: &[u8], offsets: &[u16], t: usize) -> usize
 
 // Writes for each record the one that stands for its outermost tag.
 pub(crate) fn stand_ins(table: &[u8], offsets: &[u16], nodes: &mut [u8])
-    requires { ⌜ (length (now nodes) ≡ length (now offsets)) × (length (now offsets) ≤ 128) ⌝ }
+    requires { ⌜ (length (now offsets) ≤ length (now nodes)) × (length (now offsets) ≤ 128) ⌝ }
     ensures { λ _. ⌜ ((t : ℕ) → t < length (now (offsets .entry)) → getD (now (nodes .exit)) t 0 ≡ like (look (now (table .entry)) (now (offsets .entry))) t) ⌝ }
 {
     let n = offsets.len();
@@ -64,7 +64,7 @@ pub(crate) fn stand_ins(table: &[u8], offsets: &[u16], nodes: &mut [u8])
 
 // Marks what stands for record k, and for the records under it through CHOICEs without tags. True if another mark was met.
 fn gather(table: &[u8], offsets: &[u16], nodes: &[u8], flags: &mut [u8], k: usize, mark: u8) -> bool
-    requires { ⌜ Ready (look (now table) (now offsets)) (length (now offsets)) (now nodes) × (length (now flags) ≡ length (now offsets)) × (k < length (now offsets)) ⌝ }
+    requires { ⌜ Ready (look (now table) (now offsets)) (length (now offsets)) (now nodes) × (length (now offsets) ≤ length (now flags)) × (k < length (now offsets)) ⌝ }
     ensures { λ r. ⌜ Gathered (look (now (table .entry)) (now (offsets .entry))) mark (now (flags .entry)) k r (now (flags .exit)) ⌝ }
 {
     let q = nodes[k] as usize;
@@ -105,11 +105,10 @@ fn is_circular(table: &[u8], offsets: &[u16], nodes: &[u8], t: usize) -> bool
     if left == 0 {
         return false;
     }
-    let n = offsets.len();
     let mut flags = [0u8; 128];
     while 0 < left {
         let a = octet(table, at);
-        gather(table, offsets, nodes, &mut flags[..n], a, 1);
+        gather(table, offsets, nodes, &mut flags, a, 1);
         at += step;
         left -= 1;
     }
@@ -142,12 +141,11 @@ fn is_sharing(table: &[u8], offsets: &[u16], nodes: &[u8], t: usize) -> bool
     let mut at = s.first;
     let mut left = s.count;
     let step = s.step;
-    let n = offsets.len();
     let mut flags = [0u8; 128];
     let mut mark: u8 = 1;
     while 0 < left {
         let a = octet(table, at);
-        if gather(table, offsets, nodes, &mut flags[..n], a, mark) {
+        if gather(table, offsets, nodes, &mut flags, a, mark) {
             return true;
         }
         mark += 1;
