@@ -1,4 +1,4 @@
--- Reading a table's octets is the inverse of the octet form.
+-- Reading a table's octets is the inverse of the octet form, and laws for the code that reads them.
 -- Assumes nothing.
 pub mod Pieces
 pub mod Own
@@ -8,3 +8,6 @@ pub mod Straight
 pub mod Reading
 pub mod Scan
 pub mod Spelled
+pub mod Fields
+pub mod Loops
+pub mod Filling
