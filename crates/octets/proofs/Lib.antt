@@ -1,3 +1,4 @@
 -- Laws that every crate shares: on lists, and on octets by their places.
 -- Assumes nothing.
 pub mod Lists
+pub mod Tabulate

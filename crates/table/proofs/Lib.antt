@@ -5,3 +5,4 @@ pub mod Own
 pub mod Reading
 pub mod Scan
 pub mod Spelled
+pub mod Rounds
