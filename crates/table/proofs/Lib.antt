@@ -6,3 +6,4 @@ pub mod Reading
 pub mod Scan
 pub mod Spelled
 pub mod Rounds
+pub mod Decided

@@ -12,19 +12,9 @@ use lib.ListN.{length, getD, replicate, length-replicate, getD-replicate, List·
 use borrow.Author.Tests.{ltb-true, ltb-false}
 use Rattle.octets.specs.Tests.{test}
 use Rattle.octets.specs.Lists.{tabulate}
+use Rattle.octets.proofs.Members.{or-cases, or-left, or-right}
 use Rattle.octets.proofs.Tabulate.{length-tabulate, getD-tabulate}
 use Rattle.table.specs.Decide.{Step, round, rounds, found}
-
-or-cases : (a b : Bool) → (a || b) ≡ true → (a ≡ true) ⊎ (b ≡ true)
-or-cases true b e = inl refl
-or-cases false b e = inr e
-
-or-left : (a b : Bool) → a ≡ true → (a || b) ≡ true
-or-left a b e = rw e
-
-or-right : (a b : Bool) → b ≡ true → (a || b) ≡ true
-or-right true b e = refl
-or-right false b e = e
 
 -- how many are not marked
 blank : List Bool → ℕ
