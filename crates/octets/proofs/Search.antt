@@ -1,15 +1,18 @@
 -- Laws on searches: some element, every element, the lowest number that passes. For loops that go through a list or count up.
 -- Assumes nothing.
 use mathlib.Core.Bool.{Bool, true, false}
-use mathlib.Core.List.{List, [], _∷_}
-use mathlib.Core.Path.{_≡_, refl, sym, ap, _∙_}
+use mathlib.Core.List.{List, _∷_}
+use mathlib.Core.Path.{_≡_, sym, _∙_}
 use Prim.Native.Nat.{ℕ, zero, suc, _+_, _-_, _≤_, _<_}
 use native.Mathlib.Omega.{arith}
 use native.Mathlib.Numerals.{add-one}
 use lib.Dec.{eqb}
-use borrow.Author.Tests.{eqb-true, eqb-false}
+use borrow.Author.Tests.{eqb-true, eqb-false, lt-ltb, le-ltb, le-leb, lt-leb, eq-eqb, ne-eqb}
 use Rattle.octets.specs.Tests.{test}
 use Rattle.octets.specs.Lists.{any, all, lowestFrom, lowest}
+
+-- the tests of the code, as the facts of its branches give them
+pub ruleset tests = (lt-ltb, le-ltb, le-leb, lt-leb, eq-eqb, ne-eqb)
 
 module _ {A : Type 0} (f : A → Bool) (x : A) (l : List A) where
   pub any-here : f x ≡ true → any f (x ∷ l) ≡ true
@@ -82,3 +85,7 @@ lowest-passes f n h = lowest-is f 0 n .passes (omega arith)
 
 pub before-lowest : (f : ℕ → Bool) (n k : ℕ) → k < lowest f n → f k ≡ false
 before-lowest f n k h = lowest-is f 0 n .before k (omega arith) h
+
+-- a test that, computed, none of the n numbers passes
+pub upto : (f : ℕ → Bool) (n : ℕ) → lowest f n ≡ n → (k : ℕ) → k < n → f k ≡ false
+upto f n e k h = before-lowest f n k (omega arith)

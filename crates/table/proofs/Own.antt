@@ -92,7 +92,7 @@ one-own b x k p o n s h =
 plain-own : (b : List ℕ) (x : Body) (k p : ℕ) → p ≤ length b → own x ≡ [] → kind x ≡ k → bodyShaped x ≡ true → Own b k p p x
 plain-own b x k p l o n s = record { is = rw o; named = n; shaped = s; more = omega arith; within = l }
 
-at : (k i : ℕ) (P : ℕ → Type 0) → P i → (eqb k i ≡ false → P k) → P k
+pub at : (k i : ℕ) (P : ℕ → Type 0) → P i → (eqb k i ≡ false → P k) → P k
 at k i P x f = test (eqb k i) (λ e. subst P (sym (eqb-true k i e)) x) f
 
 abbrev OwnAt : List ℕ → ℕ → ℕ → Type 0
