@@ -2,7 +2,7 @@
 -- Assumes nothing.
 use mathlib.Core.Bool.{Bool, true, false, not, _||_, false≢true}
 use mathlib.Core.List.{List, [], _∷_, _++_, append-assoc, List·Memᴰ as In, List·Memᴰ·head as in-head, List·Memᴰ·tail as in-tail, List·Memᴰ·not-nil as in-none, Memᴰ·append-right as in-right}
-use mathlib.Core.Logic.{_⊎_, ⊎-elim}
+use mathlib.Core.Logic.{⊎-elim}
 use mathlib.Core.Path.{_≡_, refl, sym, ap, _∙_}
 use Prim.Native.Nat.{ℕ, zero, suc, _≤_, _<_}
 use native.Mathlib.Omega.{arith}
@@ -20,7 +20,8 @@ use Rattle.table.proofs.Rounds.{rounds-sound, rounds-closed}
 
 -- 6
 
-body-finite : (T : Table) (m : ℕ → Bool) → ((u : ℕ) → m u ≡ true → Finite T u) → (t : ℕ) (b : Body) → T t .body ≡ b → finiteBody m b ≡ true → Finite T t
+-- if the marked records have a finite value, so has one that is found
+pub body-finite : (T : Table) (m : ℕ → Bool) → ((u : ℕ) → m u ≡ true → Finite T u) → (t : ℕ) (b : Body) → T t .body ≡ b → finiteBody m b ≡ true → Finite T t
 unfolding finiteBody isChoice members
 body-finite T m h t (Plain k) q e = all-mandatory {t = t} (rw q) (λ x i o. absurd (in-none (rw q at i)))
 body-finite T m h t (Sequence ms) q e =
@@ -216,24 +217,26 @@ module _ (T : Table) (n : ℕ) where
     there-or-absent : {X : Type 0} (t : ℕ) → (t < n → X) → (T t ≡ absent → X) → X
     there-or-absent t f g = test (ltb t n) (λ e. f (ltb-true t n e)) λ e. g (beyond t (ltb-false t n e))
 
-    mandatory-there : (t : ℕ) → isChoice (T t .body) ≡ false
-        → ((x : Member) → In x (members (T t .body)) → x .optional ≡ false → found (finiteStep T) n (x .type) ≡ true) → found (finiteStep T) n t ≡ true
-    unfolding finiteStep found isChoice
-    mandatory-there t c h =
-        there-or-absent t
-        (λ l. rounds-closed (finiteStep T) n t l (mandatory-found (λ u. getD (rounds (finiteStep T) n n) u false) (T t .body) c h))
-        (λ a. absurd (false≢true (rw a at (sym c))))
+    module _ (m : ℕ → Bool) (closed : (t : ℕ) → t < n → finiteBody m (T t .body) ≡ true → m t ≡ true) where
+      mandatory-there : (t : ℕ) → isChoice (T t .body) ≡ false
+          → ((x : Member) → In x (members (T t .body)) → x .optional ≡ false → m (x .type) ≡ true) → m t ≡ true
+      unfolding isChoice
+      mandatory-there t c h =
+          there-or-absent t (λ l. closed t l (mandatory-found m (T t .body) c h)) (λ a. absurd (false≢true (rw a at (sym c))))
 
-    alternative-there : (t : ℕ) (ts : List ℕ) (a : ℕ) → T t .body ≡ Choice ts → In a ts → found (finiteStep T) n a ≡ true → found (finiteStep T) n t ≡ true
-    unfolding finiteStep found finiteBody
-    alternative-there t ts a q i e =
-        there-or-absent t
-        (λ l. rounds-closed (finiteStep T) n t l (rw q (some-any (λ u. getD (rounds (finiteStep T) n n) u false) i e)))
-        (λ z. let s : ts ≡ [] = cc in absurd (in-none (rw s at i)))
+      alternative-there : (t : ℕ) (ts : List ℕ) (a : ℕ) → T t .body ≡ Choice ts → In a ts → m a ≡ true → m t ≡ true
+      unfolding finiteBody
+      alternative-there t ts a q i e =
+          there-or-absent t (λ l. closed t l (rw q (some-any m i e))) (λ z. let s : ts ≡ [] = cc in absurd (in-none (rw s at i)))
+
+      -- marks to which no record that is there has to be added are on all that have a finite value
+      pub closed-finite : {t : ℕ} → Finite T t → m t ≡ true
+      closed-finite (all-mandatory {t} c h) = mandatory-there t c (λ x i o. closed-finite (h x i o))
+      closed-finite (one-alternative {t} ts a q i h) = alternative-there t ts a q i (closed-finite h)
 
     pub finite-complete : {t : ℕ} → Finite T t → found (finiteStep T) n t ≡ true
-    finite-complete (all-mandatory {t} c h) = mandatory-there t c (λ x i o. finite-complete (h x i o))
-    finite-complete (one-alternative {t} ts a q i h) = alternative-there t ts a q i (finite-complete h)
+    unfolding finiteStep found
+    finite-complete h = closed-finite (λ u. getD (rounds (finiteStep T) n n) u false) (rounds-closed (finiteStep T) n) h
 
     pub infinite-true : (t : ℕ) → infinite T n t ≡ true → Infinite T t
     unfolding infinite

@@ -8,5 +8,7 @@ pub mod Spelled
 pub mod Rounds
 pub mod Decided
 pub mod Fields
+pub mod Fields2
 pub mod Loops
 pub mod Filling
+pub mod Marks
