@@ -2,3 +2,5 @@
 -- Assumes nothing.
 pub mod Lists
 pub mod Search
+pub mod Tabulate
+pub mod Members

@@ -19,7 +19,7 @@ use Rattle.table.specs.Reading.{tagsAt, everyAt, bodyAt, recordAt, recor
 use Rattle.table.proofs.Reading.{Back, record-back, record-only, record-size}
 
 -- behind all octets a record is absent
-absent-at : (b : List ℕ) → length b ≤ 8192 → recordAt b 65535 ≡ absent
+pub absent-at : (b : List ℕ) → length b ≤ 8192 → recordAt b 65535 ≡ absent
 unfolding recordAt bodyAt tagsAt everyAt
 absent-at b h =
     rw (
