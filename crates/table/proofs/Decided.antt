@@ -297,3 +297,10 @@ module _ (T : Table) (n : ℕ) where
     pub sharing-complete : (t : ℕ) → Sharing T t → sharing T n t ≡ true
     unfolding sharing
     sharing-complete t s = paired (share T n) _ (s .i) (s .j) (s .apart) (s .within) (share-complete (s .first) (s .second))
+
+-- a test that agrees with a rule, and code that finds which of the two holds
+pub decides : {P : Type 0} (f r : Bool) → (f ≡ true → P) → (P → f ≡ true) → (r ≡ true → P) → (r ≡ false → P → ⊥) → f ≡ r
+decides true true a b c d = refl
+decides true false a b c d = absurd (d refl (a refl))
+decides false true a b c d = b (c refl)
+decides false false a b c d = refl

@@ -5,13 +5,16 @@ pub mod Own
 pub mod Walk
 pub mod Nodes
 pub mod Straight
+pub mod Outermost
+pub mod Gather
+pub mod Shared
+pub mod Judged
 pub mod Reading
 pub mod Scan
 pub mod Spelled
 pub mod Rounds
 pub mod Decided
 pub mod Fields
-pub mod Fields2
 pub mod Loops
 pub mod Filling
 pub mod Marks

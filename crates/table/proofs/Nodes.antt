@@ -6,24 +6,15 @@ use mathlib.Core.Path.{_≡_, refl, sym, ap, _∙_}
 use Prim.Native.Nat.{ℕ, zero, suc, _≤_, _<_}
 use native.Mathlib.Omega.{arith}
 use lib.Dec.{eqb, ltb}
-use borrow.Author.Tests.{eqb-true, eq-eqb, ltb-true, ltb-false}
+use borrow.Author.Tests.{eq-eqb, ltb-true, ltb-false}
 use Rattle.octets.specs.Tests.{test}
 use Rattle.octets.specs.Lists.{lowest}
-use Rattle.octets.proofs.Lists.{both}
 use Rattle.octets.proofs.Search.{lowest-most, lowest-passes, before-lowest}
 use Rattle.table.specs.Syntax.{Tag, Table, Body}
 use Rattle.table.specs.Rules.{below, tagsBelow, Reaches, here, through, First, outermost, inside}
 use Rattle.table.specs.Decide.{sameTag, begins}
+use Rattle.table.proofs.Decided.{same-tag}
 use Rattle.table.specs.Walk.{sameOutermost, like, Hits, at, under}
-
-pub same-tag : (g h : Tag) → sameTag g h ≡ true → g ≡ h
-unfolding sameTag
-same-tag g h e =
-    let (c, n) = both (eqb (g .class) (h .class)) (eqb (g .number) (h .number)) e in
-    tag-eq g h (eqb-true _ _ c) (eqb-true _ _ n)
-  where
-    tag-eq : (g h : Tag) → g .class ≡ h .class → g .number ≡ h .number → g ≡ h
-    tag-eq g h c n = λ i. record { class = c i; number = n i }
 
 pub tag-same : (g : Tag) → sameTag g g ≡ true
 unfolding sameTag

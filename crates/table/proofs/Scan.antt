@@ -189,3 +189,8 @@ misshapen b short e x =
 pub scan-misshapen : (b : List ℕ) → Octets b → length b ≤ 8192 → scan b .whole ≡ false → Misshapen b (length (scan b .offsets))
 unfolding scan
 scan-misshapen b octets short e = misshapen b short e (scanned b octets short 128 [] 0 (omega arith))
+
+-- a record number without a record stands for an absent one
+pub look-beyond : (b os : List ℕ) (t : ℕ) → length b ≤ 8192 → length os ≤ t → look b os t ≡ absent
+unfolding look
+look-beyond b os t h l = rw (List·getD-eq-default os 65535 {n = t} l) (absent-at b h)

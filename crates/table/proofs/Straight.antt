@@ -9,15 +9,15 @@ use native.Mathlib.Omega.{arith}
 use lib.Dec.{eqb, leb}
 use lib.ListN.{length, getD, set, length-set, replicate, length-replicate}
 use lib.Seq.{getD-set-other}
-use borrow.Author.Tests.{eqb-true, eqb-false, leb-true}
+use borrow.Author.Tests.{eqb-true, eqb-false, leb-true, leb-false}
 use Rattle.octets.specs.Tests.{test}
 use Rattle.octets.specs.Lists.{all}
 use Rattle.octets.proofs.Lists.{both}
-use Rattle.table.specs.Syntax.{Tag, Table, Body, Plain, Sequence, Set, SequenceOf, SetOf, Choice, Record, isChoice}
+use Rattle.table.specs.Syntax.{Tag, Table, Body, Plain, Sequence, Set, SequenceOf, SetOf, Choice, Record, isChoice, references}
 use Rattle.table.specs.Octets.{recordShaped, bodyShaped}
-use Rattle.table.specs.Rules.{below, tagsBelow, bodyBelow, parts, Reaches, here, through, Circular, First, outermost, inside, Mistagged, missing}
+use Rattle.table.specs.Rules.{below, tagsBelow, bodyBelow, parts, Dangling, Reaches, here, through, Circular, First, outermost, inside, Mistagged, missing}
 use Rattle.table.specs.Passes.{Nested}
-use Rattle.table.specs.Walk.{like, free, Hits, Straight}
+use Rattle.table.specs.Walk.{like, free, Hits, Named, Straight}
 use Rattle.table.proofs.Nodes.{hits-record, hits-first, hits-reaches, reaches-first, like-untagged}
 use Rattle.table.proofs.Walk.{marked}
 
@@ -38,6 +38,16 @@ none-free (zero ∷ v) zero f h e = omega arith
 none-free (suc x ∷ v) zero f h e = omega arith
 none-free (x ∷ v) (suc k) f h e = none-free v k (omega arith) (le-of-suc-le-suc h) e
 
+pub zeros : (k i : ℕ) → _≡_ {A = ℕ} (getD (replicate k 0) i 0) 0
+zeros zero i = refl
+zeros (suc k) zero = refl
+zeros (suc k) (suc i) = zeros k i
+
+free-zeros : (k : ℕ) → free (replicate k 0) ≡ k
+unfolding free
+free-zeros zero = refl
+free-zeros (suc k) = omega (arith, free-zeros k)
+
 module _ (T : Table) (n : ℕ) (there : (t a : ℕ) → t < n → In a (below T t) → a < n) (straight : (t : ℕ) → t < n → Circular T t → ⊥) where
   -- the marked records lead to t, and f are left
   nested : (f : ℕ) (v : List ℕ) (t : ℕ) → free v ≤ f → length v ≡ n → ((j : ℕ) → (getD v j 0 ≡ 0 → ⊥) → Leads T j t) → t < n → Nested T f t
@@ -57,16 +67,6 @@ module _ (T : Table) (n : ℕ) (there : (t a : ℕ) → t < n → In a (below T 
           (λ e. rw (eqb-true j t e) (record { alternative = a; of = i; to = here }))
           (λ e. let x = l j (λ z. u (getD-set-other v t j 1 0 (eqb-false j t e) ∙ z)) in
           record { alternative = x .alternative; of = x .of; to = one-step i (x .to) })
-
-  zeros : (k i : ℕ) → _≡_ {A = ℕ} (getD (replicate k 0) i 0) 0
-  zeros zero i = refl
-  zeros (suc k) zero = refl
-  zeros (suc k) (suc i) = zeros k i
-
-  free-zeros : (k : ℕ) → free (replicate k 0) ≡ k
-  unfolding free
-  free-zeros zero = refl
-  free-zeros (suc k) = omega (arith, free-zeros k)
 
   pub ends : (t : ℕ) → t < n → Nested T n t
   ends t h = nested n (replicate n 0) t (omega (arith, free-zeros n)) (length-replicate n 0) (λ j u. absurd (u (zeros n j))) h
@@ -100,7 +100,7 @@ module _ (T : Table) (n : ℕ) (x : Straight T n) (there : (t a : ℕ) → t < n
     where
       by : (gs : List Tag) → T t .tags ≡ gs → (l : List ℕ) → below T t ≡ l → (g : Tag) × First T g t
       by (g ∷ gs) e l b = (g, outermost gs e)
-      by [] e [] b = absurd (some-below (T t) e (x .shaped t h) (x .tagged t h) b)
+      by [] e [] b = absurd (some-below (T t) e (x .named .shaped t h) (x .named .tagged t h) b)
       by [] e (a ∷ l) b =
           let i : In a (below T t) = rw b (first-of refl) in
           let (g, f) = rec a i in (g, inside a i f)
@@ -127,3 +127,33 @@ module _ (T : Table) (n : ℕ) (x : Straight T n) (there : (t a : ℕ) → t < n
               let same = e ∙ like-untagged T u d in
               let (g, f) = first-within n u (reached-there hi r) (x .ends u (reached-there hi r)) in
               (g, reaches-first T f r, reaches-first T f (hits-reaches T d (rw same at b)))
+
+-- what a record's alternatives and members are: records that it names
+below-named : (gs : List Tag) (b : Body) (a : ℕ) → In a (tagsBelow gs b) → In a (references b)
+unfolding tagsBelow bodyBelow references
+below-named [] (Plain k) a i = i
+below-named [] (Sequence ms) a i = absurd (not-in-nil i)
+below-named [] (Set ms) a i = absurd (not-in-nil i)
+below-named [] (SequenceOf t) a i = absurd (not-in-nil i)
+below-named [] (SetOf t) a i = absurd (not-in-nil i)
+below-named [] (Choice ts) a i = i
+below-named (g ∷ gs) b a i = absurd (not-in-nil i)
+
+parts-named : (b : Body) (a : ℕ) → In a (parts b) → In a (references b)
+unfolding parts references
+parts-named (Plain k) a i = i
+parts-named (Sequence ms) a i = i
+parts-named (Set ms) a i = i
+parts-named (SequenceOf t) a i = absurd (not-in-nil i)
+parts-named (SetOf t) a i = absurd (not-in-nil i)
+parts-named (Choice ts) a i = i
+
+module _ (T : Table) (n : ℕ) (x : Named T n) where
+  named-there : (t a : ℕ) → t < n → In a (references (T t .body)) → a < n
+  named-there t a h i = test (leb n a) (λ e. absurd (x .there t h (record { number = a; named = i; beyond = leb-true n a e }))) λ e. leb-false n a e
+
+  pub below-there : (t a : ℕ) → t < n → In a (below T t) → a < n
+  below-there t a h i = named-there t a h (below-named (T t .tags) (T t .body) a i)
+
+  pub parts-there : (t a : ℕ) → t < n → In a (parts (T t .body)) → a < n
+  parts-there t a h i = named-there t a h (parts-named (T t .body) a i)

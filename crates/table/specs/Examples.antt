@@ -13,7 +13,7 @@ use Rattle.table.specs.Octets.{rising}
 use Rattle.table.specs.Rules.{bodyBelow, tagsBelow, parts}
 use Rattle.table.specs.Reading.{tagsAt, numbersAt, membersAt, everyAt, bodyAt, recordAt, countedEnd, enumeratedEnd, membersEnd, ownEnd, recordEnd, scanFrom, scan, look}
 use Rattle.table.specs.Decide.{round, rounds, found, dangling, wrongTags, reachStep, circular, sameTag, begins, firstStep, firstOfBoth, share, pair, sharing, finiteBody, finiteStep, infinite}
-use Rattle.table.specs.Verdict.{number, place, judge, verdict}
+use Rattle.table.specs.Verdict.{number, place, judgeChoices, judge, verdict}
 use Rattle.table.specs.declared.Verdict.{Verdict}
 use Rattle.table.specs.declared.Verdict.the-variants.{Passed, Refused}
 
@@ -101,5 +101,5 @@ wrong k [] = []
 wrong k (e ∷ es) = if (eqb (told (verdict (e .octets))) (e .answer)) (wrong (suc k) es) λ _. k ∷ wrong (suc k) es
 
 pub all-right : wrong 0 examples ≡ []
-unfolding any all joined tabulate lowestFrom references isChoice universal rising bodyBelow tagsBelow parts tagsAt numbersAt membersAt everyAt bodyAt recordAt countedEnd enumeratedEnd membersEnd ownEnd recordEnd scanFrom scan look round rounds found dangling wrongTags reachStep circular sameTag begins firstStep firstOfBoth share pair sharing finiteBody finiteStep infinite judge verdict
+unfolding any all joined tabulate lowestFrom references isChoice universal rising bodyBelow tagsBelow parts tagsAt numbersAt membersAt everyAt bodyAt recordAt countedEnd enumeratedEnd membersEnd ownEnd recordEnd scanFrom scan look round rounds found dangling wrongTags reachStep circular sameTag begins firstStep firstOfBoth share pair sharing finiteBody finiteStep infinite judgeChoices judge verdict
 all-right = refl

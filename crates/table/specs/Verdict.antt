@@ -39,15 +39,20 @@ place NoType = 0
 abbrev pub unless : ℕ → (ℕ → TableCause) → (ℕ → Bool) → (Unit {0} → Verdict) → Verdict
 unless n cause fails next = if (ltb (lowest fails n) n) (Refused (cause (lowest fails n))) next
 
--- "Order: 1 to 6, each over the whole table, place the lowest such record": 2 to 6
-unfoldable pub judge : Table → ℕ → Verdict
-judge T n =
-    unless n NoRecord (dangling T n) λ _.
-    unless n WrongTag (mistagged T) λ _.
+-- "Order: 1 to 6, each over the whole table, place the lowest such record": 4 to 6
+unfoldable pub judgeChoices : Table → ℕ → Verdict
+judgeChoices T n =
     unless n ChoiceLoop (circular T n) λ _.
     unless n SharedTag (sharing T n) λ _.
     unless n NoValue (infinite T n) λ _.
     Passed
+
+-- and 2 to 6
+unfoldable pub judge : Table → ℕ → Verdict
+judge T n =
+    unless n NoRecord (dangling T n) λ _.
+    unless n WrongTag (mistagged T) λ _.
+    judgeChoices T n
 
 -- "an over-long table is judged before any record, place 0"; then 1 at the record that is not shaped
 unfoldable pub verdict : List ℕ → Verdict

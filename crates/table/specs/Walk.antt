@@ -9,7 +9,7 @@ use lib.ListN.{length, getD, set}
 use Rattle.octets.specs.Lists.{lowest}
 use Rattle.table.specs.Syntax.{Tag, Table, absent, Record}
 use Rattle.table.specs.Octets.{recordShaped}
-use Rattle.table.specs.Rules.{below, parts, Mistagged}
+use Rattle.table.specs.Rules.{below, Dangling, Mistagged}
 use Rattle.table.specs.Decide.{begins}
 use Rattle.table.specs.Passes.{Nested}
 
@@ -27,11 +27,15 @@ pub record Ready (T : Table) (n : ℕ) (nodes : List ℕ) : Type 0 where
   pub size : n ≤ length nodes
   pub right : (t : ℕ) → t < n → getD nodes t 0 ≡ like T t
 
--- what the verdict has found before it judges shared tags
-pub record Straight (T : Table) (n : ℕ) : Type 0 where
-  pub there : (t a : ℕ) → t < n → In a (parts (T t .body)) → a < n
+-- what the verdict has found before it judges circles
+pub record Named (T : Table) (n : ℕ) : Type 0 where
   pub shaped : (t : ℕ) → t < n → recordShaped (T t) ≡ true
+  pub there : (t : ℕ) → t < n → Dangling T n t → ⊥
   pub tagged : (t : ℕ) → t < n → Mistagged (T t) → ⊥
+
+-- and before it judges shared tags
+pub record Straight (T : Table) (n : ℕ) : Type 0 where
+  pub named : Named T n
   pub ends : (t : ℕ) → t < n → Nested T n t
 
 abbrev pub fresh : ℕ → ℕ

@@ -117,7 +117,7 @@ fn is_circular(table: &[u8], offsets: &[u16], nodes: &[u8], t: usize) -> bool
 
 // The lowest such record; the count of records if there is none.
 pub(crate) fn lowest_circular(table: &[u8], offsets: &[u16], nodes: &[u8]) -> usize
-    requires { ⌜ Ready (look (now table) (now offsets)) (length (now offsets)) (now nodes) × (length (now offsets) ≤ 128) ⌝ }
+    requires { ⌜ Ready (look (now table) (now offsets)) (length (now offsets)) (now nodes) × (length (now offsets) ≤ 128) × (length (now table) ≤ 8192) ⌝ }
     ensures { λ r. ⌜ r ≡ lowest (circular (look (now (table .entry)) (now (offsets .entry))) (length (now (offsets .entry)))) (length (now (offsets .entry))) ⌝ }
 {
     let n = offsets.len();
@@ -157,7 +157,7 @@ fn is_sharing(table: &[u8], offsets: &[u16], nodes: &[u8], t: usize) -> bool
 
 // The lowest such record; the count of records if there is none.
 pub(crate) fn lowest_sharing(table: &[u8], offsets: &[u16], nodes: &[u8]) -> usize
-    requires { ⌜ Ready (look (now table) (now offsets)) (length (now offsets)) (now nodes) × Straight (look (now table) (now offsets)) (length (now offsets)) × (length (now offsets) ≤ 128) ⌝ }
+    requires { ⌜ Ready (look (now table) (now offsets)) (length (now offsets)) (now nodes) × Straight (look (now table) (now offsets)) (length (now offsets)) × (length (now offsets) ≤ 128) × (length (now table) ≤ 8192) ⌝ }
     ensures { λ r. ⌜ r ≡ lowest (sharing (look (now (table .entry)) (now (offsets .entry))) (length (now (offsets .entry)))) (length (now (offsets .entry))) ⌝ }
 {
     let n = offsets.len();

@@ -9,7 +9,7 @@ use borrow.Author.Needs.{needs}
 use Rattle.octets.proofs.Search.{Rest, rest-first, rest-here, rest-next, rest-none}
 use Rattle.table.specs.Reading.{look}
 use Rattle.table.specs.Decide.{infinite}
-use Rattle.table.proofs.Fields2.{look-beyond}
+use Rattle.table.proofs.Scan.{look-beyond}
 use Rattle.table.proofs.Marks.{Tells, marks-tell}
 use Rattle.table.proofs.finite.lowest.Statement.{statement}
 use Rattle.table.proofs.finite.lowest.Tie as tie
