@@ -10,3 +10,4 @@ pub mod Reading
 pub mod Judging
 pub mod Causes
 pub mod Outcome
+pub mod Examples
