@@ -5,3 +5,9 @@ pub mod Length
 pub mod Item
 pub mod Integer
 pub mod BitString
+pub mod IdentifierLaws
+pub mod LengthLaws
+pub mod ItemLaws
+pub mod BitStringLaws
+pub mod IntegerLaws
+pub mod Examples
