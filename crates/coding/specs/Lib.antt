@@ -10,4 +10,6 @@ pub mod Reading
 pub mod Judging
 pub mod Causes
 pub mod Outcome
+pub mod ContentLaws
+pub mod Sound
 pub mod Examples
