@@ -12,4 +12,6 @@ pub mod Causes
 pub mod Outcome
 pub mod ContentLaws
 pub mod Sound
+pub mod FirstTags
+pub mod Complete
 pub mod Examples

@@ -52,11 +52,11 @@ unfoldable pub beginsItem : (ℕ → Bool) → List ℕ → List (List ℕ) → 
 beginsItem f i [] o b = beginsBody f i o b
 beginsItem f i (e ∷ es) o b = same i e
 
--- through at most k CHOICEs without tags
+-- the identifier octets i begin values of the type t, through fewer than k CHOICEs without tags
 unfoldable pub beginsIn : Table → ℕ → ℕ → List ℕ → Bool
 beginsIn T zero t i = false
 beginsIn T (suc k) t i = beginsItem (λ a. beginsIn T k a i) i (explicit (T t)) (own (T t)) (T t .body)
 
--- the identifier octets i begin values of the type t; a table has at most 128 records
+-- the identifier octets i begin values of the type t; a table has at most 128 records, so at most 128 CHOICEs stand above an item
 unfoldable pub begins : Table → ℕ → List ℕ → Bool
-begins T t i = beginsIn T 128 t i
+begins T t i = beginsIn T 129 t i
