@@ -11,7 +11,7 @@ use lib.ListN.{length, getD, length-append}
 use lib.Seq.{append-snoc}
 use Rattle.octets.specs.Answer.{Answer, got, refused, then, if, run, Reads, Holds, got-holds}
 use Rattle.octets.specs.Lists.{any, joined}
-use Rattle.octets.specs.Permutations.{flat, joined-flat, Sel, Sel.here, Sel.there, Perm, Perm.none as none-p, Perm.next, Each, nil, cons, perm-each, Every, every-nil, every-cons}
+use Rattle.octets.specs.Permutations.{flat, joined-flat, Sel, Sel.here, Sel.there, Perm, Perm.none as none-p, Perm.next, Each, nil, cons, Order, Arranged, arranged-each, Every, every-nil, every-cons}
 use Rattle.ber.specs.Identifier.{readIdentifier}
 use Rattle.ber.specs.IdentifierLaws.{Begun}
 use Rattle.ber.specs.Item.{Mode, Definite, sized, Constructed, in-size, in-marks, atEnd, readConstructed, readPrimitive}
@@ -110,7 +110,7 @@ begun-more rest s mode f x b e = rw (e, b .is) (atEnd-more mode (b .head) ((b .r
 begun-longer : {i m : List ℕ} (rest s : List ℕ) → Begun i → m ≡ i ++ rest → length s < length (m ++ s)
 begun-longer rest s b e = rw (e, b .is) (simp length-append (omega arith))
 
-module _ (T : Table) (good : Good T) (E : Coding) (Q : Value → Value → Type 0) (r : ℕ → List ℕ → Answer Value)
+module _ (o : Order) (T : Table) (good : Good T) (E : Coding) (Q : Value → Value → Type 0) (r : ℕ → List ℕ → Answer Value)
     (begin : (t : ℕ) (v : Value) (m : List ℕ) → E t v m → Starts T t m)
     (read : (t : ℕ) (v : Value) (m s : List ℕ) → E t v m → Reads Q (r t) v (m ++ s) s) where
   starts : {t : ℕ} {v : Value} {m : List ℕ} → E t v m → Starts T t m
@@ -225,10 +225,10 @@ module _ (T : Table) (good : Good T) (E : Coding) (Q : Value → Value → Type 
   unfolding readSequence flat Apart allowed
   sequence-complete ms acc w tail u d done a z = ([], atEnd-end _ _ z ∙ rw append-nil refl, nil)
   sequence-complete ms acc w tail u d (left {m = m} {ms = ms′} p) a z =
-      let o : m .optional ≡ true = and-left (m .optional) _ a in
+      let op : m .optional ≡ true = and-left (m .optional) _ a in
       let a′ = and-right (m .optional) _ a in
       let (us, y, q) = sequence-complete ms′ (acc ++ (none ∷ [])) true tail u (d .1) p a′ z in
-      (none ∷ us, simp (run, not-begun (m .type) tail u (λ i. d .0 i o) (heads p a′) z, o) (rw append-snoc at y), cons tt q)
+      (none ∷ us, simp (run, not-begun (m .type) tail u (λ i. d .0 i op) (heads p a′) z, op) (rw append-snoc at y), cons tt q)
   sequence-complete ms acc w tail u d (sent {m = m} {ms = ms′} {ps = ps} e p) a z =
       let x = reads (flat ps tail) e in
       let (us, y, q) = sequence-complete ms′ (acc ++ (some (x .value) ∷ [])) false tail u (d .1) p a z in
@@ -247,35 +247,35 @@ module _ (T : Table) (good : Good T) (E : Coding) (Q : Value → Value → Type 
   at-pieces f ps t u x = rw (joined-flat ps t) x
 
   sequence-body : {ms : List Member} {os : List (Option Value)} {ps : List (List ℕ)} → Apart T ms → Pieces E ms os ps → allowed ms os ≡ true → (mode : Mode) (t u : List ℕ) → Ends mode t u
-      → Reads (Alike Q) (readBody T r (Sequence ms) mode) (sequence (slots os)) (flat ps t) u
+      → Reads (Alike o Q) (readBody T r (Sequence ms) mode) (sequence (slots os)) (flat ps t) u
   unfolding readBody
   sequence-body {ms} d p a mode t u z =
       let (us, y, q) = sequence-complete ms [] false t u d p a z in
       record { value = sequence (slots us); answer = simp (run, y); alike = same-sequence q }
 
   set-body : {ms : List Member} {os : List (Option Value)} {ps qs : List (List ℕ)} → Distinct T (types ms) → Pieces E ms os ps → allowed ms os ≡ true → Perm ps qs → (mode : Mode) (t u : List ℕ) → Ends mode t u
-      → Reads (Alike Q) (readBody T r (Set ms) mode) (set (slots os)) (flat qs t) u
+      → Reads (Alike o Q) (readBody T r (Set ms) mode) (set (slots os)) (flat qs t) u
   unfolding readBody
   set-body {ms} {qs = qs} d p a c mode t u z =
       let y = set-complete (suc (length (flat qs t))) ms mode t u d (all-pending p) c a (omega arith) z in
       record { value = set (slots (y .value)); answer = simp (run, y .answer); alike = same-set (y .alike) }
 
   many-body : {t : ℕ} {vs : List Value} {ps : List (List ℕ)} → Each (E t) vs ps → (mode : Mode) (tail u : List ℕ) → Ends mode tail u
-      → Reads (Alike Q) (readBody T r (SequenceOf t) mode) (sequenceOf (bag vs)) (flat ps tail) u
+      → Reads (Alike o Q) (readBody T r (SequenceOf t) mode) (sequenceOf (bag vs)) (flat ps tail) u
   unfolding readBody
   many-body {t} {ps = ps} es mode tail u z =
       let (ws, y, q) = many-complete (suc (length (flat ps tail))) t mode [] tail u es (omega arith) z in
       record { value = sequenceOf (bag ws); answer = simp (run, y); alike = same-sequence-of q }
 
-  of-body : {t : ℕ} {vs : List Value} {ps qs : List (List ℕ)} → Each (E t) vs ps → Perm ps qs → (mode : Mode) (tail u : List ℕ) → Ends mode tail u
-      → Reads (Alike Q) (readBody T r (SetOf t) mode) (setOf (bag vs)) (flat qs tail) u
+  of-body : {t : ℕ} {vs : List Value} {ps qs : List (List ℕ)} → Each (E t) vs ps → Arranged o ps qs → (mode : Mode) (tail u : List ℕ) → Ends mode tail u
+      → Reads (Alike o Q) (readBody T r (SetOf t) mode) (setOf (bag vs)) (flat qs tail) u
   unfolding readBody
   of-body {t} {qs = qs} es c mode tail u z =
-      let (us, c′, es′) = perm-each es c in
+      let (us, c′, es′) = arranged-each es c in
       let (ws, y, q) = many-complete (suc (length (flat qs tail))) t mode [] tail u es′ (omega arith) z in
       record { value = setOf (bag ws); answer = simp (run, y); alike = same-set-of us c′ q }
 
-  pub kind-complete : (i : List ℕ) (k : Body) {v : Value} {m : List ℕ} (s : List ℕ) → (isChoice k ≡ false → Proper i) → GoodBody T k → Codes E i k v m → Reads (Alike Q) (readKind T r i k) v (m ++ s) s
+  pub kind-complete : (i : List ℕ) (k : Body) {v : Value} {m : List ℕ} (s : List ℕ) → (isChoice k ≡ false → Proper i) → GoodBody T k → Codes o E i k v m → Reads (Alike o Q) (readKind T r i k) v (m ++ s) s
   unfolding readKind GoodBody isChoice
   kind-complete i k {m = m} s g d (is-plain {x = x} c h p) = record { value = leaf x; answer = simp (run, primitive-complete s (proper-readable (g refl)) p, content-complete (length (m ++ s)) s h); alike = same-leaf }
   kind-complete i k s g d (is-sequence ps p a f) = constructed-complete _ s (proper-readable (g refl)) (λ mode t u z. at-pieces _ ps t u (sequence-body d p a mode t u z)) f
@@ -292,8 +292,8 @@ constructed-head : {i c m : List ℕ} → Constructed i c m → (n : List ℕ) �
 constructed-head (in-size p) = definite-head p
 constructed-head {c = c} (in-marks e) = (128 ∷ (c ++ (0 ∷ 0 ∷ [])), e)
 
-module _ (T : Table) (E : Coding) (begin : (t : ℕ) (v : Value) (m : List ℕ) → E t v m → Starts T t m) where
-  kind-starts : (i : List ℕ) (k : Body) {v : Value} {m : List ℕ} → Codes E i k v m → (x : List ℕ) × (n : List ℕ) × (m ≡ x ++ n) × Begins T [] i k x
+module _ (o : Order) (T : Table) (E : Coding) (begin : (t : ℕ) (v : Value) (m : List ℕ) → E t v m → Starts T t m) where
+  kind-starts : (i : List ℕ) (k : Body) {v : Value} {m : List ℕ} → Codes o E i k v m → (x : List ℕ) × (n : List ℕ) × (m ≡ x ++ n) × Begins T [] i k x
   unfolding Begins
   kind-starts i k (is-plain c x p) = let (n, h) = definite-head p in (i, n, h, refl)
   kind-starts i k (is-sequence ps p a f) = let (n, h) = constructed-head f in (i, n, h, refl)
@@ -303,7 +303,7 @@ module _ (T : Table) (E : Coding) (begin : (t : ℕ) (v : Value) (m : List ℕ) 
   kind-starts i k (is-choice {ts = ts} {t = t} a c) = let x = at-starts a (begin t _ _ c) in (x .ident, x .rest, x .is, x .begins)
 
   -- identifier octets of an item that is no end stand first
-  kind-opened : Good T → (i : List ℕ) (k : Body) {v : Value} {m : List ℕ} → (isChoice k ≡ false → Proper i) → Codes E i k v m → (x : List ℕ) × (n : List ℕ) × (m ≡ x ++ n) × Begun x
+  kind-opened : Good T → (i : List ℕ) (k : Body) {v : Value} {m : List ℕ} → (isChoice k ≡ false → Proper i) → Codes o E i k v m → (x : List ℕ) × (n : List ℕ) × (m ≡ x ++ n) × Begun x
   unfolding isChoice
   kind-opened good i k g (is-plain c x p) = let (n, h) = definite-head p in (i, n, h, proper-begun (g refl))
   kind-opened good i k g (is-sequence ps p a f) = let (n, h) = constructed-head f in (i, n, h, proper-begun (g refl))
@@ -318,12 +318,12 @@ unfolding Begins
 wrapped-starts T {m = m} es o b f k (bare c) = let (i, n, e, q) = k m c in (i, n, e, f i q)
 wrapped-starts T es o b f k (tagged {i = i} w h) = let (n, e) = constructed-head h in (i, n, e, f i refl)
 
-pub starts-at : (T : Table) → Good T → (n t : ℕ) (v : Value) (m : List ℕ) → EncodesAt T n t v m → Starts T t m
+pub starts-at : (o : Order) (T : Table) → Good T → (n t : ℕ) (v : Value) (m : List ℕ) → EncodesAt o T n t v m → Starts T t m
 unfolding EncodesAt
-starts-at T good zero t v m e = absurd e
-starts-at T good (suc n) t v m e =
+starts-at o T good zero t v m e = absurd e
+starts-at o T good (suc n) t v m e =
     let (i, r, h, b) = wrapped-starts T {X = λ i. begins T t i ≡ true} (explicit (T t)) (own (T t)) (T t .body) (good t .begin)
-        (λ m c. kind-starts T (EncodesAt T n) (starts-at T good n) (own (T t)) (T t .body) c) e in
+        (λ m c. kind-starts o T (EncodesAt o T n) (starts-at o T good n) (own (T t)) (T t .body) c) e in
     record { ident = i; rest = r; is = h; begins = b }
 
 abbrev Opened : List ℕ → Type 0
@@ -345,11 +345,11 @@ wrapped-complete {Q = Q} {v = v} r f o s (every-cons p ps) (tagged {is = is} {c 
     body g (i, n, e, b) mode t u z = let x = g t in record { value = x .value; answer = begun-more n t mode _ _ b e ∙ simp (run, x .answer) (atEnd-end _ _ z); alike = x .alike }
 
 -- A permitted encoding with at most n levels, followed by anything, is read to its end, and what is read is equivalent to what was meant.
-pub value-complete : (T : Table) → Good T → (n t : ℕ) (v : Value) (m s : List ℕ) → EncodesAt T n t v m → Reads (EquivalentAt n) (readValue T n t) v (m ++ s) s
+pub value-complete : (o : Order) (T : Table) → Good T → (n t : ℕ) (v : Value) (m s : List ℕ) → EncodesAt o T n t v m → Reads (EquivalentAt o n) (readValue T n t) v (m ++ s) s
 unfolding EncodesAt EquivalentAt readValue
-value-complete T good zero t v m s e = absurd e
-value-complete T good (suc n) t v m s e =
+value-complete o T good zero t v m s e = absurd e
+value-complete o T good (suc n) t v m s e =
     let x = wrapped-complete _
-        (λ c u. kind-complete T good (EncodesAt T n) (EquivalentAt n) (λ u w. readValue T n u w) (starts-at T good n) (value-complete T good n) (own (T t)) (T t .body) u (good t .item) (good t .apart))
-        (λ c. kind-opened T (EncodesAt T n) (starts-at T good n) good (own (T t)) (T t .body) (good t .item)) s (good t .inner) e in
+        (λ c u. kind-complete o T good (EncodesAt o T n) (EquivalentAt o n) (λ u w. readValue T n u w) (starts-at o T good n) (value-complete o T good n) (own (T t)) (T t .body) u (good t .item) (good t .apart))
+        (λ c. kind-opened o T (EncodesAt o T n) (starts-at o T good n) good (own (T t)) (T t .body) (good t .item)) s (good t .inner) e in
     record { value = x .value; answer = x .answer; alike = x .alike }

@@ -11,7 +11,7 @@ use lib.ListN.{length, length-append}
 use lib.Seq.{append-snoc}
 use Rattle.octets.specs.Answer.{Answer, got, refused, then, if, Holds, yields, refuses, if-holds, then-holds, map-holds, Taken}
 use Rattle.octets.specs.Lists.{joined}
-use Rattle.octets.specs.Permutations.{flat, joined-flat, Sel, Sel.here, Sel.there, Perm, Perm.none as none-p, Perm.next, Perm·refl, Each, nil, cons}
+use Rattle.octets.specs.Permutations.{flat, joined-flat, Sel, Sel.here, Sel.there, Perm, Perm.none as none-p, Perm.next, Each, nil, cons, Order, as-given, Arranged, arranged-refl}
 use Rattle.ber.specs.Identifier.{readIdentifier}
 use Rattle.ber.specs.IdentifierLaws.{identifier-sound}
 use Rattle.ber.specs.Item.{Mode, Definite, Constructed, atEnd, readConstructed, readPrimitive}
@@ -115,7 +115,7 @@ placed-back (pass x) (p-left d) = let (qs, d′, s) = placed-back x d in (qs, p-
 placed-back (pass x) (p-sent {p = p} e d) = let (qs, d′, s) = placed-back x d in (p ∷ qs, p-sent e d′, there s)
 placed-back (pass x) (p-have q d) = let (qs, d′, s) = placed-back x d in (qs, p-have q d′, s)
 
-module _ (T : Table) (E : Coding) (r : ℕ → List ℕ → Answer Value) (sound : (t : ℕ) (s : List ℕ) → Holds (Taken (E t) s) (r t s)) where
+module _ (o : Order) (T : Table) (E : Coding) (r : ℕ → List ℕ → Answer Value) (sound : (t : ℕ) (s : List ℕ) → Holds (Taken (E t) s) (r t s)) where
   -- C of what came after vs
   abbrev pub Onto : {X : Type 0} → List X → (List X → List (List ℕ) → Type 0) → List X → List (List ℕ) → Type 0
   Onto {X} vs C ws ps = (us : List X) × (ws ≡ vs ++ us) × C us ps
@@ -146,11 +146,11 @@ module _ (T : Table) (E : Coding) (r : ℕ → List ℕ → Answer Value) (sound
       record { tail = y .tail; body = one-more x (y .body) (some v ∷ us, h ∙ append-snoc os (some v) us, (sent (x .has) (d .0), d .1)); ends = y .ends })
       λ b _.
       if-holds _
-      (λ o.
+      (λ op.
       map-holds (sequence-sound ms (os ++ (none ∷ [])) true mode s) λ ws s₂ y.
       let (us, h, d) = y .body .has in
-      record { tail = y .tail; body = record { pieces = y .body .pieces; cut = y .body .cut; has = (none ∷ us, h ∙ append-snoc os none us, (left (d .0), rw o (d .1))) }; ends = y .ends })
-      λ o _. atEnd-holds mode s (λ u h. refuses) λ _. not-awaited s
+      record { tail = y .tail; body = record { pieces = y .body .pieces; cut = y .body .cut; has = (none ∷ us, h ∙ append-snoc os none us, (left (d .0), rw op (d .1))) }; ends = y .ends })
+      λ op _. atEnd-holds mode s (λ u h. refuses) λ _. not-awaited s
 
   place-sound : (ms : List Member) (os : List (Option Value)) (s : List ℕ) → Holds (Taken (Placed E ms os) s) (place T r ms os s)
   unfolding place
@@ -211,7 +211,7 @@ module _ (T : Table) (E : Coding) (r : ℕ → List ℕ → Answer Value) (sound
   body-sound (SetOf t) mode s = then-holds (many-sound _ t mode [] s) λ vs u y. yields (with-body (λ ps h. (vs, refl, rw (← h .1) at (h .2))) y)
   body-sound (Choice ts) mode s = refuses
 
-  kind-sound : (i : List ℕ) (k : Body) (s : List ℕ) → Holds (Taken (Codes E i k) s) (readKind T r i k s)
+  kind-sound : (i : List ℕ) (k : Body) (s : List ℕ) → Holds (Taken (Codes o E i k) s) (readKind T r i k s)
   unfolding readKind Parts
   kind-sound i (Plain k) s =
       then-holds (primitive-sound i s) λ c s₁ x.
@@ -228,17 +228,17 @@ module _ (T : Table) (E : Coding) (r : ℕ → List ℕ → Answer Value) (sound
       let (ps, e, k) = x .has in let (vs, q, h) = k in record { piece = x .item; cut = x .cut; has = rw q (is-sequence-of ps h (rw e at (x .framed))) }
   kind-sound i (SetOf t) s =
       map-holds (constructed-sound (Together (Parts (SetOf t))) _ (body-sound (SetOf t)) i s) λ v s₁ x.
-      let (ps, e, k) = x .has in let (vs, q, h) = k in record { piece = x .item; cut = x .cut; has = rw q (is-set-of ps ps h (Perm·refl ps) (rw e at (x .framed))) }
+      let (ps, e, k) = x .has in let (vs, q, h) = k in record { piece = x .item; cut = x .cut; has = rw q (is-set-of ps ps h (arranged-refl o ps) (rw e at (x .framed))) }
   kind-sound i (Choice ts) s =
       map-holds (choose-sound ts 0 s) λ v s₁ x.
       let (t, k, w, a, e, h) = x .has in record { piece = x .piece; cut = x .cut; has = rw (h, zero-add) (is-choice a e) }
 
 -- What reading accepts is an encoding of the value that it yields, at the level that it was given. It needs nothing of the table.
-pub value-sound : (T : Table) (n t : ℕ) (s : List ℕ) → Holds (Taken (EncodesAt T n t) s) (readValue T n t s)
+pub value-sound : (o : Order) (T : Table) (n t : ℕ) (s : List ℕ) → Holds (Taken (EncodesAt o T n t) s) (readValue T n t s)
 unfolding readValue EncodesAt
-value-sound T zero t s = refuses
-value-sound T (suc n) t s =
-    wrapped-sound (Codes (EncodesAt T n) (own (T t)) (T t .body)) _ (λ u. kind-sound T (EncodesAt T n) (λ u w. readValue T n u w) (value-sound T n) _ _ u) (explicit (T t)) s
+value-sound o T zero t s = refuses
+value-sound o T (suc n) t s =
+    wrapped-sound (Codes o (EncodesAt o T n) (own (T t)) (T t .body)) _ (λ u. kind-sound o T (EncodesAt o T n) (λ u w. readValue T n u w) (value-sound o T n) _ _ u) (explicit (T t)) s
 
 ends-short : {mode : Mode} {t r : List ℕ} → Ends mode t r → length r ≤ length t
 ends-short no-more = omega arith
@@ -247,4 +247,4 @@ ends-short mark = omega arith
 -- what is left behind contents is no longer than what was given
 pub body-short : (T : Table) (n : ℕ) (k : Body) (mode : Mode) (s : List ℕ) → Holds (λ v r. length r ≤ length s) (readBody T (readValue T n) k mode s)
 body-short T n k mode s =
-    map-holds (body-sound T (EncodesAt T n) (readValue T n) (value-sound T n) k mode s) (λ v r y. let h = ends-short (y .ends) in rw (y .cut, length-append) (omega arith))
+    map-holds (body-sound as-given T (EncodesAt as-given T n) (readValue T n) (value-sound as-given T n) k mode s) (λ v r y. let h = ends-short (y .ends) in rw (y .cut, length-append) (omega arith))

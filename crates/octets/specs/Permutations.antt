@@ -100,6 +100,27 @@ module _ {A B : Type 0} {R : A → B → Type 0} where
   each-then f nil nil = nil
   each-then f (cons h t) (cons k u) = cons (f _ _ _ h k) (each-then f t u)
 
+-- in any order, or in the order that was given
+pub data Order : Type 0 where
+  any-order : Order
+  as-given : Order
+
+pub data Arranged {A : Type 0} : Order → List A → List A → Type 0 where
+  permuted : {l r : List A} → Perm l r → Arranged any-order l r
+  kept : {l : List A} → Arranged as-given l l
+
+pub arranged-refl : {A : Type 0} (o : Order) (l : List A) → Arranged o l l
+arranged-refl any-order l = permuted (Perm·refl l)
+arranged-refl as-given l = kept
+
+pub arranged-perm : {A : Type 0} {o : Order} {l r : List A} → Arranged o l r → Perm l r
+arranged-perm (permuted p) = p
+arranged-perm (kept {l = l}) = Perm·refl l
+
+pub arranged-each : {A B : Type 0} {o : Order} {R : A → B → Type 0} {l : List A} {r r′ : List B} → Each R l r → Arranged o r r′ → (l′ : List A) × Arranged o l l′ × Each R l′ r′
+arranged-each es (permuted p) = let (l′, q, fs) = perm-each es p in (l′, permuted q, fs)
+arranged-each {l = l} es kept = (l, kept, es)
+
 -- every one is an octet
 abbrev pub AllOctets : List ℕ → Type 0
 AllOctets l = Every (λ x. x < 256) l
