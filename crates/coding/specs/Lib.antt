@@ -14,4 +14,6 @@ pub mod ContentLaws
 pub mod Sound
 pub mod FirstTags
 pub mod Complete
+pub mod Levels
+pub mod FormLaws
 pub mod Examples
