@@ -16,4 +16,5 @@ pub mod FirstTags
 pub mod Complete
 pub mod Levels
 pub mod FormLaws
+pub mod Equivalence
 pub mod Examples
