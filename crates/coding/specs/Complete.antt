@@ -9,7 +9,7 @@ use native.Mathlib.Omega.{arith}
 use Prim.Native.Nat.{ℕ, zero, suc, _+_, _<_, _≤_}
 use lib.ListN.{length, getD, length-append}
 use lib.Seq.{append-snoc}
-use Rattle.octets.specs.Answer.{Answer, got, refused, then, if, run, Reads, Holds, got-holds}
+use Rattle.octets.specs.Answer.{Answer, got, refused, then, if, none-left, run, Reads}
 use Rattle.octets.specs.Lists.{any, joined}
 use Rattle.octets.specs.Permutations.{flat, joined-flat, Sel, Sel.here, Sel.there, Perm, Perm.none as none-p, Perm.next, Each, nil, cons, Order, Arranged, arranged-each, Every, every-nil, every-cons}
 use Rattle.ber.specs.Identifier.{readIdentifier}
@@ -74,7 +74,7 @@ data Heads (T : Table) (ts : List ℕ) : List (List ℕ) → Type 0 where
   a-piece : {p : List ℕ} {ps : List (List ℕ)} → StartsAny T ts p → Heads T ts (p ∷ ps)
 
 -- the identifier octets that come next
-next-is : (T : Table) (t : ℕ) {i m : List ℕ} (rest s : List ℕ) → Readable i → m ≡ i ++ rest → begun T t (m ++ s) ≡ begins T t i
+pub next-is : (T : Table) (t : ℕ) {i m : List ℕ} (rest s : List ℕ) → Readable i → m ≡ i ++ rest → begun T t (m ++ s) ≡ begins T t i
 unfolding begun passes
 next-is T t {i = i} rest s r e = rw (e, append-assoc i rest s, r (rest ++ s))
 
@@ -353,3 +353,10 @@ value-complete o T good (suc n) t v m s e =
         (λ c u. kind-complete o T good (EncodesAt o T n) (EquivalentAt o n) (λ u w. readValue T n u w) (starts-at o T good n) (value-complete o T good n) (own (T t)) (T t .body) u (good t .item) (good t .apart))
         (λ c. kind-opened o T (EncodesAt o T n) (starts-at o T good n) good (own (T t)) (T t .body) (good t .item)) s (good t .inner) e in
     record { value = x .value; answer = x .answer; alike = x .alike }
+
+-- what begins as a type does is not empty
+pub started-some : (T : Table) → Good T → (t : ℕ) (m : List ℕ) → Starts T t m → none-left m ≡ false
+unfolding none-left
+started-some T good t m x =
+    let b = proper-begun (good t .first (x .ident) (x .begins)) in
+    rw (x .is, b .is)

@@ -17,4 +17,5 @@ pub mod Complete
 pub mod Levels
 pub mod FormLaws
 pub mod Equivalence
+pub mod Theorems
 pub mod Examples

@@ -23,7 +23,7 @@ use Rattle.coding.specs.Tags.{own, explicit}
 use Rattle.coding.specs.Encodes.{allowed, Coding, Pieces, done, left, sent, At, first, later, Codes, is-plain, is-sequence, is-set, is-sequence-of, is-set-of, is-choice, Wrapped, bare, tagged, EncodesAt}
 use Rattle.coding.specs.Reading.{notAwaited, unwanted, nothing, full, readWrapped, readSequence, place, readSet, readMany, choose, readBody, readKind, readValue}
 
-not-awaited : {A : Type 0} {P : A → List ℕ → Type 0} (s : List ℕ) → Holds P (notAwaited s)
+pub not-awaited : {A : Type 0} {P : A → List ℕ → Type 0} (s : List ℕ) → Holds P (notAwaited s)
 unfolding notAwaited
 not-awaited s = then-holds (identifier-sound s) λ i r e. refuses
 
