@@ -18,4 +18,6 @@ pub mod Levels
 pub mod FormLaws
 pub mod Equivalence
 pub mod Theorems
+pub mod Shaped
+pub mod NodeLaws
 pub mod Examples
