@@ -20,4 +20,5 @@ pub mod Equivalence
 pub mod Theorems
 pub mod Shaped
 pub mod NodeLaws
+pub mod JudgingLaws
 pub mod Examples
