@@ -200,3 +200,39 @@ unfoldable pub judgeWhole : Table → ℕ → ℕ → List ℕ → Answer Value
 judgeWhole T n t s =
     then (judgeValue T n t s) λ v r.
     if (not (none-left r)) (refused 11 (length r)) λ _. got v r
+
+-- The shape alone: the same, with a body that agrees with any node.
+unfoldable pub anyMembers : List Bool → List Member
+anyMembers [] = []
+anyMembers (b ∷ bs) = record { type = 0; optional = true } ∷ anyMembers bs
+
+unfoldable pub anySimple : Leaf → Simple
+anySimple (boolean b) = Boolean
+anySimple (integer z) = Integer
+anySimple (bits n c) = BitString
+anySimple (string c) = OctetString
+anySimple null = Null
+anySimple (enumerated k) = Enumerated (k ∷ [])
+
+unfoldable pub zeros : ℕ → List ℕ
+zeros zero = 0 ∷ []
+zeros (suc i) = 0 ∷ zeros i
+
+unfoldable pub anyBody : Node → Body
+anyBody (a-leaf x) = Plain (anySimple x)
+anyBody (a-sequence bs) = Sequence (anyMembers bs)
+anyBody (a-set bs) = Set (anyMembers bs)
+anyBody (a-sequence-of n) = SequenceOf 0
+anyBody (a-set-of n) = SetOf 0
+anyBody (a-choice i) = Choice (zeros i)
+
+-- a tree of at most n levels
+unfoldable pub shapeValue : ℕ → List ℕ → Answer Value
+shapeValue zero s = refused 11 (length s)
+shapeValue (suc n) s = then (readNode s) λ x s₁. judgeBelow (λ u w. shapeValue n w) (anyBody x) x s₁
+
+-- "value not shaped as above, empty, .. octets left": a tree has no more levels than octets
+unfoldable pub shapeWhole : List ℕ → Answer Value
+shapeWhole s =
+    then (shapeValue (length s) s) λ v r.
+    if (not (none-left r)) (refused 11 (length r)) λ _. got v r

@@ -4,17 +4,19 @@ use borrow.Author.Tests.{ltb-true, lt-ltb, eqb-true, eq-eqb}
 use mathlib.Core.Bool.{Bool, true, false, not, _&&_, _||_, true≢false, false≢true}
 use mathlib.Core.List.{List, [], _∷_, _++_, append-assoc, append-nil}
 use mathlib.Core.Option.{Option, some, none}
+use mathlib.Core.Logic.{_↔_}
 use mathlib.Core.Path.{_≡_, refl, sym, ap, _∙_}
 use native.Mathlib.Omega.{arith}
 use Prim.Native.Nat.{ℕ, zero, suc, _+_, _<_, _≤_, max}
 use lib.Dec.{ltb, eqb}
 use lib.IntN.{pos}
-use lib.ListN.{length, getD}
+use lib.ListN.{length, getD, length-append}
 use lib.Seq.{append-snoc}
 use mir.Syntax.{w64}
 use mir.Val.{SFits}
 use Rattle.octets.specs.Answer.{Answer, got, refused, then, if, none-left, run, Holds, yields, refuses, if-holds, then-holds, map-holds, got-holds, got-value, got-rest}
 use Rattle.octets.specs.Numbers.{octetsOf, Octets}
+use Rattle.octets.specs.Lists.{any}
 use Rattle.octets.specs.Permutations.{Every, every-nil, every-cons, every-right, AllOctets, all-octets}
 use Rattle.ber.specs.Integer.{eightOf}
 use Rattle.table.specs.Syntax.{Member, Simple, Boolean, Integer, BitString, OctetString, Null, Enumerated, Body, Plain, Sequence, Set, SequenceOf, SetOf, Choice, Table}
@@ -27,7 +29,8 @@ use Rattle.coding.specs.Encodes.{allowed, At, first, later}
 use Rattle.coding.specs.Typed.{Fits, f-done, f-left, f-sent, Typed, t-plain, t-sequence, t-set, t-sequence-of, t-set-of, t-choice, WellTypedAt}
 use Rattle.coding.specs.Form.{element, alternatives}
 use Rattle.coding.specs.FormLaws.{at-index}
-use Rattle.coding.specs.Judging.{Node, a-leaf, a-sequence, a-set, a-sequence-of, a-set-of, a-choice, readNode, leafKind, nodeKind, numbers, leafAgrees, agreeing, counts, agrees, judgeMembers, judgeElements, judgeBelow, judgeValue, judgeWhole}
+use Rattle.coding.specs.Levels.{shallow}
+use Rattle.coding.specs.Judging.{Node, a-leaf, a-sequence, a-set, a-sequence-of, a-set-of, a-choice, readNode, leafKind, nodeKind, numbers, leafAgrees, agreeing, counts, agrees, judgeMembers, judgeElements, judgeBelow, judgeValue, judgeWhole, anyMembers, anySimple, zeros, anyBody, shapeValue, shapeWhole}
 use Rattle.coding.specs.Shaped.{LeafShaped, Whole, Shaped, AllShaped, flagsOf, leafOwn, nodeOwn, nodeOctets, NodeShaped}
 use Rattle.coding.specs.NodeLaws.{node-sound, node-complete}
 
@@ -283,35 +286,40 @@ judge-sound T (suc n) t s o =
 
 -- what stands there is judged
 
-unfoldable presentIn : List (Option Value) → List Bool
-presentIn [] = []
-presentIn (none ∷ os) = false ∷ presentIn os
-presentIn (some v ∷ os) = true ∷ presentIn os
+unfoldable presentOf : Slots → List Bool
+presentOf end = []
+presentOf (missing s) = false ∷ presentOf s
+presentOf (present v s) = true ∷ presentOf s
 
-presence-flags : (os : List (Option Value)) → presence (slots os) ≡ flagsOf (presentIn os)
-unfolding slots presence presentIn flagsOf
-presence-flags [] = refl
-presence-flags (none ∷ os) = ap (λ (l : List ℕ). 0 ∷ l) (presence-flags os)
-presence-flags (some v ∷ os) = ap (λ (l : List ℕ). 1 ∷ l) (presence-flags os)
+presence-flags : (s : Slots) → presence s ≡ flagsOf (presentOf s)
+unfolding presence presentOf flagsOf
+presence-flags end = refl
+presence-flags (missing s) = ap (λ (l : List ℕ). 0 ∷ l) (presence-flags s)
+presence-flags (present v s) = ap (λ (l : List ℕ). 1 ∷ l) (presence-flags s)
 
-presence-count : (os : List (Option Value)) → count (slots os) ≡ length (presentIn os)
-unfolding slots count presentIn
-presence-count [] = refl
-presence-count (none ∷ os) = ap suc (presence-count os)
-presence-count (some v ∷ os) = ap suc (presence-count os)
+presence-count : (s : Slots) → count s ≡ length (presentOf s)
+unfolding count presentOf
+presence-count end = refl
+presence-count (missing s) = ap suc (presence-count s)
+presence-count (present v s) = ap suc (presence-count s)
 
-bag-count : (vs : List Value) → count (bag vs) ≡ length vs
-unfolding bag count
-bag-count [] = refl
-bag-count (v ∷ vs) = ap suc (bag-count vs)
-
-allowed-agreeing : (ms : List Member) (os : List (Option Value)) → allowed ms os ≡ true → agreeing ms (presentIn os) ≡ true
-unfolding allowed agreeing presentIn
+allowed-agreeing : (ms : List Member) (os : List (Option Value)) → allowed ms os ≡ true → agreeing ms (presentOf (slots os)) ≡ true
+unfolding allowed agreeing presentOf slots
 allowed-agreeing [] [] e = refl
-allowed-agreeing [] (x ∷ os) e = absurd (false≢true e)
+allowed-agreeing [] (none ∷ os) e = absurd (false≢true e)
+allowed-agreeing [] (some v ∷ os) e = absurd (false≢true e)
 allowed-agreeing (m ∷ ms) [] e = absurd (false≢true e)
 allowed-agreeing (m ∷ ms) (none ∷ os) e = let op : m .optional ≡ true = and-left (m .optional) _ e in rw op (allowed-agreeing ms os (and-right (m .optional) _ e))
 allowed-agreeing (m ∷ ms) (some v ∷ os) e = allowed-agreeing ms os e
+
+-- the node of a value
+unfoldable nodeOf : Value → Node
+nodeOf (leaf x) = a-leaf x
+nodeOf (sequence s) = a-sequence (presentOf s)
+nodeOf (set s) = a-set (presentOf s)
+nodeOf (sequenceOf s) = a-sequence-of (count s)
+nodeOf (setOf s) = a-set-of (count s)
+nodeOf (choice i v) = a-choice i
 
 leaf-agrees : {k : Simple} {x : Leaf} → TypedLeaf k x → agrees (Plain k) (a-leaf x) ≡ true
 unfolding agrees nodeKind leafKind kind counts leafAgrees numbers
@@ -322,13 +330,12 @@ leaf-agrees (l-string o) = refl
 leaf-agrees l-null = refl
 leaf-agrees (l-enumerated f g) = g
 
-sequence-octets : (k : ℕ) (os : List (Option Value)) (s : List ℕ)
-    → (0x56 ∷ 0x41 ∷ k ∷ count (slots os) ∷ (presence (slots os) ++ parts (slots os))) ++ s ≡ (0x56 ∷ 0x41 ∷ k ∷ length (presentIn os) ∷ flagsOf (presentIn os)) ++ (parts (slots os) ++ s)
-sequence-octets k os s =
-    rw (presence-count os, presence-flags os, append-assoc (flagsOf (presentIn os)) (parts (slots os)) s)
+sequence-octets : (k : ℕ) (p : Slots) (s : List ℕ)
+    → (0x56 ∷ 0x41 ∷ k ∷ count p ∷ (presence p ++ parts p)) ++ s ≡ (0x56 ∷ 0x41 ∷ k ∷ length (presentOf p) ∷ flagsOf (presentOf p)) ++ (parts p ++ s)
+sequence-octets k p s = rw (presence-count p, presence-flags p, append-assoc (flagsOf (presentOf p)) (parts p) s)
 
-count-small : (os : List (Option Value)) → count (slots os) < 256 → length (presentIn os) < 256
-count-small os h = rw (← presence-count os) h
+count-small : (p : Slots) → count p < 256 → length (presentOf p) < 256
+count-small p h = rw (← presence-count p) h
 
 at-below : {t n : ℕ} {ts : List ℕ} → At t ts n → n < length ts
 at-below first = omega arith
@@ -336,8 +343,8 @@ at-below (later a) = let h = at-below a in omega arith
 
 module _ (W : ℕ → Value → Type 0) (r : ℕ → List ℕ → Answer Value) (reads : (t : ℕ) (v : Value) (s : List ℕ) → W t v → Shaped v → r t (octets v ++ s) ≡ got v s) where
   members-judged : {ms : List Member} {os : List (Option Value)} (acc : List (Option Value)) (s : List ℕ) → Fits W ms os → AllShaped (slots os)
-      → judgeMembers r ms (presentIn os) acc (parts (slots os) ++ s) ≡ got (acc ++ os) s
-  unfolding judgeMembers presentIn slots octets AllShaped
+      → judgeMembers r ms (presentOf (slots os)) acc (parts (slots os) ++ s) ≡ got (acc ++ os) s
+  unfolding judgeMembers presentOf slots octets AllShaped
   members-judged acc s f-done h = rw append-nil
   members-judged acc s (f-left {os = os} f) h = members-judged (acc ++ (none ∷ [])) s f h ∙ rw append-snoc
   members-judged acc s (f-sent {m = m} {os = os} {v = v} w f) h =
@@ -345,63 +352,55 @@ module _ (W : ℕ → Value → Type 0) (r : ℕ → List ℕ → Answer Value) 
       (simp run (members-judged (acc ++ (some v ∷ [])) s f (h .1) ∙ rw append-snoc))
 
   elements-judged : {t : ℕ} {vs : List Value} (acc : List Value) (s : List ℕ) → Every (W t) vs → AllShaped (bag vs)
-      → judgeElements r (length vs) t acc (parts (bag vs) ++ s) ≡ got (acc ++ vs) s
-  unfolding judgeElements bag octets AllShaped
+      → judgeElements r (count (bag vs)) t acc (parts (bag vs) ++ s) ≡ got (acc ++ vs) s
+  unfolding judgeElements bag count octets AllShaped
   elements-judged acc s every-nil h = rw append-nil
   elements-judged {t} acc s (every-cons {x = v} {l = vs} w f) h =
       rw (append-assoc (octets v) (parts (bag vs)) s, reads t v (parts (bag vs) ++ s) w (h .0))
       (simp run (elements-judged (acc ++ (v ∷ [])) s f (h .1) ∙ rw append-snoc))
 
-  -- the node of a value, and what is judged below it
+  -- the node is read, agrees, and the value is judged below it
   record Seen (b : Body) (v : Value) (s : List ℕ) : Type 0 where
-    node : Node
     rest : List ℕ
-    reading : readNode (octets v ++ s) ≡ got node rest
-    agreed : agrees b node ≡ true
-    below : judgeBelow r b node rest ≡ got v s
+    reading : readNode (octets v ++ s) ≡ got (nodeOf v) rest
+    agreed : agrees b (nodeOf v) ≡ true
+    below : judgeBelow r b (nodeOf v) rest ≡ got v s
 
   seen : (b : Body) (v : Value) (s : List ℕ) → Typed W b v → Shaped v → Seen b v s
-  unfolding octets Shaped NodeShaped nodeKind nodeOwn agrees counts kind members element alternatives judgeBelow
+  unfolding octets Shaped NodeShaped nodeOf nodeKind nodeOwn agrees counts kind members element alternatives judgeBelow
   seen b v s (t-plain {x = x} l) h =
-      record { node = a-leaf x; rest = s; reading = ap (λ (l : List ℕ). readNode (l ++ s)) (leaf-octets x) ∙ node-complete (a-leaf x) s h; agreed = leaf-agrees l; below = refl }
+      record { rest = s; reading = ap (λ (l : List ℕ). readNode (l ++ s)) (leaf-octets x) ∙ node-complete (a-leaf x) s h; agreed = leaf-agrees l; below = refl }
   seen b v s (t-sequence {ms = ms} {os = os} f a) h =
       record {
-        node = a-sequence (presentIn os);
         rest = parts (slots os) ++ s;
-        reading = ap readNode (sequence-octets 16 os s) ∙ node-complete (a-sequence (presentIn os)) (parts (slots os) ++ s) (count-small os (h .0));
+        reading = ap readNode (sequence-octets 16 (slots os) s) ∙ node-complete (a-sequence (presentOf (slots os))) (parts (slots os) ++ s) (count-small (slots os) (h .0));
         agreed = allowed-agreeing ms os a;
         below = rw (members-judged [] s f (h .1)) (simp run);
       }
   seen b v s (t-set {ms = ms} {os = os} f a) h =
       record {
-        node = a-set (presentIn os);
         rest = parts (slots os) ++ s;
-        reading = ap readNode (sequence-octets 17 os s) ∙ node-complete (a-set (presentIn os)) (parts (slots os) ++ s) (count-small os (h .0));
+        reading = ap readNode (sequence-octets 17 (slots os) s) ∙ node-complete (a-set (presentOf (slots os))) (parts (slots os) ++ s) (count-small (slots os) (h .0));
         agreed = allowed-agreeing ms os a;
         below = rw (members-judged [] s f (h .1)) (simp run);
       }
   seen b v s (t-sequence-of {t = t} {vs = vs} f) h =
-      let e = bag-count vs in
       record {
-        node = a-sequence-of (length vs);
         rest = parts (bag vs) ++ s;
-        reading = rw e (node-complete (a-sequence-of (length vs)) (parts (bag vs) ++ s) (rw e at (h .0)));
+        reading = node-complete (a-sequence-of (count (bag vs))) (parts (bag vs) ++ s) (h .0);
         agreed = refl;
         below = rw (elements-judged [] s f (h .2)) (simp run);
       }
   seen b v s (t-set-of {t = t} {vs = vs} f) h =
-      let e = bag-count vs in
       record {
-        node = a-set-of (length vs);
         rest = parts (bag vs) ++ s;
-        reading = rw e (node-complete (a-set-of (length vs)) (parts (bag vs) ++ s) (rw e at (h .0)));
+        reading = node-complete (a-set-of (count (bag vs))) (parts (bag vs) ++ s) (h .0);
         agreed = refl;
         below = rw (elements-judged [] s f (h .2)) (simp run);
       }
   seen b v s (t-choice {ts = ts} {n = i} {t = t} {v = c} a w) h =
       let e : getD ts i 0 ≡ t = at-index a in
       record {
-        node = a-choice i;
         rest = octets c ++ s;
         reading = node-complete (a-choice i) (octets c ++ s) (h .0);
         agreed = lt-ltb i (length ts) (at-below a);
@@ -415,3 +414,171 @@ judge-complete T zero t v s w h = absurd w
 judge-complete T (suc n) t v s w h =
     let x = seen (WellTypedAt T n) (λ u w. judgeValue T n u w) (λ t v s. judge-complete T n t v s) (T t .body) v s w h in
     simp (run, x .reading, x .agreed, x .below)
+
+-- the shape alone
+
+any-agreeing : (bs : List Bool) → agreeing (anyMembers bs) bs ≡ true
+unfolding agreeing anyMembers
+any-agreeing [] = refl
+any-agreeing (true ∷ bs) = any-agreeing bs
+any-agreeing (false ∷ bs) = any-agreeing bs
+
+zeros-length : (i : ℕ) → length (zeros i) ≡ suc i
+unfolding zeros
+zeros-length zero = refl
+zeros-length (suc i) = ap suc (zeros-length i)
+
+zeros-at : (i : ℕ) → At 0 (zeros i) i
+unfolding zeros
+zeros-at zero = first
+zeros-at (suc i) = later (zeros-at i)
+
+any-leaf : (x : Leaf) → agrees (Plain (anySimple x)) (a-leaf x) ≡ true
+unfolding agrees nodeKind leafKind kind counts leafAgrees numbers anySimple listed any
+any-leaf (boolean b) = refl
+any-leaf (integer z) = refl
+any-leaf (bits n c) = refl
+any-leaf (string c) = refl
+any-leaf null = refl
+any-leaf (enumerated k) = simp (eq-eqb k k refl)
+
+any-agrees : (x : Node) → agrees (anyBody x) x ≡ true
+unfolding anyBody agrees nodeKind kind counts members alternatives
+any-agrees (a-leaf x) = any-leaf x
+any-agrees (a-sequence bs) = any-agreeing bs
+any-agrees (a-set bs) = any-agreeing bs
+any-agrees (a-sequence-of n) = refl
+any-agrees (a-set-of n) = refl
+any-agrees (a-choice i) = let e = zeros-length i in lt-ltb i (length (zeros i)) (omega arith)
+
+shape-holds : (n t : ℕ) (s : List ℕ) → AllOctets s → Holds (Judged (λ u v. Unit {0}) t s) (shapeValue n s)
+unfolding shapeValue
+shape-holds zero t s o = refuses
+shape-holds (suc n) t s o =
+    then-holds (node-sound s o) λ x s₁ h.
+    map-holds (below-sound (λ u v. Unit {0}) (λ u w. shapeValue n w) (shape-holds n) (anyBody x) x s₁ (every-right (nodeOctets x) (rw (h .0) at o)) (any-agrees x) (h .1)) λ v u y.
+    record { cut = h .0 ∙ y .cut; typed = tt; shaped = y .shaped }
+
+leaf-any : (x : Leaf) → LeafShaped x → TypedLeaf (anySimple x) x
+unfolding LeafShaped anySimple listed any
+leaf-any (boolean b) h = l-boolean
+leaf-any (integer z) h = l-integer h
+leaf-any (bits n c) h = l-bits (h .0) (h .1) (h .2)
+leaf-any (string c) h = l-string (h .0)
+leaf-any null h = l-null
+leaf-any (enumerated k) h = l-enumerated {ns = k ∷ []} {k = k} (record { sfits = omega arith }) (simp (eq-eqb k k refl))
+
+abbrev Low : ℕ → ℕ → Value → Type 0
+Low n t v = depth v ≤ n
+
+record AnyMembers (n : ℕ) (s : Slots) : Type 0 where
+  list : List (Option Value)
+  is : s ≡ slots list
+  fits : Fits (Low n) (anyMembers (presentOf s)) list
+  allowed : allowed (anyMembers (presentOf s)) list ≡ true
+
+any-members : (n : ℕ) (s : Slots) → depths s ≤ n → AnyMembers n s
+unfolding slots presentOf anyMembers allowed depth
+any-members n end h = record { list = []; is = refl; fits = f-done; allowed = refl }
+any-members n (missing s) h =
+    let x = any-members n s h in record { list = none ∷ x .list; is = ap missing (x .is); fits = f-left (x .fits); allowed = x .allowed }
+any-members n (present v s) h =
+    let x = any-members n s (omega arith) in
+    let d : depth v ≤ n = omega arith in
+    record { list = some v ∷ x .list; is = ap (present v) (x .is); fits = f-sent d (x .fits); allowed = x .allowed }
+
+any-elements : (n : ℕ) (s : Slots) → Whole s → depths s ≤ n → (vs : List Value) × (s ≡ bag vs) × Every (Low n 0) vs
+unfolding bag Whole depth
+any-elements n end w h = ([], refl, every-nil)
+any-elements n (missing s) w h = absurd w
+any-elements n (present v s) w h = let (vs, e, a) = any-elements n s w (omega arith) in (v ∷ vs, ap (present v) e, every-cons {x = v} (omega arith) a)
+
+sequence-typed : (n : ℕ) (s : Slots) (os : List (Option Value)) (ms : List Member) → s ≡ slots os → Fits (Low n) ms os → allowed ms os ≡ true → Typed (Low n) (Sequence ms) (sequence s)
+sequence-typed n s os ms e f a = rw e (t-sequence f a)
+
+set-typed : (n : ℕ) (s : Slots) (os : List (Option Value)) (ms : List Member) → s ≡ slots os → Fits (Low n) ms os → allowed ms os ≡ true → Typed (Low n) (Set ms) (set s)
+set-typed n s os ms e f a = rw e (t-set f a)
+
+-- a tree is of some type
+any-typed : (n : ℕ) (v : Value) → depth v ≤ suc n → Shaped v → Typed (Low n) (anyBody (nodeOf v)) v
+unfolding depth Shaped anyBody nodeOf
+any-typed n (leaf x) d h = t-plain (leaf-any x h)
+any-typed n (sequence s) d h = let x = any-members n s (omega arith) in sequence-typed n s (x .list) (anyMembers (presentOf s)) (x .is) (x .fits) (x .allowed)
+any-typed n (set s) d h = let x = any-members n s (omega arith) in set-typed n s (x .list) (anyMembers (presentOf s)) (x .is) (x .fits) (x .allowed)
+any-typed n (sequenceOf s) d h = let (vs, e, a) = any-elements n s (h .1) (omega arith) in rw e (t-sequence-of a)
+any-typed n (setOf s) d h = let (vs, e, a) = any-elements n s (h .1) (omega arith) in rw e (t-set-of a)
+any-typed n (choice i v) d h = t-choice {v = v} (zeros-at i) (omega arith)
+
+pub shape-complete : (n : ℕ) (v : Value) (s : List ℕ) → depth v ≤ n → Shaped v → shapeValue n (octets v ++ s) ≡ got v s
+unfolding shapeValue
+shape-complete zero v s d h = absurd (shallow v d)
+shape-complete (suc n) v s d h =
+    let x = seen (Low n) (λ u w. shapeValue n w) (λ t v s. shape-complete n v s) (anyBody (nodeOf v)) v s (any-typed n v d h) h in
+    simp (run, x .reading, x .below)
+
+leaf-some : (x : Leaf) → 1 ≤ length (leafOctets x)
+unfolding leafOctets
+leaf-some (boolean b) = omega arith
+leaf-some (integer z) = omega arith
+leaf-some (bits n c) = omega arith
+leaf-some (string c) = omega arith
+leaf-some null = omega arith
+leaf-some (enumerated k) = omega arith
+
+-- a tree has no more levels than octets
+mutual
+  unfolding octets depth
+  depth-octets : (v : Value) → depth v ≤ length (octets v)
+  depth-octets (leaf x) = leaf-some x
+  depth-octets (sequence s) = let h = depths-parts s in let e = length-append (presence s) (parts s) in omega arith
+  depth-octets (set s) = let h = depths-parts s in let e = length-append (presence s) (parts s) in omega arith
+  depth-octets (sequenceOf s) = let h = depths-parts s in omega arith
+  depth-octets (setOf s) = let h = depths-parts s in omega arith
+  depth-octets (choice i v) = let h = depth-octets v in omega arith
+
+  depths-parts : (s : Slots) → depths s ≤ length (parts s)
+  depths-parts end = omega arith
+  depths-parts (missing s) = depths-parts s
+  depths-parts (present v s) = let h = depth-octets v in let k = depths-parts s in let e = length-append (octets v) (parts s) in omega arith
+
+none-there : (r : List ℕ) → none-left r ≡ true → r ≡ []
+unfolding none-left
+none-there [] e = refl
+none-there (b ∷ r) e = absurd (true≢false (sym e))
+
+shape-whole : (s : List ℕ) → AllOctets s → Holds (λ v r. (r ≡ []) × (s ≡ octets v) × Shaped v) (shapeWhole s)
+unfolding shapeWhole
+shape-whole s o =
+    then-holds (shape-holds (length s) 0 s o) λ v r x.
+    if-holds _ (λ e. refuses) λ e _.
+    let z : r ≡ [] = none-there r (not-false (none-left r) e) in
+    yields (z, x .cut ∙ ap (λ (l : List ℕ). octets v ++ l) z ∙ append-nil (octets v), x .shaped)
+
+shape-octets : (v : Value) → Shaped v → shapeWhole (octets v) ≡ got v []
+unfolding shapeWhole
+shape-octets v h =
+    let x : shapeValue (length (octets v)) (octets v) ≡ got v [] = rw append-nil at (shape-complete (length (octets v)) v [] (depth-octets v) h) in
+    simp (run, x)
+
+-- Octets are judged shaped exactly when they are the form of a tree.
+pub shaped-exactly : (s : List ℕ) → Octets s → (v : Value) → (shapeWhole s ≡ got v []) ↔ ((s ≡ octets v) × Shaped v)
+shaped-exactly s o v = (λ e. let x = got-holds (shape-whole s (all-octets s o)) e in (x .1, x .2), λ x. rw (x .0) (shape-octets v (x .1)))
+
+-- A tree has one octet form, and a form is of one tree.
+pub one-form : (v w : Value) → Shaped v → Shaped w → octets v ≡ octets w → v ≡ w
+one-form v w h k e = got-value (sym (shape-octets v h) ∙ ap shapeWhole e ∙ shape-octets w k)
+
+-- what judging the whole accepts is the octets of a value of the type, and nothing more
+pub judge-whole : (T : Table) (n t : ℕ) (b : List ℕ) → AllOctets b → Holds (λ v r. (r ≡ []) × (b ≡ octets v) × WellTypedAt T n t v × Shaped v) (judgeWhole T n t b)
+unfolding judgeWhole
+judge-whole T n t b o =
+    then-holds (judge-sound T n t b o) λ v r x.
+    if-holds _ (λ e. refuses) λ e _.
+    let z : r ≡ [] = none-there r (not-false (none-left r) e) in
+    yields (z, x .cut ∙ ap (λ (l : List ℕ). octets v ++ l) z ∙ append-nil (octets v), x .typed, x .shaped)
+
+pub judge-octets : (T : Table) (n t : ℕ) (v : Value) → WellTypedAt T n t v → Shaped v → judgeWhole T n t (octets v) ≡ got v []
+unfolding judgeWhole
+judge-octets T n t v w h =
+    let x : judgeValue T n t (octets v) ≡ got v [] = rw append-nil at (judge-complete T n t v [] w h) in
+    simp (run, x)

@@ -96,7 +96,7 @@ unfolding WellTypedAt
 deep T zero t v h = absurd h
 deep T (suc n) t v h = typed-depth n (deep T n) h
 
-shallow : (v : Value) → depth v ≤ 0 → ⊥
+pub shallow : (v : Value) → depth v ≤ 0 → ⊥
 unfolding depth
 shallow (leaf x) h = omega arith
 shallow (sequence s) h = omega arith

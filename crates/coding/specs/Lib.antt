@@ -17,8 +17,8 @@ pub mod Complete
 pub mod Levels
 pub mod FormLaws
 pub mod Equivalence
-pub mod Theorems
 pub mod Shaped
 pub mod NodeLaws
 pub mod JudgingLaws
+pub mod Theorems
 pub mod Examples

@@ -1,6 +1,6 @@
 -- What is promised of reading and writing: demands 2 and 3 over the outcomes, with 8,192, 16,384, 24 levels and the buffer's length in them.
 -- Assumes nothing.
-use borrow.Author.Tests.{leb-true, le-leb, ltb-true, lt-ltb}
+use borrow.Author.Tests.{leb-true, le-leb, lt-leb, ltb-true, lt-ltb}
 use mathlib.Core.Bool.{Bool, true, false, not, true≢false}
 use mathlib.Core.List.{List, [], _∷_, _++_, append-nil}
 use mathlib.Core.Logic.{_↔_}
@@ -20,13 +20,17 @@ use Rattle.coding.specs.Encodes.{EncodesAt, Encodes, Arrives}
 use Rattle.coding.specs.Typed.{WellTypedAt, WellTyped, EquivalentAt, Equivalent}
 use Rattle.coding.specs.Form.{formAt}
 use Rattle.coding.specs.Reading.{begun, notAwaited, readValue, readMessage}
-use Rattle.coding.specs.Outcome.{levels, longestValue, longestMessage, Outcome, Told, done, refusal, Refusal, of-message, refuse, write-at-start, afterReading, readOutcome}
+use Rattle.coding.specs.Outcome.{levels, longestValue, longestMessage, Outcome, Told, done, refusal, Refusal, of-message, refuse, write-at-start, afterReading, readOutcome, of-value, afterJudging, writeOutcome}
 use Rattle.coding.specs.ContentLaws.{not-false}
 use Rattle.coding.specs.Sound.{value-sound, not-awaited}
 use Rattle.coding.specs.FirstTags.{Good, good, proper-readable}
 use Rattle.coding.specs.Complete.{value-complete, starts-at, Starts, next-is, started-some}
 use Rattle.coding.specs.Levels.{relevel, retype, well-typed, deep, in-some-order}
 use Rattle.coding.specs.FormLaws.{form-encodes}
+use Rattle.coding.specs.Shaped.{Shaped}
+use Rattle.coding.specs.Judging.{judgeWhole}
+use Rattle.coding.specs.JudgingLaws.{judge-whole, judge-octets}
+use Rattle.coding.specs.declared.ValueCause.the-variants.{Room as RoomV}
 use Rattle.coding.specs.Equivalence.{equivalent-length, equivalent-equal, equivalent-sym, equivalent-trans}
 
 none-there : (r : List ℕ) → none-left r ≡ true → r ≡ []
@@ -209,3 +213,83 @@ unique T good t v w m x e f =
     let z : got (a .value) x ≡ got (b .value) [] = sym (a .answer) ∙ rw append-nil at (b .answer) in
     let q : EquivalentAt any-order n w (a .value) = rw (got-value z) (b .alike) in
     (got-rest z, record { level = n; equivalent = equivalent-trans any-order n v (a .value) w (a .alike) (equivalent-sym any-order n w (a .value) q) })
+
+-- writing
+
+write-done : (T : Table) (n t : ℕ) (b buf : List ℕ) (v : Value) (r : List ℕ) → t < n → length b ≤ longestValue → judgeWhole T levels t b ≡ got v r
+    → writeOutcome T n t b buf ≡ afterJudging (formAt T levels t) b buf (got v r)
+unfolding writeOutcome
+write-done T n t b buf v r lt h e = simp (run, lt-ltb t n lt, le-leb (length b) 16384 h, e)
+
+write-fits : (f : Value → List ℕ) (b buf : List ℕ) (v : Value) (r : List ℕ) → length (f v) ≤ longestMessage → length (f v) ≤ length buf → afterJudging f b buf (got v r) ≡ write-at-start (f v) buf
+unfolding afterJudging
+write-fits f b buf v r h k = simp (run, le-leb (length (f v)) (min 8192 (length buf)) (omega arith))
+
+write-lacks : (f : Value → List ℕ) (b buf : List ℕ) (v : Value) (r : List ℕ) → min longestMessage (length buf) < length (f v) → afterJudging f b buf (got v r) ≡ refuse (of-value RoomV) buf
+unfolding afterJudging
+write-lacks f b buf v r h = simp (run, lt-leb (length (f v)) (min 8192 (length buf)) h)
+
+-- Demand 3, the sender: for each value that is well-typed for the type, at most 24 levels deep and in at most 16,384 octets, whatever buffer is lent, the writer is done
+-- exactly when the form fixed for it fits the buffer and 8,192 octets. What it then wrote, of the length it tells, is that form, and one of the permitted encodings.
+pub record Sent (T : Table) (t : ℕ) (v : Value) (buf : List ℕ) (x : Outcome) : Type 0 where
+  pub when-it-fits : length (formAt T levels t v) ≤ longestMessage → length (formAt T levels t v) ≤ length buf → x ≡ write-at-start (formAt T levels t v) buf
+  pub else-14 : min longestMessage (length buf) < length (formAt T levels t v) → x ≡ refuse (of-value RoomV) buf
+  pub encodes : length (formAt T levels t v) ≤ longestMessage → Encodes T t v (formAt T levels t v)
+
+form-permitted : (T : Table) (t : ℕ) (v : Value) → WellTypedAt T levels t v → length (formAt T levels t v) ≤ longestMessage → Encodes T t v (formAt T levels t v)
+form-permitted T t v w h = record { level = levels; encodes = form-encodes any-order T levels t v w (omega arith) }
+
+pub sent : (T : Table) (n t : ℕ) (v : Value) (buf : List ℕ) → t < n → WellTyped T t v → depth v ≤ levels → Shaped v → length (octets v) ≤ longestValue
+    → Sent T t v buf (writeOutcome T n t (octets v) buf)
+sent T n t v buf lt w d s h =
+    let a = retype T (w .level) levels t v d (w .typed) in
+    let q = write-done T n t (octets v) buf v [] lt h (judge-octets T levels t v a s) in
+    record {
+      when-it-fits = λ k l. q ∙ write-fits (formAt T levels t) (octets v) buf v [] k l;
+      else-14 = λ k. q ∙ write-lacks (formAt T levels t) (octets v) buf v [] k;
+      encodes = form-permitted T t v a;
+    }
+
+-- What the writer tells when it is done: the octets were those of a value of the type within the limits, and what stands in the buffer is the one form fixed for it.
+pub record Wrote (T : Table) (t : ℕ) (b buf : List ℕ) (k : ℕ) (after : List ℕ) : Type 0 where
+  pub value : Value
+  pub is : b ≡ octets value
+  pub shaped : Shaped value
+  pub typed : WellTyped T t value
+  pub deep : depth value ≤ levels
+  pub short : length b ≤ longestValue
+  pub within : length (formAt T levels t value) ≤ longestMessage
+  pub room : length (formAt T levels t value) ≤ length buf
+  pub told : k ≡ length (formAt T levels t value)
+  pub buffer : after ≡ formAt T levels t value ++ drop (length (formAt T levels t value)) buf
+  pub encodes : Encodes T t value (formAt T levels t value)
+
+after-judged : (T : Table) (t : ℕ) (b buf : List ℕ) → Octets b → length b ≤ longestValue → (x : Answer Value) → judgeWhole T levels t b ≡ x → IfDone (Wrote T t b buf) (afterJudging (formAt T levels t) b buf x)
+unfolding afterJudging
+after-judged T t b buf o h (refused c l) e = λ k z. refusal≢done z
+after-judged T t b buf o h (got v r) e =
+    let s = got-holds (judge-whole T levels t b (all-octets b o)) e in
+    let f = formAt T levels t v in
+    if-cases (IfDone (Wrote T t b buf)) (not (leb (length f) (min 8192 (length buf)))) _ _ (λ g k z. refusal≢done z) λ g k z.
+    let room : length f ≤ min 8192 (length buf) = leb-true (length f) (min 8192 (length buf)) (not-false (leb (length f) (min 8192 (length buf))) g) in
+    record {
+      value = v;
+      is = s .1;
+      shaped = s .3;
+      typed = record { level = levels; typed = s .2 };
+      deep = deep T levels t v (s .2);
+      short = h;
+      within = omega arith;
+      room = omega arith;
+      told = sym (done-length z);
+      buffer = refl;
+      encodes = form-permitted T t v (s .2) (omega arith);
+    }
+
+-- Demand 2, the writer: it is done only with a value of the type, and yields the one form that is fixed for it.
+pub writes-only : (T : Table) (n t : ℕ) (b buf : List ℕ) → Octets b → (k : ℕ) → writeOutcome T n t b buf .answer ≡ done k → Wrote T t b buf k (writeOutcome T n t b buf .buffer)
+unfolding writeOutcome
+writes-only T n t b buf o =
+    if-cases (IfDone (Wrote T t b buf)) (not (ltb t n)) _ _ (λ e k z. refusal≢done z) λ e.
+    if-cases (IfDone (Wrote T t b buf)) (not (leb (length b) 16384)) _ _ (λ f k z. refusal≢done z) λ f.
+    after-judged T t b buf o (leb-true (length b) 16384 (not-false (leb (length b) 16384) f)) (judgeWhole T levels t b) refl
