@@ -21,4 +21,5 @@ pub mod Shaped
 pub mod NodeLaws
 pub mod JudgingLaws
 pub mod Theorems
+pub mod Refusals
 pub mod Examples

@@ -32,7 +32,7 @@ unfolding unwanted
 unwanted-holds true s = not-awaited s
 unwanted-holds false s = refuses
 
-wrapped-sound : {A : Type 0} (C : A → List ℕ → Type 0) (r : List ℕ → Answer A) → ((s : List ℕ) → Holds (Taken C s) (r s)) → (is : List (List ℕ)) (s : List ℕ)
+pub wrapped-sound : {A : Type 0} (C : A → List ℕ → Type 0) (r : List ℕ → Answer A) → ((s : List ℕ) → Holds (Taken C s) (r s)) → (is : List (List ℕ)) (s : List ℕ)
     → Holds (Taken (λ v. Wrapped (C v) is) s) (readWrapped is r s)
 unfolding readWrapped
 wrapped-sound C r f [] s = map-holds (f s) (λ v u x. record { piece = x .piece; cut = x .cut; has = bare (x .has) })
@@ -211,7 +211,7 @@ module _ (o : Order) (T : Table) (E : Coding) (r : ℕ → List ℕ → Answer V
   body-sound (SetOf t) mode s = then-holds (many-sound _ t mode [] s) λ vs u y. yields (with-body (λ ps h. (vs, refl, rw (← h .1) at (h .2))) y)
   body-sound (Choice ts) mode s = refuses
 
-  kind-sound : (i : List ℕ) (k : Body) (s : List ℕ) → Holds (Taken (Codes o E i k) s) (readKind T r i k s)
+  pub kind-sound : (i : List ℕ) (k : Body) (s : List ℕ) → Holds (Taken (Codes o E i k) s) (readKind T r i k s)
   unfolding readKind Parts
   kind-sound i (Plain k) s =
       then-holds (primitive-sound i s) λ c s₁ x.
