@@ -1,6 +1,6 @@
 -- Every answer names one cause, one of document 01's, and one place, within what was handed in; on a refusal the buffer is as it was.
 -- Assumes nothing.
-use borrow.Author.Tests.{leb-true, le-leb, lt-leb, ltb-true, lt-ltb}
+use borrow.Author.Tests.{leb-true, leb-false, ltb-true, ltb-false}
 use mathlib.Core.Bool.{Bool, true, false, not, true≢false}
 use mathlib.Core.List.{List, [], _∷_, _++_}
 use mathlib.Core.Option.{Option, some, none}
@@ -26,7 +26,18 @@ use Rattle.coding.specs.Tags.{own, explicit}
 use Rattle.coding.specs.Encodes.{Coding, Codes, is-plain, is-sequence, is-set, is-sequence-of, is-set-of, is-choice, Wrapped, bare, tagged, EncodesAt, allowed}
 use Rattle.coding.specs.Reading.{begun, notAwaited, unwanted, nothing, full, readWrapped, readSequence, place, readSet, readMany, choose, readBody, readKind, readValue, readMessage}
 use Rattle.coding.specs.Sound.{wrapped-sound, kind-sound, value-sound, not-awaited}
+use Rattle.coding.specs.Judging.{Node, a-leaf, a-sequence, a-set, a-sequence-of, a-set-of, a-choice, need, ownMembers, ownCount, ownBoolean, ownInteger, ownString, ownBits, ownEnumerated, ownChoice, readOwn, readNode, judgeMembers, judgeElements, judgeBelow, judgeValue, judgeWhole}
+use Rattle.coding.specs.Shaped.{nodeOctets}
+use Rattle.coding.specs.NodeLaws.{node-sound}
+use Rattle.coding.specs.JudgingLaws.{judge-sound}
+use Rattle.coding.specs.Form.{formAt}
+use Rattle.coding.specs.ContentLaws.{not-false}
+use Rattle.coding.specs.Outcome.{levels, longestValue, longestMessage, Refusal, numberOf, placeOf, Told, done, refusal, Outcome, afterReading, readOutcome, afterJudging, writeOutcome}
 use Rattle.coding.specs.Causes.{valueNumber, valuePlace, messageNumber, messagePlace, valueCause, messageCause}
+
+not-true : (b : Bool) → not b ≡ true → b ≡ false
+not-true true e = sym e
+not-true false e = refl
 
 -- An answer that refuses names a number that K allows, and a place where at most n octets are left.
 pub data Speaks {A : Type 0} (K : ℕ → Type 0) (n : ℕ) : Answer A → Type 0 where
@@ -319,3 +330,179 @@ message-says T n t m =
     then-speaks (value-says T n t m) λ v r e.
     let h = got-holds (value-shorter T n t m) e in
     if-speaks _ (λ f. names {l = length r} is-26 (omega arith)) λ f _. answers
+
+-- the numbers that judging gives
+pub data OfValue : ℕ → Type 0 where
+  is-11 : OfValue 11
+  is-12 : OfValue 12
+  is-13 : OfValue 13
+
+need-says : {A : Type 0} (n l k : ℕ) (s : List ℕ) {x : Unit {0} → Answer A} → l ≤ n → ((u : Unit {0}) → Speaks OfValue n (x u)) → Speaks OfValue n (need l k s x)
+unfolding need
+need-says n l k s h f = if-speaks _ (λ e. names is-11 h) λ e. f
+
+own-says : (n l k : ℕ) (s : List ℕ) → l ≤ n → Speaks OfValue n (readOwn l k s)
+unfolding readOwn ownBoolean ownInteger ownBits ownString ownEnumerated ownMembers ownCount ownChoice
+own-says n l k s h =
+    if-speaks _ (λ e. need-says n l _ _ h λ _. if-speaks _ (λ f. names is-11 h) λ f _. answers) λ _ _.
+    if-speaks _ (λ e. need-says n l _ _ h λ _. answers) λ _ _.
+    if-speaks _ (λ e. need-says n l _ _ h λ _. need-says n l _ _ h λ _. if-speaks _ (λ f. names is-11 h) λ f _. answers) λ _ _.
+    if-speaks _ (λ e. need-says n l _ _ h λ _. need-says n l _ _ h λ _. answers) λ _ _.
+    if-speaks _ (λ e. answers) λ _ _.
+    if-speaks _ (λ e. need-says n l _ _ h λ _. answers) λ _ _.
+    if-speaks _ (λ e. need-says n l _ _ h λ _. need-says n l _ _ h λ _. if-speaks _ (λ f. names is-11 h) λ f _. answers) λ _ _.
+    if-speaks _ (λ e. need-says n l _ _ h λ _. need-says n l _ _ h λ _. if-speaks _ (λ f. names is-11 h) λ f _. answers) λ _ _.
+    if-speaks _ (λ e. need-says n l _ _ h λ _. answers) λ _ _.
+    if-speaks _ (λ e. need-says n l _ _ h λ _. answers) λ _ _.
+    if-speaks _ (λ e. need-says n l _ _ h λ _. answers) λ _ _.
+    names is-11 h
+
+node-says : (s : List ℕ) → Speaks OfValue (length s) (readNode s)
+unfolding readNode
+node-says s =
+    need-says (length s) (length s) 3 s (omega arith) λ _.
+    if-speaks _ (λ e. here is-11) λ e _.
+    if-speaks _ (λ e. here is-11) λ e _. own-says (length s) (length s) _ _ (omega arith)
+
+suffix : {s : List ℕ} (a u : List ℕ) → s ≡ a ++ u → AllOctets s → AllOctets u × (length u ≤ length s)
+suffix a u e o = (every-right a (rw e at o), rw (e, length-append) (omega arith))
+
+module _ (r : ℕ → List ℕ → Answer Value) (says : (t : ℕ) (s : List ℕ) → AllOctets s → Speaks OfValue (length s) (r t s)) (cut : (t : ℕ) (s : List ℕ) → AllOctets s → Holds (λ v u. s ≡ octets v ++ u) (r t s)) where
+  judge-members-says : (n : ℕ) (ms : List Member) (bs : List Bool) (os : List (Option Value)) (s : List ℕ) → AllOctets s → length s ≤ n → Speaks OfValue n (judgeMembers r ms bs os s)
+  unfolding judgeMembers
+  judge-members-says n [] bs os s o h = answers
+  judge-members-says n (m ∷ ms) [] os s o h = answers
+  judge-members-says n (m ∷ ms) (true ∷ bs) os s o h =
+      then-speaks (wider (says (m .type) s o) h) λ v s₁ e.
+      let x = suffix (octets v) s₁ (got-holds (cut (m .type) s o) e) o in
+      let k = x .1 in
+      judge-members-says n ms bs (os ++ (some v ∷ [])) s₁ (x .0) (omega arith)
+  judge-members-says n (m ∷ ms) (false ∷ bs) os s o h = judge-members-says n ms bs (os ++ (none ∷ [])) s o h
+
+  judge-elements-says : (n k t : ℕ) (vs : List Value) (s : List ℕ) → AllOctets s → length s ≤ n → Speaks OfValue n (judgeElements r k t vs s)
+  unfolding judgeElements
+  judge-elements-says n zero t vs s o h = answers
+  judge-elements-says n (suc k) t vs s o h =
+      then-speaks (wider (says t s o) h) λ v s₁ e.
+      let x = suffix (octets v) s₁ (got-holds (cut t s o) e) o in
+      let l = x .1 in
+      judge-elements-says n k t (vs ++ (v ∷ [])) s₁ (x .0) (omega arith)
+
+  judge-below-says : (n : ℕ) (b : Body) (x : Node) (s : List ℕ) → AllOctets s → length s ≤ n → Speaks OfValue n (judgeBelow r b x s)
+  unfolding judgeBelow
+  judge-below-says n b (a-leaf x) s o h = answers
+  judge-below-says n b (a-sequence bs) s o h = then-speaks (judge-members-says n _ bs [] s o h) λ os u e. answers
+  judge-below-says n b (a-set bs) s o h = then-speaks (judge-members-says n _ bs [] s o h) λ os u e. answers
+  judge-below-says n b (a-sequence-of k) s o h = then-speaks (judge-elements-says n k _ [] s o h) λ os u e. answers
+  judge-below-says n b (a-set-of k) s o h = then-speaks (judge-elements-says n k _ [] s o h) λ os u e. answers
+  judge-below-says n b (a-choice i) s o h = then-speaks (wider (says _ s o) h) λ v u e. answers
+
+-- every refusal in the judging of a value is one of document 01's, at a place within the octets
+pub judge-says : (T : Table) (n t : ℕ) (s : List ℕ) → AllOctets s → Speaks OfValue (length s) (judgeValue T n t s)
+unfolding judgeValue
+judge-says T zero t s o = then-speaks (node-says s) λ x s₁ e. here is-13
+judge-says T (suc n) t s o =
+    then-speaks (node-says s) λ x s₁ e.
+    if-speaks _ (λ f. here is-12) λ f _.
+    let y = suffix (nodeOctets x) s₁ (got-holds (node-sound s o) e .0) o in
+    judge-below-says (λ u w. judgeValue T n u w) (judge-says T n) (λ t s p. map-holds (judge-sound T n t s p) (λ v u z. z .cut)) (length s) (T t .body) x s₁ (y .0) (y .1)
+
+pub whole-says : (T : Table) (n t : ℕ) (b : List ℕ) → AllOctets b → Speaks OfValue (length b) (judgeWhole T n t b)
+unfolding judgeWhole
+whole-says T n t b o =
+    then-speaks (judge-says T n t b o) λ v r e.
+    let y = suffix (octets v) r (got-holds (judge-sound T n t b o) e .cut) o in
+    if-speaks _ (λ f. names {l = length r} is-11 (y .1)) λ f _. answers
+
+-- the enums say these numbers and places
+
+message-cause : {c : ℕ} (p : ℕ) → OfMessage c → (messageNumber (messageCause c p) ≡ c) × (messagePlace (messageCause c p) ≡ p)
+unfolding messageCause if
+message-cause p is-22 = (refl, refl)
+message-cause p is-23 = (refl, refl)
+message-cause p is-24 = (refl, refl)
+message-cause p is-25 = (refl, refl)
+message-cause p is-26 = (refl, refl)
+message-cause p is-28 = (refl, refl)
+
+value-cause : {c : ℕ} (p : ℕ) → OfValue c → (valueNumber (valueCause c p) ≡ c) × (valuePlace (valueCause c p) ≡ p)
+unfolding valueCause if
+value-cause p is-11 = (refl, refl)
+value-cause p is-12 = (refl, refl)
+value-cause p is-13 = (refl, refl)
+
+-- An outcome: done, or one refusal with its number and place; and then the buffer is as it was.
+
+unfoldable IsDone : Told → Type 0
+IsDone (done k) = Unit {0}
+IsDone (refusal r) = ⊥
+
+done≢refusal : {C : Type 0} {r : Refusal} {k : ℕ} → done k ≡ refusal r → C
+unfolding IsDone
+done≢refusal e = absurd (subst IsDone e tt)
+
+same-refusal : {r q : Refusal} → refusal r ≡ refusal q → r ≡ q
+same-refusal e = cc
+
+carry : (P : Refusal → Type 0) {q r : Refusal} → refusal q ≡ refusal r → P q → P r
+carry P z p = subst P (same-refusal z) p
+
+-- when the reader gives which refusal: 7, 21, then what the reading says, 27 only for a message otherwise accepted
+pub data ReadRefused (T : Table) (n t : ℕ) (m buf : List ℕ) (r : Refusal) : Type 0 where
+  no-such-type : n ≤ t → numberOf r ≡ 7 → placeOf r ≡ 0 → ReadRefused T n t m buf r
+  too-long : t < n → longestMessage < length m → numberOf r ≡ 21 → placeOf r ≡ 0 → ReadRefused T n t m buf r
+  as-read : (c l : ℕ) → t < n → length m ≤ longestMessage → readMessage T levels t m ≡ refused c l → l ≤ length m → numberOf r ≡ c → placeOf r ≡ length m - l → ReadRefused T n t m buf r
+  no-room : (v : Value) (s : List ℕ) → t < n → length m ≤ longestMessage → readMessage T levels t m ≡ got v s → min longestValue (length buf) < length (octets v)
+      → numberOf r ≡ 27 → placeOf r ≡ 0 → ReadRefused T n t m buf r
+
+abbrev IfRefused : List ℕ → (Refusal → Type 0) → Outcome → Type 0
+IfRefused buf P x = (r : Refusal) → x .answer ≡ refusal r → (x .buffer ≡ buf) × P r
+
+after-refused : (T : Table) (n t : ℕ) (m buf : List ℕ) → t < n → length m ≤ longestMessage → (x : Answer Value) → readMessage T levels t m ≡ x → Says (length m) x
+    → IfRefused buf (ReadRefused T n t m buf) (afterReading m buf x)
+unfolding afterReading
+after-refused T n t m buf lt h (refused c l) e (names k q) =
+    λ r z. let y = message-cause (length m - l) k in (refl, carry (ReadRefused T n t m buf) z (as-read c l lt h e q (y .0) (y .1)))
+after-refused T n t m buf lt h (got v s) e q =
+    if-cases (IfRefused buf (ReadRefused T n t m buf)) (not (leb (length (octets v)) (min 16384 (length buf)))) _ _
+    (λ f r z. (refl, carry (ReadRefused T n t m buf) z (no-room v s lt h e (leb-false (length (octets v)) (min 16384 (length buf)) (not-true (leb (length (octets v)) (min 16384 (length buf))) f)) refl refl)))
+    (λ f r z. done≢refusal z)
+
+pub read-refused : (T : Table) (n t : ℕ) (m buf : List ℕ) (r : Refusal) → readOutcome T n t m buf .answer ≡ refusal r → (readOutcome T n t m buf .buffer ≡ buf) × ReadRefused T n t m buf r
+unfolding readOutcome
+read-refused T n t m buf =
+    if-cases (IfRefused buf (ReadRefused T n t m buf)) (not (ltb t n)) _ _
+    (λ e r z. (refl, carry (ReadRefused T n t m buf) z (no-such-type (ltb-false t n (not-true (ltb t n) e)) refl refl))) λ e.
+    let lt : t < n = ltb-true t n (not-false (ltb t n) e) in
+    if-cases (IfRefused buf (ReadRefused T n t m buf)) (not (leb (length m) 8192)) _ _
+    (λ f r z. (refl, carry (ReadRefused T n t m buf) z (too-long lt (leb-false (length m) 8192 (not-true (leb (length m) 8192) f)) refl refl))) λ f.
+    after-refused T n t m buf lt (leb-true (length m) 8192 (not-false (leb (length m) 8192) f)) (readMessage T levels t m) refl (message-says T levels t m)
+
+-- when the writer gives which refusal: 7, 11 for an over-long value, then what the judging says, 14 only for a value otherwise accepted
+pub data WriteRefused (T : Table) (n t : ℕ) (b buf : List ℕ) (r : Refusal) : Type 0 where
+  no-such-type : n ≤ t → numberOf r ≡ 7 → placeOf r ≡ 0 → WriteRefused T n t b buf r
+  over-long : t < n → longestValue < length b → numberOf r ≡ 11 → placeOf r ≡ 0 → WriteRefused T n t b buf r
+  as-judged : (c l : ℕ) → t < n → length b ≤ longestValue → judgeWhole T levels t b ≡ refused c l → l ≤ length b → numberOf r ≡ c → placeOf r ≡ length b - l → WriteRefused T n t b buf r
+  no-room : (v : Value) (s : List ℕ) → t < n → length b ≤ longestValue → judgeWhole T levels t b ≡ got v s → min longestMessage (length buf) < length (formAt T levels t v)
+      → numberOf r ≡ 14 → placeOf r ≡ 0 → WriteRefused T n t b buf r
+
+after-refused-write : (T : Table) (n t : ℕ) (b buf : List ℕ) → t < n → length b ≤ longestValue → (x : Answer Value) → judgeWhole T levels t b ≡ x → Speaks OfValue (length b) x
+    → IfRefused buf (WriteRefused T n t b buf) (afterJudging (formAt T levels t) b buf x)
+unfolding afterJudging
+after-refused-write T n t b buf lt h (refused c l) e (names k q) =
+    λ r z. let y = value-cause (length b - l) k in (refl, carry (WriteRefused T n t b buf) z (as-judged c l lt h e q (y .0) (y .1)))
+after-refused-write T n t b buf lt h (got v s) e q =
+    let f = formAt T levels t v in
+    if-cases (IfRefused buf (WriteRefused T n t b buf)) (not (leb (length f) (min 8192 (length buf)))) _ _
+    (λ g r z. (refl, carry (WriteRefused T n t b buf) z (WriteRefused.no-room v s lt h e (leb-false (length f) (min 8192 (length buf)) (not-true (leb (length f) (min 8192 (length buf))) g)) refl refl)))
+    (λ g r z. done≢refusal z)
+
+pub write-refused : (T : Table) (n t : ℕ) (b buf : List ℕ) → Octets b → (r : Refusal) → writeOutcome T n t b buf .answer ≡ refusal r → (writeOutcome T n t b buf .buffer ≡ buf) × WriteRefused T n t b buf r
+unfolding writeOutcome
+write-refused T n t b buf o =
+    if-cases (IfRefused buf (WriteRefused T n t b buf)) (not (ltb t n)) _ _
+    (λ e r z. (refl, carry (WriteRefused T n t b buf) z (WriteRefused.no-such-type (ltb-false t n (not-true (ltb t n) e)) refl refl))) λ e.
+    let lt : t < n = ltb-true t n (not-false (ltb t n) e) in
+    if-cases (IfRefused buf (WriteRefused T n t b buf)) (not (leb (length b) 16384)) _ _
+    (λ f r z. (refl, carry (WriteRefused T n t b buf) z (over-long lt (leb-false (length b) 16384 (not-true (leb (length b) 16384) f)) refl refl))) λ f.
+    after-refused-write T n t b buf lt (leb-true (length b) 16384 (not-false (leb (length b) 16384) f)) (judgeWhole T levels t b) refl (whole-says T levels t b (all-octets b o))
