@@ -1,5 +1,7 @@
--- Definitions that every crate shares: tests, lists, numbers of two octets.
+-- Definitions that every crate shares: tests, lists, numbers of two octets, what readers answer, orders of lists.
 -- Assumes nothing.
 pub mod Tests
 pub mod Lists
 pub mod Numbers
+pub mod Answer
+pub mod Permutations

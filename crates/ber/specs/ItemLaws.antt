@@ -1,0 +1,183 @@
+-- Laws of items: what may be sent is read, and what is read may be sent.
+-- Assumes nothing.
+use borrow.Author.Tests.{eqb-true, eq-eqb, ne-eqb}
+use lib.Dec.{leb, eqb}
+use lib.ListN.{length, getD, take, drop, length-append, take-append-drop}
+use lib.Seq.{length-take-le, take-append-seam, drop-append-seam}
+use mathlib.Core.Bool.{Bool, true, false, not, true≢false}
+use mathlib.Core.List.{List, [], _∷_, _++_, append-assoc, append-nil}
+use mathlib.Core.Path.{_≡_, refl, sym, ap, _∙_}
+use native.Mathlib.Omega.{arith}
+use Prim.Native.Nat.{ℕ, zero, suc, _+_, _-_, _^_, _≤_, _<_}
+use Rattle.octets.specs.Answer.{Answer, got, refused, then, if, behind, none-left, Holds, yields, refuses, if-true, if-false, if-holds, then-holds, map-holds, behind-holds, run, Reads}
+use Rattle.octets.specs.Permutations.{AllOctets, every-left, every-right}
+use Rattle.ber.specs.Identifier.{identifier, readIdentifier, same}
+use Rattle.ber.specs.IdentifierLaws.{same-refl, same-true, identifier-sound, identifier-complete}
+use Rattle.ber.specs.Length.{Length, lengthOctets, Size, definite, indefinite, readLength}
+use Rattle.ber.specs.LengthLaws.{length-complete, length-sound, length-octets, Shape, is-definite, is-indefinite}
+use Rattle.ber.specs.Item.{Definite, sized, Constructed, in-size, in-marks, item, Mode, closed, open-ended, atEnd, readHeader, inside, readConstructed, contents, readPrimitive}
+
+-- behind contents stands `tail`: the contents end there, and r follows
+pub data Ends : Mode → List ℕ → List ℕ → Type 0 where
+  no-more : Ends closed [] []
+  mark : {r : List ℕ} → Ends open-ended (0 ∷ 0 ∷ r) r
+
+ends-closed : {t r : List ℕ} → Ends closed t r → t ≡ []
+ends-closed no-more = refl
+
+ends-open : {t r : List ℕ} → Ends open-ended t r → t ≡ 0 ∷ 0 ∷ r
+ends-open mark = refl
+
+pub atEnd-end : {A : Type 0} {mode : Mode} {t r : List ℕ} (f : List ℕ → Answer A) (x : Unit {0} → Answer A) → Ends mode t r → atEnd mode t f x ≡ f r
+unfolding atEnd if none-left
+atEnd-end f x no-more = refl
+atEnd-end f x mark = refl
+
+pub atEnd-more : {A : Type 0} (mode : Mode) (b : ℕ) (s : List ℕ) (f : List ℕ → Answer A) (x : Unit {0} → Answer A) → 0 < b → atEnd mode (b ∷ s) f x ≡ x tt
+unfolding atEnd
+atEnd-more closed b s f x h = simp run
+atEnd-more open-ended b s f x h = simp (run, ne-eqb b 0 (λ e. omega arith))
+
+pub atEnd-holds : {A : Type 0} {P : A → List ℕ → Type 0} (mode : Mode) (s : List ℕ) {f : List ℕ → Answer A} {x : Unit {0} → Answer A} → ((r : List ℕ) → Ends mode s r → Holds P (f r)) → ((u : Unit {0}) → Holds P (x u)) → Holds P (atEnd mode s f x)
+unfolding atEnd if none-left
+atEnd-holds closed [] h k = h [] no-more
+atEnd-holds closed (b ∷ s) h k = k tt
+atEnd-holds open-ended [] h k = refuses
+atEnd-holds open-ended (zero ∷ []) h k = refuses
+atEnd-holds open-ended (zero ∷ zero ∷ s) h k = h s mark
+atEnd-holds open-ended (zero ∷ suc c ∷ s) h k = rw (ne-eqb (suc c) 0 (λ e. omega arith)) refuses
+atEnd-holds open-ended (suc b ∷ s) h k = rw (ne-eqb (suc b) 0 (λ e. omega arith)) (k tt)
+
+pub definite-octets : {i c m : List ℕ} → Definite i c m → AllOctets m → AllOctets c
+definite-octets {i = i} (sized ls l e) o = every-right ls (every-right i (rw e at o))
+
+pub constructed-octets : {i c m : List ℕ} → Constructed i c m → AllOctets m → AllOctets c
+constructed-octets (in-size p) o = definite-octets p o
+constructed-octets {i = i} {c = c} (in-marks e) o = every-left c _ (every-right (128 ∷ []) (every-right i (rw e at o)))
+
+-- identifier octets that are read as they stand
+abbrev pub Readable : List ℕ → Type 0
+Readable i = (s : List ℕ) → readIdentifier (i ++ s) ≡ got i s
+
+header-complete : {n : ℕ} {i ls : List ℕ} (s : List ℕ) → Readable i → Length n ls → n ≤ length s → readHeader i (i ++ (ls ++ s)) ≡ got (definite n) s
+unfolding readHeader
+header-complete {i = i} {ls = ls} s g l h = simp (run, g (ls ++ s), same-refl i, length-complete (length (i ++ (ls ++ s))) s l h)
+
+header-marked : (i s : List ℕ) → Readable i → readHeader i (i ++ (128 ∷ s)) ≡ got indefinite s
+unfolding readHeader readLength
+header-marked i s g = simp (run, g (128 ∷ s), same-refl i)
+
+whole : (i ls c s : List ℕ) → (i ++ (ls ++ c)) ++ s ≡ i ++ (ls ++ (c ++ s))
+whole i ls c s = append-assoc i (ls ++ c) s ∙ ap (λ (l : List ℕ). i ++ l) (append-assoc ls c s)
+
+whole-marked : (i c s : List ℕ) → (i ++ (128 ∷ (c ++ (0 ∷ 0 ∷ [])))) ++ s ≡ i ++ (128 ∷ (c ++ (0 ∷ 0 ∷ s)))
+whole-marked i c s = append-assoc i (128 ∷ (c ++ (0 ∷ 0 ∷ []))) s ∙ ap (λ (l : List ℕ). i ++ (128 ∷ l)) (append-assoc c (0 ∷ 0 ∷ []) s)
+
+pub primitive-complete : {i c m : List ℕ} (s : List ℕ) → Readable i → Definite i c m → readPrimitive i (m ++ s) ≡ got c s
+unfolding readPrimitive contents
+primitive-complete {i} {c} s g (sized ls l e) =
+    let h : length c ≤ length (c ++ s) = simp length-append (omega arith) in
+    rw (e, whole i ls c s) (simp (run, header-complete (c ++ s) g l h, contents, take-append-seam c s, drop-append-seam c s))
+
+pub constructed-complete : {A : Type 0} {Q : A → A → Type 0} (body : Mode → List ℕ → Answer A) {v : A} {i c m : List ℕ} (s : List ℕ) → Readable i
+    → ((mode : Mode) (t u : List ℕ) → Ends mode t u → Reads Q (body mode) v (c ++ t) u)
+    → Constructed i c m → Reads Q (readConstructed i body) v (m ++ s) s
+unfolding readConstructed inside
+constructed-complete body {i = i} {c} s g b (in-size (sized ls l e)) =
+    let h : length c ≤ length (c ++ s) = simp length-append (omega arith) in
+    let x = b closed [] [] no-more in
+    let k : body closed c ≡ got (x .value) [] = rw append-nil at (x .answer) in
+    record {
+      value = x .value;
+      answer = rw (e, whole i ls c s) (simp (run, header-complete (c ++ s) g l h, inside, take-append-seam c s, drop-append-seam c s, k));
+      alike = x .alike;
+    }
+constructed-complete body {i = i} {c} s g b (in-marks e) =
+    let x = b open-ended (0 ∷ 0 ∷ s) s mark in
+    record { value = x .value; answer = rw (e, whole-marked i c s) (simp (run, header-marked i (c ++ (0 ∷ 0 ∷ s)) g, inside, x .answer)); alike = x .alike }
+
+not-false : (b : Bool) → not b ≡ false → b ≡ true
+not-false true e = refl
+not-false false e = absurd (true≢false e)
+
+-- what a reader of the identifier and the length took
+pub header-sound : (i s : List ℕ) → Holds (λ z r. (u : List ℕ) × (s ≡ i ++ u) × Shape u z r) (readHeader i s)
+unfolding readHeader
+header-sound i s =
+    then-holds (identifier-sound s) λ j u e.
+    if-holds _ (λ f. refuses) λ f _.
+    map-holds (length-sound _ u) (λ z r h. (u, rw (same-true i j (not-false (same i j) f)) e, h))
+
+-- s is an item and then r, and its contents have C
+pub record Item (F : List ℕ → List ℕ → List ℕ → Type 0) (i : List ℕ) (C : List ℕ → Type 0) (s r : List ℕ) : Type 0 where
+  pub item : List ℕ
+  pub content : List ℕ
+  pub cut : s ≡ item ++ r
+  pub framed : F i content item
+  pub has : C content
+
+-- an identifier, a length and as many octets as it says
+sized-item : {i : List ℕ} {k : ℕ} {s u : List ℕ} (m w : List ℕ) → s ≡ i ++ u → u ≡ m ++ w → Length k m → k ≤ length w → {C : List ℕ → Type 0} → C (take k w) → Item Definite i C s (drop k w)
+sized-item {i} {k} m w e eu l t h =
+    record {
+      item = i ++ (m ++ take k w);
+      content = take k w;
+      cut = e ∙ ap (λ (x : List ℕ). i ++ x) eu ∙ sym (whole i m (take k w) (drop k w) ∙ ap (λ (x : List ℕ). i ++ (m ++ x)) (take-append-drop k w));
+      framed = sized m (rw (length-take-le k w t) l) refl;
+      has = h;
+    }
+
+in-frame : {i : List ℕ} {C : List ℕ → Type 0} {s r : List ℕ} → Item Definite i C s r → Item Constructed i C s r
+in-frame x = record { item = x .item; content = x .content; cut = x .cut; framed = in-size (x .framed); has = x .has }
+
+contents-sound : (l : ℕ) (i s u : List ℕ) (z : Size) (w : List ℕ) → s ≡ i ++ u → Shape u z w → Holds (λ c r. Item Definite i (λ x. x ≡ c) s r) (contents l z w)
+unfolding contents
+contents-sound p i s u (definite k) w e (is-definite m eu l t) = yields (sized-item m w e eu l t refl)
+contents-sound l i s u indefinite w e (is-indefinite eu) = refuses
+
+pub primitive-sound : (i s : List ℕ) → Holds (λ c r. Item Definite i (λ x. x ≡ c) s r) (readPrimitive i s)
+unfolding readPrimitive
+primitive-sound i s = then-holds (header-sound i s) (λ z w (u, e, h). contents-sound _ i s u z w e h)
+
+-- what a reader of contents is to do: it takes contents that have C, and their end
+pub record Body {A : Type 0} (C : A → List ℕ → Type 0) (mode : Mode) (s : List ℕ) (v : A) (r : List ℕ) : Type 0 where
+  pub content : List ℕ
+  pub tail : List ℕ
+  pub cut : s ≡ content ++ tail
+  pub ends : Ends mode tail r
+  pub has : C v content
+
+module _ {A : Type 0} (C : A → List ℕ → Type 0) (body : Mode → List ℕ → Answer A) (sound : (mode : Mode) (s : List ℕ) → Holds (Body C mode s) (body mode s)) where
+  at-size : {v : A} {s r : List ℕ} → Body C closed s v r → C v s
+  at-size {v} b = rw (b .cut, ends-closed (b .ends), append-nil) (b .has)
+
+  inside-sound : (i s u : List ℕ) (z : Size) (w : List ℕ) → s ≡ i ++ u → Shape u z w → Holds (λ v r. Item Constructed i (C v) s r) (inside body z w)
+  unfolding inside
+  inside-sound i s u (definite k) w e (is-definite m eu l t) =
+      then-holds (behind-holds _ (sound closed (take k w))) (λ v r b. yields (in-frame (sized-item m w e eu l t (at-size b))))
+  inside-sound i s u indefinite w e (is-indefinite eu) =
+      map-holds (sound open-ended w) (λ v r b.
+      record {
+        item = i ++ (128 ∷ (b .content ++ (0 ∷ 0 ∷ [])));
+        content = b .content;
+        cut = e ∙ ap (λ (x : List ℕ). i ++ x) (eu ∙ ap (λ (x : List ℕ). 128 ∷ x) (b .cut ∙ ap (λ (x : List ℕ). b .content ++ x) (ends-open (b .ends)))) ∙ sym (whole-marked i (b .content) r);
+        framed = in-marks refl;
+        has = b .has;
+      })
+
+  pub constructed-sound : (i s : List ℕ) → Holds (λ v r. Item Constructed i (C v) s r) (readConstructed i body s)
+  unfolding readConstructed
+  constructed-sound i s = then-holds (header-sound i s) (λ z w (u, e, h). inside-sound i s u z w e h)
+
+-- in octets that a length of eight octets can count
+abbrev pub Short : List ℕ → Type 0
+Short m = length m < 256 ^ 8
+
+pub item-content : (i c : List ℕ) → Short (item i c) → Short c
+unfolding item
+item-content i c h = let k = simp length-append at h in omega arith
+
+-- what is written may be sent
+pub item-definite : (i c : List ℕ) → Short (item i c) → Definite i c (item i c)
+unfolding item
+item-definite i c h = sized (lengthOctets (length c)) (length-octets (length c) (item-content i c h)) refl

@@ -1,0 +1,83 @@
+-- Laws of length octets: what may be sent is read, what is read may be sent, what is written may be sent.
+-- Assumes nothing.
+use borrow.Author.Tests.{ltb-true, ltb-false, leb-true, eqb-true, eqb-false, lt-ltb, le-ltb, le-leb, eq-eqb, ne-eqb}
+use lib.Dec.{ltb, leb, eqb}
+use lib.ListN.{length, take, drop, length-append, length-take, take-append-drop}
+use lib.Seq.{length-take-le, take-append-seam, drop-append-seam}
+use mathlib.Core.Bool.{Bool, true, false}
+use mathlib.Core.List.{List, [], _∷_, _++_}
+use mathlib.Core.Path.{_≡_, refl, sym, ap, _∙_}
+use native.Mathlib.Nat.{pow-suc, div-add-mod', div-lt-iff-lt-mul}
+use native.Mathlib.Omega.{arith}
+use Prim.Native.Nat.{ℕ, zero, suc, _+_, _-_, _*_, _/_, _%_, _^_, _≤_, _<_}
+use Rattle.octets.specs.Answer.{Answer, got, refused, then, if, Holds, yields, refuses, if-holds, if-cases, run}
+use Rattle.ber.specs.Length.{number, Length, short, long, digits, lengthOctets, Size, definite, indefinite, fit, readLong, readLength}
+
+-- what may be sent is read
+pub length-complete : {n : ℕ} {m : List ℕ} (l : ℕ) (s : List ℕ) → Length n m → n ≤ length s → readLength l (m ++ s) ≡ got (definite n) s
+unfolding readLength readLong fit
+length-complete {n} l s (short h e) f = rw e (simp (run, lt-ltb n 128 h, fit, le-leb n (length s) f))
+length-complete {n} l s (long ds h k v e) f =
+    let b = 128 + length ds in
+    let i : length ds ≤ length (ds ++ s) = simp length-append (omega arith) in
+    let d : b - 128 ≡ length ds = omega arith in
+    rw e
+    (simp (run, le-ltb b 128 (omega arith), ne-eqb b 128 (λ z. omega arith), lt-ltb b 255 (omega arith), d, readLong, le-leb _ _ i, take-append-seam ds s, drop-append-seam ds s, v, fit, le-leb n (length s) f))
+
+-- what a reader of length octets took from s
+pub data Shape (s : List ℕ) : Size → List ℕ → Type 0 where
+  is-definite : {n : ℕ} {r : List ℕ} (m : List ℕ) → s ≡ m ++ r → Length n m → n ≤ length r → Shape s (definite n) r
+  is-indefinite : {r : List ℕ} → s ≡ 128 ∷ r → Shape s indefinite r
+
+fit-sound : {s : List ℕ} (p n : ℕ) (m r : List ℕ) → s ≡ m ++ r → Length n m → Holds (Shape s) (fit p n r)
+unfolding fit
+fit-sound p n m r e l = if-holds _ (λ t. yields (is-definite m e l (leb-true n (length r) t))) (λ t _. refuses)
+
+long-sound : (p b : ℕ) (s : List ℕ) → 128 < b → b < 255 → Holds (Shape (b ∷ s)) (readLong p (b - 128) s)
+unfolding readLong
+long-sound p b s h k =
+    if-holds _
+    (λ e.
+    let l : length (take (b - 128) s) ≡ b - 128 = length-take-le (b - 128) s (leb-true _ _ e) in
+    fit-sound p _ (b ∷ take (b - 128) s) _ (ap (λ (l : List ℕ). b ∷ l) (sym (take-append-drop (b - 128) s))) (long (take (b - 128) s) (omega arith) (omega arith) refl (ap (λ (n : ℕ). n ∷ take (b - 128) s) (omega arith)))) (λ e _. refuses)
+
+-- what is read may be sent
+pub length-sound : (p : ℕ) (s : List ℕ) → Holds (Shape s) (readLength p s)
+unfolding readLength
+length-sound p [] = refuses
+length-sound p (b ∷ s) =
+    if-holds _ (λ e. fit-sound p b (b ∷ []) s refl (short (ltb-true b 128 e) refl))
+    λ n128 _. if-holds _ (λ e. yields (is-indefinite {r = s} (rw (eqb-true b 128 e) refl)))
+    λ e128 _. if-holds _ (λ e. long-sound p b s (above e128 (ltb-false b 128 n128)) (ltb-true b 255 e))
+    λ e255 _. refuses
+  where
+    above : eqb b 128 ≡ false → 128 ≤ b → 128 < b
+    above e h = let n : (b ≡ 128 → ⊥) = eqb-false b 128 e in omega arith
+
+digits-number : (k n : ℕ) (l : List ℕ) → n < 256 ^ k → number 0 (digits k n l) ≡ number n l
+unfolding digits number
+digits-number zero n l h = ap (λ (x : ℕ). number x l) (omega arith)
+digits-number (suc k) n l h =
+    if-cases (λ x. number 0 x ≡ number n l) _ _ _ (λ e. ap (λ (x : ℕ). number x l) (sym (eqb-true n 0 e)))
+    (λ e. digits-number k (n / 256) (n % 256 ∷ l) (div-lt-iff-lt-mul (omega arith) .1 (rw pow-suc at h)) ∙ ap (λ (x : ℕ). number x l) (div-add-mod' n 256))
+
+digits-most : (k n : ℕ) (l : List ℕ) → length (digits k n l) ≤ k + length l
+unfolding digits
+digits-most zero n l = omega arith
+digits-most (suc k) n l = if-cases (λ x. length x ≤ suc k + length l) _ l (λ _. digits k (n / 256) (n % 256 ∷ l)) (λ e. omega arith) (λ e. let h = digits-most k (n / 256) (n % 256 ∷ l) in omega arith)
+
+digits-least : (k n : ℕ) (l : List ℕ) → length l ≤ length (digits k n l)
+unfolding digits
+digits-least zero n l = omega arith
+digits-least (suc k) n l = if-cases (λ x. length l ≤ length x) _ l (λ _. digits k (n / 256) (n % 256 ∷ l)) (λ e. omega arith) (λ e. let h = digits-least k (n / 256) (n % 256 ∷ l) in omega arith)
+
+some-digit : (n : ℕ) → 128 ≤ n → 1 ≤ length (digits 8 n [])
+unfolding digits
+some-digit n l = if-cases (λ (x : List ℕ). 1 ≤ length x) (eqb n 0) [] (λ _. digits 7 (n / 256) (n % 256 ∷ [])) (λ e. let z = eqb-true n 0 e in absurd (omega arith)) (λ e. digits-least 7 (n / 256) (n % 256 ∷ []))
+
+-- what is written may be sent
+pub length-octets : (n : ℕ) → n < 256 ^ 8 → Length n (lengthOctets n)
+unfolding lengthOctets number
+length-octets n h =
+    if-cases (λ m. Length n m) _ _ _ (λ e. short (ltb-true n 128 e) refl)
+    (λ e. long (digits 8 n []) (some-digit n (ltb-false n 128 e)) (let k = digits-most 8 n [] in omega arith) (digits-number 8 n [] h) refl)

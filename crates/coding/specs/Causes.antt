@@ -1,0 +1,61 @@
+-- The refusals of the value stage and of the message stage: their numbers and places (document 01, "Refused").
+-- Assumes nothing.
+use mathlib.Core.Bool.{Bool}
+use Prim.Native.Nat.{ℕ}
+use lib.Dec.{eqb}
+use Rattle.octets.specs.Answer.{if}
+use Rattle.coding.specs.declared.ValueCause.{ValueCause}
+use Rattle.coding.specs.declared.ValueCause.the-variants.{Shape, IllTyped, Level as LevelV, Room as RoomV}
+use Rattle.coding.specs.declared.MessageCause.{MessageCause}
+use Rattle.coding.specs.declared.MessageCause.the-variants.{TooLong, Cut, Form, NotAwaited, Contents, Trailing, Room, Level}
+
+-- "11 to 14 of the value"
+abbrev pub valueNumber : ValueCause → ℕ
+valueNumber (Shape p) = 11
+valueNumber (IllTyped p) = 12
+valueNumber (LevelV p) = 13
+valueNumber RoomV = 14
+
+abbrev pub valuePlace : ValueCause → ℕ
+valuePlace (Shape p) = p
+valuePlace (IllTyped p) = p
+valuePlace (LevelV p) = p
+valuePlace RoomV = 0
+
+-- "all others of the message"; "7, 14, 21, 27 have place 0"
+abbrev pub messageNumber : MessageCause → ℕ
+messageNumber TooLong = 21
+messageNumber (Cut p) = 22
+messageNumber (Form p) = 23
+messageNumber (NotAwaited p) = 24
+messageNumber (Contents p) = 25
+messageNumber (Trailing p) = 26
+messageNumber Room = 27
+messageNumber (Level p) = 28
+
+abbrev pub messagePlace : MessageCause → ℕ
+messagePlace TooLong = 0
+messagePlace (Cut p) = p
+messagePlace (Form p) = p
+messagePlace (NotAwaited p) = p
+messagePlace (Contents p) = p
+messagePlace (Trailing p) = p
+messagePlace Room = 0
+messagePlace (Level p) = p
+
+-- the cause with a number that judging gives, and a place
+unfoldable pub valueCause : ℕ → ℕ → ValueCause
+valueCause c p =
+    if (eqb c 11) (Shape p) λ _.
+    if (eqb c 12) (IllTyped p) λ _.
+    LevelV p
+
+-- the cause with a number that reading gives, and a place
+unfoldable pub messageCause : ℕ → ℕ → MessageCause
+messageCause c p =
+    if (eqb c 22) (Cut p) λ _.
+    if (eqb c 23) (Form p) λ _.
+    if (eqb c 24) (NotAwaited p) λ _.
+    if (eqb c 25) (Contents p) λ _.
+    if (eqb c 26) (Trailing p) λ _.
+    Level p

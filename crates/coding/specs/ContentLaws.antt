@@ -1,0 +1,84 @@
+-- Laws of the contents of simple kinds: what may be sent is read, what is read may be sent and is a leaf of the kind, what is written may be sent.
+-- Assumes nothing.
+use borrow.Author.Tests.{leb-true, le-leb, eq-eqb, ne-eqb}
+use lib.Dec.{leb, eqb}
+use lib.IntN.{ℤ, pos, negsuc}
+use lib.ListN.{length, getD, drop}
+use mathlib.Core.Bool.{Bool, true, false, not, true≢false, false≢true}
+use mathlib.Core.List.{List, [], _∷_}
+use mathlib.Core.Path.{_≡_, refl, sym, ap, _∙_}
+use native.Mathlib.Omega.{arith}
+use Prim.Native.Nat.{ℕ, zero, suc, _≤_}
+use Rattle.octets.specs.Answer.{Answer, got, refused, if, none-left, Holds, yields, refuses, if-holds, run}
+use Rattle.octets.specs.Permutations.{AllOctets, every-nil, every-cons}
+use Rattle.ber.specs.Integer.{integerOf, minimal, fewestOf}
+use Rattle.ber.specs.IntegerLaws.{Written, fewest-written, integer-fits}
+use Rattle.ber.specs.BitString.{unused, masked}
+use Rattle.ber.specs.BitStringLaws.{masked-masked, masked-unused, masked-octets}
+use Rattle.table.specs.Syntax.{Simple, Boolean, Integer, BitString, OctetString, Null, Enumerated}
+use Rattle.coding.specs.Value.{Leaf, boolean, integer, bits, string, null, enumerated}
+use Rattle.coding.specs.Content.{listed, Content, c-boolean, c-integer, c-bits, c-string, c-null, c-enumerated, TypedLeaf, l-boolean, l-integer, l-bits, l-string, l-null, l-enumerated, truth, encode, isListed, natural, decode}
+
+pub not-false : (b : Bool) → not b ≡ false → b ≡ true
+not-false true e = refl
+not-false false e = absurd (true≢false e)
+
+pub content-complete : {k : Simple} {x : Leaf} {c : List ℕ} (l : ℕ) (s : List ℕ) → Content k x c → decode k l c s ≡ got x s
+unfolding decode isListed
+content-complete l s (c-boolean {x = x}) = simp run
+content-complete l s (c-integer {c = c} e h) = simp (run, e, le-leb (length c) 8 h)
+content-complete l s (c-bits {n = n} {c = c} e) = simp (run, e)
+content-complete l s c-string = refl
+content-complete l s c-null = simp run
+content-complete l s (c-enumerated {ns = ns} {c = c} {k = k} e h z g) = rw z (simp (run, e, le-leb (length c) 8 h, g))
+
+is-listed : (ns : List ℕ) (z : ℤ) → isListed ns z ≡ true → (z ≡ pos (natural z)) × (listed ns (natural z) ≡ true)
+unfolding isListed
+is-listed ns (pos k) e = (refl, e)
+is-listed ns (negsuc k) e = absurd (false≢true e)
+
+pub content-sound : (k : Simple) (l : ℕ) (c s : List ℕ) → Holds (λ x r. (r ≡ s) × Content k x c) (decode k l c s)
+unfolding decode none-left
+content-sound Boolean l [] s = if-holds _ (λ e. refuses) λ e _. absurd (true≢false e)
+content-sound Boolean l (x ∷ []) s = if-holds _ (λ e. refuses) λ e _. yields (refl, c-boolean)
+content-sound Boolean l (x ∷ y ∷ c) s = if-holds _ (λ e. refuses) λ e _. absurd (true≢false (rw (ne-eqb (suc (suc (length c))) 1 (λ f. omega arith)) at e))
+content-sound Integer l c s =
+    if-holds _ (λ e. refuses) λ e _.
+    if-holds _ (λ h. refuses) λ h _.
+    yields (refl, c-integer (not-false (minimal c) e) (leb-true (length c) 8 (not-false (leb (length c) 8) h)))
+content-sound BitString l [] s = if-holds _ (λ e. refuses) λ e _. absurd (true≢false e)
+content-sound BitString l (n ∷ c) s =
+    if-holds _ (λ e. refuses) λ e _.
+    if-holds _ (λ h. refuses) λ h _.
+    yields (refl, c-bits (not-false (unused n c) h))
+content-sound OctetString l c s = yields (refl, c-string)
+content-sound Null l [] s = if-holds _ (λ e. refuses) λ e _. yields (refl, c-null)
+content-sound Null l (x ∷ c) s = if-holds _ (λ e. refuses) λ e _. absurd (true≢false e)
+content-sound (Enumerated ns) l c s =
+    if-holds _ (λ e. refuses) λ e _.
+    if-holds _ (λ h. refuses) λ h _.
+    if-holds _ (λ g. refuses) λ g _.
+    let q = is-listed ns (integerOf c) (not-false (isListed ns (integerOf c)) g) in
+    yields (refl, c-enumerated (not-false (minimal c) e) (leb-true (length c) 8 (not-false (leb (length c) 8) h)) (q .0) (q .1))
+
+pub content-typed : {k : Simple} {x : Leaf} {c : List ℕ} → AllOctets c → Content k x c → TypedLeaf k x
+content-typed o c-boolean = l-boolean
+content-typed o (c-integer {c = c} e h) = l-integer (integer-fits c o h)
+content-typed (every-cons h o) (c-bits {n = n} {c = c} e) = l-bits (masked-octets n o) (masked-unused n c ∙ e) (masked-masked n c)
+content-typed o c-string = l-string o
+content-typed o c-null = l-null
+content-typed o (c-enumerated {c = c} {k = k} e h z g) = l-enumerated (rw z at (integer-fits c o h)) g
+
+pub encode-content : {k : Simple} {x : Leaf} → TypedLeaf k x → Content k x (encode x)
+unfolding encode
+encode-content (l-boolean {b = true}) = c-boolean {x = 255}
+encode-content (l-boolean {b = false}) = c-boolean {x = 0}
+encode-content (l-integer {z = z} f) =
+    let w = fewest-written z f in
+    rw (w .back) at (c-integer {c = fewestOf z} (w .is-minimal) (w .few))
+encode-content (l-bits {n = n} {c = c} o u e) = rw e at (c-bits {n = n} {c = c} u)
+encode-content (l-string o) = c-string
+encode-content l-null = c-null
+encode-content (l-enumerated {k = k} f g) =
+    let w = fewest-written (pos k) f in
+    c-enumerated {c = fewestOf (pos k)} (w .is-minimal) (w .few) (w .back) g

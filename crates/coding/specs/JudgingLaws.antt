@@ -1,0 +1,584 @@
+-- Octets are judged to be a value of a type exactly when they are the octets of one; and a tree has one octet form.
+-- Assumes nothing.
+use borrow.Author.Tests.{ltb-true, lt-ltb, eqb-true, eq-eqb}
+use mathlib.Core.Bool.{Bool, true, false, not, _&&_, _||_, true≢false, false≢true}
+use mathlib.Core.List.{List, [], _∷_, _++_, append-assoc, append-nil}
+use mathlib.Core.Option.{Option, some, none}
+use mathlib.Core.Logic.{_↔_}
+use mathlib.Core.Path.{_≡_, refl, sym, ap, _∙_}
+use native.Mathlib.Omega.{arith}
+use Prim.Native.Nat.{ℕ, zero, suc, _+_, _<_, _≤_, max}
+use lib.Dec.{ltb, eqb}
+use lib.IntN.{pos}
+use lib.ListN.{length, getD, length-append}
+use lib.Seq.{append-snoc}
+use mir.Syntax.{w64}
+use mir.Val.{SFits}
+use Rattle.octets.specs.Answer.{Answer, got, refused, then, if, none-left, run, Holds, yields, refuses, if-holds, then-holds, map-holds, got-holds, got-value, got-rest}
+use Rattle.octets.specs.Numbers.{octetsOf, Octets}
+use Rattle.octets.specs.Lists.{any}
+use Rattle.octets.specs.Permutations.{Every, every-nil, every-cons, every-right, AllOctets, all-octets}
+use Rattle.ber.specs.Integer.{eightOf}
+use Rattle.table.specs.Syntax.{Member, Simple, Boolean, Integer, BitString, OctetString, Null, Enumerated, Body, Plain, Sequence, Set, SequenceOf, SetOf, Choice, Table}
+use Rattle.table.specs.Octets.{kind}
+use Rattle.table.specs.Rules.{members}
+use Rattle.coding.specs.Value.{Leaf, boolean, integer, bits, string, null, enumerated, Value, leaf, sequence, set, sequenceOf, setOf, choice, Slots, end, missing, present, slots, bag, leafOctets, count, presence, octets, parts, depth, depths, flag}
+use Rattle.coding.specs.Content.{listed, TypedLeaf, l-boolean, l-integer, l-bits, l-string, l-null, l-enumerated}
+use Rattle.coding.specs.ContentLaws.{not-false}
+use Rattle.coding.specs.Encodes.{allowed, At, first, later}
+use Rattle.coding.specs.Typed.{Fits, f-done, f-left, f-sent, Typed, t-plain, t-sequence, t-set, t-sequence-of, t-set-of, t-choice, WellTypedAt}
+use Rattle.coding.specs.Form.{element, alternatives}
+use Rattle.coding.specs.FormLaws.{at-index}
+use Rattle.coding.specs.Levels.{shallow}
+use Rattle.coding.specs.Judging.{Node, a-leaf, a-sequence, a-set, a-sequence-of, a-set-of, a-choice, readNode, leafKind, nodeKind, numbers, leafAgrees, agreeing, counts, agrees, judgeMembers, judgeElements, judgeBelow, judgeValue, judgeWhole, anyMembers, anySimple, zeros, anyBody, shapeValue, shapeWhole}
+use Rattle.coding.specs.Shaped.{LeafShaped, Whole, Shaped, AllShaped, flagsOf, leafOwn, nodeOwn, nodeOctets, NodeShaped}
+use Rattle.coding.specs.NodeLaws.{node-sound, node-complete}
+
+and-left : (a b : Bool) → (a && b) ≡ true → a ≡ true
+and-left true b e = refl
+and-left false b e = e
+
+and-right : (a b : Bool) → (a && b) ≡ true → b ≡ true
+and-right true b e = e
+and-right false b e = absurd (false≢true e)
+
+-- the body of a kind
+record Kinds (b : Body) : Type 0 where
+  is-boolean : eqb (kind b) 1 ≡ true → b ≡ Plain Boolean
+  is-integer : eqb (kind b) 2 ≡ true → b ≡ Plain Integer
+  is-bits : eqb (kind b) 3 ≡ true → b ≡ Plain BitString
+  is-string : eqb (kind b) 4 ≡ true → b ≡ Plain OctetString
+  is-null : eqb (kind b) 5 ≡ true → b ≡ Plain Null
+  is-enumerated : eqb (kind b) 10 ≡ true → (x : List ℕ) × (b ≡ Plain (Enumerated x))
+  is-sequence : eqb (kind b) 16 ≡ true → (x : List Member) × (b ≡ Sequence x)
+  is-set : eqb (kind b) 17 ≡ true → (x : List Member) × (b ≡ Set x)
+  is-sequence-of : eqb (kind b) 48 ≡ true → (x : ℕ) × (b ≡ SequenceOf x)
+  is-set-of : eqb (kind b) 49 ≡ true → (x : ℕ) × (b ≡ SetOf x)
+  is-choice : eqb (kind b) 50 ≡ true → (x : List ℕ) × (b ≡ Choice x)
+
+kinds : (b : Body) → Kinds b
+unfolding kind
+kinds (Plain Boolean) = record { is-boolean = λ e. refl; is-integer = λ e. absurd (false≢true e); is-bits = λ e. absurd (false≢true e); is-string = λ e. absurd (false≢true e); is-null = λ e. absurd (false≢true e); is-enumerated = λ e. absurd (false≢true e); is-sequence = λ e. absurd (false≢true e); is-set = λ e. absurd (false≢true e); is-sequence-of = λ e. absurd (false≢true e); is-set-of = λ e. absurd (false≢true e); is-choice = λ e. absurd (false≢true e) }
+kinds (Plain Integer) = record { is-boolean = λ e. absurd (false≢true e); is-integer = λ e. refl; is-bits = λ e. absurd (false≢true e); is-string = λ e. absurd (false≢true e); is-null = λ e. absurd (false≢true e); is-enumerated = λ e. absurd (false≢true e); is-sequence = λ e. absurd (false≢true e); is-set = λ e. absurd (false≢true e); is-sequence-of = λ e. absurd (false≢true e); is-set-of = λ e. absurd (false≢true e); is-choice = λ e. absurd (false≢true e) }
+kinds (Plain BitString) = record { is-boolean = λ e. absurd (false≢true e); is-integer = λ e. absurd (false≢true e); is-bits = λ e. refl; is-string = λ e. absurd (false≢true e); is-null = λ e. absurd (false≢true e); is-enumerated = λ e. absurd (false≢true e); is-sequence = λ e. absurd (false≢true e); is-set = λ e. absurd (false≢true e); is-sequence-of = λ e. absurd (false≢true e); is-set-of = λ e. absurd (false≢true e); is-choice = λ e. absurd (false≢true e) }
+kinds (Plain OctetString) = record { is-boolean = λ e. absurd (false≢true e); is-integer = λ e. absurd (false≢true e); is-bits = λ e. absurd (false≢true e); is-string = λ e. refl; is-null = λ e. absurd (false≢true e); is-enumerated = λ e. absurd (false≢true e); is-sequence = λ e. absurd (false≢true e); is-set = λ e. absurd (false≢true e); is-sequence-of = λ e. absurd (false≢true e); is-set-of = λ e. absurd (false≢true e); is-choice = λ e. absurd (false≢true e) }
+kinds (Plain Null) = record { is-boolean = λ e. absurd (false≢true e); is-integer = λ e. absurd (false≢true e); is-bits = λ e. absurd (false≢true e); is-string = λ e. absurd (false≢true e); is-null = λ e. refl; is-enumerated = λ e. absurd (false≢true e); is-sequence = λ e. absurd (false≢true e); is-set = λ e. absurd (false≢true e); is-sequence-of = λ e. absurd (false≢true e); is-set-of = λ e. absurd (false≢true e); is-choice = λ e. absurd (false≢true e) }
+kinds (Plain (Enumerated x)) = record { is-boolean = λ e. absurd (false≢true e); is-integer = λ e. absurd (false≢true e); is-bits = λ e. absurd (false≢true e); is-string = λ e. absurd (false≢true e); is-null = λ e. absurd (false≢true e); is-enumerated = λ e. (x, refl); is-sequence = λ e. absurd (false≢true e); is-set = λ e. absurd (false≢true e); is-sequence-of = λ e. absurd (false≢true e); is-set-of = λ e. absurd (false≢true e); is-choice = λ e. absurd (false≢true e) }
+kinds (Sequence x) = record { is-boolean = λ e. absurd (false≢true e); is-integer = λ e. absurd (false≢true e); is-bits = λ e. absurd (false≢true e); is-string = λ e. absurd (false≢true e); is-null = λ e. absurd (false≢true e); is-enumerated = λ e. absurd (false≢true e); is-sequence = λ e. (x, refl); is-set = λ e. absurd (false≢true e); is-sequence-of = λ e. absurd (false≢true e); is-set-of = λ e. absurd (false≢true e); is-choice = λ e. absurd (false≢true e) }
+kinds (Set x) = record { is-boolean = λ e. absurd (false≢true e); is-integer = λ e. absurd (false≢true e); is-bits = λ e. absurd (false≢true e); is-string = λ e. absurd (false≢true e); is-null = λ e. absurd (false≢true e); is-enumerated = λ e. absurd (false≢true e); is-sequence = λ e. absurd (false≢true e); is-set = λ e. (x, refl); is-sequence-of = λ e. absurd (false≢true e); is-set-of = λ e. absurd (false≢true e); is-choice = λ e. absurd (false≢true e) }
+kinds (SequenceOf x) = record { is-boolean = λ e. absurd (false≢true e); is-integer = λ e. absurd (false≢true e); is-bits = λ e. absurd (false≢true e); is-string = λ e. absurd (false≢true e); is-null = λ e. absurd (false≢true e); is-enumerated = λ e. absurd (false≢true e); is-sequence = λ e. absurd (false≢true e); is-set = λ e. absurd (false≢true e); is-sequence-of = λ e. (x, refl); is-set-of = λ e. absurd (false≢true e); is-choice = λ e. absurd (false≢true e) }
+kinds (SetOf x) = record { is-boolean = λ e. absurd (false≢true e); is-integer = λ e. absurd (false≢true e); is-bits = λ e. absurd (false≢true e); is-string = λ e. absurd (false≢true e); is-null = λ e. absurd (false≢true e); is-enumerated = λ e. absurd (false≢true e); is-sequence = λ e. absurd (false≢true e); is-set = λ e. absurd (false≢true e); is-sequence-of = λ e. absurd (false≢true e); is-set-of = λ e. (x, refl); is-choice = λ e. absurd (false≢true e) }
+kinds (Choice x) = record { is-boolean = λ e. absurd (false≢true e); is-integer = λ e. absurd (false≢true e); is-bits = λ e. absurd (false≢true e); is-string = λ e. absurd (false≢true e); is-null = λ e. absurd (false≢true e); is-enumerated = λ e. absurd (false≢true e); is-sequence = λ e. absurd (false≢true e); is-set = λ e. absurd (false≢true e); is-sequence-of = λ e. absurd (false≢true e); is-set-of = λ e. absurd (false≢true e); is-choice = λ e. (x, refl) }
+
+leaf-octets : (x : Leaf) → leafOctets x ≡ nodeOctets (a-leaf x)
+unfolding leafOctets nodeKind leafKind nodeOwn leafOwn
+leaf-octets (boolean b) = refl
+leaf-octets (integer z) = refl
+leaf-octets (bits n c) = refl
+leaf-octets (string c) = refl
+leaf-octets null = refl
+leaf-octets (enumerated k) = refl
+
+turn : (k j : ℕ) → eqb k j ≡ true → eqb j k ≡ true
+turn k j e = eq-eqb j k (sym (eqb-true k j e))
+
+at-place : (ts : List ℕ) (i : ℕ) → i < length ts → At (getD ts i 0) ts i
+at-place [] i h = absurd (omega arith)
+at-place (t ∷ ts) zero h = first
+at-place (t ∷ ts) (suc i) h = later (at-place ts i (omega arith))
+
+listed-in : (b : Body) (ns : List ℕ) (k : ℕ) → b ≡ Plain (Enumerated ns) → listed (numbers b) k ≡ true → listed ns k ≡ true
+unfolding numbers
+listed-in b ns k q e = rw q at e
+
+leaf-typed : (b : Body) (x : Leaf) → eqb (leafKind x) (kind b) ≡ true → leafAgrees b x ≡ true → LeafShaped x → (k : Simple) × (b ≡ Plain k) × TypedLeaf k x
+unfolding leafKind leafAgrees LeafShaped
+leaf-typed b (boolean x) e a h = (Boolean, kinds b .is-boolean (turn 1 (kind b) e), l-boolean)
+leaf-typed b (integer z) e a h = (Integer, kinds b .is-integer (turn 2 (kind b) e), l-integer h)
+leaf-typed b (bits n c) e a h = (BitString, kinds b .is-bits (turn 3 (kind b) e), l-bits (h .0) (h .1) (h .2))
+leaf-typed b (string c) e a h = (OctetString, kinds b .is-string (turn 4 (kind b) e), l-string (h .0))
+leaf-typed b null e a h = (Null, kinds b .is-null (turn 5 (kind b) e), l-null)
+leaf-typed b (enumerated k) e a h =
+    let (ns, q) = kinds b .is-enumerated (turn 10 (kind b) e) in
+    (Enumerated ns, q, l-enumerated {k = k} (record { sfits = omega arith }) (listed-in b ns k q a))
+
+-- what is judged stood there
+
+pub record Judged (W : ℕ → Value → Type 0) (t : ℕ) (s : List ℕ) (v : Value) (u : List ℕ) : Type 0 where
+  pub cut : s ≡ octets v ++ u
+  pub typed : W t v
+  pub shaped : Shaped v
+
+record JudgedMembers (W : ℕ → Value → Type 0) (ms : List Member) (bs : List Bool) (acc : List (Option Value)) (s : List ℕ) (os : List (Option Value)) (u : List ℕ) : Type 0 where
+  new : List (Option Value)
+  is : os ≡ acc ++ new
+  cut : s ≡ parts (slots new) ++ u
+  flags : presence (slots new) ≡ flagsOf bs
+  counted : count (slots new) ≡ length bs
+  fits : Fits W ms new
+  allowed : allowed ms new ≡ true
+  shaped : AllShaped (slots new)
+
+record JudgedElements (W : ℕ → Value → Type 0) (t n : ℕ) (acc : List Value) (s : List ℕ) (vs : List Value) (u : List ℕ) : Type 0 where
+  new : List Value
+  is : vs ≡ acc ++ new
+  cut : s ≡ parts (bag new) ++ u
+  counted : count (bag new) ≡ n
+  every : Every (W t) new
+  whole : Whole (bag new)
+  shaped : AllShaped (bag new)
+
+spliced : {s s₁ : List ℕ} (a p u : List ℕ) → s ≡ a ++ s₁ → s₁ ≡ p ++ u → s ≡ (a ++ p) ++ u
+spliced a p u e f = e ∙ ap (λ (l : List ℕ). a ++ l) f ∙ sym (append-assoc a p u)
+
+module _ (W : ℕ → Value → Type 0) (r : ℕ → List ℕ → Answer Value) (sound : (t : ℕ) (s : List ℕ) → AllOctets s → Holds (Judged W t s) (r t s)) where
+  members-sound : (ms : List Member) (bs : List Bool) (acc : List (Option Value)) (s : List ℕ) → AllOctets s → agreeing ms bs ≡ true → Holds (JudgedMembers W ms bs acc s) (judgeMembers r ms bs acc s)
+  unfolding judgeMembers agreeing slots octets presence flagsOf count allowed AllShaped
+  members-sound [] [] acc s o e = yields (record { new = []; is = sym (append-nil acc); cut = refl; flags = refl; counted = refl; fits = f-done; allowed = refl; shaped = tt })
+  members-sound [] (b ∷ bs) acc s o e = absurd (false≢true e)
+  members-sound (m ∷ ms) [] acc s o e = absurd (false≢true e)
+  members-sound (m ∷ ms) (true ∷ bs) acc s o e =
+      then-holds (sound (m .type) s o) λ v s₁ x.
+      map-holds (members-sound ms bs (acc ++ (some v ∷ [])) s₁ (every-right (octets v) (rw (x .cut) at o)) e) λ os u y.
+      record {
+        new = some v ∷ y .new;
+        is = y .is ∙ append-snoc acc (some v) (y .new);
+        cut = spliced (octets v) (parts (slots (y .new))) u (x .cut) (y .cut);
+        flags = ap (λ (l : List ℕ). 1 ∷ l) (y .flags);
+        counted = ap suc (y .counted);
+        fits = f-sent (x .typed) (y .fits);
+        allowed = y .allowed;
+        shaped = (x .shaped, y .shaped);
+      }
+  members-sound (m ∷ ms) (false ∷ bs) acc s o e =
+      map-holds (members-sound ms bs (acc ++ (none ∷ [])) s o (and-right (m .optional) _ e)) λ os u y.
+      let op : m .optional ≡ true = and-left (m .optional) _ e in
+      let al = y .allowed in
+      record {
+        new = none ∷ y .new;
+        is = y .is ∙ append-snoc acc none (y .new);
+        cut = y .cut;
+        flags = ap (λ (l : List ℕ). 0 ∷ l) (y .flags);
+        counted = ap suc (y .counted);
+        fits = f-left (y .fits);
+        allowed = rw op al;
+        shaped = y .shaped;
+      }
+
+  elements-sound : (n t : ℕ) (acc : List Value) (s : List ℕ) → AllOctets s → Holds (JudgedElements W t n acc s) (judgeElements r n t acc s)
+  unfolding judgeElements bag octets count Whole AllShaped
+  elements-sound zero t acc s o = yields (record { new = []; is = sym (append-nil acc); cut = refl; counted = refl; every = every-nil; whole = tt; shaped = tt })
+  elements-sound (suc n) t acc s o =
+      then-holds (sound t s o) λ v s₁ x.
+      map-holds (elements-sound n t (acc ++ (v ∷ [])) s₁ (every-right (octets v) (rw (x .cut) at o))) λ vs u y.
+      record {
+        new = v ∷ y .new;
+        is = y .is ∙ append-snoc acc v (y .new);
+        cut = spliced (octets v) (parts (bag (y .new))) u (x .cut) (y .cut);
+        counted = ap suc (y .counted);
+        every = every-cons (x .typed) (y .every);
+        whole = y .whole;
+        shaped = (x .shaped, y .shaped);
+      }
+
+  members-octets : (k : ℕ) {ms : List Member} {bs : List Bool} {s u : List ℕ} {os : List (Option Value)} → JudgedMembers W ms bs [] s os u
+      → 0x56 ∷ 0x41 ∷ k ∷ length bs ∷ (flagsOf bs ++ s) ≡ 0x56 ∷ 0x41 ∷ k ∷ count (slots os) ∷ ((presence (slots os) ++ parts (slots os)) ++ u)
+  members-octets k {bs = bs} {u = u} y =
+      let q = y .is in
+      let a = y .counted in
+      let b = y .flags in
+      let c = y .cut in
+      rw (q, a, b, c, append-assoc (flagsOf bs) (parts (slots (y .new))) u)
+
+  elements-octets : (k : ℕ) {t n : ℕ} {s u : List ℕ} {vs : List Value} → JudgedElements W t n [] s vs u
+      → 0x56 ∷ 0x41 ∷ k ∷ (octetsOf n ++ s) ≡ 0x56 ∷ 0x41 ∷ k ∷ ((octetsOf (count (bag vs)) ++ parts (bag vs)) ++ u)
+  elements-octets k y =
+      let q = y .is in
+      let a = y .counted in
+      let c = y .cut in
+      rw (q, a, c)
+
+  typed-sequence : (b : Body) (ms : List Member) {os : List (Option Value)} → b ≡ Sequence ms → Fits W (members b) os → allowed (members b) os ≡ true → Typed W b (sequence (slots os))
+  unfolding members
+  typed-sequence b ms q f a = rw q (t-sequence (rw q at f) (rw q at a))
+
+  typed-set : (b : Body) (ms : List Member) {os : List (Option Value)} → b ≡ Set ms → Fits W (members b) os → allowed (members b) os ≡ true → Typed W b (set (slots os))
+  unfolding members
+  typed-set b ms q f a = rw q (t-set (rw q at f) (rw q at a))
+
+  typed-sequence-of : (b : Body) (t : ℕ) {vs : List Value} → b ≡ SequenceOf t → Every (W (element b)) vs → Typed W b (sequenceOf (bag vs))
+  unfolding element
+  typed-sequence-of b t q f = rw q (t-sequence-of (rw q at f))
+
+  typed-set-of : (b : Body) (t : ℕ) {vs : List Value} → b ≡ SetOf t → Every (W (element b)) vs → Typed W b (setOf (bag vs))
+  unfolding element
+  typed-set-of b t q f = rw q (t-set-of (rw q at f))
+
+  typed-choice : (b : Body) (ts : List ℕ) (i : ℕ) {v : Value} → b ≡ Choice ts → i < length (alternatives b) → W (getD (alternatives b) i 0) v → Typed W b (choice i v)
+  unfolding alternatives
+  typed-choice b ts i {v} q h w = rw q (t-choice {t = getD ts i 0} (at-place ts i (rw q at h)) (rw q at w))
+
+  -- what stands below a node, put behind it, is the octets of a value with that node
+  record Below (b : Body) (x : Node) (s : List ℕ) (v : Value) (u : List ℕ) : Type 0 where
+    cut : nodeOctets x ++ s ≡ octets v ++ u
+    typed : Typed W b v
+    shaped : Shaped v
+
+  below-sound : (b : Body) (x : Node) (s : List ℕ) → AllOctets s → agrees b x ≡ true → NodeShaped x → Holds (Below b x s) (judgeBelow r b x s)
+  unfolding judgeBelow agrees counts nodeKind nodeOwn NodeShaped octets Shaped
+  below-sound b (a-leaf x) s o e h =
+      let (k, q, l) = leaf-typed b x (and-left (eqb (leafKind x) (kind b)) _ e) (and-right (eqb (leafKind x) (kind b)) _ e) h in
+      yields {a = leaf x} (record { cut = ap (λ (l : List ℕ). l ++ s) (sym (leaf-octets x)); typed = rw q (t-plain l); shaped = h })
+  below-sound b (a-sequence bs) s o e h =
+      let (ms, q) = kinds b .is-sequence (turn 16 (kind b) (and-left (eqb 16 (kind b)) _ e)) in
+      then-holds (members-sound (members b) bs [] s o (and-right (eqb 16 (kind b)) _ e)) λ os u y.
+      let z = y .is in
+      let f = y .fits in
+      let a = y .allowed in
+      let g = y .shaped in
+      let c = y .counted in
+      yields {a = sequence (slots os)} (record { cut = members-octets 16 y; typed = rw z (typed-sequence b ms q f a); shaped = rw z (rw c h, g) })
+  below-sound b (a-set bs) s o e h =
+      let (ms, q) = kinds b .is-set (turn 17 (kind b) (and-left (eqb 17 (kind b)) _ e)) in
+      then-holds (members-sound (members b) bs [] s o (and-right (eqb 17 (kind b)) _ e)) λ os u y.
+      let z = y .is in
+      let f = y .fits in
+      let a = y .allowed in
+      let g = y .shaped in
+      let c = y .counted in
+      yields {a = set (slots os)} (record { cut = members-octets 17 y; typed = rw z (typed-set b ms q f a); shaped = rw z (rw c h, g) })
+  below-sound b (a-sequence-of n) s o e h =
+      let (t, q) = kinds b .is-sequence-of (turn 48 (kind b) (and-left (eqb 48 (kind b)) _ e)) in
+      then-holds (elements-sound n (element b) [] s o) λ vs u y.
+      let z = y .is in
+      let f = y .every in
+      let g = y .shaped in
+      let w = y .whole in
+      let c = y .counted in
+      yields {a = sequenceOf (bag vs)} (record { cut = elements-octets 48 y; typed = rw z (typed-sequence-of b t q f); shaped = rw z (rw c h, w, g) })
+  below-sound b (a-set-of n) s o e h =
+      let (t, q) = kinds b .is-set-of (turn 49 (kind b) (and-left (eqb 49 (kind b)) _ e)) in
+      then-holds (elements-sound n (element b) [] s o) λ vs u y.
+      let z = y .is in
+      let f = y .every in
+      let g = y .shaped in
+      let w = y .whole in
+      let c = y .counted in
+      yields {a = setOf (bag vs)} (record { cut = elements-octets 49 y; typed = rw z (typed-set-of b t q f); shaped = rw z (rw c h, w, g) })
+  below-sound b (a-choice i) s o e h =
+      let (ts, q) = kinds b .is-choice (turn 50 (kind b) (and-left (eqb 50 (kind b)) _ e)) in
+      then-holds (sound (getD (alternatives b) i 0) s o) λ v u y.
+      yields {a = choice i v} (record {
+        cut = ap (λ (l : List ℕ). 0x56 ∷ 0x41 ∷ 50 ∷ i ∷ l) (y .cut);
+        typed = typed-choice b ts i q (ltb-true i (length (alternatives b)) (and-right (eqb 50 (kind b)) _ e)) (y .typed);
+        shaped = (h, y .shaped);
+      })
+
+-- what judging accepts is the octets of a value of the type, and then the rest
+pub judge-sound : (T : Table) (n t : ℕ) (s : List ℕ) → AllOctets s → Holds (Judged (WellTypedAt T n) t s) (judgeValue T n t s)
+unfolding judgeValue WellTypedAt
+judge-sound T zero t s o = then-holds (node-sound s o) λ x s₁ h. refuses
+judge-sound T (suc n) t s o =
+    then-holds (node-sound s o) λ x s₁ h.
+    if-holds _ (λ e. refuses) λ e _.
+    map-holds (below-sound (WellTypedAt T n) (λ u w. judgeValue T n u w) (judge-sound T n) (T t .body) x s₁ (every-right (nodeOctets x) (rw (h .0) at o)) (not-false (agrees (T t .body) x) e) (h .1)) λ v u y.
+    record { cut = h .0 ∙ y .cut; typed = y .typed; shaped = y .shaped }
+
+-- what stands there is judged
+
+unfoldable presentOf : Slots → List Bool
+presentOf end = []
+presentOf (missing s) = false ∷ presentOf s
+presentOf (present v s) = true ∷ presentOf s
+
+presence-flags : (s : Slots) → presence s ≡ flagsOf (presentOf s)
+unfolding presence presentOf flagsOf
+presence-flags end = refl
+presence-flags (missing s) = ap (λ (l : List ℕ). 0 ∷ l) (presence-flags s)
+presence-flags (present v s) = ap (λ (l : List ℕ). 1 ∷ l) (presence-flags s)
+
+presence-count : (s : Slots) → count s ≡ length (presentOf s)
+unfolding count presentOf
+presence-count end = refl
+presence-count (missing s) = ap suc (presence-count s)
+presence-count (present v s) = ap suc (presence-count s)
+
+allowed-agreeing : (ms : List Member) (os : List (Option Value)) → allowed ms os ≡ true → agreeing ms (presentOf (slots os)) ≡ true
+unfolding allowed agreeing presentOf slots
+allowed-agreeing [] [] e = refl
+allowed-agreeing [] (none ∷ os) e = absurd (false≢true e)
+allowed-agreeing [] (some v ∷ os) e = absurd (false≢true e)
+allowed-agreeing (m ∷ ms) [] e = absurd (false≢true e)
+allowed-agreeing (m ∷ ms) (none ∷ os) e = let op : m .optional ≡ true = and-left (m .optional) _ e in rw op (allowed-agreeing ms os (and-right (m .optional) _ e))
+allowed-agreeing (m ∷ ms) (some v ∷ os) e = allowed-agreeing ms os e
+
+-- the node of a value
+unfoldable nodeOf : Value → Node
+nodeOf (leaf x) = a-leaf x
+nodeOf (sequence s) = a-sequence (presentOf s)
+nodeOf (set s) = a-set (presentOf s)
+nodeOf (sequenceOf s) = a-sequence-of (count s)
+nodeOf (setOf s) = a-set-of (count s)
+nodeOf (choice i v) = a-choice i
+
+leaf-agrees : {k : Simple} {x : Leaf} → TypedLeaf k x → agrees (Plain k) (a-leaf x) ≡ true
+unfolding agrees nodeKind leafKind kind counts leafAgrees numbers
+leaf-agrees l-boolean = refl
+leaf-agrees (l-integer f) = refl
+leaf-agrees (l-bits o u m) = refl
+leaf-agrees (l-string o) = refl
+leaf-agrees l-null = refl
+leaf-agrees (l-enumerated f g) = g
+
+sequence-octets : (k : ℕ) (p : Slots) (s : List ℕ)
+    → (0x56 ∷ 0x41 ∷ k ∷ count p ∷ (presence p ++ parts p)) ++ s ≡ (0x56 ∷ 0x41 ∷ k ∷ length (presentOf p) ∷ flagsOf (presentOf p)) ++ (parts p ++ s)
+sequence-octets k p s = rw (presence-count p, presence-flags p, append-assoc (flagsOf (presentOf p)) (parts p) s)
+
+count-small : (p : Slots) → count p < 256 → length (presentOf p) < 256
+count-small p h = rw (← presence-count p) h
+
+at-below : {t n : ℕ} {ts : List ℕ} → At t ts n → n < length ts
+at-below first = omega arith
+at-below (later a) = let h = at-below a in omega arith
+
+module _ (W : ℕ → Value → Type 0) (r : ℕ → List ℕ → Answer Value) (reads : (t : ℕ) (v : Value) (s : List ℕ) → W t v → Shaped v → r t (octets v ++ s) ≡ got v s) where
+  members-judged : {ms : List Member} {os : List (Option Value)} (acc : List (Option Value)) (s : List ℕ) → Fits W ms os → AllShaped (slots os)
+      → judgeMembers r ms (presentOf (slots os)) acc (parts (slots os) ++ s) ≡ got (acc ++ os) s
+  unfolding judgeMembers presentOf slots octets AllShaped
+  members-judged acc s f-done h = rw append-nil
+  members-judged acc s (f-left {os = os} f) h = members-judged (acc ++ (none ∷ [])) s f h ∙ rw append-snoc
+  members-judged acc s (f-sent {m = m} {os = os} {v = v} w f) h =
+      rw (append-assoc (octets v) (parts (slots os)) s, reads (m .type) v (parts (slots os) ++ s) w (h .0))
+      (simp run (members-judged (acc ++ (some v ∷ [])) s f (h .1) ∙ rw append-snoc))
+
+  elements-judged : {t : ℕ} {vs : List Value} (acc : List Value) (s : List ℕ) → Every (W t) vs → AllShaped (bag vs)
+      → judgeElements r (count (bag vs)) t acc (parts (bag vs) ++ s) ≡ got (acc ++ vs) s
+  unfolding judgeElements bag count octets AllShaped
+  elements-judged acc s every-nil h = rw append-nil
+  elements-judged {t} acc s (every-cons {x = v} {l = vs} w f) h =
+      rw (append-assoc (octets v) (parts (bag vs)) s, reads t v (parts (bag vs) ++ s) w (h .0))
+      (simp run (elements-judged (acc ++ (v ∷ [])) s f (h .1) ∙ rw append-snoc))
+
+  -- the node is read, agrees, and the value is judged below it
+  record Seen (b : Body) (v : Value) (s : List ℕ) : Type 0 where
+    rest : List ℕ
+    reading : readNode (octets v ++ s) ≡ got (nodeOf v) rest
+    agreed : agrees b (nodeOf v) ≡ true
+    below : judgeBelow r b (nodeOf v) rest ≡ got v s
+
+  seen : (b : Body) (v : Value) (s : List ℕ) → Typed W b v → Shaped v → Seen b v s
+  unfolding octets Shaped NodeShaped nodeOf nodeKind nodeOwn agrees counts kind members element alternatives judgeBelow
+  seen b v s (t-plain {x = x} l) h =
+      record { rest = s; reading = ap (λ (l : List ℕ). readNode (l ++ s)) (leaf-octets x) ∙ node-complete (a-leaf x) s h; agreed = leaf-agrees l; below = refl }
+  seen b v s (t-sequence {ms = ms} {os = os} f a) h =
+      record {
+        rest = parts (slots os) ++ s;
+        reading = ap readNode (sequence-octets 16 (slots os) s) ∙ node-complete (a-sequence (presentOf (slots os))) (parts (slots os) ++ s) (count-small (slots os) (h .0));
+        agreed = allowed-agreeing ms os a;
+        below = rw (members-judged [] s f (h .1)) (simp run);
+      }
+  seen b v s (t-set {ms = ms} {os = os} f a) h =
+      record {
+        rest = parts (slots os) ++ s;
+        reading = ap readNode (sequence-octets 17 (slots os) s) ∙ node-complete (a-set (presentOf (slots os))) (parts (slots os) ++ s) (count-small (slots os) (h .0));
+        agreed = allowed-agreeing ms os a;
+        below = rw (members-judged [] s f (h .1)) (simp run);
+      }
+  seen b v s (t-sequence-of {t = t} {vs = vs} f) h =
+      record {
+        rest = parts (bag vs) ++ s;
+        reading = node-complete (a-sequence-of (count (bag vs))) (parts (bag vs) ++ s) (h .0);
+        agreed = refl;
+        below = rw (elements-judged [] s f (h .2)) (simp run);
+      }
+  seen b v s (t-set-of {t = t} {vs = vs} f) h =
+      record {
+        rest = parts (bag vs) ++ s;
+        reading = node-complete (a-set-of (count (bag vs))) (parts (bag vs) ++ s) (h .0);
+        agreed = refl;
+        below = rw (elements-judged [] s f (h .2)) (simp run);
+      }
+  seen b v s (t-choice {ts = ts} {n = i} {t = t} {v = c} a w) h =
+      let e : getD ts i 0 ≡ t = at-index a in
+      record {
+        rest = octets c ++ s;
+        reading = node-complete (a-choice i) (octets c ++ s) (h .0);
+        agreed = lt-ltb i (length ts) (at-below a);
+        below = rw (e, reads t c s w (h .1)) (simp run);
+      }
+
+-- the octets of a value of the type, with its counts, are judged to be that value, whatever follows
+pub judge-complete : (T : Table) (n t : ℕ) (v : Value) (s : List ℕ) → WellTypedAt T n t v → Shaped v → judgeValue T n t (octets v ++ s) ≡ got v s
+unfolding judgeValue WellTypedAt
+judge-complete T zero t v s w h = absurd w
+judge-complete T (suc n) t v s w h =
+    let x = seen (WellTypedAt T n) (λ u w. judgeValue T n u w) (λ t v s. judge-complete T n t v s) (T t .body) v s w h in
+    simp (run, x .reading, x .agreed, x .below)
+
+-- the shape alone
+
+any-agreeing : (bs : List Bool) → agreeing (anyMembers bs) bs ≡ true
+unfolding agreeing anyMembers
+any-agreeing [] = refl
+any-agreeing (true ∷ bs) = any-agreeing bs
+any-agreeing (false ∷ bs) = any-agreeing bs
+
+zeros-length : (i : ℕ) → length (zeros i) ≡ suc i
+unfolding zeros
+zeros-length zero = refl
+zeros-length (suc i) = ap suc (zeros-length i)
+
+zeros-at : (i : ℕ) → At 0 (zeros i) i
+unfolding zeros
+zeros-at zero = first
+zeros-at (suc i) = later (zeros-at i)
+
+any-leaf : (x : Leaf) → agrees (Plain (anySimple x)) (a-leaf x) ≡ true
+unfolding agrees nodeKind leafKind kind counts leafAgrees numbers anySimple listed any
+any-leaf (boolean b) = refl
+any-leaf (integer z) = refl
+any-leaf (bits n c) = refl
+any-leaf (string c) = refl
+any-leaf null = refl
+any-leaf (enumerated k) = simp (eq-eqb k k refl)
+
+any-agrees : (x : Node) → agrees (anyBody x) x ≡ true
+unfolding anyBody agrees nodeKind kind counts members alternatives
+any-agrees (a-leaf x) = any-leaf x
+any-agrees (a-sequence bs) = any-agreeing bs
+any-agrees (a-set bs) = any-agreeing bs
+any-agrees (a-sequence-of n) = refl
+any-agrees (a-set-of n) = refl
+any-agrees (a-choice i) = let e = zeros-length i in lt-ltb i (length (zeros i)) (omega arith)
+
+shape-holds : (n t : ℕ) (s : List ℕ) → AllOctets s → Holds (Judged (λ u v. Unit {0}) t s) (shapeValue n s)
+unfolding shapeValue
+shape-holds zero t s o = refuses
+shape-holds (suc n) t s o =
+    then-holds (node-sound s o) λ x s₁ h.
+    map-holds (below-sound (λ u v. Unit {0}) (λ u w. shapeValue n w) (shape-holds n) (anyBody x) x s₁ (every-right (nodeOctets x) (rw (h .0) at o)) (any-agrees x) (h .1)) λ v u y.
+    record { cut = h .0 ∙ y .cut; typed = tt; shaped = y .shaped }
+
+leaf-any : (x : Leaf) → LeafShaped x → TypedLeaf (anySimple x) x
+unfolding LeafShaped anySimple listed any
+leaf-any (boolean b) h = l-boolean
+leaf-any (integer z) h = l-integer h
+leaf-any (bits n c) h = l-bits (h .0) (h .1) (h .2)
+leaf-any (string c) h = l-string (h .0)
+leaf-any null h = l-null
+leaf-any (enumerated k) h = l-enumerated {ns = k ∷ []} {k = k} (record { sfits = omega arith }) (simp (eq-eqb k k refl))
+
+abbrev Low : ℕ → ℕ → Value → Type 0
+Low n t v = depth v ≤ n
+
+record AnyMembers (n : ℕ) (s : Slots) : Type 0 where
+  list : List (Option Value)
+  is : s ≡ slots list
+  fits : Fits (Low n) (anyMembers (presentOf s)) list
+  allowed : allowed (anyMembers (presentOf s)) list ≡ true
+
+any-members : (n : ℕ) (s : Slots) → depths s ≤ n → AnyMembers n s
+unfolding slots presentOf anyMembers allowed depth
+any-members n end h = record { list = []; is = refl; fits = f-done; allowed = refl }
+any-members n (missing s) h =
+    let x = any-members n s h in record { list = none ∷ x .list; is = ap missing (x .is); fits = f-left (x .fits); allowed = x .allowed }
+any-members n (present v s) h =
+    let x = any-members n s (omega arith) in
+    let d : depth v ≤ n = omega arith in
+    record { list = some v ∷ x .list; is = ap (present v) (x .is); fits = f-sent d (x .fits); allowed = x .allowed }
+
+any-elements : (n : ℕ) (s : Slots) → Whole s → depths s ≤ n → (vs : List Value) × (s ≡ bag vs) × Every (Low n 0) vs
+unfolding bag Whole depth
+any-elements n end w h = ([], refl, every-nil)
+any-elements n (missing s) w h = absurd w
+any-elements n (present v s) w h = let (vs, e, a) = any-elements n s w (omega arith) in (v ∷ vs, ap (present v) e, every-cons {x = v} (omega arith) a)
+
+sequence-typed : (n : ℕ) (s : Slots) (os : List (Option Value)) (ms : List Member) → s ≡ slots os → Fits (Low n) ms os → allowed ms os ≡ true → Typed (Low n) (Sequence ms) (sequence s)
+sequence-typed n s os ms e f a = rw e (t-sequence f a)
+
+set-typed : (n : ℕ) (s : Slots) (os : List (Option Value)) (ms : List Member) → s ≡ slots os → Fits (Low n) ms os → allowed ms os ≡ true → Typed (Low n) (Set ms) (set s)
+set-typed n s os ms e f a = rw e (t-set f a)
+
+-- a tree is of some type
+any-typed : (n : ℕ) (v : Value) → depth v ≤ suc n → Shaped v → Typed (Low n) (anyBody (nodeOf v)) v
+unfolding depth Shaped anyBody nodeOf
+any-typed n (leaf x) d h = t-plain (leaf-any x h)
+any-typed n (sequence s) d h = let x = any-members n s (omega arith) in sequence-typed n s (x .list) (anyMembers (presentOf s)) (x .is) (x .fits) (x .allowed)
+any-typed n (set s) d h = let x = any-members n s (omega arith) in set-typed n s (x .list) (anyMembers (presentOf s)) (x .is) (x .fits) (x .allowed)
+any-typed n (sequenceOf s) d h = let (vs, e, a) = any-elements n s (h .1) (omega arith) in rw e (t-sequence-of a)
+any-typed n (setOf s) d h = let (vs, e, a) = any-elements n s (h .1) (omega arith) in rw e (t-set-of a)
+any-typed n (choice i v) d h = t-choice {v = v} (zeros-at i) (omega arith)
+
+pub shape-complete : (n : ℕ) (v : Value) (s : List ℕ) → depth v ≤ n → Shaped v → shapeValue n (octets v ++ s) ≡ got v s
+unfolding shapeValue
+shape-complete zero v s d h = absurd (shallow v d)
+shape-complete (suc n) v s d h =
+    let x = seen (Low n) (λ u w. shapeValue n w) (λ t v s. shape-complete n v s) (anyBody (nodeOf v)) v s (any-typed n v d h) h in
+    simp (run, x .reading, x .below)
+
+leaf-some : (x : Leaf) → 1 ≤ length (leafOctets x)
+unfolding leafOctets
+leaf-some (boolean b) = omega arith
+leaf-some (integer z) = omega arith
+leaf-some (bits n c) = omega arith
+leaf-some (string c) = omega arith
+leaf-some null = omega arith
+leaf-some (enumerated k) = omega arith
+
+-- a tree has no more levels than octets
+mutual
+  unfolding octets depth
+  depth-octets : (v : Value) → depth v ≤ length (octets v)
+  depth-octets (leaf x) = leaf-some x
+  depth-octets (sequence s) = let h = depths-parts s in let e = length-append (presence s) (parts s) in omega arith
+  depth-octets (set s) = let h = depths-parts s in let e = length-append (presence s) (parts s) in omega arith
+  depth-octets (sequenceOf s) = let h = depths-parts s in omega arith
+  depth-octets (setOf s) = let h = depths-parts s in omega arith
+  depth-octets (choice i v) = let h = depth-octets v in omega arith
+
+  depths-parts : (s : Slots) → depths s ≤ length (parts s)
+  depths-parts end = omega arith
+  depths-parts (missing s) = depths-parts s
+  depths-parts (present v s) = let h = depth-octets v in let k = depths-parts s in let e = length-append (octets v) (parts s) in omega arith
+
+none-there : (r : List ℕ) → none-left r ≡ true → r ≡ []
+unfolding none-left
+none-there [] e = refl
+none-there (b ∷ r) e = absurd (true≢false (sym e))
+
+shape-whole : (s : List ℕ) → AllOctets s → Holds (λ v r. (r ≡ []) × (s ≡ octets v) × Shaped v) (shapeWhole s)
+unfolding shapeWhole
+shape-whole s o =
+    then-holds (shape-holds (length s) 0 s o) λ v r x.
+    if-holds _ (λ e. refuses) λ e _.
+    let z : r ≡ [] = none-there r (not-false (none-left r) e) in
+    yields (z, x .cut ∙ ap (λ (l : List ℕ). octets v ++ l) z ∙ append-nil (octets v), x .shaped)
+
+shape-octets : (v : Value) → Shaped v → shapeWhole (octets v) ≡ got v []
+unfolding shapeWhole
+shape-octets v h =
+    let x : shapeValue (length (octets v)) (octets v) ≡ got v [] = rw append-nil at (shape-complete (length (octets v)) v [] (depth-octets v) h) in
+    simp (run, x)
+
+-- Octets are judged shaped exactly when they are the form of a tree.
+pub shaped-exactly : (s : List ℕ) → Octets s → (v : Value) → (shapeWhole s ≡ got v []) ↔ ((s ≡ octets v) × Shaped v)
+shaped-exactly s o v = (λ e. let x = got-holds (shape-whole s (all-octets s o)) e in (x .1, x .2), λ x. rw (x .0) (shape-octets v (x .1)))
+
+-- A tree has one octet form, and a form is of one tree.
+pub one-form : (v w : Value) → Shaped v → Shaped w → octets v ≡ octets w → v ≡ w
+one-form v w h k e = got-value (sym (shape-octets v h) ∙ ap shapeWhole e ∙ shape-octets w k)
+
+-- what judging the whole accepts is the octets of a value of the type, and nothing more
+pub judge-whole : (T : Table) (n t : ℕ) (b : List ℕ) → AllOctets b → Holds (λ v r. (r ≡ []) × (b ≡ octets v) × WellTypedAt T n t v × Shaped v) (judgeWhole T n t b)
+unfolding judgeWhole
+judge-whole T n t b o =
+    then-holds (judge-sound T n t b o) λ v r x.
+    if-holds _ (λ e. refuses) λ e _.
+    let z : r ≡ [] = none-there r (not-false (none-left r) e) in
+    yields (z, x .cut ∙ ap (λ (l : List ℕ). octets v ++ l) z ∙ append-nil (octets v), x .typed, x .shaped)
+
+pub judge-octets : (T : Table) (n t : ℕ) (v : Value) → WellTypedAt T n t v → Shaped v → judgeWhole T n t (octets v) ≡ got v []
+unfolding judgeWhole
+judge-octets T n t v w h =
+    let x : judgeValue T n t (octets v) ≡ got v [] = rw append-nil at (judge-complete T n t v [] w h) in
+    simp (run, x)

@@ -1,0 +1,126 @@
+-- The reading of a message, with every refusal of the message stage from 22 on and its place (document 01, "Messages" and "Refused").
+-- A refusal carries the number of octets that are left from its place to the end of what was given.
+-- Assumes nothing.
+use mathlib.Core.Bool.{Bool, true, false, not}
+use mathlib.Core.List.{List, [], _∷_, _++_}
+use mathlib.Core.Option.{Option, some, none}
+use Prim.Native.Nat.{ℕ, zero, suc}
+use lib.ListN.{length}
+use Rattle.octets.specs.Answer.{Answer, got, refused, then, if, none-left}
+use Rattle.ber.specs.Identifier.{readIdentifier}
+use Rattle.ber.specs.Item.{Mode, atEnd, readConstructed, readPrimitive}
+use Rattle.table.specs.Syntax.{Member, Simple, Body, Plain, Sequence, Set, SequenceOf, SetOf, Choice, Table}
+use Rattle.coding.specs.Value.{Value, leaf, sequence, set, sequenceOf, setOf, choice, slots, bag}
+use Rattle.coding.specs.Content.{decode}
+use Rattle.coding.specs.Encodes.{allowed}
+use Rattle.coding.specs.Tags.{own, explicit, begins}
+
+-- the identifier octets that come next pass a test
+unfoldable pub passes : (List ℕ → Bool) → Answer (List ℕ) → Bool
+passes f (got i s) = f i
+passes f (refused c l) = false
+
+-- the next item begins a value of the type
+unfoldable pub begun : Table → ℕ → List ℕ → Bool
+begun T t s = passes (begins T t) (readIdentifier s)
+
+-- "identifier octets present (22), form (23), awaited with its primitive or constructed bit (24)": an item that is not awaited
+unfoldable pub notAwaited : {A : Type 0} → List ℕ → Answer A
+notAwaited s = then (readIdentifier s) λ i s₁. refused 24 (length s)
+
+-- none of the members
+unfoldable pub nothing : List Member → List (Option Value)
+nothing [] = []
+nothing (m ∷ ms) = none ∷ nothing ms
+
+-- every member is there
+unfoldable pub full : List (Option Value) → Bool
+full [] = true
+full (none ∷ os) = false
+full (some v ∷ os) = full os
+
+-- an item where those are awaited that the test says, or where nothing is
+unfoldable pub unwanted : {A : Type 0} → Bool → List ℕ → Answer A
+unwanted true s = notAwaited s
+unwanted false s = refused 26 (length s)
+
+-- "under an explicit tag, its one item"
+unfoldable pub readWrapped : {A : Type 0} → List (List ℕ) → (List ℕ → Answer A) → List ℕ → Answer A
+readWrapped [] r s = r s
+readWrapped (i ∷ is) r s =
+    readConstructed i (λ mode u.
+    atEnd mode u (λ _. refused 24 (length u)) λ _.
+    then (readWrapped is r u) λ v w.
+    atEnd mode w (λ y. got v y) λ _. refused 26 (length w)) s
+
+module _ (T : Table) (r : ℕ → List ℕ → Answer Value) where
+  -- "in a SEQUENCE, the members after the last one read, up to and with the next mandatory one"; w: some of them were passed over
+  unfoldable pub readSequence : List Member → List (Option Value) → Bool → Mode → List ℕ → Answer (List (Option Value))
+  readSequence [] os w mode s = atEnd mode s (λ u. got os u) λ _. unwanted w s
+  readSequence (m ∷ ms) os w mode s =
+      if (begun T (m .type) s) (then (r (m .type) s) λ v s₁. readSequence ms (os ++ (some v ∷ [])) false mode s₁) λ _.
+      if (m .optional) (readSequence ms (os ++ (none ∷ [])) true mode s) λ _.
+      atEnd mode s (λ u. refused 24 (length s)) λ _. notAwaited s
+
+  -- one member of a SET, put where it belongs
+  unfoldable pub place : List Member → List (Option Value) → List ℕ → Answer (List (Option Value))
+  place [] os s = notAwaited s
+  place (m ∷ ms) [] s = notAwaited s
+  place (m ∷ ms) (none ∷ os) s =
+      if (begun T (m .type) s) (then (r (m .type) s) λ v s₁. got (some v ∷ os) s₁) λ _.
+      then (place ms os s) λ us s₁. got (none ∷ us) s₁
+  place (m ∷ ms) (some v ∷ os) s = then (place ms os s) λ us s₁. got (some v ∷ us) s₁
+
+  -- "in a SET, those not yet read": the members in the order in which they come, with those in hand
+  unfoldable pub readSet : ℕ → List Member → List (Option Value) → Mode → List ℕ → Answer (List (Option Value))
+  readSet zero ms os mode s = refused 0 0
+  readSet (suc k) ms os mode s =
+      atEnd mode s (λ u. if (allowed ms os) (got os u) λ _. refused 24 (length s)) λ _.
+      if (full os) (refused 26 (length s)) λ _.
+      then (place ms os s) λ us s₁. readSet k ms us mode s₁
+
+  -- "in a list, always an element": the elements after those in hand
+  unfoldable pub readMany : ℕ → ℕ → Mode → List Value → List ℕ → Answer (List Value)
+  readMany zero t mode vs s = refused 0 0
+  readMany (suc k) t mode vs s =
+      atEnd mode s (λ u. got vs u) λ _.
+      if (not (begun T t s)) (notAwaited s) λ _.
+      then (r t s) λ v s₁. readMany k t mode (vs ++ (v ∷ [])) s₁
+
+  -- the alternative that begins as the octets do; n were passed over
+  unfoldable pub choose : List ℕ → ℕ → List ℕ → Answer Value
+  choose [] n s = notAwaited s
+  choose (t ∷ ts) n s =
+      if (begun T t s) (then (r t s) λ v s₁. got (choice n v) s₁) λ _.
+      choose ts (suc n) s
+
+  -- the contents of a constructed kind
+  unfoldable pub readBody : Body → Mode → List ℕ → Answer Value
+  readBody (Plain k) mode s = refused 0 (length s)
+  readBody (Sequence ms) mode s = then (readSequence ms [] false mode s) λ os s₁. got (sequence (slots os)) s₁
+  readBody (Set ms) mode s = then (readSet (suc (length s)) ms (nothing ms) mode s) λ os s₁. got (set (slots os)) s₁
+  readBody (SequenceOf t) mode s = then (readMany (suc (length s)) t mode [] s) λ vs s₁. got (sequenceOf (bag vs)) s₁
+  readBody (SetOf t) mode s = then (readMany (suc (length s)) t mode [] s) λ vs s₁. got (setOf (bag vs)) s₁
+  readBody (Choice ts) mode s = refused 0 (length s)
+
+  -- the item of a kind, with the identifier octets i
+  unfoldable pub readKind : List ℕ → Body → List ℕ → Answer Value
+  readKind i (Plain k) s = then (readPrimitive i s) λ c s₁. then (decode k (length s) c s₁) λ x s₂. got (leaf x) s₂
+  readKind i (Sequence ms) s = readConstructed i (readBody (Sequence ms)) s
+  readKind i (Set ms) s = readConstructed i (readBody (Set ms)) s
+  readKind i (SequenceOf t) s = readConstructed i (readBody (SequenceOf t)) s
+  readKind i (SetOf t) s = readConstructed i (readBody (SetOf t)) s
+  readKind i (Choice ts) s = choose ts 0 s
+
+-- A value of a type where n levels are left. Its item has begun as its type does, so "level (28)" comes after 24 and before the length.
+unfoldable pub readValue : Table → ℕ → ℕ → List ℕ → Answer Value
+readValue T zero t s = refused 28 (length s)
+readValue T (suc n) t s = readWrapped (explicit (T t)) (readKind T (λ u w. readValue T n u w) (own (T t)) (T t .body)) s
+
+-- "in the message, the root"; "an empty message 22"; octets behind it 26
+unfoldable pub readMessage : Table → ℕ → ℕ → List ℕ → Answer Value
+readMessage T n t s =
+    if (none-left s) (refused 22 0) λ _.
+    if (not (begun T t s)) (notAwaited s) λ _.
+    then (readValue T n t s) λ v r.
+    if (not (none-left r)) (refused 26 (length r)) λ _. got v r

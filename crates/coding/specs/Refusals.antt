@@ -1,0 +1,508 @@
+-- Every answer names one cause, one of document 01's, and one place, within what was handed in; on a refusal the buffer is as it was.
+-- Assumes nothing.
+use borrow.Author.Tests.{leb-true, leb-false, ltb-true, ltb-false}
+use mathlib.Core.Bool.{Bool, true, false, not, true≢false}
+use mathlib.Core.List.{List, [], _∷_, _++_}
+use mathlib.Core.Option.{Option, some, none}
+use mathlib.Core.Path.{_≡_, refl, sym, ap, subst, _∙_}
+use native.Mathlib.Omega.{arith}
+use Prim.Native.Nat.{ℕ, zero, suc, _+_, _-_, _≤_, _<_, min}
+use lib.Dec.{ltb, leb, eqb}
+use lib.ListN.{length, getD, take, drop, length-append}
+use lib.Seq.{length-take-le}
+use Rattle.octets.specs.Answer.{Answer, got, refused, then, if, behind, none-left, run, Holds, yields, refuses, if-holds, then-holds, map-holds, if-cases, got-holds, Taken}
+use Rattle.octets.specs.Numbers.{Octets}
+use Rattle.octets.specs.Permutations.{AllOctets, all-octets, every-right, Order, as-given}
+use Rattle.ber.specs.Identifier.{readFollowing, readIdentifier, same}
+use Rattle.ber.specs.IdentifierLaws.{identifier-sound}
+use Rattle.ber.specs.Length.{Length, short, long, Size, definite, indefinite, fit, readLong, readLength}
+use Rattle.ber.specs.LengthLaws.{Shape, is-definite, is-indefinite}
+use Rattle.ber.specs.Item.{Definite, sized, Constructed, in-size, in-marks, Mode, closed, open-ended, atEnd, readHeader, inside, readConstructed, contents, readPrimitive}
+use Rattle.ber.specs.ItemLaws.{Ends, no-more, mark, header-sound, primitive-sound}
+use Rattle.table.specs.Syntax.{Member, Simple, Boolean, Integer, BitString, OctetString, Null, Enumerated, Body, Plain, Sequence, Set, SequenceOf, SetOf, Choice, Table}
+use Rattle.coding.specs.Value.{Value, leaf, sequence, set, sequenceOf, setOf, choice, slots, bag, octets}
+use Rattle.coding.specs.Content.{decode}
+use Rattle.coding.specs.Tags.{own, explicit}
+use Rattle.coding.specs.Encodes.{Coding, Codes, is-plain, is-sequence, is-set, is-sequence-of, is-set-of, is-choice, Wrapped, bare, tagged, EncodesAt, allowed}
+use Rattle.coding.specs.Reading.{begun, notAwaited, unwanted, nothing, full, readWrapped, readSequence, place, readSet, readMany, choose, readBody, readKind, readValue, readMessage}
+use Rattle.coding.specs.Sound.{wrapped-sound, kind-sound, value-sound, not-awaited}
+use Rattle.coding.specs.Judging.{Node, a-leaf, a-sequence, a-set, a-sequence-of, a-set-of, a-choice, need, ownMembers, ownCount, ownBoolean, ownInteger, ownString, ownBits, ownEnumerated, ownChoice, readOwn, readNode, judgeMembers, judgeElements, judgeBelow, judgeValue, judgeWhole}
+use Rattle.coding.specs.Shaped.{nodeOctets}
+use Rattle.coding.specs.NodeLaws.{node-sound}
+use Rattle.coding.specs.JudgingLaws.{judge-sound}
+use Rattle.coding.specs.Form.{formAt}
+use Rattle.coding.specs.ContentLaws.{not-false}
+use Rattle.coding.specs.Outcome.{levels, longestValue, longestMessage, Refusal, numberOf, placeOf, Told, done, refusal, Outcome, afterReading, readOutcome, afterJudging, writeOutcome}
+use Rattle.coding.specs.Causes.{valueNumber, valuePlace, messageNumber, messagePlace, valueCause, messageCause}
+
+not-true : (b : Bool) → not b ≡ true → b ≡ false
+not-true true e = sym e
+not-true false e = refl
+
+-- An answer that refuses names a number that K allows, and a place where at most n octets are left.
+pub data Speaks {A : Type 0} (K : ℕ → Type 0) (n : ℕ) : Answer A → Type 0 where
+  answers : {a : A} {r : List ℕ} → Speaks K n (got a r)
+  names : {c l : ℕ} → K c → l ≤ n → Speaks K n (refused c l)
+
+module _ {K : ℕ → Type 0} where
+  then-speaks : {A B : Type 0} {n : ℕ} {x : Answer A} {f : A → List ℕ → Answer B} → Speaks K n x → ((a : A) (r : List ℕ) → x ≡ got a r → Speaks K n (f a r)) → Speaks K n (then x f)
+  unfolding then
+  then-speaks (answers {a = a} {r = r}) k = k a r refl
+  then-speaks (names c h) k = names c h
+
+  if-speaks : {A : Type 0} {n : ℕ} (b : Bool) {x : Answer A} {y : Unit {0} → Answer A} → (b ≡ true → Speaks K n x) → (b ≡ false → (u : Unit {0}) → Speaks K n (y u)) → Speaks K n (if b x y)
+  unfolding if
+  if-speaks true h k = h refl
+  if-speaks false h k = k refl tt
+
+  behind-speaks : {A : Type 0} {n : ℕ} {x : Answer A} (k : ℕ) → Speaks K n x → Speaks K (n + k) (behind k x)
+  unfolding behind
+  behind-speaks k answers = answers
+  behind-speaks k (names {l = l} c h) = names {l = l + k} c (omega arith)
+
+  wider : {A : Type 0} {n m : ℕ} {x : Answer A} → Speaks K n x → n ≤ m → Speaks K m x
+  wider answers h = answers
+  wider (names {l = l} c k) h = names {l = l} c (omega arith)
+
+  -- at the place itself
+  here : {A : Type 0} {n c : ℕ} → K c → Speaks {A = A} K n (refused c n)
+  here {n = n} c = names {l = n} c (omega arith)
+
+-- the numbers that reading gives
+pub data OfMessage : ℕ → Type 0 where
+  is-22 : OfMessage 22
+  is-23 : OfMessage 23
+  is-24 : OfMessage 24
+  is-25 : OfMessage 25
+  is-26 : OfMessage 26
+  is-28 : OfMessage 28
+
+abbrev pub Says : {A : Type 0} → ℕ → Answer A → Type 0
+Says n x = Speaks OfMessage n x
+
+-- an encoding is not empty
+
+definite-some : {i c m : List ℕ} → Definite i c m → 0 < length m
+definite-some {i = i} {c = c} (sized ls (short h e) q) = rw (q, e) (simp length-append (omega arith))
+definite-some {i = i} {c = c} (sized ls (long ds h k v e) q) = rw (q, e) (simp length-append (omega arith))
+
+constructed-some : {i c m : List ℕ} → Constructed i c m → 0 < length m
+constructed-some (in-size p) = definite-some p
+constructed-some (in-marks q) = rw q (simp length-append (omega arith))
+
+kind-some : {o : Order} {E : Coding} {i : List ℕ} {k : Body} {v : Value} {m : List ℕ} → ((t : ℕ) (v : Value) (m : List ℕ) → E t v m → 0 < length m) → Codes o E i k v m → 0 < length m
+kind-some f (is-plain c x p) = definite-some p
+kind-some f (is-sequence ps p a c) = constructed-some c
+kind-some f (is-set ps qs p a c d) = constructed-some d
+kind-some f (is-sequence-of ps es c) = constructed-some c
+kind-some f (is-set-of ps qs es c d) = constructed-some d
+kind-some f (is-choice a c) = f _ _ _ c
+
+wrapped-some : {C : List ℕ → Type 0} {is : List (List ℕ)} {m : List ℕ} → ((m : List ℕ) → C m → 0 < length m) → Wrapped C is m → 0 < length m
+wrapped-some {m = m} f (bare c) = f m c
+wrapped-some f (tagged w h) = constructed-some h
+
+pub encodes-some : (o : Order) (T : Table) (n t : ℕ) (v : Value) (m : List ℕ) → EncodesAt o T n t v m → 0 < length m
+unfolding EncodesAt
+encodes-some o T zero t v m e = absurd e
+encodes-some o T (suc n) t v m e = wrapped-some (λ m. kind-some (encodes-some o T n)) e
+
+-- what is left behind a value is shorter than what was given
+pub value-shorter : (T : Table) (n t : ℕ) (s : List ℕ) → Holds (λ v u. length u < length s) (readValue T n t s)
+value-shorter T n t s =
+    map-holds (value-sound as-given T n t s) λ v u x.
+    let h = encodes-some as-given T n t v (x .piece) (x .has) in
+    rw (x .cut, length-append) (omega arith)
+
+-- identifier and length octets
+
+following-says : (n l : ℕ) (ds s : List ℕ) → l ≤ n → Says n (readFollowing l ds s)
+unfolding readFollowing
+following-says n l ds [] h = names is-22 h
+following-says n l ds (d ∷ s) h = if-speaks _ (λ e. answers) λ e _. following-says n l (ds ++ (d ∷ [])) s h
+
+identifier-says : (s : List ℕ) → Says (length s) (readIdentifier s)
+unfolding readIdentifier
+identifier-says [] = here is-22
+identifier-says (b ∷ s) =
+    if-speaks _ (λ e. answers) λ e _.
+    then-speaks (following-says (suc (length s)) (suc (length s)) [] s (omega arith)) λ ds s₁ q.
+    if-speaks _ (λ f. here is-23) λ f _.
+    if-speaks _ (λ f. here is-23) λ f _. answers
+
+not-awaited-says : {A : Type 0} {n : ℕ} (s : List ℕ) → length s ≤ n → Speaks {A = A} OfMessage n (notAwaited s)
+unfolding notAwaited
+not-awaited-says s h = wider (then-speaks (identifier-says s) λ i r e. here is-24) h
+
+unwanted-says : {A : Type 0} {n : ℕ} (w : Bool) (s : List ℕ) → length s ≤ n → Speaks {A = A} OfMessage n (unwanted w s)
+unfolding unwanted
+unwanted-says true s h = not-awaited-says s h
+unwanted-says false s h = names is-26 h
+
+fit-says : (n l k : ℕ) (s : List ℕ) → l ≤ n → Says n (fit l k s)
+unfolding fit
+fit-says n l k s h = if-speaks _ (λ e. answers) λ e _. names is-22 h
+
+length-says : (n l : ℕ) (s : List ℕ) → l ≤ n → Says n (readLength l s)
+unfolding readLength readLong
+length-says n l [] h = names is-22 h
+length-says n l (b ∷ s) h =
+    if-speaks _ (λ e. fit-says n l b s h) λ e _.
+    if-speaks _ (λ e. answers) λ e _.
+    if-speaks _ (λ e. if-speaks _ (λ f. fit-says n l _ _ h) λ f _. names is-22 h) λ e _. names is-23 h
+
+header-says : (i s : List ℕ) → Says (length s) (readHeader i s)
+unfolding readHeader
+header-says i s =
+    then-speaks (identifier-says s) λ j s₁ e.
+    if-speaks _ (λ f. here is-24) λ f _. length-says (length s) (length s) s₁ (omega arith)
+
+-- items
+
+shape-shorter : {u : List ℕ} {z : Size} {w : List ℕ} → Shape u z w → length w ≤ length u
+shape-shorter (is-definite m e l t) = rw (e, length-append) (omega arith)
+shape-shorter {w = w} (is-indefinite e) = rw e (omega arith)
+
+same-size : {n k : ℕ} → definite n ≡ definite k → n ≡ k
+same-size e = cc
+
+unfoldable IsOpen : Size → Type 0
+IsOpen (definite n) = ⊥
+IsOpen indefinite = Unit {0}
+
+not-definite : {n : ℕ} {C : Type 0} → indefinite ≡ definite n → C
+unfolding IsOpen
+not-definite e = absurd (subst IsOpen e tt)
+
+fits : {u : List ℕ} {z : Size} {w : List ℕ} → Shape u z w → (n : ℕ) → z ≡ definite n → n ≤ length w
+fits (is-definite {n = k} m e l t) n q = let d : k ≡ n = same-size q in omega arith
+fits (is-indefinite e) n q = not-definite q
+
+header-shorter : (i s : List ℕ) → Holds (λ z w. (length w ≤ length s) × ((n : ℕ) → z ≡ definite n → n ≤ length w)) (readHeader i s)
+header-shorter i s =
+    map-holds (header-sound i s) (λ z w (u, e, h).
+    let k = shape-shorter h in
+    (rw (e, length-append) (omega arith), fits h))
+
+inside-says : {A : Type 0} (body : Mode → List ℕ → Answer A) → ((mode : Mode) (s : List ℕ) → Says (length s) (body mode s)) → (z : Size) (w : List ℕ) → ((n : ℕ) → z ≡ definite n → n ≤ length w) → Says (length w) (inside body z w)
+unfolding inside
+inside-says body f (definite n) w h =
+    let k : n ≤ length w = h n refl in
+    let e : length (take n w) ≡ n = length-take-le n w k in
+    let q : length (take n w) + (length w - n) ≡ length w = omega arith in
+    then-speaks (wider (behind-speaks (length w - n) (f closed (take n w))) (omega arith)) λ v r g. answers
+inside-says body f indefinite w h = f open-ended w
+
+constructed-says : {A : Type 0} (i : List ℕ) (body : Mode → List ℕ → Answer A) → ((mode : Mode) (s : List ℕ) → Says (length s) (body mode s)) → (s : List ℕ) → Says (length s) (readConstructed i body s)
+unfolding readConstructed
+constructed-says i body f s =
+    then-speaks (header-says i s) λ z w e.
+    let h = got-holds (header-shorter i s) e in
+    wider (inside-says body f z w (h .1)) (h .0)
+
+contents-says : (n l : ℕ) (z : Size) (s : List ℕ) → l ≤ n → Says n (contents l z s)
+unfolding contents
+contents-says n l (definite k) s h = answers
+contents-says n l indefinite s h = names is-23 h
+
+primitive-says : (i s : List ℕ) → Says (length s) (readPrimitive i s)
+unfolding readPrimitive
+primitive-says i s = then-speaks (header-says i s) λ z w e. contents-says (length s) (length s) z w (omega arith)
+
+decode-says : (n : ℕ) (k : Simple) (l : ℕ) (c s : List ℕ) → l ≤ n → Says n (decode k l c s)
+unfolding decode
+decode-says n Boolean l c s h = if-speaks _ (λ e. names is-25 h) λ e _. answers
+decode-says n Integer l c s h = if-speaks _ (λ e. names is-25 h) λ e _. if-speaks _ (λ e. names is-25 h) λ e _. answers
+decode-says n BitString l c s h = if-speaks _ (λ e. names is-25 h) λ e _. if-speaks _ (λ e. names is-25 h) λ e _. answers
+decode-says n OctetString l c s h = answers
+decode-says n Null l c s h = if-speaks _ (λ e. names is-25 h) λ e _. answers
+decode-says n (Enumerated ns) l c s h =
+    if-speaks _ (λ e. names is-25 h) λ e _. if-speaks _ (λ e. names is-25 h) λ e _. if-speaks _ (λ e. names is-25 h) λ e _. answers
+
+ends-shorter : {mode : Mode} {t r : List ℕ} → Ends mode t r → length r ≤ length t
+ends-shorter no-more = omega arith
+ends-shorter mark = omega arith
+
+end-says : {A : Type 0} (n : ℕ) (mode : Mode) (s : List ℕ) {f : List ℕ → Answer A} {x : Unit {0} → Answer A} → length s ≤ n → ((r : List ℕ) → Says n (f r)) → ((u : Unit {0}) → Says n (x u)) → Says n (atEnd mode s f x)
+unfolding atEnd
+end-says n closed s h f x = if-speaks _ (λ e. f []) λ e. x
+end-says n open-ended s h f x =
+    if-speaks _ (λ e. names {l = 0} is-22 (omega arith)) λ e _.
+    if-speaks _ (λ e. x tt) λ e _.
+    if-speaks _ (λ e. names is-22 h) λ e _.
+    if-speaks _ (λ e. names is-23 h) λ e _. f (drop 2 s)
+
+wrapped-says : {A : Type 0} (C : A → List ℕ → Type 0) (r : List ℕ → Answer A) → ((s : List ℕ) → Says (length s) (r s)) → ((s : List ℕ) → Holds (Taken C s) (r s)) → (is : List (List ℕ)) (s : List ℕ)
+    → Says (length s) (readWrapped is r s)
+unfolding readWrapped
+wrapped-says C r f g [] s = f s
+wrapped-says C r f g (i ∷ is) s =
+    constructed-says i _ (λ mode u.
+    end-says (length u) mode u (omega arith) (λ _. here is-24) λ _.
+    then-speaks (wrapped-says C r f g is u) λ v w e.
+    let x = got-holds (wrapped-sound C r g is u) e in
+    let h : length w ≤ length u = rw (x .cut, length-append) (omega arith) in
+    end-says (length u) mode w h (λ y. answers) λ _. names is-26 h) s
+
+-- the structure
+
+module _ (T : Table) (r : ℕ → List ℕ → Answer Value) (says : (t : ℕ) (s : List ℕ) → Says (length s) (r t s)) (shorter : (t : ℕ) (s : List ℕ) → Holds (λ v u. length u < length s) (r t s)) where
+  sequence-says : (n : ℕ) (ms : List Member) (os : List (Option Value)) (w : Bool) (mode : Mode) (s : List ℕ) → length s ≤ n → Says n (readSequence T r ms os w mode s)
+  unfolding readSequence
+  sequence-says n [] os w mode s h = end-says n mode s h (λ u. answers) λ _. unwanted-says w s h
+  sequence-says n (m ∷ ms) os w mode s h =
+      if-speaks _ (λ b.
+      then-speaks (wider (says (m .type) s) h) λ v s₁ e.
+      let k = got-holds (shorter (m .type) s) e in
+      sequence-says n ms (os ++ (some v ∷ [])) false mode s₁ (omega arith)) λ b _.
+      if-speaks _ (λ o. sequence-says n ms (os ++ (none ∷ [])) true mode s h) λ o _.
+      end-says n mode s h (λ u. names is-24 h) λ _. not-awaited-says s h
+
+  place-says : (n : ℕ) (ms : List Member) (os : List (Option Value)) (s : List ℕ) → length s ≤ n → Says n (place T r ms os s)
+  unfolding place
+  place-says n [] os s h = not-awaited-says s h
+  place-says n (m ∷ ms) [] s h = not-awaited-says s h
+  place-says n (m ∷ ms) (none ∷ os) s h =
+      if-speaks _ (λ b. then-speaks (wider (says (m .type) s) h) λ v s₁ e. answers) λ b _.
+      then-speaks (place-says n ms os s h) λ us s₁ e. answers
+  place-says n (m ∷ ms) (some v ∷ os) s h = then-speaks (place-says n ms os s h) λ us s₁ e. answers
+
+  place-shorter : (ms : List Member) (os : List (Option Value)) (s : List ℕ) → Holds (λ us u. length u < length s) (place T r ms os s)
+  unfolding place
+  place-shorter [] os s = not-awaited s
+  place-shorter (m ∷ ms) [] s = not-awaited s
+  place-shorter (m ∷ ms) (none ∷ os) s =
+      if-holds _ (λ b. then-holds (shorter (m .type) s) λ v s₁ k. yields k) λ b _.
+      then-holds (place-shorter ms os s) λ us s₁ k. yields k
+  place-shorter (m ∷ ms) (some v ∷ os) s = then-holds (place-shorter ms os s) λ us s₁ k. yields k
+
+  set-says : (n k : ℕ) (ms : List Member) (os : List (Option Value)) (mode : Mode) (s : List ℕ) → length s ≤ n → length s < k → Says n (readSet T r k ms os mode s)
+  unfolding readSet
+  set-says n zero ms os mode s h l = absurd (omega arith)
+  set-says n (suc k) ms os mode s h l =
+      end-says n mode s h (λ u. if-speaks _ (λ a. answers) λ a _. names is-24 h) λ _.
+      if-speaks _ (λ a. names is-26 h) λ a _.
+      then-speaks (place-says n ms os s h) λ us s₁ e.
+      let g = got-holds (place-shorter ms os s) e in
+      set-says n k ms us mode s₁ (omega arith) (omega arith)
+
+  many-says : (n k t : ℕ) (mode : Mode) (vs : List Value) (s : List ℕ) → length s ≤ n → length s < k → Says n (readMany T r k t mode vs s)
+  unfolding readMany
+  many-says n zero t mode vs s h l = absurd (omega arith)
+  many-says n (suc k) t mode vs s h l =
+      end-says n mode s h (λ u. answers) λ _.
+      if-speaks _ (λ a. not-awaited-says s h) λ a _.
+      then-speaks (wider (says t s) h) λ v s₁ e.
+      let g = got-holds (shorter t s) e in
+      many-says n k t mode (vs ++ (v ∷ [])) s₁ (omega arith) (omega arith)
+
+  choose-says : (ts : List ℕ) (n : ℕ) (s : List ℕ) → Says (length s) (choose T r ts n s)
+  unfolding choose
+  choose-says [] n s = not-awaited-says s (omega arith)
+  choose-says (t ∷ ts) n s = if-speaks _ (λ b. then-speaks (says t s) λ v s₁ e. answers) λ b _. choose-says ts (suc n) s
+
+  -- the body of a constructed kind
+  kind-says : (i : List ℕ) (k : Body) (s : List ℕ) → Says (length s) (readKind T r i k s)
+  unfolding readKind readBody
+  kind-says i (Plain k) s = then-speaks (primitive-says i s) λ c s₁ e. then-speaks (decode-says (length s) k (length s) c s₁ (omega arith)) λ x s₂ g. answers
+  kind-says i (Sequence ms) s = constructed-says i _ (λ mode u. then-speaks (sequence-says (length u) ms [] false mode u (omega arith)) λ os s₁ e. answers) s
+  kind-says i (Set ms) s = constructed-says i _ (λ mode u. then-speaks (set-says (length u) (suc (length u)) ms (nothing ms) mode u (omega arith) (omega arith)) λ os s₁ e. answers) s
+  kind-says i (SequenceOf t) s = constructed-says i _ (λ mode u. then-speaks (many-says (length u) (suc (length u)) t mode [] u (omega arith) (omega arith)) λ vs s₁ e. answers) s
+  kind-says i (SetOf t) s = constructed-says i _ (λ mode u. then-speaks (many-says (length u) (suc (length u)) t mode [] u (omega arith) (omega arith)) λ vs s₁ e. answers) s
+  kind-says i (Choice ts) s = choose-says ts 0 s
+
+-- every refusal in the reading of a value is one of document 01's, at a place within the octets
+pub value-says : (T : Table) (n t : ℕ) (s : List ℕ) → Says (length s) (readValue T n t s)
+unfolding readValue
+value-says T zero t s = here is-28
+value-says T (suc n) t s =
+    wrapped-says (Codes as-given (EncodesAt as-given T n) (own (T t)) (T t .body)) (readKind T (λ u w. readValue T n u w) (own (T t)) (T t .body))
+    (kind-says T (λ u w. readValue T n u w) (value-says T n) (value-shorter T n) (own (T t)) (T t .body))
+    (kind-sound as-given T (EncodesAt as-given T n) (λ u w. readValue T n u w) (value-sound as-given T n) (own (T t)) (T t .body))
+    (explicit (T t)) s
+
+-- and in the reading of a message
+pub message-says : (T : Table) (n t : ℕ) (m : List ℕ) → Says (length m) (readMessage T n t m)
+unfolding readMessage
+message-says T n t m =
+    if-speaks _ (λ e. names {l = 0} is-22 (omega arith)) λ e _.
+    if-speaks _ (λ e. not-awaited-says m (omega arith)) λ e _.
+    then-speaks (value-says T n t m) λ v r e.
+    let h = got-holds (value-shorter T n t m) e in
+    if-speaks _ (λ f. names {l = length r} is-26 (omega arith)) λ f _. answers
+
+-- the numbers that judging gives
+pub data OfValue : ℕ → Type 0 where
+  is-11 : OfValue 11
+  is-12 : OfValue 12
+  is-13 : OfValue 13
+
+need-says : {A : Type 0} (n l k : ℕ) (s : List ℕ) {x : Unit {0} → Answer A} → l ≤ n → ((u : Unit {0}) → Speaks OfValue n (x u)) → Speaks OfValue n (need l k s x)
+unfolding need
+need-says n l k s h f = if-speaks _ (λ e. names is-11 h) λ e. f
+
+own-says : (n l k : ℕ) (s : List ℕ) → l ≤ n → Speaks OfValue n (readOwn l k s)
+unfolding readOwn ownBoolean ownInteger ownBits ownString ownEnumerated ownMembers ownCount ownChoice
+own-says n l k s h =
+    if-speaks _ (λ e. need-says n l _ _ h λ _. if-speaks _ (λ f. names is-11 h) λ f _. answers) λ _ _.
+    if-speaks _ (λ e. need-says n l _ _ h λ _. answers) λ _ _.
+    if-speaks _ (λ e. need-says n l _ _ h λ _. need-says n l _ _ h λ _. if-speaks _ (λ f. names is-11 h) λ f _. answers) λ _ _.
+    if-speaks _ (λ e. need-says n l _ _ h λ _. need-says n l _ _ h λ _. answers) λ _ _.
+    if-speaks _ (λ e. answers) λ _ _.
+    if-speaks _ (λ e. need-says n l _ _ h λ _. answers) λ _ _.
+    if-speaks _ (λ e. need-says n l _ _ h λ _. need-says n l _ _ h λ _. if-speaks _ (λ f. names is-11 h) λ f _. answers) λ _ _.
+    if-speaks _ (λ e. need-says n l _ _ h λ _. need-says n l _ _ h λ _. if-speaks _ (λ f. names is-11 h) λ f _. answers) λ _ _.
+    if-speaks _ (λ e. need-says n l _ _ h λ _. answers) λ _ _.
+    if-speaks _ (λ e. need-says n l _ _ h λ _. answers) λ _ _.
+    if-speaks _ (λ e. need-says n l _ _ h λ _. answers) λ _ _.
+    names is-11 h
+
+node-says : (s : List ℕ) → Speaks OfValue (length s) (readNode s)
+unfolding readNode
+node-says s =
+    need-says (length s) (length s) 3 s (omega arith) λ _.
+    if-speaks _ (λ e. here is-11) λ e _.
+    if-speaks _ (λ e. here is-11) λ e _. own-says (length s) (length s) _ _ (omega arith)
+
+suffix : {s : List ℕ} (a u : List ℕ) → s ≡ a ++ u → AllOctets s → AllOctets u × (length u ≤ length s)
+suffix a u e o = (every-right a (rw e at o), rw (e, length-append) (omega arith))
+
+module _ (r : ℕ → List ℕ → Answer Value) (says : (t : ℕ) (s : List ℕ) → AllOctets s → Speaks OfValue (length s) (r t s)) (cut : (t : ℕ) (s : List ℕ) → AllOctets s → Holds (λ v u. s ≡ octets v ++ u) (r t s)) where
+  judge-members-says : (n : ℕ) (ms : List Member) (bs : List Bool) (os : List (Option Value)) (s : List ℕ) → AllOctets s → length s ≤ n → Speaks OfValue n (judgeMembers r ms bs os s)
+  unfolding judgeMembers
+  judge-members-says n [] bs os s o h = answers
+  judge-members-says n (m ∷ ms) [] os s o h = answers
+  judge-members-says n (m ∷ ms) (true ∷ bs) os s o h =
+      then-speaks (wider (says (m .type) s o) h) λ v s₁ e.
+      let x = suffix (octets v) s₁ (got-holds (cut (m .type) s o) e) o in
+      let k = x .1 in
+      judge-members-says n ms bs (os ++ (some v ∷ [])) s₁ (x .0) (omega arith)
+  judge-members-says n (m ∷ ms) (false ∷ bs) os s o h = judge-members-says n ms bs (os ++ (none ∷ [])) s o h
+
+  judge-elements-says : (n k t : ℕ) (vs : List Value) (s : List ℕ) → AllOctets s → length s ≤ n → Speaks OfValue n (judgeElements r k t vs s)
+  unfolding judgeElements
+  judge-elements-says n zero t vs s o h = answers
+  judge-elements-says n (suc k) t vs s o h =
+      then-speaks (wider (says t s o) h) λ v s₁ e.
+      let x = suffix (octets v) s₁ (got-holds (cut t s o) e) o in
+      let l = x .1 in
+      judge-elements-says n k t (vs ++ (v ∷ [])) s₁ (x .0) (omega arith)
+
+  judge-below-says : (n : ℕ) (b : Body) (x : Node) (s : List ℕ) → AllOctets s → length s ≤ n → Speaks OfValue n (judgeBelow r b x s)
+  unfolding judgeBelow
+  judge-below-says n b (a-leaf x) s o h = answers
+  judge-below-says n b (a-sequence bs) s o h = then-speaks (judge-members-says n _ bs [] s o h) λ os u e. answers
+  judge-below-says n b (a-set bs) s o h = then-speaks (judge-members-says n _ bs [] s o h) λ os u e. answers
+  judge-below-says n b (a-sequence-of k) s o h = then-speaks (judge-elements-says n k _ [] s o h) λ os u e. answers
+  judge-below-says n b (a-set-of k) s o h = then-speaks (judge-elements-says n k _ [] s o h) λ os u e. answers
+  judge-below-says n b (a-choice i) s o h = then-speaks (wider (says _ s o) h) λ v u e. answers
+
+-- every refusal in the judging of a value is one of document 01's, at a place within the octets
+pub judge-says : (T : Table) (n t : ℕ) (s : List ℕ) → AllOctets s → Speaks OfValue (length s) (judgeValue T n t s)
+unfolding judgeValue
+judge-says T zero t s o = then-speaks (node-says s) λ x s₁ e. here is-13
+judge-says T (suc n) t s o =
+    then-speaks (node-says s) λ x s₁ e.
+    if-speaks _ (λ f. here is-12) λ f _.
+    let y = suffix (nodeOctets x) s₁ (got-holds (node-sound s o) e .0) o in
+    judge-below-says (λ u w. judgeValue T n u w) (judge-says T n) (λ t s p. map-holds (judge-sound T n t s p) (λ v u z. z .cut)) (length s) (T t .body) x s₁ (y .0) (y .1)
+
+pub whole-says : (T : Table) (n t : ℕ) (b : List ℕ) → AllOctets b → Speaks OfValue (length b) (judgeWhole T n t b)
+unfolding judgeWhole
+whole-says T n t b o =
+    then-speaks (judge-says T n t b o) λ v r e.
+    let y = suffix (octets v) r (got-holds (judge-sound T n t b o) e .cut) o in
+    if-speaks _ (λ f. names {l = length r} is-11 (y .1)) λ f _. answers
+
+-- the enums say these numbers and places
+
+message-cause : {c : ℕ} (p : ℕ) → OfMessage c → (messageNumber (messageCause c p) ≡ c) × (messagePlace (messageCause c p) ≡ p)
+unfolding messageCause if
+message-cause p is-22 = (refl, refl)
+message-cause p is-23 = (refl, refl)
+message-cause p is-24 = (refl, refl)
+message-cause p is-25 = (refl, refl)
+message-cause p is-26 = (refl, refl)
+message-cause p is-28 = (refl, refl)
+
+value-cause : {c : ℕ} (p : ℕ) → OfValue c → (valueNumber (valueCause c p) ≡ c) × (valuePlace (valueCause c p) ≡ p)
+unfolding valueCause if
+value-cause p is-11 = (refl, refl)
+value-cause p is-12 = (refl, refl)
+value-cause p is-13 = (refl, refl)
+
+-- An outcome: done, or one refusal with its number and place; and then the buffer is as it was.
+
+unfoldable IsDone : Told → Type 0
+IsDone (done k) = Unit {0}
+IsDone (refusal r) = ⊥
+
+done≢refusal : {C : Type 0} {r : Refusal} {k : ℕ} → done k ≡ refusal r → C
+unfolding IsDone
+done≢refusal e = absurd (subst IsDone e tt)
+
+same-refusal : {r q : Refusal} → refusal r ≡ refusal q → r ≡ q
+same-refusal e = cc
+
+carry : (P : Refusal → Type 0) {q r : Refusal} → refusal q ≡ refusal r → P q → P r
+carry P z p = subst P (same-refusal z) p
+
+-- when the reader gives which refusal: 7, 21, then what the reading says, 27 only for a message otherwise accepted
+pub data ReadRefused (T : Table) (n t : ℕ) (m buf : List ℕ) (r : Refusal) : Type 0 where
+  no-such-type : n ≤ t → numberOf r ≡ 7 → placeOf r ≡ 0 → ReadRefused T n t m buf r
+  too-long : t < n → longestMessage < length m → numberOf r ≡ 21 → placeOf r ≡ 0 → ReadRefused T n t m buf r
+  as-read : (c l : ℕ) → t < n → length m ≤ longestMessage → readMessage T levels t m ≡ refused c l → l ≤ length m → numberOf r ≡ c → placeOf r ≡ length m - l → ReadRefused T n t m buf r
+  no-room : (v : Value) (s : List ℕ) → t < n → length m ≤ longestMessage → readMessage T levels t m ≡ got v s → min longestValue (length buf) < length (octets v)
+      → numberOf r ≡ 27 → placeOf r ≡ 0 → ReadRefused T n t m buf r
+
+abbrev IfRefused : List ℕ → (Refusal → Type 0) → Outcome → Type 0
+IfRefused buf P x = (r : Refusal) → x .answer ≡ refusal r → (x .buffer ≡ buf) × P r
+
+after-refused : (T : Table) (n t : ℕ) (m buf : List ℕ) → t < n → length m ≤ longestMessage → (x : Answer Value) → readMessage T levels t m ≡ x → Says (length m) x
+    → IfRefused buf (ReadRefused T n t m buf) (afterReading m buf x)
+unfolding afterReading
+after-refused T n t m buf lt h (refused c l) e (names k q) =
+    λ r z. let y = message-cause (length m - l) k in (refl, carry (ReadRefused T n t m buf) z (as-read c l lt h e q (y .0) (y .1)))
+after-refused T n t m buf lt h (got v s) e q =
+    if-cases (IfRefused buf (ReadRefused T n t m buf)) (not (leb (length (octets v)) (min 16384 (length buf)))) _ _
+    (λ f r z. (refl, carry (ReadRefused T n t m buf) z (no-room v s lt h e (leb-false (length (octets v)) (min 16384 (length buf)) (not-true (leb (length (octets v)) (min 16384 (length buf))) f)) refl refl)))
+    (λ f r z. done≢refusal z)
+
+pub read-refused : (T : Table) (n t : ℕ) (m buf : List ℕ) (r : Refusal) → readOutcome T n t m buf .answer ≡ refusal r → (readOutcome T n t m buf .buffer ≡ buf) × ReadRefused T n t m buf r
+unfolding readOutcome
+read-refused T n t m buf =
+    if-cases (IfRefused buf (ReadRefused T n t m buf)) (not (ltb t n)) _ _
+    (λ e r z. (refl, carry (ReadRefused T n t m buf) z (no-such-type (ltb-false t n (not-true (ltb t n) e)) refl refl))) λ e.
+    let lt : t < n = ltb-true t n (not-false (ltb t n) e) in
+    if-cases (IfRefused buf (ReadRefused T n t m buf)) (not (leb (length m) 8192)) _ _
+    (λ f r z. (refl, carry (ReadRefused T n t m buf) z (too-long lt (leb-false (length m) 8192 (not-true (leb (length m) 8192) f)) refl refl))) λ f.
+    after-refused T n t m buf lt (leb-true (length m) 8192 (not-false (leb (length m) 8192) f)) (readMessage T levels t m) refl (message-says T levels t m)
+
+-- when the writer gives which refusal: 7, 11 for an over-long value, then what the judging says, 14 only for a value otherwise accepted
+pub data WriteRefused (T : Table) (n t : ℕ) (b buf : List ℕ) (r : Refusal) : Type 0 where
+  no-such-type : n ≤ t → numberOf r ≡ 7 → placeOf r ≡ 0 → WriteRefused T n t b buf r
+  over-long : t < n → longestValue < length b → numberOf r ≡ 11 → placeOf r ≡ 0 → WriteRefused T n t b buf r
+  as-judged : (c l : ℕ) → t < n → length b ≤ longestValue → judgeWhole T levels t b ≡ refused c l → l ≤ length b → numberOf r ≡ c → placeOf r ≡ length b - l → WriteRefused T n t b buf r
+  no-room : (v : Value) (s : List ℕ) → t < n → length b ≤ longestValue → judgeWhole T levels t b ≡ got v s → min longestMessage (length buf) < length (formAt T levels t v)
+      → numberOf r ≡ 14 → placeOf r ≡ 0 → WriteRefused T n t b buf r
+
+after-refused-write : (T : Table) (n t : ℕ) (b buf : List ℕ) → t < n → length b ≤ longestValue → (x : Answer Value) → judgeWhole T levels t b ≡ x → Speaks OfValue (length b) x
+    → IfRefused buf (WriteRefused T n t b buf) (afterJudging (formAt T levels t) b buf x)
+unfolding afterJudging
+after-refused-write T n t b buf lt h (refused c l) e (names k q) =
+    λ r z. let y = value-cause (length b - l) k in (refl, carry (WriteRefused T n t b buf) z (as-judged c l lt h e q (y .0) (y .1)))
+after-refused-write T n t b buf lt h (got v s) e q =
+    let f = formAt T levels t v in
+    if-cases (IfRefused buf (WriteRefused T n t b buf)) (not (leb (length f) (min 8192 (length buf)))) _ _
+    (λ g r z. (refl, carry (WriteRefused T n t b buf) z (WriteRefused.no-room v s lt h e (leb-false (length f) (min 8192 (length buf)) (not-true (leb (length f) (min 8192 (length buf))) g)) refl refl)))
+    (λ g r z. done≢refusal z)
+
+pub write-refused : (T : Table) (n t : ℕ) (b buf : List ℕ) → Octets b → (r : Refusal) → writeOutcome T n t b buf .answer ≡ refusal r → (writeOutcome T n t b buf .buffer ≡ buf) × WriteRefused T n t b buf r
+unfolding writeOutcome
+write-refused T n t b buf o =
+    if-cases (IfRefused buf (WriteRefused T n t b buf)) (not (ltb t n)) _ _
+    (λ e r z. (refl, carry (WriteRefused T n t b buf) z (WriteRefused.no-such-type (ltb-false t n (not-true (ltb t n) e)) refl refl))) λ e.
+    let lt : t < n = ltb-true t n (not-false (ltb t n) e) in
+    if-cases (IfRefused buf (WriteRefused T n t b buf)) (not (leb (length b) 16384)) _ _
+    (λ f r z. (refl, carry (WriteRefused T n t b buf) z (over-long lt (leb-false (length b) 16384 (not-true (leb (length b) 16384) f)) refl refl))) λ f.
+    after-refused-write T n t b buf lt (leb-true (length b) 16384 (not-false (leb (length b) 16384) f)) (judgeWhole T levels t b) refl (whole-says T levels t b (all-octets b o))

@@ -1,0 +1,103 @@
+-- Values: trees by kind, their octets, their levels (document 01, "Values").
+-- Assumes nothing.
+use mathlib.Core.Bool.{Bool, true, false}
+use mathlib.Core.List.{List, [], _∷_, _++_}
+use mathlib.Core.Option.{Option, some, none}
+use Prim.Native.Nat.{ℕ, zero, suc, _+_, _-_, _*_, max}
+use lib.IntN.{ℤ}
+use lib.ListN.{length}
+use Rattle.octets.specs.Numbers.{octetsOf}
+use Rattle.ber.specs.Integer.{eightOf}
+
+-- values with no value below; bits are the number of unused ones and the octets that hold them
+pub data Leaf : Type 0 where
+  boolean : Bool → Leaf
+  integer : ℤ → Leaf
+  bits : ℕ → List ℕ → Leaf
+  string : List ℕ → Leaf
+  null : Leaf
+  enumerated : ℕ → Leaf
+
+mutual
+  pub data Value : Type 0 where
+    leaf : Leaf → Value
+    sequence : Slots → Value
+    set : Slots → Value
+    sequenceOf : Slots → Value
+    setOf : Slots → Value
+    choice : ℕ → Value → Value
+
+  -- members, present or missing; elements are all present
+  pub data Slots : Type 0 where
+    end : Slots
+    missing : Slots → Slots
+    present : Value → Slots → Slots
+
+unfoldable pub slots : List (Option Value) → Slots
+slots [] = end
+slots (none ∷ os) = missing (slots os)
+slots (some v ∷ os) = present v (slots os)
+
+unfoldable pub bag : List Value → Slots
+bag [] = end
+bag (v ∷ vs) = present v (bag vs)
+
+abbrev pub flag : Bool → ℕ
+flag true = 1
+flag false = 0
+
+-- how many bits
+abbrev pub bitCount : ℕ → List ℕ → ℕ
+bitCount n c = 8 * length c - n
+
+-- "A node is the mark 56 41, the kind, and: BOOLEAN: 00 or 01. NULL: nothing. ENUMERATED: two octets. INTEGER: eight octets, two's complement.
+-- OCTET STRING: two-octet length, octets. BIT STRING: two-octet count of bits, then the octets, spare bits 0."
+unfoldable pub leafOctets : Leaf → List ℕ
+leafOctets (boolean b) = 0x56 ∷ 0x41 ∷ 1 ∷ flag b ∷ []
+leafOctets (integer z) = 0x56 ∷ 0x41 ∷ 2 ∷ eightOf z
+leafOctets (bits n c) = 0x56 ∷ 0x41 ∷ 3 ∷ (octetsOf (bitCount n c) ++ c)
+leafOctets (string c) = 0x56 ∷ 0x41 ∷ 4 ∷ (octetsOf (length c) ++ c)
+leafOctets null = 0x56 ∷ 0x41 ∷ 5 ∷ []
+leafOctets (enumerated k) = 0x56 ∷ 0x41 ∷ 10 ∷ octetsOf k
+
+-- how many there are, and which of them are present
+unfoldable pub count : Slots → ℕ
+count end = 0
+count (missing s) = suc (count s)
+count (present v s) = suc (count s)
+
+unfoldable pub presence : Slots → List ℕ
+presence end = []
+presence (missing s) = 0 ∷ presence s
+presence (present v s) = 1 ∷ presence s
+
+-- "SEQUENCE, SET: member count, a 0 or 1 for each member's presence, then the present ones in table order.
+-- SEQUENCE OF, SET OF: two-octet count, elements. CHOICE: alternative from 0, then its value."
+unfoldable mutual
+  pub octets : Value → List ℕ
+  octets (leaf x) = leafOctets x
+  octets (sequence s) = 0x56 ∷ 0x41 ∷ 16 ∷ count s ∷ (presence s ++ parts s)
+  octets (set s) = 0x56 ∷ 0x41 ∷ 17 ∷ count s ∷ (presence s ++ parts s)
+  octets (sequenceOf s) = 0x56 ∷ 0x41 ∷ 48 ∷ (octetsOf (count s) ++ parts s)
+  octets (setOf s) = 0x56 ∷ 0x41 ∷ 49 ∷ (octetsOf (count s) ++ parts s)
+  octets (choice i v) = 0x56 ∷ 0x41 ∷ 50 ∷ i ∷ octets v
+
+  pub parts : Slots → List ℕ
+  parts end = []
+  parts (missing s) = parts s
+  parts (present v s) = octets v ++ parts s
+
+-- "Level counts values from the root, which is level 1; a CHOICE and its chosen value are two levels."
+unfoldable mutual
+  pub depth : Value → ℕ
+  depth (leaf x) = 1
+  depth (sequence s) = suc (depths s)
+  depth (set s) = suc (depths s)
+  depth (sequenceOf s) = suc (depths s)
+  depth (setOf s) = suc (depths s)
+  depth (choice i v) = suc (depth v)
+
+  pub depths : Slots → ℕ
+  depths end = 0
+  depths (missing s) = depths s
+  depths (present v s) = max (depth v) (depths s)
