@@ -1,0 +1,2 @@
+-- Laws for the code that judges and writes values.
+-- Assumes nothing.

@@ -1,0 +1,5 @@
+-- What the contracts of this crate cite.
+-- Assumes nothing.
+pub mod Nodes
+pub mod Frames
+pub mod Told

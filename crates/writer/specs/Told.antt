@@ -1,0 +1,65 @@
+-- What the judge says of an answer of the definitions, and what is written of one that is done.
+-- Assumes nothing.
+use mathlib.Core.List.{List, [], _∷_}
+use mathlib.Core.Option.{Option}
+use mathlib.Core.Path.{_≡_}
+use Prim.Native.Nat.{ℕ, zero, suc, _+_, _-_, _≤_}
+use lib.ListN.{length, getD}
+use lib.Seq.{sets}
+use Rattle.octets.specs.Answer.{Answer, got, refused}
+use Rattle.octets.specs.Lists.{joined}
+use Rattle.table.specs.Syntax.{Member, Body, Table}
+use Rattle.table.specs.Rules.{members}
+use Rattle.coding.specs.Value.{Value, leaf, sequence, set, sequenceOf, setOf, choice, slots, bag}
+use Rattle.coding.specs.Content.{encode}
+use Rattle.coding.specs.Form.{element, alternatives, formMembers, formElements, formAt}
+use Rattle.writer.specs.Frames.{cap}
+use Rattle.writer.specs.declared.judge.Judged.{Judged}
+use Rattle.writer.specs.declared.judge.Judged.the-variants.{Done, Refused}
+use Rattle.writer.specs.declared.put.Placed.{Placed}
+
+-- where it ends in v and how many octets are written of it, to 8,193; or the cause and its place in v
+unfoldable pub told : {A : Type 0} → (A → List ℕ) → List ℕ → Answer A → Judged
+told f v (got a w) = Done (length v - length w) (cap (length (f a)))
+told f v (refused c l) = Refused c (length v - l)
+
+unfoldable pub written : {A : Type 0} → (A → List ℕ) → Answer A → List ℕ
+written f (got a w) = f a
+written f (refused c l) = []
+
+-- where it ends in v
+unfoldable pub ended : {A : Type 0} → List ℕ → Answer A → ℕ
+ended v (got a w) = length v - length w
+ended v (refused c l) = 0
+
+unfoldable pub IsDone : {A : Type 0} → Answer A → Type 0
+IsDone (got a w) = Unit {0}
+IsDone (refused c l) = ⊥
+
+-- W is done, and what is written of it fits a message and, from a place on, the buffer
+pub record Fits {A : Type 0} (f : A → List ℕ) (W : Answer A) (to : ℕ) (buf : List ℕ) : Type 0 where
+  pub done : IsDone W
+  pub short : length (written f W) ≤ 8192
+  pub room : to + length (written f W) ≤ length buf
+
+-- it was written there, and nothing else was
+pub record IsPut {A : Type 0} (f : A → List ℕ) (W : Answer A) (v : List ℕ) (to : ℕ) (first last : List ℕ) (r : Placed) : Type 0 where
+  pub ends : r .end ≡ ended v W
+  pub reaches : r .to ≡ to + length (written f W)
+  pub buffer : last ≡ sets first to (written f W)
+
+-- the members' forms and the elements' forms, one after another
+abbrev pub membersForm : Table → ℕ → List Member → List (Option Value) → List ℕ
+membersForm T n ms os = joined (formMembers (λ u c. formAt T n u c) ms (slots os))
+
+abbrev pub elementsForm : Table → ℕ → ℕ → List Value → List ℕ
+elementsForm T n t vs = joined (formElements (λ u c. formAt T n u c) t (bag vs))
+
+-- the contents of a value's innermost item; a CHOICE has no item of its own
+unfoldable pub contentsForm : Table → ℕ → Body → Value → List ℕ
+contentsForm T n b (leaf x) = encode x
+contentsForm T n b (sequence s) = joined (formMembers (λ u c. formAt T n u c) (members b) s)
+contentsForm T n b (set s) = joined (formMembers (λ u c. formAt T n u c) (members b) s)
+contentsForm T n b (sequenceOf s) = joined (formElements (λ u c. formAt T n u c) (element b) s)
+contentsForm T n b (setOf s) = joined (formElements (λ u c. formAt T n u c) (element b) s)
+contentsForm T n b (choice i v) = formAt T n (getD (alternatives b) i 0) v

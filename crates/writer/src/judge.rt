@@ -1,0 +1,175 @@
+// Judges a value's octets, and measures the form of what is accepted.
+ghost use mathlib.Core.Path.{_≡_};
+ghost use mathlib.Core.Bool.{true};
+ghost use mathlib.Core.List.{[]};
+ghost use Prim.Native.Nat.{_<_, _≤_, _+_};
+ghost use lib.ListN.{length, drop};
+ghost use Rattle.table.specs.Reading.{look, recordAt, membersAt, everyAt};
+ghost use Rattle.coding.specs.Form.{formAt};
+ghost use Rattle.coding.specs.Judging.{flags, judgeMembers, judgeElements, judgeBelow, judgeValue, agrees};
+ghost use Rattle.writer.specs.Nodes.{endAt, nodeAt};
+ghost use Rattle.writer.specs.Frames.{Tagged};
+ghost use Rattle.writer.specs.Told.{told, membersForm, elementsForm, contentsForm};
+use octets::number;
+use octets::octet;
+use table::record;
+
+// Where a part of the value ends, and how many octets are written of it, to 8,193; or why it is refused.
+pub enum Judged {
+    Done { end: usize, size: usize },
+    Refused { cause: u8, at: usize },
+}
+
+// A value of type t.
+pub fn value(table: &[u8], offsets: &[u16], t: usize, v: &[u8], at: usize, level: u8) -> Judged
+    requires { ⌜ (length (now v) ≤ 16384) × (at ≤ length (now v)) × Tagged (look (now table) (now offsets)) ⌝ }
+    ensures { λ r. ⌜ r ≡ told (formAt (look (now (table .entry)) (now (offsets .entry))) level t) (now (v .entry)) (judgeValue (look (now (table .entry)) (now (offsets .entry))) level t (drop at (now (v .entry)))) ⌝ }
+{
+    let e = crate::node::end(v, at);
+    if e == 0 {
+        return Judged::Refused { cause: 11, at };
+    }
+    if level == 0 {
+        return Judged::Refused { cause: 13, at };
+    }
+    let o = record::offset(offsets, t);
+    if !crate::node::agrees(table, o, v, at) {
+        return Judged::Refused { cause: 12, at };
+    }
+    match contents(table, offsets, o, v, at, e, level - 1) {
+        Judged::Done { end, size } => {
+            let total = crate::frame::size(table, o, 0, size);
+            Judged::Done { end, size: total }
+        }
+        Judged::Refused { cause, at: place } => Judged::Refused { cause, at: place },
+    }
+}
+
+// What stands below the node at a place, which ends at e and agrees with the record at o.
+pub fn contents(
+    table: &[u8],
+    offsets: &[u16],
+    o: u16,
+    v: &[u8],
+    at: usize,
+    e: usize,
+    level: u8,
+) -> Judged
+    requires { ⌜ (length (now v) ≤ 16384) × (at ≤ length (now v)) × (e ≡ endAt (now v) at) × (0 < e) × (agrees (recordAt (now table) o .body) (nodeAt (now v) at) ≡ true) × Tagged (look (now table) (now offsets)) ⌝ }
+    ensures { λ r. ⌜ r ≡ told (contentsForm (look (now (table .entry)) (now (offsets .entry))) level (recordAt (now (table .entry)) o .body)) (now (v .entry)) (judgeBelow (λ u w. judgeValue (look (now (table .entry)) (now (offsets .entry))) level u w) (recordAt (now (table .entry)) o .body) (nodeAt (now (v .entry)) at) (drop e (now (v .entry)))) ⌝ }
+{
+    let k = octet(v, at + 2);
+    let p = at + 3;
+    let own = record::own(table, o);
+    if k == 16 {
+        return members(
+            table,
+            offsets,
+            own + 1,
+            octet(table, own),
+            v,
+            p + 1,
+            e,
+            level,
+        );
+    }
+    if k == 17 {
+        return members(
+            table,
+            offsets,
+            own + 1,
+            octet(table, own),
+            v,
+            p + 1,
+            e,
+            level,
+        );
+    }
+    if k == 48 {
+        return elements(table, offsets, octet(table, own), number(v, p), v, e, level);
+    }
+    if k == 49 {
+        return elements(table, offsets, octet(table, own), number(v, p), v, e, level);
+    }
+    if k == 50 {
+        let q = own + 1 + octet(v, p);
+        return value(table, offsets, octet(table, q), v, e, level);
+    }
+    let size = crate::frame::grow(crate::contents::size(k, v, p), 0);
+    Judged::Done { end: e, size }
+}
+
+// The present ones of the n members from p on; which are present says v, from q on.
+pub fn members(
+    table: &[u8],
+    offsets: &[u16],
+    p: usize,
+    n: usize,
+    v: &[u8],
+    q: usize,
+    at: usize,
+    level: u8,
+) -> Judged
+    requires { ⌜ (length (now v) ≤ 16384) × (at ≤ length (now v)) × (p < 70000) × (n < 256) × (q ≤ 16384) × Tagged (look (now table) (now offsets)) ⌝ }
+    ensures { λ r. ⌜ r ≡ told (membersForm (look (now (table .entry)) (now (offsets .entry))) level (membersAt (now (table .entry)) p n)) (now (v .entry)) (judgeMembers (λ u w. judgeValue (look (now (table .entry)) (now (offsets .entry))) level u w) (membersAt (now (table .entry)) p n) (flags (everyAt 1 (now (v .entry)) q n)) [] (drop at (now (v .entry)))) ⌝ }
+{
+    let mut i = p;
+    let mut mark = q;
+    let mut left = n;
+    let mut next = at;
+    let mut total = 0;
+    while 0 < left {
+        if octet(v, mark) == 1 {
+            match value(table, offsets, octet(table, i), v, next, level) {
+                Judged::Done { end, size } => {
+                    next = end;
+                    total = crate::frame::grow(total, size);
+                }
+                Judged::Refused { cause, at: place } => {
+                    return Judged::Refused { cause, at: place };
+                }
+            }
+        }
+        i += 2;
+        mark += 1;
+        left -= 1;
+    }
+    Judged::Done {
+        end: next,
+        size: total,
+    }
+}
+
+// n elements of type t.
+pub fn elements(
+    table: &[u8],
+    offsets: &[u16],
+    t: usize,
+    n: usize,
+    v: &[u8],
+    at: usize,
+    level: u8,
+) -> Judged
+    requires { ⌜ (length (now v) ≤ 16384) × (at ≤ length (now v)) × Tagged (look (now table) (now offsets)) ⌝ }
+    ensures { λ r. ⌜ r ≡ told (elementsForm (look (now (table .entry)) (now (offsets .entry))) level t) (now (v .entry)) (judgeElements (λ u w. judgeValue (look (now (table .entry)) (now (offsets .entry))) level u w) n t [] (drop at (now (v .entry)))) ⌝ }
+{
+    let mut left = n;
+    let mut next = at;
+    let mut total = 0;
+    while 0 < left {
+        match value(table, offsets, t, v, next, level) {
+            Judged::Done { end, size } => {
+                next = end;
+                total = crate::frame::grow(total, size);
+                left -= 1;
+            }
+            Judged::Refused { cause, at: place } => {
+                return Judged::Refused { cause, at: place };
+            }
+        }
+    }
+    Judged::Done {
+        end: next,
+        size: total,
+    }
+}
