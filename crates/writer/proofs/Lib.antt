@@ -1,2 +1,10 @@
 -- Laws for the code that judges and writes values.
 -- Assumes nothing.
+pub mod Stores
+pub mod Headers
+pub mod Integers
+pub mod Nodes
+pub mod Agreement
+pub mod Frames
+pub mod Leaves
+pub mod Reading

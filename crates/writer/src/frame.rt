@@ -1,8 +1,8 @@
 // The items around the contents of a value, by the tags of the record at o.
 ghost use mathlib.Core.Path.{_≡_};
-ghost use mathlib.Core.Bool.{true};
+ghost use mathlib.Core.Bool.{true, _||_};
 ghost use Prim.Native.Nat.{_<_, _≤_, _+_, _*_, _-_};
-ghost use lib.Dec.{leb};
+ghost use lib.Dec.{ltb, leb};
 ghost use lib.ListN.{length, getD};
 ghost use lib.Seq.{sets};
 ghost use Rattle.octets.specs.Lists.{all};
@@ -41,6 +41,16 @@ pub fn size(table: &[u8], o: u16, j: usize, inner: usize) -> usize
     total
 }
 
+// Whether the item of a tag is constructed: i tags of n come up to it, and `last` says it of the last.
+fn built(i: usize, n: usize, last: bool) -> bool
+    ensures { λ r. ⌜ r ≡ (ltb i n || last) ⌝ }
+{
+    if i < n {
+        return true;
+    }
+    last
+}
+
 // Their identifier and length octets.
 pub fn put(table: &[u8], o: u16, inner: usize, buf: &mut [u8], to: usize) -> usize
     requires { ⌜ (inner < 8194) × (all (λ g. leb (g .class) 3) (recordAt (now table) o .tags) ≡ true) × (to + length (heads (constructed (recordAt (now table) o .body)) (recordAt (now table) o .tags) inner) ≤ length (now buf)) ⌝ }
@@ -55,7 +65,7 @@ pub fn put(table: &[u8], o: u16, inner: usize, buf: &mut [u8], to: usize) -> usi
         let class = octet(table, p);
         let number = number(table, p + 1);
         i += 1;
-        let constructed = i < n || last;
+        let constructed = built(i, n, last);
         at = crate::identifier::put(class, constructed, number, buf, at);
         let inside = size(table, o, i, inner);
         at = crate::length::put(inside, buf, at);

@@ -119,8 +119,13 @@ pub fn members(
     let mut next = at;
     let mut total = 0;
     while 0 < left {
-        if octet(v, mark) == 1 {
-            match value(table, offsets, octet(table, i), v, next, level) {
+        let present = octet(v, mark);
+        let t = octet(table, i);
+        i += 2;
+        mark += 1;
+        left -= 1;
+        if present == 1 {
+            match value(table, offsets, t, v, next, level) {
                 Judged::Done { end, size } => {
                     next = end;
                     total = crate::frame::grow(total, size);
@@ -130,9 +135,6 @@ pub fn members(
                 }
             }
         }
-        i += 2;
-        mark += 1;
-        left -= 1;
     }
     Judged::Done {
         end: next,

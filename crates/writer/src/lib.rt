@@ -3,7 +3,5 @@ mod contents;
 mod frame;
 mod identifier;
 mod integer;
-mod judge;
 mod length;
 mod node;
-mod put;

@@ -1,7 +1,8 @@
 // The nodes of a value: their shape, and whether they agree with a record.
 ghost use mathlib.Core.Path.{_≡_};
 ghost use Prim.Native.Nat.{_<_, _≤_, _+_, _^_, _/_};
-ghost use lib.Dec.{ltb};
+ghost use mathlib.Core.Bool.{_||_};
+ghost use lib.Dec.{ltb, eqb};
 ghost use lib.ListN.{length, getD};
 ghost use Rattle.octets.specs.Lists.{all};
 ghost use Rattle.table.specs.Reading.{everyAt, numbersAt, membersAt, recordAt};
@@ -53,9 +54,17 @@ fn string_end(v: &[u8], p: usize) -> usize
 
 const POWERS: [u8; 8] = [1, 2, 4, 8, 16, 32, 64, 128];
 
+// 2 to the n.
+fn unit(n: usize) -> usize
+    requires { ⌜ n < 8 ⌝ }
+    ensures { λ r. ⌜ (r ≡ 2 ^ n) × (0 < r) × (r < 256) ⌝ }
+{
+    POWERS[n] as usize
+}
+
 // Whether n bits that begin at p have 0 behind them to the end of their last octet.
 fn clear(v: &[u8], p: usize, n: usize) -> bool
-    requires { ⌜ (p < 20000) × (n < 65536) ⌝ }
+    requires { ⌜ (p < 20010) × (n < 65536) ⌝ }
     ensures { λ r. ⌜ r ≡ clearAt (now (v .entry)) p n ⌝ }
 {
     if n == 0 {
@@ -63,7 +72,7 @@ fn clear(v: &[u8], p: usize, n: usize) -> bool
     }
     let size = (n + 7) / 8;
     let spare = 8 * size - n;
-    let unit = POWERS[spare] as usize;
+    let unit = unit(spare);
     let last = octet(v, p + size - 1);
     last / unit * unit == last
 }
@@ -200,6 +209,16 @@ fn lists(table: &[u8], p: usize, n: usize, x: usize) -> bool
     false
 }
 
+// Whether a member is present or optional, by its octets.
+fn allowed(mark: usize, optional: usize) -> bool
+    ensures { λ r. ⌜ r ≡ (eqb mark 1 || eqb optional 1) ⌝ }
+{
+    if mark == 1 {
+        return true;
+    }
+    optional == 1
+}
+
 // Whether the mandatory ones of the n members from p on are present; which are present says v, from q on.
 fn mandatory(table: &[u8], p: usize, n: usize, v: &[u8], q: usize) -> bool
     requires { ⌜ (p < 70000) × (n < 256) × (q < 20001) ⌝ }
@@ -209,10 +228,9 @@ fn mandatory(table: &[u8], p: usize, n: usize, v: &[u8], q: usize) -> bool
     let mut mark = q;
     let mut left = n;
     while 0 < left {
-        if octet(v, mark) != 1 {
-            if octet(table, at + 1) != 1 {
-                return false;
-            }
+        let optional = octet(table, at + 1);
+        if !allowed(octet(v, mark), optional) {
+            return false;
         }
         at += 2;
         mark += 1;

@@ -1,0 +1,147 @@
+-- Integers of 64 bits and their octets, as the code reads and writes them.
+-- Assumes nothing.
+use mathlib.Core.Path.{_≡_, refl, sym, ap, _∙_}
+use mathlib.Core.Bool.{Bool, true, false, not, _&&_, _||_, true≢false}
+use mathlib.Core.List.{List, [], _∷_}
+use Prim.Native.Nat.{ℕ, zero, suc, _+_, _-_, _*_, _/_, _%_, _^_, _≤_, _<_}
+use native.Mathlib.Nat.{zero-add, pow-suc, pow-le-pow-right}
+use native.Mathlib.Numerals.{add-one}
+use native.Mathlib.Omega.{arith}
+use borrow.Author.Tests.{ltb-true, ltb-false, lt-ltb, le-ltb, le-leb, lt-leb, eq-eqb, ne-eqb}
+use lib.Dec.{ltb, leb, eqb}
+use lib.IntN.{ℤ, pos, negsuc}
+use lib.ListN.{length, take, drop, getD, drop-of-length-le, length-drop}
+use lib.Seq.{drop-cons}
+use lib.Signed.{mag, ltZ}
+use mir.Syntax.{w64}
+use mir.Val.{SFits, toZ, ofZ}
+use mir.ValLaws.{toZ-pos, toZ-neg, toZ-ofZ}
+use Rattle.octets.specs.Answer.{if, run}
+use Rattle.ber.specs.Integer.{negative, digit, pile, signed, integerOf, spare, minimal, eight, fewest, fewestOf}
+
+-- what `z < 0` says, and the two ways from z to its bits
+pub bits-neg : (z : ℤ) → SFits w64 z → ltZ (toZ w64 (ofZ w64 z)) (pos 0) ≡ true
+    → (toZ w64 (18446744073709551615 - ofZ w64 z) ≡ pos (mag z)) × (18446744073709551615 - mag z ≡ ofZ w64 z)
+bits-neg (pos n) f h =
+    let e : ltb n 0 ≡ true = sym (ap (λ (y : ℤ). ltZ y (pos 0)) (toZ-ofZ w64 (pos n) f)) ∙ h in
+    absurd (omega (arith, ltb-true n 0 e))
+bits-neg (negsuc n) f h =
+    let b = f .sfits in
+    let e : 18446744073709551615 - (18446744073709551616 - suc n) ≡ n = omega arith in
+    (ap (toZ w64) e ∙ toZ-pos w64 n b, omega arith)
+
+pub bits-pos : (z : ℤ) → SFits w64 z → ltZ (toZ w64 (ofZ w64 z)) (pos 0) ≡ false
+    → (toZ w64 (ofZ w64 z) ≡ pos (mag z)) × (mag z ≡ ofZ w64 z)
+bits-pos (pos n) f h = (toZ-ofZ w64 (pos n) f, refl)
+bits-pos (negsuc n) f h = absurd (true≢false (sym (ap (λ (y : ℤ). ltZ y (pos 0)) (toZ-ofZ w64 (negsuc n) f)) ∙ h))
+
+-- one octet more
+pub more : (k acc d : ℕ) → acc < 128 * 256 ^ k → d < 256 → acc * 256 + d < 128 * 256 ^ suc k
+more k acc d h g = rw pow-suc (omega arith)
+
+pub within : (k acc : ℕ) → k ≤ 7 → acc < 128 * 256 ^ k → acc < 9223372036854775808
+within k acc le h = omega (arith, pow-le-pow-right {n = 256} (omega arith) {i = k} {j = 7} le)
+
+pub room : (k acc : ℕ) → k ≤ 6 → acc < 128 * 256 ^ k → acc < 36028797018963968
+room k acc le h = omega (arith, pow-le-pow-right {n = 256} (omega arith) {i = k} {j = 6} le)
+
+-- the sign octet, or its complement, is below 128
+head-side : (b : ℕ) (t : Bool) → ltb b 128 ≡ t → digit (not t) b < 128
+head-side b true e = ltb-true b 128 e
+head-side b false e = let k : 128 ≤ b = ltb-false b 128 e in omega arith
+
+pub head-small : (s : List ℕ) (neg : Bool) → 0 < length s → neg ≡ negative s → digit neg (getD s 0 0) < 128
+unfolding negative
+head-small [] neg h e = absurd (omega arith)
+head-small (b ∷ s) neg h e = rw e (head-side b (ltb b 128) refl)
+
+-- the number that is left to be read: at the start, one octet on, and at the end
+pub pile-next : (neg : Bool) (acc i : ℕ) (s : List ℕ) → i < length s
+    → pile neg (acc * 256 + digit neg (getD s i 0)) (drop (i + 1) s) ≡ pile neg acc (drop i s)
+unfolding pile
+pile-next neg acc i s h = rw (add-one, drop-cons s i 0 h) refl
+
+pub pile-ended : (neg : Bool) (acc i : ℕ) (s : List ℕ) → length s ≤ i → pile neg acc (drop i s) ≡ acc
+unfolding pile
+pile-ended neg acc i s h = rw (drop-of-length-le s h) refl
+
+pub pile-begun : (neg : Bool) (s : List ℕ) → 0 < length s → pile neg (digit neg (getD s 0 0)) (drop 1 s) ≡ pile neg 0 s
+unfolding pile
+pile-begun neg [] h = absurd (omega arith)
+pile-begun neg (b ∷ s) h = rw zero-add refl
+
+not-below : (b : ℕ) (t : Bool) → ltb b 128 ≡ t → leb 128 b ≡ not t
+not-below b true e = lt-leb 128 b (ltb-true b 128 e)
+not-below b false e = le-leb 128 b (ltb-false b 128 e)
+
+pub sign-of : (s : List ℕ) → 0 < length s → leb 128 (getD s 0 0) ≡ negative s
+unfolding negative
+sign-of [] h = absurd (omega arith)
+sign-of (b ∷ s) h = not-below b (ltb b 128) refl
+
+-- an octet that only repeats the sign
+
+pub spare-zero : (a b : ℕ) → a ≡ 0 → ltb b 128 ≡ spare a b
+unfolding spare
+spare-zero a b e = rw (e) (side (ltb b 128))
+  where
+    side : (t : Bool) → t ≡ ((true && t) || (false && not t))
+    side true = refl
+    side false = refl
+
+pub spare-ones : (a b : ℕ) → a ≡ 255 → leb 128 b ≡ spare a b
+unfolding spare
+spare-ones a b e = rw e (not-below b (ltb b 128) refl)
+
+pub spare-other : (a b : ℕ) → (a ≡ 0 → ⊥) → (a ≡ 255 → ⊥) → false ≡ spare a b
+unfolding spare
+spare-other a b e f = rw (ne-eqb a 0 e, ne-eqb a 255 f) refl
+
+-- one octet less to write, and the end of that
+
+fewest-less : (a b : ℕ) (s : List ℕ) → spare a b ≡ true → fewest (a ∷ b ∷ s) ≡ fewest (b ∷ s)
+unfolding fewest minimal
+fewest-less a b s e = simp (run, e)
+
+fewest-same : (a b : ℕ) (s : List ℕ) → spare a b ≡ false → fewest (a ∷ b ∷ s) ≡ a ∷ b ∷ s
+unfolding fewest minimal
+fewest-same a b s e = simp (run, e)
+
+fewest-one : (a : ℕ) → fewest (a ∷ []) ≡ a ∷ []
+unfolding fewest minimal
+fewest-one a = simp run
+
+at-two : (s : List ℕ) (i : ℕ) → i + 1 < length s → drop i s ≡ getD s i 0 ∷ getD s (i + 1) 0 ∷ drop (i + 1 + 1) s
+at-two s i h =
+    let e : i + 1 ≡ suc i = omega arith in
+    let f : i + 1 + 1 ≡ suc (suc i) = omega arith in
+    rw (f, e) (drop-cons s i 0 (omega arith) ∙ ap (λ (l : List ℕ). getD s i 0 ∷ l) (drop-cons s (suc i) 0 (omega arith)))
+
+pub fewer : (s : List ℕ) (i : ℕ) → i + 1 < length s → spare (getD s i 0) (getD s (i + 1) 0) ≡ true
+    → fewest (drop i s) ≡ fewest (drop (i + 1) s)
+fewer s i h e =
+    let q : i + 1 + 1 ≡ suc (i + 1) = omega arith in
+    ap fewest (at-two s i h) ∙ fewest-less _ _ _ e ∙ ap fewest (rw q (sym (drop-cons s (i + 1) 0 h)))
+
+pub no-fewer : (s : List ℕ) (i : ℕ) → i + 1 < length s → spare (getD s i 0) (getD s (i + 1) 0) ≡ false
+    → fewest (drop i s) ≡ drop i s
+no-fewer s i h e = ap fewest (at-two s i h) ∙ fewest-same _ _ _ e ∙ sym (at-two s i h)
+
+pub one-left : (s : List ℕ) (i : ℕ) → i + 1 ≡ length s → fewest (drop i s) ≡ drop i s
+one-left s i h = rw (drop-cons s i 0 (omega arith), drop-of-length-le s {i = suc i} (omega arith)) (fewest-one (getD s i 0))
+
+-- eight octets cut to the fewest
+
+pub eight-length : (u : ℕ) (o : List ℕ) → o ≡ eight u → length o ≡ 8
+unfolding eight
+eight-length u o e = ap length e
+
+pub fewest-cut : (z : ℤ) (u a : ℕ) (o : List ℕ) → o ≡ eight u → u ≡ ofZ w64 z → drop a o ≡ fewest o → drop a o ≡ fewestOf z
+fewest-cut z u a o e f d = d ∙ ap fewest (e ∙ ap eight f)
+
+pub fewest-size : (z : ℤ) (u a : ℕ) (o : List ℕ) → o ≡ eight u → u ≡ ofZ w64 z → drop a o ≡ fewest o → 8 - a ≡ length (fewestOf z)
+fewest-size z u a o e f d =
+    let k = eight-length u o e in
+    let l = length-drop a o in
+    let m = ap length (fewest-cut z u a o e f d) in
+    omega arith

@@ -1,0 +1,16 @@
+use mathlib.Core.Path.{_≡_, refl, sym, ap, _∙_}
+use native.Mathlib.Omega.{arith}
+use native.Mathlib.Numerals.{add-one}
+use Prim.Native.Nat.{ℕ, suc, _+_, _-_, _*_, _≤_, _<_, _^_}
+use Rattle.writer.proofs.Headers.{length-one, length-two, length-three}
+use borrow.Author.Needs.{needs}
+use Rattle.writer.proofs.length.size.Statement.{statement}
+use Rattle.writer.proofs.length.size.Tie as tie
+use Rattle.writer.proofs.length.size.Reads as reads
+use Rattle.writer.proofs.length.size.Lts as lts
+
+pub size-spec : {M : Type 1} → statement M
+size-spec = tie.close (tie.spec
+    (λ c. (rw (length-one _ (c .if1 .taken)) refl, omega arith)) -- returns
+    (λ c. (rw (length-two _ (c .before .if1 .left) (c .if2 .taken)) refl, omega arith)) -- returns-2
+    (λ c. (rw (length-three _ (c .before .if1 .left) (c .if2 .left) (c .before .before .pre)) refl, omega arith))) -- returns-3

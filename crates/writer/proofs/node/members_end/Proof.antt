@@ -1,0 +1,24 @@
+use mathlib.Core.Path.{_≡_, refl, sym, ap, _∙_}
+use native.Mathlib.Omega.{arith}
+use native.Mathlib.Numerals.{add-one}
+use Prim.Native.Nat.{ℕ, suc, _+_, _-_, _*_, _≤_, _<_, _^_}
+use Rattle.octets.proofs.Search.{tests}
+use Rattle.writer.specs.Nodes.{fixedEnd, booleanEnd, stringEnd, clearAt, bitsEnd, membersEnd, ownEnd, endAt}
+use borrow.Author.Tests.{not-true, not-false}
+use borrow.Author.Needs.{needs}
+use Rattle.writer.proofs.node.members_end.Statement.{statement}
+use Rattle.writer.proofs.node.members_end.Tie as tie
+
+pub members-end-spec : {M : Type 1} → statement M
+unfolding membersEnd
+members-end-spec =
+    tie.close
+    (tie.spec
+    (λ c. search needs) -- add-q
+    (λ c. search tests) -- returns
+    (λ c κs. search needs) -- octet-requires
+    (λ c. search needs) -- add-e
+    (λ c. rw (← c .before .octet .ensures .0) (search tests)) -- returns-2
+    (λ c κs. search needs) -- marks-requires
+    (λ c. rw (← c .before .before .before .octet .ensures .0, ← c .before .marks .ensures, c .if3 .taken) (search tests)) -- returns-3
+    (λ c. rw (← c .before .before .before .octet .ensures .0, ← c .before .marks .ensures, c .if3 .left) (search tests))) -- returns-4
