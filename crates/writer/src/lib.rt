@@ -3,5 +3,6 @@ mod contents;
 mod frame;
 mod identifier;
 mod integer;
+mod judge;
 mod length;
 mod node;
