@@ -17,7 +17,8 @@ use Rattle.table.specs.Syntax.{Table}
 use Rattle.table.specs.Passes.{Passes}
 use Rattle.coding.specs.Value.{Value, octets, depth}
 use Rattle.coding.specs.Encodes.{EncodesAt, Encodes, Arrives}
-use Rattle.coding.specs.Typed.{WellTypedAt, WellTyped, EquivalentAt, Equivalent}
+use Rattle.coding.specs.Typed.{WellTypedAt, WellTyped}
+use Rattle.coding.specs.Equivalent.{EquivalentAt, Equivalent}
 use Rattle.coding.specs.Form.{formAt}
 use Rattle.coding.specs.Reading.{begun, notAwaited, readValue, readMessage}
 use Rattle.coding.specs.Outcome.{levels, longestValue, longestMessage, Outcome, Told, done, refusal, Refusal, of-message, refuse, write-at-start, afterReading, readOutcome, of-value, afterJudging, writeOutcome}
