@@ -62,6 +62,9 @@ examples =
     ∷ no 1 1 (B ++ (0x54 ∷ []))
     ∷ no 1 128 (joined (replicate 128 B) ++ (0 ∷ []))
     ∷ no 1 128 (joined (replicate 129 B))
+    -- 8,192 octets are read, 8,193 are not
+    ∷ no 1 1 (B ++ replicate 8185 0)
+    ∷ no 1 0 (B ++ replicate 8186 0)
     -- what is shape: an unknown kind, five tags, class 4, no numbers, 33 numbers, numbers that do not rise, 17 members, no alternative,
     -- 17 alternatives, a flag 2, a record that is cut
     ∷ no 1 1 (B ++ (0x54 ∷ 0x59 ∷ 6 ∷ 0 ∷ []))
@@ -76,7 +79,6 @@ examples =
     ∷ no 1 0 ((0x54 ∷ 0x59 ∷ 0x32 ∷ 0 ∷ 17 ∷ []) ++ replicate 17 0)
     ∷ no 1 0 (0x54 ∷ 0x59 ∷ 16 ∷ 1 ∷ 0 ∷ 0 ∷ 16 ∷ 1 ∷ 0 ∷ 2 ∷ [])
     ∷ no 1 0 (0x54 ∷ 0x59 ∷ 16 ∷ 1 ∷ 0 ∷ 0 ∷ 16 ∷ 1 ∷ 0 ∷ [])
-    ∷ no 1 0 (replicate 8193 0x54)
     ∷ no 2 0 (0x54 ∷ 0x59 ∷ 0x30 ∷ 1 ∷ 0 ∷ 0 ∷ 0x10 ∷ 0xFF ∷ [])
     ∷ no 2 1 ((0x54 ∷ 0x59 ∷ 2 ∷ 0 ∷ []) ++ (0x54 ∷ 0x59 ∷ 0x30 ∷ 1 ∷ 0 ∷ 0 ∷ 0x10 ∷ 5 ∷ []))
     ∷ no 4 1 ((0x54 ∷ 0x59 ∷ 0x32 ∷ 0 ∷ 1 ∷ 1 ∷ []) ++ (0x54 ∷ 0x59 ∷ 0x32 ∷ 0 ∷ 1 ∷ 1 ∷ []))
