@@ -9,6 +9,7 @@ pub mod Typed
 pub mod Equivalent
 pub mod Form
 pub mod Reading
+pub mod Awaited
 pub mod Judging
 pub mod Shaped
 pub mod Causes
