@@ -28,3 +28,4 @@ pub mod FormLaws
 pub mod Equivalence
 pub mod NodeLaws
 pub mod JudgingLaws
+pub mod ShapedLaws
