@@ -1,16 +1,17 @@
 -- A value equivalent to one that has octets has octets; so does every value that is read from a message of at most 8,192 octets.
 -- Assumes nothing.
-use borrow.Author.Tests.{leb-true}
+use borrow.Author.Tests.{leb-true, ltb-true, ltb-false}
 use mathlib.Core.Bool.{Bool, true, false, not, _&&_, false≢true}
 use mathlib.Core.List.{List, [], _∷_, _++_}
 use mathlib.Core.Option.{Option, some, none}
 use mathlib.Core.Path.{_≡_, refl, sym, ap, _∙_}
 use native.Mathlib.Omega.{arith}
 use Prim.Native.Nat.{ℕ, zero, suc, _+_, _*_, _-_, _≤_, _<_}
-use lib.Dec.{leb}
+use lib.Dec.{leb, ltb}
 use lib.IntN.{pos}
 use lib.ListN.{length, length-append}
-use Rattle.octets.specs.Lists.{joined}
+use Rattle.octets.specs.Lists.{joined, all}
+use Rattle.octets.specs.Tests.{test}
 use Rattle.octets.specs.Permutations.{Perm, Perm·sym, Sel, Sel.here, Sel.there, Perm.none as none-p, Perm.next, Each, nil, cons, Every, every-nil, every-cons, every-perm, AllOctets, joined-octets, Order, Arranged, arranged-perm}
 use Rattle.ber.specs.Integer.{integerOf}
 use Rattle.ber.specs.IntegerLaws.{integer-fits}
@@ -19,7 +20,9 @@ use Rattle.ber.specs.BitStringLaws.{masked-masked, masked-unused, masked-octets
 use Rattle.ber.specs.Length.{Length, short, long}
 use Rattle.ber.specs.Item.{Definite, sized, Constructed, in-size, in-marks}
 use Rattle.ber.specs.ItemLaws.{definite-octets, constructed-octets}
-use Rattle.table.specs.Syntax.{Member, Simple, Boolean, Integer, BitString, OctetString, Null, Enumerated, Body, Plain, Sequence, Set, SequenceOf, SetOf, Choice, Table}
+use Rattle.table.specs.Syntax.{Member, Simple, Boolean, Integer, BitString, OctetString, Null, Enumerated, Body, Plain, Sequence, Set, SequenceOf, SetOf, Choice, Record, Table, absent}
+use Rattle.table.specs.Octets.{bodyShaped, recordShaped}
+use Rattle.table.specs.Passes.{Passes}
 use Rattle.coding.specs.Value.{Leaf, boolean, integer, bits, string, null, enumerated, Value, leaf, sequence, set, sequenceOf, setOf, choice, Slots, end, missing, present, slots, bag, count, bitCount}
 use Rattle.coding.specs.Content.{listed, Content, c-boolean, c-integer, c-bits, c-string, c-null, c-enumerated}
 use Rattle.coding.specs.Tags.{own, explicit}
@@ -219,3 +222,37 @@ encodes-shaped o T l zero t v m a h e = absurd e
 encodes-shaped o T l (suc n) t v m a h e =
     let (c, b, k, x) = wrapped-inner a h e in
     kind-shaped (encodes-some o T n) (encodes-shaped o T l n) (l t) b k x
+
+and-left : (a b : Bool) → (a && b) ≡ true → a ≡ true
+and-left true b e = refl
+and-left false b e = e
+
+and-right : (a b : Bool) → (a && b) ≡ true → b ≡ true
+and-right true b e = e
+and-right false b e = absurd (false≢true e)
+
+shaped-limited : (b : Body) → bodyShaped b ≡ true → ((ns : List ℕ) → b ≡ Plain (Enumerated ns) → (k : ℕ) → listed ns k ≡ true → k < 65536) → Limited b
+unfolding bodyShaped Limited
+shaped-limited (Plain Boolean) e f = tt
+shaped-limited (Plain Integer) e f = tt
+shaped-limited (Plain BitString) e f = tt
+shaped-limited (Plain OctetString) e f = tt
+shaped-limited (Plain Null) e f = tt
+shaped-limited (Plain (Enumerated ns)) e f = f ns refl
+shaped-limited (Sequence ms) e f = let h = leb-true (length ms) 16 e in omega arith
+shaped-limited (Set ms) e f = let h = leb-true (length ms) 16 e in omega arith
+shaped-limited (SequenceOf t) e f = tt
+shaped-limited (SetOf t) e f = tt
+shaped-limited (Choice ts) e f = let h = leb-true (length ts) 16 (and-right (leb 1 (length ts)) _ e) in omega arith
+
+record-limited : (r : Record) → recordShaped r ≡ true → ((ns : List ℕ) → r .body ≡ Plain (Enumerated ns) → (k : ℕ) → listed ns k ≡ true → k < 65536) → Limited (r .body)
+unfolding recordShaped
+record-limited r e f = shaped-limited (r .body) (and-right (leb (length (r .tags)) 4 && all (λ g. leb (g .class) 3) (r .tags)) (bodyShaped (r .body)) e) f
+
+absent-limited : (r : Record) → r ≡ absent → Limited (r .body)
+unfolding Limited
+absent-limited r e = rw e (omega arith)
+
+-- the limits of a table that passes; that its ENUMERATED numbers have two octets, its octet form says
+pub limited : (T : Table) (n : ℕ) → Passes T n → ((t : ℕ) (ns : List ℕ) → T t .body ≡ Plain (Enumerated ns) → (k : ℕ) → listed ns k ≡ true → k < 65536) → (t : ℕ) → Limited (T t .body)
+limited T n p f t = test (ltb t n) (λ e. record-limited (T t) (p .shaped t (ltb-true t n e)) (f t)) (λ e. absent-limited (T t) (p .no-more t (ltb-false t n e)))
