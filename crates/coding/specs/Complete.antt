@@ -324,7 +324,7 @@ unfolding EncodesAt
 starts-at o T good zero t v m e = absurd e
 starts-at o T good (suc n) t v m e =
     let (i, r, h, b) = wrapped-starts T {X = λ i. begins T t i ≡ true} (explicit (T t)) (own (T t)) (T t .body) (good t .begin)
-        (λ m c. kind-starts o T (EncodesAt o T n) (starts-at o T good n) (own (T t)) (T t .body) c) e in
+    (λ m c. kind-starts o T (EncodesAt o T n) (starts-at o T good n) (own (T t)) (T t .body) c) e in
     record { ident = i; rest = r; is = h; begins = b }
 
 abbrev Opened : List ℕ → Type 0
@@ -351,8 +351,8 @@ unfolding EncodesAt EquivalentAt readValue
 value-complete o T good zero t v m s e = absurd e
 value-complete o T good (suc n) t v m s e =
     let x = wrapped-complete _
-        (λ c u. kind-complete o T good (EncodesAt o T n) (EquivalentAt o n) (λ u w. readValue T n u w) (starts-at o T good n) (value-complete o T good n) (own (T t)) (T t .body) u (good t .item) (good t .apart))
-        (λ c. kind-opened o T (EncodesAt o T n) (starts-at o T good n) good (own (T t)) (T t .body) (good t .item)) s (good t .inner) e in
+    (λ c u. kind-complete o T good (EncodesAt o T n) (EquivalentAt o n) (λ u w. readValue T n u w) (starts-at o T good n) (value-complete o T good n) (own (T t)) (T t .body) u (good t .item) (good t .apart))
+    (λ c. kind-opened o T (EncodesAt o T n) (starts-at o T good n) good (own (T t)) (T t .body) (good t .item)) s (good t .inner) e in
     record { value = x .value; answer = x .answer; alike = x .alike }
 
 -- what begins as a type does is not empty

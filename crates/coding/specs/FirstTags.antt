@@ -364,12 +364,13 @@ module _ (T : Table) (n : ℕ) (p : Passes T n) (few : n ≤ 128) where
   distinct-from : (ts : List ℕ) → Unlike ts → Distinct T ts
   unfolding Distinct
   distinct-from [] f = tt
-  distinct-from (t ∷ ts) f =
-      (λ x e. never _ (λ g.
-      let y = any-found (λ u. begins T u x) ts g in
-      let w = y .within in
-      f 0 (suc (y .place)) (omega arith) (omega arith) x e (rw (y .there) (y .passes))),
-      distinct-from ts (λ i j lt w. f (suc i) (suc j) (omega arith) (omega arith)))
+  distinct-from (t ∷ ts) f = (
+    λ x e. never _ (λ g.
+        let y = any-found (λ u. begins T u x) ts g in
+        let w = y .within in
+        f 0 (suc (y .place)) (omega arith) (omega arith) x e (rw (y .there) (y .passes))),
+    distinct-from ts (λ i j lt w. f (suc i) (suc j) (omega arith) (omega arith)),
+  )
 
   or-false : (a b : Bool) → (a || b) ≡ false → (a ≡ false) × (b ≡ false)
   or-false true b e = absurd (true≢false e)

@@ -528,6 +528,7 @@ leaf-some (enumerated k) = omega arith
 -- a tree has no more levels than octets
 mutual
   unfolding octets depth
+
   depth-octets : (v : Value) → depth v ≤ length (octets v)
   depth-octets (leaf x) = leaf-some x
   depth-octets (sequence s) = let h = depths-parts s in let e = length-append (presence s) (parts s) in omega arith

@@ -283,6 +283,7 @@ bits-owned l (a ∷ b ∷ s) o =
   where
     count-of : (k : ℕ) → 8 * ((k + 7) / 8) - (8 * ((k + 7) / 8) - k) ≡ k
     count-of k = omega arith
+
     small : {n : ℕ} → n ≡ a * 256 + b → a < 256 → b < 256 → n < 65536
     small e h k = omega arith
 

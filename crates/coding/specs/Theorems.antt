@@ -174,9 +174,10 @@ reads-all T n p few t m buf v lt h e d k l =
 -- Demand 2: for a table that passes, the reader accepts exactly the messages that X.690 permits for the named type, within the limits, and yields the value they carry.
 pub exactly : (T : Table) (n : ℕ) → Passes T n → n ≤ 128 → (t : ℕ) (m buf : List ℕ) → t < n → Octets m → (k : ℕ) (after : List ℕ)
     → (readOutcome T n t m buf ≡ record { answer = done k; buffer = after }) ↔ Read T t m buf k after
-exactly T n p few t m buf lt o k after =
-    (λ e. rw (ap (λ (x : Outcome). x .buffer) e) at (reads-only T n t m buf o k (ap (λ (x : Outcome). x .answer) e)),
-    λ r. reads-all T n p few t m buf (r .value) lt (r .within) (r .arrives) (r .deep) (r .short) (r .room) ∙ told-same (r .told) (r .buffer))
+exactly T n p few t m buf lt o k after = (
+  λ e. rw (ap (λ (x : Outcome). x .buffer) e) at (reads-only T n t m buf o k (ap (λ (x : Outcome). x .answer) e)),
+  λ r. reads-all T n p few t m buf (r .value) lt (r .within) (r .arrives) (r .deep) (r .short) (r .room) ∙ told-same (r .told) (r .buffer),
+)
   where
     told-same : {j : ℕ} {w : List ℕ} → k ≡ j → after ≡ w → _≡_ {A = Outcome} (record { answer = done j; buffer = w }) (record { answer = done k; buffer = after })
     told-same x y = rw (x, y)

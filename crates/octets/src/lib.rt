@@ -8,11 +8,7 @@ ghost use Rattle.octets.specs.Numbers.{two};
 pub fn octet(s: &[u8], at: usize) -> usize
     ensures { λ r. ⌜ (r ≡ getD (now (s .entry)) at 0) × (r < 256) ⌝ }
 {
-    if at < s.len() {
-        s[at] as usize
-    } else {
-        0
-    }
+    if at < s.len() { s[at] as usize } else { 0 }
 }
 
 // The number that two octets stand for, the high one first.

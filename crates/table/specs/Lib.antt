@@ -3,4 +3,12 @@
 pub mod Syntax
 pub mod Octets
 pub mod Rules
+pub mod Reading
+pub mod Decide
+pub mod Verdict
+pub mod Examples
 pub mod Passes
+pub mod Fields
+pub mod Index
+pub mod Walk
+pub mod Marks

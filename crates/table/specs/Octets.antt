@@ -3,7 +3,7 @@
 use mathlib.Core.Bool.{Bool, true, false, _&&_}
 use mathlib.Core.List.{List, [], _∷_, _++_, map}
 use mathlib.Core.Path.{_≡_}
-use Prim.Native.Nat.{ℕ, _+_, _≤_}
+use Prim.Native.Nat.{ℕ, _+_, _≤_, _<_}
 use lib.Dec.{leb}
 use lib.ListN.{length}
 use Rattle.octets.specs.Lists.{all, joined}
@@ -82,3 +82,17 @@ pub record Spells (b : List ℕ) (rs : List Record) : Type 0 where
   pub some : 1 ≤ length rs
   pub few : length rs ≤ 128
   pub short : length b ≤ 8192
+
+-- k well-formed records, and then the rest
+pub record Begins (b : List ℕ) (k : ℕ) (rest : List ℕ) : Type 0 where
+  pub records : List Record
+  pub is : b ≡ joined (map recordOctets records) ++ rest
+  pub shaped : all recordShaped records ≡ true
+  pub count : length records ≡ k
+
+-- 1: "table not shaped as above"; the place is "the record being read; 128 if too many; an over-long table is judged before any record, place 0"
+pub data Misshapen (b : List ℕ) : ℕ → Type 0 where
+  over-long : 8192 < length b → Misshapen b 0
+  no-record : {k : ℕ} (rest : List ℕ) → length b ≤ 8192 → Begins b k rest → k < 128 → (rest ≡ [] → k ≡ 0)
+      → ((r : Record) (u : List ℕ) → recordShaped r ≡ true → rest ≡ recordOctets r ++ u → ⊥) → Misshapen b k
+  too-many : (rest : List ℕ) → length b ≤ 8192 → Begins b 128 rest → (rest ≡ [] → ⊥) → Misshapen b 128

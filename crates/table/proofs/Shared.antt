@@ -1,0 +1,180 @@
+-- The ways through the code that judges circles and shared first tags.
+-- Assumes nothing.
+use mathlib.Core.Bool.{Bool, true, false, not, true≢false, false≢true}
+use mathlib.Core.List.{List, [], _∷_, _++_, append-assoc, append-nil, List·Memᴰ as In, List·Memᴰ·head as first-of, List·Memᴰ·tail as later, List·Memᴰ·not-nil as not-in-nil, List·Memᴰ·eq-of-singleton as in-one, Memᴰ·append-right as in-right}
+use mathlib.Core.Path.{_≡_, refl, sym, ap, _∙_}
+use Prim.Native.Nat.{ℕ, zero, suc, _+_, _-_, _≤_, _<_}
+use native.Mathlib.Nat.{not-suc-le-zero, le-of-suc-le-suc}
+use native.Mathlib.Omega.{arith}
+use lib.Dec.{eqb, ltb, leb}
+use lib.ListN.{length, getD, length-append, length-map, List·getD-append}
+use lib.Seq.{getD-append-seam}
+use borrow.Author.Tests.{eqb-true, eqb-false, ltb-true, ltb-false, leb-true, eq-eqb, ne-eqb}
+use Rattle.octets.specs.Tests.{test}
+use Rattle.octets.proofs.Lists.{both}
+use Rattle.table.specs.Syntax.{Tag, Table, Body, Plain, Sequence, Set, SequenceOf, SetOf, Choice, references}
+use Rattle.table.specs.Octets.{recordShaped, bodyShaped}
+use Rattle.table.specs.Rules.{below, tagsBelow, parts, Circular, Sharing, First}
+use Rattle.table.specs.Reading.{everyAt, recordAt, look}
+use Rattle.table.specs.Fields.{Spans}
+use Rattle.table.specs.declared.record.Span.{Span}
+use Rattle.table.specs.Walk.{like, Hits, Walks, Met, Gathered, Straight}
+use Rattle.table.proofs.Nodes.{hits-reaches, reaches-hits, first-record, first-hits}
+use Rattle.table.proofs.Walk.{Kept, kept, newly, keeps, complete}
+use Rattle.table.proofs.Pieces.{length-every}
+use Rattle.table.proofs.Straight.{share-tag, shaped-body, parts-there}
+use Rattle.table.proofs.Gather.{Going, going-done, every-none}
+use Rattle.table.proofs.Loops.{every-step}
+
+abbrev pub Zero : List ℕ → Type 0
+Zero v = (j : ℕ) → getD v j 0 ≡ 0
+
+pub at-in : (l : List ℕ) (i : ℕ) → i < length l → In (getD l i 0) l
+at-in [] i h = absurd (not-suc-le-zero h)
+at-in (x ∷ l) zero h = first-of refl
+at-in (x ∷ l) (suc i) h = later (at-in l i (le-of-suc-le-suc h))
+
+-- with one mark alone, no other is met
+pub one-mark : {T : Table} {v ks w rest u : List ℕ} {a : ℕ} (r : Bool) → Zero v → Going T 1 v ks w rest → Gathered T 1 w a r u → r ≡ false
+one-mark {T} {v} {ks} {w} {rest} {u} {a} r z x y = by r refl
+  where
+    no : (e : Met T 1 w a) → Kept T 1 v (x .past) w (e .node) → ⊥
+    no e (kept p) = e .marked (p ∙ z (e .node))
+    no e (newly n p k i h) = e .other p
+
+    by : (s : Bool) → r ≡ s → r ≡ false
+    by false e = e
+    by true e = let m = y .met e in absurd (no m (keeps (x .walked) (m .node)))
+
+-- a record that has something below it has no tags
+untagged : (gs : List Tag) (b : Body) (a : ℕ) → In a (tagsBelow gs b) → gs ≡ []
+unfolding tagsBelow
+untagged [] b a i = refl
+untagged (g ∷ gs) b a i = absurd (not-in-nil i)
+
+pub no-circle : (T : Table) (t : ℕ) {l : List ℕ} → below T t ≡ l → l ≡ [] → (false ≡ true → Circular T t) × (false ≡ false → Circular T t → ⊥)
+no-circle T t e f = (λ z. absurd (false≢true z), λ _ c. not-in-nil (rw (e ∙ f) at (c .of)))
+
+pub circle-end : (T : Table) (t : ℕ) {v w : List ℕ} (step : ℕ) (b : List ℕ) (p n : ℕ) (r : Bool) → Zero v → Going T 1 v (below T t) w (everyAt step b p n) → n ≤ 0 → r ≡ not (eqb (getD w t 0) 0)
+    → (r ≡ true → Circular T t) × (r ≡ false → Circular T t → ⊥)
+circle-end T t {v} {w} step b p n r z x h e = (λ f. yes f (keeps y t), λ f c. none f c)
+  where
+    y : Walks T 1 v (below T t) w
+    y = going-done (rw (every-none step b p n h) at x)
+
+    yes : r ≡ true → Kept T 1 v (below T t) w t → Circular T t
+    yes f (kept q) = absurd (false≢true (sym (rw (eq-eqb (getD w t 0) 0 (q ∙ z t)) at e) ∙ f))
+    yes f (newly o q k i hit) = record { alternative = k; of = i; back = hits-reaches T (untagged (T t .tags) (T t .body) k i) hit }
+
+    none : r ≡ false → Circular T t → ⊥
+    none f c =
+        let q = complete {m = 1} (λ o. omega arith) (λ j o. omega (arith, z j, o)) y (c .alternative) (c .of) (reaches-hits T (untagged (T t .tags) (T t .body) (c .alternative) (c .of)) (c .back)) in
+        true≢false (sym (rw q at e) ∙ f)
+
+-- the members so far, each node that one of them hits marked with its place, counted from 1; m is the next mark, and the rest is still to come
+pub record Owned (T : Table) (ps w : List ℕ) (m : ℕ) (rest : List ℕ) : Type 0 where
+  pub past : List ℕ
+  pub mark : m ≡ suc (length past)
+  pub whole : ps ≡ past ++ rest
+  pub own : (i q : ℕ) → i < length past → Hits T q (getD past i 0) → getD w q 0 ≡ suc i
+  pub from : (q : ℕ) → (getD w q 0 ≡ 0 → ⊥) → (i : ℕ) × (i < length past) × (getD w q 0 ≡ suc i) × Hits T q (getD past i 0)
+
+pub owned-start : {T : Table} (v : List ℕ) {ps l : List ℕ} → Zero v → ps ≡ l → Owned T ps v 1 l
+owned-start v {ps} {l} z e =
+    record { past = []; mark = refl; whole = e; own = λ i q h. absurd (not-suc-le-zero h); from = λ q n. absurd (n (z q)) }
+
+module _ (T : Table) (m : ℕ) (ps w u rest : List ℕ) (a : ℕ) (x : Owned T ps w m (a ∷ rest)) where
+  e : m ≡ suc (length (x .past))
+  e = x .mark
+
+  fresh-mark : (j : ℕ) → getD w j 0 ≡ m → ⊥
+  fresh-mark j f = let (i, l, g, h) = x .from j (λ z. omega (arith, e, f, z)) in omega (arith, e, f, l, g)
+
+  size : length (x .past ++ (a ∷ [])) ≡ length (x .past) + 1
+  size = length-append (x .past) (a ∷ [])
+
+  module _ (y : Walks T m w (a ∷ []) u) where
+    own-next : (i q : ℕ) → i < length (x .past ++ (a ∷ [])) → Hits T q (getD (x .past ++ (a ∷ [])) i 0) → getD u q 0 ≡ suc i
+    own-next i q l h =
+        test (ltb i (length (x .past)))
+        (λ t. let k = ltb-true i (length (x .past)) t in before k (x .own i q k (rw (List·getD-append (x .past) (a ∷ []) 0 i k) at h)) (keeps y q))
+        (λ t. let k : i ≡ length (x .past) = omega (arith, ltb-false i (length (x .past)) t, size) in
+        complete (λ z. omega (arith, e, z)) fresh-mark y a (first-of refl) (rw getD-append-seam at (rw k at h)) ∙ e ∙ ap suc (sym k))
+      where
+        before : i < length (x .past) → getD w q 0 ≡ suc i → Kept T m w (a ∷ []) u q → getD u q 0 ≡ suc i
+        before k f (kept p) = p ∙ f
+        before k f (newly z p b j g) = absurd (omega (arith, f, z))
+
+    from-next : (q : ℕ) → (getD u q 0 ≡ 0 → ⊥) → (i : ℕ) × (i < length (x .past ++ (a ∷ []))) × (getD u q 0 ≡ suc i) × Hits T q (getD (x .past ++ (a ∷ [])) i 0)
+    from-next q n = by (keeps y q)
+      where
+        by : Kept T m w (a ∷ []) u q → (i : ℕ) × (i < length (x .past ++ (a ∷ []))) × (getD u q 0 ≡ suc i) × Hits T q (getD (x .past ++ (a ∷ [])) i 0)
+        by (kept p) =
+            let (i, l, g, h) = x .from q (λ z. n (p ∙ z)) in
+            (i, omega (arith, l, size), p ∙ g, rw (List·getD-append (x .past) (a ∷ []) 0 i l) h)
+        by (newly z p b j g) =
+            (length (x .past), omega (arith, size), p ∙ e, rw getD-append-seam (rw (in-one j) at g))
+
+    pub owned-turn : Owned T ps u (m + 1) rest
+    owned-turn =
+        record { past = x .past ++ (a ∷ []); mark = omega (arith, e, size); whole = x .whole ∙ sym (append-assoc (x .past) (a ∷ []) rest); own = own-next; from = from-next }
+
+module _ (T : Table) (n t : ℕ) (c : Straight T n) (there : (s a : ℕ) → s < n → In a (below T s) → a < n) (h : t < n) where
+  -- a node that two members hit
+  pub owned-met : (m : ℕ) (w : List ℕ) {rest : List ℕ} {a : ℕ} → Owned T (parts (T t .body)) w m (a ∷ rest) → Met T m w a → Sharing T t
+  owned-met m w {rest} {a} x y = by (x .from (y .node) (y .marked))
+    where
+      ps : List ℕ
+      ps = parts (T t .body)
+
+      here : getD ps (length (x .past)) 0 ≡ a
+      here = rw (x .whole) (getD-append-seam (x .past) a rest 0)
+
+      inside : length (x .past) < length ps
+      inside = rw (x .whole) (omega (arith, length-append (x .past) (a ∷ rest)))
+
+      by : ((i : ℕ) × (i < length (x .past)) × (getD w (y .node) 0 ≡ suc i) × Hits T (y .node) (getD (x .past) i 0)) → Sharing T t
+      by (i, l, f, g) =
+          let same : getD ps i 0 ≡ getD (x .past) i 0 = rw (x .whole) (List·getD-append (x .past) (a ∷ rest) 0 i l) in
+          let k : i < length ps = omega (arith, l, inside) in
+          let (tag, p, q) = share-tag T n c there (y .node) (getD ps i 0) (getD ps (length (x .past)) 0)
+          (parts-there T n (c .named) t (getD ps i 0) h (at-in ps i k)) (parts-there T n (c .named) t (getD ps (length (x .past)) 0) h (at-in ps (length (x .past)) inside))
+          (rw same g) (rw here (y .hit)) in
+          record { i = i; j = length (x .past); apart = l; within = inside; tag = tag; first = p; second = q }
+
+  -- no two members share a first tag
+  pub owned-end : (m : ℕ) (w : List ℕ) → Owned T (parts (T t .body)) w m [] → Sharing T t → ⊥
+  owned-end m w x y =
+      let (u, gs, f) = first-record T (y .first) in
+      let p : x .past ≡ parts (T t .body) = sym (x .whole ∙ append-nil (x .past)) in
+      let k : y .j < length (x .past) = rw p (y .within) in
+      let a = x .own (y .i) (like T u) (omega (arith, y .apart, k)) (rw p (first-hits T u (y .tag) gs f (y .first))) in
+      let b = x .own (y .j) (like T u) k (rw p (first-hits T u (y .tag) gs f (y .second))) in
+      omega (arith, a, b, y .apart)
+
+-- the next member, read from the table
+pub owned-next : {T : Table} {m : ℕ} {ps w : List ℕ} (step : ℕ) (b : List ℕ) (p n a : ℕ) → Owned T ps w m (everyAt step b p n) → 0 < n → a ≡ getD b p 0
+    → Owned T ps w m (a ∷ everyAt step b (p + step) (n - 1))
+owned-next step b p n a x h e = rw e (rw (every-step b p n h step) at x)
+
+pub owned-in : {T : Table} {m a : ℕ} {ps w rest : List ℕ} → Owned T ps w m (a ∷ rest) → In a ps
+owned-in x = rw (x .whole) (in-right (x .past) (first-of refl))
+
+pub parts-span : (b os : List ℕ) (t o : ℕ) (s : Span) → o ≡ getD os t 65535 → Spans b s (parts (recordAt b o .body))
+    → parts (look b os t .body) ≡ everyAt (s .step) b (s .first) (s .count)
+unfolding look
+parts-span b os t o s e x = rw (← e) (sym (x .is))
+
+-- a well-formed record has at most 16 members
+few-parts : (b : Body) → bodyShaped b ≡ true → length (parts b) ≤ 16
+unfolding parts bodyShaped references
+few-parts (Plain k) e = omega arith
+few-parts (Sequence ms) e = rw length-map (leb-true (length ms) 16 e)
+few-parts (Set ms) e = rw length-map (leb-true (length ms) 16 e)
+few-parts (SequenceOf t) e = omega arith
+few-parts (SetOf t) e = omega arith
+few-parts (Choice ts) e = leb-true (length ts) 16 (both (leb 1 (length ts)) (leb (length ts) 16) e .1)
+
+pub parts-few : (b os : List ℕ) (t o : ℕ) (s : Span) → o ≡ getD os t 65535 → Spans b s (parts (recordAt b o .body)) → recordShaped (look b os t) ≡ true → s .count ≤ 16
+parts-few b os t o s e x f =
+    omega (arith, few-parts (look b os t .body) (shaped-body (look b os t) f), ap length (parts-span b os t o s e x), length-every (s .step) b (s .first) (s .count))

@@ -1,0 +1,37 @@
+use borrow.Author.Needs.{needs}
+use Prim.Native.Nat.{ℕ, _-_, _≤_}
+use Rattle.table.specs.Syntax.{absent}
+use mathlib.Core.Bool.{true, false}
+use mathlib.Core.Path.{_≡_, refl, sym, _∙_}
+use native.Mathlib.Omega.{arith}
+use lib.ListN.{length}
+use Rattle.octets.proofs.Search.{Rest, rest-first, rest-here, rest-next, rest-none}
+use Rattle.table.specs.Reading.{look}
+use Rattle.table.proofs.Scan.{look-beyond}
+use Rattle.table.proofs.Decided.{decides, circular-sound, circular-complete}
+use Rattle.table.specs.Decide.{circular}
+use Rattle.table.proofs.first_tags.lowest_circular.Statement.{statement}
+use Rattle.table.proofs.first_tags.lowest_circular.Tie as tie
+use Rattle.table.proofs.first_tags.lowest_circular.Reads as reads
+use Rattle.table.proofs.first_tags.lowest_circular.Lts as lts
+use Rattle.table.proofs.first_tags.is_circular.Reads as is-circular-reads
+
+abbrev Inv-loop : tie.InvT-loop
+Inv-loop table offsets nodes n t₀ t = (n ≡ length offsets) × Rest (circular (look table offsets) (length offsets)) (length offsets) t
+
+abbrev μ-loop : tie.MeasureT-loop
+μ-loop table offsets nodes n t₀ t = n - t
+
+pub lowest-circular-spec : {M : Type 1} → statement M
+lowest-circular-spec =
+    tie.close
+    (tie.spec
+    Inv-loop
+    μ-loop
+    (λ c. (refl, rest-first _ _))  -- loop-holds
+    (λ c κs. (c .before .before .before .before .before .pre .0, c .loop-test .taken, c .before .before .before .before .before .pre .1))  -- is-circular-requires
+    (λ c. let a = c .before .before .before .before .before .before .before .args in let T = look (a .table .now) (a .offsets .now) in let n = length (a .offsets .now) in let beyond : (t : ℕ) → n ≤ t → T t ≡ absent = λ t h. look-beyond (a .table .now) (a .offsets .now) t (c .before .before .before .before .before .before .before .pre .2) h in rest-here (circular T n) n (c .before .before .before .loop .t) (c .before .before .before .loop .inv .1) (c .before .before .loop-test .taken) (decides (circular T n (c .before .before .before .loop .t)) (c .before .is-circular .result) (circular-sound T n (c .before .before .before .loop .t)) (circular-complete T n beyond (c .before .before .before .loop .t) (c .before .before .loop-test .taken)) (c .before .is-circular .ensures .0) (c .before .is-circular .ensures .1) ∙ c .if1 .taken))  -- returns
+    (λ c. search needs)  -- add-t
+    (λ c. search needs)  -- loop-less
+    (λ c. let a = c .before .before .before .before .before .before .before .args in let T = look (a .table .now) (a .offsets .now) in let n = length (a .offsets .now) in let beyond : (t : ℕ) → n ≤ t → T t ≡ absent = λ t h. look-beyond (a .table .now) (a .offsets .now) t (c .before .before .before .before .before .before .before .pre .2) h in (refl, rest-next (circular T n) n (c .before .before .before .loop .t) (c .before .before .before .loop .inv .1) (c .before .before .loop-test .taken) (decides (circular T n (c .before .before .before .loop .t)) (c .before .is-circular .result) (circular-sound T n (c .before .before .before .loop .t)) (circular-complete T n beyond (c .before .before .before .loop .t) (c .before .before .loop-test .taken)) (c .before .is-circular .ensures .0) (c .before .is-circular .ensures .1) ∙ c .if1 .left)))  -- loop-again
+    (λ c. let a = c .before .before .before .before .before .args in let T = look (a .table .now) (a .offsets .now) in rest-none (circular T (length (a .offsets .now))) (length (a .offsets .now)) (c .before .loop .t) (c .before .loop .inv .1) (c .loop-test .left)))  -- returns-2
