@@ -16,6 +16,7 @@ pub mod Causes
 pub mod Outcome
 -- What is promised of them, and the examples.
 pub mod Theorems
+pub mod Whole
 pub mod Refusals
 pub mod Examples
 -- The laws behind the promises.
