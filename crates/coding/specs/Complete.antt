@@ -23,7 +23,8 @@ use Rattle.coding.specs.Tags.{own, explicit, begins}
 use Rattle.coding.specs.Encodes.{allowed, Coding, Pieces, done, left, sent, At, first, later, Codes, is-plain, is-sequence, is-set, is-sequence-of, is-set-of, is-choice, Wrapped, bare, tagged, EncodesAt}
 use Rattle.coding.specs.Equivalent.{Slot, Alike, same-leaf, same-sequence, same-set, same-sequence-of, same-set-of, same-choice, EquivalentAt}
 use Rattle.coding.specs.Reading.{passes, begun, notAwaited, unwanted, nothing, full, readWrapped, readSequence, place, readSet, readMany, choose, readBody, readKind, readValue}
-use Rattle.coding.specs.FirstTags.{types, awaited, further, beginsAny, Distinct, Apart, GoodBody, Proper, proper-readable, proper-begun, Begins, Good}
+use Rattle.coding.specs.Awaited.{types, further, awaited}
+use Rattle.coding.specs.FirstTags.{beginsAny, Distinct, Apart, GoodBody, Proper, proper-readable, proper-begun, Begins, Good}
 use Rattle.coding.specs.Sound.{Pending, p-done, p-left, p-sent, p-have}
 
 -- m begins with identifier octets with which encodings of the type t begin; of one of the types ts

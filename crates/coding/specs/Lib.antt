@@ -9,12 +9,14 @@ pub mod Typed
 pub mod Equivalent
 pub mod Form
 pub mod Reading
+pub mod Awaited
 pub mod Judging
 pub mod Shaped
 pub mod Causes
 pub mod Outcome
 -- What is promised of them, and the examples.
 pub mod Theorems
+pub mod Whole
 pub mod Refusals
 pub mod Examples
 -- The laws behind the promises.
@@ -27,3 +29,4 @@ pub mod FormLaws
 pub mod Equivalence
 pub mod NodeLaws
 pub mod JudgingLaws
+pub mod ShapedLaws
