@@ -1,6 +1,6 @@
 -- Demands 2 and 3 of any table whose verdict is `Passed`, with no hypothesis left: the first page to read of what the definitions promise.
 -- Assumes nothing.
-use mathlib.Core.List.{List, [], _∷_, _++_}
+use mathlib.Core.List.{List, []}
 use mathlib.Core.Logic.{_↔_}
 use mathlib.Core.Path.{_≡_, refl}
 use Prim.Native.Nat.{ℕ, _≤_, _<_}

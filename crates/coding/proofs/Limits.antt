@@ -1,16 +1,16 @@
 -- The ENUMERATED numbers of a table that passes have two octets.
 -- Assumes nothing.
 use mathlib.Core.Bool.{Bool, true, false, _||_, true≢false, false≢true}
-use mathlib.Core.List.{List, [], _∷_, _++_, map}
-use mathlib.Core.Path.{_≡_, refl, sym, ap, subst, _∙_}
+use mathlib.Core.List.{List, [], _∷_, map}
+use mathlib.Core.Path.{_≡_, refl, sym, ap, _∙_}
 use native.Mathlib.Omega.{arith}
-use Prim.Native.Nat.{ℕ, zero, suc, _/_, _%_, _<_}
+use Prim.Native.Nat.{ℕ, zero, suc, _<_}
 use borrow.Author.Tests.{eqb-true}
 use lib.Dec.{eqb}
 use lib.ListN.{length}
 use Rattle.octets.specs.Lists.{joined, any}
 use Rattle.octets.specs.Numbers.{Octets, octetsOf}
-use Rattle.octets.specs.Permutations.{Every, every-nil, every-cons, every-right, AllOctets, all-octets, joined-octets}
+use Rattle.octets.specs.Permutations.{Every, every-cons, every-right, AllOctets, all-octets, joined-octets}
 use Rattle.table.specs.Syntax.{Record, Body, Plain, Enumerated, Choice, table, isChoice}
 use Rattle.table.specs.Octets.{tagOctets, own, recordOctets}
 use Rattle.table.specs.Verdict.{verdict}

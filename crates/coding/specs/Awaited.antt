@@ -4,11 +4,11 @@ use borrow.Author.Tests.{ne-eqb}
 use mathlib.Core.Bool.{Bool, true, false, not, _||_, true≢false}
 use mathlib.Core.List.{List, [], _∷_, _++_, map}
 use mathlib.Core.Option.{Option, some, none}
-use mathlib.Core.Path.{_≡_, refl, sym, ap, _∙_}
+use mathlib.Core.Path.{_≡_, refl, _∙_}
 use native.Mathlib.Omega.{arith}
-use Prim.Native.Nat.{ℕ, zero, suc, _<_}
+use Prim.Native.Nat.{ℕ, suc, _<_}
 use lib.ListN.{length}
-use Rattle.octets.specs.Answer.{Answer, got, refused, then, if, none-left, run}
+use Rattle.octets.specs.Answer.{Answer, got, refused, then, if, run}
 use Rattle.octets.specs.Lists.{any}
 use Rattle.octets.specs.Tests.{test}
 use Rattle.ber.specs.Identifier.{readIdentifier}

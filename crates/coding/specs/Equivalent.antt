@@ -1,6 +1,6 @@
 -- Equivalent values (document 01, "Values").
 -- Assumes nothing.
-use mathlib.Core.List.{List, [], _∷_}
+use mathlib.Core.List.{List}
 use mathlib.Core.Option.{Option, some, none}
 use Prim.Native.Nat.{ℕ, zero, suc}
 use Rattle.octets.specs.Permutations.{Each, Order, any-order, Arranged}

@@ -12,7 +12,6 @@ use lib.Seq.{append-snoc}
 use Rattle.octets.specs.Tests.{test}
 use Rattle.octets.specs.Lists.{any}
 use Rattle.octets.specs.Permutations.{Every, every-nil, every-cons}
-use Rattle.ber.specs.Identifier.{same, readIdentifier}
 use Rattle.ber.specs.IdentifierLaws.{same-refl, same-true, identifier-complete, identifier-tag, identifier-begun, Begun}
 use Rattle.ber.specs.ItemLaws.{Readable}
 use Rattle.table.specs.Syntax.{Tag, Member, Simple, Boolean, Integer, BitString, OctetString, Null, Enumerated, Body, Plain, Sequence, Set, SequenceOf, SetOf, Choice, Record, Table, absent, references, isChoice, universal, constructed}

@@ -1,7 +1,7 @@
 -- The outcomes of check, write and read: the answer, and what the lent buffer then holds (document 01, "Refused").
 -- Assumes nothing.
-use mathlib.Core.Bool.{Bool, not}
-use mathlib.Core.List.{List, [], _∷_, _++_}
+use mathlib.Core.Bool.{not}
+use mathlib.Core.List.{List, _++_}
 use Prim.Native.Nat.{ℕ, _-_, min}
 use lib.Dec.{ltb, leb}
 use lib.ListN.{length, drop}
@@ -12,13 +12,10 @@ use Rattle.coding.specs.Form.{formAt}
 use Rattle.coding.specs.Reading.{readMessage}
 use Rattle.coding.specs.Judging.{judgeWhole}
 use Rattle.coding.specs.Causes.{valueNumber, valuePlace, messageNumber, messagePlace, valueCause, messageCause}
-use Rattle.coding.specs.declared.ValueCause.{ValueCause}
 use Rattle.coding.specs.declared.ValueCause.the-variants.{Shape, Room as RoomV}
-use Rattle.coding.specs.declared.MessageCause.{MessageCause}
 use Rattle.coding.specs.declared.MessageCause.the-variants.{TooLong, Room}
 use Rattle.table.specs.Verdict.{number as tableNumber, place as tablePlace, verdict}
 use Rattle.table.specs.Reading.{scan, look}
-use Rattle.table.specs.declared.TableCause.{TableCause}
 use Rattle.table.specs.declared.TableCause.the-variants.{NoType}
 use Rattle.table.specs.declared.Verdict.{Verdict}
 use Rattle.table.specs.declared.Verdict.the-variants.{Passed, Refused}

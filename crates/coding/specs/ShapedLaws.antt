@@ -1,31 +1,28 @@
 -- A value equivalent to one that has octets has octets; so does every value that is read from a message of at most 8,192 octets.
 -- Assumes nothing.
 use borrow.Author.Tests.{leb-true, ltb-true, ltb-false}
-use mathlib.Core.Bool.{Bool, true, false, not, _&&_, false≢true}
-use mathlib.Core.List.{List, [], _∷_, _++_}
+use mathlib.Core.Bool.{Bool, true, false, _&&_, false≢true}
+use mathlib.Core.List.{List, [], _∷_}
 use mathlib.Core.Option.{Option, some, none}
-use mathlib.Core.Path.{_≡_, refl, sym, ap, _∙_}
+use mathlib.Core.Path.{_≡_, refl, ap, _∙_}
 use native.Mathlib.Omega.{arith}
-use Prim.Native.Nat.{ℕ, zero, suc, _+_, _*_, _-_, _≤_, _<_}
+use Prim.Native.Nat.{ℕ, zero, suc, _≤_, _<_}
 use lib.Dec.{leb, ltb}
-use lib.IntN.{pos}
 use lib.ListN.{length, length-append}
 use Rattle.octets.specs.Lists.{joined, all}
 use Rattle.octets.specs.Tests.{test}
-use Rattle.octets.specs.Permutations.{Perm, Perm·sym, Sel, Sel.here, Sel.there, Perm.none as none-p, Perm.next, Each, nil, cons, Every, every-nil, every-cons, every-perm, AllOctets, joined-octets, Order, Arranged, arranged-perm}
-use Rattle.ber.specs.Integer.{integerOf}
+use Rattle.octets.specs.Permutations.{Perm, Perm·sym, Sel, Sel.here, Sel.there, Perm.none as none-p, Perm.next, Each, nil, cons, Every, every-nil, every-cons, every-perm, AllOctets, joined-octets, Order, arranged-perm}
 use Rattle.ber.specs.IntegerLaws.{integer-fits}
-use Rattle.ber.specs.BitString.{unused, masked}
+use Rattle.ber.specs.BitString.{masked}
 use Rattle.ber.specs.BitStringLaws.{masked-masked, masked-unused, masked-octets}
-use Rattle.ber.specs.Length.{Length, short, long}
+use Rattle.ber.specs.Length.{short, long}
 use Rattle.ber.specs.Item.{Definite, sized, Constructed, in-size, in-marks}
 use Rattle.ber.specs.ItemLaws.{definite-octets, constructed-octets}
 use Rattle.table.specs.Syntax.{Member, Simple, Boolean, Integer, BitString, OctetString, Null, Enumerated, Body, Plain, Sequence, Set, SequenceOf, SetOf, Choice, Record, Table, absent}
 use Rattle.table.specs.Octets.{bodyShaped, recordShaped}
 use Rattle.table.specs.Passes.{Passes}
-use Rattle.coding.specs.Value.{Leaf, boolean, integer, bits, string, null, enumerated, Value, leaf, sequence, set, sequenceOf, setOf, choice, Slots, end, missing, present, slots, bag, count, bitCount}
+use Rattle.coding.specs.Value.{Leaf, Value, slots, bag, count}
 use Rattle.coding.specs.Content.{listed, Content, c-boolean, c-integer, c-bits, c-string, c-null, c-enumerated}
-use Rattle.coding.specs.Tags.{own, explicit}
 use Rattle.coding.specs.Encodes.{Coding, Pieces, done, left, sent, At, first, later, Codes, is-plain, is-sequence, is-set, is-sequence-of, is-set-of, is-choice, Wrapped, bare, tagged, EncodesAt}
 use Rattle.coding.specs.Equivalent.{Slot, Alike, same-leaf, same-sequence, same-set, same-sequence-of, same-set-of, same-choice, EquivalentAt}
 use Rattle.coding.specs.Shaped.{LeafShaped, Whole, Shaped, AllShaped}

@@ -5,7 +5,7 @@ use mathlib.Core.List.{List, [], _∷_, map}
 use Prim.Native.Nat.{ℕ, zero, suc}
 use Rattle.octets.specs.Lists.{any}
 use Rattle.ber.specs.Identifier.{identifier, same}
-use Rattle.table.specs.Syntax.{Tag, Simple, Body, Plain, Sequence, Set, SequenceOf, SetOf, Choice, Record, Table, universal, constructed}
+use Rattle.table.specs.Syntax.{Tag, Body, Plain, Sequence, Set, SequenceOf, SetOf, Choice, Record, Table, universal, constructed}
 
 unfoldable pub identifierOf : Bool → Tag → List ℕ
 identifierOf b g = identifier (g .class) b (g .number)

@@ -1,18 +1,17 @@
 -- What is promised of reading and writing: demands 2 and 3 over the outcomes, with 8,192, 16,384, 24 levels and the buffer's length in them.
 -- Assumes nothing.
-use borrow.Author.Tests.{leb-true, le-leb, lt-leb, ltb-true, lt-ltb}
-use mathlib.Core.Bool.{Bool, true, false, not, true≢false}
+use borrow.Author.Tests.{leb-true, le-leb, lt-leb, lt-ltb}
+use mathlib.Core.Bool.{true, false, not, true≢false}
 use mathlib.Core.List.{List, [], _∷_, _++_, append-nil}
 use mathlib.Core.Logic.{_↔_}
 use mathlib.Core.Path.{_≡_, refl, sym, ap, subst, _∙_}
 use native.Mathlib.Omega.{arith}
-use Prim.Native.Nat.{ℕ, suc, _≤_, _<_, _-_, min, max}
+use Prim.Native.Nat.{ℕ, _≤_, _<_, min, max}
 use lib.Dec.{ltb, leb}
 use lib.ListN.{length, drop}
-use Rattle.octets.specs.Answer.{Answer, got, refused, then, if, none-left, run, Holds, yields, refuses, if-holds, if-cases, then-holds, got-holds, got-value, got-rest, Reads, Taken, refused≢got}
+use Rattle.octets.specs.Answer.{Answer, got, refused, none-left, run, Holds, yields, refuses, if-holds, if-cases, then-holds, got-holds, got-value, got-rest, Reads}
 use Rattle.octets.specs.Numbers.{Octets}
-use Rattle.octets.specs.Permutations.{AllOctets, all-octets, every-left, Order, any-order, as-given}
-use Rattle.ber.specs.ItemLaws.{Short}
+use Rattle.octets.specs.Permutations.{all-octets, Order, any-order, as-given}
 use Rattle.table.specs.Syntax.{Table}
 use Rattle.table.specs.Passes.{Passes}
 use Rattle.coding.specs.Value.{Value, octets, depth}
@@ -20,12 +19,12 @@ use Rattle.coding.specs.Encodes.{EncodesAt, Encodes, Arrives}
 use Rattle.coding.specs.Typed.{WellTypedAt, WellTyped}
 use Rattle.coding.specs.Equivalent.{EquivalentAt, Equivalent}
 use Rattle.coding.specs.Form.{formAt}
-use Rattle.coding.specs.Reading.{begun, notAwaited, readValue, readMessage}
-use Rattle.coding.specs.Outcome.{levels, longestValue, longestMessage, Outcome, Told, done, refusal, Refusal, of-message, refuse, write-at-start, afterReading, readOutcome, of-value, afterJudging, writeOutcome}
+use Rattle.coding.specs.Reading.{begun, readValue, readMessage}
+use Rattle.coding.specs.Outcome.{levels, longestValue, longestMessage, Outcome, Told, done, refusal, Refusal, refuse, write-at-start, afterReading, readOutcome, of-value, afterJudging, writeOutcome}
 use Rattle.coding.specs.ContentLaws.{not-false}
 use Rattle.coding.specs.Sound.{value-sound, not-awaited}
 use Rattle.coding.specs.FirstTags.{Good, good, proper-readable}
-use Rattle.coding.specs.Complete.{value-complete, starts-at, Starts, next-is, started-some}
+use Rattle.coding.specs.Complete.{value-complete, starts-at, next-is, started-some}
 use Rattle.coding.specs.Levels.{relevel, retype, well-typed, deep, in-some-order}
 use Rattle.coding.specs.FormLaws.{form-encodes}
 use Rattle.coding.specs.Shaped.{Shaped}

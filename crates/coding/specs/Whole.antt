@@ -1,20 +1,18 @@
 -- Demands 2 and 3 on raw octets: a table that document 01 doesn't refuse, a type, a message or a value, a buffer.
 -- They rely on the promise of the table's check alone, which is taken here as a hypothesis.
 -- Assumes nothing.
-use mathlib.Core.Bool.{Bool, true}
-use mathlib.Core.List.{List, [], _∷_, _++_}
+use mathlib.Core.List.{List}
 use mathlib.Core.Logic.{_↔_}
-use mathlib.Core.Path.{_≡_, refl, sym, ap, subst, _∙_}
+use mathlib.Core.Path.{_≡_, sym, ap, subst, _∙_}
 use Prim.Native.Nat.{ℕ, _≤_, _<_}
 use lib.ListN.{length}
 use Rattle.octets.specs.Numbers.{Octets}
-use Rattle.table.specs.Syntax.{Plain, Enumerated, Table}
+use Rattle.table.specs.Syntax.{Table}
 use Rattle.table.specs.Passes.{Passes}
 use Rattle.table.specs.Reading.{scan, look}
 use Rattle.table.specs.Verdict.{verdict}
-use Rattle.table.specs.declared.Verdict.the-variants.{Passed, Refused}
+use Rattle.table.specs.declared.Verdict.the-variants.{Passed}
 use Rattle.coding.specs.Value.{Value, octets, depth}
-use Rattle.coding.specs.Content.{listed}
 use Rattle.coding.specs.Encodes.{Encodes}
 use Rattle.coding.specs.Typed.{WellTyped}
 use Rattle.coding.specs.Shaped.{Shaped}
