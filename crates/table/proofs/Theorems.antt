@@ -8,7 +8,7 @@ use mathlib.Core.Path.{_≡_, refl, sym, subst, _∙_}
 use Prim.Native.Nat.{ℕ, _≤_, _<_}
 use native.Mathlib.Omega.{arith}
 use lib.Dec.{ltb}
-use lib.ListN.{length}
+use lib.ListN.{length, take}
 use borrow.Author.Tests.{ltb-true, ltb-false}
 use Rattle.octets.specs.Tests.{test}
 use Rattle.octets.specs.Numbers.{Octets}
@@ -17,7 +17,9 @@ use Rattle.table.specs.Octets.{Spells, Misshapen}
 use Rattle.table.specs.Reading.{scan, look}
 use Rattle.table.specs.Verdict.{number, place, verdict}
 use Rattle.table.specs.Cause.{Cause, FirstCause}
+use Rattle.table.specs.Index.{CheckedTable}
 use Rattle.table.specs.Passes.{Passes}
+use Rattle.table.specs.declared.Checked.{Checked}
 use Rattle.table.specs.declared.TableCause.{TableCause}
 use Rattle.table.specs.declared.TableCause.the-variants.{NoType}
 use Rattle.table.specs.declared.Verdict.{Verdict}
@@ -96,3 +98,11 @@ module _ (b : List ℕ) (o : Octets b) where
 
   pub passed-records : verdict b ≡ Passed → (rs : List Record) × Spells b rs × (look b (scan b .offsets) ≡ table rs)
   passed-records e = let f = sound b o (passed-none e) in (f .records, f .spells, looks b o (f .spells))
+
+  -- What a check that passes answers: an index through which the octets read as such a table.
+  pub checked-passes : (c : Checked) → CheckedTable b c → c .verdict ≡ Passed
+      → Passes (look b (take (c .index .count) (c .index .offsets))) (c .index .count)
+  checked-passes c x e =
+      let p = sym (x .is) ∙ e in
+      let i = x .index p in
+      rw (i .offsets, i .count) (passes p)
