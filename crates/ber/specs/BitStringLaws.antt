@@ -6,7 +6,7 @@ use lib.Pow.{pow-pos}
 use native.Mathlib.Nat.{mul-div-cancel, div-mul-le-self}
 use native.Mathlib.Omega.{arith}
 use Prim.Native.Nat.{ℕ, _*_, _/_, _^_}
-use Rattle.octets.specs.Permutations.{AllOctets, every-nil, every-cons}
+use Rattle.octets.specs.Permutations.{AllOctets, every-cons}
 use Rattle.ber.specs.BitString.{unused, masked}
 
 masked-cons : (n x y : ℕ) (c : List ℕ) → masked n (x ∷ masked n (y ∷ c)) ≡ x ∷ masked n (masked n (y ∷ c))

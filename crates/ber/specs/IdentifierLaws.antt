@@ -9,7 +9,7 @@ use Prim.Native.Nat.{ℕ, zero, suc, _+_, _-_, _*_, _/_, _%_, _≤_, _<_}
 use lib.Dec.{ltb, eqb}
 use lib.ListN.{length, getD}
 use lib.Seq.{append-snoc}
-use Rattle.octets.specs.Answer.{Answer, got, refused, then, if, Holds, yields, refuses, if-holds, then-holds, map-holds, if-cases, run}
+use Rattle.octets.specs.Answer.{got, Holds, yields, refuses, if-holds, then-holds, map-holds, if-cases, run}
 use Rattle.ber.specs.Identifier.{bit, leading, following, identifier, readFollowing, readIdentifier, same}
 
 and-left : (a b : Bool) → (a && b) ≡ true → a ≡ true

@@ -2,10 +2,10 @@
 -- Assumes nothing.
 use mathlib.Core.Path.{_≡_, refl, sym, ap, _∙_}
 use mathlib.Core.Bool.{Bool, true, false, not, _&&_, _||_, true≢false}
-use mathlib.Core.List.{List, [], _∷_, _++_}
+use mathlib.Core.List.{List, [], _∷_}
 use mathlib.Core.Logic.{_⊎_, inl, inr, ⊎-elim}
-use Prim.Native.Nat.{ℕ, zero, suc, _+_, _-_, _*_, _/_, _%_, _^_, _≤_, _<_}
-use native.Mathlib.Nat.{zero-add, one-mul, pow-zero, pow-suc, pow-le-pow-right}
+use Prim.Native.Nat.{ℕ, suc, _+_, _-_, _*_, _/_, _%_, _^_, _≤_, _<_}
+use native.Mathlib.Nat.{zero-add, pow-suc, pow-le-pow-right}
 use native.Mathlib.Omega.{arith}
 use borrow.Author.Tests.{ltb-true, ltb-false, eqb-true}
 use lib.Dec.{ltb, eqb}
@@ -15,8 +15,8 @@ use mir.Syntax.{w64}
 use mir.Val.{SFits, toZ, ofZ}
 use mir.Facts.{fits-ofZ}
 use mir.ValLaws.{toZ-pos, toZ-neg, toZ-ofZ, ofZ-toZ}
-use Rattle.octets.specs.Answer.{if, if-cases}
-use Rattle.octets.specs.Permutations.{AllOctets, every-nil, every-cons}
+use Rattle.octets.specs.Answer.{if-cases}
+use Rattle.octets.specs.Permutations.{AllOctets, every-cons}
 use Rattle.ber.specs.Integer.{negative, digit, pile, signed, integerOf, spare, minimal, eight, eightOf, fewest, fewestOf}
 
 -- the eight octets read back

@@ -1,6 +1,6 @@
 -- Items: identifier octets, length octets, contents and, where the length is indefinite, an end (X.690, 8.1; document 01, "Messages").
 -- Assumes nothing.
-use mathlib.Core.Bool.{Bool, not}
+use mathlib.Core.Bool.{not}
 use mathlib.Core.List.{List, [], _∷_, _++_}
 use mathlib.Core.Path.{_≡_}
 use Prim.Native.Nat.{ℕ, _-_}

@@ -1,18 +1,17 @@
 -- Laws of items: what may be sent is read, and what is read may be sent.
 -- Assumes nothing.
-use borrow.Author.Tests.{eqb-true, eq-eqb, ne-eqb}
-use lib.Dec.{leb, eqb}
-use lib.ListN.{length, getD, take, drop, length-append, take-append-drop}
+use borrow.Author.Tests.{ne-eqb}
+use lib.ListN.{length, take, drop, length-append, take-append-drop}
 use lib.Seq.{length-take-le, take-append-seam, drop-append-seam}
 use mathlib.Core.Bool.{Bool, true, false, not, true≢false}
 use mathlib.Core.List.{List, [], _∷_, _++_, append-assoc, append-nil}
 use mathlib.Core.Path.{_≡_, refl, sym, ap, _∙_}
 use native.Mathlib.Omega.{arith}
-use Prim.Native.Nat.{ℕ, zero, suc, _+_, _-_, _^_, _≤_, _<_}
-use Rattle.octets.specs.Answer.{Answer, got, refused, then, if, behind, none-left, Holds, yields, refuses, if-true, if-false, if-holds, then-holds, map-holds, behind-holds, run, Reads}
+use Prim.Native.Nat.{ℕ, zero, suc, _^_, _≤_, _<_}
+use Rattle.octets.specs.Answer.{Answer, got, if, none-left, Holds, yields, refuses, if-holds, then-holds, map-holds, behind-holds, run, Reads}
 use Rattle.octets.specs.Permutations.{AllOctets, every-left, every-right}
-use Rattle.ber.specs.Identifier.{identifier, readIdentifier, same}
-use Rattle.ber.specs.IdentifierLaws.{same-refl, same-true, identifier-sound, identifier-complete}
+use Rattle.ber.specs.Identifier.{readIdentifier, same}
+use Rattle.ber.specs.IdentifierLaws.{same-refl, same-true, identifier-sound}
 use Rattle.ber.specs.Length.{Length, lengthOctets, Size, definite, indefinite, readLength}
 use Rattle.ber.specs.LengthLaws.{length-complete, length-sound, length-octets, Shape, is-definite, is-indefinite}
 use Rattle.ber.specs.Item.{Definite, sized, Constructed, in-size, in-marks, item, Mode, closed, open-ended, atEnd, readHeader, inside, readConstructed, contents, readPrimitive}

@@ -1,6 +1,5 @@
 -- The refusals of the value stage and of the message stage: their numbers and places (document 01, "Refused").
 -- Assumes nothing.
-use mathlib.Core.Bool.{Bool}
 use Prim.Native.Nat.{ℕ}
 use lib.Dec.{eqb}
 use Rattle.octets.specs.Answer.{if}

@@ -1,29 +1,30 @@
 -- Whatever a sender may send is read to its end, and what is read is equivalent to what was meant.
 -- Assumes nothing.
-use mathlib.Core.Bool.{Bool, true, false, not, _&&_, _||_, false≢true, true≢false}
+use mathlib.Core.Bool.{Bool, true, false, _&&_, _||_, false≢true, true≢false}
 use mathlib.Core.List.{List, [], _∷_, _++_, append-assoc, append-nil}
 use mathlib.Core.Option.{Option, some, none}
-use mathlib.Core.Path.{_≡_, refl, sym, ap, _∙_, subst}
+use mathlib.Core.Path.{_≡_, refl, sym, ap, _∙_}
 use native.Mathlib.Nat.{add-zero, zero-add}
 use native.Mathlib.Omega.{arith}
-use Prim.Native.Nat.{ℕ, zero, suc, _+_, _<_, _≤_}
+use Prim.Native.Nat.{ℕ, zero, suc, _+_, _<_}
 use lib.ListN.{length, getD, length-append}
 use lib.Seq.{append-snoc}
 use Rattle.octets.specs.Answer.{Answer, got, refused, then, if, none-left, run, Reads}
 use Rattle.octets.specs.Lists.{any, joined}
-use Rattle.octets.specs.Permutations.{flat, joined-flat, Sel, Sel.here, Sel.there, Perm, Perm.none as none-p, Perm.next, Each, nil, cons, Order, Arranged, arranged-each, Every, every-nil, every-cons}
+use Rattle.octets.specs.Permutations.{flat, joined-flat, Sel, Sel.here, Sel.there, Perm, Perm.none as none-p, Perm.next, Each, nil, cons, Order, Arranged, arranged-each, Every, every-cons}
 use Rattle.ber.specs.Identifier.{readIdentifier}
 use Rattle.ber.specs.IdentifierLaws.{Begun}
-use Rattle.ber.specs.Item.{Mode, Definite, sized, Constructed, in-size, in-marks, atEnd, readConstructed, readPrimitive}
+use Rattle.ber.specs.Item.{Mode, Definite, sized, Constructed, in-size, in-marks, atEnd}
 use Rattle.ber.specs.ItemLaws.{Ends, no-more, mark, atEnd-end, atEnd-more, Readable, constructed-complete, primitive-complete}
-use Rattle.table.specs.Syntax.{Member, Body, Plain, Sequence, Set, SequenceOf, SetOf, Choice, Table, isChoice}
+use Rattle.table.specs.Syntax.{Member, Body, Sequence, Set, SequenceOf, SetOf, Table, isChoice}
 use Rattle.coding.specs.Value.{Value, leaf, sequence, set, sequenceOf, setOf, choice, slots, bag}
 use Rattle.coding.specs.ContentLaws.{content-complete}
 use Rattle.coding.specs.Tags.{own, explicit, begins}
 use Rattle.coding.specs.Encodes.{allowed, Coding, Pieces, done, left, sent, At, first, later, Codes, is-plain, is-sequence, is-set, is-sequence-of, is-set-of, is-choice, Wrapped, bare, tagged, EncodesAt}
-use Rattle.coding.specs.Typed.{Slot, Alike, same-leaf, same-sequence, same-set, same-sequence-of, same-set-of, same-choice, EquivalentAt}
-use Rattle.coding.specs.Reading.{passes, begun, notAwaited, unwanted, nothing, full, readWrapped, readSequence, place, readSet, readMany, choose, readBody, readKind, readValue}
-use Rattle.coding.specs.FirstTags.{types, awaited, further, beginsAny, Distinct, Apart, GoodBody, Proper, proper-readable, proper-begun, Begins, Good}
+use Rattle.coding.specs.Equivalent.{Slot, Alike, same-leaf, same-sequence, same-set, same-sequence-of, same-set-of, same-choice, EquivalentAt}
+use Rattle.coding.specs.Reading.{passes, begun, nothing, full, readWrapped, readSequence, place, readSet, readMany, choose, readBody, readKind, readValue}
+use Rattle.coding.specs.Awaited.{types, further, awaited}
+use Rattle.coding.specs.FirstTags.{beginsAny, Distinct, Apart, GoodBody, Proper, proper-readable, proper-begun, Begins, Good}
 use Rattle.coding.specs.Sound.{Pending, p-done, p-left, p-sent, p-have}
 
 -- m begins with identifier octets with which encodings of the type t begin; of one of the types ts

@@ -21,8 +21,9 @@ use Rattle.coding.specs.Value.{Leaf, boolean, integer, bits, string, nul
 unfoldable pub listed : List ℕ → ℕ → Bool
 listed ns k = any (λ n. eqb n k) ns
 
--- The contents that X.690 permits for a leaf. 8.2: "BOOLEAN: 00 false, all others true". 8.3: "INTEGER and ENUMERATED contents:
--- two's complement in the fewest octets, at most 8". 8.4, 8.6: "unused bits may have any setting and are read as 0". 8.7, 8.8.
+-- The contents that X.690 permits for a leaf. 8.2: "BOOLEAN: 00 false, all others true". 8.3, 8.4: "INTEGER and ENUMERATED contents:
+-- two's complement in the fewest octets, at most 8; an ENUMERATED number must be listed". 8.6: "unused bits may have any setting and are read as 0".
+-- 8.7: the octets of an OCTET STRING. 8.8: a NULL has none.
 pub data Content : Simple → Leaf → List ℕ → Type 0 where
   c-boolean : {x : ℕ} → Content Boolean (boolean (not (eqb x 0))) (x ∷ [])
   c-integer : {c : List ℕ} → minimal c ≡ true → length c ≤ 8 → Content Integer (integer (integerOf c)) c
@@ -31,7 +32,7 @@ pub data Content : Simple → Leaf → List ℕ → Type 0 where
   c-null : Content Null null []
   c-enumerated : {ns c : List ℕ} {k : ℕ} → minimal c ≡ true → length c ≤ 8 → integerOf c ≡ pos k → listed ns k ≡ true → Content (Enumerated ns) (enumerated k) c
 
--- the leaves of a kind: an INTEGER of 64 bits, spare bits 0, an ENUMERATED number that is listed
+-- the leaves of a kind: an INTEGER of 64 bits, spare bits 0, an ENUMERATED number that is listed (a table's numbers are far below 2 ^ 63)
 pub data TypedLeaf : Simple → Leaf → Type 0 where
   l-boolean : {b : Bool} → TypedLeaf Boolean (boolean b)
   l-integer : {z : ℤ} → SFits w64 z → TypedLeaf Integer (integer z)

@@ -1,23 +1,23 @@
 -- Laws of the contents of simple kinds: what may be sent is read, what is read may be sent and is a leaf of the kind, what is written may be sent.
 -- Assumes nothing.
-use borrow.Author.Tests.{leb-true, le-leb, eq-eqb, ne-eqb}
-use lib.Dec.{leb, eqb}
+use borrow.Author.Tests.{leb-true, le-leb, ne-eqb}
+use lib.Dec.{leb}
 use lib.IntN.{ℤ, pos, negsuc}
-use lib.ListN.{length, getD, drop}
+use lib.ListN.{length}
 use mathlib.Core.Bool.{Bool, true, false, not, true≢false, false≢true}
 use mathlib.Core.List.{List, [], _∷_}
-use mathlib.Core.Path.{_≡_, refl, sym, ap, _∙_}
+use mathlib.Core.Path.{_≡_, refl, _∙_}
 use native.Mathlib.Omega.{arith}
-use Prim.Native.Nat.{ℕ, zero, suc, _≤_}
-use Rattle.octets.specs.Answer.{Answer, got, refused, if, none-left, Holds, yields, refuses, if-holds, run}
-use Rattle.octets.specs.Permutations.{AllOctets, every-nil, every-cons}
+use Prim.Native.Nat.{ℕ, suc}
+use Rattle.octets.specs.Answer.{got, none-left, Holds, yields, refuses, if-holds, run}
+use Rattle.octets.specs.Permutations.{AllOctets, every-cons}
 use Rattle.ber.specs.Integer.{integerOf, minimal, fewestOf}
-use Rattle.ber.specs.IntegerLaws.{Written, fewest-written, integer-fits}
-use Rattle.ber.specs.BitString.{unused, masked}
+use Rattle.ber.specs.IntegerLaws.{fewest-written, integer-fits}
+use Rattle.ber.specs.BitString.{unused}
 use Rattle.ber.specs.BitStringLaws.{masked-masked, masked-unused, masked-octets}
 use Rattle.table.specs.Syntax.{Simple, Boolean, Integer, BitString, OctetString, Null, Enumerated}
-use Rattle.coding.specs.Value.{Leaf, boolean, integer, bits, string, null, enumerated}
-use Rattle.coding.specs.Content.{listed, Content, c-boolean, c-integer, c-bits, c-string, c-null, c-enumerated, TypedLeaf, l-boolean, l-integer, l-bits, l-string, l-null, l-enumerated, truth, encode, isListed, natural, decode}
+use Rattle.coding.specs.Value.{Leaf}
+use Rattle.coding.specs.Content.{listed, Content, c-boolean, c-integer, c-bits, c-string, c-null, c-enumerated, TypedLeaf, l-boolean, l-integer, l-bits, l-string, l-null, l-enumerated, encode, isListed, natural, decode}
 
 pub not-false : (b : Bool) → not b ≡ false → b ≡ true
 not-false true e = refl

@@ -1,15 +1,14 @@
 -- Equivalence of values: symmetric, transitive, of one length in octets; in the order that is given it is equality.
 -- Assumes nothing.
-use mathlib.Core.Bool.{Bool}
-use mathlib.Core.List.{List, [], _∷_, _++_}
+use mathlib.Core.List.{List, [], _∷_}
 use mathlib.Core.Option.{Option, some, none}
-use mathlib.Core.Path.{_≡_, refl, sym, ap, _∙_}
+use mathlib.Core.Path.{_≡_, refl, ap}
 use native.Mathlib.Omega.{arith}
 use Prim.Native.Nat.{ℕ, zero, suc, _+_, _≤_}
 use lib.ListN.{length, length-append}
-use Rattle.octets.specs.Permutations.{Sel, Sel.here, Sel.there, Perm, Perm.none as none-p, Perm.next, Perm·sym, Perm·trans, Each, nil, cons, each-flip, each-map, each-then, Order, any-order, as-given, Arranged, permuted, kept, arranged-each, arranged-perm}
-use Rattle.coding.specs.Value.{Leaf, Value, leaf, sequence, set, sequenceOf, setOf, choice, Slots, end, missing, present, slots, bag, count, presence, octets, parts}
-use Rattle.coding.specs.Typed.{Slot, Alike, same-leaf, same-sequence, same-set, same-sequence-of, same-set-of, same-choice, EquivalentAt}
+use Rattle.octets.specs.Permutations.{Sel, Sel.here, Sel.there, Perm, Perm.none as none-p, Perm.next, Perm·sym, Perm·trans, Each, nil, cons, each-flip, each-map, each-then, Order, as-given, Arranged, permuted, kept, arranged-each, arranged-perm}
+use Rattle.coding.specs.Value.{Leaf, Value, leaf, sequence, set, sequenceOf, setOf, choice, Slots, end, missing, present, slots, bag, presence, octets, parts}
+use Rattle.coding.specs.Equivalent.{Slot, Alike, same-leaf, same-sequence, same-set, same-sequence-of, same-set-of, same-choice, EquivalentAt}
 
 members-of : Slots → List (Option Value)
 members-of end = []

@@ -12,26 +12,13 @@ use lib.Seq.{append-snoc}
 use Rattle.octets.specs.Tests.{test}
 use Rattle.octets.specs.Lists.{any}
 use Rattle.octets.specs.Permutations.{Every, every-nil, every-cons}
-use Rattle.ber.specs.Identifier.{same, readIdentifier}
 use Rattle.ber.specs.IdentifierLaws.{same-refl, same-true, identifier-complete, identifier-tag, identifier-begun, Begun}
 use Rattle.ber.specs.ItemLaws.{Readable}
 use Rattle.table.specs.Syntax.{Tag, Member, Simple, Boolean, Integer, BitString, OctetString, Null, Enumerated, Body, Plain, Sequence, Set, SequenceOf, SetOf, Choice, Record, Table, absent, references, isChoice, universal, constructed}
 use Rattle.table.specs.Rules.{Mistagged, missing, not-last, not-its-number, on-choice, bodyBelow, tagsBelow, below, First, outermost, inside, parts, Sharing}
 use Rattle.table.specs.Passes.{Nested, Passes}
+use Rattle.coding.specs.Awaited.{types, further, awaited}
 use Rattle.coding.specs.Tags.{identifierOf, last, before, explicitTags, own, explicit, beginsBody, beginsItem, beginsIn, begins}
-
--- the types of the members
-abbrev pub types : List Member → List ℕ
-types ms = map (λ m. m .type) ms
-
-abbrev pub further : Bool → List ℕ → List ℕ
-further true ts = ts
-further false ts = []
-
--- "Awaited are, in a SEQUENCE, the members after the last one read, up to and with the next mandatory one"
-unfoldable pub awaited : List Member → List ℕ
-awaited [] = []
-awaited (m ∷ ms) = m .type ∷ further (m .optional) (awaited ms)
 
 -- i begins one of the types
 abbrev pub beginsAny : Table → List ℕ → List ℕ → Bool

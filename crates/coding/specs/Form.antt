@@ -5,9 +5,9 @@ use Prim.Native.Nat.{ℕ, zero, suc}
 use lib.ListN.{getD}
 use Rattle.octets.specs.Lists.{joined}
 use Rattle.ber.specs.Item.{item}
-use Rattle.table.specs.Syntax.{Member, Simple, Body, Plain, Sequence, Set, SequenceOf, SetOf, Choice, Table}
+use Rattle.table.specs.Syntax.{Member, Body, Plain, Sequence, Set, SequenceOf, SetOf, Choice, Table}
 use Rattle.table.specs.Rules.{members}
-use Rattle.coding.specs.Value.{Leaf, Value, leaf, sequence, set, sequenceOf, setOf, choice, Slots, end, missing, present}
+use Rattle.coding.specs.Value.{Value, leaf, sequence, set, sequenceOf, setOf, choice, Slots, end, missing, present}
 use Rattle.coding.specs.Content.{encode}
 use Rattle.coding.specs.Tags.{own, explicit}
 

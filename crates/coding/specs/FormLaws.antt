@@ -1,22 +1,21 @@
 -- The written form of a well-typed value is one of its permitted encodings.
 -- Assumes nothing.
-use mathlib.Core.Bool.{Bool, true}
 use mathlib.Core.List.{List, [], _∷_, _++_}
-use mathlib.Core.Option.{Option, some, none}
+use mathlib.Core.Option.{Option}
 use mathlib.Core.Path.{_≡_, refl}
 use native.Mathlib.Omega.{arith}
-use Prim.Native.Nat.{ℕ, zero, suc, _+_, _<_, _≤_}
-use lib.ListN.{length, getD, length-append}
+use Prim.Native.Nat.{ℕ, zero, suc}
+use lib.ListN.{getD, length-append}
 use Rattle.octets.specs.Lists.{joined}
 use Rattle.octets.specs.Permutations.{Perm·refl, Each, nil, cons, Every, every-nil, every-cons, Order, arranged-refl}
 use Rattle.ber.specs.Item.{in-size}
 use Rattle.ber.specs.ItemLaws.{Short, item-content, item-definite}
 use Rattle.table.specs.Syntax.{Member, Body, Table}
 use Rattle.table.specs.Rules.{members}
-use Rattle.coding.specs.Value.{Value, leaf, choice, slots, bag}
+use Rattle.coding.specs.Value.{Value, slots, bag}
 use Rattle.coding.specs.Content.{encode}
 use Rattle.coding.specs.ContentLaws.{encode-content}
-use Rattle.coding.specs.Tags.{own, explicit}
+use Rattle.coding.specs.Tags.{explicit}
 use Rattle.coding.specs.Encodes.{Coding, Pieces, done, left, sent, At, first, later, Codes, is-plain, is-sequence, is-set, is-sequence-of, is-set-of, is-choice, Wrapped, bare, tagged, EncodesAt}
 use Rattle.coding.specs.Typed.{Fits, f-done, f-left, f-sent, Typed, t-plain, t-sequence, t-set, t-sequence-of, t-set-of, t-choice, WellTypedAt}
 use Rattle.coding.specs.Form.{element, alternatives, formMembers, formElements, formBody, wrap, formAt}

@@ -1,28 +1,24 @@
 -- Octets are judged to be a value of a type exactly when they are the octets of one; and a tree has one octet form.
 -- Assumes nothing.
 use borrow.Author.Tests.{ltb-true, lt-ltb, eqb-true, eq-eqb}
-use mathlib.Core.Bool.{Bool, true, false, not, _&&_, _||_, true≢false, false≢true}
+use mathlib.Core.Bool.{Bool, true, false, _&&_, true≢false, false≢true}
 use mathlib.Core.List.{List, [], _∷_, _++_, append-assoc, append-nil}
 use mathlib.Core.Option.{Option, some, none}
 use mathlib.Core.Logic.{_↔_}
 use mathlib.Core.Path.{_≡_, refl, sym, ap, _∙_}
 use native.Mathlib.Omega.{arith}
-use Prim.Native.Nat.{ℕ, zero, suc, _+_, _<_, _≤_, max}
-use lib.Dec.{ltb, eqb}
-use lib.IntN.{pos}
+use Prim.Native.Nat.{ℕ, zero, suc, _<_, _≤_}
+use lib.Dec.{eqb}
 use lib.ListN.{length, getD, length-append}
 use lib.Seq.{append-snoc}
-use mir.Syntax.{w64}
-use mir.Val.{SFits}
-use Rattle.octets.specs.Answer.{Answer, got, refused, then, if, none-left, run, Holds, yields, refuses, if-holds, then-holds, map-holds, got-holds, got-value, got-rest}
+use Rattle.octets.specs.Answer.{Answer, got, none-left, run, Holds, yields, refuses, if-holds, then-holds, map-holds, got-holds, got-value}
 use Rattle.octets.specs.Numbers.{octetsOf, Octets}
 use Rattle.octets.specs.Lists.{any}
 use Rattle.octets.specs.Permutations.{Every, every-nil, every-cons, every-right, AllOctets, all-octets}
-use Rattle.ber.specs.Integer.{eightOf}
 use Rattle.table.specs.Syntax.{Member, Simple, Boolean, Integer, BitString, OctetString, Null, Enumerated, Body, Plain, Sequence, Set, SequenceOf, SetOf, Choice, Table}
 use Rattle.table.specs.Octets.{kind}
 use Rattle.table.specs.Rules.{members}
-use Rattle.coding.specs.Value.{Leaf, boolean, integer, bits, string, null, enumerated, Value, leaf, sequence, set, sequenceOf, setOf, choice, Slots, end, missing, present, slots, bag, leafOctets, count, presence, octets, parts, depth, depths, flag}
+use Rattle.coding.specs.Value.{Leaf, boolean, integer, bits, string, null, enumerated, Value, leaf, sequence, set, sequenceOf, setOf, choice, Slots, end, missing, present, slots, bag, leafOctets, count, presence, octets, parts, depth, depths}
 use Rattle.coding.specs.Content.{listed, TypedLeaf, l-boolean, l-integer, l-bits, l-string, l-null, l-enumerated}
 use Rattle.coding.specs.ContentLaws.{not-false}
 use Rattle.coding.specs.Encodes.{allowed, At, first, later}

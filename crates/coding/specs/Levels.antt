@@ -1,17 +1,14 @@
 -- An encoding, and a type, at one level is one at every level that the value's depth allows; what is encoded is well-typed.
 -- Assumes nothing.
-use mathlib.Core.Bool.{Bool, true}
-use mathlib.Core.List.{List, [], _∷_}
-use mathlib.Core.Option.{Option, some, none}
-use mathlib.Core.Path.{_≡_, refl}
+use mathlib.Core.List.{List}
+use mathlib.Core.Option.{Option}
 use native.Mathlib.Omega.{arith}
-use Prim.Native.Nat.{ℕ, zero, suc, _≤_, _<_, max}
-use Rattle.octets.specs.Permutations.{Perm, Each, nil, cons, Every, every-nil, every-cons, every-perm, AllOctets, joined-octets, Order, any-order, as-given, Arranged, arranged-perm, permuted}
+use Prim.Native.Nat.{ℕ, zero, suc, _≤_}
+use Rattle.octets.specs.Permutations.{Each, nil, cons, Every, every-nil, every-cons, every-perm, AllOctets, joined-octets, Order, any-order, arranged-perm, permuted}
 use Rattle.ber.specs.ItemLaws.{definite-octets, constructed-octets}
 use Rattle.table.specs.Syntax.{Member, Body, Table}
 use Rattle.coding.specs.Value.{Value, leaf, sequence, set, sequenceOf, setOf, choice, slots, bag, depth, depths}
 use Rattle.coding.specs.ContentLaws.{content-typed}
-use Rattle.coding.specs.Tags.{own, explicit}
 use Rattle.coding.specs.Encodes.{Coding, Pieces, done, left, sent, Codes, is-plain, is-sequence, is-set, is-sequence-of, is-set-of, is-choice, Wrapped, bare, tagged, EncodesAt}
 use Rattle.coding.specs.Typed.{Fits, f-done, f-left, f-sent, Typed, t-plain, t-sequence, t-set, t-sequence-of, t-set-of, t-choice, WellTypedAt}
 

@@ -1,19 +1,19 @@
 -- A node is read exactly where its octets stand.
 -- Assumes nothing.
-use borrow.Author.Tests.{ltb-true, ltb-false, leb-true, eqb-true, lt-ltb, le-ltb, le-leb, eq-eqb, ne-eqb}
-use mathlib.Core.Bool.{Bool, true, false, not, _&&_, true≢false, false≢true}
-use mathlib.Core.List.{List, [], _∷_, _++_, append-assoc}
+use borrow.Author.Tests.{ltb-true, leb-true, eqb-true, lt-ltb, le-leb, eq-eqb}
+use mathlib.Core.Bool.{Bool, true, false, _&&_, false≢true}
+use mathlib.Core.List.{List, [], _∷_, _++_}
 use mathlib.Core.Path.{_≡_, refl, sym, ap, _∙_}
 use native.Mathlib.Nat.{div-add-mod'}
 use native.Mathlib.Omega.{arith}
 use Prim.Native.Nat.{ℕ, zero, suc, _+_, _-_, _*_, _/_, _%_, _≤_, _<_}
 use lib.Dec.{ltb, leb, eqb}
-use lib.ListN.{length, getD, take, drop, length-append, take-append-drop}
+use lib.ListN.{length, take, drop, length-append, take-append-drop}
 use lib.Seq.{length-take-le, take-append-seam, drop-append-seam}
-use Rattle.octets.specs.Answer.{Answer, got, refused, then, if, run, Holds, yields, refuses, if-holds, then-holds, map-holds, if-cases}
+use Rattle.octets.specs.Answer.{Answer, got, if, run, Holds, yields, refuses, if-holds, map-holds}
 use Rattle.octets.specs.Lists.{all}
 use Rattle.octets.specs.Numbers.{two, octetsOf}
-use Rattle.octets.specs.Permutations.{Every, every-nil, every-cons, every-left, every-right, AllOctets}
+use Rattle.octets.specs.Permutations.{every-cons, every-left, AllOctets}
 use Rattle.ber.specs.Identifier.{same}
 use Rattle.ber.specs.IdentifierLaws.{same-refl, same-true}
 use Rattle.ber.specs.Integer.{integerOf, eight, eightOf}
@@ -21,7 +21,7 @@ use Rattle.ber.specs.IntegerLaws.{eight-back, eight-same, integer-fits}
 use Rattle.ber.specs.BitString.{unused, masked}
 use Rattle.coding.specs.Value.{Leaf, boolean, integer, bits, string, null, enumerated, flag, bitCount}
 use Rattle.coding.specs.ContentLaws.{not-false}
-use Rattle.coding.specs.Judging.{Node, a-leaf, a-sequence, a-set, a-sequence-of, a-set-of, a-choice, need, flags, ownMembers, ownCount, ownBoolean, ownInteger, ownString, octetsFor, spareIn, ownBits, ownEnumerated, ownChoice, readOwn, readNode, leafKind, nodeKind}
+use Rattle.coding.specs.Judging.{Node, a-leaf, a-sequence, a-set, a-sequence-of, a-set-of, a-choice, need, flags, ownMembers, ownCount, ownBoolean, ownInteger, ownString, ownBits, ownEnumerated, ownChoice, readOwn, readNode, leafKind, nodeKind}
 use Rattle.coding.specs.Shaped.{LeafShaped, flagsOf, leafOwn, nodeOwn, nodeOctets, NodeShaped}
 
 and-left : (a b : Bool) → (a && b) ≡ true → a ≡ true

@@ -1,8 +1,7 @@
--- The outcomes of write and read: the answer, and what the lent buffer then holds (document 01, "Refused").
--- The table is taken as its records by number, T, and their count, n; its own refusals 1 to 6 come before.
+-- The outcomes of check, write and read: the answer, and what the lent buffer then holds (document 01, "Refused").
 -- Assumes nothing.
-use mathlib.Core.Bool.{Bool, not}
-use mathlib.Core.List.{List, [], _∷_, _++_}
+use mathlib.Core.Bool.{not}
+use mathlib.Core.List.{List, _++_}
 use Prim.Native.Nat.{ℕ, _-_, min}
 use lib.Dec.{ltb, leb}
 use lib.ListN.{length, drop}
@@ -13,10 +12,17 @@ use Rattle.coding.specs.Form.{formAt}
 use Rattle.coding.specs.Reading.{readMessage}
 use Rattle.coding.specs.Judging.{judgeWhole}
 use Rattle.coding.specs.Causes.{valueNumber, valuePlace, messageNumber, messagePlace, valueCause, messageCause}
-use Rattle.coding.specs.declared.ValueCause.{ValueCause}
 use Rattle.coding.specs.declared.ValueCause.the-variants.{Shape, Room as RoomV}
-use Rattle.coding.specs.declared.MessageCause.{MessageCause}
 use Rattle.coding.specs.declared.MessageCause.the-variants.{TooLong, Room}
+use Rattle.table.specs.Verdict.{number as tableNumber, place as tablePlace, verdict}
+use Rattle.table.specs.Reading.{scan, look}
+use Rattle.table.specs.declared.TableCause.the-variants.{NoType}
+use Rattle.table.specs.declared.Verdict.{Verdict}
+use Rattle.table.specs.declared.Verdict.the-variants.{Passed, Refused}
+pub use Rattle.coding.specs.declared.Refusal.{Refusal}
+pub use Rattle.coding.specs.declared.Refusal.the-variants.{Table as of-table, Value as of-value, Message as of-message}
+pub use Rattle.coding.specs.declared.Answer.{Answer as Told}
+pub use Rattle.coding.specs.declared.Answer.the-variants.{Done as done, Refused as refusal}
 
 -- "down to level 24"; "A value is a tree in at most 16,384 octets"; "message over 8,192 octets"
 abbrev pub levels : ℕ
@@ -28,27 +34,17 @@ longestValue = 16384
 abbrev pub longestMessage : ℕ
 longestMessage = 8192
 
--- "A refusal says its stage (table, value or message) and, within the stage, its cause and place." Of the table 7 alone comes here.
-pub data Refusal : Type 0 where
-  no-type : Refusal
-  of-value : ValueCause → Refusal
-  of-message : MessageCause → Refusal
-
 abbrev pub numberOf : Refusal → ℕ
-numberOf no-type = 7
+numberOf (of-table c) = tableNumber c
 numberOf (of-value c) = valueNumber c
 numberOf (of-message c) = messageNumber c
 
 abbrev pub placeOf : Refusal → ℕ
-placeOf no-type = 0
+placeOf (of-table c) = tablePlace c
 placeOf (of-value c) = valuePlace c
 placeOf (of-message c) = messagePlace c
 
 -- "A done answer gives the length written".
-pub data Told : Type 0 where
-  done : ℕ → Told
-  refusal : Refusal → Told
-
 pub record Outcome : Type 0 where
   pub answer : Told
   pub buffer : List ℕ
@@ -71,7 +67,7 @@ afterReading m buf (refused c l) = refuse (of-message (messageCause c (length m 
 -- read: 7, 21, then from the left, then 27
 unfoldable pub readOutcome : Table → ℕ → ℕ → List ℕ → List ℕ → Outcome
 readOutcome T n t m buf =
-    if (not (ltb t n)) (refuse no-type buf) λ _.
+    if (not (ltb t n)) (refuse (of-table NoType) buf) λ _.
     if (not (leb (length m) longestMessage)) (refuse (of-message TooLong) buf) λ _.
     afterReading m buf (readMessage T levels t m)
 
@@ -85,6 +81,24 @@ afterJudging f b buf (refused c l) = refuse (of-value (valueCause c (length b - 
 -- write: 7, "an over-long value is 11 before any node, place 0", then from the left, then 14
 unfoldable pub writeOutcome : Table → ℕ → ℕ → List ℕ → List ℕ → Outcome
 writeOutcome T n t b buf =
-    if (not (ltb t n)) (refuse no-type buf) λ _.
+    if (not (ltb t n)) (refuse (of-table NoType) buf) λ _.
     if (not (leb (length b) longestValue)) (refuse (of-value (Shape 0)) buf) λ _.
     afterJudging (formAt T levels t) b buf (judgeWhole T levels t b)
+
+-- "Each call checks its table again": 1 to 6 first; x is what follows for the records by number and their count
+unfoldable pub afterCheck : List ℕ → List ℕ → (Table → ℕ → Outcome) → Verdict → Outcome
+afterCheck b buf x Passed = x (look b (scan b .offsets)) (length (scan b .offsets))
+afterCheck b buf x (Refused c) = refuse (of-table c) buf
+
+-- write: the octets b of a table, a type, the octets v of a value, a buffer
+unfoldable pub wholeWrite : List ℕ → ℕ → List ℕ → List ℕ → Outcome
+wholeWrite b t v buf = afterCheck b buf (λ T n. writeOutcome T n t v buf) (verdict b)
+
+-- read: the octets b of a table, a type, a message, a buffer
+unfoldable pub wholeRead : List ℕ → ℕ → List ℕ → List ℕ → Outcome
+wholeRead b t m buf = afterCheck b buf (λ T n. readOutcome T n t m buf) (verdict b)
+
+-- check: "A check prints ok", with nothing written
+unfoldable pub checkAnswer : Verdict → Told
+checkAnswer Passed = done 0
+checkAnswer (Refused c) = refusal (of-table c)

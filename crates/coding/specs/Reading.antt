@@ -9,7 +9,7 @@ use lib.ListN.{length}
 use Rattle.octets.specs.Answer.{Answer, got, refused, then, if, none-left}
 use Rattle.ber.specs.Identifier.{readIdentifier}
 use Rattle.ber.specs.Item.{Mode, atEnd, readConstructed, readPrimitive}
-use Rattle.table.specs.Syntax.{Member, Simple, Body, Plain, Sequence, Set, SequenceOf, SetOf, Choice, Table}
+use Rattle.table.specs.Syntax.{Member, Body, Plain, Sequence, Set, SequenceOf, SetOf, Choice, Table}
 use Rattle.coding.specs.Value.{Value, leaf, sequence, set, sequenceOf, setOf, choice, slots, bag}
 use Rattle.coding.specs.Content.{decode}
 use Rattle.coding.specs.Encodes.{allowed}

@@ -1,6 +1,6 @@
 -- The trees that have octets: integers of 64 bits, spare bits 0, and counts that fit their fields (document 01, "Values").
 -- Assumes nothing.
-use mathlib.Core.Bool.{Bool, true, false}
+use mathlib.Core.Bool.{Bool, true}
 use mathlib.Core.List.{List, [], _∷_, _++_}
 use mathlib.Core.Path.{_≡_}
 use Prim.Native.Nat.{ℕ, _<_}

@@ -1,6 +1,6 @@
 -- What reading accepts is permitted for the value that it yields.
 -- Assumes nothing.
-use mathlib.Core.Bool.{Bool, true, false, not, _&&_, false≢true}
+use mathlib.Core.Bool.{Bool, true, false, _&&_, false≢true}
 use mathlib.Core.List.{List, [], _∷_, _++_, append-nil}
 use mathlib.Core.Option.{Option, some, none}
 use mathlib.Core.Path.{_≡_, refl, sym, ap, _∙_}
@@ -9,19 +9,18 @@ use native.Mathlib.Omega.{arith}
 use Prim.Native.Nat.{ℕ, zero, suc, _+_, _≤_}
 use lib.ListN.{length, length-append}
 use lib.Seq.{append-snoc}
-use Rattle.octets.specs.Answer.{Answer, got, refused, then, if, Holds, yields, refuses, if-holds, then-holds, map-holds, Taken}
+use Rattle.octets.specs.Answer.{Answer, Holds, yields, refuses, if-holds, then-holds, map-holds, Taken}
 use Rattle.octets.specs.Lists.{joined}
-use Rattle.octets.specs.Permutations.{flat, joined-flat, Sel, Sel.here, Sel.there, Perm, Perm.none as none-p, Perm.next, Each, nil, cons, Order, as-given, Arranged, arranged-refl}
-use Rattle.ber.specs.Identifier.{readIdentifier}
+use Rattle.octets.specs.Permutations.{flat, joined-flat, Sel, Sel.here, Sel.there, Perm, Perm.none as none-p, Perm.next, Each, nil, cons, Order, as-given, arranged-refl}
 use Rattle.ber.specs.IdentifierLaws.{identifier-sound}
-use Rattle.ber.specs.Item.{Mode, Definite, Constructed, atEnd, readConstructed, readPrimitive}
-use Rattle.ber.specs.ItemLaws.{Ends, no-more, mark, atEnd-holds, Item, Body as Contents, constructed-sound, primitive-sound}
+use Rattle.ber.specs.Item.{Mode}
+use Rattle.ber.specs.ItemLaws.{Ends, no-more, mark, atEnd-holds, Body as Contents, constructed-sound, primitive-sound}
 use Rattle.table.specs.Syntax.{Member, Body, Plain, Sequence, Set, SequenceOf, SetOf, Choice, Table}
-use Rattle.coding.specs.Value.{Value, leaf, sequence, set, sequenceOf, setOf, choice, slots, bag}
+use Rattle.coding.specs.Value.{Value, sequence, set, sequenceOf, setOf, choice, slots, bag}
 use Rattle.coding.specs.ContentLaws.{content-sound}
 use Rattle.coding.specs.Tags.{own, explicit}
 use Rattle.coding.specs.Encodes.{allowed, Coding, Pieces, done, left, sent, At, first, later, Codes, is-plain, is-sequence, is-set, is-sequence-of, is-set-of, is-choice, Wrapped, bare, tagged, EncodesAt}
-use Rattle.coding.specs.Reading.{notAwaited, unwanted, nothing, full, readWrapped, readSequence, place, readSet, readMany, choose, readBody, readKind, readValue}
+use Rattle.coding.specs.Reading.{notAwaited, unwanted, nothing, readWrapped, readSequence, place, readSet, readMany, choose, readBody, readKind, readValue}
 
 pub not-awaited : {A : Type 0} {P : A → List ℕ → Type 0} (s : List ℕ) → Holds P (notAwaited s)
 unfolding notAwaited

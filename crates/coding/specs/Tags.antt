@@ -5,7 +5,7 @@ use mathlib.Core.List.{List, [], _∷_, map}
 use Prim.Native.Nat.{ℕ, zero, suc}
 use Rattle.octets.specs.Lists.{any}
 use Rattle.ber.specs.Identifier.{identifier, same}
-use Rattle.table.specs.Syntax.{Tag, Simple, Body, Plain, Sequence, Set, SequenceOf, SetOf, Choice, Record, Table, universal, constructed}
+use Rattle.table.specs.Syntax.{Tag, Body, Plain, Sequence, Set, SequenceOf, SetOf, Choice, Record, Table, universal, constructed}
 
 unfoldable pub identifierOf : Bool → Tag → List ℕ
 identifierOf b g = identifier (g .class) b (g .number)
@@ -35,11 +35,11 @@ explicitTags (Choice ts) gs = gs
 unfoldable pub own : Record → List ℕ
 own r = identifierOf (constructed (r .body)) (last (r .body) (r .tags))
 
--- X.690, 8.14.3: an explicit tag is constructed
+-- X.690, 8.14: the item of an explicit tag is constructed
 unfoldable pub explicit : Record → List (List ℕ)
 explicit r = map (identifierOf true) (explicitTags (r .body) (r .tags))
 
--- "First tags": i begins an item with the identifiers around it, of a kind, with its own; f says which alternatives it begins
+-- "First tags", with the primitive or constructed bit: i is the outermost identifier, or begins an alternative of a CHOICE without tags; f says which
 unfoldable pub beginsBody : (ℕ → Bool) → List ℕ → List ℕ → Body → Bool
 beginsBody f i o (Plain k) = same i o
 beginsBody f i o (Sequence ms) = same i o

@@ -1,35 +1,36 @@
 -- What is promised of reading and writing: demands 2 and 3 over the outcomes, with 8,192, 16,384, 24 levels and the buffer's length in them.
 -- Assumes nothing.
-use borrow.Author.Tests.{leb-true, le-leb, lt-leb, ltb-true, lt-ltb}
-use mathlib.Core.Bool.{Bool, true, false, not, true≢false}
+use borrow.Author.Tests.{leb-true, le-leb, lt-leb, lt-ltb}
+use mathlib.Core.Bool.{true, false, not, true≢false}
 use mathlib.Core.List.{List, [], _∷_, _++_, append-nil}
 use mathlib.Core.Logic.{_↔_}
 use mathlib.Core.Path.{_≡_, refl, sym, ap, subst, _∙_}
 use native.Mathlib.Omega.{arith}
-use Prim.Native.Nat.{ℕ, suc, _≤_, _<_, _-_, min, max}
+use Prim.Native.Nat.{ℕ, _≤_, _<_, min, max}
 use lib.Dec.{ltb, leb}
 use lib.ListN.{length, drop}
-use Rattle.octets.specs.Answer.{Answer, got, refused, then, if, none-left, run, Holds, yields, refuses, if-holds, if-cases, then-holds, got-holds, got-value, got-rest, Reads, Taken, refused≢got}
+use Rattle.octets.specs.Answer.{Answer, got, refused, none-left, run, Holds, yields, refuses, if-holds, if-cases, then-holds, got-holds, got-value, got-rest, Reads}
 use Rattle.octets.specs.Numbers.{Octets}
-use Rattle.octets.specs.Permutations.{AllOctets, all-octets, every-left, Order, any-order, as-given}
-use Rattle.ber.specs.ItemLaws.{Short}
+use Rattle.octets.specs.Permutations.{all-octets, Order, any-order, as-given}
 use Rattle.table.specs.Syntax.{Table}
 use Rattle.table.specs.Passes.{Passes}
 use Rattle.coding.specs.Value.{Value, octets, depth}
 use Rattle.coding.specs.Encodes.{EncodesAt, Encodes, Arrives}
-use Rattle.coding.specs.Typed.{WellTypedAt, WellTyped, EquivalentAt, Equivalent}
+use Rattle.coding.specs.Typed.{WellTypedAt, WellTyped}
+use Rattle.coding.specs.Equivalent.{EquivalentAt, Equivalent}
 use Rattle.coding.specs.Form.{formAt}
-use Rattle.coding.specs.Reading.{begun, notAwaited, readValue, readMessage}
-use Rattle.coding.specs.Outcome.{levels, longestValue, longestMessage, Outcome, Told, done, refusal, Refusal, of-message, refuse, write-at-start, afterReading, readOutcome, of-value, afterJudging, writeOutcome}
+use Rattle.coding.specs.Reading.{begun, readValue, readMessage}
+use Rattle.coding.specs.Outcome.{levels, longestValue, longestMessage, Outcome, Told, done, refusal, Refusal, refuse, write-at-start, afterReading, readOutcome, of-value, afterJudging, writeOutcome}
 use Rattle.coding.specs.ContentLaws.{not-false}
 use Rattle.coding.specs.Sound.{value-sound, not-awaited}
 use Rattle.coding.specs.FirstTags.{Good, good, proper-readable}
-use Rattle.coding.specs.Complete.{value-complete, starts-at, Starts, next-is, started-some}
+use Rattle.coding.specs.Complete.{value-complete, starts-at, next-is, started-some}
 use Rattle.coding.specs.Levels.{relevel, retype, well-typed, deep, in-some-order}
 use Rattle.coding.specs.FormLaws.{form-encodes}
 use Rattle.coding.specs.Shaped.{Shaped}
 use Rattle.coding.specs.Judging.{judgeWhole}
 use Rattle.coding.specs.JudgingLaws.{judge-whole, judge-octets}
+use Rattle.coding.specs.ShapedLaws.{Limited, equivalent-shaped, encodes-shaped}
 use Rattle.coding.specs.declared.ValueCause.the-variants.{Room as RoomV}
 use Rattle.coding.specs.Equivalence.{equivalent-length, equivalent-equal, equivalent-sym, equivalent-trans}
 
@@ -182,19 +183,23 @@ exactly T n p few t m buf lt o k after = (
 
 -- Demand 3, the receiver: any value at most 24 levels deep, any of the encodings that X.690 permits for it in at most 8,192 octets, any buffer at least as long as the
 -- value: the reader is done with the value's length, and the buffer begins with the octets of a value equivalent to the sender's. The octets after them are as they were.
-pub record Received (v : Value) (buf : List ℕ) (x : Outcome) : Type 0 where
+pub record Received (T : Table) (t : ℕ) (v : Value) (buf : List ℕ) (x : Outcome) : Type 0 where
   pub value : Value
   pub equivalent : Equivalent v value
   pub answer : x .answer ≡ done (length (octets v))
   pub start : x .buffer ≡ octets value ++ drop (length (octets v)) buf
   pub size : length (octets value) ≡ length (octets v)
+  pub shaped : Shaped v → Shaped value
+  pub typed : WellTyped T t value
+  pub deep : depth value ≤ levels
 
 pub received : (T : Table) (n : ℕ) → Passes T n → n ≤ 128 → (t : ℕ) (v : Value) (m buf : List ℕ) → t < n → depth v ≤ levels → length (octets v) ≤ longestValue
-    → Encodes T t v m → length m ≤ longestMessage → length (octets v) ≤ length buf → Received v buf (readOutcome T n t m buf)
-received T n p few t v m buf lt d k e h l =
+    → Octets m → Encodes T t v m → length m ≤ longestMessage → length (octets v) ≤ length buf → Received T t v buf (readOutcome T n t m buf)
+received T n p few t v m buf lt d k o e h l =
     let g = good T n p few in
     let a = relevel any-order T (e .level) levels t v m d (e .encodes) in
     let x = message-complete any-order T g levels t v m a in
+    let y = sound T levels t m (x .value) [] o (x .answer) in
     let q : length (octets v) ≡ length (octets (x .value)) = equivalent-length any-order levels v (x .value) (x .alike) in
     let r = read-done T n t m buf (x .value) [] lt h (omega arith) (omega arith) (x .answer) in
     record {
@@ -203,6 +208,9 @@ received T n p few t v m buf lt d k e h l =
       answer = ap (λ (o : Outcome). o .answer) r ∙ ap done (sym q);
       start = ap (λ (o : Outcome). o .buffer) r ∙ ap (λ (j : ℕ). octets (x .value) ++ drop j buf) (sym q);
       size = sym q;
+      shaped = equivalent-shaped any-order levels v (x .value) (x .alike);
+      typed = y .typed;
+      deep = y .deep;
     }
 
 -- an encoding that begins with an encoding is that encoding, and of an equivalent value
@@ -294,3 +302,12 @@ writes-only T n t b buf o =
     if-cases (IfDone (Wrote T t b buf)) (not (ltb t n)) _ _ (λ e k z. refusal≢done z) λ e.
     if-cases (IfDone (Wrote T t b buf)) (not (leb (length b) 16384)) _ _ (λ f k z. refusal≢done z) λ f.
     after-judged T t b buf o (leb-true (length b) 16384 (not-false (leb (length b) 16384) f)) (judgeWhole T levels t b) refl
+
+-- What the reader left at the start of the buffer is a value: judged again, it is that value, for every table whose counts and numbers have their octets.
+pub read-again : (T : Table) (t : ℕ) (m buf : List ℕ) (k : ℕ) (after : List ℕ) → ((u : ℕ) → Limited (T u .body)) → Octets m → (x : Read T t m buf k after)
+    → Shaped (x .value) × (judgeWhole T levels t (octets (x .value)) ≡ got (x .value) [])
+read-again T t m buf k after l o x =
+    let e = x .encodes in
+    let h = encodes-shaped any-order T l (e .level) t (x .value) m (all-octets m o) (x .within) (e .encodes) in
+    let w = x .typed in
+    (h, judge-octets T levels t (x .value) (retype T (w .level) levels t (x .value) (x .deep) (w .typed)) h)

@@ -1,11 +1,11 @@
--- Well-typed values, and equivalent ones (document 01, "Values").
+-- Well-typed values (document 01, "Values").
 -- Assumes nothing.
-use mathlib.Core.Bool.{Bool, true, false}
+use mathlib.Core.Bool.{true}
 use mathlib.Core.List.{List, [], _∷_}
 use mathlib.Core.Option.{Option, some, none}
 use mathlib.Core.Path.{_≡_}
 use Prim.Native.Nat.{ℕ, zero, suc}
-use Rattle.octets.specs.Permutations.{Each, Every, Order, any-order, Arranged}
+use Rattle.octets.specs.Permutations.{Every}
 use Rattle.table.specs.Syntax.{Member, Simple, Body, Plain, Sequence, Set, SequenceOf, SetOf, Choice, Table}
 use Rattle.coding.specs.Value.{Leaf, Value, leaf, sequence, set, sequenceOf, setOf, choice, slots, bag}
 use Rattle.coding.specs.Content.{TypedLeaf}
@@ -34,27 +34,3 @@ WellTypedAt T (suc n) t v = Typed (WellTypedAt T n) (T t .body) v
 pub record WellTyped (T : Table) (t : ℕ) (v : Value) : Type 0 where
   pub level : ℕ
   pub typed : WellTypedAt T level t v
-
--- both missing, or both there and related
-abbrev pub Slot : (Value → Value → Type 0) → Option Value → Option Value → Type 0
-Slot Q none none = Unit {0}
-Slot Q none (some w) = ⊥
-Slot Q (some v) none = ⊥
-Slot Q (some v) (some w) = Q v w
-
--- "Equivalent: equal, except that SET OF elements may be permuted, each against an equivalent one, at all levels."
-pub data Alike (o : Order) (Q : Value → Value → Type 0) : Value → Value → Type 0 where
-  same-leaf : {x : Leaf} → Alike o Q (leaf x) (leaf x)
-  same-sequence : {os ps : List (Option Value)} → Each (Slot Q) os ps → Alike o Q (sequence (slots os)) (sequence (slots ps))
-  same-set : {os ps : List (Option Value)} → Each (Slot Q) os ps → Alike o Q (set (slots os)) (set (slots ps))
-  same-sequence-of : {vs ws : List Value} → Each Q vs ws → Alike o Q (sequenceOf (bag vs)) (sequenceOf (bag ws))
-  same-set-of : {vs ws : List Value} (us : List Value) → Arranged o vs us → Each Q us ws → Alike o Q (setOf (bag vs)) (setOf (bag ws))
-  same-choice : {n : ℕ} {v w : Value} → Q v w → Alike o Q (choice n v) (choice n w)
-
-unfoldable pub EquivalentAt : Order → ℕ → Value → Value → Type 0
-EquivalentAt o zero v w = ⊥
-EquivalentAt o (suc n) v w = Alike o (EquivalentAt o n) v w
-
-pub record Equivalent (v w : Value) : Type 0 where
-  pub level : ℕ
-  pub equivalent : EquivalentAt any-order level v w

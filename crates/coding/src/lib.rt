@@ -1,5 +1,7 @@
 // The refusals of the value stage and of the message stage (document 01, "Refused").
 
+use table::TableCause;
+
 // 11, 12, 13 with their places, 14.
 pub enum ValueCause {
     Shape(usize),
@@ -20,6 +22,15 @@ pub enum MessageCause {
     Level(usize),
 }
 
-pub fn levels() -> u8 {
-    24
+// "A refusal says its stage (table, value or message) and, within the stage, its cause and place."
+pub enum Refusal {
+    Table(TableCause),
+    Value(ValueCause),
+    Message(MessageCause),
+}
+
+// What check, write and read answer: done, with the length written, or refused.
+pub enum Answer {
+    Done(usize),
+    Refused(Refusal),
 }

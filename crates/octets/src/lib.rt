@@ -13,8 +13,10 @@ pub fn octet(s: &[u8], at: usize) -> usize
 
 // The number that two octets stand for, the high one first.
 pub fn number(s: &[u8], at: usize) -> usize
-    requires { ⌜ at < 4294967296 ⌝ }
     ensures { λ r. ⌜ (r ≡ two (now (s .entry)) at) × (r < 65536) ⌝ }
 {
-    octet(s, at) * 256 + octet(s, at + 1)
+    if at < s.len() {
+        return octet(s, at) * 256 + octet(s, at + 1);
+    }
+    0
 }

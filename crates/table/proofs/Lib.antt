@@ -1,5 +1,7 @@
 -- Reading a table's octets is the inverse of the octet form, the tests of the rules agree with the rules, and laws for the code that reads a table.
 -- Assumes nothing.
+pub mod Theorems
+pub mod Causes
 pub mod Pieces
 pub mod Own
 pub mod Walk

@@ -62,6 +62,10 @@ examples =
     ∷ no 1 1 (B ++ (0x54 ∷ []))
     ∷ no 1 128 (joined (replicate 128 B) ++ (0 ∷ []))
     ∷ no 1 128 (joined (replicate 129 B))
+    ∷ no 1 0 ((0 ∷ []) ++ joined (replicate 129 B))
+    -- 8,192 octets are read, 8,193 are not
+    ∷ no 1 1 (B ++ replicate 8185 0)
+    ∷ no 1 0 (B ++ replicate 8186 0)
     -- what is shape: an unknown kind, five tags, class 4, no numbers, 33 numbers, numbers that do not rise, 17 members, no alternative,
     -- 17 alternatives, a flag 2, a record that is cut
     ∷ no 1 1 (B ++ (0x54 ∷ 0x59 ∷ 6 ∷ 0 ∷ []))
@@ -76,7 +80,6 @@ examples =
     ∷ no 1 0 ((0x54 ∷ 0x59 ∷ 0x32 ∷ 0 ∷ 17 ∷ []) ++ replicate 17 0)
     ∷ no 1 0 (0x54 ∷ 0x59 ∷ 16 ∷ 1 ∷ 0 ∷ 0 ∷ 16 ∷ 1 ∷ 0 ∷ 2 ∷ [])
     ∷ no 1 0 (0x54 ∷ 0x59 ∷ 16 ∷ 1 ∷ 0 ∷ 0 ∷ 16 ∷ 1 ∷ 0 ∷ [])
-    ∷ no 1 0 (replicate 8193 0x54)
     ∷ no 2 0 (0x54 ∷ 0x59 ∷ 0x30 ∷ 1 ∷ 0 ∷ 0 ∷ 0x10 ∷ 0xFF ∷ [])
     ∷ no 2 1 ((0x54 ∷ 0x59 ∷ 2 ∷ 0 ∷ []) ++ (0x54 ∷ 0x59 ∷ 0x30 ∷ 1 ∷ 0 ∷ 0 ∷ 0x10 ∷ 5 ∷ []))
     ∷ no 4 1 ((0x54 ∷ 0x59 ∷ 0x32 ∷ 0 ∷ 1 ∷ 1 ∷ []) ++ (0x54 ∷ 0x59 ∷ 0x32 ∷ 0 ∷ 1 ∷ 1 ∷ []))
@@ -89,9 +92,13 @@ examples =
     ∷ passes (0x54 ∷ 0x59 ∷ 1 ∷ 2 ∷ 2 ∷ 0 ∷ 0 ∷ 2 ∷ 0 ∷ 0 ∷ [])
     -- a CHOICE without tags inside an alternative, with the tag of another alternative
     ∷ no 5 1 (B ++ (0x54 ∷ 0x59 ∷ 0x32 ∷ 0 ∷ 2 ∷ 0 ∷ 2 ∷ []) ++ (0x54 ∷ 0x59 ∷ 0x32 ∷ 0 ∷ 1 ∷ 0 ∷ []))
-    -- recursion through an optional member, and through one alternative, is finite; the lowest without a finite value is named, not the culprit
+    -- a tag is class and number, whether primitive or constructed; the alternatives of a tagged CHOICE are compared too
+    ∷ no 5 0 ((0x54 ∷ 0x59 ∷ 0x11 ∷ 1 ∷ 0 ∷ 0 ∷ 0x11 ∷ 2 ∷ 1 ∷ 0 ∷ 2 ∷ 0 ∷ []) ++ (0x54 ∷ 0x59 ∷ 1 ∷ 1 ∷ 2 ∷ 0 ∷ 0 ∷ []) ++ (0x54 ∷ 0x59 ∷ 0x10 ∷ 1 ∷ 2 ∷ 0 ∷ 0 ∷ 0 ∷ []))
+    ∷ no 5 0 ((0x54 ∷ 0x59 ∷ 0x32 ∷ 1 ∷ 2 ∷ 0 ∷ 0 ∷ 2 ∷ 1 ∷ 1 ∷ []) ++ B)
+    -- recursion through an optional member, and through one alternative, is finite; a finite value may need more than 24 levels; the lowest without a finite value is named, not the culprit
     ∷ passes (0x54 ∷ 0x59 ∷ 0x10 ∷ 1 ∷ 0 ∷ 0 ∷ 0x10 ∷ 1 ∷ 0 ∷ 1 ∷ [])
     ∷ passes (B ++ (0x54 ∷ 0x59 ∷ 0x32 ∷ 1 ∷ 2 ∷ 0 ∷ 0 ∷ 2 ∷ 0 ∷ 1 ∷ []))
+    ∷ passes (joined (tabulate (λ t. 0x54 ∷ 0x59 ∷ 0x10 ∷ 1 ∷ 0 ∷ 0 ∷ 0x10 ∷ 1 ∷ suc t ∷ 0 ∷ []) 0 25) ++ B)
     ∷ no 6 0 ((0x54 ∷ 0x59 ∷ 0x10 ∷ 1 ∷ 0 ∷ 0 ∷ 0x10 ∷ 1 ∷ 1 ∷ 0 ∷ []) ++ (0x54 ∷ 0x59 ∷ 0x11 ∷ 1 ∷ 0 ∷ 0 ∷ 0x11 ∷ 1 ∷ 1 ∷ 0 ∷ []))
     ∷ []
 

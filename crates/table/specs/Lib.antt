@@ -6,6 +6,7 @@ pub mod Rules
 pub mod Reading
 pub mod Decide
 pub mod Verdict
+pub mod Cause
 pub mod Examples
 pub mod Passes
 pub mod Fields

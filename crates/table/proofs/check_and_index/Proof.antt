@@ -1,3 +1,5 @@
+-- `table::check_and_index` meets its contract: by the three ways through the check.
+-- Assumes nothing.
 use borrow.Author.Needs.{needs}
 use borrow.Author.Tests.{not-true, not-false}
 use Prim.Native.Nat.{ℕ, _≤_}

@@ -1,3 +1,5 @@
+-- `table::judge_choices` meets its contract: the rules 4 to 6 in turn, and what each has found is what the next asks.
+-- Assumes nothing.
 use borrow.Author.Needs.{needs}
 use borrow.Author.Tests.{lt-ltb, le-ltb}
 use Prim.Native.Nat.{ℕ, _≤_}

@@ -1,3 +1,5 @@
+-- `table::judge_records` meets its contract: the rules 2 and 3 in turn, and what they have found is what the rest asks.
+-- Assumes nothing.
 use borrow.Author.Needs.{needs}
 use borrow.Author.Tests.{lt-ltb, le-ltb}
 use lib.ListN.{length}

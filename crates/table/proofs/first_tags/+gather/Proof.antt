@@ -1,3 +1,5 @@
+-- `table::first_tags::gather` meets its contract. The recursion's measure is the count of records without a mark. The loop's invariant: the walk so far, and what is left of it.
+-- Assumes nothing.
 use borrow.Author.Needs.{needs}
 use Prim.Native.Nat.{ℕ, _<_, _≤_, _+_, _*_}
 use mathlib.Core.Path.{_≡_, sym, refl, ap, _∙_}

@@ -1,3 +1,5 @@
+-- `table::first_tags::is_circular` meets its contract. The loop's invariant: the walk so far, and what is left of it. The measure is the alternatives left.
+-- Assumes nothing.
 use borrow.Author.Needs.{needs}
 use Prim.Native.Nat.{_+_, _*_, _≤_, _<_}
 use mathlib.Core.Path.{_≡_, refl, sym, _∙_}

@@ -1,3 +1,5 @@
+-- `table::first_tags::is_sharing` meets its contract. The loop's invariant: each mark is that of the member it was gathered for, and no two members met. The measure is the members left.
+-- Assumes nothing.
 use borrow.Author.Needs.{needs}
 use Prim.Native.Nat.{_+_, _*_, _≤_, _<_}
 use mathlib.Core.Path.{_≡_, refl, sym, _∙_}

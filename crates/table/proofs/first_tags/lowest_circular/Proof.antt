@@ -1,3 +1,5 @@
+-- `table::first_tags::lowest_circular` meets its contract. The loop's invariant: no record before t fails. The measure is what is left.
+-- Assumes nothing.
 use borrow.Author.Needs.{needs}
 use Prim.Native.Nat.{ℕ, _-_, _≤_}
 use Rattle.table.specs.Syntax.{absent}

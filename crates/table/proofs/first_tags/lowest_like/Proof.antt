@@ -1,3 +1,5 @@
+-- `table::first_tags::lowest_like` meets its contract. The loop's invariant: no record before u has the tag. The measure is what is left.
+-- Assumes nothing.
 use borrow.Author.Needs.{needs}
 use Prim.Native.Nat.{_-_}
 use mathlib.Core.Path.{sym, _∙_}

@@ -1,3 +1,5 @@
+-- `table::first_tags::same_outermost` meets its contract: its tests are those of `sameOutermost`.
+-- Assumes nothing.
 use borrow.Author.Needs.{needs}
 use mathlib.Core.Path.{sym, _∙_}
 use Rattle.table.proofs.Outermost.{first-none, second-none, class-differs, number-decides}

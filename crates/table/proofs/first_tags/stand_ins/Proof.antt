@@ -1,3 +1,5 @@
+-- `table::first_tags::stand_ins` meets its contract. The loop's invariant: the records before t have theirs. The measure is what is left.
+-- Assumes nothing.
 use borrow.Author.Needs.{needs}
 use borrow.Author.Count.{below-more}
 use Prim.Native.Nat.{ℕ, _+_, _-_, _≤_, _<_}

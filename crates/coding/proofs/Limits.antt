@@ -1,0 +1,56 @@
+-- The ENUMERATED numbers of a table that passes have two octets.
+-- Assumes nothing.
+use mathlib.Core.Bool.{Bool, true, false, _||_, true≢false, false≢true}
+use mathlib.Core.List.{List, [], _∷_, map}
+use mathlib.Core.Path.{_≡_, refl, sym, ap, _∙_}
+use native.Mathlib.Omega.{arith}
+use Prim.Native.Nat.{ℕ, zero, suc, _<_}
+use borrow.Author.Tests.{eqb-true}
+use lib.Dec.{eqb}
+use lib.ListN.{length}
+use Rattle.octets.specs.Lists.{joined, any}
+use Rattle.octets.specs.Numbers.{Octets, octetsOf}
+use Rattle.octets.specs.Permutations.{Every, every-cons, every-right, AllOctets, all-octets, joined-octets}
+use Rattle.table.specs.Syntax.{Record, Body, Plain, Enumerated, Choice, table, isChoice}
+use Rattle.table.specs.Octets.{tagOctets, own, recordOctets}
+use Rattle.table.specs.Verdict.{verdict}
+use Rattle.table.specs.declared.Verdict.the-variants.{Passed}
+use Rattle.table.proofs.Theorems.{passed-records}
+use Rattle.coding.specs.Content.{listed}
+use Rattle.coding.specs.Whole.{tableOf}
+
+not-choice : {ns : List ℕ} {C : Type 0} → Choice [] ≡ Plain (Enumerated ns) → C
+unfolding isChoice
+not-choice e = absurd (true≢false (ap isChoice e))
+
+own-octets : (b : Body) (ns : List ℕ) → b ≡ Plain (Enumerated ns) → AllOctets (own b) → AllOctets (joined (map octetsOf ns))
+unfolding own
+own-octets b ns q o = every-right (length ns ∷ []) (rw q at o)
+
+record-octets : (r : Record) (ns : List ℕ) → r .body ≡ Plain (Enumerated ns) → AllOctets (recordOctets r) → AllOctets (joined (map octetsOf ns))
+unfolding recordOctets
+record-octets r ns q (every-cons a (every-cons b (every-cons c (every-cons d o)))) = own-octets (r .body) ns q (every-right (joined (map tagOctets (r .tags))) o)
+
+table-octets : (rs : List Record) → Every (λ p. AllOctets p) (map recordOctets rs) → (t : ℕ) (ns : List ℕ) → table rs t .body ≡ Plain (Enumerated ns) → AllOctets (joined (map octetsOf ns))
+unfolding table
+table-octets [] o t ns q = not-choice q
+table-octets (r ∷ rs) (every-cons a o) zero ns q = record-octets r ns q a
+table-octets (r ∷ rs) (every-cons a o) (suc t) ns q = table-octets rs o t ns q
+
+or-cases : {C : Type 0} (a b : Bool) → (a || b) ≡ true → (a ≡ true → C) → (b ≡ true → C) → C
+or-cases true b e h k = h refl
+or-cases false b e h k = k e
+
+number-small : (ns : List ℕ) → AllOctets (joined (map octetsOf ns)) → (k : ℕ) → listed ns k ≡ true → k < 65536
+unfolding joined listed any
+number-small [] o k e = absurd (false≢true e)
+number-small (n ∷ ns) (every-cons a (every-cons b o)) k e =
+    or-cases (eqb n k) _ e (λ x. let q : n ≡ k = eqb-true n k x in omega arith) (number-small ns o k)
+
+pub numbers : (b : List ℕ) → Octets b → verdict b ≡ Passed → (t : ℕ) (ns : List ℕ) → tableOf b t .body ≡ Plain (Enumerated ns) → (k : ℕ) → listed ns k ≡ true → k < 65536
+numbers b o e t ns q =
+    let x = passed-records b o e in
+    let rs = x .0 in
+    let p : AllOctets (joined (map recordOctets rs)) = rw (x .1 .is) at (all-octets b o) in
+    let l = x .2 in
+    number-small ns (table-octets rs (joined-octets (map recordOctets rs) p) t ns (sym (ap (λ f. f t .body) l) ∙ q))

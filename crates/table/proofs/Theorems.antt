@@ -1,0 +1,108 @@
+-- What is proved of tables, in the order of document 01: what octets stand for, which cause is named, what holds of a table that passes.
+-- That the code's answer is this verdict is the contract of `check`, in `src/lib.rt`.
+-- Assumes nothing.
+use mathlib.Core.Bool.{true}
+use mathlib.Core.List.{List}
+use mathlib.Core.Logic.{_⊎_}
+use mathlib.Core.Path.{_≡_, refl, sym, subst, _∙_}
+use Prim.Native.Nat.{ℕ, _≤_, _<_}
+use native.Mathlib.Omega.{arith}
+use lib.Dec.{ltb}
+use lib.ListN.{length, take}
+use borrow.Author.Tests.{ltb-true, ltb-false}
+use Rattle.octets.specs.Tests.{test}
+use Rattle.octets.specs.Numbers.{Octets}
+use Rattle.table.specs.Syntax.{Record, table}
+use Rattle.table.specs.Octets.{Spells, Misshapen}
+use Rattle.table.specs.Reading.{scan, look}
+use Rattle.table.specs.Verdict.{number, place, verdict}
+use Rattle.table.specs.Cause.{Cause, FirstCause}
+use Rattle.table.specs.Index.{CheckedTable}
+use Rattle.table.specs.Passes.{Passes}
+use Rattle.table.specs.declared.Checked.{Checked}
+use Rattle.table.specs.declared.TableCause.{TableCause}
+use Rattle.table.specs.declared.TableCause.the-variants.{NoType}
+use Rattle.table.specs.declared.Verdict.{Verdict}
+use Rattle.table.specs.declared.Verdict.the-variants.{Passed, Refused}
+use Rattle.table.proofs.Scan.{scan-spells}
+use Rattle.table.proofs.Spelled.{unique, spells-scan, spells-not-misshapen, misshapen-unique}
+use Rattle.table.proofs.Causes.{same-cause, Right, looks, right, sound, keeps}
+
+-- "A table is 1 to 128 type records": octets are those of one list of records at most.
+pub records-unique : {b : List ℕ} {rs rs′ : List Record} → Spells b rs → Spells b rs′ → rs ≡ rs′
+records-unique = unique
+
+-- What a whole scan finds are records, and the octets are theirs.
+pub found-records : (b : List ℕ) → Octets b → length b ≤ 8192 → scan b .whole ≡ true → (rs : List Record) × Spells b rs
+found-records b o h e = let f = scan-spells b o h e in (f .records, f .spells)
+
+-- Of octets that are those of records, the scan finds these records, all of them and in their order.
+pub records-found : {b : List ℕ} {rs : List Record} → Octets b → Spells b rs
+    → (scan b .whole ≡ true) × (length (scan b .offsets) ≡ length rs) × (look b (scan b .offsets) ≡ table rs)
+records-found {b} o x = let s = spells-scan x in (s .0, s .1, looks b o x)
+
+-- "table not shaped as above": octets that are not those of records are misshapen at one place, and no others are.
+pub misshapen-once : {b : List ℕ} {p q : ℕ} → Octets b → Misshapen b p → Misshapen b q → p ≡ q
+misshapen-once = misshapen-unique
+
+pub misshapen-no-records : {b : List ℕ} {rs : List Record} {p : ℕ} → Octets b → Spells b rs → Misshapen b p → ⊥
+misshapen-no-records = spells-not-misshapen
+
+told : (b : List ℕ) → Octets b → (v : Verdict) → verdict b ≡ v → Right b v
+told b o v e = subst (Right b) e (right b o)
+
+module _ (b : List ℕ) (o : Octets b) where
+  -- "Order: 1 to 6, each over the whole table, place the lowest such record": the cause that the verdict names is the first.
+  pub named-first : (c : TableCause) → verdict b ≡ Refused c → FirstCause b c
+  named-first c e = told b o (Refused c) e
+
+  -- The verdict is passed where no cause holds, and nowhere else.
+  pub passed-none : verdict b ≡ Passed → (c : TableCause) → Cause b c → ⊥
+  passed-none e = told b o Passed e
+
+  by-verdict : {X : Type 0} → (verdict b ≡ Passed → X) → ((c : TableCause) → verdict b ≡ Refused c → X) → X
+  by-verdict {X} f g = by (verdict b) refl
+    where
+      by : (v : Verdict) → verdict b ≡ v → X
+      by Passed e = f e
+      by (Refused c) e = g c e
+
+  pub none-passed : ((c : TableCause) → Cause b c → ⊥) → verdict b ≡ Passed
+  none-passed h = by-verdict (λ e. e) λ c e. absurd (h c (named-first c e .holds))
+
+  one-first : (c d : TableCause) → FirstCause b c → FirstCause b d → c ≡ d
+  one-first c d x y =
+      test (ltb (number c) (number d)) (λ e. absurd (y .earlier c (ltb-true _ _ e) (x .holds))) λ e₁.
+      test (ltb (number d) (number c)) (λ e. absurd (x .earlier d (ltb-true _ _ e) (y .holds))) λ e₂.
+      let n : number c ≡ number d = omega (arith, ltb-false (number c) (number d) e₁, ltb-false (number d) (number c) e₂) in
+      test (ltb (place c) (place d)) (λ e. absurd (y .lower c n (ltb-true _ _ e) (x .holds))) λ e₃.
+      test (ltb (place d) (place c)) (λ e. absurd (x .lower d (sym n) (ltb-true _ _ e) (y .holds))) λ e₄.
+      same-cause c d n (omega (arith, ltb-false (place c) (place d) e₃, ltb-false (place d) (place c) e₄))
+
+  -- The first cause is the one that the verdict names.
+  pub first-named : (c : TableCause) → FirstCause b c → verdict b ≡ Refused c
+  first-named c x =
+      by-verdict (λ e. absurd (passed-none e c (x .holds))) λ d e. subst (λ k. verdict b ≡ Refused k) (one-first d c (named-first d e) x) e
+
+  -- "Then 7", which is no verdict on the table alone.
+  pub never-no-type : verdict b ≡ Refused NoType → ⊥
+  never-no-type e = named-first NoType e .holds
+
+  -- A table that passes: every reference is in the table, CHOICEs without tags end, first tags are distinct, every record has a finite value.
+  pub passes : verdict b ≡ Passed → Passes (look b (scan b .offsets)) (length (scan b .offsets))
+  passes e = keeps b o (passed-none e)
+
+  -- It has 1 to 128 records, and the octets are theirs.
+  pub passed-count : verdict b ≡ Passed → (1 ≤ length (scan b .offsets)) × (length (scan b .offsets) ≤ 128)
+  passed-count e = let f = sound b o (passed-none e) in (f .some, f .few)
+
+  pub passed-records : verdict b ≡ Passed → (rs : List Record) × Spells b rs × (look b (scan b .offsets) ≡ table rs)
+  passed-records e = let f = sound b o (passed-none e) in (f .records, f .spells, looks b o (f .spells))
+
+  -- What a check that passes answers: an index through which the octets read as such a table.
+  pub checked-passes : (c : Checked) → CheckedTable b c → c .verdict ≡ Passed
+      → Passes (look b (take (c .index .count) (c .index .offsets))) (c .index .count)
+  checked-passes c x e =
+      let p = sym (x .is) ∙ e in
+      let i = x .index p in
+      rw (i .offsets, i .count) (passes p)

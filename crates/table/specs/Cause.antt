@@ -1,0 +1,35 @@
+-- The rule of each cause of refusal on a table's octets, and which cause is the first (document 01, "Refused" 1 to 6).
+-- Assumes nothing.
+use mathlib.Core.List.{List}
+use mathlib.Core.Path.{_≡_}
+use Prim.Native.Nat.{ℕ, _<_}
+use lib.ListN.{length}
+use Rattle.table.specs.Syntax.{Record, Table, table}
+use Rattle.table.specs.Octets.{Spells, Misshapen}
+use Rattle.table.specs.Rules.{Dangling, Mistagged, Circular, Sharing, Infinite}
+use Rattle.table.specs.Verdict.{number, place}
+use Rattle.table.specs.declared.TableCause.{TableCause}
+use Rattle.table.specs.declared.TableCause.the-variants.{Shape, NoRecord, WrongTag, ChoiceLoop, SharedTag, NoValue, NoType}
+
+-- the octets are those of records, p is one of their numbers, and this holds of their table and their count
+pub record Holds (b : List ℕ) (p : ℕ) (rule : Table → ℕ → Type 0) : Type 0 where
+  pub records : List Record
+  pub spells : Spells b records
+  pub there : p < length records
+  pub holds : rule (table records) (length records)
+
+-- the cause holds of the octets; 7 is of a table and a type, so of no octets alone
+abbrev pub Cause : List ℕ → TableCause → Type 0
+Cause b (Shape p) = Misshapen b p
+Cause b (NoRecord p) = Holds b p (λ T n. Dangling T n p)
+Cause b (WrongTag p) = Holds b p (λ T n. Mistagged (T p))
+Cause b (ChoiceLoop p) = Holds b p (λ T n. Circular T p)
+Cause b (SharedTag p) = Holds b p (λ T n. Sharing T p)
+Cause b (NoValue p) = Holds b p (λ T n. Infinite T p)
+Cause b NoType = ⊥
+
+-- "Order: 1 to 6, each over the whole table, place the lowest such record"
+pub record FirstCause (b : List ℕ) (c : TableCause) : Type 0 where
+  pub holds : Cause b c
+  pub earlier : (d : TableCause) → number d < number c → Cause b d → ⊥
+  pub lower : (d : TableCause) → number d ≡ number c → place d < place c → Cause b d → ⊥
