@@ -10,3 +10,4 @@ pub mod Leaves
 pub mod Reading
 pub mod Judging
 pub mod Below
+pub mod Written

@@ -6,3 +6,77 @@ mod integer;
 mod judge;
 mod length;
 mod node;
+mod put;
+
+ghost use mathlib.Core.Path.{_≡_};
+ghost use Prim.Native.Nat.{_≤_};
+ghost use lib.ListN.{length};
+ghost use Rattle.table.specs.Passes.{Passes};
+ghost use Rattle.table.specs.Reading.{look};
+ghost use Rattle.coding.specs.Causes.{valueCause};
+ghost use Rattle.coding.specs.Outcome.{writeOutcome, wholeWrite};
+use coding::Answer;
+use coding::Refusal;
+use coding::ValueCause;
+use judge::Judged;
+use table::TableCause;
+use table::Verdict;
+
+// The cause with a number that judging gives.
+fn cause_of(cause: u8, at: usize) -> ValueCause
+    ensures { λ r. ⌜ r ≡ valueCause cause at ⌝ }
+{
+    if cause == 11 {
+        return ValueCause::Shape(at);
+    }
+    if cause == 12 {
+        return ValueCause::IllTyped(at);
+    }
+    ValueCause::Level(at)
+}
+
+// Writes a value of type t, by a table that passed.
+fn write_passed(table: &[u8], offsets: &[u16], t: usize, value: &[u8], buf: &mut [u8]) -> Answer
+    requires { ⌜ Passes (look (now table) (now offsets)) (length (now offsets)) ⌝ }
+    ensures { λ r. ⌜ (r ≡ writeOutcome (look (now (table .entry)) (now (offsets .entry))) (length (now (offsets .entry))) t (now (value .entry)) (now (buf .entry)) .answer) × (now (buf .exit) ≡ writeOutcome (look (now (table .entry)) (now (offsets .entry))) (length (now (offsets .entry))) t (now (value .entry)) (now (buf .entry)) .buffer) ⌝ }
+{
+    if offsets.len() <= t {
+        return Answer::Refused(Refusal::Table(TableCause::NoType));
+    }
+    if 16384 < value.len() {
+        return Answer::Refused(Refusal::Value(ValueCause::Shape(0)));
+    }
+    match judge::value(table, offsets, t, value, 0, 24) {
+        Judged::Refused { cause, at } => Answer::Refused(Refusal::Value(cause_of(cause, at))),
+        Judged::Done { end, size } => {
+            if end < value.len() {
+                return Answer::Refused(Refusal::Value(ValueCause::Shape(end)));
+            }
+            if 8192 < size {
+                return Answer::Refused(Refusal::Value(ValueCause::Room));
+            }
+            if buf.len() < size {
+                return Answer::Refused(Refusal::Value(ValueCause::Room));
+            }
+            put::value(table, offsets, t, value, 0, 24, buf, 0);
+            Answer::Done(size)
+        }
+    }
+}
+
+// Writes the value whose octets are lent as a message of type t into the buffer.
+pub fn write(table: &[u8], t: usize, value: &[u8], buf: &mut [u8]) -> Answer
+    ensures { λ r. ⌜ (r ≡ wholeWrite (now (table .entry)) t (now (value .entry)) (now (buf .entry)) .answer) × (now (buf .exit) ≡ wholeWrite (now (table .entry)) t (now (value .entry)) (now (buf .entry)) .buffer) ⌝ }
+{
+    let c = table::check_and_index(table);
+    let verdict = c.verdict;
+    let index = c.index;
+    match verdict {
+        Verdict::Refused(cause) => Answer::Refused(Refusal::Table(cause)),
+        Verdict::Passed => {
+            let n = index.count;
+            let offsets = index.offsets;
+            write_passed(table, &offsets[..n], t, value, buf)
+        }
+    }
+}
