@@ -107,7 +107,7 @@ and-false : (a : Bool) → (a && false) ≡ false
 and-false true = refl
 and-false false = refl
 
-agreeing-long : (b : List ℕ) (p n : ℕ) (v : List ℕ) (q k : ℕ) → (k ≡ n → ⊥) → agreeing (membersAt b p n) (flags (everyAt 1 v q k)) ≡ false
+pub agreeing-long : (b : List ℕ) (p n : ℕ) (v : List ℕ) (q k : ℕ) → (k ≡ n → ⊥) → agreeing (membersAt b p n) (flags (everyAt 1 v q k)) ≡ false
 unfolding membersAt everyAt flags agreeing
 agreeing-long b p zero v q zero h = absurd (h refl)
 agreeing-long b p zero v q (suc k) h = refl

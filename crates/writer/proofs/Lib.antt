@@ -8,3 +8,5 @@ pub mod Agreement
 pub mod Frames
 pub mod Leaves
 pub mod Reading
+pub mod Gathering
+pub mod Putting

@@ -3,5 +3,7 @@ mod contents;
 mod frame;
 mod identifier;
 mod integer;
+mod judge;
 mod length;
 mod node;
+mod put;
