@@ -37,10 +37,10 @@ own-shaped v p h =
     none h = omega arith
 
 -- the kinds by their numbers
-abbrev KindAt : List ℕ → ℕ → ℕ → Type 0
+abbrev pub KindAt : List ℕ → ℕ → ℕ → Type 0
 KindAt b p k = (kind (bodyAt b k p) ≡ k) ⊎ (kind (bodyAt b k p) ≡ 50)
 
-kind-of : (b : List ℕ) (k p : ℕ) → KindAt b p k
+pub kind-of : (b : List ℕ) (k p : ℕ) → KindAt b p k
 unfolding bodyAt kind
 kind-of b k p =
     at k 1 (KindAt b p) (inl refl) λ e₁.

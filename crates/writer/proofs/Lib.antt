@@ -8,5 +8,7 @@ pub mod Agreement
 pub mod Frames
 pub mod Leaves
 pub mod Reading
+pub mod Judging
+pub mod Below
 pub mod Gathering
 pub mod Putting

@@ -29,7 +29,8 @@ use Rattle.coding.specs.Judging.{Node, a-leaf, a-sequence, a-set, a-sequence-of
 use Rattle.coding.specs.Value.{boolean, integer, bits, string, null, enumerated}
 use Rattle.writer.specs.Nodes.{ownEnd, endAt, leafOf, nodeOf, nodeAt}
 use Rattle.writer.specs.Frames.{cap, heads, Tagged}
-use Rattle.writer.specs.Told.{told, written, ended, IsDone, Fits, IsPut, membersForm, elementsForm, contentsForm}
+use Rattle.writer.specs.Told.{told, written, ended, IsDone, membersForm, elementsForm, contentsForm}
+use Rattle.writer.specs.Putting.{Fits, IsPut}
 use Rattle.writer.specs.declared.judge.Judged.{Judged}
 use Rattle.writer.specs.declared.judge.Judged.the-variants.{Done, Refused}
 use Rattle.writer.specs.declared.put.Placed.{Placed}

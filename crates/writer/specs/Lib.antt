@@ -3,3 +3,4 @@
 pub mod Nodes
 pub mod Frames
 pub mod Told
+pub mod Putting

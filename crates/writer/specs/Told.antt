@@ -2,10 +2,8 @@
 -- Assumes nothing.
 use mathlib.Core.List.{List, [], _∷_}
 use mathlib.Core.Option.{Option}
-use mathlib.Core.Path.{_≡_}
-use Prim.Native.Nat.{ℕ, zero, suc, _+_, _-_, _≤_}
+use Prim.Native.Nat.{ℕ, _-_}
 use lib.ListN.{length, getD}
-use lib.Seq.{sets}
 use Rattle.octets.specs.Answer.{Answer, got, refused}
 use Rattle.octets.specs.Lists.{joined}
 use Rattle.table.specs.Syntax.{Member, Body, Table}
@@ -16,7 +14,6 @@ use Rattle.coding.specs.Form.{element, alternatives, formMembers, formElements,
 use Rattle.writer.specs.Frames.{cap}
 use Rattle.writer.specs.declared.judge.Judged.{Judged}
 use Rattle.writer.specs.declared.judge.Judged.the-variants.{Done, Refused}
-use Rattle.writer.specs.declared.put.Placed.{Placed}
 
 -- where it ends in v and how many octets are written of it, to 8,193; or the cause and its place in v
 unfoldable pub told : {A : Type 0} → (A → List ℕ) → List ℕ → Answer A → Judged
@@ -35,18 +32,6 @@ ended v (refused c l) = 0
 unfoldable pub IsDone : {A : Type 0} → Answer A → Type 0
 IsDone (got a w) = Unit {0}
 IsDone (refused c l) = ⊥
-
--- W is done, and what is written of it fits a message and, from a place on, the buffer
-pub record Fits {A : Type 0} (f : A → List ℕ) (W : Answer A) (to : ℕ) (buf : List ℕ) : Type 0 where
-  pub done : IsDone W
-  pub short : length (written f W) ≤ 8192
-  pub room : to + length (written f W) ≤ length buf
-
--- it was written there, and nothing else was
-pub record IsPut {A : Type 0} (f : A → List ℕ) (W : Answer A) (v : List ℕ) (to : ℕ) (first last : List ℕ) (r : Placed) : Type 0 where
-  pub ends : r .end ≡ ended v W
-  pub reaches : r .to ≡ to + length (written f W)
-  pub buffer : last ≡ sets first to (written f W)
 
 -- the members' forms and the elements' forms, one after another
 abbrev pub membersForm : Table → ℕ → List Member → List (Option Value) → List ℕ

@@ -62,7 +62,7 @@ pub fn contents(
     let p = at + 3;
     let own = record::own(table, o);
     if k == 16 {
-        return members(
+        return judge_members(
             table,
             offsets,
             own + 1,
@@ -74,7 +74,7 @@ pub fn contents(
         );
     }
     if k == 17 {
-        return members(
+        return judge_members(
             table,
             offsets,
             own + 1,
@@ -86,10 +86,10 @@ pub fn contents(
         );
     }
     if k == 48 {
-        return elements(table, offsets, octet(table, own), number(v, p), v, e, level);
+        return judge_elements(table, offsets, octet(table, own), number(v, p), v, e, level);
     }
     if k == 49 {
-        return elements(table, offsets, octet(table, own), number(v, p), v, e, level);
+        return judge_elements(table, offsets, octet(table, own), number(v, p), v, e, level);
     }
     if k == 50 {
         let q = own + 1 + octet(v, p);
@@ -100,7 +100,7 @@ pub fn contents(
 }
 
 // The present ones of the n members from p on; which are present says v, from q on.
-pub fn members(
+pub fn judge_members(
     table: &[u8],
     offsets: &[u16],
     p: usize,
@@ -110,7 +110,7 @@ pub fn members(
     at: usize,
     level: u8,
 ) -> Judged
-    requires { ⌜ (length (now v) ≤ 16384) × (at ≤ length (now v)) × (p < 70000) × (n < 256) × (q ≤ 16384) × Tagged (look (now table) (now offsets)) ⌝ }
+    requires { ⌜ (length (now v) ≤ 16384) × (at ≤ length (now v)) × (p < 70000) × (n < 256) × (q < 20000) × Tagged (look (now table) (now offsets)) ⌝ }
     ensures { λ r. ⌜ r ≡ told (membersForm (look (now (table .entry)) (now (offsets .entry))) level (membersAt (now (table .entry)) p n)) (now (v .entry)) (judgeMembers (λ u w. judgeValue (look (now (table .entry)) (now (offsets .entry))) level u w) (membersAt (now (table .entry)) p n) (flags (everyAt 1 (now (v .entry)) q n)) [] (drop at (now (v .entry)))) ⌝ }
 {
     let mut i = p;
@@ -143,7 +143,7 @@ pub fn members(
 }
 
 // n elements of type t.
-pub fn elements(
+pub fn judge_elements(
     table: &[u8],
     offsets: &[u16],
     t: usize,

@@ -23,14 +23,14 @@ copy-spec =
     (tie.spec
     Inv-loop
     μ-loop
-    (λ c. (omega arith, refl, copies-none (c .args .buf .now) (c .args .v .now) (c .args .to) (c .args .p) (c .args .n))) -- loop-holds
-    (λ c. search needs) -- add-from
-    (λ c. search needs) -- add-at
-    (λ c. search needs) -- shared-slice-read-buf
-    (λ c. omega arith) -- slice-write-buf
-    (λ c. search needs) -- add-i
-    (λ c. omega arith) -- loop-less
-    (λ c. (omega arith, rw length-set (c .before .before .loop .inv .1), copies-turn _ (c .before .before .loop .buf) (c .before .before .before .args .v .now) (c .before .before .before .args .to) (c .before .before .before .args .p) (c .before .before .before .args .n) (c .before .before .loop .i) (omega arith) (omega arith) (c .before .before .loop .inv .2))) -- loop-again
-    (λ c. search needs) -- add-result
-    (λ c. c .before .loop .inv .1) -- same-length
-    (λ c. (refl, copies-end _ (c .before .loop .buf) _ _ (c .before .before .args .n) (c .before .loop .i) (omega arith) (c .before .loop .inv .2)))) -- returns
+    (λ c. (omega arith, refl, copies-none (c .args .buf .now) (c .args .v .now) (c .args .to) (c .args .p) (c .args .n)))  -- loop-holds
+    (λ c. search needs)  -- add-from
+    (λ c. search needs)  -- add-at
+    (λ c. search needs)  -- shared-slice-read-buf
+    (λ c. omega arith)  -- slice-write-buf
+    (λ c. search needs)  -- add-i
+    (λ c. omega arith)  -- loop-less
+    (λ c. (omega arith, rw length-set (c .before .before .loop .inv .1), copies-turn _ (c .before .before .loop .buf) (c .before .before .before .args .v .now) (c .before .before .before .args .to) (c .before .before .before .args .p) (c .before .before .before .args .n) (c .before .before .loop .i) (omega arith) (omega arith) (c .before .before .loop .inv .2)))  -- loop-again
+    (λ c. search needs)  -- add-result
+    (λ c. c .before .loop .inv .1)  -- same-length
+    (λ c. (refl, copies-end _ (c .before .loop .buf) _ _ (c .before .before .args .n) (c .before .loop .i) (omega arith) (c .before .loop .inv .2))))  -- returns

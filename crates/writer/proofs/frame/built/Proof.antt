@@ -11,5 +11,5 @@ pub built-spec : {M : Type 1} → statement M
 built-spec =
     tie.close
     (tie.spec
-    (λ c. rw (lt-ltb _ _ (c .if1 .taken)) refl) -- returns
-    (λ c. rw (le-ltb _ _ (c .if1 .left)) refl)) -- returns-2
+    (λ c. rw (lt-ltb _ _ (c .if1 .taken)) refl)  -- returns
+    (λ c. rw (le-ltb _ _ (c .if1 .left)) refl))  -- returns-2

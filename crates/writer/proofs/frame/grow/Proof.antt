@@ -10,6 +10,6 @@ pub grow-spec : {M : Type 1} → statement M
 grow-spec =
     tie.close
     (tie.spec
-    (λ c. search needs) -- add-c
-    (λ c. omega arith) -- returns
-    (λ c. omega arith)) -- returns-2
+    (λ c. search needs)  -- add-c
+    (λ c. omega arith)  -- returns
+    (λ c. omega arith))  -- returns-2

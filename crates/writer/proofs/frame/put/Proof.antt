@@ -23,22 +23,22 @@ put-spec =
     (tie.spec
     Inv-loop
     μ-loop
-    (λ c κs. search needs) -- tag-count-requires
-    (λ c κs. search needs) -- kind-requires
-    (λ c κs. search needs) -- constructed-requires
-    (λ c. (omega arith, refl, heads-none _ _ _ _ _ _ _ (classes-whole _ _ _ (c .before .before .tag-count .ensures .0) (c .before .before .before .before .before .pre .1)))) -- loop-holds
-    (λ c. search needs) -- add-p
-    (λ c. search needs) -- mul-p
-    (λ c. search needs) -- add-p-2
-    (λ c κs. search needs) -- octet-requires
-    (λ c. search needs) -- add-number
-    (λ c κs. search needs) -- number-requires
-    (λ c. search needs) -- add-i
-    (λ c κs. search needs) -- built-requires
-    (λ c κs. let h = heads-turn (c .before .before .before .before .before .before .before .before .before .before .before .args .table .now) (c .before .before .before .before .before .before .before .before .before .before .before .args .o) (c .before .before .before .before .before .before .before .before .tag-count .result) (c .before .before .before .before .before .before .before .before .before .before .before .args .inner) (c .before .before .before .before .before .before .constructed .result) (c .before .before .before .before .before .before .before .before .before .before .before .args .buf .now) (c .before .before .before .before .before .before .before .before .before .before .before .args .to) (c .before .before .before .before .before .loop .buf) (c .before .before .before .before .before .loop .i) (c .before .before .before .before .before .loop .at) (c .before .before .before .before .before .loop .inv .2) (c .before .before .before .before .loop-test .taken) (c .before .before .before .octet .result) (c .before .before .number .result) (framed (tagsAt (c .before .before .before .before .before .before .before .before .before .before .before .args .table .now) (c .before .before .before .before .before .before .before .before .before .before .before .args .o + 4 + 3 * (c .before .before .before .before .before .loop .i + 1)) (c .before .before .before .before .before .before .before .before .tag-count .result - (c .before .before .before .before .before .loop .i + 1))) (c .before .before .before .before .before .before .before .before .before .before .before .args .inner)) (c .before .built .result) (c .before .before .before .octet .ensures .0) (c .before .before .number .ensures .0) (c .before .built .ensures) refl in let f = rw (heads-whole (c .before .before .before .before .before .before .before .before .before .before .before .args .table .now) (c .before .before .before .before .before .before .before .before .before .before .before .args .o) (c .before .before .before .before .before .before .before .kind .result) (c .before .before .before .before .before .before .before .before .tag-count .result) (c .before .before .before .before .before .before .before .before .before .before .before .args .inner) (c .before .before .before .before .before .before .constructed .result) (c .before .before .before .before .before .before .constructed .ensures) (c .before .before .before .before .before .before .before .kind .ensures .0) (c .before .before .before .before .before .before .before .before .tag-count .ensures .0)) at (c .before .before .before .before .before .before .before .before .before .before .before .pre .2) in (h .class-small, c .before .before .number .ensures .1, omega (arith, h .fits-first))) -- put-requires
-    (λ c κs. (c .before .before .before .before .before .before .before .before .before .before .before .before .before .before .pre .0, rw (← c .before .before .before .before .before .before .before .before .before .before .before .tag-count .ensures .0) (omega arith))) -- size-requires
-    (λ c κs. let h = heads-turn (c .before .before .before .before .before .before .before .before .before .before .before .before .before .before .before .before .args .table .now) (c .before .before .before .before .before .before .before .before .before .before .before .before .before .before .before .before .args .o) (c .before .before .before .before .before .before .before .before .before .before .before .before .before .tag-count .result) (c .before .before .before .before .before .before .before .before .before .before .before .before .before .before .before .before .args .inner) (c .before .before .before .before .before .before .before .before .before .before .before .constructed .result) (c .before .before .before .before .before .before .before .before .before .before .before .before .before .before .before .before .args .buf .now) (c .before .before .before .before .before .before .before .before .before .before .before .before .before .before .before .before .args .to) (c .before .before .before .before .before .before .before .before .before .before .loop .buf) (c .before .before .before .before .before .before .before .before .before .before .loop .i) (c .before .before .before .before .before .before .before .before .before .before .loop .at) (c .before .before .before .before .before .before .before .before .before .before .loop .inv .2) (c .before .before .before .before .before .before .before .before .before .loop-test .taken) (c .before .before .before .before .before .before .before .before .octet .result) (c .before .before .before .before .before .before .before .number .result) (c .before .size .result) (c .before .before .before .before .before .before .built .result) (c .before .before .before .before .before .before .before .before .octet .ensures .0) (c .before .before .before .before .before .before .before .number .ensures .0) (c .before .before .before .before .before .before .built .ensures) (rw (c .before .before .before .before .before .before .before .before .before .before .before .before .before .tag-count .ensures .0) (c .before .size .ensures .0)) in let f = rw (heads-whole (c .before .before .before .before .before .before .before .before .before .before .before .before .before .before .before .before .args .table .now) (c .before .before .before .before .before .before .before .before .before .before .before .before .before .before .before .before .args .o) (c .before .before .before .before .before .before .before .before .before .before .before .before .kind .result) (c .before .before .before .before .before .before .before .before .before .before .before .before .before .tag-count .result) (c .before .before .before .before .before .before .before .before .before .before .before .before .before .before .before .before .args .inner) (c .before .before .before .before .before .before .before .before .before .before .before .constructed .result) (c .before .before .before .before .before .before .before .before .before .before .before .constructed .ensures) (c .before .before .before .before .before .before .before .before .before .before .before .before .kind .ensures .0) (c .before .before .before .before .before .before .before .before .before .before .before .before .before .tag-count .ensures .0)) at (c .before .before .before .before .before .before .before .before .before .before .before .before .before .before .before .before .pre .2) in let k = c .before .before .before .before .put .kept .1 .1 .1 .0 in (omega (arith, c .before .size .ensures .1), rw (c .before .before .before .before .put .ensures .0) (omega (arith, h .fits)))) -- put-requires-2
-    (λ c. omega arith) -- loop-less
-    (λ c. let h = heads-turn (c .before .before .before .before .before .before .before .before .before .before .before .before .before .before .before .before .before .before .before .args .table .now) (c .before .before .before .before .before .before .before .before .before .before .before .before .before .before .before .before .before .before .before .args .o) (c .before .before .before .before .before .before .before .before .before .before .before .before .before .before .before .before .tag-count .result) (c .before .before .before .before .before .before .before .before .before .before .before .before .before .before .before .before .before .before .before .args .inner) (c .before .before .before .before .before .before .before .before .before .before .before .before .before .before .constructed .result) (c .before .before .before .before .before .before .before .before .before .before .before .before .before .before .before .before .before .before .before .args .buf .now) (c .before .before .before .before .before .before .before .before .before .before .before .before .before .before .before .before .before .before .before .args .to) (c .before .before .before .before .before .before .before .before .before .before .before .before .before .loop .buf) (c .before .before .before .before .before .before .before .before .before .before .before .before .before .loop .i) (c .before .before .before .before .before .before .before .before .before .before .before .before .before .loop .at) (c .before .before .before .before .before .before .before .before .before .before .before .before .before .loop .inv .2) (c .before .before .before .before .before .before .before .before .before .before .before .before .loop-test .taken) (c .before .before .before .before .before .before .before .before .before .before .before .octet .result) (c .before .before .before .before .before .before .before .before .before .before .number .result) (c .before .before .before .before .size .result) (c .before .before .before .before .before .before .before .before .before .built .result) (c .before .before .before .before .before .before .before .before .before .before .before .octet .ensures .0) (c .before .before .before .before .before .before .before .before .before .before .number .ensures .0) (c .before .before .before .before .before .before .before .before .before .built .ensures) (rw (c .before .before .before .before .before .before .before .before .before .before .before .before .before .before .before .before .tag-count .ensures .0) (c .before .before .before .before .size .ensures .0)) in (omega arith, c .before .before .put2 .kept .1 .0 ∙ c .before .before .before .before .before .before .before .put .kept .1 .1 .1 .0 ∙ c .before .before .before .before .before .before .before .before .before .before .before .before .before .loop .inv .1, rw (c .before .before .put2 .ensures .0, c .before .before .put2 .ensures .1, c .before .before .before .before .before .before .before .put .ensures .0, c .before .before .before .before .before .before .before .put .ensures .1) (h .after))) -- loop-again
-    (λ c. c .before .loop .inv .1) -- same-length
-    (λ c. rw (heads-whole (c .before .before .before .before .before .before .before .args .table .now) (c .before .before .before .before .before .before .before .args .o) (c .before .before .before .kind .result) (c .before .before .before .before .tag-count .result) (c .before .before .before .before .before .before .before .args .inner) (c .before .before .constructed .result) (c .before .before .constructed .ensures) (c .before .before .before .kind .ensures .0) (c .before .before .before .before .tag-count .ensures .0)) (heads-end (c .before .before .before .before .before .before .before .args .table .now) (c .before .before .before .before .before .before .before .args .o) (c .before .before .before .before .tag-count .result) (c .before .before .before .before .before .before .before .args .inner) (c .before .before .constructed .result) (c .before .before .before .before .before .before .before .args .buf .now) (c .before .before .before .before .before .before .before .args .to) (c .before .loop .buf) (c .before .loop .i) (c .before .loop .at) (c .before .loop .inv .2) (c .loop-test .left)))) -- returns
+    (λ c κs. search needs)  -- tag-count-requires
+    (λ c κs. search needs)  -- kind-requires
+    (λ c κs. search needs)  -- constructed-requires
+    (λ c. (omega arith, refl, heads-none _ _ _ _ _ _ _ (classes-whole _ _ _ (c .before .before .tag-count .ensures .0) (c .before .before .before .before .before .pre .1))))  -- loop-holds
+    (λ c. search needs)  -- add-p
+    (λ c. search needs)  -- mul-p
+    (λ c. search needs)  -- add-p-2
+    (λ c κs. search needs)  -- octet-requires
+    (λ c. search needs)  -- add-number
+    (λ c κs. search needs)  -- number-requires
+    (λ c. search needs)  -- add-i
+    (λ c κs. search needs)  -- built-requires
+    (λ c κs. let h = heads-turn (c .before .before .before .before .before .before .before .before .before .before .before .args .table .now) (c .before .before .before .before .before .before .before .before .before .before .before .args .o) (c .before .before .before .before .before .before .before .before .tag-count .result) (c .before .before .before .before .before .before .before .before .before .before .before .args .inner) (c .before .before .before .before .before .before .constructed .result) (c .before .before .before .before .before .before .before .before .before .before .before .args .buf .now) (c .before .before .before .before .before .before .before .before .before .before .before .args .to) (c .before .before .before .before .before .loop .buf) (c .before .before .before .before .before .loop .i) (c .before .before .before .before .before .loop .at) (c .before .before .before .before .before .loop .inv .2) (c .before .before .before .before .loop-test .taken) (c .before .before .before .octet .result) (c .before .before .number .result) (framed (tagsAt (c .before .before .before .before .before .before .before .before .before .before .before .args .table .now) (c .before .before .before .before .before .before .before .before .before .before .before .args .o + 4 + 3 * (c .before .before .before .before .before .loop .i + 1)) (c .before .before .before .before .before .before .before .before .tag-count .result - (c .before .before .before .before .before .loop .i + 1))) (c .before .before .before .before .before .before .before .before .before .before .before .args .inner)) (c .before .built .result) (c .before .before .before .octet .ensures .0) (c .before .before .number .ensures .0) (c .before .built .ensures) refl in let f = rw (heads-whole (c .before .before .before .before .before .before .before .before .before .before .before .args .table .now) (c .before .before .before .before .before .before .before .before .before .before .before .args .o) (c .before .before .before .before .before .before .before .kind .result) (c .before .before .before .before .before .before .before .before .tag-count .result) (c .before .before .before .before .before .before .before .before .before .before .before .args .inner) (c .before .before .before .before .before .before .constructed .result) (c .before .before .before .before .before .before .constructed .ensures) (c .before .before .before .before .before .before .before .kind .ensures .0) (c .before .before .before .before .before .before .before .before .tag-count .ensures .0)) at (c .before .before .before .before .before .before .before .before .before .before .before .pre .2) in (h .class-small, c .before .before .number .ensures .1, omega (arith, h .fits-first)))  -- put-requires
+    (λ c κs. (c .before .before .before .before .before .before .before .before .before .before .before .before .before .before .pre .0, rw (← c .before .before .before .before .before .before .before .before .before .before .before .tag-count .ensures .0) (omega arith)))  -- size-requires
+    (λ c κs. let h = heads-turn (c .before .before .before .before .before .before .before .before .before .before .before .before .before .before .before .before .args .table .now) (c .before .before .before .before .before .before .before .before .before .before .before .before .before .before .before .before .args .o) (c .before .before .before .before .before .before .before .before .before .before .before .before .before .tag-count .result) (c .before .before .before .before .before .before .before .before .before .before .before .before .before .before .before .before .args .inner) (c .before .before .before .before .before .before .before .before .before .before .before .constructed .result) (c .before .before .before .before .before .before .before .before .before .before .before .before .before .before .before .before .args .buf .now) (c .before .before .before .before .before .before .before .before .before .before .before .before .before .before .before .before .args .to) (c .before .before .before .before .before .before .before .before .before .before .loop .buf) (c .before .before .before .before .before .before .before .before .before .before .loop .i) (c .before .before .before .before .before .before .before .before .before .before .loop .at) (c .before .before .before .before .before .before .before .before .before .before .loop .inv .2) (c .before .before .before .before .before .before .before .before .before .loop-test .taken) (c .before .before .before .before .before .before .before .before .octet .result) (c .before .before .before .before .before .before .before .number .result) (c .before .size .result) (c .before .before .before .before .before .before .built .result) (c .before .before .before .before .before .before .before .before .octet .ensures .0) (c .before .before .before .before .before .before .before .number .ensures .0) (c .before .before .before .before .before .before .built .ensures) (rw (c .before .before .before .before .before .before .before .before .before .before .before .before .before .tag-count .ensures .0) (c .before .size .ensures .0)) in let f = rw (heads-whole (c .before .before .before .before .before .before .before .before .before .before .before .before .before .before .before .before .args .table .now) (c .before .before .before .before .before .before .before .before .before .before .before .before .before .before .before .before .args .o) (c .before .before .before .before .before .before .before .before .before .before .before .before .kind .result) (c .before .before .before .before .before .before .before .before .before .before .before .before .before .tag-count .result) (c .before .before .before .before .before .before .before .before .before .before .before .before .before .before .before .before .args .inner) (c .before .before .before .before .before .before .before .before .before .before .before .constructed .result) (c .before .before .before .before .before .before .before .before .before .before .before .constructed .ensures) (c .before .before .before .before .before .before .before .before .before .before .before .before .kind .ensures .0) (c .before .before .before .before .before .before .before .before .before .before .before .before .before .tag-count .ensures .0)) at (c .before .before .before .before .before .before .before .before .before .before .before .before .before .before .before .before .pre .2) in let k = c .before .before .before .before .put .kept .1 .1 .1 .0 in (omega (arith, c .before .size .ensures .1), rw (c .before .before .before .before .put .ensures .0) (omega (arith, h .fits))))  -- put-requires-2
+    (λ c. omega arith)  -- loop-less
+    (λ c. let h = heads-turn (c .before .before .before .before .before .before .before .before .before .before .before .before .before .before .before .before .before .before .before .args .table .now) (c .before .before .before .before .before .before .before .before .before .before .before .before .before .before .before .before .before .before .before .args .o) (c .before .before .before .before .before .before .before .before .before .before .before .before .before .before .before .before .tag-count .result) (c .before .before .before .before .before .before .before .before .before .before .before .before .before .before .before .before .before .before .before .args .inner) (c .before .before .before .before .before .before .before .before .before .before .before .before .before .before .constructed .result) (c .before .before .before .before .before .before .before .before .before .before .before .before .before .before .before .before .before .before .before .args .buf .now) (c .before .before .before .before .before .before .before .before .before .before .before .before .before .before .before .before .before .before .before .args .to) (c .before .before .before .before .before .before .before .before .before .before .before .before .before .loop .buf) (c .before .before .before .before .before .before .before .before .before .before .before .before .before .loop .i) (c .before .before .before .before .before .before .before .before .before .before .before .before .before .loop .at) (c .before .before .before .before .before .before .before .before .before .before .before .before .before .loop .inv .2) (c .before .before .before .before .before .before .before .before .before .before .before .before .loop-test .taken) (c .before .before .before .before .before .before .before .before .before .before .before .octet .result) (c .before .before .before .before .before .before .before .before .before .before .number .result) (c .before .before .before .before .size .result) (c .before .before .before .before .before .before .before .before .before .built .result) (c .before .before .before .before .before .before .before .before .before .before .before .octet .ensures .0) (c .before .before .before .before .before .before .before .before .before .before .number .ensures .0) (c .before .before .before .before .before .before .before .before .before .built .ensures) (rw (c .before .before .before .before .before .before .before .before .before .before .before .before .before .before .before .before .tag-count .ensures .0) (c .before .before .before .before .size .ensures .0)) in (omega arith, c .before .before .put2 .kept .1 .0 ∙ c .before .before .before .before .before .before .before .put .kept .1 .1 .1 .0 ∙ c .before .before .before .before .before .before .before .before .before .before .before .before .before .loop .inv .1, rw (c .before .before .put2 .ensures .0, c .before .before .put2 .ensures .1, c .before .before .before .before .before .before .before .put .ensures .0, c .before .before .before .before .before .before .before .put .ensures .1) (h .after)))  -- loop-again
+    (λ c. c .before .loop .inv .1)  -- same-length
+    (λ c. rw (heads-whole (c .before .before .before .before .before .before .before .args .table .now) (c .before .before .before .before .before .before .before .args .o) (c .before .before .before .kind .result) (c .before .before .before .before .tag-count .result) (c .before .before .before .before .before .before .before .args .inner) (c .before .before .constructed .result) (c .before .before .constructed .ensures) (c .before .before .before .kind .ensures .0) (c .before .before .before .before .tag-count .ensures .0)) (heads-end (c .before .before .before .before .before .before .before .args .table .now) (c .before .before .before .before .before .before .before .args .o) (c .before .before .before .before .tag-count .result) (c .before .before .before .before .before .before .before .args .inner) (c .before .before .constructed .result) (c .before .before .before .before .before .before .before .args .buf .now) (c .before .before .before .before .before .before .before .args .to) (c .before .loop .buf) (c .before .loop .i) (c .before .loop .at) (c .before .loop .inv .2) (c .loop-test .left))))  -- returns

@@ -27,17 +27,17 @@ size-spec =
     (tie.spec
     Inv-loop
     μ-loop
-    (λ c κs. search needs) -- tag-count-requires
-    (λ c. (omega arith, omega arith, omega arith, rw (c .tag-count .ensures .0) refl)) -- loop-holds
-    (λ c. omega arith) -- sub-i
-    (λ c. search needs) -- add-p
-    (λ c. omega arith) -- mul-p
-    (λ c. omega arith) -- add-p-2
-    (λ c κs. omega arith) -- number-requires
-    (λ c κs. search needs) -- size-requires
-    (λ c κs. omega arith) -- size-requires-2
-    (λ c. omega arith) -- add-head
-    (λ c κs. (omega arith, omega arith)) -- grow-requires
-    (λ c. omega arith) -- loop-less
-    (λ c. (omega arith, omega arith, rw (c .grow .ensures) (cap-below (c .before .before .size .result + c .before .size2 .result + c .before .before .before .before .before .loop .total)), rw (c .grow .ensures) (framed-turn (c .before .before .before .before .before .before .before .before .args .table .now) _ (c .before .before .before .before .before .before .before .before .args .o) (c .before .before .before .before .before .loop .i) (c .before .before .before .before .before .before .before .before .args .j) (c .before .before .before .before .before .loop .total) (c .before .before .before .before .loop-test .taken) (c .before .before .before .before .before .loop .inv .3) _ _ (c .before .before .size .ensures .0 ∙ ap (λ (n : ℕ). length (identifier 0 true n)) (c .before .before .before .number .ensures .0)) (c .before .size2 .ensures .0)))) -- loop-again
-    (λ c. (framed-end (c .before .before .before .before .args .table .now) _ _ (c .before .loop .i) (c .before .before .before .before .args .j) (c .before .loop .total) (c .loop-test .left) (c .before .loop .inv .3), c .before .loop .inv .2))) -- returns
+    (λ c κs. search needs)  -- tag-count-requires
+    (λ c. (omega arith, omega arith, omega arith, rw (c .tag-count .ensures .0) refl))  -- loop-holds
+    (λ c. omega arith)  -- sub-i
+    (λ c. search needs)  -- add-p
+    (λ c. omega arith)  -- mul-p
+    (λ c. omega arith)  -- add-p-2
+    (λ c κs. omega arith)  -- number-requires
+    (λ c κs. search needs)  -- size-requires
+    (λ c κs. omega arith)  -- size-requires-2
+    (λ c. omega arith)  -- add-head
+    (λ c κs. (omega arith, omega arith))  -- grow-requires
+    (λ c. omega arith)  -- loop-less
+    (λ c. (omega arith, omega arith, rw (c .grow .ensures) (cap-below (c .before .before .size .result + c .before .size2 .result + c .before .before .before .before .before .loop .total)), rw (c .grow .ensures) (framed-turn (c .before .before .before .before .before .before .before .before .args .table .now) _ (c .before .before .before .before .before .before .before .before .args .o) (c .before .before .before .before .before .loop .i) (c .before .before .before .before .before .before .before .before .args .j) (c .before .before .before .before .before .loop .total) (c .before .before .before .before .loop-test .taken) (c .before .before .before .before .before .loop .inv .3) _ _ (c .before .before .size .ensures .0 ∙ ap (λ (n : ℕ). length (identifier 0 true n)) (c .before .before .before .number .ensures .0)) (c .before .size2 .ensures .0))))  -- loop-again
+    (λ c. (framed-end (c .before .before .before .before .args .table .now) _ _ (c .before .loop .i) (c .before .before .before .before .args .j) (c .before .loop .total) (c .loop-test .left) (c .before .loop .inv .3), c .before .loop .inv .2)))  -- returns

@@ -14,10 +14,10 @@ unfolding leading
 leading-spec =
     tie.close
     (tie.spec
-    (λ c. search needs) -- mul-result
-    (λ c. search needs) -- add-result
-    (λ c. search needs) -- add-result-2
-    (λ c. rw (c .if1 .taken) (omega arith, omega arith)) -- returns
-    (λ c. search needs) -- mul-result-2
-    (λ c. search needs) -- add-result-3
-    (λ c. rw (c .if1 .left) (omega arith, omega arith))) -- returns-2
+    (λ c. search needs)  -- mul-result
+    (λ c. search needs)  -- add-result
+    (λ c. search needs)  -- add-result-2
+    (λ c. rw (c .if1 .taken) (omega arith, omega arith))  -- returns
+    (λ c. search needs)  -- mul-result-2
+    (λ c. search needs)  -- add-result-3
+    (λ c. rw (c .if1 .left) (omega arith, omega arith)))  -- returns-2

@@ -14,12 +14,12 @@ unfolding eight
 eight-spec =
     tie.close
     (tie.spec
-    (λ c. search needs) -- cast-t3
-    (λ c. search needs) -- cast-t6
-    (λ c. search needs) -- cast-t9
-    (λ c. search needs) -- cast-t12
-    (λ c. search needs) -- cast-t15
-    (λ c. search needs) -- cast-t18
-    (λ c. search needs) -- cast-t21
-    (λ c. search needs) -- cast-t23
-    (λ c. refl)) -- returns
+    (λ c. search needs)  -- cast-t3
+    (λ c. search needs)  -- cast-t6
+    (λ c. search needs)  -- cast-t9
+    (λ c. search needs)  -- cast-t12
+    (λ c. search needs)  -- cast-t15
+    (λ c. search needs)  -- cast-t18
+    (λ c. search needs)  -- cast-t21
+    (λ c. search needs)  -- cast-t23
+    (λ c. refl))  -- returns

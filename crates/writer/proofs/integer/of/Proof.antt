@@ -21,7 +21,7 @@ unfolding integerOf
 of-spec =
     tie.close
     (tie.spec
-    (λ c. search needs) -- shared-slice-read-negative
-    (λ c κs. (omega arith, omega arith, sign-of (c .before .before .args .s .now) (omega arith))) -- pile-requires
-    (λ c κs. c .pile .ensures .1) -- signed-requires
-    (λ c. toZ-ofZ w64 (c .signed .result) (record { sfits = c .signed .ok }) ∙ c .signed .ensures ∙ ap (signed (leb 128 (getD (c .before .before .before .before .args .s .now) 0 0))) (c .before .pile .ensures .0) ∙ ap (λ (t : Bool). signed t (pile t 0 (c .before .before .before .before .args .s .now))) (sign-of (c .before .before .before .before .args .s .now) (omega arith)))) -- returns
+    (λ c. search needs)  -- shared-slice-read-negative
+    (λ c κs. (omega arith, omega arith, sign-of (c .before .before .args .s .now) (omega arith)))  -- pile-requires
+    (λ c κs. c .pile .ensures .1)  -- signed-requires
+    (λ c. toZ-ofZ w64 (c .signed .result) (record { sfits = c .signed .ok }) ∙ c .signed .ensures ∙ ap (signed (leb 128 (getD (c .before .before .before .before .args .s .now) 0 0))) (c .before .pile .ensures .0) ∙ ap (λ (t : Bool). signed t (pile t 0 (c .before .before .before .before .args .s .now))) (sign-of (c .before .before .before .before .args .s .now) (omega arith))))  -- returns

@@ -27,15 +27,15 @@ put-spec =
     (tie.spec
     Inv-loop
     μ-loop
-    (λ c κs. search needs) -- bits-requires
-    (λ c κs. search needs) -- eight-requires
-    (λ c κs. eight-length (c .before .before .bits .result) (c .before .eight .result) (c .before .eight .ensures)) -- start-requires
-    (λ c. (omega arith, refl, refl, refl)) -- loop-holds
-    (λ c. search needs) -- array-read-buf
-    (λ c. omega (arith, fewest-size (c .before .before .before .before .before .before .before .args .z) (c .before .before .before .before .before .bits .result) (c .before .before .start .result) (c .before .before .before .before .eight .result) (c .before .before .before .before .eight .ensures) (c .before .before .before .before .before .bits .ensures ∙ ap (ofZ w64) (toZ-ofZ w64 (c .before .before .before .before .before .before .before .args .z) (c .before .before .before .before .before .before .before .fits .z))) (c .before .before .start .ensures .1))) -- slice-write-buf
-    (λ c. search needs) -- add-i
-    (λ c. search needs) -- add-at
-    (λ c. omega arith) -- loop-less
-    (λ c. (omega arith, rw length-set (c .before .loop .inv .1), omega arith, stores-turn _ (c .before .loop .buf) (c .before .before .before .before .eight .result) (c .before .loop .at) (c .before .loop .i) (omega (arith, eight-length (c .before .before .before .before .before .bits .result) (c .before .before .before .before .eight .result) (c .before .before .before .before .eight .ensures))) (c .before .loop .inv .3))) -- loop-again
-    (λ c. c .before .loop .inv .1) -- same-length
-    (λ c. (omega (arith, fewest-size (c .before .before .before .before .before .before .before .args .z) (c .before .before .before .before .before .bits .result) (c .before .before .start .result) (c .before .before .before .before .eight .result) (c .before .before .before .before .eight .ensures) (c .before .before .before .before .before .bits .ensures ∙ ap (ofZ w64) (toZ-ofZ w64 (c .before .before .before .before .before .before .before .args .z) (c .before .before .before .before .before .before .before .fits .z))) (c .before .before .start .ensures .1)), stores-end _ (c .before .loop .buf) (c .before .before .before .before .eight .result) (c .before .loop .at) (c .before .loop .i) (omega (arith, eight-length (c .before .before .before .before .before .bits .result) (c .before .before .before .before .eight .result) (c .before .before .before .before .eight .ensures))) (c .before .loop .inv .3) ∙ ap (sets (c .before .before .before .before .before .before .before .args .buf .now) (c .before .before .before .before .before .before .before .args .to)) (fewest-cut (c .before .before .before .before .before .before .before .args .z) (c .before .before .before .before .before .bits .result) (c .before .before .start .result) (c .before .before .before .before .eight .result) (c .before .before .before .before .eight .ensures) (c .before .before .before .before .before .bits .ensures ∙ ap (ofZ w64) (toZ-ofZ w64 (c .before .before .before .before .before .before .before .args .z) (c .before .before .before .before .before .before .before .fits .z))) (c .before .before .start .ensures .1))))) -- returns
+    (λ c κs. search needs)  -- bits-requires
+    (λ c κs. search needs)  -- eight-requires
+    (λ c κs. eight-length (c .before .before .bits .result) (c .before .eight .result) (c .before .eight .ensures))  -- start-requires
+    (λ c. (omega arith, refl, refl, refl))  -- loop-holds
+    (λ c. search needs)  -- array-read-buf
+    (λ c. omega (arith, fewest-size (c .before .before .before .before .before .before .before .args .z) (c .before .before .before .before .before .bits .result) (c .before .before .start .result) (c .before .before .before .before .eight .result) (c .before .before .before .before .eight .ensures) (c .before .before .before .before .before .bits .ensures ∙ ap (ofZ w64) (toZ-ofZ w64 (c .before .before .before .before .before .before .before .args .z) (c .before .before .before .before .before .before .before .fits .z))) (c .before .before .start .ensures .1)))  -- slice-write-buf
+    (λ c. search needs)  -- add-i
+    (λ c. search needs)  -- add-at
+    (λ c. omega arith)  -- loop-less
+    (λ c. (omega arith, rw length-set (c .before .loop .inv .1), omega arith, stores-turn _ (c .before .loop .buf) (c .before .before .before .before .eight .result) (c .before .loop .at) (c .before .loop .i) (omega (arith, eight-length (c .before .before .before .before .before .bits .result) (c .before .before .before .before .eight .result) (c .before .before .before .before .eight .ensures))) (c .before .loop .inv .3)))  -- loop-again
+    (λ c. c .before .loop .inv .1)  -- same-length
+    (λ c. (omega (arith, fewest-size (c .before .before .before .before .before .before .before .args .z) (c .before .before .before .before .before .bits .result) (c .before .before .start .result) (c .before .before .before .before .eight .result) (c .before .before .before .before .eight .ensures) (c .before .before .before .before .before .bits .ensures ∙ ap (ofZ w64) (toZ-ofZ w64 (c .before .before .before .before .before .before .before .args .z) (c .before .before .before .before .before .before .before .fits .z))) (c .before .before .start .ensures .1)), stores-end _ (c .before .loop .buf) (c .before .before .before .before .eight .result) (c .before .loop .at) (c .before .loop .i) (omega (arith, eight-length (c .before .before .before .before .before .bits .result) (c .before .before .before .before .eight .result) (c .before .before .before .before .eight .ensures))) (c .before .loop .inv .3) ∙ ap (sets (c .before .before .before .before .before .before .before .args .buf .now) (c .before .before .before .before .before .before .before .args .to)) (fewest-cut (c .before .before .before .before .before .before .before .args .z) (c .before .before .before .before .before .bits .result) (c .before .before .start .result) (c .before .before .before .before .eight .result) (c .before .before .before .before .eight .ensures) (c .before .before .before .before .before .bits .ensures ∙ ap (ofZ w64) (toZ-ofZ w64 (c .before .before .before .before .before .before .before .args .z) (c .before .before .before .before .before .before .before .fits .z))) (c .before .before .start .ensures .1)))))  -- returns

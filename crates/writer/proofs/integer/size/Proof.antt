@@ -21,8 +21,8 @@ pub size-spec : {M : Type 1} → statement M
 size-spec =
     tie.close
     (tie.spec
-    (λ c κs. search needs) -- bits-requires
-    (λ c κs. search needs) -- eight-requires
-    (λ c κs. eight-length _ _ (c .before .eight .ensures)) -- start-requires
-    (λ c. omega arith) -- sub-result
-    (λ c. (fewest-size (c .before .before .before .before .args .z) _ _ _ (c .before .before .eight .ensures) (c .before .before .before .bits .ensures ∙ ap (ofZ w64) (toZ-ofZ w64 (c .before .before .before .before .args .z) (c .before .before .before .before .fits .z))) (c .start .ensures .1), omega arith))) -- returns
+    (λ c κs. search needs)  -- bits-requires
+    (λ c κs. search needs)  -- eight-requires
+    (λ c κs. eight-length _ _ (c .before .eight .ensures))  -- start-requires
+    (λ c. omega arith)  -- sub-result
+    (λ c. (fewest-size (c .before .before .before .before .args .z) _ _ _ (c .before .before .eight .ensures) (c .before .before .before .bits .ensures ∙ ap (ofZ w64) (toZ-ofZ w64 (c .before .before .before .before .args .z) (c .before .before .before .before .fits .z))) (c .start .ensures .1), omega arith)))  -- returns

@@ -24,13 +24,13 @@ start-spec =
     (tie.spec
     Inv-loop
     μ-loop
-    (λ c. (omega arith, refl)) -- loop-holds
-    (λ c. search needs) -- element-copy-out-spare
-    (λ c. search needs) -- add-spare
-    (λ c. search needs) -- element-copy-out-spare-2
-    (λ c κs. search needs) -- spare-requires
-    (λ c. search needs) -- add-i
-    (λ c. search needs) -- loop-less
-    (λ c. (omega arith, sym (fewer (c .before .before .before .before .before .before .args .o .now) (c .before .before .before .before .before .loop .i) (omega arith) (sym (c .before .spare .ensures) ∙ c .if1 .taken)) ∙ c .before .before .before .before .before .loop .inv .1)) -- loop-again
-    (λ c. (omega arith, sym (no-fewer (c .before .before .before .before .before .before .args .o .now) (c .before .before .before .before .before .loop .i) (omega arith) (sym (c .before .spare .ensures) ∙ c .if1 .left)) ∙ c .before .before .before .before .before .loop .inv .1)) -- returns
-    (λ c. (omega arith, sym (one-left (c .before .before .args .o .now) (c .before .loop .i) (omega arith)) ∙ c .before .loop .inv .1))) -- returns-2
+    (λ c. (omega arith, refl))  -- loop-holds
+    (λ c. search needs)  -- element-copy-out-spare
+    (λ c. search needs)  -- add-spare
+    (λ c. search needs)  -- element-copy-out-spare-2
+    (λ c κs. search needs)  -- spare-requires
+    (λ c. search needs)  -- add-i
+    (λ c. search needs)  -- loop-less
+    (λ c. (omega arith, sym (fewer (c .before .before .before .before .before .before .args .o .now) (c .before .before .before .before .before .loop .i) (omega arith) (sym (c .before .spare .ensures) ∙ c .if1 .taken)) ∙ c .before .before .before .before .before .loop .inv .1))  -- loop-again
+    (λ c. (omega arith, sym (no-fewer (c .before .before .before .before .before .before .args .o .now) (c .before .before .before .before .before .loop .i) (omega arith) (sym (c .before .spare .ensures) ∙ c .if1 .left)) ∙ c .before .before .before .before .before .loop .inv .1))  -- returns
+    (λ c. (omega arith, sym (one-left (c .before .before .args .o .now) (c .before .loop .i) (omega arith)) ∙ c .before .loop .inv .1)))  -- returns-2

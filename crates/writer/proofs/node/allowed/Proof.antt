@@ -11,5 +11,5 @@ pub allowed-spec : {M : Type 1} → statement M
 allowed-spec =
     tie.close
     (tie.spec
-    (λ c. rw (eq-eqb _ _ (c .if1 .taken)) refl) -- returns
-    (λ c. rw (ne-eqb _ _ (c .if1 .left)) refl)) -- returns-2
+    (λ c. rw (eq-eqb _ _ (c .if1 .taken)) refl)  -- returns
+    (λ c. rw (ne-eqb _ _ (c .if1 .left)) refl))  -- returns-2

@@ -18,12 +18,12 @@ unfolding bitsEnd
 bits-end-spec =
     tie.close
     (tie.spec
-    (λ c. search needs) -- add-q
-    (λ c. search tests) -- returns
-    (λ c κs. search needs) -- number-requires
-    (λ c. search needs) -- add-e
-    (λ c. search needs) -- add-e-2
-    (λ c. rw (← c .before .number .ensures .0) (search tests)) -- returns-2
-    (λ c κs. search needs) -- clear-requires
-    (λ c. rw (← c .before .before .before .number .ensures .0, ← c .before .clear .ensures, c .if3 .taken) (search tests)) -- returns-3
-    (λ c. rw (← c .before .before .before .number .ensures .0, ← c .before .clear .ensures, c .if3 .left) (search tests))) -- returns-4
+    (λ c. search needs)  -- add-q
+    (λ c. search tests)  -- returns
+    (λ c κs. search needs)  -- number-requires
+    (λ c. search needs)  -- add-e
+    (λ c. search needs)  -- add-e-2
+    (λ c. rw (← c .before .number .ensures .0) (search tests))  -- returns-2
+    (λ c κs. search needs)  -- clear-requires
+    (λ c. rw (← c .before .before .before .number .ensures .0, ← c .before .clear .ensures, c .if3 .taken) (search tests))  -- returns-3
+    (λ c. rw (← c .before .before .before .number .ensures .0, ← c .before .clear .ensures, c .if3 .left) (search tests)))  -- returns-4

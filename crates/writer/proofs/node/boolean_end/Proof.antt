@@ -14,8 +14,8 @@ use Rattle.octets.proofs.octet.Reads as octet-reads
 pub boolean-end-spec : {M : Type 1} → statement M
 unfolding booleanEnd
 boolean-end-spec = tie.close (tie.spec
-    (λ c. search needs) -- add-e
-    (λ c. search tests) -- returns
-    (λ c κs. search needs) -- octet-requires
-    (λ c. rw (← c .before .octet .ensures .0) (search tests)) -- returns-2
-    (λ c. rw (← c .before .octet .ensures .0) (search tests))) -- returns-3
+    (λ c. search needs)  -- add-e
+    (λ c. search tests)  -- returns
+    (λ c κs. search needs)  -- octet-requires
+    (λ c. rw (← c .before .octet .ensures .0) (search tests))  -- returns-2
+    (λ c. rw (← c .before .octet .ensures .0) (search tests)))  -- returns-3

@@ -18,14 +18,14 @@ unfolding clearAt
 clear-spec =
     tie.close
     (tie.spec
-    (λ c. search tests) -- returns
-    (λ c. search needs) -- add-size
-    (λ c. search needs) -- mul-spare
-    (λ c. search needs) -- sub-spare
-    (λ c κs. search needs) -- unit-requires
-    (λ c. search needs) -- add-octet
-    (λ c. search needs) -- sub-octet
-    (λ c κs. search needs) -- octet-requires
-    (λ c. c .before .unit .ensures .1) -- div-result
-    (λ c. let k = div-mul-le-self (c .octet .result) (c .before .unit .result) in search needs) -- mul-result
-    (λ c. rw (← c .octet .ensures .0, ← c .before .unit .ensures .0) (search tests))) -- returns-2
+    (λ c. search tests)  -- returns
+    (λ c. search needs)  -- add-size
+    (λ c. search needs)  -- mul-spare
+    (λ c. search needs)  -- sub-spare
+    (λ c κs. search needs)  -- unit-requires
+    (λ c. search needs)  -- add-octet
+    (λ c. search needs)  -- sub-octet
+    (λ c κs. search needs)  -- octet-requires
+    (λ c. c .before .unit .ensures .1)  -- div-result
+    (λ c. let k = div-mul-le-self (c .octet .result) (c .before .unit .result) in search needs)  -- mul-result
+    (λ c. rw (← c .octet .ensures .0, ← c .before .unit .ensures .0) (search tests)))  -- returns-2

@@ -13,14 +13,14 @@ unfolding endAt
 end-spec =
     tie.close
     (tie.spec
-    (λ c. search needs) -- add-p
-    (λ c. search tests) -- returns
-    (λ c κs. search needs) -- octet-requires
-    (λ c. rw (← c .before .octet .ensures .0) (search tests)) -- returns-2
-    (λ c. search needs) -- add-octet
-    (λ c κs. search needs) -- octet-requires-2
-    (λ c. rw (← c .before .before .before .octet .ensures .0, ← c .before .octet2 .ensures .0) (search tests)) -- returns-3
-    (λ c. search needs) -- add-octet-2
-    (λ c κs. search needs) -- octet-requires-3
-    (λ c κs. search needs) -- own-end-requires
-    (λ c. rw (c .own-end .ensures, c .before .octet3 .ensures .0, ← c .before .before .before .before .before .octet .ensures .0, ← c .before .before .before .octet2 .ensures .0) (search tests))) -- returns-4
+    (λ c. search needs)  -- add-p
+    (λ c. search tests)  -- returns
+    (λ c κs. search needs)  -- octet-requires
+    (λ c. rw (← c .before .octet .ensures .0) (search tests))  -- returns-2
+    (λ c. search needs)  -- add-octet
+    (λ c κs. search needs)  -- octet-requires-2
+    (λ c. rw (← c .before .before .before .octet .ensures .0, ← c .before .octet2 .ensures .0) (search tests))  -- returns-3
+    (λ c. search needs)  -- add-octet-2
+    (λ c κs. search needs)  -- octet-requires-3
+    (λ c κs. search needs)  -- own-end-requires
+    (λ c. rw (c .own-end .ensures, c .before .octet3 .ensures .0, ← c .before .before .before .before .before .octet .ensures .0, ← c .before .before .before .octet2 .ensures .0) (search tests)))  -- returns-4

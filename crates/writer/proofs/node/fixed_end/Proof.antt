@@ -14,5 +14,5 @@ use Rattle.writer.proofs.node.fixed_end.Lts as lts
 pub fixed-end-spec : {M : Type 1} → statement M
 unfolding fixedEnd
 fixed-end-spec = tie.close (tie.spec
-    (λ c. search tests) -- returns
-    (λ c. search tests)) -- returns-2
+    (λ c. search tests)  -- returns
+    (λ c. search tests))  -- returns-2

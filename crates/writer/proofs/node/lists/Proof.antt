@@ -24,11 +24,11 @@ lists-spec =
     (tie.spec
     Inv-loop
     μ-loop
-    (λ c. (omega arith, refl)) -- loop-holds
-    (λ c κs. omega arith) -- number-requires
-    (λ c. listed-stops _ _ _ _ _ (c .before .before .before .loop .inv .1) (omega arith) (rw (← c .before .number .ensures .0) (c .if1 .taken))) -- returns
-    (λ c. omega arith) -- add-at
-    (λ c. omega arith) -- sub-left
-    (λ c. omega arith) -- loop-less
-    (λ c. (omega arith, listed-goes _ _ _ _ _ (c .before .before .before .loop .inv .1) (omega arith) (rw (← c .before .number .ensures .0) (c .if1 .left)))) -- loop-again
-    (λ c. listed-ends _ _ _ _ _ (c .before .loop .inv .1) (omega arith))) -- returns-2
+    (λ c. (omega arith, refl))  -- loop-holds
+    (λ c κs. omega arith)  -- number-requires
+    (λ c. listed-stops _ _ _ _ _ (c .before .before .before .loop .inv .1) (omega arith) (rw (← c .before .number .ensures .0) (c .if1 .taken)))  -- returns
+    (λ c. omega arith)  -- add-at
+    (λ c. omega arith)  -- sub-left
+    (λ c. omega arith)  -- loop-less
+    (λ c. (omega arith, listed-goes _ _ _ _ _ (c .before .before .before .loop .inv .1) (omega arith) (rw (← c .before .number .ensures .0) (c .if1 .left))))  -- loop-again
+    (λ c. listed-ends _ _ _ _ _ (c .before .loop .inv .1) (omega arith)))  -- returns-2

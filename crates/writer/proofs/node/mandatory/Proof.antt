@@ -26,15 +26,15 @@ mandatory-spec =
     (tie.spec
     Inv-loop
     μ-loop
-    (λ c. (omega arith, omega arith, refl)) -- loop-holds
-    (λ c. omega arith) -- add-octet
-    (λ c κs. search needs) -- octet-requires
-    (λ c κs. search needs) -- octet-requires-2
-    (λ c κs. search needs) -- allowed-requires
-    (λ c. agreeing-stops _ _ _ _ _ _ (c .before .before .before .before .before .loop .inv .2) (omega arith) (rw (← c .before .before .before .octet .ensures .0, ← c .before .before .octet2 .ensures .0, ← c .before .allowed .ensures) (not-true _ (c .if1 .taken)))) -- returns
-    (λ c. omega arith) -- add-at
-    (λ c. omega arith) -- add-mark
-    (λ c. omega arith) -- sub-left
-    (λ c. omega arith) -- loop-less
-    (λ c. (omega arith, omega arith, agreeing-goes _ _ _ _ _ _ (c .before .before .before .before .before .loop .inv .2) (omega arith) (rw (← c .before .before .before .octet .ensures .0, ← c .before .before .octet2 .ensures .0, ← c .before .allowed .ensures) (not-false _ (c .if1 .left))))) -- loop-again
-    (λ c. agreeing-ends _ _ _ _ _ _ (c .before .loop .inv .2) (omega arith))) -- returns-2
+    (λ c. (omega arith, omega arith, refl))  -- loop-holds
+    (λ c. omega arith)  -- add-octet
+    (λ c κs. search needs)  -- octet-requires
+    (λ c κs. search needs)  -- octet-requires-2
+    (λ c κs. search needs)  -- allowed-requires
+    (λ c. agreeing-stops _ _ _ _ _ _ (c .before .before .before .before .before .loop .inv .2) (omega arith) (rw (← c .before .before .before .octet .ensures .0, ← c .before .before .octet2 .ensures .0, ← c .before .allowed .ensures) (not-true _ (c .if1 .taken))))  -- returns
+    (λ c. omega arith)  -- add-at
+    (λ c. omega arith)  -- add-mark
+    (λ c. omega arith)  -- sub-left
+    (λ c. omega arith)  -- loop-less
+    (λ c. (omega arith, omega arith, agreeing-goes _ _ _ _ _ _ (c .before .before .before .before .before .loop .inv .2) (omega arith) (rw (← c .before .before .before .octet .ensures .0, ← c .before .before .octet2 .ensures .0, ← c .before .allowed .ensures) (not-false _ (c .if1 .left)))))  -- loop-again
+    (λ c. agreeing-ends _ _ _ _ _ _ (c .before .loop .inv .2) (omega arith)))  -- returns-2

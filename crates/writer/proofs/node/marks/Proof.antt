@@ -26,11 +26,11 @@ marks-spec =
     (tie.spec
     Inv-loop
     μ-loop
-    (λ c. (omega arith, refl)) -- loop-holds
-    (λ c κs. search needs) -- octet-requires
-    (λ c. all-stops _ _ _ _ _ _ (c .before .before .before .loop .inv .1) (omega arith) (rw (← c .before .octet .ensures .0) (le-ltb _ _ (c .if1 .taken)))) -- returns
-    (λ c. omega arith) -- add-at
-    (λ c. omega arith) -- sub-left
-    (λ c. omega arith) -- loop-less
-    (λ c. (omega arith, all-goes _ _ _ _ _ _ (c .before .before .before .loop .inv .1) (omega arith) (rw (← c .before .octet .ensures .0) (lt-ltb _ _ (c .if1 .left))))) -- loop-again
-    (λ c. all-ends _ _ _ _ _ _ (c .before .loop .inv .1) (omega arith))) -- returns-2
+    (λ c. (omega arith, refl))  -- loop-holds
+    (λ c κs. search needs)  -- octet-requires
+    (λ c. all-stops _ _ _ _ _ _ (c .before .before .before .loop .inv .1) (omega arith) (rw (← c .before .octet .ensures .0) (le-ltb _ _ (c .if1 .taken))))  -- returns
+    (λ c. omega arith)  -- add-at
+    (λ c. omega arith)  -- sub-left
+    (λ c. omega arith)  -- loop-less
+    (λ c. (omega arith, all-goes _ _ _ _ _ _ (c .before .before .before .loop .inv .1) (omega arith) (rw (← c .before .octet .ensures .0) (lt-ltb _ _ (c .if1 .left)))))  -- loop-again
+    (λ c. all-ends _ _ _ _ _ _ (c .before .loop .inv .1) (omega arith)))  -- returns-2

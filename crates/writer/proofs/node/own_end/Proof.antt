@@ -13,30 +13,30 @@ unfolding ownEnd
 own-end-spec =
     tie.close
     (tie.spec
-    (λ c κs. search needs) -- boolean-end-requires
-    (λ c. rw (c .boolean-end .ensures) (search tests)) -- returns
-    (λ c. search needs) -- add-fixed-end
-    (λ c κs. search needs) -- fixed-end-requires
-    (λ c. rw (c .fixed-end .ensures) (search tests)) -- returns-2
-    (λ c κs. search needs) -- bits-end-requires
-    (λ c. rw (c .bits-end .ensures) (search tests)) -- returns-3
-    (λ c κs. search needs) -- string-end-requires
-    (λ c. rw (c .string-end .ensures) (search tests)) -- returns-4
-    (λ c. search tests) -- returns-5
-    (λ c. search needs) -- add-fixed-end-2
-    (λ c κs. search needs) -- fixed-end-requires-2
-    (λ c. rw (c .fixed-end2 .ensures) (search tests)) -- returns-6
-    (λ c κs. search needs) -- members-end-requires
-    (λ c. rw (c .members-end .ensures) (search tests)) -- returns-7
-    (λ c κs. search needs) -- members-end-requires-2
-    (λ c. rw (c .members-end2 .ensures) (search tests)) -- returns-8
-    (λ c. search needs) -- add-fixed-end-3
-    (λ c κs. search needs) -- fixed-end-requires-3
-    (λ c. rw (c .fixed-end3 .ensures) (search tests)) -- returns-9
-    (λ c. search needs) -- add-fixed-end-4
-    (λ c κs. search needs) -- fixed-end-requires-4
-    (λ c. rw (c .fixed-end4 .ensures) (search tests)) -- returns-10
-    (λ c. search needs) -- add-fixed-end-5
-    (λ c κs. search needs) -- fixed-end-requires-5
-    (λ c. rw (c .fixed-end5 .ensures) (search tests)) -- returns-11
-    (λ c. search tests)) -- returns-12
+    (λ c κs. search needs)  -- boolean-end-requires
+    (λ c. rw (c .boolean-end .ensures) (search tests))  -- returns
+    (λ c. search needs)  -- add-fixed-end
+    (λ c κs. search needs)  -- fixed-end-requires
+    (λ c. rw (c .fixed-end .ensures) (search tests))  -- returns-2
+    (λ c κs. search needs)  -- bits-end-requires
+    (λ c. rw (c .bits-end .ensures) (search tests))  -- returns-3
+    (λ c κs. search needs)  -- string-end-requires
+    (λ c. rw (c .string-end .ensures) (search tests))  -- returns-4
+    (λ c. search tests)  -- returns-5
+    (λ c. search needs)  -- add-fixed-end-2
+    (λ c κs. search needs)  -- fixed-end-requires-2
+    (λ c. rw (c .fixed-end2 .ensures) (search tests))  -- returns-6
+    (λ c κs. search needs)  -- members-end-requires
+    (λ c. rw (c .members-end .ensures) (search tests))  -- returns-7
+    (λ c κs. search needs)  -- members-end-requires-2
+    (λ c. rw (c .members-end2 .ensures) (search tests))  -- returns-8
+    (λ c. search needs)  -- add-fixed-end-3
+    (λ c κs. search needs)  -- fixed-end-requires-3
+    (λ c. rw (c .fixed-end3 .ensures) (search tests))  -- returns-9
+    (λ c. search needs)  -- add-fixed-end-4
+    (λ c κs. search needs)  -- fixed-end-requires-4
+    (λ c. rw (c .fixed-end4 .ensures) (search tests))  -- returns-10
+    (λ c. search needs)  -- add-fixed-end-5
+    (λ c κs. search needs)  -- fixed-end-requires-5
+    (λ c. rw (c .fixed-end5 .ensures) (search tests))  -- returns-11
+    (λ c. search tests))  -- returns-12

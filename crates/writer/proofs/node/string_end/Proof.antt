@@ -14,9 +14,9 @@ use Rattle.octets.proofs.number.Reads as number-reads
 pub string-end-spec : {M : Type 1} → statement M
 unfolding stringEnd
 string-end-spec = tie.close (tie.spec
-    (λ c. search needs) -- add-q
-    (λ c. search tests) -- returns
-    (λ c κs. search needs) -- number-requires
-    (λ c. search needs) -- add-e
-    (λ c. rw (← c .before .number .ensures .0) (search tests)) -- returns-2
-    (λ c. rw (← c .before .number .ensures .0) (search tests))) -- returns-3
+    (λ c. search needs)  -- add-q
+    (λ c. search tests)  -- returns
+    (λ c κs. search needs)  -- number-requires
+    (λ c. search needs)  -- add-e
+    (λ c. rw (← c .before .number .ensures .0) (search tests))  -- returns-2
+    (λ c. rw (← c .before .number .ensures .0) (search tests)))  -- returns-3

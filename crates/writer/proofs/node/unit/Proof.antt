@@ -11,6 +11,6 @@ use Rattle.writer.proofs.node.unit.Lts as lts
 
 pub unit-spec : {M : Type 1} → statement M
 unit-spec = tie.close (tie.spec
-    (λ c. search needs) -- array-read-result
-    (λ c. let k = power-small (c .args .n) (c .pre) in search needs) -- cast-result
-    (λ c. let k = power-small (c .args .n) (c .pre) in (power (c .args .n) (c .pre), k .0, k .1))) -- returns
+    (λ c. search needs)  -- array-read-result
+    (λ c. let k = power-small (c .args .n) (c .pre) in search needs)  -- cast-result
+    (λ c. let k = power-small (c .args .n) (c .pre) in (power (c .args .n) (c .pre), k .0, k .1)))  -- returns
