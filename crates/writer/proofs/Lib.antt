@@ -10,4 +10,6 @@ pub mod Leaves
 pub mod Reading
 pub mod Judging
 pub mod Below
+pub mod Gathering
+pub mod Putting
 pub mod Written
