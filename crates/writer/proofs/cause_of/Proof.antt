@@ -11,6 +11,6 @@ use Rattle.writer.proofs.cause_of.Lts as lts
 pub cause-of-spec : {M : Type 1} → statement M
 unfolding valueCause if
 cause-of-spec = tie.close (tie.spec
-    (λ c. rw (eq-eqb (@start .args .cause) 11 (@if1 .taken))) -- returns
-    (λ c. rw (ne-eqb (@start .args .cause) 11 (@if1 .left), eq-eqb (@start .args .cause) 12 (@if2 .taken))) -- returns-2
-    (λ c. rw (ne-eqb (@start .args .cause) 11 (@if1 .left), ne-eqb (@start .args .cause) 12 (@if2 .left)))) -- returns-3
+    (λ c. rw (eq-eqb (c .before .args .cause) 11 (c .if1 .taken)))  -- returns
+    (λ c. rw (ne-eqb (c .before .before .args .cause) 11 (c .before .if1 .left), eq-eqb (c .before .before .args .cause) 12 (c .if2 .taken)))  -- returns-2
+    (λ c. rw (ne-eqb (c .before .before .args .cause) 11 (c .before .if1 .left), ne-eqb (c .before .before .args .cause) 12 (c .if2 .left))))  -- returns-3
