@@ -1,0 +1,359 @@
+"""Compares the program of cases with Erlang/OTP's asn1 and with pyasn1, both ways, on random tables, values and messages.
+
+Each disagreement is either one of EXPLAINED, where the outside coder departs from X.690 or from document 01's limits, or it is
+printed with its octets and the run fails."""
+import argparse
+import collections
+import os
+import random
+import shutil
+import struct
+import sys
+import tempfile
+
+import erlang
+import make
+import model
+import ours
+import python_asn1
+
+# Rules that the outside coders do not keep (the model reads without the rule and finds their value), by coder.
+LAX = {
+    'erlang': {
+        'spare octets': 'INTEGER or ENUMERATED contents with more octets than needed are read (X.690, 8.3.2)',
+        'wide integer': 'INTEGER contents of more than 8 octets are read: no limit',
+        'no octet': 'an INTEGER, ENUMERATED (or, by pyasn1, BOOLEAN) without contents octets is read as 0 (X.690, 8.3.1)',
+        'long tag': 'a number to 30 in the long form, or leading zero digits, is read (X.690, 8.1.2.2 and 8.1.2.4.2 c)',
+        'level': 'more than 24 levels are read: no limit',
+        'segments': 'a string in segments is read, and several items under an explicit tag as its segments (document 01 leaves it out)',
+        'no members': 'nothing inside a SEQUENCE or SET without members is looked at, nor its form bit, nor what follows it under an explicit tag',
+        'unused bits': 'a BIT STRING with more than 7 unused bits is read (X.690, 8.6.2.2)',
+    },
+    'pyasn1': {
+        'spare octets': 'INTEGER or ENUMERATED contents with more octets than needed are read (X.690, 8.3.2)',
+        'wide integer': 'INTEGER contents of more than 8 octets are read: no limit',
+        'no octet': 'an INTEGER, ENUMERATED (or, by pyasn1, BOOLEAN) without contents octets is read as 0 (X.690, 8.3.1)',
+        'long tag': 'a number to 30 in the long form, or leading zero digits, is read (X.690, 8.1.2.2 and 8.1.2.4.2 c)',
+        'segments': 'a string in segments is read (document 01 leaves it out)',
+        'indefinite primitive': 'a primitive string with an indefinite length is read (X.690, 8.1.3.2 a)',
+        'form bit': 'the tag of a CHOICE without the constructed bit is read (X.690, 8.14.2)',
+        'repeated member': 'a SET member that comes twice is read, the later one counts (X.690, 8.11)',
+        'several items': 'an explicit tag of indefinite length may hold several items, or none',
+        'wide boolean': 'BOOLEAN contents of any number of octets are read (X.690, 8.2.1)',
+        'unlisted number': 'an ENUMERATED number that is not listed is read (document 01: 25)',
+    },
+}
+
+
+# An example of each departure: coder, rule, table, type, message, our answer, and whether the coder accepts. A run fails if one no
+# longer holds, so that this list stays true when a coder changes.
+INTEGERS = '54 59 02 01 00 00 02'
+STRINGS = '54 59 04 01 00 00 04'
+BITS = '54 59 03 01 00 00 03'
+TAGGED = '54 59 01 02 02 00 00 00 00 01'
+ENUM = '54 59 0A 01 00 00 0A 03 00 00 00 01 00 02'
+NESTED = '54 59 30 01 00 00 10 00'
+EMPTY = '54 59 10 01 00 00 10 00'
+PINS = [
+    ('both', 'spare octets', INTEGERS, 0, '02 02 00 7F', ('no', 25, 0), True),
+    ('both', 'spare octets', ENUM, 0, '0A 02 00 01', ('no', 25, 0), True),
+    ('both', 'wide integer', INTEGERS, 0, '02 09 01 00 00 00 00 00 00 00 00', ('no', 25, 0), True),
+    ('both', 'no octet', INTEGERS, 0, '02 00', ('no', 25, 0), True),
+    ('both', 'long tag', INTEGERS, 0, '1F 02 01 05', ('no', 23, 0), True),
+    ('both', 'segments', STRINGS, 0, '24 06 04 01 AA 04 01 BB', ('no', 24, 0), True),
+    ('erlang', 'segments', '54 59 04 02 02 00 00 00 00 04', 0, 'A0 06 04 01 AA 04 01 BB', ('no', 26, 5), True),
+    ('erlang', 'level', NESTED, 0, '30 80 ' * 25 + '00 00 ' * 25, ('no', 28, 48), True),
+    ('erlang', 'unused bits', BITS, 0, '03 02 08 FF', ('no', 25, 0), True),
+    ('erlang', 'no members', EMPTY, 0, '30 02 00 00', ('no', 26, 2), True),
+    ('erlang', 'no members', EMPTY, 0, '10 00', ('no', 24, 0), True),
+    ('erlang', 'numbers over 16,383', '54 59 05 01 02 40 00', 0, '9F 81 80 00 00', ('ok',), False),
+    ('pyasn1', 'unlisted number', ENUM, 0, '0A 01 03', ('no', 25, 0), True),
+    ('pyasn1', 'wide boolean', '54 59 01 01 00 00 01', 0, '01 02 00 FF', ('no', 25, 0), True),
+    ('pyasn1', 'indefinite primitive', STRINGS, 0, '04 80 00 00', ('no', 23, 0), True),
+    ('pyasn1', 'form bit', '54 59 32 01 02 00 00 01 01 54 59 01 01 00 00 01', 0, '80 03 01 01 FF', ('no', 24, 0), True),
+    ('pyasn1', 'several items', TAGGED, 0, 'A0 80 01 01 00 01 01 FF 00 00', ('no', 26, 5), True),
+    ('pyasn1', 'several items', '54 59 05 02 02 00 00 00 00 05', 0, 'A0 80 00 00', ('no', 24, 2), True),
+    ('pyasn1', 'repeated member', '54 59 11 01 00 00 11 01 01 00 54 59 05 01 00 00 05', 0, '31 04 05 00 05 00', ('no', 26, 4), True),
+    ('pyasn1', 'more than 8 length octets', STRINGS, 0, '04 89 00 00 00 00 00 00 00 00 01 55', ('ok',), False),
+    ('pyasn1', 'an empty item of indefinite length in a CHOICE', '54 59 32 00 01 01 ' + EMPTY, 0, '30 80 00 00', ('ok',), False),
+    ('pyasn1', 'a SET of indefinite length, last member first',
+     '54 59 11 01 00 00 11 02 01 00 02 00 54 59 05 01 02 00 00 54 59 05 01 02 00 01', 0, '31 80 81 00 80 00 00 00', ('ok',), False),
+]
+
+
+class Tally:
+    def __init__(self, out):
+        self.counts, self.faults, self.out = collections.Counter(), 0, out
+
+    def add(self, what, n=1):
+        self.counts[what] += n
+
+    def fault(self, what, table, t, octets, we, they):
+        self.faults += 1
+        self.add('DISAGREEMENT ' + what)
+        if self.counts['DISAGREEMENT ' + what] <= 5:
+            print('DISAGREEMENT %s\n  table %s type %d\n  octets %s\n  we %s\n  they %s' %
+                  (what, table.hex(' '), t, octets.hex(' '), shown(we), shown(they)), file=self.out)
+
+
+def shown(a):
+    return ' '.join(x.hex(' ') if isinstance(x, bytes) else str(x) for x in a)
+
+
+def same(we, tree):
+    """Whether we read a tree; an outside coder may give numbers that no value has."""
+    if we[0] != 'ok':
+        return False
+    try:
+        return we[1] == model.octets(tree)
+    except (OverflowError, ValueError, struct.error):
+        return False
+
+
+def lax_reading(coder, table, t, m, tree):
+    """The rules without which the model reads a message to the tree that an outside coder gives, or None."""
+    try:
+        mine, used = model.read_tree(model.check(table), t, m, LAX[coder])
+    except model.No:
+        return None
+    return used if mine == tree else None
+
+
+def judged(coder, tally, table, t, m, we, they, damaged):
+    """Compares two readings of a message: ours, and ('ok', tree), ('rest', ..) or ('error', ..)."""
+    what = coder + (' and we read a damaged message: ' if damaged else ' and we read a permitted encoding: ')
+    if they[0] == 'ok' and same(we, they[1]):
+        return tally.add(what + 'same value')
+    if we[0] == 'no' and they[0] != 'ok':
+        return tally.add(what + 'both refuse')
+    if we[0] == 'no':
+        used = lax_reading(coder, table, t, m, they[1])
+        if used:
+            return tally.add(what + 'explained: ' + ', '.join(sorted(used)))
+    if we[0] == 'ok' and coder == 'pyasn1' and 'Component not chosen' in str(they[1]):
+        return tally.add(what + 'explained: refused by them, an empty item of indefinite length chosen in a CHOICE')
+    tally.fault(what + ('other value' if we[0] == they[0] == 'ok' else 'refused by ' + ('us' if we[0] == 'no' else 'them')),
+                table, t, m, we, they)
+
+
+def plan(R, tables, takes, recursive, values, tame):
+    """Tables, and for each value (table index, type, tree) its permitted encodings and damaged messages."""
+    made, work = [], []
+    while len(made) < tables:
+        b, records = make.table(R, recursive)
+        if not takes(records):
+            continue
+        h = model.heights(records)
+        for t in range(len(records)):
+            if h[t] > model.LEVELS:
+                continue
+            for _ in range(values):
+                tree = make.value(R, records, t, min(model.LEVELS, h[t] + R.choice([0, 1, 2, 3, 5])), h)
+                if len(model.octets(tree)) > 4000:
+                    continue
+                sent = [make.encoding(R, records, t, tree, tame) for _ in range(3)]
+                bad = [make.damaged(R, R.choice(sent)[0]) for _ in range(2)]
+                bad += [make.faulty(R, model.form(records, t, tree)) for _ in range(4)]
+                work.append((len(made), t, tree, sent, bad))
+        made.append((b, records))
+    return made, work
+
+
+def write_all(command, made, work, tally):
+    """What we write for each value; the model is asked too, and a refusal is a fault."""
+    answers = ours.run(command, [(ours.WRITE, t, made[i][0], model.octets(tree)) for i, t, tree, _, _ in work])
+    for (i, t, tree, _, _), a in zip(work, answers):
+        if a[0] != 'ok':
+            tally.fault('we refuse to write a value', made[i][0], t, model.octets(tree), a, ('ok', tree))
+    return answers
+
+
+def with_erlang(args, R, tally):
+    folder = args.keep or tempfile.mkdtemp()
+    made, work = plan(R, args.tables, erlang.takes, True, args.values, False)
+    written = write_all(args.ours, made, work, tally)
+    requests, marks = [], []
+    for (i, t, tree, sent, bad), w in zip(work, written):
+        name = 'M%d' % i
+        requests.append(('enc', name, t, erlang.term(tree)))
+        marks.append(('enc', i, t, tree, None))
+        if w[0] == 'ok':
+            requests.append(('dec', name, t, w[1].hex()))
+            marks.append(('ours', i, t, tree, w[1]))
+        for m, arrived in sent:
+            requests.append(('dec', name, t, m.hex()))
+            marks.append(('sent', i, t, arrived, m))
+        for m in bad:
+            requests.append(('dec', name, t, m.hex()))
+            marks.append(('bad', i, t, None, m))
+    answers, said = erlang.run(folder, [('M%d' % i, records) for i, (_, records) in enumerate(made)], requests)
+    version = said.strip().split('\n')[-1]
+    assert 'not compiled' not in said, said
+    reads, compared, stored, at = [], [], [], 0
+    for (kind, i, t, tree, m), a in zip(marks, answers):
+        table, records = made[i]
+        word, _, rest = a.partition(' ')
+        if kind == 'enc':
+            if word != 'ok':
+                tally.fault('erlang refuses to write', table, t, model.octets(tree), ('ok', tree), (word,))
+                at += 1
+                continue
+            m = bytes.fromhex(rest)
+            if written[at] == ('ok', m):
+                tally.add('erlang writes, we write: same octets')
+                stored.append(('write', t, table, model.octets(tree), ('ok', m)))
+            else:
+                tally.fault('erlang writes other octets', table, t, m, written[at], ('ok', m))
+            at += 1
+            reads.append((ours.READ, t, table, m))
+            compared.append(('erlang writes, we read: ', tree, None))
+            if len(m) < 4000:
+                m = make.relengthened(R, m)
+                if len(m) <= model.MESSAGE:
+                    reads.append((ours.READ, t, table, m))
+                    compared.append(('erlang writes, lengths are changed, we read: ', tree, None))
+            continue
+        they = ('ok', erlang.parsed(records, t, rest)) if word == 'ok' else (word, rest)
+        if kind == 'ours':
+            if they == ('ok', tree):
+                tally.add('we write, erlang reads: same value')
+            else:
+                tally.fault('we write, erlang reads', table, t, m, ('ok', tree), they)
+            continue
+        if len(m) > model.MESSAGE:
+            continue
+        reads.append((ours.READ, t, table, m))
+        compared.append((kind, tree, they))
+    for (op, t, table, m), (kind, tree, they), we in zip(reads, compared, ours.run(args.ours, reads)):
+        if kind in ('sent', 'bad'):
+            if kind == 'sent' and they != ('ok', tree):
+                tally.fault('erlang reads a permitted encoding', table, t, m, ('ok', tree), they)
+            judged('erlang', tally, table, t, m, we, they, kind == 'bad')
+            if they[0] == 'ok' and same(we, they[1]):
+                stored.append(('read', t, table, m, ('ok', model.octets(they[1]))))
+            elif they[0] != 'ok' and we[0] == 'no':
+                stored.append(('read', t, table, m, we))
+        elif we == ('ok', model.octets(tree)):
+            tally.add(kind + 'same value')
+        else:
+            tally.fault(kind, table, t, m, we, ('ok', tree))
+    if not args.keep:
+        shutil.rmtree(folder)
+    return version, stored
+
+
+def record(R, path, version, stored, seed):
+    """Stores cases with the outside coder's answers: most writes and accepted messages, and some that both refuse.
+
+    The number and the place of a refusal are document 01's, since no outside coder gives them."""
+    seen, table, out = set(), None, []
+    for op, t, b, data, a in sorted(stored, key=lambda s: s[2]):
+        small = len(b) <= 200 and len(data) <= 200
+        if (op, t, b, data) in seen or not (small or R.random() < .05) or R.random() < (.2 if a[0] == 'ok' else .8):
+            continue
+        seen.add((op, t, b, data))
+        if b != table:
+            out.append('table ' + b.hex())
+            table = b
+        out.append('%s %d %s %s' % (op, t, data.hex() or '-', 'ok ' + a[1].hex() if a[0] == 'ok' else 'no %d %d' % a[1:]))
+    with open(path, 'w') as f:
+        f.write('# Recorded from Erlang/OTP\'s asn1, BER: %s; seed %d. After each table: operation, type, data, answer.\n' % (version, seed))
+        f.write('# Octets that are answered are what that coder wrote or read; a refusal is one that it refuses too, with document 01\'s number.\n')
+        f.write('\n'.join(out) + '\n')
+
+
+def with_pyasn1(args, R, tally):
+    made, work = plan(R, args.tables, lambda records: True, False, args.values, True)
+    coders = [python_asn1.Coder(records) for _, records in made]
+    written = write_all(args.ours, made, work, tally)
+    reads, compared = [], []
+    for (i, t, tree, sent, bad), w in zip(work, written):
+        coder, (table, records) = coders[i], made[i]
+        if w[0] == 'ok':
+            they = coder.decode(t, w[1])
+            if they == ('ok', tree):
+                tally.add('we write, pyasn1 reads: same value')
+            else:
+                tally.fault('we write, pyasn1 reads', table, t, w[1], ('ok', tree), they)
+        for definite in (True, False):
+            if not definite and any(len(tags) > 1 for kind, tags, _ in records if kind in make.SIMPLE):
+                tally.add('pyasn1 writes indefinite lengths: left out, explicit tags on a primitive')
+                continue
+            they = coder.encode(t, tree, definite)
+            if they[0] == 'ok':
+                reads.append((ours.READ, t, table, they[1]))
+                compared.append(('enc', tree, coder))
+            else:
+                tally.fault('pyasn1 refuses to write', table, t, model.octets(tree), ('ok', tree), they)
+        for m, arrived in sent:
+            reads.append((ours.READ, t, table, m))
+            compared.append(('sent', arrived, coder.decode(t, m)))
+        for m in bad:
+            reads.append((ours.READ, t, table, m))
+            compared.append(('bad', None, coder.decode(t, m)))
+    for (op, t, table, m), (kind, tree, they), we in zip(reads, compared, ours.run(args.ours, reads)):
+        if kind != 'enc':
+            if kind == 'sent' and they != ('ok', tree):
+                tally.fault('pyasn1 reads a permitted encoding', table, t, m, ('ok', tree), they)
+            judged('pyasn1', tally, table, t, m, we, they, kind == 'bad')
+        elif we == ('ok', model.octets(tree)):
+            tally.add('pyasn1 writes, we read: same value')
+        elif lax_reading('pyasn1', table, t, m, tree) == {'spare octets'}:
+            tally.add('pyasn1 writes, we refuse: explained: spare octets of a negative INTEGER')
+        else:
+            back = they.decode(t, m)
+            if back[0] == 'ok' and same(we, back[1]):
+                tally.add('pyasn1 writes another value, which both read: explained: an absent optional SET member is sent')
+            else:
+                tally.fault('pyasn1 writes, we read', table, t, m, we, ('ok', tree))
+    return 'pyasn1 ' + python_asn1.VERSION
+
+
+def pinned(args, tally):
+    """Each departure of the list still holds."""
+    rows = [(coder, rule, bytes.fromhex(table), t, bytes.fromhex(m), answer, accepts) for coder, rule, table, t, m, answer, accepts in PINS]
+    we = ours.run(args.ours, [(ours.READ, t, table, m) for _, _, table, t, m, _, _ in rows])
+    folder = tempfile.mkdtemp()
+    said = erlang.run(folder, [('P%d' % i, model.check(row[2])) for i, row in enumerate(rows)],
+                      [('dec', 'P%d' % i, row[3], row[4].hex()) for i, row in enumerate(rows)])[0]
+    shutil.rmtree(folder)
+    for (coder, rule, table, t, m, answer, accepts), mine, theirs in zip(rows, we, said):
+        if mine[:len(answer)] != answer:
+            tally.fault('pinned, ' + rule, table, t, m, mine, answer)
+        if coder in ('erlang', 'both') and theirs.startswith('ok') != accepts:
+            tally.fault('pinned, erlang, ' + rule, table, t, m, mine, (theirs,))
+        if coder in ('pyasn1', 'both'):
+            they = python_asn1.Coder(model.check(table)).decode(t, m) if not make.circular(model.check(table)) else ('error', '')
+            if (they[0] == 'ok') != accepts:
+                tally.fault('pinned, pyasn1, ' + rule, table, t, m, mine, they)
+    tally.add('pinned departures of the outside coders hold', len(rows))
+
+
+def main():
+    here = os.path.dirname(os.path.abspath(__file__))
+    p = argparse.ArgumentParser(description=__doc__)
+    p.add_argument('--ours', default=os.path.join(here, 'model_cases'), help='a command that answers document 01\'s cases')
+    p.add_argument('--seed', type=int, default=1)
+    p.add_argument('--tables', type=int, default=200, help='tables for each coder')
+    p.add_argument('--values', type=int, default=2, help='values of each type')
+    p.add_argument('--keep', help='a folder for the ASN.1 modules and the requests')
+    p.add_argument('--record', help='a file for cases with Erlang\'s answers; pyasn1 is then left out')
+    args = p.parse_args()
+    tally = Tally(sys.stdout)
+    R = random.Random(args.seed)
+    pinned(args, tally)
+    version, stored = with_erlang(args, R, tally)
+    if args.record:
+        record(R, args.record, version, stored, args.seed)
+        versions = [version]
+    else:
+        versions = [version, with_pyasn1(args, R, tally)]
+    for what, n in sorted(tally.counts.items()):
+        print('%7d %s' % (n, what))
+    print('%s; ours: %s; seed %d' % ('; '.join(versions), os.path.basename(args.ours), args.seed))
+    print('%d disagreements' % tally.faults)
+    return 1 if tally.faults else 0
+
+
+if __name__ == '__main__':
+    sys.exit(main())

@@ -1,0 +1,293 @@
+"""Random tables that pass, values of their types, the encodings that X.690 permits for a value, and damaged messages."""
+import struct
+
+import model
+from model import (BIT_STRING, BOOLEAN, CHOICE, CONSTRUCTED, ENUMERATED, INTEGER, LISTS, MEMBERS, NULL, OCTET_STRING, OWN_NUMBER,
+                   SEQUENCE, SEQUENCE_OF, SET, SET_OF)
+
+SIMPLE = (BOOLEAN, INTEGER, BIT_STRING, OCTET_STRING, NULL, ENUMERATED)
+
+
+def rendered(records):
+    """The octets of a table."""
+    out = b''
+    for kind, tags, own in records:
+        out += bytes([0x54, 0x59, kind, len(tags)]) + b''.join(struct.pack('>BH', c, n) for c, n in tags)
+        if kind == ENUMERATED:
+            out += bytes([len(own)]) + b''.join(struct.pack('>H', n) for n in own)
+        elif kind in MEMBERS:
+            out += bytes([len(own)]) + b''.join(bytes(m) for m in own)
+        elif kind == CHOICE:
+            out += bytes([len(own)] + own)
+        elif kind in LISTS:
+            out += bytes(own)
+    return out
+
+
+def tag(R):
+    """A tag that is not UNIVERSAL, often small so that clashes are tried, sometimes at the edges of the long form."""
+    return R.choice([1, 2, 2, 2, 3]), R.choice([R.randrange(12), R.randrange(12), 30, 31, 127, 128, 16383, 16384, 65535, R.randrange(65536)])
+
+
+def any_table(R, recursive):
+    n = R.choice([1, 2, 3, 4, 5, 6, 8, 12])
+    records = []
+    for i in range(n):
+        kind = R.choice(SIMPLE + (SEQUENCE, SEQUENCE, SET, SET, SEQUENCE_OF, SET_OF, CHOICE, CHOICE) if i + 1 < n or recursive else SIMPLE)
+        tags = [tag(R) for _ in range(R.choice([0, 0, 0, 1, 1, 2, 3]))]
+        if kind == CHOICE:
+            tags = tags if R.random() < .5 else []
+        elif not tags or R.random() < .4:
+            tags.append((0, OWN_NUMBER[kind]) if R.random() < .5 else tag(R))
+
+        def other():
+            if recursive and R.random() < .35:
+                return R.randrange(n)
+            return R.randrange(i + 1, n) if i + 1 < n else R.randrange(n)
+        own = None
+        if kind == ENUMERATED:
+            own = sorted(R.sample(R.choice([range(4), range(300), range(65536)]), R.choice([1, 2, 3, 4])))
+            if R.random() < .1:
+                own = sorted(R.sample(range(65536), 32))
+        elif kind in MEMBERS:
+            own = [(other(), R.choice([0, 1])) for _ in range(R.choice([0, 1, 2, 3, 4, 5]))]
+        elif kind in LISTS:
+            own = [other()]
+        elif kind == CHOICE:
+            own = [other() for _ in range(R.choice([1, 2, 2, 3, 4]))]
+        records.append((kind, tags, own))
+    return records
+
+
+def wide_table(R):
+    """A SEQUENCE, SET or CHOICE with up to 16 members of simple kinds."""
+    n = R.choice([8, 15, 16])
+    kind = R.choice([SEQUENCE, SET, CHOICE])
+    members = []
+    for i in range(n):
+        k = R.choice(SIMPLE)
+        own = sorted(R.sample(range(65536), 3)) if k == ENUMERATED else None
+        members.append((k, [(2, i)] if R.random() < .7 else [(2, i), (0, OWN_NUMBER[k])], own))
+    own = [i + 1 for i in range(n)] if kind == CHOICE else [(i + 1, R.choice([0, 1, 1])) for i in range(n)]
+    return [(kind, [] if kind == CHOICE else [(0, kind)], own)] + members
+
+
+def table(R, recursive=True):
+    """The octets and the records of a random table that passes."""
+    while True:
+        records = wide_table(R) if R.random() < .08 else any_table(R, recursive)
+        b = rendered(records)
+        if model.checked(b)[0] == 'ok' and (recursive or not circular(records)):
+            return b, records
+
+
+def reached(records, i):
+    """The records that a record reaches."""
+    seen, todo = set(), list(model.named(records[i]))
+    while todo:
+        x = todo.pop()
+        if x not in seen:
+            seen.add(x)
+            todo += model.named(records[x])
+    return seen
+
+
+def circular(records):
+    """The records that can reach themselves."""
+    return {i for i in range(len(records)) if i in reached(records, i)}
+
+
+NUMBERS = [0, 1, -1, 127, 128, -128, -129, 255, 256, 32767, -32768, -32769, 2**31, -2**31, 2**55, -2**55, 2**63 - 1, -2**63]
+
+
+def value(R, records, t, levels, h):
+    """A random tree of a type within so many levels."""
+    kind, _, own = records[t]
+    if kind == BOOLEAN:
+        return kind, R.randrange(2)
+    if kind == INTEGER:
+        return kind, R.choice(NUMBERS + [R.randrange(-2**63, 2**63), R.randrange(-70000, 70000)] * 4)
+    if kind == BIT_STRING:
+        n = R.choice([0, 1, 3, 7, 8, 9, 16, 17, 100])
+        c = bytearray(R.randbytes((n + 7) // 8))
+        spare = 8 * len(c) - n
+        if c:
+            c[-1] &= 0xFF << spare & 0xFF
+        return kind, (spare, bytes(c))
+    if kind == OCTET_STRING:
+        return kind, R.randbytes(R.choice([0, 1, 5, 126, 127, 128, 255, 256, 300]) if R.random() < .15 else R.randrange(6))
+    if kind == NULL:
+        return kind, None
+    if kind == ENUMERATED:
+        return kind, R.choice(own)
+    if kind in MEMBERS:
+        return kind, [value(R, records, a, levels - 1, h) if not optional or (h[a] < levels and R.random() < .6) else None
+                      for a, optional in own]
+    if kind in LISTS:
+        n = R.choice([0, 1, 1, 2, 3, 4]) if h[own[0]] < levels else 0
+        return kind, [value(R, records, own[0], levels - 1, h) for _ in range(n)]
+    j = R.choice([j for j, a in enumerate(own) if h[a] < levels])
+    return kind, (j, value(R, records, own[j], levels - 1, h))
+
+
+def length(R, n, most):
+    """Any permitted definite length: short, or long with 1 to `most` octets and leading zeros."""
+    if n < 128 and R.random() < .5:
+        return bytes([n])
+    b = n.to_bytes((n.bit_length() + 7) // 8, 'big') or b'\0'
+    spare = most - len(b)
+    zeros = min(spare, R.choice([0, 0, 0, 1, 2, 5, R.randrange(spare + 1)])) if R.random() < .97 else spare
+    return bytes([128 + zeros + len(b)]) + bytes(zeros) + b
+
+
+def constructed(R, i, c, most, indefinite=.4):
+    return i + b'\x80' + c + b'\0\0' if R.random() < indefinite else i + length(R, len(c), most) + c
+
+
+def encoding(R, records, t, tree, tame=False):
+    """A permitted encoding of a tree, and the tree with the elements of each SET OF in the order in which they are sent.
+
+    A tame one has at most 8 length octets, and no SET and nothing empty of indefinite length, which is what pyasn1 reads."""
+    most = 8 if tame else 126
+    kind, own = tree
+    explicit, mine = model.identifiers(records[t])
+    rules = records[t][2]
+    if kind == CHOICE:
+        m, kid = encoding(R, records, rules[own[0]], own[1], tame)
+        sent = own[0], kid
+    elif kind in MEMBERS:
+        parts = [(j,) + encoding(R, records, a, x, tame) for j, ((a, _), x) in enumerate(zip(rules, own)) if x is not None]
+        sent = [None] * len(own)
+        for j, _, kid in parts:
+            sent[j] = kid
+        if kind == SET:
+            R.shuffle(parts)
+        m = constructed(R, mine, b''.join(p for _, p, _ in parts), most, 0 if tame and (kind == SET or not parts) else .4)
+    elif kind in LISTS:
+        parts = [encoding(R, records, rules[0], x, tame) for x in own]
+        if kind == SET_OF:
+            R.shuffle(parts)
+        sent = [kid for _, kid in parts]
+        m = constructed(R, mine, b''.join(p for p, _ in parts), most, 0 if tame and not parts else .4)
+    else:
+        c, sent = model.contents(kind, own), own
+        if kind == BOOLEAN and own:
+            c = bytes([R.randrange(1, 256)])
+        if kind == BIT_STRING and own[1]:
+            c = c[:-1] + bytes([c[-1] | R.randrange(1 << own[0])])
+        m = mine + length(R, len(c), most) + c
+    for i in reversed(explicit):
+        m = constructed(R, i, m, most)
+    return m, (kind, sent)
+
+
+def relengthened(R, m, most=126):
+    """The items of a definite message with other permitted lengths, found without a table."""
+    out, p = b'', 0
+    while p < len(m):
+        q = p + 1
+        if m[p] & 31 == 31:
+            while m[q] > 127:
+                q += 1
+            q += 1
+        i, n, q = m[p:q], m[q], q + 1
+        if n > 127:
+            k = n - 128
+            n, q = int.from_bytes(m[q:q + k], 'big'), q + k
+        c, p = m[q:q + n], q + n
+        out += constructed(R, i, relengthened(R, c, most), most) if i[0] & 32 else i + length(R, len(c), most) + c
+    return out
+
+
+def damaged(R, m):
+    """A message with a small fault; it may be a good one by chance."""
+    x = R.random()
+    if x < .35:
+        p = R.randrange(len(m))
+        return m[:p] + bytes([R.choice([0, 1, 0x80, 0xFF, m[p] ^ 0x20, m[p] ^ 1 << R.randrange(8), R.randrange(256)])]) + m[p + 1:]
+    if x < .5:
+        return m[:R.randrange(len(m))]
+    if x < .65:
+        p = R.randrange(len(m) + 1)
+        return m[:p] + R.randbytes(R.choice([1, 2])) + m[p:]
+    if x < .8:
+        p = R.randrange(len(m))
+        return m[:p] + m[p + R.choice([1, 2, 3]):]
+    return m + R.choice([b'\0', b'\0\0', R.randbytes(2)])
+
+
+def items(m):
+    """The items of a definite message, found without a table: [identifier, contents octets or a list of items]."""
+    out, p = [], 0
+    while p < len(m):
+        q = p + 1
+        if m[p] & 31 == 31:
+            while m[q] > 127:
+                q += 1
+            q += 1
+        i, n, q = m[p:q], m[q], q + 1
+        if n > 127:
+            k = n - 128
+            n, q = int.from_bytes(m[q:q + k], 'big'), q + k
+        out.append([i, items(m[q:q + n]) if i[0] & 32 else m[q:q + n]])
+        p = q + n
+    return out
+
+
+def joined(some):
+    out = b''
+    for i, c in some:
+        if i is None:
+            out += c
+        else:
+            c = joined(c) if isinstance(c, list) else c
+            out += i + model.length(len(c)) + c
+    return out
+
+
+def faulty(R, m):
+    """What a sender with one wrong rule makes of a definite message: each rule of X.690 or of the table broken somewhere."""
+    top = items(m)
+    places, todo = [], [top]
+    while todo:
+        row = todo.pop()
+        for k, (_, c) in enumerate(row):
+            places.append((row, k))
+            if isinstance(c, list):
+                todo.append(c)
+    row, k = R.choice(places)
+    i, c = row[k]
+    plain = joined(c) if isinstance(c, list) else c
+    way = R.randrange(16)
+    if way == 0 and i[0] & 31 != 31:
+        row[k][0] = bytes([i[0] | 31, i[0] & 31])
+    elif way == 1 and i[0] & 31 == 31:
+        row[k][0] = i[:1] + b'\x80' + i[1:]
+    elif way == 2:
+        row[k][0] = bytes([i[0] ^ 0x20]) + i[1:]
+    elif way in (3, 4):
+        row[k][1] = (b'\0', b'\xff')[way - 3] * R.choice([1, 1, 2, 8]) + plain
+    elif way == 5:
+        row[k][1] = bytes([R.choice([8, 8, 9, 255])]) + plain[1:]
+    elif way == 6:
+        row[k][1] = b''
+    elif way == 7:
+        del row[k]
+    elif way == 8:
+        row.insert(k, row[k])
+    elif way == 9 and k + 1 < len(row):
+        row[k], row[k + 1] = row[k + 1], row[k]
+    elif way == 10:
+        row[k] = [None, i + b'\x80' + plain + R.choice([b'\0\0', b'\0\0', b'\0', b'\0\5', b''])]
+    elif way == 11:
+        row[k] = [None, i + b'\xff' + plain]
+    elif way == 12 and not i[0] & 0x20:
+        cut = R.randrange(len(plain) + 1)
+        row[k] = [bytes([i[0] | 0x20]) + i[1:], [[b'\4', plain[:cut]], [b'\4', plain[cut:]]]]
+    elif way == 13:
+        row[k][1] = plain + b'\0\0'
+    elif way == 14:
+        row.insert(k, [R.choice([b'\0', b'\4', b'\x80', b'\x9f\x7f']), b''])
+    else:
+        row[k][1] = R.randbytes(R.choice([1, 2, 9]))
+    return joined(top)

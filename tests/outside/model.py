@@ -1,0 +1,641 @@
+"""Document 01 in Python: check, write and read, with every refusal and its place.
+
+It was written from the document alone, without the proved definitions, and serves two ends: it stands in for the program
+of cases where that is not built yet, and it gives the outside coders' answers a shape to be compared with.
+
+A table is octets; a record is (kind, tags, own); a value is a tree (kind, own), where own is
+  BOOLEAN 0 or 1, INTEGER a number, BIT STRING (spare bits, octets), OCTET STRING octets, NULL None, ENUMERATED a number,
+  SEQUENCE and SET a list with None for a missing member, SEQUENCE OF and SET OF a list, CHOICE (alternative, tree).
+"""
+import struct
+
+BOOLEAN, INTEGER, BIT_STRING, OCTET_STRING, NULL, ENUMERATED = 1, 2, 3, 4, 5, 10
+SEQUENCE, SET, SEQUENCE_OF, SET_OF, CHOICE = 16, 17, 48, 49, 50
+OWN_NUMBER = {1: 1, 2: 2, 3: 3, 4: 4, 5: 5, 10: 10, 16: 16, 17: 17, 48: 16, 49: 17, 50: None}
+MEMBERS, LISTS = (SEQUENCE, SET), (SEQUENCE_OF, SET_OF)
+CONSTRUCTED = MEMBERS + LISTS
+LEVELS, MESSAGE, VALUE, TABLE, RECORDS = 24, 8192, 16384, 8192, 128
+
+
+class No(Exception):
+    """A refusal: document 01's number and place."""
+
+    def __init__(self, number, place):
+        self.number, self.place = number, place
+
+
+# ---- tables ----
+def record_at(b, at):
+    """The record at an offset and where the next one begins, or None if it is not shaped."""
+    if at + 4 > len(b) or b[at:at + 2] != b'\x54\x59':
+        return None
+    kind, tags = b[at + 2], b[at + 3]
+    p = at + 4
+    if kind not in OWN_NUMBER or tags > 4 or p + 3 * tags > len(b):
+        return None
+    tags = [(b[q], b[q + 1] * 256 + b[q + 2]) for q in range(p, p + 3 * tags, 3)]
+    p += 3 * len(tags)
+    if any(c > 3 for c, _ in tags):
+        return None
+    own = None
+    if kind in LISTS:
+        if p >= len(b):
+            return None
+        own, p = [b[p]], p + 1
+    elif kind in MEMBERS + (ENUMERATED, CHOICE):
+        if p >= len(b):
+            return None
+        n, p = b[p], p + 1
+        least, most, width = {SEQUENCE: (0, 16, 2), SET: (0, 16, 2), ENUMERATED: (1, 32, 2), CHOICE: (1, 16, 1)}[kind]
+        if not least <= n <= most or p + width * n > len(b):
+            return None
+        if kind == CHOICE:
+            own = list(b[p:p + n])
+        elif kind == ENUMERATED:
+            own = [b[p + 2 * i] * 256 + b[p + 2 * i + 1] for i in range(n)]
+            if any(own[i] >= own[i + 1] for i in range(n - 1)):
+                return None
+        else:
+            own = [(b[p + 2 * i], b[p + 2 * i + 1]) for i in range(n)]
+            if any(f > 1 for _, f in own):
+                return None
+        p += width * n
+    return (kind, tags, own), p
+
+
+def records_of(b):
+    if len(b) > TABLE:
+        raise No(1, 0)
+    records, at = [], 0
+    while True:
+        if len(records) == RECORDS:
+            raise No(1, RECORDS)
+        r = record_at(b, at)
+        if r is None:
+            raise No(1, len(records))
+        records.append(r[0])
+        at = r[1]
+        if at == len(b):
+            return records
+
+
+def named(record):
+    kind, _, own = record
+    if kind in MEMBERS:
+        return [r for r, _ in own]
+    return own if kind in LISTS + (CHOICE,) else []
+
+
+def check(b):
+    """The records of a table that passes; a refusal 1 to 6 is raised."""
+    records = records_of(b)
+    n = len(records)
+    for i, r in enumerate(records):
+        if any(x >= n for x in named(r)):
+            raise No(2, i)
+    for i, (kind, tags, _) in enumerate(records):
+        if not tags and kind != CHOICE:
+            raise No(3, i)
+        for j, (c, number) in enumerate(tags):
+            if c == 0 and (j != len(tags) - 1 or kind == CHOICE or number != OWN_NUMBER[kind]):
+                raise No(3, i)
+
+    def alternatives(i):
+        return records[i][2] if records[i][0] == CHOICE and not records[i][1] else []
+
+    for i in range(n):
+        seen, todo = set(), list(alternatives(i))
+        while todo:
+            x = todo.pop()
+            if x not in seen:
+                seen.add(x)
+                todo += alternatives(x)
+        if i in seen:
+            raise No(4, i)
+    memo = {}
+
+    def first(i):
+        if i not in memo:
+            memo[i] = {records[i][1][0]} if records[i][1] else set().union(*[first(a) for a in alternatives(i)])
+        return memo[i]
+
+    for i, r in enumerate(records):
+        if r[0] in MEMBERS + (CHOICE,):
+            seen = set()
+            for x in named(r):
+                if seen & first(x):
+                    raise No(5, i)
+                seen |= first(x)
+    finite = set(heights(records))
+    for i in range(n):
+        if i not in finite:
+            raise No(6, i)
+    return records
+
+
+def heights(records):
+    """The fewest levels of a finite value, for each record that has one."""
+    h, changed = {}, True
+    while changed:
+        changed = False
+        for i, (kind, _, own) in enumerate(records):
+            if kind in MEMBERS:
+                x = [h.get(a) for a, optional in own if not optional]
+                v = None if None in x else 1 + max(x + [0])
+            elif kind == CHOICE:
+                x = [h[a] for a in own if a in h]
+                v = 1 + min(x) if x else None
+            else:
+                v = 1
+            if v is not None and v < h.get(i, 1 << 30):
+                h[i], changed = v, True
+    return h
+
+
+# ---- values ----
+def node(v, at):
+    """Kind, own part and end of the node at an offset."""
+    def need(p, n):
+        if p + n > len(v):
+            raise No(11, at)
+        return v[p:p + n]
+    if need(at, 3)[:2] != b'\x56\x41':
+        raise No(11, at)
+    kind, p = v[at + 2], at + 3
+    if kind == NULL:
+        return kind, None, p
+    if kind == BOOLEAN:
+        if need(p, 1)[0] > 1:
+            raise No(11, at)
+        return kind, v[p], p + 1
+    if kind == INTEGER:
+        return kind, int.from_bytes(need(p, 8), 'big', signed=True), p + 8
+    if kind == CHOICE:
+        return kind, need(p, 1)[0], p + 1
+    if kind in MEMBERS:
+        n = need(p, 1)[0]
+        flags = list(need(p + 1, n))
+        if any(f > 1 for f in flags):
+            raise No(11, at)
+        return kind, flags, p + 1 + n
+    if kind in LISTS + (ENUMERATED,):
+        return kind, int.from_bytes(need(p, 2), 'big'), p + 2
+    if kind == OCTET_STRING:
+        n = int.from_bytes(need(p, 2), 'big')
+        return kind, bytes(need(p + 2, n)), p + 2 + n
+    if kind == BIT_STRING:
+        n = int.from_bytes(need(p, 2), 'big')
+        c = bytes(need(p + 2, (n + 7) // 8))
+        spare = 8 * len(c) - n
+        if c and c[-1] & ((1 << spare) - 1):
+            raise No(11, at)
+        return kind, (spare, c), p + 2 + len(c)
+    raise No(11, at)
+
+
+def judge(records, t, v, at, level):
+    """The tree of the node at an offset, and its end."""
+    kind, own, p = node(v, at)
+    if level > LEVELS:
+        raise No(13, at)
+    wanted, _, rules = records[t]
+    if kind != wanted or (kind == ENUMERATED and own not in rules):
+        raise No(12, at)
+    if kind in MEMBERS:
+        if len(own) != len(rules) or any(not f and not optional for f, (_, optional) in zip(own, rules)):
+            raise No(12, at)
+        kids = []
+        for f, (member, _) in zip(own, rules):
+            kid = None
+            if f:
+                kid, p = judge(records, member, v, p, level + 1)
+            kids.append(kid)
+        return (kind, kids), p
+    if kind in LISTS:
+        kids = []
+        for _ in range(own):
+            kid, p = judge(records, rules[0], v, p, level + 1)
+            kids.append(kid)
+        return (kind, kids), p
+    if kind == CHOICE:
+        if own >= len(rules):
+            raise No(12, at)
+        kid, p = judge(records, rules[own], v, p, level + 1)
+        return (kind, (own, kid)), p
+    return (kind, own), p
+
+
+def octets(tree):
+    """The value octets of a tree."""
+    kind, own = tree
+    head = bytes([0x56, 0x41, kind])
+    if kind == BOOLEAN:
+        return head + bytes([own])
+    if kind == INTEGER:
+        return head + own.to_bytes(8, 'big', signed=True)
+    if kind == BIT_STRING:
+        return head + struct.pack('>H', 8 * len(own[1]) - own[0]) + own[1]
+    if kind == OCTET_STRING:
+        return head + struct.pack('>H', len(own)) + own
+    if kind == NULL:
+        return head
+    if kind == ENUMERATED:
+        return head + struct.pack('>H', own)
+    if kind in MEMBERS:
+        return head + bytes([len(own)] + [x is not None for x in own]) + b''.join(octets(x) for x in own if x is not None)
+    if kind in LISTS:
+        return head + struct.pack('>H', len(own)) + b''.join(octets(x) for x in own)
+    return head + bytes([own[0]]) + octets(own[1])
+
+
+# ---- the writer's form ----
+def identifier(cls, constructed, number):
+    lead = cls << 6 | (0x20 if constructed else 0)
+    if number <= 30:
+        return bytes([lead | number])
+    digits = [number & 127]
+    while number > 127:
+        number >>= 7
+        digits.append(number & 127 | 128)
+    return bytes([lead | 31] + digits[::-1])
+
+
+def identifiers(record):
+    """Those of the explicit tags, and the kind's own (None for a CHOICE)."""
+    kind, tags, _ = record
+    explicit = tags if kind == CHOICE else tags[:-1]
+    own = None if kind == CHOICE else identifier(tags[-1][0], kind in CONSTRUCTED, tags[-1][1])
+    return [identifier(c, True, n) for c, n in explicit], own
+
+
+def length(n):
+    if n < 128:
+        return bytes([n])
+    b = n.to_bytes((n.bit_length() + 7) // 8, 'big')
+    return bytes([128 + len(b)]) + b
+
+
+def integer(z):
+    n = 1
+    while not -(1 << 8 * n - 1) <= z < 1 << 8 * n - 1:
+        n += 1
+    return z.to_bytes(n, 'big', signed=True)
+
+
+def contents(kind, own):
+    """The writer's contents of a simple kind."""
+    if kind == BOOLEAN:
+        return bytes([255 * own])
+    if kind in (INTEGER, ENUMERATED):
+        return integer(own)
+    if kind == BIT_STRING:
+        return bytes([own[0]]) + own[1]
+    return own or b''
+
+
+def form(records, t, tree):
+    kind, own = tree
+    explicit, mine = identifiers(records[t])
+    rules = records[t][2]
+    if kind == CHOICE:
+        m = form(records, rules[own[0]], own[1])
+    else:
+        if kind in MEMBERS:
+            c = b''.join(form(records, a, x) for (a, _), x in zip(rules, own) if x is not None)
+        elif kind in LISTS:
+            c = b''.join(form(records, rules[0], x) for x in own)
+        else:
+            c = contents(kind, own)
+        m = mine + length(len(c)) + c
+    for i in reversed(explicit):
+        m = i + length(len(m)) + m
+    return m
+
+
+# ---- messages ----
+class Any:
+    """Equal to everything: the contents of a string in segments, which document 01 leaves out."""
+
+    def __eq__(self, other):
+        return True
+
+
+ANY = Any()
+
+
+class Reader:
+    """The reader. `lax` names rules that an outside coder is known not to keep; `used` gathers those that mattered."""
+
+    def __init__(self, records, m, lax=()):
+        self.records, self.m, self.lax, self.used, self.memo = records, m, set(lax), set(), {}
+
+    def may(self, rule):
+        if rule in self.lax:
+            self.used.add(rule)
+            return True
+        return False
+
+    def identifier(self, at, end):
+        """Lead octet and number, and the end of the identifier octets."""
+        m = self.m
+        if at >= end:
+            raise No(22, at)
+        lead, p = m[at], at + 1
+        if lead & 31 != 31:
+            return (lead & 0xE0, lead & 31), p
+        number, begin = 0, p
+        while True:
+            if p >= end:
+                raise No(22, at)
+            number = number * 128 + (m[p] & 127)
+            p += 1
+            if m[p - 1] < 128:
+                break
+        if (m[begin] == 128 or number <= 30) and not self.may('long tag'):
+            raise No(23, at)
+        return (lead & 0xE0, number), p
+
+    def own(self, t):
+        """Explicit identifiers and the own one, as lead bits and number."""
+        kind, tags, _ = self.records[t]
+        explicit = [(c << 6 | 0x20, n) for c, n in (tags if kind == CHOICE else tags[:-1])]
+        return explicit, None if kind == CHOICE else (tags[-1][0] << 6 | (0x20 if kind in CONSTRUCTED else 0), tags[-1][1])
+
+    def first(self, t):
+        if t not in self.memo:
+            explicit, mine = self.own(t)
+            if explicit:
+                s = {explicit[0]}
+            elif mine:
+                s = {mine}
+            else:
+                s = set().union(*[self.first(a) for a in self.records[t][2]])
+            if mine and not explicit and (self.segments(t) or self.no_members(t)):
+                s = s | {(mine[0] ^ 0x20, mine[1])}
+            if explicit and self.records[t][0] == CHOICE and 'form bit' in self.lax:
+                s = s | {(explicit[0][0] ^ 0x20, explicit[0][1])}
+            self.memo[t] = s
+        return self.memo[t]
+
+    def segments(self, t):
+        return 'segments' in self.lax and self.records[t][0] in (BIT_STRING, OCTET_STRING)
+
+    def no_members(self, t):
+        return 'no members' in self.lax and self.records[t][0] in MEMBERS and not self.records[t][2]
+
+    def passed(self, p, end, indefinite):
+        """Where the contents that begin at p end, whatever items they are."""
+        while True:
+            over, q = self.ended(p, end, indefinite)
+            if over:
+                return q
+            i, q = self.identifier(p, end)
+            n, q = self.length(p, q, end, not i[0] & 0x20)
+            p = self.passed(q, end, True) if n is None else self.passed(q, q + n, False) if i[0] & 0x20 else q + n
+
+    def begins(self, t, at, end):
+        try:
+            return self.identifier(at, end)[0] in self.first(t)
+        except No:
+            return False
+
+    def length(self, item, p, end, primitive):
+        """The length, None if indefinite, and the end of the length octets."""
+        m = self.m
+        if p >= end:
+            raise No(22, item)
+        b, p = m[p], p + 1
+        if b == 255 or (b == 128 and primitive):
+            raise No(23, item)
+        if b == 128:
+            return None, p
+        n = b
+        if b > 128:
+            if p + b - 128 > end:
+                raise No(22, item)
+            n = int.from_bytes(m[p:p + b - 128], 'big')
+            p += b - 128
+        if p + n > end:
+            raise No(22, item)
+        return n, p
+
+    def ended(self, p, end, indefinite):
+        """Whether the contents end at p, and where the item then ends."""
+        if not indefinite:
+            return p == end, p
+        m = self.m
+        if p >= end:
+            raise No(22, p)
+        if m[p] != 0:
+            return False, p
+        if p + 1 >= end:
+            raise No(22, p)
+        if m[p + 1] != 0:
+            raise No(23, p)
+        return True, p + 2
+
+    def value(self, t, at, end, level):
+        if not self.begins(t, at, end):
+            self.identifier(at, end)
+            raise No(24, at)
+        if level > LEVELS and not self.may('level'):
+            raise No(28, at)
+        explicit, mine = self.own(t)
+        return self.tagged(t, explicit, mine, at, end, level)
+
+    def tagged(self, t, explicit, mine, at, end, level):
+        kind, _, rules = self.records[t]
+        i, p = self.identifier(at, end)
+        if explicit:
+            if i != explicit[0] and not (i == (explicit[0][0] ^ 0x20, explicit[0][1]) and kind == CHOICE and self.may('form bit')):
+                raise No(24, at)
+            n, p = self.length(at, p, end, False)
+            e = end if n is None else p + n
+            over, q = self.ended(p, e, n is None)
+            if over and n is None and self.may('several items'):
+                return (kind, ANY), q
+            if over:
+                raise No(24, p)
+            begin = p
+            try:
+                tree, p = self.tagged(t, explicit[1:], mine, p, e, level)
+            except No:
+                if not self.segments(t) or explicit[1:]:
+                    raise
+                self.used.add('segments')
+                return (kind, ANY), self.passed(begin, e, n is None)
+            over, q = self.ended(p, e, n is None)
+            if not over and not explicit[1:] and (self.segments(t) or self.no_members(t)):
+                self.used.add('segments' if self.segments(t) else 'no members')
+                return (kind, ANY), self.passed(p, e, n is None)
+            if not over and n is None and self.may('several items'):
+                return (kind, ANY), self.passed(p, e, True)
+            if not over:
+                raise No(26, p)
+            return tree, q
+        if kind == CHOICE:
+            for j, a in enumerate(rules):
+                if i in self.first(a):
+                    tree, p = self.value(a, at, end, level + 1)
+                    return (CHOICE, (j, tree)), p
+            raise No(24, at)
+        if (self.segments(t) and i == (mine[0] | 0x20, mine[1])) or (self.no_members(t) and i in (mine, (mine[0] ^ 0x20, mine[1]))):
+            self.used.add('segments' if self.segments(t) else 'no members')
+            n, p = self.length(at, p, end, not i[0] & 0x20)
+            return (kind, ANY), self.passed(p, end, True) if n is None else p + n
+        if kind in (BIT_STRING, OCTET_STRING) and self.m[p:p + 1] == b'\x80' and self.may('indefinite primitive'):
+            return (kind, ANY), self.passed(p + 1, end, True)
+        if i != mine:
+            raise No(24, at)
+        n, p = self.length(at, p, end, kind not in CONSTRUCTED)
+        indefinite = n is None
+        e = end if indefinite else p + n
+        if kind in LISTS:
+            kids = []
+            while True:
+                over, q = self.ended(p, e, indefinite)
+                if over:
+                    return (kind, kids), q
+                kid, p = self.value(rules[0], p, e, level + 1)
+                kids.append(kid)
+        if kind in MEMBERS:
+            return self.members(kind, rules, p, e, indefinite, level)
+        return (kind, self.simple(kind, rules, self.m[p:e], at)), e
+
+    def members(self, kind, rules, p, e, indefinite, level):
+        kids, next_ = [None] * len(rules), 0
+        while True:
+            if kind == SET:
+                awaited = [j for j in range(len(rules)) if kids[j] is None]
+            else:
+                awaited = []
+                for j in range(next_, len(rules)):
+                    awaited.append(j)
+                    if not rules[j][1]:
+                        break
+            again = list(range(len(rules))) if kind == SET and 'repeated member' in self.lax else []
+            if not awaited and not again:
+                if not indefinite:
+                    if p == e:
+                        return (kind, kids), p
+                    raise No(26, p)
+                if p >= e:
+                    raise No(22, p)
+                if self.m[p] != 0:
+                    raise No(26, p)
+            over, q = self.ended(p, e, indefinite)
+            if over:
+                if any(not rules[j][1] for j in awaited):
+                    raise No(24, p)
+                return (kind, kids), q
+            for j in awaited + again:
+                if self.begins(rules[j][0], p, e):
+                    if kids[j] is not None:
+                        self.used.add('repeated member')
+                    break
+            else:
+                self.identifier(p, e)
+                raise No(24, p)
+            kids[j], p = self.value(rules[j][0], p, e, level + 1)
+            next_ = j + 1
+
+    def simple(self, kind, rules, c, at):
+        bad = No(25, at)
+        if kind == BOOLEAN:
+            if len(c) != 1 and not (self.may('wide boolean') if c else self.may('no octet')):
+                raise bad
+            return 1 if any(c) else 0
+        if kind in (INTEGER, ENUMERATED):
+            if not c:
+                if (kind == INTEGER or 0 in rules or 'unlisted number' in self.lax) and self.may('no octet'):
+                    return 0
+                raise bad
+            spare = len(c) > 1 and ((c[0] == 0 and c[1] < 128) or (c[0] == 255 and c[1] >= 128))
+            if spare and not self.may('spare octets'):
+                raise bad
+            z = int.from_bytes(c, 'big', signed=True)
+            if len(c) > 8 and not self.may('spare octets' if spare else 'wide integer'):
+                raise bad
+            if kind == ENUMERATED and z not in rules and not self.may('unlisted number'):
+                raise bad
+            return z
+        if kind == BIT_STRING:
+            if not c:
+                raise bad
+            unused, d = c[0], bytearray(c[1:])
+            if unused > 7 or (unused and not d):
+                if not self.may('unused bits'):
+                    raise bad
+                bits = max(0, 8 * len(d) - unused)
+                d, unused = d[:(bits + 7) // 8], -bits % 8
+            if d:
+                d[-1] &= 0xFF << unused & 0xFF
+            return unused, bytes(d)
+        if kind == NULL:
+            if c:
+                raise bad
+            return None
+        return bytes(c)
+
+
+def start(table, t):
+    records = check(table)
+    if t >= len(records):
+        raise No(7, 0)
+    return records
+
+
+def answer(work):
+    try:
+        return ('ok', work())
+    except No as e:
+        return ('no', e.number, e.place)
+
+
+def checked(table):
+    """('ok', b'') or ('no', number, place)."""
+    return answer(lambda: check(table) and b'')
+
+
+def write(table, t, v, room=VALUE):
+    def work():
+        records = start(table, t)
+        if len(v) > VALUE:
+            raise No(11, 0)
+        tree, p = judge(records, t, v, 0, 1)
+        if p != len(v):
+            raise No(11, p)
+        m = form(records, t, tree)
+        if len(m) > min(room, MESSAGE):
+            raise No(14, 0)
+        return m
+    return answer(work)
+
+
+def read(table, t, m, room=VALUE):
+    def work():
+        v = octets(read_tree(start(table, t), t, m)[0])
+        if len(v) > min(room, VALUE):
+            raise No(27, 0)
+        return v
+    return answer(work)
+
+
+def read_tree(records, t, m, lax=()):
+    """The tree of a message, and which of the rules in `lax` had to be dropped."""
+    if len(m) > MESSAGE:
+        raise No(21, 0)
+    if not m:
+        raise No(22, 0)
+    r = Reader(records, m, lax)
+    tree, p = r.value(t, 0, len(m), 1)
+    if p != len(m) and not r.may('tail'):
+        raise No(26, p)
+    return tree, r.used
+
+
+def line(number, a):
+    """A line of the program of cases."""
+    if a[0] == 'no':
+        return '%d no %d %d\n' % (number, a[1], a[2])
+    return '%d ok %s\n' % (number, a[1].hex()) if a[1] else '%d ok\n' % number
