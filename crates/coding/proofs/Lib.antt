@@ -2,3 +2,4 @@
 -- Assumes nothing.
 pub mod Limits
 pub mod Demands
+pub mod Checked

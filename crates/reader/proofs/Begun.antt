@@ -29,7 +29,7 @@ use Rattle.reader.specs.declared.search.Found.{Found}
 use Rattle.reader.specs.declared.search.Found.the-variants.{Nothing, At}
 use Rattle.reader.proofs.Coded.{code-tag, universal-small}
 
-octets-drop : (m : List ℕ) → Octets m → (at : ℕ) → Octets (drop at m)
+pub octets-drop : (m : List ℕ) → Octets m → (at : ℕ) → Octets (drop at m)
 octets-drop m o at i = rw (getD-drop at m i 0) (o (at + i))
 
 -- the digits behind a leading octet
@@ -130,7 +130,7 @@ pub record Small (i : List ℕ) : Type 0 where
   few : class ≤ 3
   low : number < 65536
 
-small-code : {i : List ℕ} → Small i → codeOf i < untagged
+pub small-code : {i : List ℕ} → Small i → codeOf i < untagged
 small-code s = rw (s .is, code-tag (s .class) (s .built) (s .number) (s .low)) (below (s .class) (s .built) (s .number) (s .few) (s .low))
   where
     below : (c : ℕ) (b : Bool) (n : ℕ) → c ≤ 3 → n < 65536 → (2 * c + bit b) * 131072 + n < untagged
@@ -174,14 +174,15 @@ code-is (long x {ds} h k g z o) c b n l e =
     let p : x ≡ (2 * c + bit b) * 32 + 31 = omega arith in
     sym (identifier-long c b n y ∙ ap (λ (u : ℕ). u ∷ following n) (leading-is c b 31 ∙ sym p) ∙ ap (λ (u : List ℕ). x ∷ u) (sym f))
 
+eqb-tag : {i : List ℕ} → Form i → (c : ℕ) (b : Bool) (n : ℕ) → n < 65536 → eqb (codeOf i) (codeOf (identifier c b n)) ≡ same (identifier c b n) i
+eqb-tag {i} f c b n l =
+    let j = identifier c b n in
+    test (eqb (codeOf i) (codeOf j))
+    (λ e. let q = code-is f c b n l (eqb-true (codeOf i) (codeOf j) e ∙ code-tag c b n l) in rw (e, q) (sym (same-refl j)))
+    λ e. e ∙ sym (never (same j i) λ t. eqb-false (codeOf i) (codeOf j) e (ap codeOf (sym (same-true j i t))))
+
 code-same : {i j : List ℕ} → Form i → Small j → codeOf i ≡ codeOf j → i ≡ j
 code-same {i} {j} f s e = code-is f (s .class) (s .built) (s .number) (s .low) (e ∙ ap codeOf (s .is) ∙ code-tag (s .class) (s .built) (s .number) (s .low)) ∙ sym (s .is)
-
-eqb-read : {i j : List ℕ} → Form i → Small j → eqb (codeOf i) (codeOf j) ≡ same j i
-eqb-read {i} {j} f s =
-    test (eqb (codeOf i) (codeOf j))
-    (λ e. let q = code-same f s (eqb-true (codeOf i) (codeOf j) e) in rw (e, q) (sym (same-refl j)))
-    λ e. e ∙ sym (never (same j i) λ t. eqb-false (codeOf i) (codeOf j) e (ap codeOf (sym (same-true j i t))))
 
 eqb-sought : {i j : List ℕ} → Form i → Small j → eqb (codeOf j) (codeOf i) ≡ same i j
 eqb-sought {i} {j} f s =
@@ -197,7 +198,7 @@ abbrev pub AllFine : List Tag → Type 0
 AllFine [] = Unit {0}
 AllFine (g ∷ gs) = Fine g × AllFine gs
 
-abbrev AllSmall : List (List ℕ) → Type 0
+abbrev pub AllSmall : List (List ℕ) → Type 0
 AllSmall [] = Unit {0}
 AllSmall (i ∷ is) = Small i × AllSmall is
 
@@ -237,11 +238,11 @@ all-small : (gs : List Tag) → AllFine gs → AllSmall (map (identifierOf true)
 all-small [] f = tt
 all-small (g ∷ gs) f = (tag-small true g (f .0), all-small gs (f .1))
 
-own-small : (r : Record) → AllFine (r .tags) → Small (own r)
+pub own-small : (r : Record) → AllFine (r .tags) → Small (own r)
 unfolding own
 own-small r f = tag-small (constructed (r .body)) (last (r .body) (r .tags)) (last-fine (r .body) (r .tags) f)
 
-explicit-small : (r : Record) → AllFine (r .tags) → AllSmall (explicit r)
+pub explicit-small : (r : Record) → AllFine (r .tags) → AllSmall (explicit r)
 unfolding explicit
 explicit-small r f = all-small (explicitTags (r .body) (r .tags)) (explicit-fine (r .body) (r .tags) f)
 
@@ -263,17 +264,20 @@ module _ {tb offs fs : List ℕ} (R : Ready tb offs fs) (ob : Octets tb) where
   unfolding look
   small-at t o eo = rw eo (own-small (look tb offs t) (fine t))
 
--- a header by the code
-pub header-code : (s : List ℕ) → Octets s → (i : List ℕ) → Small i → headerBy (codeOf i) s ≡ readHeader i s
+-- a header by the code; a tag of a class above 3 has a code that no octets have
+pub header-tag : (s : List ℕ) → Octets s → (c : ℕ) (b : Bool) (n : ℕ) → n < 65536 → headerBy (codeOf (identifier c b n)) s ≡ readHeader (identifier c b n) s
 unfolding headerBy readHeader then
-header-code s o i z = go (readIdentifier s) refl
+header-tag s o c b n l = go (readIdentifier s) refl
   where
-    go : (x : Answer (List ℕ)) → readIdentifier s ≡ x → headerBy (codeOf i) s ≡ readHeader i s
-    go (got j w) e = let q = eqb-read (got-holds (identifier-form s o) e) z in rw (e, q) refl
+    go : (x : Answer (List ℕ)) → readIdentifier s ≡ x → headerBy (codeOf (identifier c b n)) s ≡ readHeader (identifier c b n) s
+    go (got j w) e = let q = eqb-tag (got-holds (identifier-form s o) e) c b n l in rw (e, q) refl
     go (refused c l) e = rw e refl
 
+pub header-code : (s : List ℕ) → Octets s → (i : List ℕ) → Small i → headerBy (codeOf i) s ≡ readHeader i s
+header-code s o i z = rw (z .is) (header-tag s o (z .class) (z .built) (z .number) (z .low))
+
 -- the search
-abbrev hit : Found → Bool
+abbrev pub hit : Found → Bool
 hit Nothing = false
 hit (At u d) = true
 
@@ -344,7 +348,7 @@ module _ (T : Table) (F : (t : ℕ) → AllFine (T t .tags)) where
       step-none t none (λ a. hit (searchIn T k a none)) (λ a. searchIn T k a none) (λ a. refl) refl (λ a. search-nothing k a)
       (explicit (T t)) (own (T t)) (T t .body) (explicit-small (T t) (F t)) (own-small (T t) (F t))
 
-  begun-hit : (t : ℕ) (s : List ℕ) → Octets s → begun T t s ≡ hit (searchIn T 129 t (peeked (readIdentifier s)))
+  pub begun-hit : (t : ℕ) (s : List ℕ) → Octets s → begun T t s ≡ hit (searchIn T 129 t (peeked (readIdentifier s)))
   unfolding begun passes begins peeked
   begun-hit t s o = go (readIdentifier s) refl
     where

@@ -99,7 +99,7 @@ length-before [] = refl
 length-before (g ∷ []) = refl
 length-before (g ∷ h ∷ gs) = ap suc (length-before (h ∷ gs)) ∙ omega arith
 
-length-map : (f : Tag → List ℕ) (gs : List Tag) → length (map f gs) ≡ length gs
+pub length-map : (f : Tag → List ℕ) (gs : List Tag) → length (map f gs) ≡ length gs
 length-map f [] = refl
 length-map f (g ∷ gs) = ap suc (length-map f gs)
 

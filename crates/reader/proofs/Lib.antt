@@ -5,5 +5,16 @@ pub mod Integers
 pub mod Searching
 pub mod Simple
 pub mod Coded
+pub mod Placing
+pub mod Done
+pub mod Forms
 pub mod Records
 pub mod Begun
+pub mod Turns
+pub mod Wrapping
+pub mod Under
+pub mod Lacking
+pub mod Passing
+pub mod Outcomes
+pub mod Arriving
+pub mod Measuring

@@ -89,12 +89,12 @@ length-masked n [] = refl
 length-masked n (x ∷ []) = refl
 length-masked n (x ∷ y ∷ c) = ap suc (length-masked n (y ∷ c))
 
-none-yes : (s : List ℕ) → length s ≡ 0 → none-left s ≡ true
+pub none-yes : (s : List ℕ) → length s ≡ 0 → none-left s ≡ true
 unfolding none-left
 none-yes [] h = refl
 none-yes (b ∷ s) h = absurd (omega arith)
 
-none-no : (s : List ℕ) → (length s ≡ 0 → ⊥) → none-left s ≡ false
+pub none-no : (s : List ℕ) → (length s ≡ 0 → ⊥) → none-left s ≡ false
 unfolding none-left
 none-no [] h = absurd (h refl)
 none-no (b ∷ s) h = refl

@@ -2,3 +2,6 @@
 -- Assumes nothing.
 pub mod Answers
 pub mod Codes
+pub mod Wraps
+pub mod Noting
+pub mod Writing

@@ -1,0 +1,473 @@
+// Places the value of a message that was measured: no refusal is left.
+// m is the message up to the end of the octets in which an item stands; `at` is a place in it; `to` is the place in the buffer.
+ghost use mathlib.Core.Path.{_≡_};
+ghost use mathlib.Core.Bool.{not};
+ghost use mathlib.Core.List.{[], _∷_, _++_};
+ghost use Prim.Native.Nat.{_≤_, _<_, _+_, _-_, _*_, _/_, _%_, _^_, suc};
+ghost use lib.Dec.{eqb};
+ghost use lib.ListN.{length, getD, drop};
+ghost use lib.Seq.{sets};
+ghost use Rattle.octets.specs.Numbers.{octetsOf};
+ghost use Rattle.ber.specs.Integer.{eight as Integer·eight};
+ghost use Rattle.ber.specs.BitString.{masked};
+ghost use Rattle.table.specs.Rules.{parts as Rules·parts};
+ghost use Rattle.table.specs.Reading.{look, recordAt, membersAt};
+ghost use Rattle.table.specs.Fields.{formOf};
+ghost use Rattle.table.specs.declared.kind.Form.the-variants.{Simple, Members, Of};
+ghost use Rattle.coding.specs.Value.{leafOctets, flag, bitCount};
+ghost use Rattle.coding.specs.Tags.{own as Tags·own};
+ghost use Rattle.coding.specs.Reading.{readValue, readKind, readBody, readMany, choose};
+ghost use Rattle.reader.specs.Answers.{mode};
+ghost use Rattle.reader.specs.Codes.{Ready, Shaped, constructedBy};
+ghost use Rattle.reader.specs.Writing.{IsDone, written, writtenAll, counts, partsOf, presenceOf, Right, leafOf, Lawful};
+use crate::answer::Measured;
+use crate::ending::End;
+use crate::ending::ending;
+use crate::first::explicit_count;
+use crate::header::header;
+use crate::identifier::peek;
+use crate::integer::bits;
+use crate::integer::integer_of;
+use crate::length::Length;
+use crate::measure::code_of;
+use crate::measure::scan;
+use crate::measure::step;
+use crate::search::Found;
+use crate::search::search;
+use crate::wrap::Opened;
+use crate::wrap::open;
+use octets::octet;
+use table::kind::Form;
+use table::kind::form_of;
+use table::record::kind;
+use table::record::offset;
+use table::record::own;
+use table::record::parts;
+
+const POWERS: [u8; 8] = [1, 2, 4, 8, 16, 32, 64, 128];
+
+// Where to go on in the buffer, and how many elements there were.
+pub struct Placed {
+    pub next: usize,
+    pub count: usize,
+}
+
+// The mark of a node, and its kind.
+fn begin_node(buf: &mut [u8], to: usize, k: u8)
+    requires { ⌜ to + 3 ≤ length (now buf) ⌝ }
+    ensures { λ _. ⌜ now (buf .exit) ≡ sets (now (buf .entry)) to (86 ∷ 65 ∷ k ∷ []) ⌝ }
+{
+    buf[to] = 86;
+    buf[to + 1] = 65;
+    buf[to + 2] = k;
+}
+
+fn one_if(x: bool) -> u8
+    ensures { λ r. ⌜ r ≡ flag x ⌝ }
+{
+    if x { 1 } else { 0 }
+}
+
+// A number of two octets.
+fn put_number(buf: &mut [u8], to: usize, n: usize)
+    requires { ⌜ (to + 2 ≤ length (now buf)) × (n < 65536) ⌝ }
+    ensures { λ _. ⌜ now (buf .exit) ≡ sets (now (buf .entry)) to (octetsOf n) ⌝ }
+{
+    let high = n / 256;
+    let low = n % 256;
+    buf[to] = high as u8;
+    buf[to + 1] = low as u8;
+}
+
+// Eight octets.
+fn put_eight(buf: &mut [u8], to: usize, u: u64)
+    requires { ⌜ to + 8 ≤ length (now buf) ⌝ }
+    ensures { λ _. ⌜ now (buf .exit) ≡ sets (now (buf .entry)) to (Integer·eight u) ⌝ }
+{
+    buf[to] = (u / 72057594037927936) as u8;
+    buf[to + 1] = (u / 281474976710656 % 256) as u8;
+    buf[to + 2] = (u / 1099511627776 % 256) as u8;
+    buf[to + 3] = (u / 4294967296 % 256) as u8;
+    buf[to + 4] = (u / 16777216 % 256) as u8;
+    buf[to + 5] = (u / 65536 % 256) as u8;
+    buf[to + 6] = (u / 256 % 256) as u8;
+    buf[to + 7] = (u % 256) as u8;
+}
+
+fn copy(c: &[u8], buf: &mut [u8], to: usize)
+    requires { ⌜ to + length (now c) ≤ length (now buf) ⌝ }
+    ensures { λ _. ⌜ now (buf .exit) ≡ sets (now (buf .entry)) to (now (c .entry)) ⌝ }
+{
+    let n = c.len();
+    let end = to + n;
+    let part = &mut buf[to..end];
+    let mut i: usize = 0;
+    while i < n {
+        part[i] = c[i];
+        i += 1;
+    }
+}
+
+// Octets whose last n bits are cleared.
+fn copy_masked(c: &[u8], n: usize, buf: &mut [u8], to: usize)
+    requires { ⌜ (to + length (now c) ≤ length (now buf)) × (n < 8) ⌝ }
+    ensures { λ _. ⌜ now (buf .exit) ≡ sets (now (buf .entry)) to (masked n (now (c .entry))) ⌝ }
+{
+    let k = c.len();
+    if k == 0 {
+        return;
+    }
+    copy(c, buf, to);
+    let last = k - 1;
+    let x = c[last];
+    let p = POWERS[n];
+    let q = to + last;
+    buf[q] = x / p * p;
+}
+
+// The value of contents of the simple kind k.
+fn place_leaf(k: usize, c: &[u8], buf: &mut [u8], to: usize) -> usize
+    requires { ⌜ Lawful k (now c) × (length (now c) ≤ 8192) × (to + length (leafOctets (leafOf k (now c))) ≤ length (now buf)) × (length (now buf) < 4294967296) ⌝ }
+    ensures { λ r. ⌜ (r ≡ to + length (leafOctets (leafOf k (now (c .entry))))) × (now (buf .exit) ≡ sets (now (buf .entry)) to (leafOctets (leafOf k (now (c .entry))))) ⌝ }
+{
+    begin_node(buf, to, k as u8);
+    let next = to + 3;
+    if k == 1 {
+        buf[next] = one_if(c[0] != 0);
+        return to + 4;
+    }
+    if k == 2 {
+        let z = integer_of(c);
+        put_eight(buf, next, bits(z));
+        return to + 11;
+    }
+    if k == 3 {
+        let unused = c[0] as usize;
+        let part = &c[1..];
+        let count = 8 * part.len() - unused;
+        put_number(buf, next, count);
+        let from = to + 5;
+        copy_masked(part, unused, buf, from);
+        return from + part.len();
+    }
+    if k == 4 {
+        put_number(buf, next, c.len());
+        let from = to + 5;
+        copy(c, buf, from);
+        return from + c.len();
+    }
+    if k == 5 {
+        return next;
+    }
+    let z = integer_of(c);
+    put_number(buf, next, bits(z) as usize);
+    to + 5
+}
+
+// The octets that say which of c members came.
+fn put_presence(c: usize, began: &[u16], buf: &mut [u8], to: usize)
+    requires { ⌜ (c ≤ length (now began)) × (to + c ≤ length (now buf)) × (length (now buf) < 4294967296) ⌝ }
+    ensures { λ _. ⌜ now (buf .exit) ≡ sets (now (buf .entry)) to (presenceOf c (now (began .entry))) ⌝ }
+{
+    let mut j: usize = 0;
+    while j < c {
+        let i = to + j;
+        buf[i] = one_if(began[j] != 0);
+        j += 1;
+    }
+}
+
+// A value of type t.
+pub(crate) fn place_value(
+    table: &[u8],
+    offsets: &[u16],
+    firsts: &[u32],
+    t: usize,
+    m: &[u8],
+    at: usize,
+    level: usize,
+    buf: &mut [u8],
+    to: usize,
+) -> usize
+    requires { ⌜ Ready (now table) (now offsets) (now firsts) × (at ≤ length (now m)) × (length (now m) ≤ 8192) × (0 < level) × (level < 25) × (length (now buf) < 4294967296) × IsDone (readValue (look (now table) (now offsets)) level t (drop at (now m))) × (to + length (written (readValue (look (now table) (now offsets)) level t (drop at (now m)))) ≤ length (now buf)) ⌝ }
+    ensures { λ r. ⌜ (r ≡ to + length (written (readValue (look (now (table .entry)) (now (offsets .entry))) level t (drop at (now (m .entry)))))) × (now (buf .exit) ≡ sets (now (buf .entry)) to (written (readValue (look (now (table .entry)) (now (offsets .entry))) level t (drop at (now (m .entry)))))) ⌝ }
+{
+    let o = offset(offsets, t);
+    let count = explicit_count(table, o);
+    let below = level - 1;
+    if count == 0 {
+        return place_item(table, offsets, firsts, t, m, at, below, buf, to);
+    }
+    let mut notes = [0u16; 4];
+    match open(table, o, count, m, at, &mut notes) {
+        Opened::Refused { cause: _, at: _ } => to,
+        Opened::Inside { from, end } => {
+            let part = &m[..end];
+            place_item(table, offsets, firsts, t, part, from, below, buf, to)
+        }
+    }
+}
+
+// The item of a value of type t, without its explicit tags; `level` levels are left below.
+fn place_item(
+    table: &[u8],
+    offsets: &[u16],
+    firsts: &[u32],
+    t: usize,
+    m: &[u8],
+    at: usize,
+    level: usize,
+    buf: &mut [u8],
+    to: usize,
+) -> usize
+    requires { ⌜ Ready (now table) (now offsets) (now firsts) × (at ≤ length (now m)) × (length (now m) ≤ 8192) × (level < 24) × (length (now buf) < 4294967296) × IsDone (readKind (look (now table) (now offsets)) (readValue (look (now table) (now offsets)) level) (Tags·own (look (now table) (now offsets) t)) (look (now table) (now offsets) t .body) (drop at (now m))) × (to + length (written (readKind (look (now table) (now offsets)) (readValue (look (now table) (now offsets)) level) (Tags·own (look (now table) (now offsets) t)) (look (now table) (now offsets) t .body) (drop at (now m)))) ≤ length (now buf)) ⌝ }
+    ensures { λ r. ⌜ (r ≡ to + length (written (readKind (look (now (table .entry)) (now (offsets .entry))) (readValue (look (now (table .entry)) (now (offsets .entry))) level) (Tags·own (look (now (table .entry)) (now (offsets .entry)) t)) (look (now (table .entry)) (now (offsets .entry)) t .body) (drop at (now (m .entry)))))) × (now (buf .exit) ≡ sets (now (buf .entry)) to (written (readKind (look (now (table .entry)) (now (offsets .entry))) (readValue (look (now (table .entry)) (now (offsets .entry))) level) (Tags·own (look (now (table .entry)) (now (offsets .entry)) t)) (look (now (table .entry)) (now (offsets .entry)) t .body) (drop at (now (m .entry)))))) ⌝ }
+{
+    let o = offset(offsets, t);
+    let k = kind(table, o);
+    match form_of(k) {
+        Form::Choice => place_choice(table, offsets, firsts, o, m, at, level, buf, to),
+        Form::Simple => {
+            let code = code_of(table, offsets, firsts, t, o);
+            match header(code, m, at) {
+                Length::Refused { cause: _, at: _ } => to,
+                Length::Indefinite { start: _ } => to,
+                Length::Definite { size, start } => {
+                    let end = start + size;
+                    let part = &m[start..end];
+                    place_leaf(k, part, buf, to)
+                }
+            }
+        }
+        Form::Members => {
+            let code = code_of(table, offsets, firsts, t, o);
+            place_constructed(table, offsets, firsts, o, code, m, at, level, buf, to)
+        }
+        Form::Of => {
+            let code = code_of(table, offsets, firsts, t, o);
+            place_constructed(table, offsets, firsts, o, code, m, at, level, buf, to)
+        }
+    }
+}
+
+// The CHOICE at o, and the alternative that begins as the item does.
+fn place_choice(
+    table: &[u8],
+    offsets: &[u16],
+    firsts: &[u32],
+    o: u16,
+    m: &[u8],
+    at: usize,
+    level: usize,
+    buf: &mut [u8],
+    to: usize,
+) -> usize
+    requires { ⌜ Ready (now table) (now offsets) (now firsts) × (at ≤ length (now m)) × (length (now m) ≤ 8192) × (level < 24) × (length (now buf) < 4294967296) × IsDone (choose (look (now table) (now offsets)) (readValue (look (now table) (now offsets)) level) (Rules·parts (recordAt (now table) o .body)) 0 (drop at (now m))) × (to + length (written (choose (look (now table) (now offsets)) (readValue (look (now table) (now offsets)) level) (Rules·parts (recordAt (now table) o .body)) 0 (drop at (now m)))) ≤ length (now buf)) ⌝ }
+    ensures { λ r. ⌜ (r ≡ to + length (written (choose (look (now (table .entry)) (now (offsets .entry))) (readValue (look (now (table .entry)) (now (offsets .entry))) level) (Rules·parts (recordAt (now (table .entry)) o .body)) 0 (drop at (now (m .entry)))))) × (now (buf .exit) ≡ sets (now (buf .entry)) to (written (choose (look (now (table .entry)) (now (offsets .entry))) (readValue (look (now (table .entry)) (now (offsets .entry))) level) (Rules·parts (recordAt (now (table .entry)) o .body)) 0 (drop at (now (m .entry)))))) ⌝ }
+{
+    let code = peek(m, at);
+    let s = parts(table, o);
+    let c = s.count;
+    let step = s.step;
+    let mut p = s.first;
+    let mut j: usize = 0;
+    while j < c {
+        let t = octet(table, p);
+        match search(table, offsets, firsts, t, code, 129) {
+            Found::Nothing => {
+                p += step;
+                j += 1;
+            }
+            Found::At {
+                record: _,
+                depth: _,
+            } => {
+                begin_node(buf, to, 50);
+                let q = to + 3;
+                buf[q] = j as u8;
+                let next = to + 4;
+                return place_value(table, offsets, firsts, t, m, at, level, buf, next);
+            }
+        }
+    }
+    to
+}
+
+// A constructed item of the record at o, with the code of its identifier.
+fn place_constructed(
+    table: &[u8],
+    offsets: &[u16],
+    firsts: &[u32],
+    o: u16,
+    code: usize,
+    m: &[u8],
+    at: usize,
+    level: usize,
+    buf: &mut [u8],
+    to: usize,
+) -> usize
+    requires { ⌜ Ready (now table) (now offsets) (now firsts) × Shaped (now table) o × (at ≤ length (now m)) × (length (now m) ≤ 8192) × (level < 24) × (length (now buf) < 4294967296) × IsDone (constructedBy code (readBody (look (now table) (now offsets)) (readValue (look (now table) (now offsets)) level) (recordAt (now table) o .body)) (drop at (now m))) × (to + length (written (constructedBy code (readBody (look (now table) (now offsets)) (readValue (look (now table) (now offsets)) level) (recordAt (now table) o .body)) (drop at (now m)))) ≤ length (now buf)) ⌝ }
+    ensures { λ r. ⌜ (r ≡ to + length (written (constructedBy code (readBody (look (now (table .entry)) (now (offsets .entry))) (readValue (look (now (table .entry)) (now (offsets .entry))) level) (recordAt (now (table .entry)) o .body)) (drop at (now (m .entry)))))) × (now (buf .exit) ≡ sets (now (buf .entry)) to (written (constructedBy code (readBody (look (now (table .entry)) (now (offsets .entry))) (readValue (look (now (table .entry)) (now (offsets .entry))) level) (recordAt (now (table .entry)) o .body)) (drop at (now (m .entry)))))) ⌝ }
+{
+    match header(code, m, at) {
+        Length::Refused { cause: _, at: _ } => to,
+        Length::Indefinite { start } => place_body(
+            table,
+            offsets,
+            firsts,
+            o,
+            m,
+            start,
+            true,
+            level,
+            buf,
+            to,
+        ),
+        Length::Definite { size, start } => {
+            let end = start + size;
+            let part = &m[..end];
+            place_body(
+                table,
+                offsets,
+                firsts,
+                o,
+                part,
+                start,
+                false,
+                level,
+                buf,
+                to,
+            )
+        }
+    }
+}
+
+// The contents of a constructed item of the record at o.
+fn place_body(
+    table: &[u8],
+    offsets: &[u16],
+    firsts: &[u32],
+    o: u16,
+    m: &[u8],
+    at: usize,
+    marked: bool,
+    level: usize,
+    buf: &mut [u8],
+    to: usize,
+) -> usize
+    requires { ⌜ Ready (now table) (now offsets) (now firsts) × Shaped (now table) o × (at ≤ length (now m)) × (length (now m) ≤ 8192) × (level < 24) × (length (now buf) < 4294967296) × IsDone (readBody (look (now table) (now offsets)) (readValue (look (now table) (now offsets)) level) (recordAt (now table) o .body) (mode marked) (drop at (now m))) × (to + length (written (readBody (look (now table) (now offsets)) (readValue (look (now table) (now offsets)) level) (recordAt (now table) o .body) (mode marked) (drop at (now m)))) ≤ length (now buf)) ⌝ }
+    ensures { λ r. ⌜ (r ≡ to + length (written (readBody (look (now (table .entry)) (now (offsets .entry))) (readValue (look (now (table .entry)) (now (offsets .entry))) level) (recordAt (now (table .entry)) o .body) (mode marked) (drop at (now (m .entry)))))) × (now (buf .exit) ≡ sets (now (buf .entry)) to (written (readBody (look (now (table .entry)) (now (offsets .entry))) (readValue (look (now (table .entry)) (now (offsets .entry))) level) (recordAt (now (table .entry)) o .body) (mode marked) (drop at (now (m .entry)))))) ⌝ }
+{
+    let k = kind(table, o);
+    let p = own(table, o);
+    let c = octet(table, p);
+    match form_of(k) {
+        Form::Members => {
+            let mut began = [0u16; 16];
+            scan(table, offsets, firsts, o, m, at, marked, level, &mut began);
+            begin_node(buf, to, k as u8);
+            let q = to + 3;
+            buf[q] = c as u8;
+            let next = to + 4;
+            put_presence(c, &began, buf, next);
+            let from = next + c;
+            let first = p + 1;
+            place_members(
+                table,
+                offsets,
+                firsts,
+                first,
+                c,
+                m,
+                level,
+                &began,
+                buf,
+                from,
+            )
+        }
+        Form::Of => {
+            let from = to + 5;
+            let placed = place_elements(table, offsets, firsts, c, m, at, marked, level, buf, from);
+            begin_node(buf, to, k as u8);
+            let q = to + 3;
+            put_number(buf, q, placed.count);
+            placed.next
+        }
+        Form::Simple => to,
+        Form::Choice => to,
+    }
+}
+
+// Those of the c members that came, in the table's order; their fields begin at p.
+fn place_members(
+    table: &[u8],
+    offsets: &[u16],
+    firsts: &[u32],
+    p: usize,
+    c: usize,
+    m: &[u8],
+    level: usize,
+    began: &[u16],
+    buf: &mut [u8],
+    to: usize,
+) -> usize
+    requires { ⌜ Ready (now table) (now offsets) (now firsts) × (p < 70001) × (c < 17) × (c ≤ length (now began)) × (length (now m) ≤ 8192) × (level < 24) × (length (now buf) < 4294967296) × Right (look (now table) (now offsets)) level (now m) (membersAt (now table) p c) (now began) × (to + length (partsOf (look (now table) (now offsets)) level (now m) (membersAt (now table) p c) (now began)) ≤ length (now buf)) ⌝ }
+    ensures { λ r. ⌜ (r ≡ to + length (partsOf (look (now (table .entry)) (now (offsets .entry))) level (now (m .entry)) (membersAt (now (table .entry)) p c) (now (began .entry)))) × (now (buf .exit) ≡ sets (now (buf .entry)) to (partsOf (look (now (table .entry)) (now (offsets .entry))) level (now (m .entry)) (membersAt (now (table .entry)) p c) (now (began .entry)))) ⌝ }
+{
+    let mut j: usize = 0;
+    let mut next = to;
+    while j < c {
+        let n = began[j] as usize;
+        if n == 0 {
+            j += 1;
+        } else {
+            let q = p + 2 * j;
+            let t = octet(table, q);
+            let from = n - 1;
+            next = place_value(table, offsets, firsts, t, m, from, level, buf, next);
+            j += 1;
+        }
+    }
+    next
+}
+
+// The elements of type t.
+fn place_elements(
+    table: &[u8],
+    offsets: &[u16],
+    firsts: &[u32],
+    t: usize,
+    m: &[u8],
+    at: usize,
+    marked: bool,
+    level: usize,
+    buf: &mut [u8],
+    to: usize,
+) -> Placed
+    requires { ⌜ Ready (now table) (now offsets) (now firsts) × (at ≤ length (now m)) × (length (now m) ≤ 8192) × (level < 24) × (length (now buf) < 4294967296) × IsDone (readMany (look (now table) (now offsets)) (readValue (look (now table) (now offsets)) level) (suc (length (drop at (now m)))) t (mode marked) [] (drop at (now m))) × (to + length (writtenAll (readMany (look (now table) (now offsets)) (readValue (look (now table) (now offsets)) level) (suc (length (drop at (now m)))) t (mode marked) [] (drop at (now m)))) ≤ length (now buf)) ⌝ }
+    ensures { λ r. ⌜ (r .next ≡ to + length (writtenAll (readMany (look (now (table .entry)) (now (offsets .entry))) (readValue (look (now (table .entry)) (now (offsets .entry))) level) (suc (length (drop at (now (m .entry))))) t (mode marked) [] (drop at (now (m .entry)))))) × (r .count ≡ counts (readMany (look (now (table .entry)) (now (offsets .entry))) (readValue (look (now (table .entry)) (now (offsets .entry))) level) (suc (length (drop at (now (m .entry))))) t (mode marked) [] (drop at (now (m .entry))))) × (r .count < 8193) × (now (buf .exit) ≡ sets (now (buf .entry)) to (writtenAll (readMany (look (now (table .entry)) (now (offsets .entry))) (readValue (look (now (table .entry)) (now (offsets .entry))) level) (suc (length (drop at (now (m .entry))))) t (mode marked) [] (drop at (now (m .entry)))))) ⌝ }
+{
+    let mut at = at;
+    let mut next = to;
+    let mut count: usize = 0;
+    loop {
+        match ending(m, at, marked) {
+            End::Over { end: _ } => {
+                return Placed { next, count };
+            }
+            End::Broken { cause: _, at: _ } => {
+                return Placed { next, count };
+            }
+            End::More => match step(table, offsets, firsts, t, m, at, level) {
+                Measured::Refused { cause: _, at: _ } => {
+                    return Placed { next, count };
+                }
+                Measured::Done { end, size: _ } => {
+                    next = place_value(table, offsets, firsts, t, m, at, level, buf, next);
+                    at = end;
+                    count += 1;
+                }
+            },
+        }
+    }
+}
