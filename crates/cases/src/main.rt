@@ -1,0 +1,113 @@
+// The program of cases (document 01, "Examples on each edge"): reads cases from standard input and prints a line for each.
+mod line;
+
+use coding::Answer;
+ghost use Prim.Native.Nat.{_≤_};
+ghost use lib.ListN.{length};
+
+// "a length over 16,385"
+const LONGEST: usize = 16385;
+
+// Two octets, the high one first.
+fn two(high: u8, low: u8) -> usize {
+    (high as usize) * 256 + low as usize
+}
+
+// The type of a case.
+fn number_of(octet: u8) -> usize {
+    octet as usize
+}
+
+// Fills the first n octets of a buffer from standard input; false if the input ends first.
+fn fill(buf: &mut [u8], n: usize) -> bool
+    requires { ⌜ n ≤ length (now buf) ⌝ }
+{
+    io::read_full(0, &mut buf[..n]) == n
+}
+
+// Whether a case has its mark, 43 41, and a known operation.
+fn known(head: &[u8; 6]) -> bool {
+    head[0] == 0x43 && head[1] == 0x41 && head[2] <= 2
+}
+
+// Prints an answer; what is done has its result at the start of the buffer.
+fn print(number: u64, a: Answer, buf: &[u8]) {
+    match a {
+        Answer::Done(n) => {
+            if n <= buf.len() {
+                line::print_done(number, &buf[..n]);
+            }
+        }
+        Answer::Refused(r) => line::print_refused(number, r),
+    }
+}
+
+// "the lent buffer is 16,384 octets, and a check passes over type and data"
+fn run(number: u64, operation: u8, t: usize, table: &[u8], data: &[u8]) {
+    let mut buf = [0u8; 16384];
+    if operation == 0 {
+        print(number, engine::check(table), &buf);
+    } else if operation == 1 {
+        let a = engine::write(table, t, data, &mut buf);
+        print(number, a, &buf);
+    } else {
+        let a = engine::read(table, t, data, &mut buf);
+        print(number, a, &buf);
+    }
+}
+
+// The data of a case; false if the case is cut.
+fn with_table(number: u64, head: &[u8; 6], table: &[u8]) -> bool {
+    let mut size = [0u8; 2];
+    if !fill(&mut size, 2) {
+        return false;
+    }
+    let n = two(size[0], size[1]);
+    if LONGEST < n {
+        return false;
+    }
+    let mut data = [0u8; LONGEST];
+    if !fill(&mut data, n) {
+        return false;
+    }
+    run(number, head[2], number_of(head[3]), table, &data[..n]);
+    true
+}
+
+// What follows the head of a case; false if the case is cut.
+fn with_head(number: u64, head: &[u8; 6]) -> bool {
+    if !known(head) {
+        return false;
+    }
+    let n = two(head[4], head[5]);
+    if LONGEST < n {
+        return false;
+    }
+    let mut table = [0u8; LONGEST];
+    if !fill(&mut table, n) {
+        return false;
+    }
+    with_table(number, head, &table[..n])
+}
+
+// One case; false if there is none, or it is cut, which is then said.
+fn one(number: u64) -> bool {
+    let mut head = [0u8; 6];
+    let got = io::read_full(0, &mut head);
+    if got == 0 {
+        return false;
+    }
+    if got == 6 && with_head(number, &head) {
+        return true;
+    }
+    line::print_cut(number);
+    false
+}
+
+// Cases up to the end of the input or to one that is cut; the number bounds the loop.
+fn main() {
+    let mut number: u64 = 1;
+    while number < 18446744073709551615 && one(number) {
+        number += 1;
+    }
+}

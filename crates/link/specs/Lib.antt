@@ -1,0 +1,3 @@
+-- An answer as one number for C.
+-- Assumes nothing.
+pub mod Pack

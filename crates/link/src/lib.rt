@@ -1,0 +1,49 @@
+// The engine for call control in C: octets and numbers in, one packed number out.
+ghost use mathlib.Core.Path.{_≡_};
+ghost use Prim.Native.Nat.{_+_, _*_, _<_};
+ghost use Rattle.table.specs.Verdict.{verdict};
+ghost use Rattle.coding.specs.Outcome.{checkAnswer, wholeWrite, wholeRead};
+ghost use Rattle.link.specs.Pack.{place, packed};
+use coding::Answer;
+
+fn join(number: u64, place: usize) -> u64
+    requires { ⌜ (number < 29) × (place < 65536) ⌝ }
+    ensures { λ r. ⌜ r ≡ number * 65536 + place ⌝ }
+{
+    number * 65536 + place as u64
+}
+
+// 0 and the length written, or the number of the refusal and its place.
+fn pack(a: Answer) -> u64
+    requires { ⌜ place a < 65536 ⌝ }
+    ensures { λ r. ⌜ r ≡ packed a ⌝ }
+{
+    match a {
+        Answer::Done(n) => join(0, n),
+        Answer::Refused(r) => {
+            let p = engine::refusal::parts_of(r);
+            join(p.number, p.place)
+        }
+    }
+}
+
+#[no_mangle]
+pub extern "C" fn link_check(table: &[u8]) -> u64
+    ensures { λ r. ⌜ r ≡ packed (checkAnswer (verdict (now (table .entry)))) ⌝ }
+{
+    pack(engine::check(table))
+}
+
+#[no_mangle]
+pub extern "C" fn link_write(table: &[u8], t: usize, value: &[u8], buf: &mut [u8]) -> u64
+    ensures { λ r. ⌜ (r ≡ packed (wholeWrite (now (table .entry)) t (now (value .entry)) (now (buf .entry)) .answer)) × (now (buf .exit) ≡ wholeWrite (now (table .entry)) t (now (value .entry)) (now (buf .entry)) .buffer) ⌝ }
+{
+    pack(engine::write(table, t, value, buf))
+}
+
+#[no_mangle]
+pub extern "C" fn link_read(table: &[u8], t: usize, message: &[u8], buf: &mut [u8]) -> u64
+    ensures { λ r. ⌜ (r ≡ packed (wholeRead (now (table .entry)) t (now (message .entry)) (now (buf .entry)) .answer)) × (now (buf .exit) ≡ wholeRead (now (table .entry)) t (now (message .entry)) (now (buf .entry)) .buffer) ⌝ }
+{
+    pack(engine::read(table, t, message, buf))
+}
