@@ -44,7 +44,7 @@ use Rattle.reader.specs.declared.length.Length.the-variants.{Definite, I
 use Rattle.reader.proofs.Done.{header-definite, header-indefinite, header-none}
 
 -- contents c of a simple kind, with s behind them; l octets are left where the item begins
-unfoldable readPlain : Body → ℕ → List ℕ → List ℕ → Answer Value
+unfoldable pub readPlain : Body → ℕ → List ℕ → List ℕ → Answer Value
 readPlain (Plain k) l c s = then (decode k l c s) λ x s₂. got (leaf x) s₂
 readPlain (Sequence ms) l c s = refused 0 0
 readPlain (Set ms) l c s = refused 0 0
@@ -54,7 +54,7 @@ readPlain (Choice ts) l c s = refused 0 0
 
 -- how an item of kind k is read
 module _ (T : Table) (r : ℕ → List ℕ → Answer Value) (i s : List ℕ) where
-  abbrev By : Form → Body → Type 0
+  abbrev pub By : Form → Body → Type 0
   By FSimple x = readKind T r i x s ≡ then (readPrimitive i s) λ c s₁. readPlain x (length s) c s₁
   By FMembers x = readKind T r i x s ≡ readConstructed i (readBody T r x) s
   By FOf x = readKind T r i x s ≡ readConstructed i (readBody T r x) s
@@ -89,14 +89,14 @@ listed-small b o p (suc n) k e =
     λ f. listed-small b o (p + 2) n k (rw f at e)
 
 -- contents of a simple kind that can be read
-abbrev IsSimple : Form → Type 0
+abbrev pub IsSimple : Form → Type 0
 IsSimple FSimple = Unit {0}
 IsSimple FMembers = ⊥
 IsSimple FOf = ⊥
 IsSimple FChoice = ⊥
 
 module _ (b : List ℕ) (o : Octets b) (p l : ℕ) (c s : List ℕ) where
-  abbrev Leafy : ℕ → Type 0
+  abbrev pub Leafy : ℕ → Type 0
   Leafy k = IsSimple (formOf k) → IsDone (readPlain (bodyAt b k p) l c s) → Lawful k c × (written (readPlain (bodyAt b k p) l c s) ≡ leafOctets (leafOf k c))
 
   leaf-boolean : Leafy 1
@@ -157,7 +157,7 @@ module _ (b : List ℕ) (o : Octets b) (p l : ℕ) (c s : List ℕ) where
       λ g. absurd (rw (e, g) at d))
       λ e. absurd (rw e at d)
 
-  leafy : (k : ℕ) → Leafy k
+  pub leafy : (k : ℕ) → Leafy k
   unfolding formOf
   leafy k =
       at k 1 Leafy leaf-boolean λ e₁.
@@ -181,7 +181,7 @@ module _ (tb offs : List ℕ) (n t o k : ℕ) (s : List ℕ) (f : Form) (eo : o 
   abbrev The : Answer Value
   The = readKind (look tb offs) (readValue (look tb offs) n) (own (look tb offs t)) (look tb offs t .body) s
 
-  read-by : By (look tb offs) (readValue (look tb offs) n) (own (recordAt tb o)) s f (recordAt tb o .body)
+  pub read-by : By (look tb offs) (readValue (look tb offs) n) (own (recordAt tb o)) s f (recordAt tb o .body)
   unfolding recordAt
   read-by = rw (ef, ek) (by-form (look tb offs) (readValue (look tb offs) n) (own (recordAt tb o)) s tb (ownAt tb o) (getD tb (o + 2) 0))
 
@@ -189,7 +189,7 @@ module _ (tb offs : List ℕ) (n t o k : ℕ) (s : List ℕ) (f : Form) (eo : o 
   unfolding look
   the-record = ap (recordAt tb) (sym eo)
 
-  the-item : The ≡ readKind (look tb offs) (readValue (look tb offs) n) (own (recordAt tb o)) (recordAt tb o .body) s
+  pub the-item : The ≡ readKind (look tb offs) (readValue (look tb offs) n) (own (recordAt tb o)) (recordAt tb o .body) s
   the-item = ap (λ x. readKind (look tb offs) (readValue (look tb offs) n) (own x) (x .body) s) the-record
 
   pub item-choice : f ≡ FChoice → The ≡ choose (look tb offs) (readValue (look tb offs) n) (parts (recordAt tb o .body)) 0 s

@@ -47,12 +47,12 @@ use Rattle.reader.proofs.Done.{done-got, done-of, choice-done, not-awai
 use Rattle.reader.proofs.Forms.{gathered, gathers}
 
 -- stores that do not meet
-set-sets : (ws b : List ℕ) (i j v : ℕ) → i < j → set (sets b j ws) i v ≡ sets (set b i v) j ws
+pub set-sets : (ws b : List ℕ) (i j v : ℕ) → i < j → set (sets b j ws) i v ≡ sets (set b i v) j ws
 set-sets [] b i j v h = refl
 set-sets (w ∷ ws) b i j v h =
     set-sets ws (set b j w) i (suc j) v (omega arith) ∙ ap (λ (d : List ℕ). sets d (suc j) ws) (set-comm b j i w v (λ e. omega arith))
 
-sets-later : (vs ws b : List ℕ) (i j : ℕ) → i + length vs ≤ j → sets (sets b j ws) i vs ≡ sets (sets b i vs) j ws
+pub sets-later : (vs ws b : List ℕ) (i j : ℕ) → i + length vs ≤ j → sets (sets b j ws) i vs ≡ sets (sets b i vs) j ws
 sets-later [] ws b i j h = refl
 sets-later (v ∷ vs) ws b i j h =
     ap (λ (d : List ℕ). sets d (suc i) vs) (set-sets ws b i j v (omega arith)) ∙ sets-later vs ws (set b i v) (suc i) j (omega arith)
@@ -97,7 +97,7 @@ module _ (T : Table) (r : ℕ → List ℕ → Answer Value) (s b : List ℕ) (s
       let f : suc j ≡ j + 1 = omega arith in
       w ∙ rw (every-step b p (c - j) (omega arith) step, ← et, g, e, f) refl
 
-  choose-found : (t : ℕ) → j < c → t ≡ getD b p 0 → begun T t s ≡ true → W ≡ choose T r (everyAt step b p (c - j)) j s → W ≡ then (r t s) λ v s₁. got (choice j v) s₁
+  pub choose-found : (t : ℕ) → j < c → t ≡ getD b p 0 → begun T t s ≡ true → W ≡ choose T r (everyAt step b p (c - j)) j s → W ≡ then (r t s) λ v s₁. got (choice j v) s₁
   unfolding choose if
   choose-found t h et g w = w ∙ rw (every-step b p (c - j) (omega arith) step, ← et, g) refl
 

@@ -1,13 +1,14 @@
 -- What is written of an answer that is done.
 -- Assumes nothing.
-use mathlib.Core.Bool.{Bool, true, not}
+use mathlib.Core.Bool.{Bool, true, false, not}
 use mathlib.Core.List.{List, [], _∷_, _++_}
 use mathlib.Core.Option.{Option}
 use mathlib.Core.Path.{_≡_}
-use Prim.Native.Nat.{ℕ, zero, suc, _-_, _≤_, _<_}
+use Prim.Native.Nat.{ℕ, zero, suc, _+_, _-_, _≤_, _<_}
 use lib.Dec.{eqb}
 use lib.IntN.{pos}
 use lib.ListN.{length, getD, drop}
+use lib.Seq.{sets}
 use Rattle.octets.specs.Answer.{Answer, got, refused, if}
 use Rattle.ber.specs.Integer.{integerOf}
 use Rattle.ber.specs.BitString.{unused, masked}
@@ -16,6 +17,9 @@ use Rattle.coding.specs.Value.{Leaf, boolean, integer, bits, string, null, enum
 use Rattle.coding.specs.Content.{natural}
 use Rattle.coding.specs.Reading.{readValue}
 use Rattle.reader.specs.Noting.{Noted}
+use Rattle.reader.specs.declared.place.Placed.{Placed}
+use Rattle.reader.specs.declared.search.Found.{Found}
+use Rattle.reader.specs.declared.search.Found.the-variants.{Nothing, At}
 
 unfoldable pub IsDone : {A : Type 0} → Answer A → Type 0
 IsDone (got a w) = Unit {0}
@@ -24,6 +28,28 @@ IsDone (refused c l) = ⊥
 unfoldable pub written : Answer Value → List ℕ
 written (got v w) = octets v
 written (refused c l) = []
+
+-- what follows
+unfoldable pub rest : {A : Type 0} → Answer A → List ℕ
+rest (got a w) = w
+rest (refused c l) = []
+
+-- it is done, and there is room for what is written of it
+pub record Fits (X : Answer Value) (to : ℕ) (buf : List ℕ) : Type 0 where
+  pub done : IsDone X
+  pub room : to + length (written X) ≤ length buf
+  pub small : length buf < 4294967296
+
+-- it was written there, and nothing else was; the message was read to where the answer's rest begins
+pub record IsPlaced (X : Answer Value) (m : List ℕ) (to : ℕ) (first last : List ℕ) (r : Placed) : Type 0 where
+  pub next : r .next ≡ to + length (written X)
+  pub buffer : last ≡ sets first to (written X)
+  pub within : r .end ≤ length m
+  pub behind : rest X ≡ drop (r .end) m
+
+abbrev pub found : Found → Bool
+found Nothing = false
+found (At u d) = true
 
 -- contents c of the simple kind k, by the number of the kind
 unfoldable pub leafOf : ℕ → List ℕ → Leaf

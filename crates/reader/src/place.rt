@@ -1,10 +1,9 @@
 // Places the value of a message that was measured: no refusal is left.
 // m is the message up to the end of the octets in which an item stands; `at` is a place in it; `to` is the place in the buffer.
 ghost use mathlib.Core.Path.{_≡_};
-ghost use mathlib.Core.Bool.{not};
-ghost use mathlib.Core.List.{[], _∷_, _++_};
-ghost use Prim.Native.Nat.{_≤_, _<_, _+_, _-_, _*_, _/_, _%_, _^_, suc};
-ghost use lib.Dec.{eqb};
+ghost use mathlib.Core.Bool.{true};
+ghost use mathlib.Core.List.{[], _∷_};
+ghost use Prim.Native.Nat.{_≤_, _<_, _+_, _-_, _*_, _/_, _%_};
 ghost use lib.ListN.{length, getD, drop};
 ghost use lib.Seq.{sets};
 ghost use Rattle.octets.specs.Numbers.{octetsOf};
@@ -13,28 +12,28 @@ ghost use Rattle.ber.specs.BitString.{masked};
 ghost use Rattle.table.specs.Rules.{parts as Rules·parts};
 ghost use Rattle.table.specs.Reading.{look, recordAt, membersAt};
 ghost use Rattle.table.specs.Fields.{formOf};
-ghost use Rattle.table.specs.declared.kind.Form.the-variants.{Simple, Members, Of};
-ghost use Rattle.coding.specs.Value.{leafOctets, flag, bitCount};
-ghost use Rattle.coding.specs.Tags.{own as Tags·own};
-ghost use Rattle.coding.specs.Reading.{readValue, readKind, readBody, readMany, choose};
+ghost use Rattle.table.specs.declared.kind.Form.the-variants.{Simple, Of};
+ghost use Rattle.coding.specs.Value.{leafOctets, flag};
+ghost use Rattle.coding.specs.Tags.{own as Tags·own, explicit};
+ghost use Rattle.coding.specs.Reading.{readValue, readKind, readBody, choose};
 ghost use Rattle.reader.specs.Answers.{mode};
-ghost use Rattle.reader.specs.Codes.{Ready, Shaped, constructedBy};
-ghost use Rattle.reader.specs.Writing.{IsDone, written, writtenAll, counts, partsOf, presenceOf, Right, leafOf, Lawful};
+ghost use Rattle.reader.specs.Codes.{Ready, Firsts, Shaped, searchIn, plainBy, constructedBy};
+ghost use Rattle.reader.specs.Writing.{found, partsOf, presenceOf, Right, leafOf, Lawful, Fits, IsPlaced};
 use crate::answer::Measured;
 use crate::ending::End;
 use crate::ending::ending;
 use crate::first::explicit_count;
+use crate::first::first;
 use crate::header::header;
 use crate::identifier::peek;
 use crate::integer::bits;
 use crate::integer::integer_of;
 use crate::length::Length;
-use crate::measure::code_of;
 use crate::measure::scan;
-use crate::measure::step;
 use crate::search::Found;
 use crate::search::search;
 use crate::wrap::Opened;
+use crate::wrap::close;
 use crate::wrap::open;
 use octets::octet;
 use table::kind::Form;
@@ -43,13 +42,14 @@ use table::record::kind;
 use table::record::offset;
 use table::record::own;
 use table::record::parts;
+use table::record::tag_count;
 
 const POWERS: [u8; 8] = [1, 2, 4, 8, 16, 32, 64, 128];
 
-// Where to go on in the buffer, and how many elements there were.
+// Where to go on in the buffer, and where the item ends in the message.
 pub struct Placed {
     pub next: usize,
-    pub count: usize,
+    pub end: usize,
 }
 
 // The mark of a node, and its kind.
@@ -177,6 +177,64 @@ fn put_presence(c: usize, began: &[u16], buf: &mut [u8], to: usize)
     }
 }
 
+// Whether an item with the code begins a value of type t.
+fn starts(table: &[u8], offsets: &[u16], firsts: &[u32], t: usize, code: usize) -> bool
+    requires { ⌜ Firsts (look (now table) (now offsets)) (now firsts) ⌝ }
+    ensures { λ r. ⌜ r ≡ found (searchIn (look (now (table .entry)) (now (offsets .entry))) 129 t code) ⌝ }
+{
+    let f = first(firsts, t);
+    if f == code {
+        return true;
+    }
+    if f != 1048576 {
+        return false;
+    }
+    match search(table, offsets, firsts, t, code, 129) {
+        Found::Nothing => false,
+        Found::At {
+            record: _,
+            depth: _,
+        } => true,
+    }
+}
+
+// Whether the record at o is of a simple kind and has no explicit tag.
+fn is_plain(table: &[u8], o: u16) -> bool
+    ensures { λ r. ⌜ (r ≡ true → (length (explicit (recordAt (now (table .entry)) o)) ≡ 0) × (formOf (getD (now (table .entry)) (o + 2) 0) ≡ Simple)) ⌝ }
+{
+    match form_of(kind(table, o)) {
+        Form::Simple => tag_count(table, o) < 2,
+        Form::Members => false,
+        Form::Of => false,
+        Form::Choice => false,
+    }
+}
+
+// An item of the simple kind of the record at o, with the code of its identifier.
+fn place_simple(
+    table: &[u8],
+    o: u16,
+    code: usize,
+    m: &[u8],
+    at: usize,
+    buf: &mut [u8],
+    to: usize,
+) -> Placed
+    requires { ⌜ (formOf (getD (now table) (o + 2) 0) ≡ Simple) × (at ≤ length (now m)) × (length (now m) ≤ 8192) × Fits (plainBy code (recordAt (now table) o .body) (drop at (now m))) to (now buf) ⌝ }
+    ensures { λ r. ⌜ IsPlaced (plainBy code (recordAt (now (table .entry)) o .body) (drop at (now (m .entry)))) (now (m .entry)) to (now (buf .entry)) (now (buf .exit)) r ⌝ }
+{
+    match header(code, m, at) {
+        Length::Refused { cause: _, at: _ } => Placed { next: to, end: at },
+        Length::Indefinite { start: _ } => Placed { next: to, end: at },
+        Length::Definite { size, start } => {
+            let end = start + size;
+            let part = &m[start..end];
+            let next = place_leaf(kind(table, o), part, buf, to);
+            Placed { next, end }
+        }
+    }
+}
+
 // A value of type t.
 pub(crate) fn place_value(
     table: &[u8],
@@ -188,9 +246,9 @@ pub(crate) fn place_value(
     level: usize,
     buf: &mut [u8],
     to: usize,
-) -> usize
-    requires { ⌜ Ready (now table) (now offsets) (now firsts) × (at ≤ length (now m)) × (length (now m) ≤ 8192) × (0 < level) × (level < 25) × (length (now buf) < 4294967296) × IsDone (readValue (look (now table) (now offsets)) level t (drop at (now m))) × (to + length (written (readValue (look (now table) (now offsets)) level t (drop at (now m)))) ≤ length (now buf)) ⌝ }
-    ensures { λ r. ⌜ (r ≡ to + length (written (readValue (look (now (table .entry)) (now (offsets .entry))) level t (drop at (now (m .entry)))))) × (now (buf .exit) ≡ sets (now (buf .entry)) to (written (readValue (look (now (table .entry)) (now (offsets .entry))) level t (drop at (now (m .entry)))))) ⌝ }
+) -> Placed
+    requires { ⌜ Ready (now table) (now offsets) (now firsts) × (at ≤ length (now m)) × (length (now m) ≤ 8192) × (level < 25) × Fits (readValue (look (now table) (now offsets)) level t (drop at (now m))) to (now buf) ⌝ }
+    ensures { λ r. ⌜ IsPlaced (readValue (look (now (table .entry)) (now (offsets .entry))) level t (drop at (now (m .entry)))) (now (m .entry)) to (now (buf .entry)) (now (buf .exit)) r ⌝ }
 {
     let o = offset(offsets, t);
     let count = explicit_count(table, o);
@@ -200,10 +258,15 @@ pub(crate) fn place_value(
     }
     let mut notes = [0u16; 4];
     match open(table, o, count, m, at, &mut notes) {
-        Opened::Refused { cause: _, at: _ } => to,
+        Opened::Refused { cause: _, at: _ } => Placed { next: to, end: at },
         Opened::Inside { from, end } => {
             let part = &m[..end];
-            place_item(table, offsets, firsts, t, part, from, below, buf, to)
+            let placed = place_item(table, offsets, firsts, t, part, from, below, buf, to);
+            let next = placed.next;
+            match close(m, &notes, count, end, placed.end, 0) {
+                Measured::Refused { cause: _, at: _ } => Placed { next, end: at },
+                Measured::Done { end: last, size: _ } => Placed { next, end: last },
+            }
         }
     }
 }
@@ -219,32 +282,23 @@ fn place_item(
     level: usize,
     buf: &mut [u8],
     to: usize,
-) -> usize
-    requires { ⌜ Ready (now table) (now offsets) (now firsts) × (at ≤ length (now m)) × (length (now m) ≤ 8192) × (level < 24) × (length (now buf) < 4294967296) × IsDone (readKind (look (now table) (now offsets)) (readValue (look (now table) (now offsets)) level) (Tags·own (look (now table) (now offsets) t)) (look (now table) (now offsets) t .body) (drop at (now m))) × (to + length (written (readKind (look (now table) (now offsets)) (readValue (look (now table) (now offsets)) level) (Tags·own (look (now table) (now offsets) t)) (look (now table) (now offsets) t .body) (drop at (now m)))) ≤ length (now buf)) ⌝ }
-    ensures { λ r. ⌜ (r ≡ to + length (written (readKind (look (now (table .entry)) (now (offsets .entry))) (readValue (look (now (table .entry)) (now (offsets .entry))) level) (Tags·own (look (now (table .entry)) (now (offsets .entry)) t)) (look (now (table .entry)) (now (offsets .entry)) t .body) (drop at (now (m .entry)))))) × (now (buf .exit) ≡ sets (now (buf .entry)) to (written (readKind (look (now (table .entry)) (now (offsets .entry))) (readValue (look (now (table .entry)) (now (offsets .entry))) level) (Tags·own (look (now (table .entry)) (now (offsets .entry)) t)) (look (now (table .entry)) (now (offsets .entry)) t .body) (drop at (now (m .entry)))))) ⌝ }
+) -> Placed
+    requires { ⌜ Ready (now table) (now offsets) (now firsts) × (at ≤ length (now m)) × (length (now m) ≤ 8192) × (level < 24) × Fits (readKind (look (now table) (now offsets)) (readValue (look (now table) (now offsets)) level) (Tags·own (look (now table) (now offsets) t)) (look (now table) (now offsets) t .body) (drop at (now m))) to (now buf) ⌝ }
+    ensures { λ r. ⌜ IsPlaced (readKind (look (now (table .entry)) (now (offsets .entry))) (readValue (look (now (table .entry)) (now (offsets .entry))) level) (Tags·own (look (now (table .entry)) (now (offsets .entry)) t)) (look (now (table .entry)) (now (offsets .entry)) t .body) (drop at (now (m .entry)))) (now (m .entry)) to (now (buf .entry)) (now (buf .exit)) r ⌝ }
 {
     let o = offset(offsets, t);
-    let k = kind(table, o);
-    match form_of(k) {
+    match form_of(kind(table, o)) {
         Form::Choice => place_choice(table, offsets, firsts, o, m, at, level, buf, to),
         Form::Simple => {
-            let code = code_of(table, offsets, firsts, t, o);
-            match header(code, m, at) {
-                Length::Refused { cause: _, at: _ } => to,
-                Length::Indefinite { start: _ } => to,
-                Length::Definite { size, start } => {
-                    let end = start + size;
-                    let part = &m[start..end];
-                    place_leaf(k, part, buf, to)
-                }
-            }
+            let code = peek(m, at);
+            place_simple(table, o, code, m, at, buf, to)
         }
         Form::Members => {
-            let code = code_of(table, offsets, firsts, t, o);
+            let code = peek(m, at);
             place_constructed(table, offsets, firsts, o, code, m, at, level, buf, to)
         }
         Form::Of => {
-            let code = code_of(table, offsets, firsts, t, o);
+            let code = peek(m, at);
             place_constructed(table, offsets, firsts, o, code, m, at, level, buf, to)
         }
     }
@@ -261,9 +315,9 @@ fn place_choice(
     level: usize,
     buf: &mut [u8],
     to: usize,
-) -> usize
-    requires { ⌜ Ready (now table) (now offsets) (now firsts) × (at ≤ length (now m)) × (length (now m) ≤ 8192) × (level < 24) × (length (now buf) < 4294967296) × IsDone (choose (look (now table) (now offsets)) (readValue (look (now table) (now offsets)) level) (Rules·parts (recordAt (now table) o .body)) 0 (drop at (now m))) × (to + length (written (choose (look (now table) (now offsets)) (readValue (look (now table) (now offsets)) level) (Rules·parts (recordAt (now table) o .body)) 0 (drop at (now m)))) ≤ length (now buf)) ⌝ }
-    ensures { λ r. ⌜ (r ≡ to + length (written (choose (look (now (table .entry)) (now (offsets .entry))) (readValue (look (now (table .entry)) (now (offsets .entry))) level) (Rules·parts (recordAt (now (table .entry)) o .body)) 0 (drop at (now (m .entry)))))) × (now (buf .exit) ≡ sets (now (buf .entry)) to (written (choose (look (now (table .entry)) (now (offsets .entry))) (readValue (look (now (table .entry)) (now (offsets .entry))) level) (Rules·parts (recordAt (now (table .entry)) o .body)) 0 (drop at (now (m .entry)))))) ⌝ }
+) -> Placed
+    requires { ⌜ Ready (now table) (now offsets) (now firsts) × (at ≤ length (now m)) × (length (now m) ≤ 8192) × (level < 24) × Fits (choose (look (now table) (now offsets)) (readValue (look (now table) (now offsets)) level) (Rules·parts (recordAt (now table) o .body)) 0 (drop at (now m))) to (now buf) ⌝ }
+    ensures { λ r. ⌜ IsPlaced (choose (look (now (table .entry)) (now (offsets .entry))) (readValue (look (now (table .entry)) (now (offsets .entry))) level) (Rules·parts (recordAt (now (table .entry)) o .body)) 0 (drop at (now (m .entry)))) (now (m .entry)) to (now (buf .entry)) (now (buf .exit)) r ⌝ }
 {
     let code = peek(m, at);
     let s = parts(table, o);
@@ -273,24 +327,21 @@ fn place_choice(
     let mut j: usize = 0;
     while j < c {
         let t = octet(table, p);
-        match search(table, offsets, firsts, t, code, 129) {
-            Found::Nothing => {
-                p += step;
-                j += 1;
+        if starts(table, offsets, firsts, t, code) {
+            begin_node(buf, to, 50);
+            let q = to + 3;
+            buf[q] = j as u8;
+            let next = to + 4;
+            let r = offset(offsets, t);
+            if is_plain(table, r) {
+                return place_simple(table, r, code, m, at, buf, next);
             }
-            Found::At {
-                record: _,
-                depth: _,
-            } => {
-                begin_node(buf, to, 50);
-                let q = to + 3;
-                buf[q] = j as u8;
-                let next = to + 4;
-                return place_value(table, offsets, firsts, t, m, at, level, buf, next);
-            }
+            return place_value(table, offsets, firsts, t, m, at, level, buf, next);
         }
+        p += step;
+        j += 1;
     }
-    to
+    Placed { next: to, end: at }
 }
 
 // A constructed item of the record at o, with the code of its identifier.
@@ -305,12 +356,12 @@ fn place_constructed(
     level: usize,
     buf: &mut [u8],
     to: usize,
-) -> usize
-    requires { ⌜ Ready (now table) (now offsets) (now firsts) × Shaped (now table) o × (at ≤ length (now m)) × (length (now m) ≤ 8192) × (level < 24) × (length (now buf) < 4294967296) × IsDone (constructedBy code (readBody (look (now table) (now offsets)) (readValue (look (now table) (now offsets)) level) (recordAt (now table) o .body)) (drop at (now m))) × (to + length (written (constructedBy code (readBody (look (now table) (now offsets)) (readValue (look (now table) (now offsets)) level) (recordAt (now table) o .body)) (drop at (now m)))) ≤ length (now buf)) ⌝ }
-    ensures { λ r. ⌜ (r ≡ to + length (written (constructedBy code (readBody (look (now (table .entry)) (now (offsets .entry))) (readValue (look (now (table .entry)) (now (offsets .entry))) level) (recordAt (now (table .entry)) o .body)) (drop at (now (m .entry)))))) × (now (buf .exit) ≡ sets (now (buf .entry)) to (written (constructedBy code (readBody (look (now (table .entry)) (now (offsets .entry))) (readValue (look (now (table .entry)) (now (offsets .entry))) level) (recordAt (now (table .entry)) o .body)) (drop at (now (m .entry)))))) ⌝ }
+) -> Placed
+    requires { ⌜ Ready (now table) (now offsets) (now firsts) × Shaped (now table) o × (at ≤ length (now m)) × (length (now m) ≤ 8192) × (level < 24) × Fits (constructedBy code (readBody (look (now table) (now offsets)) (readValue (look (now table) (now offsets)) level) (recordAt (now table) o .body)) (drop at (now m))) to (now buf) ⌝ }
+    ensures { λ r. ⌜ IsPlaced (constructedBy code (readBody (look (now (table .entry)) (now (offsets .entry))) (readValue (look (now (table .entry)) (now (offsets .entry))) level) (recordAt (now (table .entry)) o .body)) (drop at (now (m .entry)))) (now (m .entry)) to (now (buf .entry)) (now (buf .exit)) r ⌝ }
 {
     match header(code, m, at) {
-        Length::Refused { cause: _, at: _ } => to,
+        Length::Refused { cause: _, at: _ } => Placed { next: to, end: at },
         Length::Indefinite { start } => place_body(
             table,
             offsets,
@@ -326,7 +377,7 @@ fn place_constructed(
         Length::Definite { size, start } => {
             let end = start + size;
             let part = &m[..end];
-            place_body(
+            let placed = place_body(
                 table,
                 offsets,
                 firsts,
@@ -337,12 +388,14 @@ fn place_constructed(
                 level,
                 buf,
                 to,
-            )
+            );
+            let next = placed.next;
+            Placed { next, end }
         }
     }
 }
 
-// The contents of a constructed item of the record at o.
+// The contents of a constructed item of the record at o; 00 00 closes them if `marked`.
 fn place_body(
     table: &[u8],
     offsets: &[u16],
@@ -354,25 +407,107 @@ fn place_body(
     level: usize,
     buf: &mut [u8],
     to: usize,
-) -> usize
-    requires { ⌜ Ready (now table) (now offsets) (now firsts) × Shaped (now table) o × (at ≤ length (now m)) × (length (now m) ≤ 8192) × (level < 24) × (length (now buf) < 4294967296) × IsDone (readBody (look (now table) (now offsets)) (readValue (look (now table) (now offsets)) level) (recordAt (now table) o .body) (mode marked) (drop at (now m))) × (to + length (written (readBody (look (now table) (now offsets)) (readValue (look (now table) (now offsets)) level) (recordAt (now table) o .body) (mode marked) (drop at (now m)))) ≤ length (now buf)) ⌝ }
-    ensures { λ r. ⌜ (r ≡ to + length (written (readBody (look (now (table .entry)) (now (offsets .entry))) (readValue (look (now (table .entry)) (now (offsets .entry))) level) (recordAt (now (table .entry)) o .body) (mode marked) (drop at (now (m .entry)))))) × (now (buf .exit) ≡ sets (now (buf .entry)) to (written (readBody (look (now (table .entry)) (now (offsets .entry))) (readValue (look (now (table .entry)) (now (offsets .entry))) level) (recordAt (now (table .entry)) o .body) (mode marked) (drop at (now (m .entry)))))) ⌝ }
+) -> Placed
+    requires { ⌜ Ready (now table) (now offsets) (now firsts) × Shaped (now table) o × (at ≤ length (now m)) × (length (now m) ≤ 8192) × (level < 24) × Fits (readBody (look (now table) (now offsets)) (readValue (look (now table) (now offsets)) level) (recordAt (now table) o .body) (mode marked) (drop at (now m))) to (now buf) ⌝ }
+    ensures { λ r. ⌜ IsPlaced (readBody (look (now (table .entry)) (now (offsets .entry))) (readValue (look (now (table .entry)) (now (offsets .entry))) level) (recordAt (now (table .entry)) o .body) (mode marked) (drop at (now (m .entry)))) (now (m .entry)) to (now (buf .entry)) (now (buf .exit)) r ⌝ }
 {
     let k = kind(table, o);
+    if k == 16 {
+        return place_sequence(table, offsets, firsts, o, m, at, marked, level, buf, to);
+    }
+    if k == 17 {
+        return place_set(table, offsets, firsts, o, m, at, marked, level, buf, to);
+    }
+    place_list(table, offsets, firsts, o, m, at, marked, level, buf, to)
+}
+
+// The contents of the SEQUENCE at o.
+fn place_sequence(
+    table: &[u8],
+    offsets: &[u16],
+    firsts: &[u32],
+    o: u16,
+    m: &[u8],
+    at: usize,
+    marked: bool,
+    level: usize,
+    buf: &mut [u8],
+    to: usize,
+) -> Placed
+    requires { ⌜ Ready (now table) (now offsets) (now firsts) × Shaped (now table) o × (getD (now table) (o + 2) 0 ≡ 16) × (at ≤ length (now m)) × (length (now m) ≤ 8192) × (level < 24) × Fits (readBody (look (now table) (now offsets)) (readValue (look (now table) (now offsets)) level) (recordAt (now table) o .body) (mode marked) (drop at (now m))) to (now buf) ⌝ }
+    ensures { λ r. ⌜ IsPlaced (readBody (look (now (table .entry)) (now (offsets .entry))) (readValue (look (now (table .entry)) (now (offsets .entry))) level) (recordAt (now (table .entry)) o .body) (mode marked) (drop at (now (m .entry)))) (now (m .entry)) to (now (buf .entry)) (now (buf .exit)) r ⌝ }
+{
     let p = own(table, o);
     let c = octet(table, p);
-    match form_of(k) {
-        Form::Members => {
-            let mut began = [0u16; 16];
-            scan(table, offsets, firsts, o, m, at, marked, level, &mut began);
-            begin_node(buf, to, k as u8);
+    begin_node(buf, to, 16);
+    let q = to + 3;
+    buf[q] = c as u8;
+    let mut j: usize = 0;
+    let mut at = at;
+    let mut next = to + 4 + c;
+    let mut code = peek(m, at);
+    while j < c {
+        let f = p + 1 + 2 * j;
+        let t = octet(table, f);
+        let i = to + 4 + j;
+        if starts(table, offsets, firsts, t, code) {
+            buf[i] = 1;
+            let r = offset(offsets, t);
+            if is_plain(table, r) {
+                let placed = place_simple(table, r, code, m, at, buf, next);
+                next = placed.next;
+                at = placed.end;
+                code = peek(m, at);
+                j += 1;
+            } else {
+                let placed = place_value(table, offsets, firsts, t, m, at, level, buf, next);
+                next = placed.next;
+                at = placed.end;
+                code = peek(m, at);
+                j += 1;
+            }
+        } else {
+            buf[i] = 0;
+            j += 1;
+        }
+    }
+    if marked {
+        let end = at + 2;
+        return Placed { next, end };
+    }
+    Placed { next, end: at }
+}
+
+// The contents of the SET at o.
+fn place_set(
+    table: &[u8],
+    offsets: &[u16],
+    firsts: &[u32],
+    o: u16,
+    m: &[u8],
+    at: usize,
+    marked: bool,
+    level: usize,
+    buf: &mut [u8],
+    to: usize,
+) -> Placed
+    requires { ⌜ Ready (now table) (now offsets) (now firsts) × Shaped (now table) o × (getD (now table) (o + 2) 0 ≡ 17) × (at ≤ length (now m)) × (length (now m) ≤ 8192) × (level < 24) × Fits (readBody (look (now table) (now offsets)) (readValue (look (now table) (now offsets)) level) (recordAt (now table) o .body) (mode marked) (drop at (now m))) to (now buf) ⌝ }
+    ensures { λ r. ⌜ IsPlaced (readBody (look (now (table .entry)) (now (offsets .entry))) (readValue (look (now (table .entry)) (now (offsets .entry))) level) (recordAt (now (table .entry)) o .body) (mode marked) (drop at (now (m .entry)))) (now (m .entry)) to (now (buf .entry)) (now (buf .exit)) r ⌝ }
+{
+    let mut began = [0u16; 16];
+    match scan(table, offsets, firsts, o, m, at, marked, level, &mut began) {
+        Measured::Refused { cause: _, at: _ } => Placed { next: to, end: at },
+        Measured::Done { end, size: _ } => {
+            let p = own(table, o);
+            let c = octet(table, p);
+            begin_node(buf, to, 17);
             let q = to + 3;
             buf[q] = c as u8;
-            let next = to + 4;
-            put_presence(c, &began, buf, next);
-            let from = next + c;
+            let flags = to + 4;
+            put_presence(c, &began, buf, flags);
+            let from = flags + c;
             let first = p + 1;
-            place_members(
+            let next = place_members(
                 table,
                 offsets,
                 firsts,
@@ -383,18 +518,9 @@ fn place_body(
                 &began,
                 buf,
                 from,
-            )
+            );
+            Placed { next, end }
         }
-        Form::Of => {
-            let from = to + 5;
-            let placed = place_elements(table, offsets, firsts, c, m, at, marked, level, buf, from);
-            begin_node(buf, to, k as u8);
-            let q = to + 3;
-            put_number(buf, q, placed.count);
-            placed.next
-        }
-        Form::Simple => to,
-        Form::Choice => to,
     }
 }
 
@@ -424,19 +550,20 @@ fn place_members(
             let q = p + 2 * j;
             let t = octet(table, q);
             let from = n - 1;
-            next = place_value(table, offsets, firsts, t, m, from, level, buf, next);
+            let placed = place_value(table, offsets, firsts, t, m, from, level, buf, next);
+            next = placed.next;
             j += 1;
         }
     }
     next
 }
 
-// The elements of type t.
-fn place_elements(
+// The contents of the list at o.
+fn place_list(
     table: &[u8],
     offsets: &[u16],
     firsts: &[u32],
-    t: usize,
+    o: u16,
     m: &[u8],
     at: usize,
     marked: bool,
@@ -444,30 +571,42 @@ fn place_elements(
     buf: &mut [u8],
     to: usize,
 ) -> Placed
-    requires { ⌜ Ready (now table) (now offsets) (now firsts) × (at ≤ length (now m)) × (length (now m) ≤ 8192) × (level < 24) × (length (now buf) < 4294967296) × IsDone (readMany (look (now table) (now offsets)) (readValue (look (now table) (now offsets)) level) (suc (length (drop at (now m)))) t (mode marked) [] (drop at (now m))) × (to + length (writtenAll (readMany (look (now table) (now offsets)) (readValue (look (now table) (now offsets)) level) (suc (length (drop at (now m)))) t (mode marked) [] (drop at (now m)))) ≤ length (now buf)) ⌝ }
-    ensures { λ r. ⌜ (r .next ≡ to + length (writtenAll (readMany (look (now (table .entry)) (now (offsets .entry))) (readValue (look (now (table .entry)) (now (offsets .entry))) level) (suc (length (drop at (now (m .entry))))) t (mode marked) [] (drop at (now (m .entry)))))) × (r .count ≡ counts (readMany (look (now (table .entry)) (now (offsets .entry))) (readValue (look (now (table .entry)) (now (offsets .entry))) level) (suc (length (drop at (now (m .entry))))) t (mode marked) [] (drop at (now (m .entry))))) × (r .count < 8193) × (now (buf .exit) ≡ sets (now (buf .entry)) to (writtenAll (readMany (look (now (table .entry)) (now (offsets .entry))) (readValue (look (now (table .entry)) (now (offsets .entry))) level) (suc (length (drop at (now (m .entry))))) t (mode marked) [] (drop at (now (m .entry)))))) ⌝ }
+    requires { ⌜ Ready (now table) (now offsets) (now firsts) × (formOf (getD (now table) (o + 2) 0) ≡ Of) × (at ≤ length (now m)) × (length (now m) ≤ 8192) × (level < 24) × Fits (readBody (look (now table) (now offsets)) (readValue (look (now table) (now offsets)) level) (recordAt (now table) o .body) (mode marked) (drop at (now m))) to (now buf) ⌝ }
+    ensures { λ r. ⌜ IsPlaced (readBody (look (now (table .entry)) (now (offsets .entry))) (readValue (look (now (table .entry)) (now (offsets .entry))) level) (recordAt (now (table .entry)) o .body) (mode marked) (drop at (now (m .entry)))) (now (m .entry)) to (now (buf .entry)) (now (buf .exit)) r ⌝ }
 {
+    let k = kind(table, o);
+    let p = own(table, o);
+    let t = octet(table, p);
+    let r = offset(offsets, t);
+    let plain = is_plain(table, r);
     let mut at = at;
-    let mut next = to;
+    let mut next = to + 5;
     let mut count: usize = 0;
     loop {
         match ending(m, at, marked) {
-            End::Over { end: _ } => {
-                return Placed { next, count };
+            End::Over { end } => {
+                begin_node(buf, to, k as u8);
+                let q = to + 3;
+                put_number(buf, q, count);
+                return Placed { next, end };
             }
             End::Broken { cause: _, at: _ } => {
-                return Placed { next, count };
+                return Placed { next, end: at };
             }
-            End::More => match step(table, offsets, firsts, t, m, at, level) {
-                Measured::Refused { cause: _, at: _ } => {
-                    return Placed { next, count };
-                }
-                Measured::Done { end, size: _ } => {
-                    next = place_value(table, offsets, firsts, t, m, at, level, buf, next);
-                    at = end;
+            End::More => {
+                if plain {
+                    let code = peek(m, at);
+                    let placed = place_simple(table, r, code, m, at, buf, next);
+                    next = placed.next;
+                    at = placed.end;
+                    count += 1;
+                } else {
+                    let placed = place_value(table, offsets, firsts, t, m, at, level, buf, next);
+                    next = placed.next;
+                    at = placed.end;
                     count += 1;
                 }
-            },
+            }
         }
     }
 }

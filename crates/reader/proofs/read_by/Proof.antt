@@ -29,7 +29,7 @@ read-by-spec =
     (λ c. let a = c .before .before .before .before .before .before .before .before .before .before .before .before .before .args in let T = look (a .table .now) (a .offsets .now) in let n = length (a .offsets .now) in let m = a .message .now in let b = a .buf .now in out-room T n (a .t) m b (c .before .before .before .before .before .before .before .if1 .left) (c .before .before .before .before .before .before .if2 .left) (c .before .before .before .before .before .measure-message .result) (c .before .before .before .before .before .measure-message .ensures) _ _ (c .before .before .before .size .given .1) (c .before .if3 .left) (c .if4 .taken))  -- returns-4
     (λ c. (c .if4 .left))  -- slice-relend-prefix-part
     (λ c. sym (length-take-le _ _ (c .before .if4 .left)))  -- slice-aggregate-part
-    (λ c κs. let a = c .before .before .before .before .before .before .before .before .before .before .before .before .before .before .args in let T = look (a .table .now) (a .offsets .now) in let n = length (a .offsets .now) in let m = a .message .now in let b = a .buf .now in (c .before .before .before .before .before .before .before .before .before .before .before .before .before .before .pre, omega arith, c .before .before .before .before .before .before .before .if2 .left, omega arith, omega arith, omega (arith, length-take-le _ b (c .before .if4 .left)), is-done T n (a .t) m b (c .before .before .before .before .before .before .before .before .if1 .left) (c .before .before .before .before .before .before .before .if2 .left) (c .before .before .before .before .before .before .measure-message .result) (c .before .before .before .before .before .before .measure-message .ensures) _ _ (c .before .before .before .before .size .given .1) (c .before .before .if3 .left) (c .before .if4 .left), fits T n (a .t) m b (c .before .before .before .before .before .before .before .before .if1 .left) (c .before .before .before .before .before .before .before .if2 .left) (c .before .before .before .before .before .before .measure-message .result) (c .before .before .before .before .before .before .measure-message .ensures) _ _ (c .before .before .before .before .size .given .1) (c .before .before .if3 .left) (c .before .if4 .left)))  -- place-value-requires
+    (λ c κs. let a = c .before .before .before .before .before .before .before .before .before .before .before .before .before .before .args in let T = look (a .table .now) (a .offsets .now) in let n = length (a .offsets .now) in let m = a .message .now in let b = a .buf .now in (c .before .before .before .before .before .before .before .before .before .before .before .before .before .before .pre, omega arith, c .before .before .before .before .before .before .before .if2 .left, omega arith, record { done = is-done T n (a .t) m b (c .before .before .before .before .before .before .before .before .if1 .left) (c .before .before .before .before .before .before .before .if2 .left) (c .before .before .before .before .before .before .measure-message .result) (c .before .before .before .before .before .before .measure-message .ensures) _ _ (c .before .before .before .before .size .given .1) (c .before .before .if3 .left) (c .before .if4 .left); room = fits T n (a .t) m b (c .before .before .before .before .before .before .before .before .if1 .left) (c .before .before .before .before .before .before .before .if2 .left) (c .before .before .before .before .before .before .measure-message .result) (c .before .before .before .before .before .before .measure-message .ensures) _ _ (c .before .before .before .before .size .given .1) (c .before .before .if3 .left) (c .before .if4 .left); small = omega (arith, length-take-le _ b (c .before .if4 .left)) }))  -- place-value-requires
     (λ c. let a = c .before .before .before .before .before .before .before .before .before .before .before .before .args in let T = look (a .table .now) (a .offsets .now) in let n = length (a .offsets .now) in let m = a .message .now in let b = a .buf .now in out-refused T n (a .t) m b (c .before .before .before .before .before .before .if1 .left) (c .before .before .before .before .before .if2 .left) (c .before .before .before .before .measure-message .result) (c .before .before .before .before .measure-message .ensures) _ _ _ (c .before .before .cause .given .1) (c .cause-of .ensures))  -- returns-5
     (λ c. rejoined (c .before .before .before .before .before .before .before .size .given .0 .1 .0) (c .before .before .before .before .before .before .before .before .before .before .before .before .before .before .before .before .before .args .buf .now) (c .before .before .place-value .last .1 .1 .1 .1 .1 .1 .1 .0) (c .before .before .place-value .kept .1 .1 .1 .1 .1 .1 .1 .0))  -- same-length
-    (λ c. let a = c .before .before .before .before .before .before .before .before .before .before .before .before .before .before .before .before .before .args in let T = look (a .table .now) (a .offsets .now) in let n = length (a .offsets .now) in let m = a .message .now in let b = a .buf .now in out-done T n (a .t) m b (c .before .before .before .before .before .before .before .before .before .before .before .if1 .left) (c .before .before .before .before .before .before .before .before .before .before .if2 .left) (c .before .before .before .before .before .before .before .before .before .measure-message .result) (c .before .before .before .before .before .before .before .before .before .measure-message .ensures) _ _ (c .before .before .before .before .before .before .before .size .given .1) (c .before .before .before .before .before .if3 .left) (c .before .before .before .before .if4 .left) _ (c .before .before .place-value .ensures .1)))  -- returns-6
+    (λ c. let a = c .before .before .before .before .before .before .before .before .before .before .before .before .before .before .before .before .before .args in let T = look (a .table .now) (a .offsets .now) in let n = length (a .offsets .now) in let m = a .message .now in let b = a .buf .now in out-done T n (a .t) m b (c .before .before .before .before .before .before .before .before .before .before .before .if1 .left) (c .before .before .before .before .before .before .before .before .before .before .if2 .left) (c .before .before .before .before .before .before .before .before .before .measure-message .result) (c .before .before .before .before .before .before .before .before .before .measure-message .ensures) _ _ (c .before .before .before .before .before .before .before .size .given .1) (c .before .before .before .before .before .if3 .left) (c .before .before .before .before .if4 .left) _ (c .before .before .place-value .ensures .buffer)))  -- returns-6

@@ -1,0 +1,150 @@
+-- The contents of a SET, the kinds of contents, and the tests before a value is placed.
+-- Assumes nothing.
+use mathlib.Core.Bool.{Bool, true, false}
+use mathlib.Core.List.{List, [], _∷_, _++_}
+use mathlib.Core.Option.{Option}
+use mathlib.Core.Path.{_≡_, refl, sym, ap, _∙_}
+use Prim.Native.Nat.{ℕ, _+_, _-_, _≤_, _<_}
+use native.Mathlib.Omega.{arith}
+use lib.ListN.{length, getD, drop, length-append}
+use lib.Seq.{sets}
+use Rattle.octets.specs.Answer.{Answer, got, refused, then, if}
+use Rattle.octets.specs.Numbers.{Octets}
+use Rattle.ber.specs.Identifier.{readIdentifier}
+use Rattle.ber.specs.Item.{Mode}
+use Rattle.table.specs.Syntax.{Table, isChoice}
+use Rattle.table.specs.Rules.{members}
+use Rattle.table.specs.Reading.{look, recordAt, membersAt, bodyAt, ownAt}
+use Rattle.table.specs.Fields.{formOf, choiceOf}
+use Rattle.table.specs.declared.kind.Form.the-variants.{Simple as FSimple, Members as FMembers, Of as FOf}
+use Rattle.table.proofs.Own.{at as at-kind}
+use Rattle.coding.specs.Value.{Value, set, slots}
+use Rattle.coding.specs.Tags.{explicit}
+use Rattle.coding.specs.Reading.{begun, readBody, readValue}
+use Rattle.reader.specs.Answers.{told, sizesIn}
+use Rattle.reader.specs.Codes.{Ready, Firsts, Shaped, peeked, searchIn, untagged}
+use Rattle.reader.specs.Noting.{Scanned, readMembers}
+use Rattle.reader.specs.Writing.{IsDone, written, rest, found, partsOf, presenceOf, Right, Fits, IsPlaced}
+use Rattle.reader.specs.declared.answer.Measured.{Measured}
+use Rattle.reader.specs.declared.answer.Measured.the-variants.{Done, Refused}
+use Rattle.reader.specs.declared.search.Found.{Found}
+use Rattle.reader.specs.declared.search.Found.the-variants.{Nothing, At}
+use Rattle.reader.proofs.Coded.{count-other}
+use Rattle.reader.proofs.Placing.{presence-length}
+use Rattle.reader.proofs.Searching.{search-here, search-other}
+use Rattle.reader.proofs.Begun.{not-begun, is-begun}
+use Rattle.reader.proofs.Turns.{scanned, written-length, count-few, members-written}
+use Rattle.reader.proofs.Rests.{told-not, told-done, plain-body}
+
+-- the contents of the SET at o
+form : formOf 17 ≡ FMembers
+unfolding formOf
+form = refl
+
+pub formed : {k : ℕ} → k ≡ 17 → formOf k ≡ FMembers
+formed e = rw e form
+
+module _ (tb offs : List ℕ) (n o p c at to : ℕ) (md : Mode) (m buf ns : List ℕ) (F : Fits (readBody (look tb offs) (readValue (look tb offs) n) (recordAt tb o .body) md (drop at m)) to buf)
+    (ek : getD tb (o + 2) 0 ≡ 17) (ep : p ≡ ownAt tb o) (ec : c ≡ getD tb p 0) where
+  abbrev The : Answer Value
+  The = readBody (look tb offs) (readValue (look tb offs) n) (recordAt tb o .body) md (drop at m)
+
+  abbrev Those : Answer (List (Option Value))
+  Those = readMembers (look tb offs) (readValue (look tb offs) n) (recordAt tb o .body) md (drop at m)
+
+  the-set : The ≡ then Those λ os s₁. got (set (slots os)) s₁
+  unfolding recordAt bodyAt readBody readMembers if
+  the-set = rw ek refl
+
+  pub set-few : Shaped tb o → c ≤ 16
+  set-few h = count-few tb offs n o p c 17 (formOf 17) md m at ns (sym ek) ep ec refl (F .done) form h
+
+  module _ (r : Measured) (er : r ≡ told m sizesIn Those) (S : Scanned (look tb offs) n (members (recordAt tb o .body)) m Those ns r) where
+    pub record Whole (end : ℕ) : Type 0 where
+      pub right : Right (look tb offs) n m (membersAt tb (p + 1) c) ns
+      pub is : written The ≡ 86 ∷ 65 ∷ 17 ∷ c ∷ (presenceOf c ns ++ partsOf (look tb offs) n m (membersAt tb (p + 1) c) ns)
+      pub room : to + 4 + c + length (partsOf (look tb offs) n m (membersAt tb (p + 1) c) ns) ≤ length buf
+      pub behind : rest The ≡ drop end m
+      pub within : end ≤ length m
+
+    pub whole : (end i : ℕ) → r ≡ Done end i → Whole end
+    unfolding then rest
+    whole end i e =
+        let w = scanned tb offs n o p c 17 (formOf 17) md m at ns (sym ek) ep ec refl (F .done) form r er S in
+        let l = written-length tb offs n o p c 17 (formOf 17) md m at ns (sym ek) ep ec refl w in
+        let (os, x, z) = rw e at S in
+        let u = told-done m sizesIn os (drop end m) r end i (rw x at er) e in
+        let y : The ≡ got (set (slots os)) (drop end m) = the-set ∙ ap (λ (x : Answer (List (Option Value))). then x λ os s₁. got (set (slots os)) s₁) x in
+        record { right = w .right; is = w .is; room = omega (arith, F .room); behind = ap rest y; within = omega arith }
+
+    pub scans : (a q : ℕ) → r ≡ Refused a q → ⊥
+    unfolding then IsDone told
+    scans a q e = go Those refl
+      where
+        go : (x : Answer (List (Option Value))) → Those ≡ x → ⊥
+        go (got os w) f = told-not m sizesIn os w r a q (rw f at er) e
+        go (refused b l) f = rw (the-set, f) at (F .done)
+
+    pub set-placed : (end : ℕ) → Whole end → (b₁ b₂ b₃ : List ℕ) (next : ℕ) → b₁ ≡ sets buf to (86 ∷ 65 ∷ 17 ∷ []) → b₂ ≡ sets (lib.ListN.set b₁ (to + 3) c) (to + 4) (presenceOf c ns)
+        → b₃ ≡ sets b₂ (to + 4 + c) (partsOf (look tb offs) n m (membersAt tb (p + 1) c) ns) → next ≡ to + 4 + c + length (partsOf (look tb offs) n m (membersAt tb (p + 1) c) ns)
+        → IsPlaced The m to buf b₃ (record { next = next; end = end })
+    set-placed end w b₁ b₂ b₃ next e₁ e₂ e₃ en =
+        let l = length-append (presenceOf c ns) (partsOf (look tb offs) n m (membersAt tb (p + 1) c) ns) in
+        let q = presence-length c ns in
+        record {
+          next = rw (w .is) (omega arith);
+          buffer = rw (w .is) (members-written buf b₁ b₂ to 17 e₁ b₃ c ns (partsOf (look tb offs) n m (membersAt tb (p + 1) c) ns) e₂ e₃);
+          within = w .within;
+          behind = w .behind;
+        }
+
+-- contents that are no SEQUENCE's and no SET's are a list's
+module _ (T : Table) (r : ℕ → List ℕ → Answer Value) (md : Mode) (s b : List ℕ) (p : ℕ) where
+  abbrev Lists : ℕ → Type 0
+  Lists k = IsDone (readBody T r (bodyAt b k p) md s) → (k ≡ 16 → ⊥) → (k ≡ 17 → ⊥) → formOf k ≡ FOf
+
+  lists : (k : ℕ) → Lists k
+  unfolding formOf bodyAt readBody IsDone
+  lists k =
+      at-kind k 1 Lists (λ d a c. absurd d) λ e₁.
+      at-kind k 2 Lists (λ d a c. absurd d) λ e₂.
+      at-kind k 3 Lists (λ d a c. absurd d) λ e₃.
+      at-kind k 4 Lists (λ d a c. absurd d) λ e₄.
+      at-kind k 5 Lists (λ d a c. absurd d) λ e₅.
+      at-kind k 10 Lists (λ d a c. absurd d) λ e₁₀.
+      at-kind k 16 Lists (λ d a c. absurd (a refl)) λ e₁₆.
+      at-kind k 17 Lists (λ d a c. absurd (c refl)) λ e₁₇.
+      at-kind k 48 Lists (λ d a c. refl) λ e₄₈.
+      at-kind k 49 Lists (λ d a c. refl) λ e₄₉.
+      λ d a c. absurd (rw (e₁, e₂, e₃, e₄, e₅, e₁₀, e₁₆, e₁₇, e₄₈, e₄₉) at d)
+
+pub is-list : (tb offs : List ℕ) (n o k at to : ℕ) (md : Mode) (m buf : List ℕ) → Fits (readBody (look tb offs) (readValue (look tb offs) n) (recordAt tb o .body) md (drop at m)) to buf
+    → k ≡ getD tb (o + 2) 0 → (k ≡ 16 → ⊥) → (k ≡ 17 → ⊥) → formOf (getD tb (o + 2) 0) ≡ FOf
+unfolding recordAt
+is-list tb offs n o k at to md m buf F ek a c =
+    lists (look tb offs) (readValue (look tb offs) n) md (drop at m) tb (ownAt tb o) (getD tb (o + 2) 0) (F .done) (λ e. a (ek ∙ e)) (λ e. c (ek ∙ e))
+
+-- an item that has the code of a type's first identifier begins a value of it
+module _ (tb offs fs : List ℕ) (t code f : ℕ) (h : Firsts (look tb offs) fs) (ef : f ≡ getD fs t untagged) where
+  pub starts-here : f ≡ code → true ≡ found (searchIn (look tb offs) 129 t code)
+  starts-here e = ap found (search-here tb offs fs 129 t code h (λ z. omega arith) f ef e)
+
+  pub starts-other : (f ≡ code → ⊥) → (f ≡ untagged → ⊥) → false ≡ found (searchIn (look tb offs) 129 t code)
+  starts-other a b = ap found (search-other tb offs fs 129 t code h (λ z. omega arith) f ef a b)
+
+module _ {tb offs fs : List ℕ} (R : Ready tb offs fs) (ob : Octets tb) (m : List ℕ) (om : Octets m) (at t code : ℕ) (ec : code ≡ peeked (readIdentifier (drop at m)))
+    (b : Bool) (eb : b ≡ found (searchIn (look tb offs) 129 t code)) where
+  pub starts-begun : begun (look tb offs) t (drop at m) ≡ b
+  starts-begun = go (searchIn (look tb offs) 129 t code) refl
+    where
+      go : (x : Found) → searchIn (look tb offs) 129 t code ≡ x → begun (look tb offs) t (drop at m) ≡ b
+      go Nothing e = not-begun R ob m om at t code ec Nothing (sym e) refl ∙ sym (eb ∙ ap found e)
+      go (At u d) e = is-begun R ob m om at t code ec (At u d) (sym e) u d refl ∙ sym (eb ∙ ap found e)
+
+-- a simple kind with at most one tag has no explicit tag
+pub no-tags : (tb : List ℕ) (o k c : ℕ) → k ≡ getD tb (o + 2) 0 → c ≡ getD tb (o + 3) 0 → formOf k ≡ FSimple → c < 2 → length (explicit (recordAt tb o)) ≡ 0
+unfolding isChoice
+no-tags tb o k c ek ec es h =
+    let (q, e) = plain-body [] 0 k (rw es tt) in
+    let x = count-other tb o k c ek ec {r = choiceOf k} refl (rw e refl) in
+    sym x ∙ omega arith
