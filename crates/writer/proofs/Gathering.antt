@@ -85,7 +85,7 @@ module _ (v : List ℕ) (r : ℕ → List ℕ → Answer Value) (b : (t at : ℕ
   elements-behind (suc n) t vs at h =
       then-holds (b t at h) λ x w y. rw (y .is) (map-holds (elements-behind n t (vs ++ (x ∷ [])) (y .to) (y .within)) λ _ _ z. farther (y .onward) z)
 
-  below-behind : (c : Body) (x : Node) (at : ℕ) → at ≤ length v → Holds (λ x w. Behind v at w) (judgeBelow r c x (drop at v))
+  pub below-behind : (c : Body) (x : Node) (at : ℕ) → at ≤ length v → Holds (λ x w. Behind v at w) (judgeBelow r c x (drop at v))
   unfolding judgeBelow
   below-behind c (a-leaf x) at h = yields (record { to = at; is = refl; onward = omega arith; within = h })
   below-behind c (a-sequence bs) at h = then-holds (members-behind (members c) bs [] at h) λ os w y. yields y

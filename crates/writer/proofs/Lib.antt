@@ -11,5 +11,6 @@ pub mod Reading
 pub mod Judging
 pub mod Below
 pub mod Gathering
+pub mod Notes
 pub mod Putting
 pub mod Written

@@ -29,10 +29,8 @@ use Rattle.coding.specs.Judging.{Node, a-leaf, a-sequence, a-set, a-sequence-of
 use Rattle.coding.specs.Value.{boolean, integer, bits, string, null, enumerated}
 use Rattle.writer.specs.Nodes.{ownEnd, endAt, leafOf, nodeOf, nodeAt}
 use Rattle.writer.specs.Frames.{cap, heads, Tagged}
-use Rattle.writer.specs.Told.{told, written, ended, IsDone, membersForm, elementsForm, contentsForm}
+use Rattle.writer.specs.Told.{written, ended, IsDone, membersForm, elementsForm, contentsForm}
 use Rattle.writer.specs.Putting.{Fits, IsPut}
-use Rattle.writer.specs.declared.judge.Judged.{Judged}
-use Rattle.writer.specs.declared.judge.Judged.the-variants.{Done, Refused}
 use Rattle.writer.specs.declared.put.Placed.{Placed}
 use Rattle.writer.proofs.Stores.{sets-append}
 use Rattle.writer.proofs.Frames.{cap-below, frames, wrapped-choice, wrapped-item, heads-wrap}
@@ -234,25 +232,6 @@ module _ (T : Table) (n : ℕ) (b v : List ℕ) where
       let e : left ≡ 0 = omega arith in
       let l = length-drop from v in
       rw e (omega arith, refl)
-
--- what the judge says of the contents
-abbrev sizeOf : Judged → ℕ
-sizeOf (Done e k) = k
-sizeOf (Refused c p) = 0
-
-abbrev IsJudged : Judged → Type 0
-IsJudged (Done e k) = Unit {0}
-IsJudged (Refused c p) = ⊥
-
-pub judged-size : {A : Type 0} (f : A → List ℕ) (v : List ℕ) (x : Answer A) (r : Judged) (e k : ℕ) → IsDone x → r ≡ told f v x → r ≡ Done e k → k ≡ cap (length (written f x))
-unfolding told written IsDone
-judged-size f v (got a w) r e k d h g = ap sizeOf (sym g ∙ h)
-judged-size f v (refused c l) r e k d h g = absurd d
-
-pub judged-done : {A : Type 0} (f : A → List ℕ) (v : List ℕ) (x : Answer A) (r : Judged) (c p : ℕ) → IsDone x → r ≡ told f v x → r ≡ Refused c p → ⊥
-unfolding told IsDone
-judged-done f v (got a w) r c p d h g = subst IsJudged (sym h ∙ g) tt
-judged-done f v (refused b l) r c p d h g = d
 
 -- a CHOICE, and a value of one
 abbrev chosen : Value → Bool
@@ -608,32 +587,25 @@ module _ (T : Table) (n : ℕ) (b v : List ℕ) (p q c at₀ to : ℕ) (first : 
 
 -- a value: the octets in front, then the contents
 module _ (b offs : List ℕ) (n t : ℕ) (v : List ℕ) (at o e : ℕ) (h : at ≤ length v) (eo : o ≡ getD offs t 65535) (ee : e ≡ endAt v at) (g : Tagged (look b offs))
-    (to : ℕ) (buf : List ℕ) (F : Fits (formAt (look b offs) n t) (judgeValue (look b offs) n t (drop at v)) to buf) (r : Judged)
-    (z : r ≡ told (contentsForm (look b offs) (n - 1) (recordAt b o .body)) v (judgeBelow (λ u w. judgeValue (look b offs) (n - 1) u w) (recordAt b o .body) (nodeAt v at) (drop e v))) where
-  pub value-never : (c p : ℕ) → r ≡ Refused c p → ⊥
-  value-never c p q = judged-done _ v _ r c p (below-done b offs n t v at o e h eo ee (F .done)) z q
+    (to : ℕ) (buf : List ℕ) (F : Fits (formAt (look b offs) n t) (judgeValue (look b offs) n t (drop at v)) to buf)
+    (k : ℕ) (size-is : k ≡ cap (length (written (contentsForm (look b offs) (n - 1) (recordAt b o .body)) (judgeBelow (λ u w. judgeValue (look b offs) (n - 1) u w) (recordAt b o .body) (nodeAt v at) (drop e v))))) where
+  pub head-small : k < 8194
+  head-small = rw size-is (cap-below _)
 
-  module _ (i k : ℕ) (q : r ≡ Done i k) where
-    size-is : k ≡ cap (length (written (contentsForm (look b offs) (n - 1) (recordAt b o .body)) (judgeBelow (λ u w. judgeValue (look b offs) (n - 1) u w) (recordAt b o .body) (nodeAt v at) (drop e v))))
-    size-is = judged-size _ v _ r i k (below-done b offs n t v at o e h eo ee (F .done)) z q
+  abbrev Heads-of : List ℕ
+  Heads-of = heads (constructed (recordAt b o .body)) (recordAt b o .tags) k
 
-    pub head-small : k < 8194
-    head-small = rw size-is (cap-below _)
+  the-split : Split (formAt (look b offs) n t) (judgeValue (look b offs) n t (drop at v)) Heads-of (contentsForm (look b offs) (n - 1) (recordAt b o .body)) (judgeBelow (λ u w. judgeValue (look b offs) (n - 1) u w) (recordAt b o .body) (nodeAt v at) (drop e v)) v
+  the-split = value-split b offs n t v at o e h eo ee (F .done) k g (F .short) size-is
 
-    abbrev Heads-of : List ℕ
-    Heads-of = heads (constructed (recordAt b o .body)) (recordAt b o .tags) k
+  pub head-fits : to + length Heads-of ≤ length buf
+  head-fits = front-fits _ _ _ _ _ v the-split to buf F
 
-    the-split : Split (formAt (look b offs) n t) (judgeValue (look b offs) n t (drop at v)) Heads-of (contentsForm (look b offs) (n - 1) (recordAt b o .body)) (judgeBelow (λ u w. judgeValue (look b offs) (n - 1) u w) (recordAt b o .body) (nodeAt v at) (drop e v)) v
-    the-split = value-split b offs n t v at o e h eo ee (F .done) k g (F .short) size-is
+  pub contents-fits : (next : ℕ) (mid : List ℕ) → next ≡ to + length Heads-of → length mid ≡ length buf
+      → Fits (contentsForm (look b offs) (n - 1) (recordAt b o .body)) (judgeBelow (λ u w. judgeValue (look b offs) (n - 1) u w) (recordAt b o .body) (nodeAt v at) (drop e v)) next mid
+  contents-fits next mid en em = rw en (rest-fits _ _ _ _ _ v the-split to buf F mid em)
 
-    pub head-fits : to + length Heads-of ≤ length buf
-    head-fits = front-fits _ _ _ _ _ v the-split to buf F
-
-    pub contents-fits : (next : ℕ) (mid : List ℕ) → next ≡ to + length Heads-of → length mid ≡ length buf
-        → Fits (contentsForm (look b offs) (n - 1) (recordAt b o .body)) (judgeBelow (λ u w. judgeValue (look b offs) (n - 1) u w) (recordAt b o .body) (nodeAt v at) (drop e v)) next mid
-    contents-fits next mid en em = rw en (rest-fits _ _ _ _ _ v the-split to buf F mid em)
-
-    pub value-put : (next : ℕ) (mid last : List ℕ) (y : Placed) → next ≡ to + length Heads-of → mid ≡ sets buf to Heads-of
-        → IsPut (contentsForm (look b offs) (n - 1) (recordAt b o .body)) (judgeBelow (λ u w. judgeValue (look b offs) (n - 1) u w) (recordAt b o .body) (nodeAt v at) (drop e v)) v next mid last y
-        → IsPut (formAt (look b offs) n t) (judgeValue (look b offs) n t (drop at v)) v to buf last y
-    value-put next mid last y en em P = rest-put _ _ _ _ _ v the-split to buf last y (rw (en, em) at P)
+  pub value-put : (next : ℕ) (mid last : List ℕ) (y : Placed) → next ≡ to + length Heads-of → mid ≡ sets buf to Heads-of
+      → IsPut (contentsForm (look b offs) (n - 1) (recordAt b o .body)) (judgeBelow (λ u w. judgeValue (look b offs) (n - 1) u w) (recordAt b o .body) (nodeAt v at) (drop e v)) v next mid last y
+      → IsPut (formAt (look b offs) n t) (judgeValue (look b offs) n t (drop at v)) v to buf last y
+  value-put next mid last y en em P = rest-put _ _ _ _ _ v the-split to buf last y (rw (en, em) at P)

@@ -3,4 +3,5 @@
 pub mod Nodes
 pub mod Frames
 pub mod Told
+pub mod Notes
 pub mod Putting

@@ -1,8 +1,8 @@
-// Judges a value's octets, and measures the form of what is accepted.
+// Judges a value's octets, and measures the form of what is accepted; the length of the contents of each node is noted at a third of its place.
 ghost use mathlib.Core.Path.{_≡_};
 ghost use mathlib.Core.Bool.{true};
 ghost use mathlib.Core.List.{[]};
-ghost use Prim.Native.Nat.{_<_, _≤_, _+_};
+ghost use Prim.Native.Nat.{_<_, _≤_, _+_, _*_};
 ghost use lib.ListN.{length, drop};
 ghost use Rattle.table.specs.Reading.{look, recordAt, membersAt, everyAt};
 ghost use Rattle.coding.specs.Form.{formAt};
@@ -10,6 +10,7 @@ ghost use Rattle.coding.specs.Judging.{flags, judgeMembers, judgeElements, judg
 ghost use Rattle.writer.specs.Nodes.{endAt, nodeAt};
 ghost use Rattle.writer.specs.Frames.{Tagged};
 ghost use Rattle.writer.specs.Told.{told, membersForm, elementsForm, contentsForm};
+ghost use Rattle.writer.specs.Notes.{Noted, NotedBelow, NotedMembers, NotedElements, Noting};
 use octets::number;
 use octets::octet;
 use table::record;
@@ -21,9 +22,17 @@ pub enum Judged {
 }
 
 // A value of type t.
-pub fn value(table: &[u8], offsets: &[u16], t: usize, v: &[u8], at: usize, level: u8) -> Judged
-    requires { ⌜ (length (now v) ≤ 16384) × (at ≤ length (now v)) × Tagged (look (now table) (now offsets)) ⌝ }
-    ensures { λ r. ⌜ r ≡ told (formAt (look (now (table .entry)) (now (offsets .entry))) level t) (now (v .entry)) (judgeValue (look (now (table .entry)) (now (offsets .entry))) level t (drop at (now (v .entry)))) ⌝ }
+pub fn value(
+    table: &[u8],
+    offsets: &[u16],
+    t: usize,
+    v: &[u8],
+    at: usize,
+    level: u8,
+    lens: &mut [u16],
+) -> Judged
+    requires { ⌜ (length (now v) ≤ 16384) × (at ≤ length (now v)) × Tagged (look (now table) (now offsets)) × (length (now v) ≤ 3 * length (now lens)) ⌝ }
+    ensures { λ r. ⌜ (r ≡ told (formAt (look (now (table .entry)) (now (offsets .entry))) level t) (now (v .entry)) (judgeValue (look (now (table .entry)) (now (offsets .entry))) level t (drop at (now (v .entry))))) × Noting at (now (lens .entry)) (now (lens .exit)) r (λ m. Noted (now (table .entry)) (now (offsets .entry)) (now (v .entry)) m level t at) ⌝ }
 {
     let e = crate::node::end(v, at);
     if e == 0 {
@@ -36,8 +45,10 @@ pub fn value(table: &[u8], offsets: &[u16], t: usize, v: &[u8], at: usize, level
     if !crate::node::agrees(table, o, v, at) {
         return Judged::Refused { cause: 12, at };
     }
-    match contents(table, offsets, o, v, at, e, level - 1) {
+    match contents(table, offsets, o, v, at, e, level - 1, lens) {
         Judged::Done { end, size } => {
+            let i = at / 3;
+            lens[i] = size as u16;
             let total = crate::frame::size(table, o, 0, size);
             Judged::Done { end, size: total }
         }
@@ -54,9 +65,10 @@ pub fn contents(
     at: usize,
     e: usize,
     level: u8,
+    lens: &mut [u16],
 ) -> Judged
-    requires { ⌜ (length (now v) ≤ 16384) × (at ≤ length (now v)) × (e ≡ endAt (now v) at) × (0 < e) × (agrees (recordAt (now table) o .body) (nodeAt (now v) at) ≡ true) × Tagged (look (now table) (now offsets)) ⌝ }
-    ensures { λ r. ⌜ r ≡ told (contentsForm (look (now (table .entry)) (now (offsets .entry))) level (recordAt (now (table .entry)) o .body)) (now (v .entry)) (judgeBelow (λ u w. judgeValue (look (now (table .entry)) (now (offsets .entry))) level u w) (recordAt (now (table .entry)) o .body) (nodeAt (now (v .entry)) at) (drop e (now (v .entry)))) ⌝ }
+    requires { ⌜ (length (now v) ≤ 16384) × (at ≤ length (now v)) × (e ≡ endAt (now v) at) × (0 < e) × (agrees (recordAt (now table) o .body) (nodeAt (now v) at) ≡ true) × Tagged (look (now table) (now offsets)) × (length (now v) ≤ 3 * length (now lens)) ⌝ }
+    ensures { λ r. ⌜ (r ≡ told (contentsForm (look (now (table .entry)) (now (offsets .entry))) level (recordAt (now (table .entry)) o .body)) (now (v .entry)) (judgeBelow (λ u w. judgeValue (look (now (table .entry)) (now (offsets .entry))) level u w) (recordAt (now (table .entry)) o .body) (nodeAt (now (v .entry)) at) (drop e (now (v .entry))))) × Noting e (now (lens .entry)) (now (lens .exit)) r (λ m. NotedBelow (now (table .entry)) (now (offsets .entry)) (now (v .entry)) m level o at e) ⌝ }
 {
     let k = octet(v, at + 2);
     let p = at + 3;
@@ -71,6 +83,7 @@ pub fn contents(
             p + 1,
             e,
             level,
+            lens,
         );
     }
     if k == 17 {
@@ -83,17 +96,36 @@ pub fn contents(
             p + 1,
             e,
             level,
+            lens,
         );
     }
     if k == 48 {
-        return judge_elements(table, offsets, octet(table, own), number(v, p), v, e, level);
+        return judge_elements(
+            table,
+            offsets,
+            octet(table, own),
+            number(v, p),
+            v,
+            e,
+            level,
+            lens,
+        );
     }
     if k == 49 {
-        return judge_elements(table, offsets, octet(table, own), number(v, p), v, e, level);
+        return judge_elements(
+            table,
+            offsets,
+            octet(table, own),
+            number(v, p),
+            v,
+            e,
+            level,
+            lens,
+        );
     }
     if k == 50 {
         let q = own + 1 + octet(v, p);
-        return value(table, offsets, octet(table, q), v, e, level);
+        return value(table, offsets, octet(table, q), v, e, level, lens);
     }
     let size = crate::frame::grow(crate::contents::size(k, v, p), 0);
     Judged::Done { end: e, size }
@@ -109,9 +141,10 @@ pub fn judge_members(
     q: usize,
     at: usize,
     level: u8,
+    lens: &mut [u16],
 ) -> Judged
-    requires { ⌜ (length (now v) ≤ 16384) × (at ≤ length (now v)) × (p < 70000) × (n < 256) × (q < 20000) × Tagged (look (now table) (now offsets)) ⌝ }
-    ensures { λ r. ⌜ r ≡ told (membersForm (look (now (table .entry)) (now (offsets .entry))) level (membersAt (now (table .entry)) p n)) (now (v .entry)) (judgeMembers (λ u w. judgeValue (look (now (table .entry)) (now (offsets .entry))) level u w) (membersAt (now (table .entry)) p n) (flags (everyAt 1 (now (v .entry)) q n)) [] (drop at (now (v .entry)))) ⌝ }
+    requires { ⌜ (length (now v) ≤ 16384) × (at ≤ length (now v)) × (p < 70000) × (n < 256) × (q < 20000) × Tagged (look (now table) (now offsets)) × (length (now v) ≤ 3 * length (now lens)) ⌝ }
+    ensures { λ r. ⌜ (r ≡ told (membersForm (look (now (table .entry)) (now (offsets .entry))) level (membersAt (now (table .entry)) p n)) (now (v .entry)) (judgeMembers (λ u w. judgeValue (look (now (table .entry)) (now (offsets .entry))) level u w) (membersAt (now (table .entry)) p n) (flags (everyAt 1 (now (v .entry)) q n)) [] (drop at (now (v .entry))))) × Noting at (now (lens .entry)) (now (lens .exit)) r (λ m. NotedMembers (now (table .entry)) (now (offsets .entry)) (now (v .entry)) m level p q n at) ⌝ }
 {
     let mut i = p;
     let mut mark = q;
@@ -125,7 +158,7 @@ pub fn judge_members(
         mark += 1;
         left -= 1;
         if present == 1 {
-            match value(table, offsets, t, v, next, level) {
+            match value(table, offsets, t, v, next, level, lens) {
                 Judged::Done { end, size } => {
                     next = end;
                     total = crate::frame::grow(total, size);
@@ -151,15 +184,16 @@ pub fn judge_elements(
     v: &[u8],
     at: usize,
     level: u8,
+    lens: &mut [u16],
 ) -> Judged
-    requires { ⌜ (length (now v) ≤ 16384) × (at ≤ length (now v)) × Tagged (look (now table) (now offsets)) ⌝ }
-    ensures { λ r. ⌜ r ≡ told (elementsForm (look (now (table .entry)) (now (offsets .entry))) level t) (now (v .entry)) (judgeElements (λ u w. judgeValue (look (now (table .entry)) (now (offsets .entry))) level u w) n t [] (drop at (now (v .entry)))) ⌝ }
+    requires { ⌜ (length (now v) ≤ 16384) × (at ≤ length (now v)) × Tagged (look (now table) (now offsets)) × (length (now v) ≤ 3 * length (now lens)) ⌝ }
+    ensures { λ r. ⌜ (r ≡ told (elementsForm (look (now (table .entry)) (now (offsets .entry))) level t) (now (v .entry)) (judgeElements (λ u w. judgeValue (look (now (table .entry)) (now (offsets .entry))) level u w) n t [] (drop at (now (v .entry))))) × Noting at (now (lens .entry)) (now (lens .exit)) r (λ m. NotedElements (now (table .entry)) (now (offsets .entry)) (now (v .entry)) m level t n at) ⌝ }
 {
     let mut left = n;
     let mut next = at;
     let mut total = 0;
     while 0 < left {
-        match value(table, offsets, t, v, next, level) {
+        match value(table, offsets, t, v, next, level, lens) {
             Judged::Done { end, size } => {
                 next = end;
                 total = crate::frame::grow(total, size);

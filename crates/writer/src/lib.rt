@@ -9,7 +9,7 @@ mod node;
 mod put;
 
 ghost use mathlib.Core.Path.{_≡_};
-ghost use Prim.Native.Nat.{_≤_};
+ghost use Prim.Native.Nat.{_<_, _≤_, _*_};
 ghost use lib.ListN.{length};
 ghost use Rattle.table.specs.Passes.{Passes};
 ghost use Rattle.table.specs.Reading.{look};
@@ -35,18 +35,19 @@ fn cause_of(cause: u8, at: usize) -> ValueCause
     ValueCause::Level(at)
 }
 
-// Writes a value of type t, by a table that passed.
-fn write_passed(table: &[u8], offsets: &[u16], t: usize, value: &[u8], buf: &mut [u8]) -> Answer
-    requires { ⌜ Passes (look (now table) (now offsets)) (length (now offsets)) ⌝ }
+// Writes a value of type t, with room for the notes of its nodes.
+fn write_noted(
+    table: &[u8],
+    offsets: &[u16],
+    t: usize,
+    value: &[u8],
+    lens: &mut [u16],
+    buf: &mut [u8],
+) -> Answer
+    requires { ⌜ Passes (look (now table) (now offsets)) (length (now offsets)) × (t < length (now offsets)) × (length (now value) ≤ 16384) × (length (now value) ≤ 3 * length (now lens)) ⌝ }
     ensures { λ r. ⌜ (r ≡ writeOutcome (look (now (table .entry)) (now (offsets .entry))) (length (now (offsets .entry))) t (now (value .entry)) (now (buf .entry)) .answer) × (now (buf .exit) ≡ writeOutcome (look (now (table .entry)) (now (offsets .entry))) (length (now (offsets .entry))) t (now (value .entry)) (now (buf .entry)) .buffer) ⌝ }
 {
-    if offsets.len() <= t {
-        return Answer::Refused(Refusal::Table(TableCause::NoType));
-    }
-    if 16384 < value.len() {
-        return Answer::Refused(Refusal::Value(ValueCause::Shape(0)));
-    }
-    match judge::value(table, offsets, t, value, 0, 24) {
+    match judge::value(table, offsets, t, value, 0, 24, lens) {
         Judged::Refused { cause, at } => Answer::Refused(Refusal::Value(cause_of(cause, at))),
         Judged::Done { end, size } => {
             if end < value.len() {
@@ -58,10 +59,29 @@ fn write_passed(table: &[u8], offsets: &[u16], t: usize, value: &[u8], buf: &mut
             if buf.len() < size {
                 return Answer::Refused(Refusal::Value(ValueCause::Room));
             }
-            put::value(table, offsets, t, value, 0, 24, buf, 0);
+            put::value(table, offsets, t, value, 0, 24, lens, buf, 0);
             Answer::Done(size)
         }
     }
+}
+
+// Writes a value of type t, by a table that passed. A short value gets few notes, since an array is cleared when it is made.
+fn write_passed(table: &[u8], offsets: &[u16], t: usize, value: &[u8], buf: &mut [u8]) -> Answer
+    requires { ⌜ Passes (look (now table) (now offsets)) (length (now offsets)) ⌝ }
+    ensures { λ r. ⌜ (r ≡ writeOutcome (look (now (table .entry)) (now (offsets .entry))) (length (now (offsets .entry))) t (now (value .entry)) (now (buf .entry)) .answer) × (now (buf .exit) ≡ writeOutcome (look (now (table .entry)) (now (offsets .entry))) (length (now (offsets .entry))) t (now (value .entry)) (now (buf .entry)) .buffer) ⌝ }
+{
+    if offsets.len() <= t {
+        return Answer::Refused(Refusal::Table(TableCause::NoType));
+    }
+    if 16384 < value.len() {
+        return Answer::Refused(Refusal::Value(ValueCause::Shape(0)));
+    }
+    if value.len() <= 3072 {
+        let mut few = [0u16; 1024];
+        return write_noted(table, offsets, t, value, &mut few, buf);
+    }
+    let mut lens = [0u16; 5462];
+    write_noted(table, offsets, t, value, &mut lens, buf)
 }
 
 // Writes the value whose octets are lent as a message of type t into the buffer.

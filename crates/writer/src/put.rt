@@ -1,8 +1,8 @@
-// Puts the form of a value that was accepted into a buffer, front to back.
+// Puts the form of a value that was accepted into a buffer, front to back, by the notes of the judge.
 ghost use mathlib.Core.Path.{_≡_};
 ghost use mathlib.Core.Bool.{true};
 ghost use mathlib.Core.List.{[]};
-ghost use Prim.Native.Nat.{_<_, _≤_, _+_};
+ghost use Prim.Native.Nat.{_<_, _≤_, _+_, _*_};
 ghost use lib.ListN.{length, drop};
 ghost use Rattle.table.specs.Reading.{look, recordAt, membersAt, everyAt};
 ghost use Rattle.coding.specs.Form.{formAt};
@@ -11,7 +11,7 @@ ghost use Rattle.writer.specs.Nodes.{endAt, nodeAt};
 ghost use Rattle.writer.specs.Frames.{Tagged};
 ghost use Rattle.writer.specs.Putting.{Fits, IsPut};
 ghost use Rattle.writer.specs.Told.{membersForm, elementsForm, contentsForm};
-use crate::judge::Judged;
+ghost use Rattle.writer.specs.Notes.{Noted, NotedBelow, NotedMembers, NotedElements};
 use octets::number;
 use octets::octet;
 use table::record;
@@ -30,21 +30,18 @@ pub fn value(
     v: &[u8],
     at: usize,
     level: u8,
+    lens: &[u16],
     buf: &mut [u8],
     to: usize,
 ) -> Placed
-    requires { ⌜ (length (now v) ≤ 16384) × (at ≤ length (now v)) × Tagged (look (now table) (now offsets)) × Fits (formAt (look (now table) (now offsets)) level t) (judgeValue (look (now table) (now offsets)) level t (drop at (now v))) to (now buf) ⌝ }
+    requires { ⌜ (length (now v) ≤ 16384) × (at ≤ length (now v)) × Tagged (look (now table) (now offsets)) × Fits (formAt (look (now table) (now offsets)) level t) (judgeValue (look (now table) (now offsets)) level t (drop at (now v))) to (now buf) × Noted (now table) (now offsets) (now v) (now lens) level t at × (length (now v) ≤ 3 * length (now lens)) ⌝ }
     ensures { λ r. ⌜ IsPut (formAt (look (now (table .entry)) (now (offsets .entry))) level t) (judgeValue (look (now (table .entry)) (now (offsets .entry))) level t (drop at (now (v .entry)))) (now (v .entry)) to (now (buf .entry)) (now (buf .exit)) r ⌝ }
 {
     let o = record::offset(offsets, t);
     let e = crate::node::end(v, at);
-    match crate::judge::contents(table, offsets, o, v, at, e, level - 1) {
-        Judged::Done { end: _, size } => {
-            let next = crate::frame::put(table, o, size, buf, to);
-            contents(table, offsets, o, v, at, e, level - 1, buf, next)
-        }
-        Judged::Refused { cause: _, at: _ } => Placed { end: at, to },
-    }
+    let i = at / 3;
+    let next = crate::frame::put(table, o, lens[i] as usize, buf, to);
+    contents(table, offsets, o, v, at, e, level - 1, lens, buf, next)
 }
 
 // The contents of the node at a place, which ends at e and agrees with the record at o.
@@ -56,10 +53,11 @@ pub fn contents(
     at: usize,
     e: usize,
     level: u8,
+    lens: &[u16],
     buf: &mut [u8],
     to: usize,
 ) -> Placed
-    requires { ⌜ (length (now v) ≤ 16384) × (at ≤ length (now v)) × (e ≡ endAt (now v) at) × (0 < e) × (agrees (recordAt (now table) o .body) (nodeAt (now v) at) ≡ true) × Tagged (look (now table) (now offsets)) × Fits (contentsForm (look (now table) (now offsets)) level (recordAt (now table) o .body)) (judgeBelow (λ u w. judgeValue (look (now table) (now offsets)) level u w) (recordAt (now table) o .body) (nodeAt (now v) at) (drop e (now v))) to (now buf) ⌝ }
+    requires { ⌜ (length (now v) ≤ 16384) × (at ≤ length (now v)) × (e ≡ endAt (now v) at) × (0 < e) × (agrees (recordAt (now table) o .body) (nodeAt (now v) at) ≡ true) × Tagged (look (now table) (now offsets)) × Fits (contentsForm (look (now table) (now offsets)) level (recordAt (now table) o .body)) (judgeBelow (λ u w. judgeValue (look (now table) (now offsets)) level u w) (recordAt (now table) o .body) (nodeAt (now v) at) (drop e (now v))) to (now buf) × NotedBelow (now table) (now offsets) (now v) (now lens) level o at e × (length (now v) ≤ 3 * length (now lens)) ⌝ }
     ensures { λ r. ⌜ IsPut (contentsForm (look (now (table .entry)) (now (offsets .entry))) level (recordAt (now (table .entry)) o .body)) (judgeBelow (λ u w. judgeValue (look (now (table .entry)) (now (offsets .entry))) level u w) (recordAt (now (table .entry)) o .body) (nodeAt (now (v .entry)) at) (drop e (now (v .entry)))) (now (v .entry)) to (now (buf .entry)) (now (buf .exit)) r ⌝ }
 {
     let k = octet(v, at + 2);
@@ -75,6 +73,7 @@ pub fn contents(
             p + 1,
             e,
             level,
+            lens,
             buf,
             to,
         );
@@ -89,6 +88,7 @@ pub fn contents(
             p + 1,
             e,
             level,
+            lens,
             buf,
             to,
         );
@@ -102,6 +102,7 @@ pub fn contents(
             v,
             e,
             level,
+            lens,
             buf,
             to,
         );
@@ -115,13 +116,14 @@ pub fn contents(
             v,
             e,
             level,
+            lens,
             buf,
             to,
         );
     }
     if k == 50 {
         let q = own + 1 + octet(v, p);
-        return value(table, offsets, octet(table, q), v, e, level, buf, to);
+        return value(table, offsets, octet(table, q), v, e, level, lens, buf, to);
     }
     let next = crate::contents::put(k, v, p, buf, to);
     Placed { end: e, to: next }
@@ -137,10 +139,11 @@ pub fn put_members(
     q: usize,
     at: usize,
     level: u8,
+    lens: &[u16],
     buf: &mut [u8],
     to: usize,
 ) -> Placed
-    requires { ⌜ (length (now v) ≤ 16384) × (at ≤ length (now v)) × (p < 70000) × (n < 256) × (q < 20001) × Tagged (look (now table) (now offsets)) × Fits (membersForm (look (now table) (now offsets)) level (membersAt (now table) p n)) (judgeMembers (λ u w. judgeValue (look (now table) (now offsets)) level u w) (membersAt (now table) p n) (flags (everyAt 1 (now v) q n)) [] (drop at (now v))) to (now buf) ⌝ }
+    requires { ⌜ (length (now v) ≤ 16384) × (at ≤ length (now v)) × (p < 70000) × (n < 256) × (q < 20001) × Tagged (look (now table) (now offsets)) × Fits (membersForm (look (now table) (now offsets)) level (membersAt (now table) p n)) (judgeMembers (λ u w. judgeValue (look (now table) (now offsets)) level u w) (membersAt (now table) p n) (flags (everyAt 1 (now v) q n)) [] (drop at (now v))) to (now buf) × NotedMembers (now table) (now offsets) (now v) (now lens) level p q n at × (length (now v) ≤ 3 * length (now lens)) ⌝ }
     ensures { λ r. ⌜ IsPut (membersForm (look (now (table .entry)) (now (offsets .entry))) level (membersAt (now (table .entry)) p n)) (judgeMembers (λ u w. judgeValue (look (now (table .entry)) (now (offsets .entry))) level u w) (membersAt (now (table .entry)) p n) (flags (everyAt 1 (now (v .entry)) q n)) [] (drop at (now (v .entry)))) (now (v .entry)) to (now (buf .entry)) (now (buf .exit)) r ⌝ }
 {
     let mut i = p;
@@ -155,7 +158,7 @@ pub fn put_members(
         mark += 1;
         left -= 1;
         if present == 1 {
-            let placed = value(table, offsets, t, v, from, level, buf, next);
+            let placed = value(table, offsets, t, v, from, level, lens, buf, next);
             from = placed.end;
             next = placed.to;
         }
@@ -175,17 +178,18 @@ pub fn put_elements(
     v: &[u8],
     at: usize,
     level: u8,
+    lens: &[u16],
     buf: &mut [u8],
     to: usize,
 ) -> Placed
-    requires { ⌜ (length (now v) ≤ 16384) × (at ≤ length (now v)) × Tagged (look (now table) (now offsets)) × Fits (elementsForm (look (now table) (now offsets)) level t) (judgeElements (λ u w. judgeValue (look (now table) (now offsets)) level u w) n t [] (drop at (now v))) to (now buf) ⌝ }
+    requires { ⌜ (length (now v) ≤ 16384) × (at ≤ length (now v)) × Tagged (look (now table) (now offsets)) × Fits (elementsForm (look (now table) (now offsets)) level t) (judgeElements (λ u w. judgeValue (look (now table) (now offsets)) level u w) n t [] (drop at (now v))) to (now buf) × NotedElements (now table) (now offsets) (now v) (now lens) level t n at × (length (now v) ≤ 3 * length (now lens)) ⌝ }
     ensures { λ r. ⌜ IsPut (elementsForm (look (now (table .entry)) (now (offsets .entry))) level t) (judgeElements (λ u w. judgeValue (look (now (table .entry)) (now (offsets .entry))) level u w) n t [] (drop at (now (v .entry)))) (now (v .entry)) to (now (buf .entry)) (now (buf .exit)) r ⌝ }
 {
     let mut left = n;
     let mut from = at;
     let mut next = to;
     while 0 < left {
-        let placed = value(table, offsets, t, v, from, level, buf, next);
+        let placed = value(table, offsets, t, v, from, level, lens, buf, next);
         from = placed.end;
         next = placed.to;
         left -= 1;
