@@ -18,36 +18,25 @@ use Rattle.table.specs.Syntax.{Table, Record, isChoice, absent, Choice}
 use Rattle.table.specs.Octets.{recordShaped, bodyShaped}
 use Rattle.table.specs.Rules.{Mistagged, missing}
 use Rattle.table.specs.Passes.{Passes}
-use Rattle.table.specs.declared.TableCause.{TableCause}
 use Rattle.table.specs.declared.TableCause.the-variants.{NoType}
-use Rattle.table.specs.declared.Verdict.the-variants.{Passed, Refused as OfRefused}
-use Rattle.table.specs.declared.Checked.{Checked}
-use Rattle.table.specs.Reading.{scan, look}
-use Rattle.table.specs.Verdict.{verdict}
-use Rattle.table.specs.Index.{Indexed, CheckedTable}
-use Rattle.table.proofs.Theorems.{checked-passes}
-use Rattle.octets.specs.Numbers.{Octets}
 use Rattle.coding.specs.Value.{Value}
 use Rattle.coding.specs.Form.{formAt}
 use Rattle.coding.specs.Judging.{need, readNode, judgeValue, judgeWhole}
 use Rattle.coding.specs.Causes.{valueCause}
-use Rattle.coding.specs.Outcome.{Outcome, refuse, write-at-start, afterJudging, writeOutcome, afterCheck, wholeWrite}
+use Rattle.coding.specs.Outcome.{afterJudging, writeOutcome}
 use Rattle.coding.specs.declared.ValueCause.{ValueCause}
 use Rattle.coding.specs.declared.ValueCause.the-variants.{Shape, IllTyped, Level, Room}
 use Rattle.coding.specs.declared.Refusal.{Refusal}
 use Rattle.coding.specs.declared.Refusal.the-variants.{Table as OfTable, Value as OfValue}
 use Rattle.coding.specs.declared.Answer.{Answer as Told}
 use Rattle.coding.specs.declared.Answer.the-variants.{Done as TDone, Refused as TRefused}
+use Rattle.coding.proofs.Checked.{Says}
 use Rattle.writer.specs.Frames.{cap, Tagged}
 use Rattle.writer.specs.Told.{told, written, IsDone}
 use Rattle.writer.specs.Putting.{Fits, IsPut}
 use Rattle.writer.specs.declared.judge.Judged.{Judged}
 use Rattle.writer.specs.declared.judge.Judged.the-variants.{Done, Refused}
 use Rattle.writer.specs.declared.put.Placed.{Placed}
-
--- an outcome is what was answered and what the buffer holds
-abbrev pub Says : Outcome → Told → List ℕ → Type 0
-Says x r buf = (r ≡ x .answer) × (buf ≡ x .buffer)
 
 -- what the check of a table promises of tags
 shaped-classes : (r : Record) → recordShaped r ≡ true → all (λ g. leb (g .class) 3) (r .tags) ≡ true
@@ -207,32 +196,3 @@ module _ (T : Table) (n t : ℕ) (v buf : List ℕ) where
               let c : w ≡ sets buf 0 m = rw (x .is) at (b .buffer) in
               let z : sets buf 0 m ≡ take 0 buf ++ m ++ drop (0 + length m) buf = sets-eq m buf 0 (omega arith) in
               (rw o (simp (run, f) (ap TDone (sym y))), c ∙ z ∙ rw o (simp (run, f, zero-add)))
-
--- by the verdict on the table
-module _ (b : List ℕ) (c : Checked) (x : CheckedTable b c) (t : ℕ) (v buf : List ℕ) where
-  pub out-table : (k : TableCause) → c .verdict ≡ OfRefused k → Says (wholeWrite b t v buf) (TRefused (OfTable k)) buf
-  unfolding wholeWrite afterCheck
-  out-table k e = let q : verdict b ≡ OfRefused k = sym (x .is) ∙ e in (rw q, rw q)
-
-  module _ (e : c .verdict ≡ Passed) where
-    indexed : Indexed b (c .index)
-    indexed = x .index (sym (x .is) ∙ e)
-
-    abbrev places : List ℕ
-    places = take (c .index .count) (c .index .offsets)
-
-    pub count-within : c .index .count ≤ length (c .index .offsets)
-    count-within = omega (arith, indexed .few, indexed .size)
-
-    pub count-is : c .index .count ≡ length places
-    count-is = indexed .count ∙ ap length (sym (indexed .offsets))
-
-    pub passed : Octets b → Passes (look b places) (length places)
-    passed o = rw (← count-is) (checked-passes b o c x e)
-
-    pub out-passed : (r : Told) (w : List ℕ) → Says (writeOutcome (look b places) (length places) t v buf) r w → Says (wholeWrite b t v buf) r w
-    unfolding wholeWrite afterCheck
-    out-passed r w s =
-        let q : verdict b ≡ Passed = sym (x .is) ∙ e in
-        let y = rw (indexed .offsets) at s in
-        (rw q (y .0), rw q (y .1))
