@@ -1,0 +1,151 @@
+#!/usr/bin/env python3
+"""Prints the figures of one run as Markdown: report.py FOLDER, where bench/run left them."""
+import glob
+import os
+import sys
+
+# The goals: shares of asn1c's time, instructions of a call, nanoseconds of the worst read, octets of stack and of text.
+READ_SHARE, WRITE_SHARE, INSTRUCTIONS, WORST, STACK, TEXT = .7, .35, 60000, 50e6, 24 * 1024, 64 * 1024
+OPERATIONS = 'check', 'write', 'read'
+
+
+def rows(folder, name):
+    with open(os.path.join(folder, name)) as f:
+        return [line.rstrip('\n').split('\t') for line in f]
+
+
+def dumps(folder):
+    """Instructions of each counted call, by its name."""
+    out = {}
+    for path in glob.glob(os.path.join(folder, 'callgrind.*')):
+        name = None
+        with open(path) as f:
+            for line in f:
+                if line.startswith('desc: Trigger: Client Request: '):
+                    name = line.split(': ', 3)[3].strip()
+                elif line.startswith('summary: ') and name:
+                    out[name] = int(line.split()[1])
+    return out
+
+
+class Figures:
+    def __init__(self, folder):
+        self.words = {name: words for _, name, words in rows(folder, 'inputs/list')}
+        self.counts = dumps(folder)
+        self.stack = {name: int(n) for _, name, n in rows(folder, 'stack')}
+        self.text = int(rows(folder, 'text')[0][0])
+        self.batch, self.alone = {}, {}
+        for r in rows(folder, 'time'):
+            if r[0] == 'batch':
+                self.batch[r[1], r[2]] = int(r[3]), int(r[4])
+            else:
+                least, median, number, rest, table, data = map(int, r[3:])
+                self.alone[r[1]] = dict(group=r[0], op=OPERATIONS[int(r[2])], least=least, median=median, number=number, rest=rest, table=table,
+                                        data=data)
+        self.coders = list(dict.fromkeys(c for c, _ in self.batch))
+        self.us, self.asn1c = self.coders[0], next(c for c in self.coders if 'asn1c' in c)
+        # a case has 8 octets besides its table and its data
+        size = {name: os.path.getsize(os.path.join(folder, 'inputs', name)) for name in ('check', 'definite', 'indefinite', 'value')}
+        self.sizes = [size[name] - size['check'] for name in ('definite', 'indefinite', 'value')] + [size['check'] - 8]
+
+
+def show(head, some):
+    print('| %s |' % ' | '.join(head))
+    print('|%s' % ('---|' * len(head)))
+    for row in some:
+        print('| %s |' % ' | '.join(row))
+
+
+def count(n):
+    return '{:,}'.format(n)
+
+
+def micro(ns):
+    return '{:,.0f}'.format(ns / 1000) if ns >= 1e5 else '{:,.1f}'.format(ns / 1000)
+
+
+def batch(f):
+    print('### The batch\n')
+    print('%s octets definite, %s indefinite, its value %s, its table %s. ' % tuple(map(count, f.sizes)), end='')
+    print('Nanoseconds: least (median) of the rounds, in which all take turns.\n')
+    ops = 'check', 'read', 'indefinite', 'write'
+    show(['Coder', 'check, ns', 'read, ns', 'read indefinite, ns', 'write, ns', 'instructions: check', 'read', 'read indefinite', 'write'],
+         [[c] + ['%s (%s)' % tuple(map(count, f.batch[c, o])) if (c, o) in f.batch else '-' for o in ops] +
+          [count(f.counts['batch/%s/%s' % (c, o)]) if (c, o) in f.batch else '-' for o in ops] for c in f.coders])
+
+
+def growth(f):
+    """Prints how reading and writing grow, and answers the instructions for a further octet, by operation."""
+    print('\n### Growth\n')
+    print('The batch with other numbers of calls. "Further": instructions for each octet more than in the line above.\n')
+    steps, some, before = {'read': [], 'write': []}, [], None
+    for k in [name.split('-')[1] for name in f.alone if name.startswith('read-')]:
+        octets = f.alone['read-' + k]['data']
+        n = {o: f.counts['growth/%s-%s' % (o, k)] for o in steps}
+        row = [count(octets)]
+        for o in steps:
+            x = f.alone['%s-%s' % (o, k)]
+            row += ['%s (%s)' % (micro(x['least']), micro(x['median'])), count(n[o]), '-']
+            if before:
+                steps[o].append((n[o] - before[1][o]) / (octets - before[0]))
+                row[-1] = '%.0f' % steps[o][-1]
+        before = octets, n
+        some.append(row)
+    show(['octets', 'read, µs', 'instructions', 'further', 'write, µs', 'instructions', 'further'], some)
+    return steps
+
+
+def dearest(f):
+    print('\n### The dearest inputs found\n')
+    print('Microseconds: least (median). Stack: octets that the call touches. The value is what the message is read to.\n')
+    by_words = {}
+    for name, x in f.alone.items():
+        if x['group'] != 'growth':
+            by_words.setdefault(f.words[name], {})[x['op']] = x, f.stack[name]
+
+    def cells(entry):
+        if not entry:
+            return ['-', '-', '-']
+        x, deep = entry
+        octets = count(x['table' if x['op'] == 'check' else 'data'])
+        return [octets + ', no %d %d' % (x['number'], x['rest']) if x['number'] else octets,
+                '%s (%s)' % (micro(x['least']), micro(x['median'])), count(deep)]
+    some = sorted(by_words.items(), key=lambda d: -max(x['least'] for x, _ in d[1].values()))
+    show(['Type table', 'octets', 'check, µs', 'stack'], [[words] + cells(d['check']) for words, d in some if 'check' in d])
+    print()
+    show(['Message and value', 'table', 'message', 'read, µs', 'stack', 'value', 'write, µs', 'stack'],
+         [[words, count(d['read'][0]['table'])] + cells(d['read']) + cells(d.get('write')) for words, d in some if 'read' in d])
+
+
+def goals(f, steps):
+    print('\n### Goals\n')
+    some = []
+
+    def goal(what, limit, got, reached):
+        some.append([what, limit, got, 'reached' if reached else 'not reached'])
+    for o, label, share in (('read', 'read', READ_SHARE), ('indefinite', 'read, indefinite', READ_SHARE), ('write', 'write', WRITE_SHARE)):
+        least, median = (a / b for a, b in zip(f.batch[f.us, o], f.batch[f.asn1c, o]))
+        goal(label + ', beside asn1c', 'at most %.2f of its time' % share, '%.2f by the least, %.2f by the median' % (least, median),
+             least <= share)
+        n = f.counts['batch/%s/%s' % (f.us, o)]
+        goal(label + ', instructions', 'at most ' + count(INSTRUCTIONS), count(n), n <= INSTRUCTIONS)
+    for o, each in steps.items():
+        goal(o + ' grows linearly', 'a further octet costs the same within a tenth', '%.0f to %.0f instructions' % (min(each), max(each)),
+             max(each) <= 1.1 * min(each))
+    slow = max(x['least'] for x in f.alone.values() if x['op'] == 'read')
+    goal('the worst read', 'under 50 ms', '%.1f ms' % (slow / 1e6), slow < WORST)
+    most = max(f.stack, key=f.stack.get)
+    goal('stack', 'under %s octets' % count(STACK), '%s: %s' % (count(f.stack[most]), f.words[most]), f.stack[most] < STACK)
+    goal('text of the archive', 'under %s octets' % count(TEXT), count(f.text), f.text < TEXT)
+    show(['Goal', 'Limit', 'Measured', ''], some)
+
+
+def main():
+    f = Figures(sys.argv[1])
+    batch(f)
+    steps = growth(f)
+    dearest(f)
+    goals(f, steps)
+
+
+main()
