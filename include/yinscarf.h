@@ -1,0 +1,74 @@
+/* The link engine for call control: check a type table, write a value as a message, read a message into a value.
+ *
+ * Each function answers one number, number * 65,536 + rest:
+ *   number 0    done; rest is the length written to buf (of a check: 0)
+ *   otherwise   refused; number is the cause below, rest its place
+ * YINSCARF_NUMBER and YINSCARF_REST take an answer apart.
+ *
+ * Places: for 1 to 6 the number of a record of the table (1 may say 128: too many records); for 11 to 13, 22 to 26 and 28
+ * an offset into the value or message; 0 for 7, 14, 21 and 27.
+ *
+ * Lent memory: a pointer and the length after it lend that many octets, for the time of the call. table, value and message
+ * are only read, and may overlap each other; buf must not overlap them. A null pointer with the length 0 is allowed; a null
+ * pointer with another length is not, nor is a length of more octets than there are. A refusal leaves all of buf as it was;
+ * what is done writes the first octets of buf, as many as the answer says, and leaves the rest as it was. Nothing is kept
+ * between calls and no memory is allocated, so calls may run at the same time on different buffers.
+ *
+ * ./build puts this file and the archive into target/link; a program is built by
+ *   cc -Itarget/link program.c target/link/liblink.a
+ */
+#ifndef YINSCARF_H
+#define YINSCARF_H
+
+#include <stddef.h>
+#include <stdint.h>
+
+#ifdef __cplusplus
+extern "C" {
+#endif
+
+#define YINSCARF_NUMBER(answer) ((unsigned)((answer) >> 16))
+#define YINSCARF_REST(answer) ((unsigned)((answer) & 0xFFFF))
+
+enum yinscarf_number {
+    YINSCARF_DONE = 0,                  /* done; rest is the length written */
+    /* the table */
+    YINSCARF_TABLE_SHAPE = 1,           /* table not shaped as type records */
+    YINSCARF_TABLE_NO_RECORD = 2,       /* a record names one that is not there */
+    YINSCARF_TABLE_TAG = 3,             /* a tag missing, or a UNIVERSAL tag that is not allowed */
+    YINSCARF_TABLE_CHOICE_LOOP = 4,     /* a CHOICE without tags reaches itself through such CHOICEs alone */
+    YINSCARF_TABLE_SHARED_TAG = 5,      /* two members or alternatives share a first tag */
+    YINSCARF_TABLE_NO_VALUE = 6,        /* a record has no finite value */
+    YINSCARF_TABLE_NO_TYPE = 7,         /* the type is not in the table */
+    /* the value */
+    YINSCARF_VALUE_SHAPE = 11,          /* value not shaped as nodes, empty, too long, or octets left */
+    YINSCARF_VALUE_TYPE = 12,           /* value not of the type */
+    YINSCARF_VALUE_LEVEL = 13,          /* a node at level 25 */
+    YINSCARF_VALUE_ROOM = 14,           /* message longer than buf or 8,192 octets */
+    /* the message */
+    YINSCARF_MESSAGE_LONG = 21,         /* message over 8,192 octets */
+    YINSCARF_MESSAGE_CUT = 22,          /* message cut, or a length beyond what encloses it */
+    YINSCARF_MESSAGE_FORM = 23,         /* a header form that X.690 forbids */
+    YINSCARF_MESSAGE_NOT_AWAITED = 24,  /* an identifier not awaited, or an awaited item missing */
+    YINSCARF_MESSAGE_CONTENTS = 25,     /* contents wrong for the kind */
+    YINSCARF_MESSAGE_TRAILING = 26,     /* octets where nothing is awaited */
+    YINSCARF_MESSAGE_ROOM = 27,         /* value longer than buf or 16,384 octets */
+    YINSCARF_MESSAGE_LEVEL = 28         /* a value at level 25 */
+};
+
+/* Whether a type table passes: 0, or a refusal 1 to 6. */
+uint64_t link_check(const uint8_t *table, size_t table_len);
+
+/* Writes a value of a type as a message: 0 and the message's length, or a refusal 1 to 14. */
+uint64_t link_write(const uint8_t *table, size_t table_len, uint32_t type, const uint8_t *value, size_t value_len, uint8_t *buf,
+                    size_t buf_len);
+
+/* Reads a message of a type into a value: 0 and the value's length, or a refusal 1 to 7 or 21 to 28. */
+uint64_t link_read(const uint8_t *table, size_t table_len, uint32_t type, const uint8_t *message, size_t message_len, uint8_t *buf,
+                   size_t buf_len);
+
+#ifdef __cplusplus
+}
+#endif
+
+#endif

@@ -1,0 +1,43 @@
+/* Call control in small: checks a table, writes a value and reads it back. */
+#include <stdio.h>
+#include <string.h>
+
+#include "yinscarf.h"
+
+/* 0: [0] IMPLICIT INTEGER, 1: BOOLEAN, 2: SET { 0, 1 OPTIONAL } */
+static const uint8_t table[] = {0x54, 0x59, 0x02, 0x01, 0x02, 0x00, 0x00, 0x54, 0x59, 0x01, 0x01, 0x00, 0x00, 0x01,
+                                0x54, 0x59, 0x11, 0x01, 0x00, 0x00, 0x11, 0x02, 0x00, 0x00, 0x01, 0x01};
+/* 5 and true */
+static const uint8_t value[] = {0x56, 0x41, 0x11, 0x02, 0x01, 0x01, 0x56, 0x41, 0x02, 0, 0, 0, 0, 0, 0, 0, 5, 0x56, 0x41, 0x01, 0x01};
+
+static void show(const char *what, uint64_t answer, const uint8_t *buf)
+{
+    printf("%s: ", what);
+    if (YINSCARF_NUMBER(answer) != YINSCARF_DONE) {
+        printf("refused, %u at %u\n", YINSCARF_NUMBER(answer), YINSCARF_REST(answer));
+        return;
+    }
+    printf("done");
+    for (unsigned i = 0; i < YINSCARF_REST(answer); i++)
+        printf(" %02x", buf[i]);
+    printf("\n");
+}
+
+int main(void)
+{
+    uint8_t message[64], back[64];
+    uint64_t a = link_check(table, sizeof table);
+    show("check", a, message);
+    uint64_t w = link_write(table, sizeof table, 2, value, sizeof value, message, sizeof message);
+    show("write", w, message);
+    uint64_t r = link_read(table, sizeof table, 2, message, YINSCARF_REST(w), back, sizeof back);
+    show("read", r, back);
+    /* a member of the SET is missing */
+    uint64_t no = link_read(table, sizeof table, 2, (const uint8_t *)"\x31\x00", 2, back, sizeof back);
+    show("read", no, back);
+    if (a != 0 || w != 8 || memcmp(message, "\x31\x06\x80\x01\x05\x01\x01\xff", 8) != 0)
+        return 1;
+    if (r != sizeof value || memcmp(back, value, sizeof value) != 0)
+        return 1;
+    return no == (uint64_t)YINSCARF_MESSAGE_NOT_AWAITED * 65536 + 2 ? 0 : 1;
+}
