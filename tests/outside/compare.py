@@ -38,15 +38,18 @@ LAX = {
         'indefinite primitive': 'a primitive string with an indefinite length is read (X.690, 8.1.3.2 a)',
         'form bit': 'the tag of a CHOICE without the constructed bit is read (X.690, 8.14.2)',
         'repeated member': 'a SET member that comes twice is read, the later one counts (X.690, 8.11)',
-        'several items': 'an explicit tag of indefinite length may hold several items, or none',
         'wide boolean': 'BOOLEAN contents of any number of octets are read (X.690, 8.2.1)',
         'unlisted number': 'an ENUMERATED number that is not listed is read (document 01: 25)',
+        **({'octets behind': 'what stands behind the item in an explicit tag of definite length is not looked at (X.690, 8.14.2)'}
+           if python_asn1.OLD else
+           {'several items': 'an explicit tag of indefinite length may hold several items, or none',
+            'no item': 'tags of indefinite length around nothing, awaited or not, are read as a NULL or as a SEQUENCE or SET without members'}),
     },
 }
 
 
 # An example of each departure: coder, rule, table, type, message, our answer, and whether the coder accepts. A run fails if one no
-# longer holds, so that this list stays true when a coder changes.
+# longer holds, so that this list stays true when a coder changes. pyasn1 was written anew in its version 0.5.
 INTEGERS = '54 59 02 01 00 00 02'
 STRINGS = '54 59 04 01 00 00 04'
 BITS = '54 59 03 01 00 00 03'
@@ -71,11 +74,13 @@ PINS = [
     ('pyasn1', 'wide boolean', '54 59 01 01 00 00 01', 0, '01 02 00 FF', ('no', 25, 0), True),
     ('pyasn1', 'indefinite primitive', STRINGS, 0, '04 80 00 00', ('no', 23, 0), True),
     ('pyasn1', 'form bit', '54 59 32 01 02 00 00 01 01 54 59 01 01 00 00 01', 0, '80 03 01 01 FF', ('no', 24, 0), True),
-    ('pyasn1', 'several items', TAGGED, 0, 'A0 80 01 01 00 01 01 FF 00 00', ('no', 26, 5), True),
-    ('pyasn1', 'several items', '54 59 05 02 02 00 00 00 00 05', 0, 'A0 80 00 00', ('no', 24, 2), True),
+    ('pyasn1 from 0.5', 'several items', TAGGED, 0, 'A0 80 01 01 00 01 01 FF 00 00', ('no', 26, 5), True),
+    ('pyasn1 from 0.5', 'several items', '54 59 05 02 02 00 00 00 00 05', 0, 'A0 80 00 00', ('no', 24, 2), True),
+    ('pyasn1 from 0.5', 'no item', EMPTY, 0, 'A5 80 00 00', ('no', 24, 0), True),
+    ('pyasn1 before 0.5', 'octets behind', TAGGED, 0, 'A0 06 01 01 00 01 01 FF', ('no', 26, 5), True),
     ('pyasn1', 'repeated member', '54 59 11 01 00 00 11 01 01 00 54 59 05 01 00 00 05', 0, '31 04 05 00 05 00', ('no', 26, 4), True),
-    ('pyasn1', 'more than 8 length octets', STRINGS, 0, '04 89 00 00 00 00 00 00 00 00 01 55', ('ok',), False),
-    ('pyasn1', 'an empty item of indefinite length in a CHOICE', '54 59 32 00 01 01 ' + EMPTY, 0, '30 80 00 00', ('ok',), False),
+    ('pyasn1 from 0.5', 'more than 8 length octets', STRINGS, 0, '04 89 00 00 00 00 00 00 00 00 01 55', ('ok',), False),
+    ('pyasn1 from 0.5', 'an empty item of indefinite length in a CHOICE', '54 59 32 00 01 01 ' + EMPTY, 0, '30 80 00 00', ('ok',), False),
     ('pyasn1', 'a SET of indefinite length, last member first',
      '54 59 11 01 00 00 11 02 01 00 02 00 54 59 05 01 02 00 00 54 59 05 01 02 00 01', 0, '31 80 81 00 80 00 00 00', ('ok',), False),
 ]
@@ -302,8 +307,8 @@ def with_pyasn1(args, R, tally):
             tally.add('pyasn1 writes, we refuse: explained: spare octets of a negative INTEGER')
         else:
             back = they.decode(t, m)
-            if back[0] == 'ok' and same(we, back[1]):
-                tally.add('pyasn1 writes another value, which both read: explained: an absent optional SET member is sent')
+            if back[0] == 'ok' and (same(we, back[1]) or lax_reading('pyasn1', table, t, m, back[1]) == {'spare octets'}):
+                tally.add('pyasn1 writes another value: explained: an absent optional member is sent')
             else:
                 tally.fault('pyasn1 writes, we read', table, t, m, we, ('ok', tree))
     return 'pyasn1 ' + python_asn1.VERSION
@@ -322,7 +327,7 @@ def pinned(args, tally):
             tally.fault('pinned, ' + rule, table, t, m, mine, answer)
         if coder in ('erlang', 'both') and theirs.startswith('ok') != accepts:
             tally.fault('pinned, erlang, ' + rule, table, t, m, mine, (theirs,))
-        if coder in ('pyasn1', 'both'):
+        if coder in ('pyasn1', 'both', 'pyasn1 before 0.5' if python_asn1.OLD else 'pyasn1 from 0.5'):
             they = python_asn1.Coder(model.check(table)).decode(t, m) if not make.circular(model.check(table)) else ('error', '')
             if (they[0] == 'ok') != accepts:
                 tally.fault('pinned, pyasn1, ' + rule, table, t, m, mine, they)
@@ -332,7 +337,7 @@ def pinned(args, tally):
 def main():
     here = os.path.dirname(os.path.abspath(__file__))
     p = argparse.ArgumentParser(description=__doc__)
-    p.add_argument('--ours', default=os.path.join(here, 'model_cases'), help='a command that answers document 01\'s cases')
+    p.add_argument('--ours', default=os.path.join(here, '..', '..', 'cases'), help='a command that answers document 01\'s cases')
     p.add_argument('--seed', type=int, default=1)
     p.add_argument('--tables', type=int, default=200, help='tables for each coder')
     p.add_argument('--values', type=int, default=2, help='values of each type')

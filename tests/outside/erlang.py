@@ -5,7 +5,7 @@ import subprocess
 
 from make import circular
 from model import (BIT_STRING, BOOLEAN, CHOICE, CONSTRUCTED, ENUMERATED, INTEGER, LISTS, MEMBERS, NULL, OCTET_STRING, SEQUENCE,
-                   SEQUENCE_OF, SET, SET_OF)
+                   SEQUENCE_OF, SET, SET_OF, named)
 
 NAME = {BOOLEAN: 'BOOLEAN', INTEGER: 'INTEGER', BIT_STRING: 'BIT STRING', OCTET_STRING: 'OCTET STRING', NULL: 'NULL',
         ENUMERATED: 'ENUMERATED', SEQUENCE: 'SEQUENCE', SET: 'SET', SEQUENCE_OF: 'SEQUENCE OF', SET_OF: 'SET OF', CHOICE: 'CHOICE'}
@@ -43,9 +43,11 @@ def text(module, records):
 def takes(records):
     """Whether OTP codes such a table as X.680 says; what it cannot is named in the notes on the outside coders."""
     on_circle = circular(records)
+    bare = [i for i in on_circle if any(c == 0 for c, _ in records[i][1])]
     return (all(n <= 16383 for _, tags, _ in records for _, n in tags)
             and all(len(records[i][1]) <= 1 for i in on_circle)
-            and not any(records[i][0] == SET for i in on_circle))
+            and not any(records[i][0] == SET for i in on_circle)
+            and not any(sum(i in named(records[k]) for k in on_circle) > 1 for i in bare))
 
 
 def term(tree):

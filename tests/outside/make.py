@@ -181,9 +181,9 @@ def encoding(R, records, t, tree, tame=False):
     return m, (kind, sent)
 
 
-def relengthened(R, m, most=126):
-    """The items of a definite message with other permitted lengths, found without a table."""
-    out, p = b'', 0
+def items(m):
+    """The items of a definite message, found without a table: [identifier, contents octets or a list of items]."""
+    out, p = [], 0
     while p < len(m):
         q = p + 1
         if m[p] & 31 == 31:
@@ -194,9 +194,16 @@ def relengthened(R, m, most=126):
         if n > 127:
             k = n - 128
             n, q = int.from_bytes(m[q:q + k], 'big'), q + k
-        c, p = m[q:q + n], q + n
-        out += constructed(R, i, relengthened(R, c, most), most) if i[0] & 32 else i + length(R, len(c), most) + c
+        out.append([i, items(m[q:q + n]) if i[0] & 32 else m[q:q + n]])
+        p = q + n
     return out
+
+
+def relengthened(R, m, most=126):
+    """A definite message with other permitted lengths."""
+    def spelled(some):
+        return b''.join(constructed(R, i, spelled(c), most) if isinstance(c, list) else i + length(R, len(c), most) + c for i, c in some)
+    return spelled(items(m))
 
 
 def damaged(R, m):
@@ -214,24 +221,6 @@ def damaged(R, m):
         p = R.randrange(len(m))
         return m[:p] + m[p + R.choice([1, 2, 3]):]
     return m + R.choice([b'\0', b'\0\0', R.randbytes(2)])
-
-
-def items(m):
-    """The items of a definite message, found without a table: [identifier, contents octets or a list of items]."""
-    out, p = [], 0
-    while p < len(m):
-        q = p + 1
-        if m[p] & 31 == 31:
-            while m[q] > 127:
-                q += 1
-            q += 1
-        i, n, q = m[p:q], m[q], q + 1
-        if n > 127:
-            k = n - 128
-            n, q = int.from_bytes(m[q:q + k], 'big'), q + k
-        out.append([i, items(m[q:q + n]) if i[0] & 32 else m[q:q + n]])
-        p = q + n
-    return out
 
 
 def joined(some):

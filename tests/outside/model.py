@@ -383,15 +383,41 @@ class Reader:
     def no_members(self, t):
         return 'no members' in self.lax and self.records[t][0] in MEMBERS and not self.records[t][2]
 
-    def passed(self, p, end, indefinite):
-        """Where the contents that begin at p end, whatever items they are."""
-        while True:
-            over, q = self.ended(p, end, indefinite)
+    def hollow(self, p, end):
+        """Where an item ends that is tags around nothing, the innermost of indefinite length; None if it is something else."""
+        try:
+            i, q = self.identifier(p, end)
+            n, q = self.length(p, q, end, False)
+            if not i[0] & 0x20 or not i[0] >> 6:
+                return None
+            e = end if n is None else q + n
+            over, last = self.ended(q, e, n is None)
             if over:
-                return q
+                return last if n is None else None
+            q = self.hollow(q, e)
+            over, last = self.ended(q, e, n is None) if q else (False, q)
+            return last if over else None
+        except No:
+            return None
+
+    def nothing(self, t, p, end):
+        """A value without octets of its own and the end of an item that holds nothing, if that may be taken for it."""
+        kind, _, rules = self.records[t]
+        e = self.hollow(p, end) if 'no item' in self.lax and (kind == NULL or kind in MEMBERS and not rules) else None
+        if e is None:
+            return None
+        self.used.add('no item')
+        return (kind, None if kind == NULL else []), e
+
+    def passed(self, p, end, indefinite):
+        """Where the contents that begin at p end, whatever items they are: one may begin with 00 too, unless another 00 follows."""
+        while indefinite or p < end:
+            if indefinite and p + 2 <= end and self.m[p:p + 2] == b'\0\0':
+                return p + 2
             i, q = self.identifier(p, end)
             n, q = self.length(p, q, end, not i[0] & 0x20)
             p = self.passed(q, end, True) if n is None else self.passed(q, q + n, False) if i[0] & 0x20 else q + n
+        return p
 
     def begins(self, t, at, end):
         try:
@@ -436,12 +462,25 @@ class Reader:
 
     def value(self, t, at, end, level):
         if not self.begins(t, at, end):
+            found = self.nothing(t, at, end)
+            if found:
+                return found
             self.identifier(at, end)
             raise No(24, at)
         if level > LEVELS and not self.may('level'):
             raise No(28, at)
         explicit, mine = self.own(t)
         return self.tagged(t, explicit, mine, at, end, level)
+
+    def under(self, t, explicit, mine, at, end, level):
+        """The item under an explicit tag."""
+        try:
+            return self.tagged(t, explicit, mine, at, end, level)
+        except No:
+            found = self.nothing(t, at, end)
+            if not found:
+                raise
+            return found
 
     def tagged(self, t, explicit, mine, at, end, level):
         kind, _, rules = self.records[t]
@@ -458,13 +497,15 @@ class Reader:
                 raise No(24, p)
             begin = p
             try:
-                tree, p = self.tagged(t, explicit[1:], mine, p, e, level)
+                tree, p = self.under(t, explicit[1:], mine, p, e, level)
+                over, q = self.ended(p, e, n is None)
             except No:
                 if not self.segments(t) or explicit[1:]:
                     raise
                 self.used.add('segments')
                 return (kind, ANY), self.passed(begin, e, n is None)
-            over, q = self.ended(p, e, n is None)
+            if not over and n is not None and self.may('octets behind'):
+                return tree, e
             if not over and not explicit[1:] and (self.segments(t) or self.no_members(t)):
                 self.used.add('segments' if self.segments(t) else 'no members')
                 return (kind, ANY), self.passed(p, e, n is None)

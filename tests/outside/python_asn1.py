@@ -7,6 +7,8 @@ from model import (BIT_STRING, BOOLEAN, CHOICE, CONSTRUCTED, ENUMERATED, INTEGER
                    SEQUENCE, SEQUENCE_OF)
 
 VERSION = pyasn1.__version__
+# Debian's 0.4.8 departs in other ways than the decoder that came with 0.5.
+OLD = tuple(int(x) for x in VERSION.split('.')[:2]) < (0, 5)
 CLASS = [tag.tagClassUniversal, tag.tagClassApplication, tag.tagClassContext, tag.tagClassPrivate]
 PLAIN = {BOOLEAN: univ.Boolean, INTEGER: univ.Integer, BIT_STRING: univ.BitString, OCTET_STRING: univ.OctetString, NULL: univ.Null}
 
