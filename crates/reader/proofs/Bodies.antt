@@ -22,7 +22,7 @@ use Rattle.coding.specs.Value.{Value, set, slots}
 use Rattle.coding.specs.Tags.{explicit}
 use Rattle.coding.specs.Reading.{begun, readBody, readValue}
 use Rattle.reader.specs.Answers.{told, sizesIn}
-use Rattle.reader.specs.Codes.{Ready, Firsts, Shaped, peeked, searchIn, untagged}
+use Rattle.reader.specs.Codes.{Ready, Shaped, peeked, searchIn}
 use Rattle.reader.specs.Noting.{Scanned, readMembers}
 use Rattle.reader.specs.Writing.{IsDone, written, rest, found, partsOf, presenceOf, Right, Fits, IsPlaced}
 use Rattle.reader.specs.declared.answer.Measured.{Measured}
@@ -31,7 +31,6 @@ use Rattle.reader.specs.declared.search.Found.{Found}
 use Rattle.reader.specs.declared.search.Found.the-variants.{Nothing, At}
 use Rattle.reader.proofs.Coded.{count-other}
 use Rattle.reader.proofs.Placing.{presence-length}
-use Rattle.reader.proofs.Searching.{search-here, search-other}
 use Rattle.reader.proofs.Begun.{not-begun, is-begun}
 use Rattle.reader.proofs.Turns.{scanned, written-length, count-few, members-written}
 use Rattle.reader.proofs.Rests.{told-not, told-done, plain-body}
@@ -124,14 +123,7 @@ unfolding recordAt
 is-list tb offs n o k at to md m buf F ek a c =
     lists (look tb offs) (readValue (look tb offs) n) md (drop at m) tb (ownAt tb o) (getD tb (o + 2) 0) (F .done) (λ e. a (ek ∙ e)) (λ e. c (ek ∙ e))
 
--- an item that has the code of a type's first identifier begins a value of it
-module _ (tb offs fs : List ℕ) (t code f : ℕ) (h : Firsts (look tb offs) fs) (ef : f ≡ getD fs t untagged) where
-  pub starts-here : f ≡ code → true ≡ found (searchIn (look tb offs) 129 t code)
-  starts-here e = ap found (search-here tb offs fs 129 t code h (λ z. omega arith) f ef e)
-
-  pub starts-other : (f ≡ code → ⊥) → (f ≡ untagged → ⊥) → false ≡ found (searchIn (look tb offs) 129 t code)
-  starts-other a b = ap found (search-other tb offs fs 129 t code h (λ z. omega arith) f ef a b)
-
+-- whether an item begins a value of a type
 module _ {tb offs fs : List ℕ} (R : Ready tb offs fs) (ob : Octets tb) (m : List ℕ) (om : Octets m) (at t code : ℕ) (ec : code ≡ peeked (readIdentifier (drop at m)))
     (b : Bool) (eb : b ≡ found (searchIn (look tb offs) 129 t code)) where
   pub starts-begun : begun (look tb offs) t (drop at m) ≡ b

@@ -32,7 +32,7 @@ use crate::members::awaited;
 use crate::members::lacking;
 use crate::search::Found;
 use crate::search::among;
-use crate::search::search;
+use crate::search::seek;
 use crate::wrap::Opened;
 use crate::wrap::close;
 use crate::wrap::open;
@@ -208,7 +208,7 @@ pub(crate) fn step(
     ensures { λ r. ⌜ r ≡ told (now (m .entry)) size (awaitedValue (look (now (table .entry)) (now (offsets .entry))) level t (drop at (now (m .entry)))) ⌝ }
 {
     let code = peek(m, at);
-    match search(table, offsets, firsts, t, code, 129) {
+    match seek(table, offsets, firsts, t, code) {
         Found::Nothing => unawaited(m, at),
         Found::At { record, depth } => under(table, offsets, firsts, record, depth, m, at, level),
     }
@@ -351,7 +351,7 @@ fn in_order(
     while j < c {
         let q = p + 2 * j;
         let t = octet(table, q);
-        match search(table, offsets, firsts, t, code, 129) {
+        match seek(table, offsets, firsts, t, code) {
             Found::At { record, depth } => match under(
                 table,
                 offsets,

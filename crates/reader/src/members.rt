@@ -8,7 +8,7 @@ ghost use Rattle.table.specs.Reading.{look, membersAt};
 ghost use Rattle.reader.specs.Codes.{Firsts};
 ghost use Rattle.reader.specs.Noting.{lacks, find};
 use crate::search::Found;
-use crate::search::search;
+use crate::search::seek;
 use octets::octet;
 
 // A member by its place among the members, and what `Found` says of it.
@@ -68,7 +68,7 @@ pub(crate) fn awaited(
         if began[j] == 0 {
             let q = p + 2 * j;
             let t = octet(table, q);
-            match search(table, offsets, firsts, t, code, 129) {
+            match seek(table, offsets, firsts, t, code) {
                 Found::At { record, depth } => {
                     return Next::Member {
                         index: j,

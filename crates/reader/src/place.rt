@@ -31,7 +31,7 @@ use crate::integer::integer_of;
 use crate::length::Length;
 use crate::measure::scan;
 use crate::search::Found;
-use crate::search::search;
+use crate::search::seek;
 use crate::wrap::Opened;
 use crate::wrap::close;
 use crate::wrap::open;
@@ -182,14 +182,7 @@ fn starts(table: &[u8], offsets: &[u16], firsts: &[u32], t: usize, code: usize) 
     requires { ⌜ Firsts (look (now table) (now offsets)) (now firsts) ⌝ }
     ensures { λ r. ⌜ r ≡ found (searchIn (look (now (table .entry)) (now (offsets .entry))) 129 t code) ⌝ }
 {
-    let f = first(firsts, t);
-    if f == code {
-        return true;
-    }
-    if f != 1048576 {
-        return false;
-    }
-    match search(table, offsets, firsts, t, code, 129) {
+    match seek(table, offsets, firsts, t, code) {
         Found::Nothing => false,
         Found::At {
             record: _,

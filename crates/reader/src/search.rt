@@ -78,3 +78,22 @@ pub(crate) fn search(
     let o = offset(offsets, t);
     among(table, offsets, firsts, o, code, fuel - 1)
 }
+
+// The record that begins with the code: t, or one under it.
+pub(crate) fn seek(table: &[u8], offsets: &[u16], firsts: &[u32], t: usize, code: usize) -> Found
+    requires { ⌜ Firsts (look (now table) (now offsets)) (now firsts) ⌝ }
+    ensures { λ r. ⌜ r ≡ searchIn (look (now (table .entry)) (now (offsets .entry))) 129 t code ⌝ }
+{
+    let f = first(firsts, t);
+    if f == code {
+        return Found::At {
+            record: t,
+            depth: 0,
+        };
+    }
+    if f != 1048576 {
+        return Found::Nothing;
+    }
+    let o = offset(offsets, t);
+    among(table, offsets, firsts, o, code, 128)
+}

@@ -74,7 +74,7 @@ use Rattle.reader.proofs.measure.simple.Reads as simple-reads
 use Rattle.reader.proofs.members.awaited.Reads as awaited-reads
 use Rattle.reader.proofs.members.lacking.Reads as lacking-reads
 use Rattle.reader.proofs.search.among.Reads as among-reads
-use Rattle.reader.proofs.search.search.Reads as search-reads
+use Rattle.reader.proofs.search.seek.Reads as seek-reads
 use Rattle.reader.proofs.wrap.close.Reads as close-reads
 use Rattle.reader.proofs.wrap.open.Reads as open-reads
 use Rattle.table.proofs.kind.form_of.Reads as form-of-reads
@@ -395,8 +395,8 @@ pub +alternative+any-order+body+constructed+elements+in-order+item+scan+step+und
       peek-reads.Learnt,
       octet-reads.Asked,
       octet-reads.Learnt,
-      search-reads.Asked,
-      search-reads.Learnt,
+      seek-reads.Asked,
+      seek-reads.Learnt,
       under-below t,
       under.Post,
       grow-reads.Asked,
@@ -417,31 +417,31 @@ pub +alternative+any-order+body+constructed+elements+in-order+item+scan+step+und
     (λ c. search needs)  -- in-order-mul-q
     (λ c. search needs)  -- in-order-add-q
     (λ c κs. search needs)  -- in-order-octet-requires
-    (λ c κs. (c .before .before .before .before .before .before .before .before .before .pre .1 .0 .firsts, omega arith))  -- in-order-search-requires
+    (λ c κs. c .before .before .before .before .before .before .before .before .before .pre .1 .0 .firsts)  -- in-order-seek-requires
     (λ c. search needs)  -- in-order-enum-known-record
-    (λ c κs. let d = found-under _ _ _ _ _ _ _ (c .before .before .before .search .ensures) (c .before .«record» .given .1) in (omega (arith, c .before .before .before .before .before .before .before .before .before .before .before .before .before .pre .0), (c .before .before .before .before .before .before .before .before .before .before .before .before .before .pre .1 .0, c .before .before .before .before .before .before .loop .inv .1, c .before .before .before .before .before .before .before .before .before .before .before .before .before .pre .1 .4, omega arith, omega (arith, c .before .before .before .before .before .before .before .before .before .before .before .before .before .pre .1 .5))))  -- in-order-under-requires
+    (λ c κs. let d = found-under _ _ _ _ _ _ _ (c .before .before .before .seek .ensures) (c .before .«record» .given .1) in (omega (arith, c .before .before .before .before .before .before .before .before .before .before .before .before .before .pre .0), (c .before .before .before .before .before .before .before .before .before .before .before .before .before .pre .1 .0, c .before .before .before .before .before .before .loop .inv .1, c .before .before .before .before .before .before .before .before .before .before .before .before .before .pre .1 .4, omega arith, omega (arith, c .before .before .before .before .before .before .before .before .before .before .before .before .before .pre .1 .5))))  -- in-order-under-requires
     (λ c. search needs)  -- in-order-enum-known-cause
     (λ c. c .before .before .before .before .before .before .before .before .before .before .loop .inv .3)  -- in-order-same-length
-    (λ c. pass-refused _ _ _ _ _ (c .before .before .before .before .before .before .before .before .before .before .before .before .before .before .before .before .before .args .marked) _ _ _ _ _ _ (c .before .before .before .before .before .before .before .before .before .before .loop .inv .1) (c .before .before .before .before .before .before .before .before .before .before .loop .inv .5) (c .before .before .before .before .before .before .before .before .before .loop-test .taken) _ (c .before .before .before .before .before .before .before .before .octet .ensures .0) _ _ _ (is-begun (c .before .before .before .before .before .before .before .before .before .before .before .before .before .before .before .before .before .pre .1 .0) (λ i. c .before .before .before .before .before .before .before .before .before .before .before .before .before .before .before .before .shared-slice-known .given i .fits) (now (c .before .before .before .before .before .before .before .before .before .before .before .before .before .before .before .before .before .args .m)) (λ i. c .before .before .before .before .before .before .before .before .before .before .before .before .before .shared-slice-known4 .given i .fits) (c .before .before .before .before .before .before .before .before .before .before .loop .at) (c .before .before .before .before .before .before .before .before .octet .result) (c .before .before .before .before .before .before .before .before .before .before .loop .code) (c .before .before .before .before .before .before .before .before .before .before .loop .inv .4) _ (c .before .before .before .before .before .before .before .search .ensures) _ _ (c .before .before .before .before .before .«record» .given .1)) (c .before .before .before .under .ensures ∙ sym (found-lifted (c .before .before .before .before .before .before .before .before .before .before .before .before .before .before .before .before .before .pre .1 .0) (λ i. c .before .before .before .before .before .before .before .before .before .before .before .before .before .before .before .before .shared-slice-known .given i .fits) (now (c .before .before .before .before .before .before .before .before .before .before .before .before .before .before .before .before .before .args .m)) (λ i. c .before .before .before .before .before .before .before .before .before .before .before .before .before .shared-slice-known4 .given i .fits) (c .before .before .before .before .before .before .before .before .before .before .loop .at) (c .before .before .before .before .before .before .before .before .before .before .before .before .before .before .before .before .before .args .level) (c .before .before .before .before .before .before .before .before .before .before .loop .code) (c .before .before .before .before .before .before .before .before .before .before .loop .inv .4) _ (c .before .before .before .before .before .before .before .before .octet .result) (c .before .before .before .before .before .before .before .search .ensures) _ _ (c .before .before .before .before .before .«record» .given .1))) (c .before .cause .given .1))  -- in-order-returns
+    (λ c. pass-refused _ _ _ _ _ (c .before .before .before .before .before .before .before .before .before .before .before .before .before .before .before .before .before .args .marked) _ _ _ _ _ _ (c .before .before .before .before .before .before .before .before .before .before .loop .inv .1) (c .before .before .before .before .before .before .before .before .before .before .loop .inv .5) (c .before .before .before .before .before .before .before .before .before .loop-test .taken) _ (c .before .before .before .before .before .before .before .before .octet .ensures .0) _ _ _ (is-begun (c .before .before .before .before .before .before .before .before .before .before .before .before .before .before .before .before .before .pre .1 .0) (λ i. c .before .before .before .before .before .before .before .before .before .before .before .before .before .before .before .before .shared-slice-known .given i .fits) (now (c .before .before .before .before .before .before .before .before .before .before .before .before .before .before .before .before .before .args .m)) (λ i. c .before .before .before .before .before .before .before .before .before .before .before .before .before .shared-slice-known4 .given i .fits) (c .before .before .before .before .before .before .before .before .before .before .loop .at) (c .before .before .before .before .before .before .before .before .octet .result) (c .before .before .before .before .before .before .before .before .before .before .loop .code) (c .before .before .before .before .before .before .before .before .before .before .loop .inv .4) _ (c .before .before .before .before .before .before .before .seek .ensures) _ _ (c .before .before .before .before .before .«record» .given .1)) (c .before .before .before .under .ensures ∙ sym (found-lifted (c .before .before .before .before .before .before .before .before .before .before .before .before .before .before .before .before .before .pre .1 .0) (λ i. c .before .before .before .before .before .before .before .before .before .before .before .before .before .before .before .before .shared-slice-known .given i .fits) (now (c .before .before .before .before .before .before .before .before .before .before .before .before .before .before .before .before .before .args .m)) (λ i. c .before .before .before .before .before .before .before .before .before .before .before .before .before .shared-slice-known4 .given i .fits) (c .before .before .before .before .before .before .before .before .before .before .loop .at) (c .before .before .before .before .before .before .before .before .before .before .before .before .before .before .before .before .before .args .level) (c .before .before .before .before .before .before .before .before .before .before .loop .code) (c .before .before .before .before .before .before .before .before .before .before .loop .inv .4) _ (c .before .before .before .before .before .before .before .before .octet .result) (c .before .before .before .before .before .before .before .seek .ensures) _ _ (c .before .before .before .before .before .«record» .given .1))) (c .before .cause .given .1))  -- in-order-returns
     (λ c. search needs)  -- in-order-enum-known-end
     (λ c. search needs)  -- in-order-add-mark
     (λ c. search needs)  -- in-order-cast-began
     (λ c. search needs)  -- in-order-mul-began
     (λ c. let l : length (now (c .before .before .before .before .before .before .before .before .before .before .before .before .before .before .before .before .before .args .began)) ≡ 16 = ap length (c .before .before .before .before .before .before .before .before .before .before .before .before .before .before .before .before .before .pre .1 .6) in omega (arith, c .before .before .before .before .before .before .before .before .before .before .loop .inv .3, c .before .before .before .before .before .before .before .before .before .loop-test .taken, c .before .before .before .before .before .before .before .before .before .before .before .before .before .before .before .before .before .pre .1 .2))  -- in-order-slice-write-began
-    (λ c κs. let v = value-done _ _ _ _ _ (c .before .before .before .before .before .before .before .before .before .before .loop .inv .1) _ _ _ (is-begun (c .before .before .before .before .before .before .before .before .before .before .before .before .before .before .before .before .before .pre .1 .0) (λ i. c .before .before .before .before .before .before .before .before .before .before .before .before .before .before .before .before .shared-slice-known .given i .fits) (now (c .before .before .before .before .before .before .before .before .before .before .before .before .before .before .before .before .before .args .m)) (λ i. c .before .before .before .before .before .before .before .before .before .before .before .before .before .shared-slice-known4 .given i .fits) (c .before .before .before .before .before .before .before .before .before .before .loop .at) (c .before .before .before .before .before .before .before .before .octet .result) (c .before .before .before .before .before .before .before .before .before .before .loop .code) (c .before .before .before .before .before .before .before .before .before .before .loop .inv .4) _ (c .before .before .before .before .before .before .before .search .ensures) _ _ (c .before .before .before .before .before .«record» .given .1)) (c .before .before .before .under .ensures ∙ sym (found-lifted (c .before .before .before .before .before .before .before .before .before .before .before .before .before .before .before .before .before .pre .1 .0) (λ i. c .before .before .before .before .before .before .before .before .before .before .before .before .before .before .before .before .shared-slice-known .given i .fits) (now (c .before .before .before .before .before .before .before .before .before .before .before .before .before .before .before .before .before .args .m)) (λ i. c .before .before .before .before .before .before .before .before .before .before .before .before .before .shared-slice-known4 .given i .fits) (c .before .before .before .before .before .before .before .before .before .before .loop .at) (c .before .before .before .before .before .before .before .before .before .before .before .before .before .before .before .before .before .args .level) (c .before .before .before .before .before .before .before .before .before .before .loop .code) (c .before .before .before .before .before .before .before .before .before .before .loop .inv .4) _ (c .before .before .before .before .before .before .before .before .octet .result) (c .before .before .before .before .before .before .before .search .ensures) _ _ (c .before .before .before .before .before .«record» .given .1))) (c .before .end .given .1) in (c .before .before .before .before .before .before .before .before .before .before .loop .inv .2, rw (v .sized) (cap-below _)))  -- in-order-grow-requires
-    (λ c κs. let v = value-done _ _ _ _ _ (c .before .before .before .before .before .before .before .before .before .before .before .loop .inv .1) _ _ _ (is-begun (c .before .before .before .before .before .before .before .before .before .before .before .before .before .before .before .before .before .before .pre .1 .0) (λ i. c .before .before .before .before .before .before .before .before .before .before .before .before .before .before .before .before .before .shared-slice-known .given i .fits) (now (c .before .before .before .before .before .before .before .before .before .before .before .before .before .before .before .before .before .before .args .m)) (λ i. c .before .before .before .before .before .before .before .before .before .before .before .before .before .before .shared-slice-known4 .given i .fits) (c .before .before .before .before .before .before .before .before .before .before .before .loop .at) (c .before .before .before .before .before .before .before .before .before .octet .result) (c .before .before .before .before .before .before .before .before .before .before .before .loop .code) (c .before .before .before .before .before .before .before .before .before .before .before .loop .inv .4) _ (c .before .before .before .before .before .before .before .before .search .ensures) _ _ (c .before .before .before .before .before .before .«record» .given .1)) (c .before .before .before .before .under .ensures ∙ sym (found-lifted (c .before .before .before .before .before .before .before .before .before .before .before .before .before .before .before .before .before .before .pre .1 .0) (λ i. c .before .before .before .before .before .before .before .before .before .before .before .before .before .before .before .before .before .shared-slice-known .given i .fits) (now (c .before .before .before .before .before .before .before .before .before .before .before .before .before .before .before .before .before .before .args .m)) (λ i. c .before .before .before .before .before .before .before .before .before .before .before .before .before .before .shared-slice-known4 .given i .fits) (c .before .before .before .before .before .before .before .before .before .before .before .loop .at) (c .before .before .before .before .before .before .before .before .before .before .before .before .before .before .before .before .before .before .args .level) (c .before .before .before .before .before .before .before .before .before .before .before .loop .code) (c .before .before .before .before .before .before .before .before .before .before .before .loop .inv .4) _ (c .before .before .before .before .before .before .before .before .before .octet .result) (c .before .before .before .before .before .before .before .before .search .ensures) _ _ (c .before .before .before .before .before .before .«record» .given .1))) (c .before .before .end .given .1) in (v .within, c .before .before .before .before .before .before .before .before .before .before .before .before .before .before .before .before .before .before .pre .1 .4))  -- in-order-peek-requires-2
+    (λ c κs. let v = value-done _ _ _ _ _ (c .before .before .before .before .before .before .before .before .before .before .loop .inv .1) _ _ _ (is-begun (c .before .before .before .before .before .before .before .before .before .before .before .before .before .before .before .before .before .pre .1 .0) (λ i. c .before .before .before .before .before .before .before .before .before .before .before .before .before .before .before .before .shared-slice-known .given i .fits) (now (c .before .before .before .before .before .before .before .before .before .before .before .before .before .before .before .before .before .args .m)) (λ i. c .before .before .before .before .before .before .before .before .before .before .before .before .before .shared-slice-known4 .given i .fits) (c .before .before .before .before .before .before .before .before .before .before .loop .at) (c .before .before .before .before .before .before .before .before .octet .result) (c .before .before .before .before .before .before .before .before .before .before .loop .code) (c .before .before .before .before .before .before .before .before .before .before .loop .inv .4) _ (c .before .before .before .before .before .before .before .seek .ensures) _ _ (c .before .before .before .before .before .«record» .given .1)) (c .before .before .before .under .ensures ∙ sym (found-lifted (c .before .before .before .before .before .before .before .before .before .before .before .before .before .before .before .before .before .pre .1 .0) (λ i. c .before .before .before .before .before .before .before .before .before .before .before .before .before .before .before .before .shared-slice-known .given i .fits) (now (c .before .before .before .before .before .before .before .before .before .before .before .before .before .before .before .before .before .args .m)) (λ i. c .before .before .before .before .before .before .before .before .before .before .before .before .before .shared-slice-known4 .given i .fits) (c .before .before .before .before .before .before .before .before .before .before .loop .at) (c .before .before .before .before .before .before .before .before .before .before .before .before .before .before .before .before .before .args .level) (c .before .before .before .before .before .before .before .before .before .before .loop .code) (c .before .before .before .before .before .before .before .before .before .before .loop .inv .4) _ (c .before .before .before .before .before .before .before .before .octet .result) (c .before .before .before .before .before .before .before .seek .ensures) _ _ (c .before .before .before .before .before .«record» .given .1))) (c .before .end .given .1) in (c .before .before .before .before .before .before .before .before .before .before .loop .inv .2, rw (v .sized) (cap-below _)))  -- in-order-grow-requires
+    (λ c κs. let v = value-done _ _ _ _ _ (c .before .before .before .before .before .before .before .before .before .before .before .loop .inv .1) _ _ _ (is-begun (c .before .before .before .before .before .before .before .before .before .before .before .before .before .before .before .before .before .before .pre .1 .0) (λ i. c .before .before .before .before .before .before .before .before .before .before .before .before .before .before .before .before .before .shared-slice-known .given i .fits) (now (c .before .before .before .before .before .before .before .before .before .before .before .before .before .before .before .before .before .before .args .m)) (λ i. c .before .before .before .before .before .before .before .before .before .before .before .before .before .before .shared-slice-known4 .given i .fits) (c .before .before .before .before .before .before .before .before .before .before .before .loop .at) (c .before .before .before .before .before .before .before .before .before .octet .result) (c .before .before .before .before .before .before .before .before .before .before .before .loop .code) (c .before .before .before .before .before .before .before .before .before .before .before .loop .inv .4) _ (c .before .before .before .before .before .before .before .before .seek .ensures) _ _ (c .before .before .before .before .before .before .«record» .given .1)) (c .before .before .before .before .under .ensures ∙ sym (found-lifted (c .before .before .before .before .before .before .before .before .before .before .before .before .before .before .before .before .before .before .pre .1 .0) (λ i. c .before .before .before .before .before .before .before .before .before .before .before .before .before .before .before .before .before .shared-slice-known .given i .fits) (now (c .before .before .before .before .before .before .before .before .before .before .before .before .before .before .before .before .before .before .args .m)) (λ i. c .before .before .before .before .before .before .before .before .before .before .before .before .before .before .shared-slice-known4 .given i .fits) (c .before .before .before .before .before .before .before .before .before .before .before .loop .at) (c .before .before .before .before .before .before .before .before .before .before .before .before .before .before .before .before .before .before .args .level) (c .before .before .before .before .before .before .before .before .before .before .before .loop .code) (c .before .before .before .before .before .before .before .before .before .before .before .loop .inv .4) _ (c .before .before .before .before .before .before .before .before .before .octet .result) (c .before .before .before .before .before .before .before .before .seek .ensures) _ _ (c .before .before .before .before .before .before .«record» .given .1))) (c .before .before .end .given .1) in (v .within, c .before .before .before .before .before .before .before .before .before .before .before .before .before .before .before .before .before .before .pre .1 .4))  -- in-order-peek-requires-2
     (λ c. omega (arith, c .before .before .before .before .before .before .before .before .before .before .before .loop-test .taken, c .before .before .before .before .before .before .before .before .before .before .before .before .before .before .before .before .before .before .before .pre .1 .2))  -- in-order-add-j
     (λ c. search needs)  -- in-order-loop-less
-    (λ c. let v = value-done _ _ _ _ _ (c .before .before .before .before .before .before .before .before .before .before .before .before .loop .inv .1) _ _ _ (is-begun (c .before .before .before .before .before .before .before .before .before .before .before .before .before .before .before .before .before .before .before .pre .1 .0) (λ i. c .before .before .before .before .before .before .before .before .before .before .before .before .before .before .before .before .before .before .shared-slice-known .given i .fits) (now (c .before .before .before .before .before .before .before .before .before .before .before .before .before .before .before .before .before .before .before .args .m)) (λ i. c .before .before .before .before .before .before .before .before .before .before .before .before .before .before .before .shared-slice-known4 .given i .fits) (c .before .before .before .before .before .before .before .before .before .before .before .before .loop .at) (c .before .before .before .before .before .before .before .before .before .before .octet .result) (c .before .before .before .before .before .before .before .before .before .before .before .before .loop .code) (c .before .before .before .before .before .before .before .before .before .before .before .before .loop .inv .4) _ (c .before .before .before .before .before .before .before .before .before .search .ensures) _ _ (c .before .before .before .before .before .before .before .«record» .given .1)) (c .before .before .before .before .before .under .ensures ∙ sym (found-lifted (c .before .before .before .before .before .before .before .before .before .before .before .before .before .before .before .before .before .before .before .pre .1 .0) (λ i. c .before .before .before .before .before .before .before .before .before .before .before .before .before .before .before .before .before .before .shared-slice-known .given i .fits) (now (c .before .before .before .before .before .before .before .before .before .before .before .before .before .before .before .before .before .before .before .args .m)) (λ i. c .before .before .before .before .before .before .before .before .before .before .before .before .before .before .before .shared-slice-known4 .given i .fits) (c .before .before .before .before .before .before .before .before .before .before .before .before .loop .at) (c .before .before .before .before .before .before .before .before .before .before .before .before .before .before .before .before .before .before .before .args .level) (c .before .before .before .before .before .before .before .before .before .before .before .before .loop .code) (c .before .before .before .before .before .before .before .before .before .before .before .before .loop .inv .4) _ (c .before .before .before .before .before .before .before .before .before .before .octet .result) (c .before .before .before .before .before .before .before .before .before .search .ensures) _ _ (c .before .before .before .before .before .before .before .«record» .given .1))) (c .before .before .before .end .given .1) in let l : length (now (c .before .before .before .before .before .before .before .before .before .before .before .before .before .before .before .before .before .before .before .args .began)) ≡ 16 = ap length (c .before .before .before .before .before .before .before .before .before .before .before .before .before .before .before .before .before .before .before .pre .1 .6) in (omega (arith, c .before .before .before .before .before .before .before .before .before .before .before .loop-test .taken), v .within, rw (c .before .grow .ensures) (cap-below _), rw length-set (c .before .before .before .before .before .before .before .before .before .before .before .before .loop .inv .3), c .peek2 .ensures, rw (c .before .grow .ensures) (pass-came _ _ _ _ _ (c .before .before .before .before .before .before .before .before .before .before .before .before .before .before .before .before .before .before .before .args .marked) _ _ _ _ _ _ (c .before .before .before .before .before .before .before .before .before .before .before .before .loop .inv .1) (c .before .before .before .before .before .before .before .before .before .before .before .before .loop .inv .5) (c .before .before .before .before .before .before .before .before .before .before .before .loop-test .taken) _ (c .before .before .before .before .before .before .before .before .before .before .octet .ensures .0) _ _ (omega (arith, c .before .before .before .before .before .before .before .before .before .before .before .before .loop .inv .3, c .before .before .before .before .before .before .before .before .before .before .before .loop-test .taken, c .before .before .before .before .before .before .before .before .before .before .before .before .before .before .before .before .before .before .before .pre .1 .2)) v)))  -- in-order-loop-again
+    (λ c. let v = value-done _ _ _ _ _ (c .before .before .before .before .before .before .before .before .before .before .before .before .loop .inv .1) _ _ _ (is-begun (c .before .before .before .before .before .before .before .before .before .before .before .before .before .before .before .before .before .before .before .pre .1 .0) (λ i. c .before .before .before .before .before .before .before .before .before .before .before .before .before .before .before .before .before .before .shared-slice-known .given i .fits) (now (c .before .before .before .before .before .before .before .before .before .before .before .before .before .before .before .before .before .before .before .args .m)) (λ i. c .before .before .before .before .before .before .before .before .before .before .before .before .before .before .before .shared-slice-known4 .given i .fits) (c .before .before .before .before .before .before .before .before .before .before .before .before .loop .at) (c .before .before .before .before .before .before .before .before .before .before .octet .result) (c .before .before .before .before .before .before .before .before .before .before .before .before .loop .code) (c .before .before .before .before .before .before .before .before .before .before .before .before .loop .inv .4) _ (c .before .before .before .before .before .before .before .before .before .seek .ensures) _ _ (c .before .before .before .before .before .before .before .«record» .given .1)) (c .before .before .before .before .before .under .ensures ∙ sym (found-lifted (c .before .before .before .before .before .before .before .before .before .before .before .before .before .before .before .before .before .before .before .pre .1 .0) (λ i. c .before .before .before .before .before .before .before .before .before .before .before .before .before .before .before .before .before .before .shared-slice-known .given i .fits) (now (c .before .before .before .before .before .before .before .before .before .before .before .before .before .before .before .before .before .before .before .args .m)) (λ i. c .before .before .before .before .before .before .before .before .before .before .before .before .before .before .before .shared-slice-known4 .given i .fits) (c .before .before .before .before .before .before .before .before .before .before .before .before .loop .at) (c .before .before .before .before .before .before .before .before .before .before .before .before .before .before .before .before .before .before .before .args .level) (c .before .before .before .before .before .before .before .before .before .before .before .before .loop .code) (c .before .before .before .before .before .before .before .before .before .before .before .before .loop .inv .4) _ (c .before .before .before .before .before .before .before .before .before .before .octet .result) (c .before .before .before .before .before .before .before .before .before .seek .ensures) _ _ (c .before .before .before .before .before .before .before .«record» .given .1))) (c .before .before .before .end .given .1) in let l : length (now (c .before .before .before .before .before .before .before .before .before .before .before .before .before .before .before .before .before .before .before .args .began)) ≡ 16 = ap length (c .before .before .before .before .before .before .before .before .before .before .before .before .before .before .before .before .before .before .before .pre .1 .6) in (omega (arith, c .before .before .before .before .before .before .before .before .before .before .before .loop-test .taken), v .within, rw (c .before .grow .ensures) (cap-below _), rw length-set (c .before .before .before .before .before .before .before .before .before .before .before .before .loop .inv .3), c .peek2 .ensures, rw (c .before .grow .ensures) (pass-came _ _ _ _ _ (c .before .before .before .before .before .before .before .before .before .before .before .before .before .before .before .before .before .before .before .args .marked) _ _ _ _ _ _ (c .before .before .before .before .before .before .before .before .before .before .before .before .loop .inv .1) (c .before .before .before .before .before .before .before .before .before .before .before .before .loop .inv .5) (c .before .before .before .before .before .before .before .before .before .before .before .loop-test .taken) _ (c .before .before .before .before .before .before .before .before .before .before .octet .ensures .0) _ _ (omega (arith, c .before .before .before .before .before .before .before .before .before .before .before .before .loop .inv .3, c .before .before .before .before .before .before .before .before .before .before .before .loop-test .taken, c .before .before .before .before .before .before .before .before .before .before .before .before .before .before .before .before .before .before .before .pre .1 .2)) v)))  -- in-order-loop-again
     (λ c. search needs)  -- in-order-enum-told
     (λ c. search needs)  -- in-order-add-f
     (λ c κs. search needs)  -- in-order-octet-requires-2
     (λ c κs. (c .before .before .before .before .before .before .before .loop .inv .1, c .before .before .before .before .before .before .before .before .before .before .before .before .before .before .pre .1 .4))  -- in-order-missing-requires
     (λ c. c .before .before .before .before .before .before .before .before .loop .inv .3)  -- in-order-same-length-2
-    (λ c. pass-missing _ _ _ _ _ (c .before .before .before .before .before .before .before .before .before .before .before .before .before .before .before .args .marked) _ _ _ _ _ _ (c .before .before .before .before .before .before .before .before .loop .inv .1) (c .before .before .before .before .before .before .before .before .loop .inv .5) (c .before .before .before .before .before .before .before .loop-test .taken) _ (c .before .before .before .before .before .before .octet .ensures .0) (not-begun (c .before .before .before .before .before .before .before .before .before .before .before .before .before .before .before .pre .1 .0) (λ i. c .before .before .before .before .before .before .before .before .before .before .before .before .before .before .shared-slice-known .given i .fits) (now (c .before .before .before .before .before .before .before .before .before .before .before .before .before .before .before .args .m)) (λ i. c .before .before .before .before .before .before .before .before .before .before .before .shared-slice-known4 .given i .fits) (c .before .before .before .before .before .before .before .before .loop .at) (c .before .before .before .before .before .before .octet .result) (c .before .before .before .before .before .before .before .before .loop .code) (c .before .before .before .before .before .before .before .before .loop .inv .4) _ (c .before .before .before .before .before .search .ensures) (c .before .before .before .enum-told .given .1)) (λ e. c .before .if1 .taken (c .before .before .octet2 .ensures .0 ∙ e)) _ (c .missing .ensures))  -- in-order-returns-2
+    (λ c. pass-missing _ _ _ _ _ (c .before .before .before .before .before .before .before .before .before .before .before .before .before .before .before .args .marked) _ _ _ _ _ _ (c .before .before .before .before .before .before .before .before .loop .inv .1) (c .before .before .before .before .before .before .before .before .loop .inv .5) (c .before .before .before .before .before .before .before .loop-test .taken) _ (c .before .before .before .before .before .before .octet .ensures .0) (not-begun (c .before .before .before .before .before .before .before .before .before .before .before .before .before .before .before .pre .1 .0) (λ i. c .before .before .before .before .before .before .before .before .before .before .before .before .before .before .shared-slice-known .given i .fits) (now (c .before .before .before .before .before .before .before .before .before .before .before .before .before .before .before .args .m)) (λ i. c .before .before .before .before .before .before .before .before .before .before .before .shared-slice-known4 .given i .fits) (c .before .before .before .before .before .before .before .before .loop .at) (c .before .before .before .before .before .before .octet .result) (c .before .before .before .before .before .before .before .before .loop .code) (c .before .before .before .before .before .before .before .before .loop .inv .4) _ (c .before .before .before .before .before .seek .ensures) (c .before .before .before .enum-told .given .1)) (λ e. c .before .if1 .taken (c .before .before .octet2 .ensures .0 ∙ e)) _ (c .missing .ensures))  -- in-order-returns-2
     (λ c. omega (arith, c .before .before .before .before .before .before .loop-test .taken, c .before .before .before .before .before .before .before .before .before .before .before .before .before .before .pre .1 .2))  -- in-order-add-j-2
     (λ c. search needs)  -- in-order-loop-less-2
-    (λ c. let l : length (now (c .before .before .before .before .before .before .before .before .before .before .before .before .before .before .args .began)) ≡ 16 = ap length (c .before .before .before .before .before .before .before .before .before .before .before .before .before .before .pre .1 .6) in (omega (arith, c .before .before .before .before .before .before .loop-test .taken), c .before .before .before .before .before .before .before .loop .inv .1, c .before .before .before .before .before .before .before .loop .inv .2, c .before .before .before .before .before .before .before .loop .inv .3, c .before .before .before .before .before .before .before .loop .inv .4, pass-over _ _ _ _ _ (c .before .before .before .before .before .before .before .before .before .before .before .before .before .before .args .marked) _ _ _ _ _ _ (c .before .before .before .before .before .before .before .loop .inv .1) (c .before .before .before .before .before .before .before .loop .inv .5) (c .before .before .before .before .before .before .loop-test .taken) _ (c .before .before .before .before .before .octet .ensures .0) (omega (arith, c .before .before .before .before .before .before .before .loop .inv .3, c .before .before .before .before .before .before .loop-test .taken, c .before .before .before .before .before .before .before .before .before .before .before .before .before .before .pre .1 .2)) (not-begun (c .before .before .before .before .before .before .before .before .before .before .before .before .before .before .pre .1 .0) (λ i. c .before .before .before .before .before .before .before .before .before .before .before .before .before .shared-slice-known .given i .fits) (now (c .before .before .before .before .before .before .before .before .before .before .before .before .before .before .args .m)) (λ i. c .before .before .before .before .before .before .before .before .before .before .shared-slice-known4 .given i .fits) (c .before .before .before .before .before .before .before .loop .at) (c .before .before .before .before .before .octet .result) (c .before .before .before .before .before .before .before .loop .code) (c .before .before .before .before .before .before .before .loop .inv .4) _ (c .before .before .before .before .search .ensures) (c .before .before .enum-told .given .1)) (sym (c .before .octet2 .ensures .0) ∙ c .if1 .left)))  -- in-order-loop-again-2
+    (λ c. let l : length (now (c .before .before .before .before .before .before .before .before .before .before .before .before .before .before .args .began)) ≡ 16 = ap length (c .before .before .before .before .before .before .before .before .before .before .before .before .before .before .pre .1 .6) in (omega (arith, c .before .before .before .before .before .before .loop-test .taken), c .before .before .before .before .before .before .before .loop .inv .1, c .before .before .before .before .before .before .before .loop .inv .2, c .before .before .before .before .before .before .before .loop .inv .3, c .before .before .before .before .before .before .before .loop .inv .4, pass-over _ _ _ _ _ (c .before .before .before .before .before .before .before .before .before .before .before .before .before .before .args .marked) _ _ _ _ _ _ (c .before .before .before .before .before .before .before .loop .inv .1) (c .before .before .before .before .before .before .before .loop .inv .5) (c .before .before .before .before .before .before .loop-test .taken) _ (c .before .before .before .before .before .octet .ensures .0) (omega (arith, c .before .before .before .before .before .before .before .loop .inv .3, c .before .before .before .before .before .before .loop-test .taken, c .before .before .before .before .before .before .before .before .before .before .before .before .before .before .pre .1 .2)) (not-begun (c .before .before .before .before .before .before .before .before .before .before .before .before .before .before .pre .1 .0) (λ i. c .before .before .before .before .before .before .before .before .before .before .before .before .before .shared-slice-known .given i .fits) (now (c .before .before .before .before .before .before .before .before .before .before .before .before .before .before .args .m)) (λ i. c .before .before .before .before .before .before .before .before .before .before .shared-slice-known4 .given i .fits) (c .before .before .before .before .before .before .before .loop .at) (c .before .before .before .before .before .octet .result) (c .before .before .before .before .before .before .before .loop .code) (c .before .before .before .before .before .before .before .loop .inv .4) _ (c .before .before .before .before .seek .ensures) (c .before .before .enum-told .given .1)) (sym (c .before .octet2 .ensures .0) ∙ c .if1 .left)))  -- in-order-loop-again-2
     (λ c κs. (c .before .loop .inv .1, c .before .before .before .before .before .before .before .before .pre .1 .4))  -- in-order-ending-requires
     (λ c. search needs)  -- in-order-enum-known-end-2
     (λ c. search needs)  -- in-order-enum-known-cause-2
@@ -518,8 +518,8 @@ pub +alternative+any-order+body+constructed+elements+in-order+item+scan+step+und
     (λ t. step-lts.spec (
       peek-reads.Asked,
       peek-reads.Learnt,
-      search-reads.Asked,
-      search-reads.Learnt,
+      seek-reads.Asked,
+      seek-reads.Learnt,
       unawaited-reads.Asked,
       unawaited-reads.Learnt,
       under-below t,
@@ -528,13 +528,13 @@ pub +alternative+any-order+body+constructed+elements+in-order+item+scan+step+und
     (step-at t)
     step.Post
     (λ c κs. search needs)  -- step-peek-requires
-    (λ c κs. (c .before .before .before .before .before .pre .1 .0 .firsts, omega arith))  -- step-search-requires
+    (λ c κs. c .before .before .before .before .before .pre .1 .0 .firsts)  -- step-seek-requires
     (λ c. search needs)  -- step-enum-told
     (λ c κs. search needs)  -- step-unawaited-requires
     (λ c. search needs)  -- step-enum-known-record
-    (λ c κs. (omega (arith, c .before .before .before .before .before .before .before .before .before .pre .0), (c .before .before .before .before .before .before .before .before .before .pre .1 .0, c .before .before .before .before .before .before .before .before .before .pre .1 .1, c .before .before .before .before .before .before .before .before .before .pre .1 .2, omega (arith, found-under _ _ _ _ _ _ _ (c .before .before .before .search .ensures) (c .before .«record» .given .1)), omega (arith, c .before .before .before .before .before .before .before .before .before .pre .1 .3))))  -- step-under-requires
-    (λ c. step-none (c .before .before .before .before .before .before .before .before .before .pre .1 .0) (λ i. omega (arith, c .before .before .before .before .before .before .before .before .shared-slice-known .given i)) _ (λ i. omega (arith, c .before .before .before .before .before .shared-slice-known4 .given i)) (c .before .before .before .before .before .before .before .before .before .args .at) (c .before .before .before .before .before .before .before .before .before .args .level) _ (c .before .before .before .before .peek .ensures) _ _ (c .before .before .before .search .ensures) (c .before .enum-told .given .1) (c .unawaited .ensures))  -- step-returns
-    (λ c. step-found (c .before .before .before .before .before .before .before .before .before .before .pre .1 .0) (λ i. omega (arith, c .before .before .before .before .before .before .before .before .before .shared-slice-known .given i)) _ (λ i. omega (arith, c .before .before .before .before .before .before .shared-slice-known4 .given i)) (c .before .before .before .before .before .before .before .before .before .before .args .at) (c .before .before .before .before .before .before .before .before .before .before .args .level) _ (c .before .before .before .before .before .peek .ensures) _ _ (c .before .before .before .before .search .ensures) _ _ (c .before .before .«record» .given .1) (c .under .ensures)))  -- step-returns-2
+    (λ c κs. (omega (arith, c .before .before .before .before .before .before .before .before .before .pre .0), (c .before .before .before .before .before .before .before .before .before .pre .1 .0, c .before .before .before .before .before .before .before .before .before .pre .1 .1, c .before .before .before .before .before .before .before .before .before .pre .1 .2, omega (arith, found-under _ _ _ _ _ _ _ (c .before .before .before .seek .ensures) (c .before .«record» .given .1)), omega (arith, c .before .before .before .before .before .before .before .before .before .pre .1 .3))))  -- step-under-requires
+    (λ c. step-none (c .before .before .before .before .before .before .before .before .before .pre .1 .0) (λ i. omega (arith, c .before .before .before .before .before .before .before .before .shared-slice-known .given i)) _ (λ i. omega (arith, c .before .before .before .before .before .shared-slice-known4 .given i)) (c .before .before .before .before .before .before .before .before .before .args .at) (c .before .before .before .before .before .before .before .before .before .args .level) _ (c .before .before .before .before .peek .ensures) _ _ (c .before .before .before .seek .ensures) (c .before .enum-told .given .1) (c .unawaited .ensures))  -- step-returns
+    (λ c. step-found (c .before .before .before .before .before .before .before .before .before .before .pre .1 .0) (λ i. omega (arith, c .before .before .before .before .before .before .before .before .before .shared-slice-known .given i)) _ (λ i. omega (arith, c .before .before .before .before .before .before .shared-slice-known4 .given i)) (c .before .before .before .before .before .before .before .before .before .before .args .at) (c .before .before .before .before .before .before .before .before .before .before .args .level) _ (c .before .before .before .before .before .peek .ensures) _ _ (c .before .before .before .before .seek .ensures) _ _ (c .before .before .«record» .given .1) (c .under .ensures)))  -- step-returns-2
     (λ t. under-lts.spec
     (value-below t, value.Post, grow-reads.Asked, grow-reads.Learnt)
     (under-at t)

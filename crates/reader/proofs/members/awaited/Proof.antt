@@ -10,7 +10,7 @@ use Rattle.reader.proofs.members.awaited.Tie as tie
 use Rattle.reader.proofs.members.awaited.Reads as reads
 use Rattle.reader.proofs.members.awaited.Lts as lts
 use Rattle.octets.proofs.octet.Reads as octet-reads
-use Rattle.reader.proofs.search.search.Reads as search-reads
+use Rattle.reader.proofs.search.seek.Reads as seek-reads
 
 abbrev Inv-loop : tie.InvT-loop
 Inv-loop table offsets firsts p c began code j₀ j = (j ≤ c) × (find (look table offsets) 0 (membersAt table p c) began code ≡ Finds (look table offsets) table p c began code j)
@@ -30,13 +30,13 @@ awaited-spec =
     (λ c. omega (arith, c .before .before .loop-test .taken, c .before .before .before .before .before .before .before .before .pre .3))  -- mul-q
     (λ c. omega (arith, c .before .before .loop-test .taken, c .before .before .before .before .before .before .before .before .pre .1, c .before .before .before .before .before .before .before .before .pre .3))  -- add-q
     (λ c κs. search needs)  -- octet-requires
-    (λ c κs. (c .before .before .before .before .before .before .before .before .before .pre .0, omega arith))  -- search-requires
+    (λ c κs. c .before .before .before .before .before .before .before .before .before .pre .0)  -- seek-requires
     (λ c. search needs)  -- enum-known-record
-    (λ c. sym (c .before .before .before .before .before .before .before .before .loop .inv .1 ∙ finds-hit _ _ _ _ _ _ _ (c .before .before .before .before .before .before .before .loop-test .taken) (c .before .before .before .before .before .if1 .taken) _ (c .before .before .before .before .octet .ensures .0) _ (c .before .before .before .search .ensures) _ _ (c .before .«record» .given .1)))  -- returns
+    (λ c. sym (c .before .before .before .before .before .before .before .before .loop .inv .1 ∙ finds-hit _ _ _ _ _ _ _ (c .before .before .before .before .before .before .before .loop-test .taken) (c .before .before .before .before .before .if1 .taken) _ (c .before .before .before .before .octet .ensures .0) _ (c .before .before .before .seek .ensures) _ _ (c .before .«record» .given .1)))  -- returns
     (λ c. search needs)  -- enum-told
     (λ c. omega (arith, c .before .before .before .before .before .before .loop-test .taken, c .before .before .before .before .before .before .before .before .before .before .before .before .pre .3))  -- add-j
     (λ c. omega (arith, c .before .before .before .before .before .before .loop-test .taken))  -- loop-less
-    (λ c. (omega (arith, c .before .before .before .before .before .before .loop-test .taken), c .before .before .before .before .before .before .before .loop .inv .1 ∙ finds-miss _ _ _ _ _ _ _ (c .before .before .before .before .before .before .loop-test .taken) (c .before .before .before .before .if1 .taken) _ (c .before .before .before .octet .ensures .0) _ (c .before .before .search .ensures) (c .enum-told .given .1)))  -- loop-again
+    (λ c. (omega (arith, c .before .before .before .before .before .before .loop-test .taken), c .before .before .before .before .before .before .before .loop .inv .1 ∙ finds-miss _ _ _ _ _ _ _ (c .before .before .before .before .before .before .loop-test .taken) (c .before .before .before .before .if1 .taken) _ (c .before .before .before .octet .ensures .0) _ (c .before .before .seek .ensures) (c .enum-told .given .1)))  -- loop-again
     (λ c. omega (arith, c .before .before .loop-test .taken, c .before .before .before .before .before .before .before .before .pre .3))  -- add-j-2
     (λ c. omega (arith, c .before .before .loop-test .taken))  -- loop-less-2
     (λ c. (omega (arith, c .before .before .loop-test .taken), c .before .before .before .loop .inv .1 ∙ finds-came _ _ _ _ _ _ _ (c .before .before .loop-test .taken) (c .if1 .left)))  -- loop-again-2
