@@ -99,7 +99,7 @@ around-end n [] e a = omega arith
 around-end n (k ∷ ns) e a = let h = around-end (innerEnd ns e) ns e (a .3) in omega (arith, a .1)
 
 -- under a record's explicit tags
-nil-of : (l : List (List ℕ)) → length l ≡ 0 → l ≡ []
+pub nil-of : (l : List (List ℕ)) → length l ≡ 0 → l ≡ []
 nil-of [] h = refl
 nil-of (x ∷ l) h = absurd (omega arith)
 

@@ -13,6 +13,7 @@ use lib.ListN.{length, getD, take, drop, length-append, length-drop}
 use lib.Seq.{length-take-le}
 use Rattle.octets.specs.Answer.{Answer, got, refused, then, if, if-cases, none-left, behind, got-holds, got-value}
 use Rattle.octets.specs.Tests.{test}
+use Rattle.octets.specs.Numbers.{Octets}
 use Rattle.octets.specs.Permutations.{as-given}
 use Rattle.octets.proofs.Lists.{behind as behind-part, length-behind}
 use Rattle.ber.specs.Identifier.{readIdentifier}
@@ -45,7 +46,8 @@ use Rattle.reader.specs.declared.length.Length.the-variants.{Definite, I
 use Rattle.reader.specs.declared.wrap.Opened.{Opened}
 use Rattle.reader.specs.declared.wrap.Opened.the-variants.{Inside, Refused as NotOpened}
 use Rattle.reader.proofs.Told.{left-at}
-use Rattle.reader.proofs.Done.{lengths, Item, value-is, around-end, part-is, header-definite, header-indefinite}
+use Rattle.reader.proofs.Done.{lengths, Item, value-is, nil-of, bare-is, around-end, part-is, header-definite, header-indefinite}
+use Rattle.reader.proofs.Begun.{headed}
 use Rattle.reader.proofs.Coded.{length-tags}
 use Rattle.reader.proofs.Placing.{part-length}
 use Rattle.reader.proofs.Simple.{none-yes, none-no}
@@ -211,6 +213,19 @@ unfolding look
 item-plain tb offs n t o k code s f eo ek ef g eh =
     let (q, b) = plain-of tb o (rw ek at (sym ef ∙ g)) in
     rw (← eo) (plain-read (look tb offs) (readValue (look tb offs) n) (own (recordAt tb o)) s code (recordAt tb o .body) q b eh)
+
+-- a value of a simple kind that has no explicit tag
+bare-first : (r : Record) (q : Simple) → r .body ≡ Plain q → length (explicit r) ≡ 0 → firstOf r ≡ codeOf (own r)
+unfolding firstOf outermost bodyFirst
+bare-first r q b h = rw (nil-of (explicit r) h, b) refl
+
+pub plain-value : {tb offs fs : List ℕ} → Ready tb offs fs → Octets tb → (m : List ℕ) → Octets m → (at level t o code : ℕ) → o ≡ getD offs t 65535 → 0 < level → length (explicit (recordAt tb o)) ≡ 0
+    → formOf (getD tb (o + 2) 0) ≡ FSimple → code ≡ getD fs t untagged → readValue (look tb offs) level t (drop at m) ≡ plainBy code (recordAt tb o .body) (drop at m)
+unfolding look
+plain-value {tb} {offs} {fs} R ob m om at level t o code eo some bare simple ec =
+    let (q, b) = plain-of tb o simple in
+    let g : code ≡ codeOf (own (recordAt tb o)) = ec ∙ R .firsts t ∙ rw (← eo) (bare-first (recordAt tb o) q b bare) in
+    bare-is tb offs level t o (drop at m) eo some bare ∙ item-plain tb offs (level - 1) t o (getD tb (o + 2) 0) code (drop at m) (formOf (getD tb (o + 2) 0)) eo refl refl simple (headed R ob m om at t o code eo g)
 
 -- an item with contents that a reader reads
 module _ (code : ℕ) (body : Mode → List ℕ → Answer Value) (m : List ℕ) (at : ℕ) (low : at ≤ length m) (r : Length) (er : r ≡ asLength (length m) (headerBy code (drop at m))) where

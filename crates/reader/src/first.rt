@@ -1,12 +1,13 @@
 // The codes of the tags in a table.
 ghost use mathlib.Core.Path.{_≡_};
-ghost use mathlib.Core.Bool.{Bool};
+ghost use mathlib.Core.Bool.{Bool, true};
 ghost use Prim.Native.Nat.{ℕ, _≤_, _<_, _+_, _*_, _-_};
 ghost use lib.ListN.{length, getD};
 ghost use Rattle.ber.specs.Identifier.{identifier};
 ghost use Rattle.octets.specs.Numbers.{two};
 ghost use Rattle.table.specs.Reading.{look, recordAt};
-ghost use Rattle.table.specs.Fields.{choiceOf};
+ghost use Rattle.table.specs.Fields.{choiceOf, formOf};
+ghost use Rattle.table.specs.declared.kind.Form.the-variants.{Simple};
 ghost use Rattle.coding.specs.Tags.{own, explicit};
 ghost use Rattle.reader.specs.Codes.{codeOf, firstOf, untagged, Firsts};
 use octets::number;
@@ -55,6 +56,18 @@ pub(crate) fn explicit_count(table: &[u8], o: u16) -> usize
         return 0;
     }
     c - 1
+}
+
+// Whether the record at o is of a simple kind and has no explicit tag.
+pub(crate) fn is_plain(table: &[u8], o: u16) -> bool
+    ensures { λ r. ⌜ (r ≡ true → (length (explicit (recordAt (now (table .entry)) o)) ≡ 0) × (formOf (getD (now (table .entry)) (o + 2) 0) ≡ Simple)) ⌝ }
+{
+    match form_of(kind(table, o)) {
+        Form::Simple => tag_count(table, o) < 2,
+        Form::Members => false,
+        Form::Of => false,
+        Form::Choice => false,
+    }
 }
 
 // The code of the record's own identifier.

@@ -22,6 +22,7 @@ use crate::ending::ending;
 use crate::ending::missing;
 use crate::first::explicit_count;
 use crate::first::first;
+use crate::first::is_plain;
 use crate::first::own_code;
 use crate::header::header;
 use crate::identifier::peek;
@@ -89,6 +90,9 @@ pub(crate) fn value(
     ensures { λ r. ⌜ r ≡ told (now (m .entry)) size (readValue (look (now (table .entry)) (now (offsets .entry))) level t (drop at (now (m .entry)))) ⌝ }
 {
     let o = offset(offsets, t);
+    if is_plain(table, o) {
+        return simple(table, o, first(firsts, t), m, at);
+    }
     let count = explicit_count(table, o);
     let below = level - 1;
     if count == 0 {

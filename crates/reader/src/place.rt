@@ -1,7 +1,6 @@
 // Places the value of a message that was measured: no refusal is left.
 // m is the message up to the end of the octets in which an item stands; `at` is a place in it; `to` is the place in the buffer.
 ghost use mathlib.Core.Path.{_≡_};
-ghost use mathlib.Core.Bool.{true};
 ghost use mathlib.Core.List.{[], _∷_};
 ghost use Prim.Native.Nat.{_≤_, _<_, _+_, _-_, _*_, _/_, _%_};
 ghost use lib.ListN.{length, getD, drop};
@@ -14,7 +13,7 @@ ghost use Rattle.table.specs.Reading.{look, recordAt, membersAt};
 ghost use Rattle.table.specs.Fields.{formOf};
 ghost use Rattle.table.specs.declared.kind.Form.the-variants.{Simple, Of};
 ghost use Rattle.coding.specs.Value.{leafOctets, flag};
-ghost use Rattle.coding.specs.Tags.{own as Tags·own, explicit};
+ghost use Rattle.coding.specs.Tags.{own as Tags·own};
 ghost use Rattle.coding.specs.Reading.{readValue, readKind, readBody, choose};
 ghost use Rattle.reader.specs.Answers.{mode};
 ghost use Rattle.reader.specs.Codes.{Ready, Firsts, Shaped, searchIn, plainBy, constructedBy};
@@ -23,7 +22,7 @@ use crate::answer::Measured;
 use crate::ending::End;
 use crate::ending::ending;
 use crate::first::explicit_count;
-use crate::first::first;
+use crate::first::is_plain;
 use crate::header::header;
 use crate::identifier::peek;
 use crate::integer::bits;
@@ -42,7 +41,6 @@ use table::record::kind;
 use table::record::offset;
 use table::record::own;
 use table::record::parts;
-use table::record::tag_count;
 
 const POWERS: [u8; 8] = [1, 2, 4, 8, 16, 32, 64, 128];
 
@@ -188,18 +186,6 @@ fn starts(table: &[u8], offsets: &[u16], firsts: &[u32], t: usize, code: usize) 
             record: _,
             depth: _,
         } => true,
-    }
-}
-
-// Whether the record at o is of a simple kind and has no explicit tag.
-fn is_plain(table: &[u8], o: u16) -> bool
-    ensures { λ r. ⌜ (r ≡ true → (length (explicit (recordAt (now (table .entry)) o)) ≡ 0) × (formOf (getD (now (table .entry)) (o + 2) 0) ≡ Simple)) ⌝ }
-{
-    match form_of(kind(table, o)) {
-        Form::Simple => tag_count(table, o) < 2,
-        Form::Members => false,
-        Form::Of => false,
-        Form::Choice => false,
     }
 }
 

@@ -5,7 +5,7 @@ use Rattle.reader.proofs.Arriving.{InSet, begins, set-broken, set-full,
 use Rattle.reader.proofs.Begun.{headed, is-begun, not-begun}
 use Rattle.reader.proofs.Done.{bare-is, header-definite, header-indefinite}
 use Rattle.reader.proofs.Forms.{item-choice, item-members, item-of}
-use Rattle.reader.proofs.Measuring.{built-no, built-open, built-part-done, built-part-no, choice-body, item-done, item-end, item-no, item-plain, many-done, many-no, members-done, members-no, scan-few, scan-members, scan-sequence, scan-set, simple-body, tags-around, tags-end, tags-from, tags-no}
+use Rattle.reader.proofs.Measuring.{built-no, built-open, built-part-done, built-part-no, choice-body, item-done, item-end, item-no, item-plain, many-done, many-no, members-done, members-no, plain-value, scan-few, scan-members, scan-sequence, scan-set, simple-body, tags-around, tags-end, tags-from, tags-no}
 use Rattle.reader.proofs.Passing.{Elements, Passing, cap-below, elements-broken, elements-none, elements-over, elements-refused, elements-turn, pass-broken, pass-came, pass-end, pass-missing, pass-over, pass-refused, pass-unawaited, pass-unwanted, passing-none}
 use Rattle.reader.proofs.Records.{few-tags, shaped-at}
 use Rattle.reader.proofs.Searching.{found-under}
@@ -66,6 +66,8 @@ use Rattle.reader.proofs.answer.grow.Reads as grow-reads
 use Rattle.reader.proofs.ending.ending.Reads as ending-reads
 use Rattle.reader.proofs.ending.missing.Reads as missing-reads
 use Rattle.reader.proofs.first.explicit_count.Reads as explicit-count-reads
+use Rattle.reader.proofs.first.first.Reads as first-reads
+use Rattle.reader.proofs.first.is_plain.Reads as is-plain-reads
 use Rattle.reader.proofs.header.header.Reads as header-reads
 use Rattle.reader.proofs.identifier.peek.Reads as peek-reads
 use Rattle.reader.proofs.identifier.unawaited.Reads as unawaited-reads
@@ -551,6 +553,12 @@ pub +alternative+any-order+body+constructed+elements+in-order+item+scan+step+und
     λ t. value-lts.spec (
       offset-reads.Asked,
       offset-reads.Learnt,
+      is-plain-reads.Asked,
+      is-plain-reads.Learnt,
+      first-reads.Asked,
+      first-reads.Learnt,
+      simple-reads.Asked,
+      simple-reads.Learnt,
       explicit-count-reads.Asked,
       explicit-count-reads.Learnt,
       item-below t,
@@ -563,20 +571,24 @@ pub +alternative+any-order+body+constructed+elements+in-order+item+scan+step+und
     (value-at t)
     value.Post
     (λ c κs. search needs)  -- value-offset-requires
+    (λ c κs. search needs)  -- value-is-plain-requires
+    (λ c κs. search needs)  -- value-first-requires
+    (λ c κs. (c .before .before .is-plain .ensures (c .before .if1 .taken) .1, c .before .before .before .before .before .before .before .before .pre .1 .1, c .before .before .before .before .before .before .before .before .pre .1 .2))  -- value-simple-requires
+    (λ c. rw (plain-value (c .before .before .before .before .before .before .before .before .before .pre .1 .0) (λ i. c .before .before .before .before .before .before .before .before .shared-slice-known .given i .fits) (now (c .before .before .before .before .before .before .before .before .before .args .m)) (λ i. c .before .before .before .before .before .shared-slice-known4 .given i .fits) (c .before .before .before .before .before .before .before .before .before .args .at) (c .before .before .before .before .before .before .before .before .before .args .level) (c .before .before .before .before .before .before .before .before .before .args .t) (c .before .before .before .before .offset .result) (c .before .first .result) (c .before .before .before .before .offset .ensures) (c .before .before .before .before .before .before .before .before .before .pre .1 .3) (c .before .before .before .is-plain .ensures (c .before .before .if1 .taken) .0) (c .before .before .before .is-plain .ensures (c .before .before .if1 .taken) .1) (c .before .first .ensures .0)) (c .simple .ensures))  -- value-returns
     (λ c κs. search needs)  -- value-explicit-count-requires
-    (λ c. omega (arith, c .before .before .before .before .before .before .pre .1 .3))  -- value-sub-below
-    (λ c κs. (omega (arith, c .before .before .before .before .before .before .before .pre .0, c .before .before .before .before .before .before .before .pre .1 .3), (c .before .before .before .before .before .before .before .pre .1 .0, c .before .before .before .before .before .before .before .pre .1 .1, c .before .before .before .before .before .before .before .pre .1 .2, omega (arith, c .before .before .before .before .before .before .before .pre .1 .3, c .before .before .before .before .before .before .before .pre .1 .4))))  -- value-item-requires
-    (λ c. rw (bare-is (now (c .before .before .before .before .before .before .before .before .args .table)) (now (c .before .before .before .before .before .before .before .before .args .offsets)) (c .before .before .before .before .before .before .before .before .args .level) (c .before .before .before .before .before .before .before .before .args .t) (c .before .before .before .offset .result) (drop (c .before .before .before .before .before .before .before .before .args .at) (now (c .before .before .before .before .before .before .before .before .args .m))) (c .before .before .before .offset .ensures) (c .before .before .before .before .before .before .before .before .pre .1 .3) (sym (c .before .before .explicit-count .ensures .0) ∙ c .before .if1 .taken)) (c .item .ensures))  -- value-returns
+    (λ c. omega (arith, c .before .before .before .before .before .before .before .before .pre .1 .3))  -- value-sub-below
+    (λ c κs. (omega (arith, c .before .before .before .before .before .before .before .before .before .pre .0, c .before .before .before .before .before .before .before .before .before .pre .1 .3), (c .before .before .before .before .before .before .before .before .before .pre .1 .0, c .before .before .before .before .before .before .before .before .before .pre .1 .1, c .before .before .before .before .before .before .before .before .before .pre .1 .2, omega (arith, c .before .before .before .before .before .before .before .before .before .pre .1 .3, c .before .before .before .before .before .before .before .before .before .pre .1 .4))))  -- value-item-requires
+    (λ c. rw (bare-is (now (c .before .before .before .before .before .before .before .before .before .before .args .table)) (now (c .before .before .before .before .before .before .before .before .before .before .args .offsets)) (c .before .before .before .before .before .before .before .before .before .before .args .level) (c .before .before .before .before .before .before .before .before .before .before .args .t) (c .before .before .before .before .before .offset .result) (drop (c .before .before .before .before .before .before .before .before .before .before .args .at) (now (c .before .before .before .before .before .before .before .before .before .before .args .m))) (c .before .before .before .before .before .offset .ensures) (c .before .before .before .before .before .before .before .before .before .before .pre .1 .3) (sym (c .before .before .explicit-count .ensures .0) ∙ c .before .if2 .taken)) (c .item .ensures))  -- value-returns-2
     (λ c. refl)  -- value-slice-aggregate-open
-    (λ c κs. let f = few-tags (c .before .before .before .before .before .before .before .before .pre .1 .0) _ _ (c .before .before .before .offset .ensures) in (c .before .before .explicit-count .ensures .0, omega (arith, c .before .before .explicit-count .ensures .0), refl, c .before .before .before .before .before .before .before .before .pre .1 .1, c .before .before .before .before .before .before .before .before .pre .1 .2))  -- value-open-requires
+    (λ c κs. let f = few-tags (c .before .before .before .before .before .before .before .before .before .before .pre .1 .0) _ _ (c .before .before .before .before .before .offset .ensures) in (c .before .before .explicit-count .ensures .0, omega (arith, c .before .before .explicit-count .ensures .0), refl, c .before .before .before .before .before .before .before .before .before .before .pre .1 .1, c .before .before .before .before .before .before .before .before .before .before .pre .1 .2))  -- value-open-requires
     (λ c. search needs)  -- value-enum-known-cause
     (λ c. search needs)  -- value-enum-known-from
-    (λ c. sym (length-take-le _ (now (c .before .before .before .before .before .before .before .before .before .before .before .before .before .before .args .m)) (tags-end (now (c .before .before .before .before .before .before .before .before .before .before .before .before .before .before .args .table)) (now (c .before .before .before .before .before .before .before .before .before .before .before .before .before .before .args .offsets)) (c .before .before .before .before .before .before .before .before .before .before .before .before .before .before .args .level) (c .before .before .before .before .before .before .before .before .before .before .before .before .before .before .args .t) (c .before .before .before .before .before .before .before .before .before .offset .result) (now (c .before .before .before .before .before .before .before .before .before .before .before .before .before .before .args .m)) (c .before .before .before .before .before .before .before .before .before .before .before .before .before .before .args .at) (c .before .before .before .before .before .before .before .before .before .offset .ensures) (c .before .before .before .before .before .before .before .before .before .before .before .before .before .before .pre .1 .3) _ (c .before .before .before .before .before .«open» .result) (c .before .before .before .before .before .«open» .ensures) _ _ (c .before .before .from .given .1))))  -- value-slice-aggregate-part
-    (λ c κs. let w = tags-end (now (c .before .before .before .before .before .before .before .before .before .before .before .before .before .before .args .table)) (now (c .before .before .before .before .before .before .before .before .before .before .before .before .before .before .args .offsets)) (c .before .before .before .before .before .before .before .before .before .before .before .before .before .before .args .level) (c .before .before .before .before .before .before .before .before .before .before .before .before .before .before .args .t) (c .before .before .before .before .before .before .before .before .before .offset .result) (now (c .before .before .before .before .before .before .before .before .before .before .before .before .before .before .args .m)) (c .before .before .before .before .before .before .before .before .before .before .before .before .before .before .args .at) (c .before .before .before .before .before .before .before .before .before .offset .ensures) (c .before .before .before .before .before .before .before .before .before .before .before .before .before .before .pre .1 .3) _ (c .before .before .before .before .before .«open» .result) (c .before .before .before .before .before .«open» .ensures) _ _ (c .before .before .from .given .1) in let l = length-take-le _ (now (c .before .before .before .before .before .before .before .before .before .before .before .before .before .before .args .m)) w in (omega (arith, c .before .before .before .before .before .before .before .before .before .before .before .before .before .before .pre .0, c .before .before .before .before .before .before .before .before .before .before .before .before .before .before .pre .1 .3), (c .before .before .before .before .before .before .before .before .before .before .before .before .before .before .pre .1 .0, omega (arith, tags-from (now (c .before .before .before .before .before .before .before .before .before .before .before .before .before .before .args .table)) (now (c .before .before .before .before .before .before .before .before .before .before .before .before .before .before .args .offsets)) (c .before .before .before .before .before .before .before .before .before .before .before .before .before .before .args .level) (c .before .before .before .before .before .before .before .before .before .before .before .before .before .before .args .t) (c .before .before .before .before .before .before .before .before .before .offset .result) (now (c .before .before .before .before .before .before .before .before .before .before .before .before .before .before .args .m)) (c .before .before .before .before .before .before .before .before .before .before .before .before .before .before .args .at) (c .before .before .before .before .before .before .before .before .before .offset .ensures) (c .before .before .before .before .before .before .before .before .before .before .before .before .before .before .pre .1 .3) _ (c .before .before .before .before .before .«open» .result) (c .before .before .before .before .before .«open» .ensures) _ _ (c .before .before .from .given .1)), omega (arith, w, c .before .before .before .before .before .before .before .before .before .before .before .before .before .before .pre .1 .2), omega (arith, c .before .before .before .before .before .before .before .before .before .before .before .before .before .before .pre .1 .3, c .before .before .before .before .before .before .before .before .before .before .before .before .before .before .pre .1 .4))))  -- value-item-requires-2
+    (λ c. sym (length-take-le _ (now (c .before .before .before .before .before .before .before .before .before .before .before .before .before .before .before .before .args .m)) (tags-end (now (c .before .before .before .before .before .before .before .before .before .before .before .before .before .before .before .before .args .table)) (now (c .before .before .before .before .before .before .before .before .before .before .before .before .before .before .before .before .args .offsets)) (c .before .before .before .before .before .before .before .before .before .before .before .before .before .before .before .before .args .level) (c .before .before .before .before .before .before .before .before .before .before .before .before .before .before .before .before .args .t) (c .before .before .before .before .before .before .before .before .before .before .before .offset .result) (now (c .before .before .before .before .before .before .before .before .before .before .before .before .before .before .before .before .args .m)) (c .before .before .before .before .before .before .before .before .before .before .before .before .before .before .before .before .args .at) (c .before .before .before .before .before .before .before .before .before .before .before .offset .ensures) (c .before .before .before .before .before .before .before .before .before .before .before .before .before .before .before .before .pre .1 .3) _ (c .before .before .before .before .before .«open» .result) (c .before .before .before .before .before .«open» .ensures) _ _ (c .before .before .from .given .1))))  -- value-slice-aggregate-part
+    (λ c κs. let w = tags-end (now (c .before .before .before .before .before .before .before .before .before .before .before .before .before .before .before .before .args .table)) (now (c .before .before .before .before .before .before .before .before .before .before .before .before .before .before .before .before .args .offsets)) (c .before .before .before .before .before .before .before .before .before .before .before .before .before .before .before .before .args .level) (c .before .before .before .before .before .before .before .before .before .before .before .before .before .before .before .before .args .t) (c .before .before .before .before .before .before .before .before .before .before .before .offset .result) (now (c .before .before .before .before .before .before .before .before .before .before .before .before .before .before .before .before .args .m)) (c .before .before .before .before .before .before .before .before .before .before .before .before .before .before .before .before .args .at) (c .before .before .before .before .before .before .before .before .before .before .before .offset .ensures) (c .before .before .before .before .before .before .before .before .before .before .before .before .before .before .before .before .pre .1 .3) _ (c .before .before .before .before .before .«open» .result) (c .before .before .before .before .before .«open» .ensures) _ _ (c .before .before .from .given .1) in let l = length-take-le _ (now (c .before .before .before .before .before .before .before .before .before .before .before .before .before .before .before .before .args .m)) w in (omega (arith, c .before .before .before .before .before .before .before .before .before .before .before .before .before .before .before .before .pre .0, c .before .before .before .before .before .before .before .before .before .before .before .before .before .before .before .before .pre .1 .3), (c .before .before .before .before .before .before .before .before .before .before .before .before .before .before .before .before .pre .1 .0, omega (arith, tags-from (now (c .before .before .before .before .before .before .before .before .before .before .before .before .before .before .before .before .args .table)) (now (c .before .before .before .before .before .before .before .before .before .before .before .before .before .before .before .before .args .offsets)) (c .before .before .before .before .before .before .before .before .before .before .before .before .before .before .before .before .args .level) (c .before .before .before .before .before .before .before .before .before .before .before .before .before .before .before .before .args .t) (c .before .before .before .before .before .before .before .before .before .before .before .offset .result) (now (c .before .before .before .before .before .before .before .before .before .before .before .before .before .before .before .before .args .m)) (c .before .before .before .before .before .before .before .before .before .before .before .before .before .before .before .before .args .at) (c .before .before .before .before .before .before .before .before .before .before .before .offset .ensures) (c .before .before .before .before .before .before .before .before .before .before .before .before .before .before .before .before .pre .1 .3) _ (c .before .before .before .before .before .«open» .result) (c .before .before .before .before .before .«open» .ensures) _ _ (c .before .before .from .given .1)), omega (arith, w, c .before .before .before .before .before .before .before .before .before .before .before .before .before .before .before .before .pre .1 .2), omega (arith, c .before .before .before .before .before .before .before .before .before .before .before .before .before .before .before .before .pre .1 .3, c .before .before .before .before .before .before .before .before .before .before .before .before .before .before .before .before .pre .1 .4))))  -- value-item-requires-2
     (λ c. search needs)  -- value-enum-known-cause-2
     (λ c. search needs)  -- value-enum-known-next
     (λ c. search needs)  -- value-slice-aggregate-close
-    (λ c κs. let f = few-tags (c .before .before .before .before .before .before .before .before .before .before .before .before .before .before .before .before .before .before .before .pre .1 .0) _ _ (c .before .before .before .before .before .before .before .before .before .before .before .before .before .before .offset .ensures) in let z = item-end (now (c .before .before .before .before .before .before .before .before .before .before .before .before .before .before .before .before .before .before .before .args .table)) (now (c .before .before .before .before .before .before .before .before .before .before .before .before .before .before .before .before .before .before .before .args .offsets)) (c .before .before .before .before .before .before .before .before .before .before .before .before .before .before .before .before .before .before .before .args .level) (c .before .before .before .before .before .before .before .before .before .before .before .before .before .before .before .before .before .before .before .args .t) (c .before .before .before .before .before .before .before .before .before .before .before .before .before .before .offset .result) (now (c .before .before .before .before .before .before .before .before .before .before .before .before .before .before .before .before .before .before .before .args .m)) (c .before .before .before .before .before .before .before .before .before .before .before .before .before .before .before .before .before .before .before .args .at) (c .before .before .before .before .before .before .before .before .before .before .before .before .before .before .offset .ensures) (c .before .before .before .before .before .before .before .before .before .before .before .before .before .before .before .before .before .before .before .pre .1 .3) _ (c .before .before .before .before .before .before .before .before .before .before .«open» .result) (c .before .before .before .before .before .before .before .before .before .before .«open» .ensures) _ _ (c .before .before .before .before .before .before .before .from .given .1) (c .before .before .before .before .item2 .result) (c .before .before .before .before .item2 .ensures) _ _ (c .before .before .next .given .1) in (omega (arith, c .before .before .before .before .before .before .before .before .before .before .before .before .before .explicit-count .ensures .0, c .before .before .before .before .before .before .before .before .before .before .«open» .kept .1 .1 .1 .1 .1 .0), z .0, c .before .before .before .before .before .before .before .before .before .before .before .before .before .before .before .before .before .before .before .pre .1 .2, z .1, tags-around (now (c .before .before .before .before .before .before .before .before .before .before .before .before .before .before .before .before .before .before .before .args .table)) (now (c .before .before .before .before .before .before .before .before .before .before .before .before .before .before .before .before .before .before .before .args .offsets)) (c .before .before .before .before .before .before .before .before .before .before .before .before .before .before .before .before .before .before .before .args .level) (c .before .before .before .before .before .before .before .before .before .before .before .before .before .before .before .before .before .before .before .args .t) (c .before .before .before .before .before .before .before .before .before .before .before .before .before .before .offset .result) (now (c .before .before .before .before .before .before .before .before .before .before .before .before .before .before .before .before .before .before .before .args .m)) (c .before .before .before .before .before .before .before .before .before .before .before .before .before .before .before .before .before .before .before .args .at) (c .before .before .before .before .before .before .before .before .before .before .before .before .before .before .offset .ensures) (c .before .before .before .before .before .before .before .before .before .before .before .before .before .before .before .before .before .before .before .pre .1 .3) _ (c .before .before .before .before .before .before .before .before .before .before .«open» .result) (c .before .before .before .before .before .before .before .before .before .before .«open» .ensures) _ _ (c .before .before .before .before .before .before .before .from .given .1)))  -- value-close-requires
-    (λ c. tags-no (now (c .before .before .before .before .before .before .before .before .before .before .before .before .before .args .table)) (now (c .before .before .before .before .before .before .before .before .before .before .before .before .before .args .offsets)) (c .before .before .before .before .before .before .before .before .before .before .before .before .before .args .level) (c .before .before .before .before .before .before .before .before .before .before .before .before .before .args .t) (c .before .before .before .before .before .before .before .before .offset .result) (now (c .before .before .before .before .before .before .before .before .before .before .before .before .before .args .m)) (c .before .before .before .before .before .before .before .before .before .before .before .before .before .args .at) (c .before .before .before .before .before .before .before .before .offset .ensures) (c .before .before .before .before .before .before .before .before .before .before .before .before .before .pre .1 .3) _ (c .before .before .before .before .«open» .result) (c .before .before .before .before .«open» .ensures) _ _ (c .before .cause .given .1))  -- value-returns-2
-    (λ c. item-no (now (c .before .before .before .before .before .before .before .before .before .before .before .before .before .before .before .before .before .before .args .table)) (now (c .before .before .before .before .before .before .before .before .before .before .before .before .before .before .before .before .before .before .args .offsets)) (c .before .before .before .before .before .before .before .before .before .before .before .before .before .before .before .before .before .before .args .level) (c .before .before .before .before .before .before .before .before .before .before .before .before .before .before .before .before .before .before .args .t) (c .before .before .before .before .before .before .before .before .before .before .before .before .before .offset .result) (now (c .before .before .before .before .before .before .before .before .before .before .before .before .before .before .before .before .before .before .args .m)) (c .before .before .before .before .before .before .before .before .before .before .before .before .before .before .before .before .before .before .args .at) (c .before .before .before .before .before .before .before .before .before .before .before .before .before .offset .ensures) (c .before .before .before .before .before .before .before .before .before .before .before .before .before .before .before .before .before .before .pre .1 .3) _ (c .before .before .before .before .before .before .before .before .before .«open» .result) (c .before .before .before .before .before .before .before .before .before .«open» .ensures) _ _ (c .before .before .before .before .before .before .from .given .1) (c .before .before .before .item2 .result) (c .before .before .before .item2 .ensures) _ _ (c .before .cause2 .given .1))  -- value-returns-3
-    (λ c. c .close .ensures ∙ item-done (now (c .before .before .before .before .before .before .before .before .before .before .before .before .before .before .before .before .before .before .before .before .args .table)) (now (c .before .before .before .before .before .before .before .before .before .before .before .before .before .before .before .before .before .before .before .before .args .offsets)) (c .before .before .before .before .before .before .before .before .before .before .before .before .before .before .before .before .before .before .before .before .args .level) (c .before .before .before .before .before .before .before .before .before .before .before .before .before .before .before .before .before .before .before .before .args .t) (c .before .before .before .before .before .before .before .before .before .before .before .before .before .before .before .offset .result) (now (c .before .before .before .before .before .before .before .before .before .before .before .before .before .before .before .before .before .before .before .before .args .m)) (c .before .before .before .before .before .before .before .before .before .before .before .before .before .before .before .before .before .before .before .before .args .at) (c .before .before .before .before .before .before .before .before .before .before .before .before .before .before .before .offset .ensures) (c .before .before .before .before .before .before .before .before .before .before .before .before .before .before .before .before .before .before .before .before .pre .1 .3) _ (c .before .before .before .before .before .before .before .before .before .before .before .«open» .result) (c .before .before .before .before .before .before .before .before .before .before .before .«open» .ensures) _ _ (c .before .before .before .before .before .before .before .before .from .given .1) (c .before .before .before .before .before .item2 .result) (c .before .before .before .before .before .item2 .ensures) _ _ (c .before .before .before .next .given .1))  -- value-returns-4
+    (λ c κs. let f = few-tags (c .before .before .before .before .before .before .before .before .before .before .before .before .before .before .before .before .before .before .before .before .before .pre .1 .0) _ _ (c .before .before .before .before .before .before .before .before .before .before .before .before .before .before .before .before .offset .ensures) in let z = item-end (now (c .before .before .before .before .before .before .before .before .before .before .before .before .before .before .before .before .before .before .before .before .before .args .table)) (now (c .before .before .before .before .before .before .before .before .before .before .before .before .before .before .before .before .before .before .before .before .before .args .offsets)) (c .before .before .before .before .before .before .before .before .before .before .before .before .before .before .before .before .before .before .before .before .before .args .level) (c .before .before .before .before .before .before .before .before .before .before .before .before .before .before .before .before .before .before .before .before .before .args .t) (c .before .before .before .before .before .before .before .before .before .before .before .before .before .before .before .before .offset .result) (now (c .before .before .before .before .before .before .before .before .before .before .before .before .before .before .before .before .before .before .before .before .before .args .m)) (c .before .before .before .before .before .before .before .before .before .before .before .before .before .before .before .before .before .before .before .before .before .args .at) (c .before .before .before .before .before .before .before .before .before .before .before .before .before .before .before .before .offset .ensures) (c .before .before .before .before .before .before .before .before .before .before .before .before .before .before .before .before .before .before .before .before .before .pre .1 .3) _ (c .before .before .before .before .before .before .before .before .before .before .«open» .result) (c .before .before .before .before .before .before .before .before .before .before .«open» .ensures) _ _ (c .before .before .before .before .before .before .before .from .given .1) (c .before .before .before .before .item2 .result) (c .before .before .before .before .item2 .ensures) _ _ (c .before .before .next .given .1) in (omega (arith, c .before .before .before .before .before .before .before .before .before .before .before .before .before .explicit-count .ensures .0, c .before .before .before .before .before .before .before .before .before .before .«open» .kept .1 .1 .1 .1 .1 .0), z .0, c .before .before .before .before .before .before .before .before .before .before .before .before .before .before .before .before .before .before .before .before .before .pre .1 .2, z .1, tags-around (now (c .before .before .before .before .before .before .before .before .before .before .before .before .before .before .before .before .before .before .before .before .before .args .table)) (now (c .before .before .before .before .before .before .before .before .before .before .before .before .before .before .before .before .before .before .before .before .before .args .offsets)) (c .before .before .before .before .before .before .before .before .before .before .before .before .before .before .before .before .before .before .before .before .before .args .level) (c .before .before .before .before .before .before .before .before .before .before .before .before .before .before .before .before .before .before .before .before .before .args .t) (c .before .before .before .before .before .before .before .before .before .before .before .before .before .before .before .before .offset .result) (now (c .before .before .before .before .before .before .before .before .before .before .before .before .before .before .before .before .before .before .before .before .before .args .m)) (c .before .before .before .before .before .before .before .before .before .before .before .before .before .before .before .before .before .before .before .before .before .args .at) (c .before .before .before .before .before .before .before .before .before .before .before .before .before .before .before .before .offset .ensures) (c .before .before .before .before .before .before .before .before .before .before .before .before .before .before .before .before .before .before .before .before .before .pre .1 .3) _ (c .before .before .before .before .before .before .before .before .before .before .«open» .result) (c .before .before .before .before .before .before .before .before .before .before .«open» .ensures) _ _ (c .before .before .before .before .before .before .before .from .given .1)))  -- value-close-requires
+    (λ c. tags-no (now (c .before .before .before .before .before .before .before .before .before .before .before .before .before .before .before .args .table)) (now (c .before .before .before .before .before .before .before .before .before .before .before .before .before .before .before .args .offsets)) (c .before .before .before .before .before .before .before .before .before .before .before .before .before .before .before .args .level) (c .before .before .before .before .before .before .before .before .before .before .before .before .before .before .before .args .t) (c .before .before .before .before .before .before .before .before .before .before .offset .result) (now (c .before .before .before .before .before .before .before .before .before .before .before .before .before .before .before .args .m)) (c .before .before .before .before .before .before .before .before .before .before .before .before .before .before .before .args .at) (c .before .before .before .before .before .before .before .before .before .before .offset .ensures) (c .before .before .before .before .before .before .before .before .before .before .before .before .before .before .before .pre .1 .3) _ (c .before .before .before .before .«open» .result) (c .before .before .before .before .«open» .ensures) _ _ (c .before .cause .given .1))  -- value-returns-3
+    (λ c. item-no (now (c .before .before .before .before .before .before .before .before .before .before .before .before .before .before .before .before .before .before .before .before .args .table)) (now (c .before .before .before .before .before .before .before .before .before .before .before .before .before .before .before .before .before .before .before .before .args .offsets)) (c .before .before .before .before .before .before .before .before .before .before .before .before .before .before .before .before .before .before .before .before .args .level) (c .before .before .before .before .before .before .before .before .before .before .before .before .before .before .before .before .before .before .before .before .args .t) (c .before .before .before .before .before .before .before .before .before .before .before .before .before .before .before .offset .result) (now (c .before .before .before .before .before .before .before .before .before .before .before .before .before .before .before .before .before .before .before .before .args .m)) (c .before .before .before .before .before .before .before .before .before .before .before .before .before .before .before .before .before .before .before .before .args .at) (c .before .before .before .before .before .before .before .before .before .before .before .before .before .before .before .offset .ensures) (c .before .before .before .before .before .before .before .before .before .before .before .before .before .before .before .before .before .before .before .before .pre .1 .3) _ (c .before .before .before .before .before .before .before .before .before .«open» .result) (c .before .before .before .before .before .before .before .before .before .«open» .ensures) _ _ (c .before .before .before .before .before .before .from .given .1) (c .before .before .before .item2 .result) (c .before .before .before .item2 .ensures) _ _ (c .before .cause2 .given .1))  -- value-returns-4
+    (λ c. c .close .ensures ∙ item-done (now (c .before .before .before .before .before .before .before .before .before .before .before .before .before .before .before .before .before .before .before .before .before .before .args .table)) (now (c .before .before .before .before .before .before .before .before .before .before .before .before .before .before .before .before .before .before .before .before .before .before .args .offsets)) (c .before .before .before .before .before .before .before .before .before .before .before .before .before .before .before .before .before .before .before .before .before .before .args .level) (c .before .before .before .before .before .before .before .before .before .before .before .before .before .before .before .before .before .before .before .before .before .before .args .t) (c .before .before .before .before .before .before .before .before .before .before .before .before .before .before .before .before .before .offset .result) (now (c .before .before .before .before .before .before .before .before .before .before .before .before .before .before .before .before .before .before .before .before .before .before .args .m)) (c .before .before .before .before .before .before .before .before .before .before .before .before .before .before .before .before .before .before .before .before .before .before .args .at) (c .before .before .before .before .before .before .before .before .before .before .before .before .before .before .before .before .before .offset .ensures) (c .before .before .before .before .before .before .before .before .before .before .before .before .before .before .before .before .before .before .before .before .before .before .pre .1 .3) _ (c .before .before .before .before .before .before .before .before .before .before .before .«open» .result) (c .before .before .before .before .before .before .before .before .before .before .before .«open» .ensures) _ _ (c .before .before .before .before .before .before .before .before .from .given .1) (c .before .before .before .before .before .item2 .result) (c .before .before .before .before .before .item2 .ensures) _ _ (c .before .before .before .next .given .1))  -- value-returns-5

@@ -56,7 +56,7 @@ use Rattle.reader.proofs.header.header.Reads as header-reads
 use Rattle.reader.proofs.identifier.peek.Reads as peek-reads
 use Rattle.reader.proofs.measure.scan.Reads as scan-reads
 use Rattle.reader.proofs.place.begin_node.Reads as begin-node-reads
-use Rattle.reader.proofs.place.is_plain.Reads as is-plain-reads
+use Rattle.reader.proofs.first.is_plain.Reads as is-plain-reads
 use Rattle.reader.proofs.place.place_simple.Reads as place-simple-reads
 use Rattle.reader.proofs.place.put_number.Reads as put-number-reads
 use Rattle.reader.proofs.place.put_presence.Reads as put-presence-reads

@@ -4,10 +4,10 @@ use borrow.Author.Tests.{ltb-true}
 use denote.Ref.{now}
 use Rattle.reader.proofs.Bodies.{no-tags}
 use borrow.Author.Needs.{needs}
-use Rattle.reader.proofs.place.is_plain.Statement.{statement}
-use Rattle.reader.proofs.place.is_plain.Tie as tie
-use Rattle.reader.proofs.place.is_plain.Reads as reads
-use Rattle.reader.proofs.place.is_plain.Lts as lts
+use Rattle.reader.proofs.first.is_plain.Statement.{statement}
+use Rattle.reader.proofs.first.is_plain.Tie as tie
+use Rattle.reader.proofs.first.is_plain.Reads as reads
+use Rattle.reader.proofs.first.is_plain.Lts as lts
 use Rattle.table.proofs.kind.form_of.Reads as form-of-reads
 use Rattle.table.proofs.record.kind.Reads as kind-reads
 use Rattle.table.proofs.record.tag_count.Reads as tag-count-reads
