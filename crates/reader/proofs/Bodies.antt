@@ -4,7 +4,7 @@ use mathlib.Core.Bool.{Bool, true, false}
 use mathlib.Core.List.{List, [], _∷_, _++_}
 use mathlib.Core.Option.{Option}
 use mathlib.Core.Path.{_≡_, refl, sym, ap, _∙_}
-use Prim.Native.Nat.{ℕ, _+_, _-_, _≤_, _<_}
+use Prim.Native.Nat.{ℕ, suc, _+_, _-_, _≤_, _<_}
 use native.Mathlib.Omega.{arith}
 use lib.ListN.{length, getD, drop, length-append}
 use lib.Seq.{sets}
@@ -20,7 +20,7 @@ use Rattle.table.specs.declared.kind.Form.the-variants.{Simple as FSimple, Memb
 use Rattle.table.proofs.Own.{at as at-kind}
 use Rattle.coding.specs.Value.{Value, set, slots}
 use Rattle.coding.specs.Tags.{explicit}
-use Rattle.coding.specs.Reading.{begun, readBody, readValue}
+use Rattle.coding.specs.Reading.{begun, nothing, readBody, readSet, readValue}
 use Rattle.reader.specs.Answers.{told, sizesIn}
 use Rattle.reader.specs.Codes.{Ready, Shaped, peeked, searchIn}
 use Rattle.reader.specs.Noting.{Scanned, readMembers}
@@ -32,6 +32,7 @@ use Rattle.reader.specs.declared.search.Found.the-variants.{Nothing, At}
 use Rattle.reader.proofs.Coded.{count-other}
 use Rattle.reader.proofs.Placing.{presence-length}
 use Rattle.reader.proofs.Begun.{not-begun, is-begun}
+use Rattle.reader.proofs.Measuring.{as-set}
 use Rattle.reader.proofs.Turns.{scanned, written-length, count-few, members-written}
 use Rattle.reader.proofs.Rests.{told-not, told-done, plain-body}
 
@@ -40,7 +41,7 @@ form : formOf 17 ≡ FMembers
 unfolding formOf
 form = refl
 
-pub formed : {k : ℕ} → k ≡ 17 → formOf k ≡ FMembers
+formed : {k : ℕ} → k ≡ 17 → formOf k ≡ FMembers
 formed e = rw e form
 
 module _ (tb offs : List ℕ) (n o p c at to : ℕ) (md : Mode) (m buf ns : List ℕ) (F : Fits (readBody (look tb offs) (readValue (look tb offs) n) (recordAt tb o .body) md (drop at m)) to buf)
@@ -54,6 +55,12 @@ module _ (tb offs : List ℕ) (n o p c at to : ℕ) (md : Mode) (m buf ns : List
   the-set : The ≡ then Those λ os s₁. got (set (slots os)) s₁
   unfolding recordAt bodyAt readBody readMembers if
   the-set = rw ek refl
+
+  pub as-noted : (r : Measured)
+      → (r ≡ told m sizesIn (readSet (look tb offs) (readValue (look tb offs) n) (suc (length (drop at m))) (membersAt tb (p + 1) c) (nothing (membersAt tb (p + 1) c)) md (drop at m)))
+      × Scanned (look tb offs) n (membersAt tb (p + 1) c) m (readSet (look tb offs) (readValue (look tb offs) n) (suc (length (drop at m))) (membersAt tb (p + 1) c) (nothing (membersAt tb (p + 1) c)) md (drop at m)) ns r
+      → (r ≡ told m sizesIn Those) × Scanned (look tb offs) n (members (recordAt tb o .body)) m Those ns r
+  as-noted r h = as-set tb offs n o p c 17 md m at (sym ek) ep ec (formed ek) (λ e. omega arith) r ns h
 
   pub set-few : Shaped tb o → c ≤ 16
   set-few h = count-few tb offs n o p c 17 (formOf 17) md m at ns (sym ek) ep ec refl (F .done) form h

@@ -413,19 +413,33 @@ module _ (tb offs : List ℕ) (n o p c k : ℕ) (md : Mode) (m : List ℕ) (at :
   unfolding recordAt
   its-order = rw (ek, ep, ← g) (ordered (look tb offs) (readValue (look tb offs) n) md (drop at m) tb (ownAt tb o) (getD tb (o + 2) 0))
 
-  pub scan-members : members (recordAt tb o .body) ≡ membersAt tb (p + 1) c
+  scan-members : members (recordAt tb o .body) ≡ membersAt tb (p + 1) c
   scan-members = members-here tb offs n o p c k FMembers md m at ek ep ec (sym g ∙ ap formOf (sym ek)) refl
 
   pub scan-few : length (members (recordAt tb o .body)) ≤ 16 → c < 17
   scan-few h = members-few tb offs n o p c k FMembers md m at ek ep ec (sym g ∙ ap formOf (sym ek)) refl h
 
-  pub scan-sequence : k ≡ 16 → readMembers (look tb offs) (readValue (look tb offs) n) (recordAt tb o .body) md (drop at m)
+  scan-sequence : k ≡ 16 → readMembers (look tb offs) (readValue (look tb offs) n) (recordAt tb o .body) md (drop at m)
       ≡ readSequence (look tb offs) (readValue (look tb offs) n) (membersAt tb (p + 1) c) [] false md (drop at m)
   scan-sequence e = rw ec (rw (eq-eqb k 16 e) at its-order)
 
-  pub scan-set : (k ≡ 16 → ⊥) → readMembers (look tb offs) (readValue (look tb offs) n) (recordAt tb o .body) md (drop at m)
+  scan-set : (k ≡ 16 → ⊥) → readMembers (look tb offs) (readValue (look tb offs) n) (recordAt tb o .body) md (drop at m)
       ≡ readSet (look tb offs) (readValue (look tb offs) n) (suc (length (drop at m))) (membersAt tb (p + 1) c) (nothing (membersAt tb (p + 1) c)) md (drop at m)
   scan-set e = rw ec (rw (ne-eqb k 16 e) at its-order)
+
+  pub as-sequence : k ≡ 16 → (r : Measured) (ns : List ℕ)
+      → (r ≡ told m sizesIn (readSequence (look tb offs) (readValue (look tb offs) n) (membersAt tb (p + 1) c) [] false md (drop at m)))
+      × Scanned (look tb offs) n (membersAt tb (p + 1) c) m (readSequence (look tb offs) (readValue (look tb offs) n) (membersAt tb (p + 1) c) [] false md (drop at m)) ns r
+      → (r ≡ told m sizesIn (readMembers (look tb offs) (readValue (look tb offs) n) (recordAt tb o .body) md (drop at m)))
+      × Scanned (look tb offs) n (members (recordAt tb o .body)) m (readMembers (look tb offs) (readValue (look tb offs) n) (recordAt tb o .body) md (drop at m)) ns r
+  as-sequence e r ns h = rw (scan-sequence e, scan-members) h
+
+  pub as-set : (k ≡ 16 → ⊥) → (r : Measured) (ns : List ℕ)
+      → (r ≡ told m sizesIn (readSet (look tb offs) (readValue (look tb offs) n) (suc (length (drop at m))) (membersAt tb (p + 1) c) (nothing (membersAt tb (p + 1) c)) md (drop at m)))
+      × Scanned (look tb offs) n (membersAt tb (p + 1) c) m (readSet (look tb offs) (readValue (look tb offs) n) (suc (length (drop at m))) (membersAt tb (p + 1) c) (nothing (membersAt tb (p + 1) c)) md (drop at m)) ns r
+      → (r ≡ told m sizesIn (readMembers (look tb offs) (readValue (look tb offs) n) (recordAt tb o .body) md (drop at m)))
+      × Scanned (look tb offs) n (members (recordAt tb o .body)) m (readMembers (look tb offs) (readValue (look tb offs) n) (recordAt tb o .body) md (drop at m)) ns r
+  as-set e r ns h = rw (scan-set e, scan-members) h
 
 -- what is closed is what was read, with its size for itself
 unfoldable mapped : {A B : Type 0} → (A → B) → Answer A → Answer B

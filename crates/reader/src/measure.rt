@@ -5,15 +5,15 @@ ghost use mathlib.Core.Bool.{false};
 ghost use mathlib.Core.List.{[]};
 ghost use Prim.Native.Nat.{_≤_, _<_, _+_, _*_, suc};
 ghost use lib.ListN.{length, getD, drop, replicate};
-ghost use Rattle.table.specs.Rules.{parts as Rules·parts, members};
+ghost use Rattle.table.specs.Rules.{parts as Rules·parts};
 ghost use Rattle.table.specs.Reading.{look, recordAt, membersAt};
 ghost use Rattle.table.specs.Fields.{formOf};
-ghost use Rattle.table.specs.declared.kind.Form.the-variants.{Simple, Members};
+ghost use Rattle.table.specs.declared.kind.Form.the-variants.{Simple};
 ghost use Rattle.coding.specs.Tags.{own as Tags·own};
 ghost use Rattle.coding.specs.Reading.{readValue, readKind, readBody, readMany, readSequence, readSet, nothing, choose, readMessage};
 ghost use Rattle.reader.specs.Answers.{told, size, sizes, sizesIn, mode, lifted, awaitedValue};
 ghost use Rattle.reader.specs.Codes.{codeOf, Ready, Shaped, plainBy, constructedBy};
-ghost use Rattle.reader.specs.Noting.{Scanned, readMembers};
+ghost use Rattle.reader.specs.Noting.{Scanned};
 use crate::answer::Measured;
 use crate::answer::grow;
 use crate::contents::contents_size;
@@ -95,9 +95,6 @@ pub(crate) fn value(
     }
     let count = explicit_count(table, o);
     let below = level - 1;
-    if count == 0 {
-        return item(table, offsets, firsts, t, m, at, below);
-    }
     let mut notes = [0u16; 4];
     match open(table, o, count, m, at, &mut notes) {
         Opened::Refused { cause, at: p } => Measured::Refused { cause, at: p },
@@ -125,21 +122,20 @@ fn item(
     ensures { λ r. ⌜ r ≡ told (now (m .entry)) size (readKind (look (now (table .entry)) (now (offsets .entry))) (readValue (look (now (table .entry)) (now (offsets .entry))) level) (Tags·own (look (now (table .entry)) (now (offsets .entry)) t)) (look (now (table .entry)) (now (offsets .entry)) t .body) (drop at (now (m .entry)))) ⌝ }
 {
     let o = offset(offsets, t);
-    match form_of(kind(table, o)) {
-        Form::Choice => alternative(table, offsets, firsts, o, m, at, level),
+    let form = form_of(kind(table, o));
+    match form {
+        Form::Choice => {
+            return alternative(table, offsets, firsts, o, m, at, level);
+        }
         Form::Simple => {
             let code = code_of(table, offsets, firsts, t, o);
-            simple(table, o, code, m, at)
+            return simple(table, o, code, m, at);
         }
-        Form::Members => {
-            let code = code_of(table, offsets, firsts, t, o);
-            constructed(table, offsets, firsts, o, code, m, at, level)
-        }
-        Form::Of => {
-            let code = code_of(table, offsets, firsts, t, o);
-            constructed(table, offsets, firsts, o, code, m, at, level)
-        }
+        Form::Members => {}
+        Form::Of => {}
     }
+    let code = code_of(table, offsets, firsts, t, o);
+    constructed(table, offsets, firsts, o, code, m, at, level)
 }
 
 // The alternative of the CHOICE at o that begins as the item does.
@@ -262,14 +258,48 @@ fn body(
 {
     let p = own(table, o);
     let c = octet(table, p);
-    match form_of(kind(table, o)) {
+    let k = kind(table, o);
+    match form_of(k) {
         Form::Members => {
+            let first = p + 1;
             let mut began = [0u16; 16];
-            match scan(table, offsets, firsts, o, m, at, marked, level, &mut began) {
-                Measured::Refused { cause, at: q } => Measured::Refused { cause, at: q },
-                Measured::Done { end, size } => {
-                    let n = grow(size, 4 + c);
-                    Measured::Done { end, size: n }
+            if k == 16 {
+                match in_order(
+                    table,
+                    offsets,
+                    firsts,
+                    first,
+                    c,
+                    m,
+                    at,
+                    marked,
+                    level,
+                    &mut began,
+                ) {
+                    Measured::Refused { cause, at: q } => Measured::Refused { cause, at: q },
+                    Measured::Done { end, size } => {
+                        let n = grow(size, 4 + c);
+                        Measured::Done { end, size: n }
+                    }
+                }
+            } else {
+                match any_order(
+                    table,
+                    offsets,
+                    firsts,
+                    first,
+                    c,
+                    m,
+                    at,
+                    marked,
+                    level,
+                    &mut began,
+                ) {
+                    Measured::Refused { cause, at: q } => Measured::Refused { cause, at: q },
+                    Measured::Done { end, size } => {
+                        let n = grow(size, 4 + c);
+                        Measured::Done { end, size: n }
+                    }
                 }
             }
         }
@@ -283,52 +313,6 @@ fn body(
         Form::Simple => Measured::Refused { cause: 0, at },
         Form::Choice => Measured::Refused { cause: 0, at },
     }
-}
-
-// The members of the SEQUENCE or SET at o; `began` notes where each begins, counted from 1.
-pub(crate) fn scan(
-    table: &[u8],
-    offsets: &[u16],
-    firsts: &[u32],
-    o: u16,
-    m: &[u8],
-    at: usize,
-    marked: bool,
-    level: usize,
-    began: &mut [u16],
-) -> Measured
-    requires { ⌜ Ready (now table) (now offsets) (now firsts) × Shaped (now table) o × (formOf (getD (now table) (o + 2) 0) ≡ Members) × (at ≤ length (now m)) × (length (now m) ≤ 8192) × (level < 25) × (now began ≡ replicate 16 0) ⌝ }
-    ensures { λ r. ⌜ (r ≡ told (now (m .entry)) sizesIn (readMembers (look (now (table .entry)) (now (offsets .entry))) (readValue (look (now (table .entry)) (now (offsets .entry))) level) (recordAt (now (table .entry)) o .body) (mode marked) (drop at (now (m .entry))))) × Scanned (look (now (table .entry)) (now (offsets .entry))) level (members (recordAt (now (table .entry)) o .body)) (now (m .entry)) (readMembers (look (now (table .entry)) (now (offsets .entry))) (readValue (look (now (table .entry)) (now (offsets .entry))) level) (recordAt (now (table .entry)) o .body) (mode marked) (drop at (now (m .entry)))) (now (began .exit)) r ⌝ }
-{
-    let p = own(table, o);
-    let c = octet(table, p);
-    let first = p + 1;
-    if kind(table, o) == 16 {
-        return in_order(
-            table,
-            offsets,
-            firsts,
-            first,
-            c,
-            m,
-            at,
-            marked,
-            level,
-            began,
-        );
-    }
-    any_order(
-        table,
-        offsets,
-        firsts,
-        first,
-        c,
-        m,
-        at,
-        marked,
-        level,
-        began,
-    )
 }
 
 // The c members of a SEQUENCE, whose fields begin at p.
@@ -402,7 +386,7 @@ fn in_order(
 }
 
 // The c members of a SET, whose fields begin at p.
-fn any_order(
+pub(crate) fn any_order(
     table: &[u8],
     offsets: &[u16],
     firsts: &[u32],

@@ -28,7 +28,7 @@ use crate::identifier::peek;
 use crate::integer::bits;
 use crate::integer::integer_of;
 use crate::length::Length;
-use crate::measure::scan;
+use crate::measure::any_order;
 use crate::search::Found;
 use crate::search::seek;
 use crate::wrap::Opened;
@@ -473,19 +473,30 @@ fn place_set(
     requires { ⌜ Ready (now table) (now offsets) (now firsts) × Shaped (now table) o × (getD (now table) (o + 2) 0 ≡ 17) × (at ≤ length (now m)) × (length (now m) ≤ 8192) × (level < 24) × Fits (readBody (look (now table) (now offsets)) (readValue (look (now table) (now offsets)) level) (recordAt (now table) o .body) (mode marked) (drop at (now m))) to (now buf) ⌝ }
     ensures { λ r. ⌜ IsPlaced (readBody (look (now (table .entry)) (now (offsets .entry))) (readValue (look (now (table .entry)) (now (offsets .entry))) level) (recordAt (now (table .entry)) o .body) (mode marked) (drop at (now (m .entry)))) (now (m .entry)) to (now (buf .entry)) (now (buf .exit)) r ⌝ }
 {
+    let p = own(table, o);
+    let c = octet(table, p);
+    let first = p + 1;
     let mut began = [0u16; 16];
-    match scan(table, offsets, firsts, o, m, at, marked, level, &mut began) {
+    match any_order(
+        table,
+        offsets,
+        firsts,
+        first,
+        c,
+        m,
+        at,
+        marked,
+        level,
+        &mut began,
+    ) {
         Measured::Refused { cause: _, at: _ } => Placed { next: to, end: at },
         Measured::Done { end, size: _ } => {
-            let p = own(table, o);
-            let c = octet(table, p);
             begin_node(buf, to, 17);
             let q = to + 3;
             buf[q] = c as u8;
             let flags = to + 4;
             put_presence(c, &began, buf, flags);
             let from = flags + c;
-            let first = p + 1;
             let next = place_members(
                 table,
                 offsets,

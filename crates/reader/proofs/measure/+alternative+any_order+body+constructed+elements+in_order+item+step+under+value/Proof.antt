@@ -3,9 +3,9 @@ use Rattle.ber.specs.Identifier.{readIdentifier}
 use Rattle.coding.specs.Reading.{readBody, readMany, readSequence, readValue}
 use Rattle.reader.proofs.Arriving.{InSet, begins, set-broken, set-full, set-further, set-lacking, set-member, set-none, set-over, set-refused, set-turn, set-unawaited}
 use Rattle.reader.proofs.Begun.{headed, is-begun, not-begun}
-use Rattle.reader.proofs.Done.{bare-is, header-definite, header-indefinite}
+use Rattle.reader.proofs.Done.{header-definite, header-indefinite}
 use Rattle.reader.proofs.Forms.{item-choice, item-members, item-of}
-use Rattle.reader.proofs.Measuring.{built-no, built-open, built-part-done, built-part-no, choice-body, item-done, item-end, item-no, item-plain, many-done, many-no, members-done, members-no, plain-value, scan-few, scan-members, scan-sequence, scan-set, simple-body, tags-around, tags-end, tags-from, tags-no}
+use Rattle.reader.proofs.Measuring.{as-sequence, as-set, built-no, built-open, built-part-done, built-part-no, choice-body, item-done, item-end, item-no, item-plain, many-done, many-no, members-done, members-no, plain-value, scan-few, simple-body, tags-around, tags-end, tags-from, tags-no}
 use Rattle.reader.proofs.Passing.{Elements, Passing, cap-below, elements-broken, elements-none, elements-over, elements-refused, elements-turn, pass-broken, pass-came, pass-end, pass-missing, pass-over, pass-refused, pass-unawaited, pass-unwanted, passing-none}
 use Rattle.reader.proofs.Records.{few-tags, shaped-at}
 use Rattle.reader.proofs.Searching.{found-under}
@@ -22,6 +22,7 @@ use lib.ListN.{drop, length, length-set}
 use lib.Seq.{length-take-le}
 use mathlib.Core.Bool.{false}
 use mathlib.Core.List.{[]}
+use mathlib.Core.Logic.{⊎-elim}
 use mathlib.Core.Path.{_∙_, _≡_, ap, refl, sym}
 use native.Mathlib.Omega.{arith}
 use borrow.Author.Needs.{needs}
@@ -30,37 +31,34 @@ use borrow.Fn.Kinds.{In}
 use borrow.Fn.PlainCycle.{Measures, is, falls, and}
 use Rattle.reader.proofs.measure.alternative.Reads as alternative
 use Rattle.reader.proofs.measure.alternative.Kinds as alternative-kinds
-use Rattle.reader.proofs.measure.+alternative+any_order+body+constructed+elements+in_order+item+scan+step+under+value.Lts-alternative as alternative-lts
+use Rattle.reader.proofs.measure.+alternative+any_order+body+constructed+elements+in_order+item+step+under+value.Lts-alternative as alternative-lts
 use Rattle.reader.proofs.measure.any_order.Reads as any-order
 use Rattle.reader.proofs.measure.any_order.Kinds as any-order-kinds
-use Rattle.reader.proofs.measure.+alternative+any_order+body+constructed+elements+in_order+item+scan+step+under+value.Lts-any_order as any-order-lts
+use Rattle.reader.proofs.measure.+alternative+any_order+body+constructed+elements+in_order+item+step+under+value.Lts-any_order as any-order-lts
 use Rattle.reader.proofs.measure.body.Reads as body
 use Rattle.reader.proofs.measure.body.Kinds as body-kinds
-use Rattle.reader.proofs.measure.+alternative+any_order+body+constructed+elements+in_order+item+scan+step+under+value.Lts-body as body-lts
+use Rattle.reader.proofs.measure.+alternative+any_order+body+constructed+elements+in_order+item+step+under+value.Lts-body as body-lts
 use Rattle.reader.proofs.measure.constructed.Reads as constructed
 use Rattle.reader.proofs.measure.constructed.Kinds as constructed-kinds
-use Rattle.reader.proofs.measure.+alternative+any_order+body+constructed+elements+in_order+item+scan+step+under+value.Lts-constructed as constructed-lts
+use Rattle.reader.proofs.measure.+alternative+any_order+body+constructed+elements+in_order+item+step+under+value.Lts-constructed as constructed-lts
 use Rattle.reader.proofs.measure.elements.Reads as elements
 use Rattle.reader.proofs.measure.elements.Kinds as elements-kinds
-use Rattle.reader.proofs.measure.+alternative+any_order+body+constructed+elements+in_order+item+scan+step+under+value.Lts-elements as elements-lts
+use Rattle.reader.proofs.measure.+alternative+any_order+body+constructed+elements+in_order+item+step+under+value.Lts-elements as elements-lts
 use Rattle.reader.proofs.measure.in_order.Reads as in-order
 use Rattle.reader.proofs.measure.in_order.Kinds as in-order-kinds
-use Rattle.reader.proofs.measure.+alternative+any_order+body+constructed+elements+in_order+item+scan+step+under+value.Lts-in_order as in-order-lts
+use Rattle.reader.proofs.measure.+alternative+any_order+body+constructed+elements+in_order+item+step+under+value.Lts-in_order as in-order-lts
 use Rattle.reader.proofs.measure.item.Reads as item
 use Rattle.reader.proofs.measure.item.Kinds as item-kinds
-use Rattle.reader.proofs.measure.+alternative+any_order+body+constructed+elements+in_order+item+scan+step+under+value.Lts-item as item-lts
-use Rattle.reader.proofs.measure.scan.Reads as scan
-use Rattle.reader.proofs.measure.scan.Kinds as scan-kinds
-use Rattle.reader.proofs.measure.+alternative+any_order+body+constructed+elements+in_order+item+scan+step+under+value.Lts-scan as scan-lts
+use Rattle.reader.proofs.measure.+alternative+any_order+body+constructed+elements+in_order+item+step+under+value.Lts-item as item-lts
 use Rattle.reader.proofs.measure.step.Reads as step
 use Rattle.reader.proofs.measure.step.Kinds as step-kinds
-use Rattle.reader.proofs.measure.+alternative+any_order+body+constructed+elements+in_order+item+scan+step+under+value.Lts-step as step-lts
+use Rattle.reader.proofs.measure.+alternative+any_order+body+constructed+elements+in_order+item+step+under+value.Lts-step as step-lts
 use Rattle.reader.proofs.measure.under.Reads as under
 use Rattle.reader.proofs.measure.under.Kinds as under-kinds
-use Rattle.reader.proofs.measure.+alternative+any_order+body+constructed+elements+in_order+item+scan+step+under+value.Lts-under as under-lts
+use Rattle.reader.proofs.measure.+alternative+any_order+body+constructed+elements+in_order+item+step+under+value.Lts-under as under-lts
 use Rattle.reader.proofs.measure.value.Reads as value
 use Rattle.reader.proofs.measure.value.Kinds as value-kinds
-use Rattle.reader.proofs.measure.+alternative+any_order+body+constructed+elements+in_order+item+scan+step+under+value.Lts-value as value-lts
+use Rattle.reader.proofs.measure.+alternative+any_order+body+constructed+elements+in_order+item+step+under+value.Lts-value as value-lts
 use Rattle.octets.proofs.octet.Reads as octet-reads
 use Rattle.reader.proofs.answer.grow.Reads as grow-reads
 use Rattle.reader.proofs.ending.ending.Reads as ending-reads
@@ -83,10 +81,10 @@ use Rattle.table.proofs.kind.form_of.Reads as form-of-reads
 use Rattle.table.proofs.record.kind.Reads as kind-reads
 use Rattle.table.proofs.record.offset.Reads as offset-reads
 use Rattle.table.proofs.record.own.Reads as own-reads
-use Rattle.reader.proofs.measure.+alternative+any_order+body+constructed+elements+in_order+item+scan+step+under+value.{
+use Rattle.reader.proofs.measure.+alternative+any_order+body+constructed+elements+in_order+item+step+under+value.{
   statement,
 }
-use Rattle.reader.proofs.measure.+alternative+any_order+body+constructed+elements+in_order+item+scan+step+under+value.Tie.{
+use Rattle.reader.proofs.measure.+alternative+any_order+body+constructed+elements+in_order+item+step+under+value.Tie.{
   close,
 }
 
@@ -110,9 +108,6 @@ abbrev μ-in-order : Measures 5 in-order-kinds.ps ℕ
 
 abbrev μ-item : Measures 4 item-kinds.ps ℕ
 μ-item κs a = 8 * a .1 .1 .1 .1 .1 .1 .0 + 7
-
-abbrev μ-scan : Measures 5 scan-kinds.ps ℕ
-μ-scan κs a = 8 * a .1 .1 .1 .1 .1 .1 .1 .0 + 4
 
 abbrev μ-step : Measures 4 step-kinds.ps ℕ
 μ-step κs a = 8 * a .1 .1 .1 .1 .1 .1 .0 + 2
@@ -172,12 +167,6 @@ item-at t = and 4 item-kinds.ps (is 4 item-kinds.ps μ-item t) item.Pre
 abbrev item-below : ℕ → In 4 item-kinds.ps
 item-below t = and 4 item-kinds.ps (falls 4 item-kinds.ps _<_ μ-item t) item.Pre
 
-abbrev scan-at : ℕ → In 5 scan-kinds.ps
-scan-at t = and 5 scan-kinds.ps (is 5 scan-kinds.ps μ-scan t) scan.Pre
-
-abbrev scan-below : ℕ → In 5 scan-kinds.ps
-scan-below t = and 5 scan-kinds.ps (falls 5 scan-kinds.ps _<_ μ-scan t) scan.Pre
-
 abbrev step-at : ℕ → In 4 step-kinds.ps
 step-at t = and 4 step-kinds.ps (is 4 step-kinds.ps μ-step t) step.Pre
 
@@ -216,9 +205,9 @@ abbrev in-order-μ-loop : in-order-lts.MeasureT-loop
 in-order-μ-loop table offsets firsts p c m at marked level began₀ j₀ at₀ total₀ passed₀ code₀ began j at' total passed code =
     c - j
 
-pub +alternative+any-order+body+constructed+elements+in-order+item+scan+step+under+value-spec :
+pub +alternative+any-order+body+constructed+elements+in-order+item+step+under+value-spec :
     {M : Type 1} → statement M
-+alternative+any-order+body+constructed+elements+in-order+item+scan+step+under+value-spec =
++alternative+any-order+body+constructed+elements+in-order+item+step+under+value-spec =
     close
     μ-alternative
     μ-any-order
@@ -227,7 +216,6 @@ pub +alternative+any-order+body+constructed+elements+in-order+item+scan+step+und
     μ-elements
     μ-in-order
     μ-item
-    μ-scan
     μ-step
     μ-under
     μ-value
@@ -315,10 +303,12 @@ pub +alternative+any-order+body+constructed+elements+in-order+item+scan+step+und
       kind-reads.Learnt,
       form-of-reads.Asked,
       form-of-reads.Learnt,
-      scan-below t,
-      scan.Post,
+      in-order-below t,
+      in-order.Post,
       grow-reads.Asked,
       grow-reads.Learnt,
+      any-order-below t,
+      any-order.Post,
       elements-below t,
       elements.Post,
     )
@@ -329,25 +319,34 @@ pub +alternative+any-order+body+constructed+elements+in-order+item+scan+step+und
     (λ c κs. search needs)  -- body-kind-requires
     (λ c κs. search needs)  -- body-form-of-requires
     (λ c. search needs)  -- body-enum-told
-    (λ c. refl)  -- body-slice-aggregate-scan
-    (λ c κs. (omega (arith, c .before .before .before .before .before .before .before .before .before .before .before .pre .0), (c .before .before .before .before .before .before .before .before .before .before .before .pre .1 .0, c .before .before .before .before .before .before .before .before .before .before .before .pre .1 .1, ap formOf (sym (c .before .before .before .before .kind .ensures .0)) ∙ sym (c .before .before .before .form-of .ensures) ∙ c .before .enum-told .given .1, c .before .before .before .before .before .before .before .before .before .before .before .pre .1 .2, c .before .before .before .before .before .before .before .before .before .before .before .pre .1 .3, c .before .before .before .before .before .before .before .before .before .before .before .pre .1 .4, refl)))  -- body-scan-requires
+    (λ c. omega (arith, c .before .before .before .before .before .own .ensures .1))  -- body-add-first
+    (λ c. refl)  -- body-slice-aggregate-in-order
+    (λ c κs. (omega (arith, c .before .before .before .before .before .before .before .before .before .before .before .before .pre .0), (c .before .before .before .before .before .before .before .before .before .before .before .before .pre .1 .0, omega (arith, c .before .before .before .before .before .before .before .own .ensures .1), scan-few (now (c .before .before .before .before .before .before .before .before .before .before .before .before .args .table)) (now (c .before .before .before .before .before .before .before .before .before .before .before .before .args .offsets)) (c .before .before .before .before .before .before .before .before .before .before .before .before .args .level) (c .before .before .before .before .before .before .before .before .before .before .before .before .args .o) (c .before .before .before .before .before .before .before .own .result) (c .before .before .before .before .before .before .octet .result) (c .before .before .before .before .before .kind .result) (mode (c .before .before .before .before .before .before .before .before .before .before .before .before .args .marked)) (now (c .before .before .before .before .before .before .before .before .before .before .before .before .args .m)) (c .before .before .before .before .before .before .before .before .before .before .before .before .args .at) (c .before .before .before .before .before .kind .ensures .0) (c .before .before .before .before .before .before .before .own .ensures .0) (c .before .before .before .before .before .before .octet .ensures .0) (ap formOf (sym (c .before .before .before .before .before .kind .ensures .0)) ∙ sym (c .before .before .before .before .form-of .ensures) ∙ c .before .before .enum-told .given .1) (c .before .before .before .before .before .before .before .before .before .before .before .before .pre .1 .1), c .before .before .before .before .before .before .before .before .before .before .before .before .pre .1 .2, c .before .before .before .before .before .before .before .before .before .before .before .before .pre .1 .3, c .before .before .before .before .before .before .before .before .before .before .before .before .pre .1 .4, refl)))  -- body-in-order-requires
     (λ c. search needs)  -- body-enum-known-cause
     (λ c. search needs)  -- body-enum-known-end
-    (λ c. omega (arith, c .before .before .before .before .before .before .before .before .before .before .octet .ensures .1))  -- body-add-grow
-    (λ c κs. (told-small (now (c .before .before .before .before .before .before .before .before .before .before .before .before .before .before .before .before .args .m)) sizesIn _ (c .before .before .before .before .scan .result) _ _ (c .before .before .before .before .scan .ensures .0) (c .before .end .given .1), omega (arith, c .before .before .before .before .before .before .before .before .before .before .octet .ensures .1)))  -- body-grow-requires
-    (λ c. search needs)  -- body-enum-told-2
-    (λ c κs. (omega (arith, c .before .before .before .before .before .before .before .before .before .before .pre .0), (c .before .before .before .before .before .before .before .before .before .before .pre .1 .0, c .before .before .before .before .before .before .before .before .before .before .pre .1 .2, c .before .before .before .before .before .before .before .before .before .before .pre .1 .3, c .before .before .before .before .before .before .before .before .before .before .pre .1 .4)))  -- body-elements-requires
+    (λ c. omega (arith, c .before .before .before .before .before .before .before .before .before .before .before .octet .ensures .1))  -- body-add-grow
+    (λ c κs. (told-small (now (c .before .before .before .before .before .before .before .before .before .before .before .before .before .before .before .before .before .args .m)) sizesIn _ (c .before .before .before .before .in-order .result) _ _ (c .before .before .before .before .in-order .ensures .0) (c .before .end .given .1), omega (arith, c .before .before .before .before .before .before .before .before .before .before .before .octet .ensures .1)))  -- body-grow-requires
+    (λ c. refl)  -- body-slice-aggregate-any-order
+    (λ c κs. (omega (arith, c .before .before .before .before .before .before .before .before .before .before .before .before .pre .0), (c .before .before .before .before .before .before .before .before .before .before .before .before .pre .1 .0, omega (arith, c .before .before .before .before .before .before .before .own .ensures .1), scan-few (now (c .before .before .before .before .before .before .before .before .before .before .before .before .args .table)) (now (c .before .before .before .before .before .before .before .before .before .before .before .before .args .offsets)) (c .before .before .before .before .before .before .before .before .before .before .before .before .args .level) (c .before .before .before .before .before .before .before .before .before .before .before .before .args .o) (c .before .before .before .before .before .before .before .own .result) (c .before .before .before .before .before .before .octet .result) (c .before .before .before .before .before .kind .result) (mode (c .before .before .before .before .before .before .before .before .before .before .before .before .args .marked)) (now (c .before .before .before .before .before .before .before .before .before .before .before .before .args .m)) (c .before .before .before .before .before .before .before .before .before .before .before .before .args .at) (c .before .before .before .before .before .kind .ensures .0) (c .before .before .before .before .before .before .before .own .ensures .0) (c .before .before .before .before .before .before .octet .ensures .0) (ap formOf (sym (c .before .before .before .before .before .kind .ensures .0)) ∙ sym (c .before .before .before .before .form-of .ensures) ∙ c .before .before .enum-told .given .1) (c .before .before .before .before .before .before .before .before .before .before .before .before .pre .1 .1), c .before .before .before .before .before .before .before .before .before .before .before .before .pre .1 .2, c .before .before .before .before .before .before .before .before .before .before .before .before .pre .1 .3, c .before .before .before .before .before .before .before .before .before .before .before .before .pre .1 .4, refl)))  -- body-any-order-requires
     (λ c. search needs)  -- body-enum-known-cause-2
     (λ c. search needs)  -- body-enum-known-end-2
-    (λ c κs. (told-small (now (c .before .before .before .before .before .before .before .before .before .before .before .before .before .before .args .m)) sizes _ (c .before .before .before .elements .result) _ _ (c .before .before .before .elements .ensures) (c .before .end2 .given .1), omega arith))  -- body-grow-requires-2
+    (λ c. omega (arith, c .before .before .before .before .before .before .before .before .before .before .before .octet .ensures .1))  -- body-add-grow-2
+    (λ c κs. (told-small (now (c .before .before .before .before .before .before .before .before .before .before .before .before .before .before .before .before .before .args .m)) sizesIn _ (c .before .before .before .before .any-order .result) _ _ (c .before .before .before .before .any-order .ensures .0) (c .before .end2 .given .1), omega (arith, c .before .before .before .before .before .before .before .before .before .before .before .octet .ensures .1)))  -- body-grow-requires-2
+    (λ c. search needs)  -- body-enum-told-2
+    (λ c κs. (omega (arith, c .before .before .before .before .before .before .before .before .before .before .pre .0), (c .before .before .before .before .before .before .before .before .before .before .pre .1 .0, c .before .before .before .before .before .before .before .before .before .before .pre .1 .2, c .before .before .before .before .before .before .before .before .before .before .pre .1 .3, c .before .before .before .before .before .before .before .before .before .before .pre .1 .4)))  -- body-elements-requires
+    (λ c. search needs)  -- body-enum-known-cause-3
+    (λ c. search needs)  -- body-enum-known-end-3
+    (λ c κs. (told-small (now (c .before .before .before .before .before .before .before .before .before .before .before .before .before .before .args .m)) sizes _ (c .before .before .before .elements .result) _ _ (c .before .before .before .elements .ensures) (c .before .end3 .given .1), omega arith))  -- body-grow-requires-3
     (λ c. search needs)  -- body-enum-told-3
     (λ c. search needs)  -- body-enum-told-4
-    (λ c. members-no (now (c .before .before .before .before .before .before .before .before .before .before .before .before .before .before .before .before .args .table)) (now (c .before .before .before .before .before .before .before .before .before .before .before .before .before .before .before .before .args .offsets)) (c .before .before .before .before .before .before .before .before .before .before .before .before .before .before .before .before .args .level) (c .before .before .before .before .before .before .before .before .before .before .before .before .before .before .before .before .args .o) (c .before .before .before .before .before .before .before .before .before .before .before .own .result) (c .before .before .before .before .before .before .before .before .before .before .octet .result) (c .before .before .before .before .before .before .before .before .before .kind .result) (c .before .before .before .before .before .before .before .before .form-of .result) (mode (c .before .before .before .before .before .before .before .before .before .before .before .before .before .before .before .before .args .marked)) (now (c .before .before .before .before .before .before .before .before .before .before .before .before .before .before .before .before .args .m)) (c .before .before .before .before .before .before .before .before .before .before .before .before .before .before .before .before .args .at) (c .before .before .before .before .before .before .before .before .before .kind .ensures .0) (c .before .before .before .before .before .before .before .before .before .before .before .own .ensures .0) (c .before .before .before .before .before .before .before .before .before .before .octet .ensures .0) (c .before .before .before .before .before .before .before .before .form-of .ensures) (c .before .before .before .before .scan .result) (c .before .before .before .before .scan .ensures .0) (c .before .before .before .before .before .before .enum-told .given .1) _ _ (c .before .cause .given .1))  -- body-returns
-    (λ c. members-done (now (c .before .before .before .before .before .before .before .before .before .before .before .before .before .before .before .before .before .args .table)) (now (c .before .before .before .before .before .before .before .before .before .before .before .before .before .before .before .before .before .args .offsets)) (c .before .before .before .before .before .before .before .before .before .before .before .before .before .before .before .before .before .args .level) (c .before .before .before .before .before .before .before .before .before .before .before .before .before .before .before .before .before .args .o) (c .before .before .before .before .before .before .before .before .before .before .before .before .own .result) (c .before .before .before .before .before .before .before .before .before .before .before .octet .result) (c .before .before .before .before .before .before .before .before .before .before .kind .result) (c .before .before .before .before .before .before .before .before .before .form-of .result) (mode (c .before .before .before .before .before .before .before .before .before .before .before .before .before .before .before .before .before .args .marked)) (now (c .before .before .before .before .before .before .before .before .before .before .before .before .before .before .before .before .before .args .m)) (c .before .before .before .before .before .before .before .before .before .before .before .before .before .before .before .before .before .args .at) (c .before .before .before .before .before .before .before .before .before .before .kind .ensures .0) (c .before .before .before .before .before .before .before .before .before .before .before .before .own .ensures .0) (c .before .before .before .before .before .before .before .before .before .before .before .octet .ensures .0) (c .before .before .before .before .before .before .before .before .before .form-of .ensures) (c .before .before .before .before .before .scan .result) (c .before .before .before .before .before .scan .ensures .0) (c .before .before .before .before .before .before .before .enum-told .given .1) _ (c .before .before .before .before .before .scan .ensures .1) _ _ _ (c .before .before .end .given .1) (c .grow .ensures))  -- body-returns-2
-    (λ c. many-no (now (c .before .before .before .before .before .before .before .before .before .before .before .before .before .before .args .table)) (now (c .before .before .before .before .before .before .before .before .before .before .before .before .before .before .args .offsets)) (c .before .before .before .before .before .before .before .before .before .before .before .before .before .before .args .level) (c .before .before .before .before .before .before .before .before .before .before .before .before .before .before .args .o) (c .before .before .before .before .before .before .before .before .before .own .result) (c .before .before .before .before .before .before .before .before .octet .result) (c .before .before .before .before .before .before .before .kind .result) (c .before .before .before .before .before .before .form-of .result) (mode (c .before .before .before .before .before .before .before .before .before .before .before .before .before .before .args .marked)) (now (c .before .before .before .before .before .before .before .before .before .before .before .before .before .before .args .m)) (c .before .before .before .before .before .before .before .before .before .before .before .before .before .before .args .at) (c .before .before .before .before .before .before .before .kind .ensures .0) (c .before .before .before .before .before .before .before .before .before .own .ensures .0) (c .before .before .before .before .before .before .before .before .octet .ensures .0) (c .before .before .before .before .before .before .form-of .ensures) (c .before .before .before .elements .result) (c .before .before .before .elements .ensures) (c .before .before .before .before .enum-told2 .given .1) _ _ (c .before .cause2 .given .1))  -- body-returns-3
-    (λ c. many-done (now (c .before .before .before .before .before .before .before .before .before .before .before .before .before .before .before .args .table)) (now (c .before .before .before .before .before .before .before .before .before .before .before .before .before .before .before .args .offsets)) (c .before .before .before .before .before .before .before .before .before .before .before .before .before .before .before .args .level) (c .before .before .before .before .before .before .before .before .before .before .before .before .before .before .before .args .o) (c .before .before .before .before .before .before .before .before .before .before .own .result) (c .before .before .before .before .before .before .before .before .before .octet .result) (c .before .before .before .before .before .before .before .before .kind .result) (c .before .before .before .before .before .before .before .form-of .result) (mode (c .before .before .before .before .before .before .before .before .before .before .before .before .before .before .before .args .marked)) (now (c .before .before .before .before .before .before .before .before .before .before .before .before .before .before .before .args .m)) (c .before .before .before .before .before .before .before .before .before .before .before .before .before .before .before .args .at) (c .before .before .before .before .before .before .before .before .kind .ensures .0) (c .before .before .before .before .before .before .before .before .before .before .own .ensures .0) (c .before .before .before .before .before .before .before .before .before .octet .ensures .0) (c .before .before .before .before .before .before .before .form-of .ensures) (c .before .before .before .before .elements .result) (c .before .before .before .before .elements .ensures) (c .before .before .before .before .before .enum-told2 .given .1) _ _ _ (c .before .before .end2 .given .1) (c .grow2 .ensures))  -- body-returns-4
-    (λ c. simple-body (now (c .before .before .before .before .before .before .before .before .before .before .args .table)) (now (c .before .before .before .before .before .before .before .before .before .before .args .offsets)) (c .before .before .before .before .before .before .before .before .before .before .args .level) (c .before .before .before .before .before .before .before .before .before .before .args .o) (c .before .before .before .before .before .own .result) (c .before .before .before .before .octet .result) (c .before .before .before .kind .result) (c .before .before .form-of .result) (mode (c .before .before .before .before .before .before .before .before .before .before .args .marked)) (now (c .before .before .before .before .before .before .before .before .before .before .args .m)) (c .before .before .before .before .before .before .before .before .before .before .args .at) (c .before .before .before .kind .ensures .0) (c .before .before .before .before .before .own .ensures .0) (c .before .before .before .before .octet .ensures .0) (c .before .before .form-of .ensures) (c .before .before .before .before .before .before .before .before .before .before .pre .1 .2) (c .enum-told3 .given .1))  -- body-returns-5
-    (λ c. choice-body (now (c .before .before .before .before .before .before .before .before .before .before .args .table)) (now (c .before .before .before .before .before .before .before .before .before .before .args .offsets)) (c .before .before .before .before .before .before .before .before .before .before .args .level) (c .before .before .before .before .before .before .before .before .before .before .args .o) (c .before .before .before .before .before .own .result) (c .before .before .before .before .octet .result) (c .before .before .before .kind .result) (c .before .before .form-of .result) (mode (c .before .before .before .before .before .before .before .before .before .before .args .marked)) (now (c .before .before .before .before .before .before .before .before .before .before .args .m)) (c .before .before .before .before .before .before .before .before .before .before .args .at) (c .before .before .before .kind .ensures .0) (c .before .before .before .before .before .own .ensures .0) (c .before .before .before .before .octet .ensures .0) (c .before .before .form-of .ensures) (c .before .before .before .before .before .before .before .before .before .before .pre .1 .2) (c .enum-told4 .given .1)))  -- body-returns-6
+    (λ c. let s = as-sequence (now (c .before .before .before .before .before .before .before .before .before .before .before .before .before .before .before .before .before .args .table)) (now (c .before .before .before .before .before .before .before .before .before .before .before .before .before .before .before .before .before .args .offsets)) (c .before .before .before .before .before .before .before .before .before .before .before .before .before .before .before .before .before .args .level) (c .before .before .before .before .before .before .before .before .before .before .before .before .before .before .before .before .before .args .o) (c .before .before .before .before .before .before .before .before .before .before .before .before .own .result) (c .before .before .before .before .before .before .before .before .before .before .before .octet .result) (c .before .before .before .before .before .before .before .before .before .before .kind .result) (mode (c .before .before .before .before .before .before .before .before .before .before .before .before .before .before .before .before .before .args .marked)) (now (c .before .before .before .before .before .before .before .before .before .before .before .before .before .before .before .before .before .args .m)) (c .before .before .before .before .before .before .before .before .before .before .before .before .before .before .before .before .before .args .at) (c .before .before .before .before .before .before .before .before .before .before .kind .ensures .0) (c .before .before .before .before .before .before .before .before .before .before .before .before .own .ensures .0) (c .before .before .before .before .before .before .before .before .before .before .before .octet .ensures .0) (ap formOf (sym (c .before .before .before .before .before .before .before .before .before .before .kind .ensures .0)) ∙ sym (c .before .before .before .before .before .before .before .before .before .form-of .ensures) ∙ c .before .before .before .before .before .before .before .enum-told .given .1) (c .before .before .before .before .before .before .if1 .taken) _ _ (c .before .before .before .before .in-order .ensures) in members-no (now (c .before .before .before .before .before .before .before .before .before .before .before .before .before .before .before .before .before .args .table)) (now (c .before .before .before .before .before .before .before .before .before .before .before .before .before .before .before .before .before .args .offsets)) (c .before .before .before .before .before .before .before .before .before .before .before .before .before .before .before .before .before .args .level) (c .before .before .before .before .before .before .before .before .before .before .before .before .before .before .before .before .before .args .o) (c .before .before .before .before .before .before .before .before .before .before .before .before .own .result) (c .before .before .before .before .before .before .before .before .before .before .before .octet .result) (c .before .before .before .before .before .before .before .before .before .before .kind .result) (c .before .before .before .before .before .before .before .before .before .form-of .result) (mode (c .before .before .before .before .before .before .before .before .before .before .before .before .before .before .before .before .before .args .marked)) (now (c .before .before .before .before .before .before .before .before .before .before .before .before .before .before .before .before .before .args .m)) (c .before .before .before .before .before .before .before .before .before .before .before .before .before .before .before .before .before .args .at) (c .before .before .before .before .before .before .before .before .before .before .kind .ensures .0) (c .before .before .before .before .before .before .before .before .before .before .before .before .own .ensures .0) (c .before .before .before .before .before .before .before .before .before .before .before .octet .ensures .0) (c .before .before .before .before .before .before .before .before .before .form-of .ensures) (c .before .before .before .before .in-order .result) (s .0) (c .before .before .before .before .before .before .before .enum-told .given .1) _ _ (c .before .cause .given .1))  -- body-returns
+    (λ c. let s = as-sequence (now (c .before .before .before .before .before .before .before .before .before .before .before .before .before .before .before .before .before .before .args .table)) (now (c .before .before .before .before .before .before .before .before .before .before .before .before .before .before .before .before .before .before .args .offsets)) (c .before .before .before .before .before .before .before .before .before .before .before .before .before .before .before .before .before .before .args .level) (c .before .before .before .before .before .before .before .before .before .before .before .before .before .before .before .before .before .before .args .o) (c .before .before .before .before .before .before .before .before .before .before .before .before .before .own .result) (c .before .before .before .before .before .before .before .before .before .before .before .before .octet .result) (c .before .before .before .before .before .before .before .before .before .before .before .kind .result) (mode (c .before .before .before .before .before .before .before .before .before .before .before .before .before .before .before .before .before .before .args .marked)) (now (c .before .before .before .before .before .before .before .before .before .before .before .before .before .before .before .before .before .before .args .m)) (c .before .before .before .before .before .before .before .before .before .before .before .before .before .before .before .before .before .before .args .at) (c .before .before .before .before .before .before .before .before .before .before .before .kind .ensures .0) (c .before .before .before .before .before .before .before .before .before .before .before .before .before .own .ensures .0) (c .before .before .before .before .before .before .before .before .before .before .before .before .octet .ensures .0) (ap formOf (sym (c .before .before .before .before .before .before .before .before .before .before .before .kind .ensures .0)) ∙ sym (c .before .before .before .before .before .before .before .before .before .before .form-of .ensures) ∙ c .before .before .before .before .before .before .before .before .enum-told .given .1) (c .before .before .before .before .before .before .before .if1 .taken) _ _ (c .before .before .before .before .before .in-order .ensures) in members-done (now (c .before .before .before .before .before .before .before .before .before .before .before .before .before .before .before .before .before .before .args .table)) (now (c .before .before .before .before .before .before .before .before .before .before .before .before .before .before .before .before .before .before .args .offsets)) (c .before .before .before .before .before .before .before .before .before .before .before .before .before .before .before .before .before .before .args .level) (c .before .before .before .before .before .before .before .before .before .before .before .before .before .before .before .before .before .before .args .o) (c .before .before .before .before .before .before .before .before .before .before .before .before .before .own .result) (c .before .before .before .before .before .before .before .before .before .before .before .before .octet .result) (c .before .before .before .before .before .before .before .before .before .before .before .kind .result) (c .before .before .before .before .before .before .before .before .before .before .form-of .result) (mode (c .before .before .before .before .before .before .before .before .before .before .before .before .before .before .before .before .before .before .args .marked)) (now (c .before .before .before .before .before .before .before .before .before .before .before .before .before .before .before .before .before .before .args .m)) (c .before .before .before .before .before .before .before .before .before .before .before .before .before .before .before .before .before .before .args .at) (c .before .before .before .before .before .before .before .before .before .before .before .kind .ensures .0) (c .before .before .before .before .before .before .before .before .before .before .before .before .before .own .ensures .0) (c .before .before .before .before .before .before .before .before .before .before .before .before .octet .ensures .0) (c .before .before .before .before .before .before .before .before .before .before .form-of .ensures) (c .before .before .before .before .before .in-order .result) (s .0) (c .before .before .before .before .before .before .before .before .enum-told .given .1) _ (s .1) _ _ _ (c .before .before .end .given .1) (c .grow .ensures))  -- body-returns-2
+    (λ c. let s = as-set (now (c .before .before .before .before .before .before .before .before .before .before .before .before .before .before .before .before .before .args .table)) (now (c .before .before .before .before .before .before .before .before .before .before .before .before .before .before .before .before .before .args .offsets)) (c .before .before .before .before .before .before .before .before .before .before .before .before .before .before .before .before .before .args .level) (c .before .before .before .before .before .before .before .before .before .before .before .before .before .before .before .before .before .args .o) (c .before .before .before .before .before .before .before .before .before .before .before .before .own .result) (c .before .before .before .before .before .before .before .before .before .before .before .octet .result) (c .before .before .before .before .before .before .before .before .before .before .kind .result) (mode (c .before .before .before .before .before .before .before .before .before .before .before .before .before .before .before .before .before .args .marked)) (now (c .before .before .before .before .before .before .before .before .before .before .before .before .before .before .before .before .before .args .m)) (c .before .before .before .before .before .before .before .before .before .before .before .before .before .before .before .before .before .args .at) (c .before .before .before .before .before .before .before .before .before .before .kind .ensures .0) (c .before .before .before .before .before .before .before .before .before .before .before .before .own .ensures .0) (c .before .before .before .before .before .before .before .before .before .before .before .octet .ensures .0) (ap formOf (sym (c .before .before .before .before .before .before .before .before .before .before .kind .ensures .0)) ∙ sym (c .before .before .before .before .before .before .before .before .before .form-of .ensures) ∙ c .before .before .before .before .before .before .before .enum-told .given .1) (c .before .before .before .before .before .before .if1 .left) _ _ (c .before .before .before .before .any-order .ensures) in members-no (now (c .before .before .before .before .before .before .before .before .before .before .before .before .before .before .before .before .before .args .table)) (now (c .before .before .before .before .before .before .before .before .before .before .before .before .before .before .before .before .before .args .offsets)) (c .before .before .before .before .before .before .before .before .before .before .before .before .before .before .before .before .before .args .level) (c .before .before .before .before .before .before .before .before .before .before .before .before .before .before .before .before .before .args .o) (c .before .before .before .before .before .before .before .before .before .before .before .before .own .result) (c .before .before .before .before .before .before .before .before .before .before .before .octet .result) (c .before .before .before .before .before .before .before .before .before .before .kind .result) (c .before .before .before .before .before .before .before .before .before .form-of .result) (mode (c .before .before .before .before .before .before .before .before .before .before .before .before .before .before .before .before .before .args .marked)) (now (c .before .before .before .before .before .before .before .before .before .before .before .before .before .before .before .before .before .args .m)) (c .before .before .before .before .before .before .before .before .before .before .before .before .before .before .before .before .before .args .at) (c .before .before .before .before .before .before .before .before .before .before .kind .ensures .0) (c .before .before .before .before .before .before .before .before .before .before .before .before .own .ensures .0) (c .before .before .before .before .before .before .before .before .before .before .before .octet .ensures .0) (c .before .before .before .before .before .before .before .before .before .form-of .ensures) (c .before .before .before .before .any-order .result) (s .0) (c .before .before .before .before .before .before .before .enum-told .given .1) _ _ (c .before .cause2 .given .1))  -- body-returns-3
+    (λ c. let s = as-set (now (c .before .before .before .before .before .before .before .before .before .before .before .before .before .before .before .before .before .before .args .table)) (now (c .before .before .before .before .before .before .before .before .before .before .before .before .before .before .before .before .before .before .args .offsets)) (c .before .before .before .before .before .before .before .before .before .before .before .before .before .before .before .before .before .before .args .level) (c .before .before .before .before .before .before .before .before .before .before .before .before .before .before .before .before .before .before .args .o) (c .before .before .before .before .before .before .before .before .before .before .before .before .before .own .result) (c .before .before .before .before .before .before .before .before .before .before .before .before .octet .result) (c .before .before .before .before .before .before .before .before .before .before .before .kind .result) (mode (c .before .before .before .before .before .before .before .before .before .before .before .before .before .before .before .before .before .before .args .marked)) (now (c .before .before .before .before .before .before .before .before .before .before .before .before .before .before .before .before .before .before .args .m)) (c .before .before .before .before .before .before .before .before .before .before .before .before .before .before .before .before .before .before .args .at) (c .before .before .before .before .before .before .before .before .before .before .before .kind .ensures .0) (c .before .before .before .before .before .before .before .before .before .before .before .before .before .own .ensures .0) (c .before .before .before .before .before .before .before .before .before .before .before .before .octet .ensures .0) (ap formOf (sym (c .before .before .before .before .before .before .before .before .before .before .before .kind .ensures .0)) ∙ sym (c .before .before .before .before .before .before .before .before .before .before .form-of .ensures) ∙ c .before .before .before .before .before .before .before .before .enum-told .given .1) (c .before .before .before .before .before .before .before .if1 .left) _ _ (c .before .before .before .before .before .any-order .ensures) in members-done (now (c .before .before .before .before .before .before .before .before .before .before .before .before .before .before .before .before .before .before .args .table)) (now (c .before .before .before .before .before .before .before .before .before .before .before .before .before .before .before .before .before .before .args .offsets)) (c .before .before .before .before .before .before .before .before .before .before .before .before .before .before .before .before .before .before .args .level) (c .before .before .before .before .before .before .before .before .before .before .before .before .before .before .before .before .before .before .args .o) (c .before .before .before .before .before .before .before .before .before .before .before .before .before .own .result) (c .before .before .before .before .before .before .before .before .before .before .before .before .octet .result) (c .before .before .before .before .before .before .before .before .before .before .before .kind .result) (c .before .before .before .before .before .before .before .before .before .before .form-of .result) (mode (c .before .before .before .before .before .before .before .before .before .before .before .before .before .before .before .before .before .before .args .marked)) (now (c .before .before .before .before .before .before .before .before .before .before .before .before .before .before .before .before .before .before .args .m)) (c .before .before .before .before .before .before .before .before .before .before .before .before .before .before .before .before .before .before .args .at) (c .before .before .before .before .before .before .before .before .before .before .before .kind .ensures .0) (c .before .before .before .before .before .before .before .before .before .before .before .before .before .own .ensures .0) (c .before .before .before .before .before .before .before .before .before .before .before .before .octet .ensures .0) (c .before .before .before .before .before .before .before .before .before .before .form-of .ensures) (c .before .before .before .before .before .any-order .result) (s .0) (c .before .before .before .before .before .before .before .before .enum-told .given .1) _ (s .1) _ _ _ (c .before .before .end2 .given .1) (c .grow2 .ensures))  -- body-returns-4
+    (λ c. many-no (now (c .before .before .before .before .before .before .before .before .before .before .before .before .before .before .args .table)) (now (c .before .before .before .before .before .before .before .before .before .before .before .before .before .before .args .offsets)) (c .before .before .before .before .before .before .before .before .before .before .before .before .before .before .args .level) (c .before .before .before .before .before .before .before .before .before .before .before .before .before .before .args .o) (c .before .before .before .before .before .before .before .before .before .own .result) (c .before .before .before .before .before .before .before .before .octet .result) (c .before .before .before .before .before .before .before .kind .result) (c .before .before .before .before .before .before .form-of .result) (mode (c .before .before .before .before .before .before .before .before .before .before .before .before .before .before .args .marked)) (now (c .before .before .before .before .before .before .before .before .before .before .before .before .before .before .args .m)) (c .before .before .before .before .before .before .before .before .before .before .before .before .before .before .args .at) (c .before .before .before .before .before .before .before .kind .ensures .0) (c .before .before .before .before .before .before .before .before .before .own .ensures .0) (c .before .before .before .before .before .before .before .before .octet .ensures .0) (c .before .before .before .before .before .before .form-of .ensures) (c .before .before .before .elements .result) (c .before .before .before .elements .ensures) (c .before .before .before .before .enum-told2 .given .1) _ _ (c .before .cause3 .given .1))  -- body-returns-5
+    (λ c. many-done (now (c .before .before .before .before .before .before .before .before .before .before .before .before .before .before .before .args .table)) (now (c .before .before .before .before .before .before .before .before .before .before .before .before .before .before .before .args .offsets)) (c .before .before .before .before .before .before .before .before .before .before .before .before .before .before .before .args .level) (c .before .before .before .before .before .before .before .before .before .before .before .before .before .before .before .args .o) (c .before .before .before .before .before .before .before .before .before .before .own .result) (c .before .before .before .before .before .before .before .before .before .octet .result) (c .before .before .before .before .before .before .before .before .kind .result) (c .before .before .before .before .before .before .before .form-of .result) (mode (c .before .before .before .before .before .before .before .before .before .before .before .before .before .before .before .args .marked)) (now (c .before .before .before .before .before .before .before .before .before .before .before .before .before .before .before .args .m)) (c .before .before .before .before .before .before .before .before .before .before .before .before .before .before .before .args .at) (c .before .before .before .before .before .before .before .before .kind .ensures .0) (c .before .before .before .before .before .before .before .before .before .before .own .ensures .0) (c .before .before .before .before .before .before .before .before .before .octet .ensures .0) (c .before .before .before .before .before .before .before .form-of .ensures) (c .before .before .before .before .elements .result) (c .before .before .before .before .elements .ensures) (c .before .before .before .before .before .enum-told2 .given .1) _ _ _ (c .before .before .end3 .given .1) (c .grow3 .ensures))  -- body-returns-6
+    (λ c. simple-body (now (c .before .before .before .before .before .before .before .before .before .before .args .table)) (now (c .before .before .before .before .before .before .before .before .before .before .args .offsets)) (c .before .before .before .before .before .before .before .before .before .before .args .level) (c .before .before .before .before .before .before .before .before .before .before .args .o) (c .before .before .before .before .before .own .result) (c .before .before .before .before .octet .result) (c .before .before .before .kind .result) (c .before .before .form-of .result) (mode (c .before .before .before .before .before .before .before .before .before .before .args .marked)) (now (c .before .before .before .before .before .before .before .before .before .before .args .m)) (c .before .before .before .before .before .before .before .before .before .before .args .at) (c .before .before .before .kind .ensures .0) (c .before .before .before .before .before .own .ensures .0) (c .before .before .before .before .octet .ensures .0) (c .before .before .form-of .ensures) (c .before .before .before .before .before .before .before .before .before .before .pre .1 .2) (c .enum-told3 .given .1))  -- body-returns-7
+    (λ c. choice-body (now (c .before .before .before .before .before .before .before .before .before .before .args .table)) (now (c .before .before .before .before .before .before .before .before .before .before .args .offsets)) (c .before .before .before .before .before .before .before .before .before .before .args .level) (c .before .before .before .before .before .before .before .before .before .before .args .o) (c .before .before .before .before .before .own .result) (c .before .before .before .before .octet .result) (c .before .before .before .kind .result) (c .before .before .form-of .result) (mode (c .before .before .before .before .before .before .before .before .before .before .args .marked)) (now (c .before .before .before .before .before .before .before .before .before .before .args .m)) (c .before .before .before .before .before .before .before .before .before .before .args .at) (c .before .before .before .kind .ensures .0) (c .before .before .before .before .before .own .ensures .0) (c .before .before .before .before .octet .ensures .0) (c .before .before .form-of .ensures) (c .before .before .before .before .before .before .before .before .before .before .pre .1 .2) (c .enum-told4 .given .1)))  -- body-returns-8
     (λ t. constructed-lts.spec
     (header-reads.Asked, header-reads.Learnt, body-below t, body.Post)
     (constructed-at t)
@@ -480,43 +479,16 @@ pub +alternative+any-order+body+constructed+elements+in-order+item+scan+step+und
     (λ c κs. search needs)  -- item-form-of-requires
     (λ c. search needs)  -- item-enum-told
     (λ c κs. (omega (arith, c .before .before .before .before .before .before .before .before .before .pre .0), (c .before .before .before .before .before .before .before .before .before .pre .1 .0, c .before .before .before .before .before .before .before .before .before .pre .1 .1, c .before .before .before .before .before .before .before .before .before .pre .1 .2, c .before .before .before .before .before .before .before .before .before .pre .1 .3)))  -- item-alternative-requires
+    (λ c. rw (item-choice (now (c .before .before .before .before .before .before .before .before .before .before .args .table)) (now (c .before .before .before .before .before .before .before .before .before .before .args .offsets)) (c .before .before .before .before .before .before .before .before .before .before .args .level) (c .before .before .before .before .before .before .before .before .before .before .args .t) (c .before .before .before .before .before .offset .result) (c .before .before .before .before .kind .result) (drop (c .before .before .before .before .before .before .before .before .before .before .args .at) (now (c .before .before .before .before .before .before .before .before .before .before .args .m))) (c .before .before .before .form-of .result) (c .before .before .before .before .before .offset .ensures) (c .before .before .before .before .kind .ensures .0) (c .before .before .before .form-of .ensures) (c .before .enum-told .given .1)) (c .alternative .ensures))  -- item-returns
     (λ c. search needs)  -- item-enum-told-2
     (λ c κs. (c .before .before .before .before .before .before .before .before .before .pre .1 .0, c .before .before .before .before .offset .ensures))  -- item-code-of-requires
     (λ c κs. (ap formOf (sym (c .before .before .before .before .kind .ensures .0)) ∙ sym (c .before .before .before .form-of .ensures) ∙ c .before .enum-told2 .given .1, c .before .before .before .before .before .before .before .before .before .before .pre .1 .1, c .before .before .before .before .before .before .before .before .before .before .pre .1 .2))  -- item-simple-requires
-    (λ c. search needs)  -- item-enum-told-3
-    (λ c κs. (c .before .before .before .before .before .before .before .before .before .pre .1 .0, c .before .before .before .before .offset .ensures))  -- item-code-of-requires-2
-    (λ c κs. (omega (arith, c .before .before .before .before .before .before .before .before .before .before .pre .0), (c .before .before .before .before .before .before .before .before .before .before .pre .1 .0, shaped-at (c .before .before .before .before .before .before .before .before .before .before .pre .1 .0) _ _ (c .before .before .before .before .before .offset .ensures), c .before .before .before .before .before .before .before .before .before .before .pre .1 .1, c .before .before .before .before .before .before .before .before .before .before .pre .1 .2, c .before .before .before .before .before .before .before .before .before .before .pre .1 .3)))  -- item-constructed-requires
-    (λ c. search needs)  -- item-enum-told-4
-    (λ c κs. (c .before .before .before .before .before .before .before .before .before .pre .1 .0, c .before .before .before .before .offset .ensures))  -- item-code-of-requires-3
-    (λ c κs. (omega (arith, c .before .before .before .before .before .before .before .before .before .before .pre .0), (c .before .before .before .before .before .before .before .before .before .before .pre .1 .0, shaped-at (c .before .before .before .before .before .before .before .before .before .before .pre .1 .0) _ _ (c .before .before .before .before .before .offset .ensures), c .before .before .before .before .before .before .before .before .before .before .pre .1 .1, c .before .before .before .before .before .before .before .before .before .before .pre .1 .2, c .before .before .before .before .before .before .before .before .before .before .pre .1 .3)))  -- item-constructed-requires-2
-    (λ c. rw (item-choice (now (c .before .before .before .before .before .before .before .before .before .before .args .table)) (now (c .before .before .before .before .before .before .before .before .before .before .args .offsets)) (c .before .before .before .before .before .before .before .before .before .before .args .level) (c .before .before .before .before .before .before .before .before .before .before .args .t) (c .before .before .before .before .before .offset .result) (c .before .before .before .before .kind .result) (drop (c .before .before .before .before .before .before .before .before .before .before .args .at) (now (c .before .before .before .before .before .before .before .before .before .before .args .m))) (c .before .before .before .form-of .result) (c .before .before .before .before .before .offset .ensures) (c .before .before .before .before .kind .ensures .0) (c .before .before .before .form-of .ensures) (c .before .enum-told .given .1)) (c .alternative .ensures))  -- item-returns
     (λ c. rw (item-plain (now (c .before .before .before .before .before .before .before .before .before .before .before .args .table)) (now (c .before .before .before .before .before .before .before .before .before .before .before .args .offsets)) (c .before .before .before .before .before .before .before .before .before .before .before .args .level) (c .before .before .before .before .before .before .before .before .before .before .before .args .t) (c .before .before .before .before .before .before .offset .result) (c .before .before .before .before .before .kind .result) (c .before .code-of .result) (drop (c .before .before .before .before .before .before .before .before .before .before .before .args .at) (now (c .before .before .before .before .before .before .before .before .before .before .before .args .m))) (c .before .before .before .before .form-of .result) (c .before .before .before .before .before .before .offset .ensures) (c .before .before .before .before .before .kind .ensures .0) (c .before .before .before .before .form-of .ensures) (c .before .before .enum-told2 .given .1) (headed (c .before .before .before .before .before .before .before .before .before .before .before .pre .1 .0) (λ i. c .before .before .before .before .before .before .before .before .before .before .shared-slice-known .given i .fits) (now (c .before .before .before .before .before .before .before .before .before .before .before .args .m)) (λ i. c .before .before .before .before .before .before .before .shared-slice-known4 .given i .fits) (c .before .before .before .before .before .before .before .before .before .before .before .args .at) (c .before .before .before .before .before .before .before .before .before .before .before .args .t) (c .before .before .before .before .before .before .offset .result) (c .before .code-of .result) (c .before .before .before .before .before .before .offset .ensures) (c .before .code-of .ensures))) (c .simple .ensures))  -- item-returns-2
-    (λ c. rw (item-members (now (c .before .before .before .before .before .before .before .before .before .before .before .args .table)) (now (c .before .before .before .before .before .before .before .before .before .before .before .args .offsets)) (c .before .before .before .before .before .before .before .before .before .before .before .args .level) (c .before .before .before .before .before .before .before .before .before .before .before .args .t) (c .before .before .before .before .before .before .offset .result) (c .before .before .before .before .before .kind .result) (drop (c .before .before .before .before .before .before .before .before .before .before .before .args .at) (now (c .before .before .before .before .before .before .before .before .before .before .before .args .m))) (c .before .before .before .before .form-of .result) (c .before .before .before .before .before .before .offset .ensures) (c .before .before .before .before .before .kind .ensures .0) (c .before .before .before .before .form-of .ensures) (c .before .code-of2 .result) (headed (c .before .before .before .before .before .before .before .before .before .before .before .pre .1 .0) (λ i. c .before .before .before .before .before .before .before .before .before .before .shared-slice-known .given i .fits) (now (c .before .before .before .before .before .before .before .before .before .before .before .args .m)) (λ i. c .before .before .before .before .before .before .before .shared-slice-known4 .given i .fits) (c .before .before .before .before .before .before .before .before .before .before .before .args .at) (c .before .before .before .before .before .before .before .before .before .before .before .args .t) (c .before .before .before .before .before .before .offset .result) (c .before .code-of2 .result) (c .before .before .before .before .before .before .offset .ensures) (c .before .code-of2 .ensures)) (c .before .before .enum-told3 .given .1)) (c .constructed .ensures))  -- item-returns-3
-    (λ c. rw (item-of (now (c .before .before .before .before .before .before .before .before .before .before .before .args .table)) (now (c .before .before .before .before .before .before .before .before .before .before .before .args .offsets)) (c .before .before .before .before .before .before .before .before .before .before .before .args .level) (c .before .before .before .before .before .before .before .before .before .before .before .args .t) (c .before .before .before .before .before .before .offset .result) (c .before .before .before .before .before .kind .result) (drop (c .before .before .before .before .before .before .before .before .before .before .before .args .at) (now (c .before .before .before .before .before .before .before .before .before .before .before .args .m))) (c .before .before .before .before .form-of .result) (c .before .before .before .before .before .before .offset .ensures) (c .before .before .before .before .before .kind .ensures .0) (c .before .before .before .before .form-of .ensures) (c .before .code-of3 .result) (headed (c .before .before .before .before .before .before .before .before .before .before .before .pre .1 .0) (λ i. c .before .before .before .before .before .before .before .before .before .before .shared-slice-known .given i .fits) (now (c .before .before .before .before .before .before .before .before .before .before .before .args .m)) (λ i. c .before .before .before .before .before .before .before .shared-slice-known4 .given i .fits) (c .before .before .before .before .before .before .before .before .before .before .before .args .at) (c .before .before .before .before .before .before .before .before .before .before .before .args .t) (c .before .before .before .before .before .before .offset .result) (c .before .code-of3 .result) (c .before .before .before .before .before .before .offset .ensures) (c .before .code-of3 .ensures)) (c .before .before .enum-told4 .given .1)) (c .constructed2 .ensures)))  -- item-returns-4
-    (λ t. scan-lts.spec (
-      own-reads.Asked,
-      own-reads.Learnt,
-      octet-reads.Asked,
-      octet-reads.Learnt,
-      kind-reads.Asked,
-      kind-reads.Learnt,
-      in-order-below t,
-      in-order.Post,
-      any-order-below t,
-      any-order.Post,
-    )
-    (scan-at t)
-    scan.Post
-    (λ c κs. search needs)  -- scan-own-requires
-    (λ c κs. search needs)  -- scan-octet-requires
-    (λ c. omega (arith, c .before .own .ensures .1))  -- scan-add-first
-    (λ c κs. search needs)  -- scan-kind-requires
-    (λ c κs. (omega (arith, c .before .before .before .before .before .before .before .before .before .before .pre .0), (c .before .before .before .before .before .before .before .before .before .before .pre .1 .0, omega (arith, c .before .before .before .before .own .ensures .1), scan-few (now (c .before .before .before .before .before .before .before .before .before .before .args .table)) (now (c .before .before .before .before .before .before .before .before .before .before .args .offsets)) (c .before .before .before .before .before .before .before .before .before .before .args .level) (c .before .before .before .before .before .before .before .before .before .before .args .o) (c .before .before .before .before .own .result) (c .before .before .before .octet .result) (c .before .before .kind .result) (mode (c .before .before .before .before .before .before .before .before .before .before .args .marked)) (now (c .before .before .before .before .before .before .before .before .before .before .args .m)) (c .before .before .before .before .before .before .before .before .before .before .args .at) (c .before .before .kind .ensures .0) (c .before .before .before .before .own .ensures .0) (c .before .before .before .octet .ensures .0) (c .before .before .before .before .before .before .before .before .before .before .pre .1 .2) (c .before .before .before .before .before .before .before .before .before .before .pre .1 .1), c .before .before .before .before .before .before .before .before .before .before .pre .1 .3, c .before .before .before .before .before .before .before .before .before .before .pre .1 .4, c .before .before .before .before .before .before .before .before .before .before .pre .1 .5, c .before .before .before .before .before .before .before .before .before .before .pre .1 .6)))  -- scan-in-order-requires
-    (λ c. search needs)  -- scan-same-length
-    (λ c. rw (scan-sequence (now (c .before .before .before .before .before .before .before .before .before .before .before .before .before .args .table)) (now (c .before .before .before .before .before .before .before .before .before .before .before .before .before .args .offsets)) (c .before .before .before .before .before .before .before .before .before .before .before .before .before .args .level) (c .before .before .before .before .before .before .before .before .before .before .before .before .before .args .o) (c .before .before .before .before .before .before .before .own .result) (c .before .before .before .before .before .before .octet .result) (c .before .before .before .before .before .kind .result) (mode (c .before .before .before .before .before .before .before .before .before .before .before .before .before .args .marked)) (now (c .before .before .before .before .before .before .before .before .before .before .before .before .before .args .m)) (c .before .before .before .before .before .before .before .before .before .before .before .before .before .args .at) (c .before .before .before .before .before .kind .ensures .0) (c .before .before .before .before .before .before .before .own .ensures .0) (c .before .before .before .before .before .before .octet .ensures .0) (c .before .before .before .before .before .before .before .before .before .before .before .before .before .pre .1 .2) (c .before .before .before .before .if1 .taken), scan-members (now (c .before .before .before .before .before .before .before .before .before .before .before .before .before .args .table)) (now (c .before .before .before .before .before .before .before .before .before .before .before .before .before .args .offsets)) (c .before .before .before .before .before .before .before .before .before .before .before .before .before .args .level) (c .before .before .before .before .before .before .before .before .before .before .before .before .before .args .o) (c .before .before .before .before .before .before .before .own .result) (c .before .before .before .before .before .before .octet .result) (c .before .before .before .before .before .kind .result) (mode (c .before .before .before .before .before .before .before .before .before .before .before .before .before .args .marked)) (now (c .before .before .before .before .before .before .before .before .before .before .before .before .before .args .m)) (c .before .before .before .before .before .before .before .before .before .before .before .before .before .args .at) (c .before .before .before .before .before .kind .ensures .0) (c .before .before .before .before .before .before .before .own .ensures .0) (c .before .before .before .before .before .before .octet .ensures .0) (c .before .before .before .before .before .before .before .before .before .before .before .before .before .pre .1 .2)) (c .before .before .in-order .ensures))  -- scan-returns
-    (λ c κs. (omega (arith, c .before .before .before .before .before .before .before .before .before .before .pre .0), (c .before .before .before .before .before .before .before .before .before .before .pre .1 .0, omega (arith, c .before .before .before .before .own .ensures .1), scan-few (now (c .before .before .before .before .before .before .before .before .before .before .args .table)) (now (c .before .before .before .before .before .before .before .before .before .before .args .offsets)) (c .before .before .before .before .before .before .before .before .before .before .args .level) (c .before .before .before .before .before .before .before .before .before .before .args .o) (c .before .before .before .before .own .result) (c .before .before .before .octet .result) (c .before .before .kind .result) (mode (c .before .before .before .before .before .before .before .before .before .before .args .marked)) (now (c .before .before .before .before .before .before .before .before .before .before .args .m)) (c .before .before .before .before .before .before .before .before .before .before .args .at) (c .before .before .kind .ensures .0) (c .before .before .before .before .own .ensures .0) (c .before .before .before .octet .ensures .0) (c .before .before .before .before .before .before .before .before .before .before .pre .1 .2) (c .before .before .before .before .before .before .before .before .before .before .pre .1 .1), c .before .before .before .before .before .before .before .before .before .before .pre .1 .3, c .before .before .before .before .before .before .before .before .before .before .pre .1 .4, c .before .before .before .before .before .before .before .before .before .before .pre .1 .5, c .before .before .before .before .before .before .before .before .before .before .pre .1 .6)))  -- scan-any-order-requires
-    (λ c. search needs)  -- scan-same-length-2
-    (λ c. rw (scan-set (now (c .before .before .before .before .before .before .before .before .before .before .before .before .before .args .table)) (now (c .before .before .before .before .before .before .before .before .before .before .before .before .before .args .offsets)) (c .before .before .before .before .before .before .before .before .before .before .before .before .before .args .level) (c .before .before .before .before .before .before .before .before .before .before .before .before .before .args .o) (c .before .before .before .before .before .before .before .own .result) (c .before .before .before .before .before .before .octet .result) (c .before .before .before .before .before .kind .result) (mode (c .before .before .before .before .before .before .before .before .before .before .before .before .before .args .marked)) (now (c .before .before .before .before .before .before .before .before .before .before .before .before .before .args .m)) (c .before .before .before .before .before .before .before .before .before .before .before .before .before .args .at) (c .before .before .before .before .before .kind .ensures .0) (c .before .before .before .before .before .before .before .own .ensures .0) (c .before .before .before .before .before .before .octet .ensures .0) (c .before .before .before .before .before .before .before .before .before .before .before .before .before .pre .1 .2) (c .before .before .before .before .if1 .left), scan-members (now (c .before .before .before .before .before .before .before .before .before .before .before .before .before .args .table)) (now (c .before .before .before .before .before .before .before .before .before .before .before .before .before .args .offsets)) (c .before .before .before .before .before .before .before .before .before .before .before .before .before .args .level) (c .before .before .before .before .before .before .before .before .before .before .before .before .before .args .o) (c .before .before .before .before .before .before .before .own .result) (c .before .before .before .before .before .before .octet .result) (c .before .before .before .before .before .kind .result) (mode (c .before .before .before .before .before .before .before .before .before .before .before .before .before .args .marked)) (now (c .before .before .before .before .before .before .before .before .before .before .before .before .before .args .m)) (c .before .before .before .before .before .before .before .before .before .before .before .before .before .args .at) (c .before .before .before .before .before .kind .ensures .0) (c .before .before .before .before .before .before .before .own .ensures .0) (c .before .before .before .before .before .before .octet .ensures .0) (c .before .before .before .before .before .before .before .before .before .before .before .before .before .pre .1 .2)) (c .before .before .any-order .ensures)))  -- scan-returns-2
+    (λ c. search needs)  -- item-enum-told-3
+    (λ c. search needs)  -- item-enum-told-4
+    (λ c κs. (c .before .before .before .before .before .before .before .before .pre .1 .0, c .before .before .before .offset .ensures))  -- item-code-of-requires-2
+    (λ c κs. (omega (arith, c .before .before .before .before .before .before .before .before .before .pre .0), (c .before .before .before .before .before .before .before .before .before .pre .1 .0, shaped-at (c .before .before .before .before .before .before .before .before .before .pre .1 .0) _ _ (c .before .before .before .before .offset .ensures), c .before .before .before .before .before .before .before .before .before .pre .1 .1, c .before .before .before .before .before .before .before .before .before .pre .1 .2, c .before .before .before .before .before .before .before .before .before .pre .1 .3)))  -- item-constructed-requires
+    (λ c. rw (⊎-elim (λ g. item-members (now (c .before .before .before .before .before .before .before .before .before .before .args .table)) (now (c .before .before .before .before .before .before .before .before .before .before .args .offsets)) (c .before .before .before .before .before .before .before .before .before .before .args .level) (c .before .before .before .before .before .before .before .before .before .before .args .t) (c .before .before .before .before .before .offset .result) (c .before .before .before .before .kind .result) (drop (c .before .before .before .before .before .before .before .before .before .before .args .at) (now (c .before .before .before .before .before .before .before .before .before .before .args .m))) (c .before .before .before .form-of .result) (c .before .before .before .before .before .offset .ensures) (c .before .before .before .before .kind .ensures .0) (c .before .before .before .form-of .ensures) (c .before .code-of2 .result) (headed (c .before .before .before .before .before .before .before .before .before .before .pre .1 .0) (λ i. c .before .before .before .before .before .before .before .before .before .shared-slice-known .given i .fits) (now (c .before .before .before .before .before .before .before .before .before .before .args .m)) (λ i. c .before .before .before .before .before .before .shared-slice-known4 .given i .fits) (c .before .before .before .before .before .before .before .before .before .before .args .at) (c .before .before .before .before .before .before .before .before .before .before .args .t) (c .before .before .before .before .before .offset .result) (c .before .code-of2 .result) (c .before .before .before .before .before .offset .ensures) (c .before .code-of2 .ensures)) (g .1 .given .1)) (λ g. item-of (now (c .before .before .before .before .before .before .before .before .before .before .args .table)) (now (c .before .before .before .before .before .before .before .before .before .before .args .offsets)) (c .before .before .before .before .before .before .before .before .before .before .args .level) (c .before .before .before .before .before .before .before .before .before .before .args .t) (c .before .before .before .before .before .offset .result) (c .before .before .before .before .kind .result) (drop (c .before .before .before .before .before .before .before .before .before .before .args .at) (now (c .before .before .before .before .before .before .before .before .before .before .args .m))) (c .before .before .before .form-of .result) (c .before .before .before .before .before .offset .ensures) (c .before .before .before .before .kind .ensures .0) (c .before .before .before .form-of .ensures) (c .before .code-of2 .result) (headed (c .before .before .before .before .before .before .before .before .before .before .pre .1 .0) (λ i. c .before .before .before .before .before .before .before .before .before .shared-slice-known .given i .fits) (now (c .before .before .before .before .before .before .before .before .before .before .args .m)) (λ i. c .before .before .before .before .before .before .shared-slice-known4 .given i .fits) (c .before .before .before .before .before .before .before .before .before .before .args .at) (c .before .before .before .before .before .before .before .before .before .before .args .t) (c .before .before .before .before .before .offset .result) (c .before .code-of2 .result) (c .before .before .before .before .before .offset .ensures) (c .before .code-of2 .ensures)) (g .1 .given .1)) (c .before .before .match .came)) (c .constructed .ensures)))  -- item-returns-3
     (λ t. step-lts.spec (
       peek-reads.Asked,
       peek-reads.Learnt,
@@ -561,10 +533,10 @@ pub +alternative+any-order+body+constructed+elements+in-order+item+scan+step+und
       simple-reads.Learnt,
       explicit-count-reads.Asked,
       explicit-count-reads.Learnt,
-      item-below t,
-      item.Post,
       open-reads.Asked,
       open-reads.Learnt,
+      item-below t,
+      item.Post,
       close-reads.Asked,
       close-reads.Learnt,
     )
@@ -577,18 +549,16 @@ pub +alternative+any-order+body+constructed+elements+in-order+item+scan+step+und
     (λ c. rw (plain-value (c .before .before .before .before .before .before .before .before .before .pre .1 .0) (λ i. c .before .before .before .before .before .before .before .before .shared-slice-known .given i .fits) (now (c .before .before .before .before .before .before .before .before .before .args .m)) (λ i. c .before .before .before .before .before .shared-slice-known4 .given i .fits) (c .before .before .before .before .before .before .before .before .before .args .at) (c .before .before .before .before .before .before .before .before .before .args .level) (c .before .before .before .before .before .before .before .before .before .args .t) (c .before .before .before .before .offset .result) (c .before .first .result) (c .before .before .before .before .offset .ensures) (c .before .before .before .before .before .before .before .before .before .pre .1 .3) (c .before .before .before .is-plain .ensures (c .before .before .if1 .taken) .0) (c .before .before .before .is-plain .ensures (c .before .before .if1 .taken) .1) (c .before .first .ensures .0)) (c .simple .ensures))  -- value-returns
     (λ c κs. search needs)  -- value-explicit-count-requires
     (λ c. omega (arith, c .before .before .before .before .before .before .before .before .pre .1 .3))  -- value-sub-below
-    (λ c κs. (omega (arith, c .before .before .before .before .before .before .before .before .before .pre .0, c .before .before .before .before .before .before .before .before .before .pre .1 .3), (c .before .before .before .before .before .before .before .before .before .pre .1 .0, c .before .before .before .before .before .before .before .before .before .pre .1 .1, c .before .before .before .before .before .before .before .before .before .pre .1 .2, omega (arith, c .before .before .before .before .before .before .before .before .before .pre .1 .3, c .before .before .before .before .before .before .before .before .before .pre .1 .4))))  -- value-item-requires
-    (λ c. rw (bare-is (now (c .before .before .before .before .before .before .before .before .before .before .args .table)) (now (c .before .before .before .before .before .before .before .before .before .before .args .offsets)) (c .before .before .before .before .before .before .before .before .before .before .args .level) (c .before .before .before .before .before .before .before .before .before .before .args .t) (c .before .before .before .before .before .offset .result) (drop (c .before .before .before .before .before .before .before .before .before .before .args .at) (now (c .before .before .before .before .before .before .before .before .before .before .args .m))) (c .before .before .before .before .before .offset .ensures) (c .before .before .before .before .before .before .before .before .before .before .pre .1 .3) (sym (c .before .before .explicit-count .ensures .0) ∙ c .before .if2 .taken)) (c .item .ensures))  -- value-returns-2
     (λ c. refl)  -- value-slice-aggregate-open
-    (λ c κs. let f = few-tags (c .before .before .before .before .before .before .before .before .before .before .pre .1 .0) _ _ (c .before .before .before .before .before .offset .ensures) in (c .before .before .explicit-count .ensures .0, omega (arith, c .before .before .explicit-count .ensures .0), refl, c .before .before .before .before .before .before .before .before .before .before .pre .1 .1, c .before .before .before .before .before .before .before .before .before .before .pre .1 .2))  -- value-open-requires
+    (λ c κs. let f = few-tags (c .before .before .before .before .before .before .before .before .before .pre .1 .0) _ _ (c .before .before .before .before .offset .ensures) in (c .before .explicit-count .ensures .0, omega (arith, c .before .explicit-count .ensures .0), refl, c .before .before .before .before .before .before .before .before .before .pre .1 .1, c .before .before .before .before .before .before .before .before .before .pre .1 .2))  -- value-open-requires
     (λ c. search needs)  -- value-enum-known-cause
     (λ c. search needs)  -- value-enum-known-from
-    (λ c. sym (length-take-le _ (now (c .before .before .before .before .before .before .before .before .before .before .before .before .before .before .before .before .args .m)) (tags-end (now (c .before .before .before .before .before .before .before .before .before .before .before .before .before .before .before .before .args .table)) (now (c .before .before .before .before .before .before .before .before .before .before .before .before .before .before .before .before .args .offsets)) (c .before .before .before .before .before .before .before .before .before .before .before .before .before .before .before .before .args .level) (c .before .before .before .before .before .before .before .before .before .before .before .before .before .before .before .before .args .t) (c .before .before .before .before .before .before .before .before .before .before .before .offset .result) (now (c .before .before .before .before .before .before .before .before .before .before .before .before .before .before .before .before .args .m)) (c .before .before .before .before .before .before .before .before .before .before .before .before .before .before .before .before .args .at) (c .before .before .before .before .before .before .before .before .before .before .before .offset .ensures) (c .before .before .before .before .before .before .before .before .before .before .before .before .before .before .before .before .pre .1 .3) _ (c .before .before .before .before .before .«open» .result) (c .before .before .before .before .before .«open» .ensures) _ _ (c .before .before .from .given .1))))  -- value-slice-aggregate-part
-    (λ c κs. let w = tags-end (now (c .before .before .before .before .before .before .before .before .before .before .before .before .before .before .before .before .args .table)) (now (c .before .before .before .before .before .before .before .before .before .before .before .before .before .before .before .before .args .offsets)) (c .before .before .before .before .before .before .before .before .before .before .before .before .before .before .before .before .args .level) (c .before .before .before .before .before .before .before .before .before .before .before .before .before .before .before .before .args .t) (c .before .before .before .before .before .before .before .before .before .before .before .offset .result) (now (c .before .before .before .before .before .before .before .before .before .before .before .before .before .before .before .before .args .m)) (c .before .before .before .before .before .before .before .before .before .before .before .before .before .before .before .before .args .at) (c .before .before .before .before .before .before .before .before .before .before .before .offset .ensures) (c .before .before .before .before .before .before .before .before .before .before .before .before .before .before .before .before .pre .1 .3) _ (c .before .before .before .before .before .«open» .result) (c .before .before .before .before .before .«open» .ensures) _ _ (c .before .before .from .given .1) in let l = length-take-le _ (now (c .before .before .before .before .before .before .before .before .before .before .before .before .before .before .before .before .args .m)) w in (omega (arith, c .before .before .before .before .before .before .before .before .before .before .before .before .before .before .before .before .pre .0, c .before .before .before .before .before .before .before .before .before .before .before .before .before .before .before .before .pre .1 .3), (c .before .before .before .before .before .before .before .before .before .before .before .before .before .before .before .before .pre .1 .0, omega (arith, tags-from (now (c .before .before .before .before .before .before .before .before .before .before .before .before .before .before .before .before .args .table)) (now (c .before .before .before .before .before .before .before .before .before .before .before .before .before .before .before .before .args .offsets)) (c .before .before .before .before .before .before .before .before .before .before .before .before .before .before .before .before .args .level) (c .before .before .before .before .before .before .before .before .before .before .before .before .before .before .before .before .args .t) (c .before .before .before .before .before .before .before .before .before .before .before .offset .result) (now (c .before .before .before .before .before .before .before .before .before .before .before .before .before .before .before .before .args .m)) (c .before .before .before .before .before .before .before .before .before .before .before .before .before .before .before .before .args .at) (c .before .before .before .before .before .before .before .before .before .before .before .offset .ensures) (c .before .before .before .before .before .before .before .before .before .before .before .before .before .before .before .before .pre .1 .3) _ (c .before .before .before .before .before .«open» .result) (c .before .before .before .before .before .«open» .ensures) _ _ (c .before .before .from .given .1)), omega (arith, w, c .before .before .before .before .before .before .before .before .before .before .before .before .before .before .before .before .pre .1 .2), omega (arith, c .before .before .before .before .before .before .before .before .before .before .before .before .before .before .before .before .pre .1 .3, c .before .before .before .before .before .before .before .before .before .before .before .before .before .before .before .before .pre .1 .4))))  -- value-item-requires-2
+    (λ c. sym (length-take-le _ (now (c .before .before .before .before .before .before .before .before .before .before .before .before .before .before .before .args .m)) (tags-end (now (c .before .before .before .before .before .before .before .before .before .before .before .before .before .before .before .args .table)) (now (c .before .before .before .before .before .before .before .before .before .before .before .before .before .before .before .args .offsets)) (c .before .before .before .before .before .before .before .before .before .before .before .before .before .before .before .args .level) (c .before .before .before .before .before .before .before .before .before .before .before .before .before .before .before .args .t) (c .before .before .before .before .before .before .before .before .before .before .offset .result) (now (c .before .before .before .before .before .before .before .before .before .before .before .before .before .before .before .args .m)) (c .before .before .before .before .before .before .before .before .before .before .before .before .before .before .before .args .at) (c .before .before .before .before .before .before .before .before .before .before .offset .ensures) (c .before .before .before .before .before .before .before .before .before .before .before .before .before .before .before .pre .1 .3) _ (c .before .before .before .before .before .«open» .result) (c .before .before .before .before .before .«open» .ensures) _ _ (c .before .before .from .given .1))))  -- value-slice-aggregate-part
+    (λ c κs. let w = tags-end (now (c .before .before .before .before .before .before .before .before .before .before .before .before .before .before .before .args .table)) (now (c .before .before .before .before .before .before .before .before .before .before .before .before .before .before .before .args .offsets)) (c .before .before .before .before .before .before .before .before .before .before .before .before .before .before .before .args .level) (c .before .before .before .before .before .before .before .before .before .before .before .before .before .before .before .args .t) (c .before .before .before .before .before .before .before .before .before .before .offset .result) (now (c .before .before .before .before .before .before .before .before .before .before .before .before .before .before .before .args .m)) (c .before .before .before .before .before .before .before .before .before .before .before .before .before .before .before .args .at) (c .before .before .before .before .before .before .before .before .before .before .offset .ensures) (c .before .before .before .before .before .before .before .before .before .before .before .before .before .before .before .pre .1 .3) _ (c .before .before .before .before .before .«open» .result) (c .before .before .before .before .before .«open» .ensures) _ _ (c .before .before .from .given .1) in let l = length-take-le _ (now (c .before .before .before .before .before .before .before .before .before .before .before .before .before .before .before .args .m)) w in (omega (arith, c .before .before .before .before .before .before .before .before .before .before .before .before .before .before .before .pre .0, c .before .before .before .before .before .before .before .before .before .before .before .before .before .before .before .pre .1 .3), (c .before .before .before .before .before .before .before .before .before .before .before .before .before .before .before .pre .1 .0, omega (arith, tags-from (now (c .before .before .before .before .before .before .before .before .before .before .before .before .before .before .before .args .table)) (now (c .before .before .before .before .before .before .before .before .before .before .before .before .before .before .before .args .offsets)) (c .before .before .before .before .before .before .before .before .before .before .before .before .before .before .before .args .level) (c .before .before .before .before .before .before .before .before .before .before .before .before .before .before .before .args .t) (c .before .before .before .before .before .before .before .before .before .before .offset .result) (now (c .before .before .before .before .before .before .before .before .before .before .before .before .before .before .before .args .m)) (c .before .before .before .before .before .before .before .before .before .before .before .before .before .before .before .args .at) (c .before .before .before .before .before .before .before .before .before .before .offset .ensures) (c .before .before .before .before .before .before .before .before .before .before .before .before .before .before .before .pre .1 .3) _ (c .before .before .before .before .before .«open» .result) (c .before .before .before .before .before .«open» .ensures) _ _ (c .before .before .from .given .1)), omega (arith, w, c .before .before .before .before .before .before .before .before .before .before .before .before .before .before .before .pre .1 .2), omega (arith, c .before .before .before .before .before .before .before .before .before .before .before .before .before .before .before .pre .1 .3, c .before .before .before .before .before .before .before .before .before .before .before .before .before .before .before .pre .1 .4))))  -- value-item-requires
     (λ c. search needs)  -- value-enum-known-cause-2
     (λ c. search needs)  -- value-enum-known-next
     (λ c. search needs)  -- value-slice-aggregate-close
-    (λ c κs. let f = few-tags (c .before .before .before .before .before .before .before .before .before .before .before .before .before .before .before .before .before .before .before .before .before .pre .1 .0) _ _ (c .before .before .before .before .before .before .before .before .before .before .before .before .before .before .before .before .offset .ensures) in let z = item-end (now (c .before .before .before .before .before .before .before .before .before .before .before .before .before .before .before .before .before .before .before .before .before .args .table)) (now (c .before .before .before .before .before .before .before .before .before .before .before .before .before .before .before .before .before .before .before .before .before .args .offsets)) (c .before .before .before .before .before .before .before .before .before .before .before .before .before .before .before .before .before .before .before .before .before .args .level) (c .before .before .before .before .before .before .before .before .before .before .before .before .before .before .before .before .before .before .before .before .before .args .t) (c .before .before .before .before .before .before .before .before .before .before .before .before .before .before .before .before .offset .result) (now (c .before .before .before .before .before .before .before .before .before .before .before .before .before .before .before .before .before .before .before .before .before .args .m)) (c .before .before .before .before .before .before .before .before .before .before .before .before .before .before .before .before .before .before .before .before .before .args .at) (c .before .before .before .before .before .before .before .before .before .before .before .before .before .before .before .before .offset .ensures) (c .before .before .before .before .before .before .before .before .before .before .before .before .before .before .before .before .before .before .before .before .before .pre .1 .3) _ (c .before .before .before .before .before .before .before .before .before .before .«open» .result) (c .before .before .before .before .before .before .before .before .before .before .«open» .ensures) _ _ (c .before .before .before .before .before .before .before .from .given .1) (c .before .before .before .before .item2 .result) (c .before .before .before .before .item2 .ensures) _ _ (c .before .before .next .given .1) in (omega (arith, c .before .before .before .before .before .before .before .before .before .before .before .before .before .explicit-count .ensures .0, c .before .before .before .before .before .before .before .before .before .before .«open» .kept .1 .1 .1 .1 .1 .0), z .0, c .before .before .before .before .before .before .before .before .before .before .before .before .before .before .before .before .before .before .before .before .before .pre .1 .2, z .1, tags-around (now (c .before .before .before .before .before .before .before .before .before .before .before .before .before .before .before .before .before .before .before .before .before .args .table)) (now (c .before .before .before .before .before .before .before .before .before .before .before .before .before .before .before .before .before .before .before .before .before .args .offsets)) (c .before .before .before .before .before .before .before .before .before .before .before .before .before .before .before .before .before .before .before .before .before .args .level) (c .before .before .before .before .before .before .before .before .before .before .before .before .before .before .before .before .before .before .before .before .before .args .t) (c .before .before .before .before .before .before .before .before .before .before .before .before .before .before .before .before .offset .result) (now (c .before .before .before .before .before .before .before .before .before .before .before .before .before .before .before .before .before .before .before .before .before .args .m)) (c .before .before .before .before .before .before .before .before .before .before .before .before .before .before .before .before .before .before .before .before .before .args .at) (c .before .before .before .before .before .before .before .before .before .before .before .before .before .before .before .before .offset .ensures) (c .before .before .before .before .before .before .before .before .before .before .before .before .before .before .before .before .before .before .before .before .before .pre .1 .3) _ (c .before .before .before .before .before .before .before .before .before .before .«open» .result) (c .before .before .before .before .before .before .before .before .before .before .«open» .ensures) _ _ (c .before .before .before .before .before .before .before .from .given .1)))  -- value-close-requires
-    (λ c. tags-no (now (c .before .before .before .before .before .before .before .before .before .before .before .before .before .before .before .args .table)) (now (c .before .before .before .before .before .before .before .before .before .before .before .before .before .before .before .args .offsets)) (c .before .before .before .before .before .before .before .before .before .before .before .before .before .before .before .args .level) (c .before .before .before .before .before .before .before .before .before .before .before .before .before .before .before .args .t) (c .before .before .before .before .before .before .before .before .before .before .offset .result) (now (c .before .before .before .before .before .before .before .before .before .before .before .before .before .before .before .args .m)) (c .before .before .before .before .before .before .before .before .before .before .before .before .before .before .before .args .at) (c .before .before .before .before .before .before .before .before .before .before .offset .ensures) (c .before .before .before .before .before .before .before .before .before .before .before .before .before .before .before .pre .1 .3) _ (c .before .before .before .before .«open» .result) (c .before .before .before .before .«open» .ensures) _ _ (c .before .cause .given .1))  -- value-returns-3
-    (λ c. item-no (now (c .before .before .before .before .before .before .before .before .before .before .before .before .before .before .before .before .before .before .before .before .args .table)) (now (c .before .before .before .before .before .before .before .before .before .before .before .before .before .before .before .before .before .before .before .before .args .offsets)) (c .before .before .before .before .before .before .before .before .before .before .before .before .before .before .before .before .before .before .before .before .args .level) (c .before .before .before .before .before .before .before .before .before .before .before .before .before .before .before .before .before .before .before .before .args .t) (c .before .before .before .before .before .before .before .before .before .before .before .before .before .before .before .offset .result) (now (c .before .before .before .before .before .before .before .before .before .before .before .before .before .before .before .before .before .before .before .before .args .m)) (c .before .before .before .before .before .before .before .before .before .before .before .before .before .before .before .before .before .before .before .before .args .at) (c .before .before .before .before .before .before .before .before .before .before .before .before .before .before .before .offset .ensures) (c .before .before .before .before .before .before .before .before .before .before .before .before .before .before .before .before .before .before .before .before .pre .1 .3) _ (c .before .before .before .before .before .before .before .before .before .«open» .result) (c .before .before .before .before .before .before .before .before .before .«open» .ensures) _ _ (c .before .before .before .before .before .before .from .given .1) (c .before .before .before .item2 .result) (c .before .before .before .item2 .ensures) _ _ (c .before .cause2 .given .1))  -- value-returns-4
-    (λ c. c .close .ensures ∙ item-done (now (c .before .before .before .before .before .before .before .before .before .before .before .before .before .before .before .before .before .before .before .before .before .before .args .table)) (now (c .before .before .before .before .before .before .before .before .before .before .before .before .before .before .before .before .before .before .before .before .before .before .args .offsets)) (c .before .before .before .before .before .before .before .before .before .before .before .before .before .before .before .before .before .before .before .before .before .before .args .level) (c .before .before .before .before .before .before .before .before .before .before .before .before .before .before .before .before .before .before .before .before .before .before .args .t) (c .before .before .before .before .before .before .before .before .before .before .before .before .before .before .before .before .before .offset .result) (now (c .before .before .before .before .before .before .before .before .before .before .before .before .before .before .before .before .before .before .before .before .before .before .args .m)) (c .before .before .before .before .before .before .before .before .before .before .before .before .before .before .before .before .before .before .before .before .before .before .args .at) (c .before .before .before .before .before .before .before .before .before .before .before .before .before .before .before .before .before .offset .ensures) (c .before .before .before .before .before .before .before .before .before .before .before .before .before .before .before .before .before .before .before .before .before .before .pre .1 .3) _ (c .before .before .before .before .before .before .before .before .before .before .before .«open» .result) (c .before .before .before .before .before .before .before .before .before .before .before .«open» .ensures) _ _ (c .before .before .before .before .before .before .before .before .from .given .1) (c .before .before .before .before .before .item2 .result) (c .before .before .before .before .before .item2 .ensures) _ _ (c .before .before .before .next .given .1))  -- value-returns-5
+    (λ c κs. let f = few-tags (c .before .before .before .before .before .before .before .before .before .before .before .before .before .before .before .before .before .before .before .before .pre .1 .0) _ _ (c .before .before .before .before .before .before .before .before .before .before .before .before .before .before .before .offset .ensures) in let z = item-end (now (c .before .before .before .before .before .before .before .before .before .before .before .before .before .before .before .before .before .before .before .before .args .table)) (now (c .before .before .before .before .before .before .before .before .before .before .before .before .before .before .before .before .before .before .before .before .args .offsets)) (c .before .before .before .before .before .before .before .before .before .before .before .before .before .before .before .before .before .before .before .before .args .level) (c .before .before .before .before .before .before .before .before .before .before .before .before .before .before .before .before .before .before .before .before .args .t) (c .before .before .before .before .before .before .before .before .before .before .before .before .before .before .before .offset .result) (now (c .before .before .before .before .before .before .before .before .before .before .before .before .before .before .before .before .before .before .before .before .args .m)) (c .before .before .before .before .before .before .before .before .before .before .before .before .before .before .before .before .before .before .before .before .args .at) (c .before .before .before .before .before .before .before .before .before .before .before .before .before .before .before .offset .ensures) (c .before .before .before .before .before .before .before .before .before .before .before .before .before .before .before .before .before .before .before .before .pre .1 .3) _ (c .before .before .before .before .before .before .before .before .before .before .«open» .result) (c .before .before .before .before .before .before .before .before .before .before .«open» .ensures) _ _ (c .before .before .before .before .before .before .before .from .given .1) (c .before .before .before .before .item .result) (c .before .before .before .before .item .ensures) _ _ (c .before .before .next .given .1) in (omega (arith, c .before .before .before .before .before .before .before .before .before .before .before .before .explicit-count .ensures .0, c .before .before .before .before .before .before .before .before .before .before .«open» .kept .1 .1 .1 .1 .1 .0), z .0, c .before .before .before .before .before .before .before .before .before .before .before .before .before .before .before .before .before .before .before .before .pre .1 .2, z .1, tags-around (now (c .before .before .before .before .before .before .before .before .before .before .before .before .before .before .before .before .before .before .before .before .args .table)) (now (c .before .before .before .before .before .before .before .before .before .before .before .before .before .before .before .before .before .before .before .before .args .offsets)) (c .before .before .before .before .before .before .before .before .before .before .before .before .before .before .before .before .before .before .before .before .args .level) (c .before .before .before .before .before .before .before .before .before .before .before .before .before .before .before .before .before .before .before .before .args .t) (c .before .before .before .before .before .before .before .before .before .before .before .before .before .before .before .offset .result) (now (c .before .before .before .before .before .before .before .before .before .before .before .before .before .before .before .before .before .before .before .before .args .m)) (c .before .before .before .before .before .before .before .before .before .before .before .before .before .before .before .before .before .before .before .before .args .at) (c .before .before .before .before .before .before .before .before .before .before .before .before .before .before .before .offset .ensures) (c .before .before .before .before .before .before .before .before .before .before .before .before .before .before .before .before .before .before .before .before .pre .1 .3) _ (c .before .before .before .before .before .before .before .before .before .before .«open» .result) (c .before .before .before .before .before .before .before .before .before .before .«open» .ensures) _ _ (c .before .before .before .before .before .before .before .from .given .1)))  -- value-close-requires
+    (λ c. tags-no (now (c .before .before .before .before .before .before .before .before .before .before .before .before .before .before .args .table)) (now (c .before .before .before .before .before .before .before .before .before .before .before .before .before .before .args .offsets)) (c .before .before .before .before .before .before .before .before .before .before .before .before .before .before .args .level) (c .before .before .before .before .before .before .before .before .before .before .before .before .before .before .args .t) (c .before .before .before .before .before .before .before .before .before .offset .result) (now (c .before .before .before .before .before .before .before .before .before .before .before .before .before .before .args .m)) (c .before .before .before .before .before .before .before .before .before .before .before .before .before .before .args .at) (c .before .before .before .before .before .before .before .before .before .offset .ensures) (c .before .before .before .before .before .before .before .before .before .before .before .before .before .before .pre .1 .3) _ (c .before .before .before .before .«open» .result) (c .before .before .before .before .«open» .ensures) _ _ (c .before .cause .given .1))  -- value-returns-2
+    (λ c. item-no (now (c .before .before .before .before .before .before .before .before .before .before .before .before .before .before .before .before .before .before .before .args .table)) (now (c .before .before .before .before .before .before .before .before .before .before .before .before .before .before .before .before .before .before .before .args .offsets)) (c .before .before .before .before .before .before .before .before .before .before .before .before .before .before .before .before .before .before .before .args .level) (c .before .before .before .before .before .before .before .before .before .before .before .before .before .before .before .before .before .before .before .args .t) (c .before .before .before .before .before .before .before .before .before .before .before .before .before .before .offset .result) (now (c .before .before .before .before .before .before .before .before .before .before .before .before .before .before .before .before .before .before .before .args .m)) (c .before .before .before .before .before .before .before .before .before .before .before .before .before .before .before .before .before .before .before .args .at) (c .before .before .before .before .before .before .before .before .before .before .before .before .before .before .offset .ensures) (c .before .before .before .before .before .before .before .before .before .before .before .before .before .before .before .before .before .before .before .pre .1 .3) _ (c .before .before .before .before .before .before .before .before .before .«open» .result) (c .before .before .before .before .before .before .before .before .before .«open» .ensures) _ _ (c .before .before .before .before .before .before .from .given .1) (c .before .before .before .item .result) (c .before .before .before .item .ensures) _ _ (c .before .cause2 .given .1))  -- value-returns-3
+    (λ c. c .close .ensures ∙ item-done (now (c .before .before .before .before .before .before .before .before .before .before .before .before .before .before .before .before .before .before .before .before .before .args .table)) (now (c .before .before .before .before .before .before .before .before .before .before .before .before .before .before .before .before .before .before .before .before .before .args .offsets)) (c .before .before .before .before .before .before .before .before .before .before .before .before .before .before .before .before .before .before .before .before .before .args .level) (c .before .before .before .before .before .before .before .before .before .before .before .before .before .before .before .before .before .before .before .before .before .args .t) (c .before .before .before .before .before .before .before .before .before .before .before .before .before .before .before .before .offset .result) (now (c .before .before .before .before .before .before .before .before .before .before .before .before .before .before .before .before .before .before .before .before .before .args .m)) (c .before .before .before .before .before .before .before .before .before .before .before .before .before .before .before .before .before .before .before .before .before .args .at) (c .before .before .before .before .before .before .before .before .before .before .before .before .before .before .before .before .offset .ensures) (c .before .before .before .before .before .before .before .before .before .before .before .before .before .before .before .before .before .before .before .before .before .pre .1 .3) _ (c .before .before .before .before .before .before .before .before .before .before .before .«open» .result) (c .before .before .before .before .before .before .before .before .before .before .before .«open» .ensures) _ _ (c .before .before .before .before .before .before .before .before .from .given .1) (c .before .before .before .before .before .item .result) (c .before .before .before .before .before .item .ensures) _ _ (c .before .before .before .next .given .1))  -- value-returns-4
