@@ -18,6 +18,7 @@ pub mod Passing
 pub mod Outcomes
 pub mod Arriving
 pub mod Measuring
+pub mod Spans
 pub mod Rests
 pub mod Rows
 pub mod Runs

@@ -12,6 +12,8 @@ use Rattle.ber.specs.Item.{Mode, closed, open-ended, atEnd, inside}
 use Rattle.coding.specs.Value.{Value}
 use Rattle.coding.specs.Reading.{readWrapped}
 use Rattle.reader.specs.Codes.{headerBy}
+use Rattle.reader.specs.declared.length.Length.{Length}
+use Rattle.reader.specs.declared.length.Length.the-variants.{Definite, Indefinite, Refused as NoLength}
 use Rattle.reader.specs.declared.wrap.Entered.{Entered}
 use Rattle.reader.specs.declared.wrap.Entered.the-variants.{Inside as InsideOne, Refused as NotOne}
 use Rattle.reader.specs.declared.wrap.Opened.{Opened}
@@ -51,6 +53,12 @@ wrapBy code r s =
     then (headerBy code s) (inside λ mode u.
     atEnd mode u (λ _. refused 24 (length u)) λ _.
     ended mode (r u))
+
+-- where the contents of an item begin and end, and whether 00 00 closes them; the octets in which it stands end at n
+abbrev pub spanOf : ℕ → Length → Entered
+spanOf n (Definite size start) = InsideOne start (start + size) false
+spanOf n (Indefinite start) = InsideOne start n true
+spanOf n (NoLength c p) = NotOne c p
 
 -- What entering one tag says of reading under it, whatever is read there.
 abbrev pub Enters : ℕ → List ℕ → ℕ → Entered → Type 0

@@ -34,9 +34,11 @@ use crate::members::lacking;
 use crate::search::Found;
 use crate::search::among;
 use crate::search::seek;
+use crate::wrap::Entered;
 use crate::wrap::Opened;
 use crate::wrap::close;
 use crate::wrap::open;
+use crate::wrap::span;
 use octets::octet;
 use table::kind::Form;
 use table::kind::form_of;
@@ -228,16 +230,15 @@ fn constructed(
     requires { ⌜ Ready (now table) (now offsets) (now firsts) × Shaped (now table) o × (at ≤ length (now m)) × (length (now m) ≤ 8192) × (level < 25) ⌝ }
     ensures { λ r. ⌜ r ≡ told (now (m .entry)) size (constructedBy code (readBody (look (now (table .entry)) (now (offsets .entry))) (readValue (look (now (table .entry)) (now (offsets .entry))) level) (recordAt (now (table .entry)) o .body)) (drop at (now (m .entry)))) ⌝ }
 {
-    match header(code, m, at) {
-        Length::Refused { cause, at: p } => Measured::Refused { cause, at: p },
-        Length::Indefinite { start } => body(table, offsets, firsts, o, m, start, true, level),
-        Length::Definite { size, start } => {
-            let end = start + size;
+    match span(code, m, at) {
+        Entered::Refused { cause, at: p } => Measured::Refused { cause, at: p },
+        Entered::Inside {
+            start: from,
+            end,
+            marked,
+        } => {
             let part = &m[..end];
-            match body(table, offsets, firsts, o, part, start, false, level) {
-                Measured::Refused { cause, at: p } => Measured::Refused { cause, at: p },
-                Measured::Done { end: _, size: n } => Measured::Done { end, size: n },
-            }
+            body(table, offsets, firsts, o, part, from, marked, level)
         }
     }
 }

@@ -5,8 +5,9 @@ ghost use lib.ListN.{length, take, drop};
 ghost use Rattle.octets.specs.Answer.{got};
 ghost use Rattle.table.specs.Reading.{recordAt};
 ghost use Rattle.coding.specs.Tags.{explicit};
-ghost use Rattle.reader.specs.Answers.{told};
-ghost use Rattle.reader.specs.Wraps.{Enters, Opens, Around, closing, noteOf};
+ghost use Rattle.reader.specs.Answers.{told, asLength};
+ghost use Rattle.reader.specs.Codes.{headerBy};
+ghost use Rattle.reader.specs.Wraps.{spanOf, Enters, Opens, Around, closing, noteOf};
 use crate::answer::Measured;
 use crate::ending::End;
 use crate::ending::ending;
@@ -31,6 +32,29 @@ pub enum Entered {
 pub enum Opened {
     Inside { from: usize, end: usize },
     Refused { cause: u8, at: usize },
+}
+
+// The header of an item with contents.
+pub(crate) fn span(code: usize, m: &[u8], at: usize) -> Entered
+    requires { ⌜ (at ≤ length (now m)) × (length (now m) ≤ 8192) ⌝ }
+    ensures { λ r. ⌜ r ≡ spanOf (length (now (m .entry))) (asLength (length (now (m .entry))) (headerBy code (drop at (now (m .entry))))) ⌝ }
+{
+    match header(code, m, at) {
+        Length::Refused { cause, at: p } => Entered::Refused { cause, at: p },
+        Length::Definite { size, start } => {
+            let end = start + size;
+            Entered::Inside {
+                start,
+                end,
+                marked: false,
+            }
+        }
+        Length::Indefinite { start: from } => Entered::Inside {
+            start: from,
+            end: m.len(),
+            marked: true,
+        },
+    }
 }
 
 // Enters one tag, under which an item must be.

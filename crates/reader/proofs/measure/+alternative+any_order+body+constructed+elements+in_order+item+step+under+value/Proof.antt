@@ -1,14 +1,14 @@
 use Prim.Native.Nat.{_*_, _+_, _-_, _≤_, suc}
 use Rattle.ber.specs.Identifier.{readIdentifier}
-use Rattle.coding.specs.Reading.{readBody, readMany, readSequence, readValue}
+use Rattle.coding.specs.Reading.{readMany, readSequence, readValue}
 use Rattle.reader.proofs.Arriving.{InSet, begins, set-broken, set-full, set-further, set-lacking, set-member, set-none, set-over, set-refused, set-turn, set-unawaited}
 use Rattle.reader.proofs.Begun.{headed, is-begun, not-begun}
-use Rattle.reader.proofs.Done.{header-definite, header-indefinite}
 use Rattle.reader.proofs.Forms.{item-choice, item-members, item-of}
-use Rattle.reader.proofs.Measuring.{as-sequence, as-set, built-no, built-open, built-part-done, built-part-no, choice-body, item-done, item-end, item-no, item-plain, many-done, many-no, members-done, members-no, plain-value, scan-few, simple-body, tags-around, tags-end, tags-from, tags-no}
+use Rattle.reader.proofs.Measuring.{as-sequence, as-set, choice-body, item-done, item-end, item-no, item-plain, many-done, many-no, members-done, members-no, plain-value, scan-few, simple-body, tags-around, tags-end, tags-from, tags-no}
 use Rattle.reader.proofs.Passing.{Elements, Passing, cap-below, elements-broken, elements-none, elements-over, elements-refused, elements-turn, pass-broken, pass-came, pass-end, pass-missing, pass-over, pass-refused, pass-unawaited, pass-unwanted, passing-none}
 use Rattle.reader.proofs.Records.{few-tags, shaped-at}
 use Rattle.reader.proofs.Searching.{found-under}
+use Rattle.reader.proofs.Spans.{span-item, span-no, span-within}
 use Rattle.reader.proofs.Turns.{step-done, value-done}
 use Rattle.reader.proofs.Under.{alternative-found, alternative-none, found-deep, found-depth, found-lifted, step-found, step-none, told-small, under-deep, under-done, under-refused}
 use Rattle.reader.specs.Answers.{mode, sizes, sizesIn}
@@ -66,7 +66,6 @@ use Rattle.reader.proofs.ending.missing.Reads as missing-reads
 use Rattle.reader.proofs.first.explicit_count.Reads as explicit-count-reads
 use Rattle.reader.proofs.first.first.Reads as first-reads
 use Rattle.reader.proofs.first.is_plain.Reads as is-plain-reads
-use Rattle.reader.proofs.header.header.Reads as header-reads
 use Rattle.reader.proofs.identifier.peek.Reads as peek-reads
 use Rattle.reader.proofs.identifier.unawaited.Reads as unawaited-reads
 use Rattle.reader.proofs.measure.code_of.Reads as code-of-reads
@@ -77,6 +76,7 @@ use Rattle.reader.proofs.search.among.Reads as among-reads
 use Rattle.reader.proofs.search.seek.Reads as seek-reads
 use Rattle.reader.proofs.wrap.close.Reads as close-reads
 use Rattle.reader.proofs.wrap.open.Reads as open-reads
+use Rattle.reader.proofs.wrap.span.Reads as span-reads
 use Rattle.table.proofs.kind.form_of.Reads as form-of-reads
 use Rattle.table.proofs.record.kind.Reads as kind-reads
 use Rattle.table.proofs.record.offset.Reads as offset-reads
@@ -348,23 +348,16 @@ pub +alternative+any-order+body+constructed+elements+in-order+item+step+under+va
     (λ c. simple-body (now (c .before .before .before .before .before .before .before .before .before .before .args .table)) (now (c .before .before .before .before .before .before .before .before .before .before .args .offsets)) (c .before .before .before .before .before .before .before .before .before .before .args .level) (c .before .before .before .before .before .before .before .before .before .before .args .o) (c .before .before .before .before .before .own .result) (c .before .before .before .before .octet .result) (c .before .before .before .kind .result) (c .before .before .form-of .result) (mode (c .before .before .before .before .before .before .before .before .before .before .args .marked)) (now (c .before .before .before .before .before .before .before .before .before .before .args .m)) (c .before .before .before .before .before .before .before .before .before .before .args .at) (c .before .before .before .kind .ensures .0) (c .before .before .before .before .before .own .ensures .0) (c .before .before .before .before .octet .ensures .0) (c .before .before .form-of .ensures) (c .before .before .before .before .before .before .before .before .before .before .pre .1 .2) (c .enum-told3 .given .1))  -- body-returns-7
     (λ c. choice-body (now (c .before .before .before .before .before .before .before .before .before .before .args .table)) (now (c .before .before .before .before .before .before .before .before .before .before .args .offsets)) (c .before .before .before .before .before .before .before .before .before .before .args .level) (c .before .before .before .before .before .before .before .before .before .before .args .o) (c .before .before .before .before .before .own .result) (c .before .before .before .before .octet .result) (c .before .before .before .kind .result) (c .before .before .form-of .result) (mode (c .before .before .before .before .before .before .before .before .before .before .args .marked)) (now (c .before .before .before .before .before .before .before .before .before .before .args .m)) (c .before .before .before .before .before .before .before .before .before .before .args .at) (c .before .before .before .kind .ensures .0) (c .before .before .before .before .before .own .ensures .0) (c .before .before .before .before .octet .ensures .0) (c .before .before .form-of .ensures) (c .before .before .before .before .before .before .before .before .before .before .pre .1 .2) (c .enum-told4 .given .1)))  -- body-returns-8
     (λ t. constructed-lts.spec
-    (header-reads.Asked, header-reads.Learnt, body-below t, body.Post)
+    (span-reads.Asked, span-reads.Learnt, body-below t, body.Post)
     (constructed-at t)
     constructed.Post
-    (λ c κs. (c .before .before .before .before .pre .1 .2, c .before .before .before .before .pre .1 .3))  -- constructed-header-requires
+    (λ c κs. (c .before .before .before .before .pre .1 .2, c .before .before .before .before .pre .1 .3))  -- constructed-span-requires
     (λ c. search needs)  -- constructed-enum-known-cause
-    (λ c. search needs)  -- constructed-enum-known-start
-    (λ c κs. (omega (arith, c .before .before .before .before .before .before .before .before .pre .0), (c .before .before .before .before .before .before .before .before .pre .1 .0, c .before .before .before .before .before .before .before .before .pre .1 .1, header-indefinite (c .before .before .before .before .before .before .before .before .args .code) (now (c .before .before .before .before .before .before .before .before .args .m)) (c .before .before .before .before .before .before .before .before .args .at) (c .before .before .before .before .before .before .before .before .pre .1 .2) (c .before .before .before .header .result) (c .before .before .before .header .ensures) _ (c .before .start .given .1) .1, c .before .before .before .before .before .before .before .before .pre .1 .3, c .before .before .before .before .before .before .before .before .pre .1 .4)))  -- constructed-body-requires
-    (λ c. search needs)  -- constructed-enum-known-size
-    (λ c. let w = header-definite (c .before .before .before .before .before .before .before .before .args .code) (now (c .before .before .before .before .before .before .before .before .args .m)) (c .before .before .before .before .before .before .before .before .args .at) (c .before .before .before .before .before .before .before .before .pre .1 .2) (c .before .before .before .header .result) (c .before .before .before .header .ensures) _ _ (c .before .size .given .1) .1 in omega (arith, w, c .before .before .before .before .before .before .before .before .pre .1 .3))  -- constructed-add-end
-    (λ c. let w = header-definite (c .before .before .before .before .before .before .before .before .before .args .code) (now (c .before .before .before .before .before .before .before .before .before .args .m)) (c .before .before .before .before .before .before .before .before .before .args .at) (c .before .before .before .before .before .before .before .before .before .pre .1 .2) (c .before .before .before .before .header .result) (c .before .before .before .before .header .ensures) _ _ (c .before .before .size .given .1) .1 in sym (length-take-le _ (now (c .before .before .before .before .before .before .before .before .before .args .m)) w))  -- constructed-slice-aggregate-part
-    (λ c κs. let w = header-definite (c .before .before .before .before .before .before .before .before .before .args .code) (now (c .before .before .before .before .before .before .before .before .before .args .m)) (c .before .before .before .before .before .before .before .before .before .args .at) (c .before .before .before .before .before .before .before .before .before .pre .1 .2) (c .before .before .before .before .header .result) (c .before .before .before .before .header .ensures) _ _ (c .before .before .size .given .1) .1 in let l = length-take-le _ (now (c .before .before .before .before .before .before .before .before .before .args .m)) w in (omega (arith, c .before .before .before .before .before .before .before .before .before .pre .0), (c .before .before .before .before .before .before .before .before .before .pre .1 .0, c .before .before .before .before .before .before .before .before .before .pre .1 .1, omega arith, omega (arith, w, c .before .before .before .before .before .before .before .before .before .pre .1 .3), c .before .before .before .before .before .before .before .before .before .pre .1 .4)))  -- constructed-body-requires-2
-    (λ c. search needs)  -- constructed-enum-known-cause-2
-    (λ c. search needs)  -- constructed-enum-known-n
-    (λ c. built-no (c .before .before .before .before .before .before .before .before .args .code) (readBody (look (now (c .before .before .before .before .before .before .before .before .args .table)) (now (c .before .before .before .before .before .before .before .before .args .offsets))) (readValue (look (now (c .before .before .before .before .before .before .before .before .args .table)) (now (c .before .before .before .before .before .before .before .before .args .offsets))) (c .before .before .before .before .before .before .before .before .args .level)) (recordAt (now (c .before .before .before .before .before .before .before .before .args .table)) (c .before .before .before .before .before .before .before .before .args .o) .body)) (now (c .before .before .before .before .before .before .before .before .args .m)) (c .before .before .before .before .before .before .before .before .args .at) (c .before .before .before .before .before .before .before .before .pre .1 .2) (c .before .before .before .header .result) (c .before .before .before .header .ensures) _ _ (c .before .cause .given .1))  -- constructed-returns
-    (λ c. rw (built-open (c .before .before .before .before .before .before .before .before .before .args .code) (readBody (look (now (c .before .before .before .before .before .before .before .before .before .args .table)) (now (c .before .before .before .before .before .before .before .before .before .args .offsets))) (readValue (look (now (c .before .before .before .before .before .before .before .before .before .args .table)) (now (c .before .before .before .before .before .before .before .before .before .args .offsets))) (c .before .before .before .before .before .before .before .before .before .args .level)) (recordAt (now (c .before .before .before .before .before .before .before .before .before .args .table)) (c .before .before .before .before .before .before .before .before .before .args .o) .body)) (now (c .before .before .before .before .before .before .before .before .before .args .m)) (c .before .before .before .before .before .before .before .before .before .args .at) (c .before .before .before .before .before .before .before .before .before .pre .1 .2) (c .before .before .before .before .header .result) (c .before .before .before .before .header .ensures) _ (c .before .before .start .given .1)) (c .body .ensures))  -- constructed-returns-2
-    (λ c. built-part-no (c .before .before .before .before .before .before .before .before .before .before .before .before .before .args .code) (readBody (look (now (c .before .before .before .before .before .before .before .before .before .before .before .before .before .args .table)) (now (c .before .before .before .before .before .before .before .before .before .before .before .before .before .args .offsets))) (readValue (look (now (c .before .before .before .before .before .before .before .before .before .before .before .before .before .args .table)) (now (c .before .before .before .before .before .before .before .before .before .before .before .before .before .args .offsets))) (c .before .before .before .before .before .before .before .before .before .before .before .before .before .args .level)) (recordAt (now (c .before .before .before .before .before .before .before .before .before .before .before .before .before .args .table)) (c .before .before .before .before .before .before .before .before .before .before .before .before .before .args .o) .body)) (now (c .before .before .before .before .before .before .before .before .before .before .before .before .before .args .m)) (c .before .before .before .before .before .before .before .before .before .before .before .before .before .args .at) (c .before .before .before .before .before .before .before .before .before .before .before .before .before .pre .1 .2) (c .before .before .before .before .before .before .before .before .header .result) (c .before .before .before .before .before .before .before .before .header .ensures) _ _ (c .before .before .before .before .before .before .size .given .1) (c .before .before .before .body2 .result) (c .before .before .before .body2 .ensures) _ _ (c .before .cause2 .given .1))  -- constructed-returns-3
-    (λ c. built-part-done (c .before .before .before .before .before .before .before .before .before .before .before .before .before .args .code) (readBody (look (now (c .before .before .before .before .before .before .before .before .before .before .before .before .before .args .table)) (now (c .before .before .before .before .before .before .before .before .before .before .before .before .before .args .offsets))) (readValue (look (now (c .before .before .before .before .before .before .before .before .before .before .before .before .before .args .table)) (now (c .before .before .before .before .before .before .before .before .before .before .before .before .before .args .offsets))) (c .before .before .before .before .before .before .before .before .before .before .before .before .before .args .level)) (recordAt (now (c .before .before .before .before .before .before .before .before .before .before .before .before .before .args .table)) (c .before .before .before .before .before .before .before .before .before .before .before .before .before .args .o) .body)) (now (c .before .before .before .before .before .before .before .before .before .before .before .before .before .args .m)) (c .before .before .before .before .before .before .before .before .before .before .before .before .before .args .at) (c .before .before .before .before .before .before .before .before .before .before .before .before .before .pre .1 .2) (c .before .before .before .before .before .before .before .before .header .result) (c .before .before .before .before .before .before .before .before .header .ensures) _ _ (c .before .before .before .before .before .before .size .given .1) (c .before .before .before .body2 .result) (c .before .before .before .body2 .ensures) _ _ (c .before .n .given .1)))  -- constructed-returns-4
+    (λ c. search needs)  -- constructed-enum-known-from
+    (λ c. let w = span-within (c .before .before .before .before .before .before .before .before .before .args .code) (now (c .before .before .before .before .before .before .before .before .before .args .m)) (c .before .before .before .before .before .before .before .before .before .args .at) (c .before .before .before .before .before .before .before .before .before .pre .1 .2) (c .before .before .before .before .span .result) (c .before .before .before .before .span .ensures) _ _ _ (c .before .before .from .given .1) in sym (length-take-le _ (now (c .before .before .before .before .before .before .before .before .before .args .m)) (w .1)))  -- constructed-slice-aggregate-part
+    (λ c κs. let w = span-within (c .before .before .before .before .before .before .before .before .before .args .code) (now (c .before .before .before .before .before .before .before .before .before .args .m)) (c .before .before .before .before .before .before .before .before .before .args .at) (c .before .before .before .before .before .before .before .before .before .pre .1 .2) (c .before .before .before .before .span .result) (c .before .before .before .before .span .ensures) _ _ _ (c .before .before .from .given .1) in let l = length-take-le _ (now (c .before .before .before .before .before .before .before .before .before .args .m)) (w .1) in (omega (arith, c .before .before .before .before .before .before .before .before .before .pre .0), (c .before .before .before .before .before .before .before .before .before .pre .1 .0, c .before .before .before .before .before .before .before .before .before .pre .1 .1, omega (arith, l, w .0), omega (arith, l, w .1, c .before .before .before .before .before .before .before .before .before .pre .1 .3), c .before .before .before .before .before .before .before .before .before .pre .1 .4)))  -- constructed-body-requires
+    (λ c. span-no (c .before .before .before .before .before .before .before .before .args .code) (now (c .before .before .before .before .before .before .before .before .args .m)) (c .before .before .before .before .before .before .before .before .args .at) (c .before .before .before .before .before .before .before .before .pre .1 .2) (c .before .before .before .span .result) (c .before .before .before .span .ensures) (look (now (c .before .before .before .before .before .before .before .before .args .table)) (now (c .before .before .before .before .before .before .before .before .args .offsets))) (readValue (look (now (c .before .before .before .before .before .before .before .before .args .table)) (now (c .before .before .before .before .before .before .before .before .args .offsets))) (c .before .before .before .before .before .before .before .before .args .level)) (recordAt (now (c .before .before .before .before .before .before .before .before .args .table)) (c .before .before .before .before .before .before .before .before .args .o) .body) _ _ (c .before .cause .given .1))  -- constructed-returns
+    (λ c. c .body .ensures ∙ span-item (c .before .before .before .before .before .before .before .before .before .before .args .code) (now (c .before .before .before .before .before .before .before .before .before .before .args .m)) (c .before .before .before .before .before .before .before .before .before .before .args .at) (c .before .before .before .before .before .before .before .before .before .before .pre .1 .2) (c .before .before .before .before .before .span .result) (c .before .before .before .before .before .span .ensures) (look (now (c .before .before .before .before .before .before .before .before .before .before .args .table)) (now (c .before .before .before .before .before .before .before .before .before .before .args .offsets))) (readValue (look (now (c .before .before .before .before .before .before .before .before .before .before .args .table)) (now (c .before .before .before .before .before .before .before .before .before .before .args .offsets))) (c .before .before .before .before .before .before .before .before .before .before .args .level)) (recordAt (now (c .before .before .before .before .before .before .before .before .before .before .args .table)) (c .before .before .before .before .before .before .before .before .before .before .args .o) .body) _ _ _ (c .before .before .before .from .given .1)))  -- constructed-returns-2
     (λ t. elements-lts.spec (
       ending-reads.Asked,
       ending-reads.Learnt,
