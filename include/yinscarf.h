@@ -60,11 +60,11 @@ enum yinscarf_number {
 uint64_t link_check(const uint8_t *table, size_t table_len);
 
 /* Writes a value of a type as a message: 0 and the message's length, or a refusal 1 to 14. */
-uint64_t link_write(const uint8_t *table, size_t table_len, uint32_t type, const uint8_t *value, size_t value_len, uint8_t *buf,
+uint64_t link_write(const uint8_t *table, size_t table_len, size_t type, const uint8_t *value, size_t value_len, uint8_t *buf,
                     size_t buf_len);
 
 /* Reads a message of a type into a value: 0 and the value's length, or a refusal 1 to 7 or 21 to 28. */
-uint64_t link_read(const uint8_t *table, size_t table_len, uint32_t type, const uint8_t *message, size_t message_len, uint8_t *buf,
+uint64_t link_read(const uint8_t *table, size_t table_len, size_t type, const uint8_t *message, size_t message_len, uint8_t *buf,
                    size_t buf_len);
 
 #ifdef __cplusplus
