@@ -18,8 +18,8 @@ pub mod Passing
 pub mod Outcomes
 pub mod Arriving
 pub mod Measuring
-pub mod Spans
 pub mod Rests
+pub mod Spans
 pub mod Rows
 pub mod Runs
 pub mod Bodies

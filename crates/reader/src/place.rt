@@ -31,9 +31,11 @@ use crate::length::Length;
 use crate::measure::any_order;
 use crate::search::Found;
 use crate::search::seek;
+use crate::wrap::Entered;
 use crate::wrap::Opened;
 use crate::wrap::close;
 use crate::wrap::open;
+use crate::wrap::span;
 use octets::octet;
 use table::kind::Form;
 use table::kind::form_of;
@@ -232,9 +234,6 @@ pub(crate) fn place_value(
     let o = offset(offsets, t);
     let count = explicit_count(table, o);
     let below = level - 1;
-    if count == 0 {
-        return place_item(table, offsets, firsts, t, m, at, below, buf, to);
-    }
     let mut notes = [0u16; 4];
     match open(table, o, count, m, at, &mut notes) {
         Opened::Refused { cause: _, at: _ } => Placed { next: to, end: at },
@@ -266,21 +265,20 @@ fn place_item(
     ensures { λ r. ⌜ IsPlaced (readKind (look (now (table .entry)) (now (offsets .entry))) (readValue (look (now (table .entry)) (now (offsets .entry))) level) (Tags·own (look (now (table .entry)) (now (offsets .entry)) t)) (look (now (table .entry)) (now (offsets .entry)) t .body) (drop at (now (m .entry)))) (now (m .entry)) to (now (buf .entry)) (now (buf .exit)) r ⌝ }
 {
     let o = offset(offsets, t);
-    match form_of(kind(table, o)) {
-        Form::Choice => place_choice(table, offsets, firsts, o, m, at, level, buf, to),
+    let form = form_of(kind(table, o));
+    match form {
+        Form::Choice => {
+            return place_choice(table, offsets, firsts, o, m, at, level, buf, to);
+        }
         Form::Simple => {
             let code = peek(m, at);
-            place_simple(table, o, code, m, at, buf, to)
+            return place_simple(table, o, code, m, at, buf, to);
         }
-        Form::Members => {
-            let code = peek(m, at);
-            place_constructed(table, offsets, firsts, o, code, m, at, level, buf, to)
-        }
-        Form::Of => {
-            let code = peek(m, at);
-            place_constructed(table, offsets, firsts, o, code, m, at, level, buf, to)
-        }
+        Form::Members => {}
+        Form::Of => {}
     }
+    let code = peek(m, at);
+    place_constructed(table, offsets, firsts, o, code, m, at, level, buf, to)
 }
 
 // The CHOICE at o, and the alternative that begins as the item does.
@@ -339,37 +337,26 @@ fn place_constructed(
     requires { ⌜ Ready (now table) (now offsets) (now firsts) × Shaped (now table) o × (at ≤ length (now m)) × (length (now m) ≤ 8192) × (level < 24) × Fits (constructedBy code (readBody (look (now table) (now offsets)) (readValue (look (now table) (now offsets)) level) (recordAt (now table) o .body)) (drop at (now m))) to (now buf) ⌝ }
     ensures { λ r. ⌜ IsPlaced (constructedBy code (readBody (look (now (table .entry)) (now (offsets .entry))) (readValue (look (now (table .entry)) (now (offsets .entry))) level) (recordAt (now (table .entry)) o .body)) (drop at (now (m .entry)))) (now (m .entry)) to (now (buf .entry)) (now (buf .exit)) r ⌝ }
 {
-    match header(code, m, at) {
-        Length::Refused { cause: _, at: _ } => Placed { next: to, end: at },
-        Length::Indefinite { start } => place_body(
-            table,
-            offsets,
-            firsts,
-            o,
-            m,
-            start,
-            true,
-            level,
-            buf,
-            to,
-        ),
-        Length::Definite { size, start } => {
-            let end = start + size;
+    match span(code, m, at) {
+        Entered::Refused { cause: _, at: _ } => Placed { next: to, end: at },
+        Entered::Inside {
+            start: from,
+            end,
+            marked,
+        } => {
             let part = &m[..end];
-            let placed = place_body(
+            place_body(
                 table,
                 offsets,
                 firsts,
                 o,
                 part,
-                start,
-                false,
+                from,
+                marked,
                 level,
                 buf,
                 to,
-            );
-            let next = placed.next;
-            Placed { next, end }
+            )
         }
     }
 }

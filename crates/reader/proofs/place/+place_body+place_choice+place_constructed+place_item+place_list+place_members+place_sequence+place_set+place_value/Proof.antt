@@ -1,5 +1,6 @@
 use mathlib.Core.Bool.{false}
 use mathlib.Core.List.{[], _∷_}
+use mathlib.Core.Logic.{⊎-elim}
 use mathlib.Core.Path.{_≡_, refl, sym, ap, _∙_}
 use Prim.Native.Nat.{suc, _+_, _-_, _*_, _≤_}
 use native.Mathlib.Omega.{arith}
@@ -14,7 +15,8 @@ use Rattle.reader.specs.Answers.{mode}
 use Rattle.reader.specs.Codes.{peeked}
 use Rattle.reader.proofs.Records.{few-tags, shaped-at}
 use Rattle.reader.proofs.Turns.{choose-first, choose-miss, choose-end, Left, left-none, left-end, left-skip, left-head, left-take}
-use Rattle.reader.proofs.Rests.{some-level, bare, within, must-open, must-close, closed-placed, as-choice, as-plain, as-members, as-of, plain-value, must-head, part-fits, part-placed, rest-is, rest-low, chosen-room, chosen-fits, chosen-placed}
+use Rattle.reader.proofs.Rests.{some-level, within, must-open, must-close, closed-placed, as-choice, as-plain, as-members, as-of, plain-value, chosen-room, chosen-fits, chosen-placed}
+use Rattle.reader.proofs.Spans.{span-within, span-must, span-fits, span-placed}
 use Rattle.reader.proofs.Rows.{Row, row-none, row-miss, row-fits, row-hit, members-room, sequence-closed, sequence-open}
 use Rattle.reader.proofs.Runs.{Run, run-none, run-broken, run-fits, run-further, run-turn, elements-room, list-placed}
 use Rattle.reader.proofs.Bodies.{as-noted, set-few, whole, scans, set-placed, is-list, starts-begun}
@@ -52,7 +54,7 @@ use Rattle.reader.proofs.place.+place_body+place_choice+place_construct
 use Rattle.octets.proofs.octet.Reads as octet-reads
 use Rattle.reader.proofs.ending.ending.Reads as ending-reads
 use Rattle.reader.proofs.first.explicit_count.Reads as explicit-count-reads
-use Rattle.reader.proofs.header.header.Reads as header-reads
+use Rattle.reader.proofs.wrap.span.Reads as span-reads
 use Rattle.reader.proofs.identifier.peek.Reads as peek-reads
 use Rattle.reader.proofs.measure.any_order.Reads as any-order-reads
 use Rattle.reader.proofs.place.begin_node.Reads as begin-node-reads
@@ -305,26 +307,21 @@ pub +place-body+place-choice+place-constructed+place-item+place-list+place-membe
     (λ c. ap length (c .before .loop .inv .4))  -- place-choice-same-length-3
     (λ c. let s = c .before .before .before .before .before .before .before .before .before in let parts′ = c .before .before .parts in let l = c .before .loop in absurd (choose-end (look (now (s .args .table)) (now (s .args .offsets))) (readValue (look (now (s .args .table)) (now (s .args .offsets))) (s .args .level)) (drop (s .args .at) (now (s .args .m))) (now (s .args .table)) (parts′ .result .step) (l .p) (parts′ .result .count) (l .j) (c .loop-test .left) (l .inv .5) ((s .pre .1 .4) .done))))  -- place-choice-returns-3
     (λ t. place-constructed-lts.spec (
-      header-reads.Asked,
-      header-reads.Learnt,
+      span-reads.Asked,
+      span-reads.Learnt,
       place-body-below t,
       place-body.Post,
     )
     (place-constructed-at t)
     place-constructed.Post
-    (λ c κs. let s = c .before .before .before .before .before in ((s .pre .1 .2), (s .pre .1 .3)))  -- place-constructed-header-requires
+    (λ c κs. let s = c .before .before .before .before .before in ((s .pre .1 .2), (s .pre .1 .3)))  -- place-constructed-span-requires
     (λ c. search needs)  -- place-constructed-enum-told
-    (λ c. search needs)  -- place-constructed-enum-known-start
-    (λ c κs. let s = c .before .before .before .before .before .before .before .before .before .before in let header′ = c .before .before .before .before .header in let from = c .before .before .start in (omega (arith, s .pre .0), ((s .pre .1 .0), (s .pre .1 .1), rest-low (s .args .code) (s .args .at) (s .args .to) (now (s .args .m)) (now (s .args .buf)) _ (s .pre .1 .5) (s .pre .1 .2) _ (header′ .ensures) _ (from .given .1), (s .pre .1 .3), (s .pre .1 .4), rw (rest-is (s .args .code) (s .args .at) (s .args .to) (now (s .args .m)) (now (s .args .buf)) _ (s .pre .1 .5) (s .pre .1 .2) _ (header′ .ensures) _ (from .given .1)) at (s .pre .1 .5))))  -- place-constructed-place-body-requires
-    (λ c. search needs)  -- place-constructed-enum-known-size
-    (λ c. let s = c .before .before .before .before .before .before .before .before .before in let z = part-fits (s .args .code) (s .args .at) (s .args .to) (now (s .args .m)) (now (s .args .buf)) _ (s .pre .1 .5) (s .pre .1 .2) _ (c .before .before .before .header .ensures) _ _ (c .before .size .given .1) in omega (arith, z .inside, (s .pre .1 .3)))  -- place-constructed-add-end
-    (λ c. let s = c .before .before .before .before .before .before .before .before .before .before in let z = part-fits (s .args .code) (s .args .at) (s .args .to) (now (s .args .m)) (now (s .args .buf)) _ (s .pre .1 .5) (s .pre .1 .2) _ (c .before .before .before .before .header .ensures) _ _ (c .before .before .size .given .1) in sym (length-take-le _ (now (s .args .m)) (z .inside)))  -- place-constructed-slice-aggregate-part
-    (λ c κs. let s = c .before .before .before .before .before .before .before .before .before .before .before in let z = part-fits (s .args .code) (s .args .at) (s .args .to) (now (s .args .m)) (now (s .args .buf)) _ (s .pre .1 .5) (s .pre .1 .2) _ (c .before .before .before .before .before .header .ensures) _ _ (c .before .before .before .size .given .1) in let l = length-take-le _ (now (s .args .m)) (z .inside) in (omega (arith, s .pre .0), ((s .pre .1 .0), (s .pre .1 .1), omega (arith, z .inside), omega (arith, z .inside, (s .pre .1 .3)), (s .pre .1 .4), z .fits)))  -- place-constructed-place-body-requires-2
-    (λ c. let s = c .before .before .before .before .before .before .before .before in absurd (must-head (s .args .code) (s .args .at) (s .args .to) (now (s .args .m)) (now (s .args .buf)) _ (s .pre .1 .5) (s .pre .1 .2) _ (c .before .before .header .ensures) _ _ (c .enum-told .given .1)))  -- place-constructed-returns
+    (λ c. search needs)  -- place-constructed-enum-known-from
+    (λ c. let s = c .before .before .before .before .before .before .before .before .before .before in let w = span-within (s .args .code) (now (s .args .m)) (s .args .at) (s .pre .1 .2) (c .before .before .before .before .span .result) (c .before .before .before .before .span .ensures) _ _ _ (c .before .before .from .given .1) in sym (length-take-le _ (now (s .args .m)) (w .1)))  -- place-constructed-slice-aggregate-part
+    (λ c κs. let s = c .before .before .before .before .before .before .before .before .before .before .before in let w = span-within (s .args .code) (now (s .args .m)) (s .args .at) (s .pre .1 .2) (c .before .before .before .before .before .span .result) (c .before .before .before .before .before .span .ensures) _ _ _ (c .before .before .before .from .given .1) in let l = length-take-le _ (now (s .args .m)) (w .1) in (omega (arith, s .pre .0), ((s .pre .1 .0), (s .pre .1 .1), omega (arith, l, w .0), omega (arith, l, w .1, (s .pre .1 .3)), (s .pre .1 .4), span-fits (s .args .code) (s .args .at) (s .args .to) (now (s .args .m)) (now (s .args .buf)) (look (now (s .args .table)) (now (s .args .offsets))) (readValue (look (now (s .args .table)) (now (s .args .offsets))) (s .args .level)) (recordAt (now (s .args .table)) (s .args .o) .body) (s .pre .1 .5) (s .pre .1 .2) (c .before .before .before .before .before .span .result) (c .before .before .before .before .before .span .ensures) _ _ _ (c .before .before .before .from .given .1))))  -- place-constructed-place-body-requires
+    (λ c. let s = c .before .before .before .before .before .before .before .before in absurd (span-must (s .args .code) (s .args .at) (s .args .to) (now (s .args .m)) (now (s .args .buf)) (look (now (s .args .table)) (now (s .args .offsets))) (readValue (look (now (s .args .table)) (now (s .args .offsets))) (s .args .level)) (recordAt (now (s .args .table)) (s .args .o) .body) (s .pre .1 .5) (s .pre .1 .2) (c .before .before .span .result) (c .before .before .span .ensures) _ _ (c .enum-told .given .1)))  -- place-constructed-returns
     (λ c. c .before .before .place-body .kept .1 .1 .1 .1 .1 .1 .1 .1 .0)  -- place-constructed-same-length
-    (λ c. let s = c .before .before .before .before .before .before .before .before .before .before .before .before .before in rw (rest-is (s .args .code) (s .args .at) (s .args .to) (now (s .args .m)) (now (s .args .buf)) _ (s .pre .1 .5) (s .pre .1 .2) _ (c .before .before .before .before .before .before .before .header .ensures) _ (c .before .before .before .before .before .start .given .1)) (c .before .before .place-body .ensures))  -- place-constructed-returns-2
-    (λ c. c .before .before .place-body2 .kept .1 .1 .1 .1 .1 .1 .1 .1 .0)  -- place-constructed-same-length-2
-    (λ c. let s = c .before .before .before .before .before .before .before .before .before .before .before .before .before .before in part-placed (s .args .code) (s .args .at) (s .args .to) (now (s .args .m)) (now (s .args .buf)) _ (s .pre .1 .5) (s .pre .1 .2) _ (c .before .before .before .before .before .before .before .before .header .ensures) _ _ (c .before .before .before .before .before .before .size .given .1) (c .before .before .place-body2 .ensures)))  -- place-constructed-returns-3
+    (λ c. let s = c .before .before .before .before .before .before .before .before .before .before .before .before .before .before in span-placed (s .args .code) (s .args .at) (s .args .to) (now (s .args .m)) (now (s .args .buf)) (look (now (s .args .table)) (now (s .args .offsets))) (readValue (look (now (s .args .table)) (now (s .args .offsets))) (s .args .level)) (recordAt (now (s .args .table)) (s .args .o) .body) (s .pre .1 .5) (s .pre .1 .2) (c .before .before .before .before .before .before .before .before .span .result) (c .before .before .before .before .before .before .before .before .span .ensures) _ _ _ (c .before .before .before .before .before .before .from .given .1) _ _ _ (c .before .before .place-body .ensures)))  -- place-constructed-returns-2
     (λ t. place-item-lts.spec (
       offset-reads.Asked,
       offset-reads.Learnt,
@@ -348,23 +345,19 @@ pub +place-body+place-choice+place-constructed+place-item+place-list+place-membe
     (λ c κs. search needs)  -- place-item-form-of-requires
     (λ c. search needs)  -- place-item-enum-told
     (λ c κs. let s = c .before .before .before .before .before .before .before .before .before .before .before in let offset′ = c .before .before .before .before .before .offset in let kind′ = c .before .before .before .before .kind in let formof′ = c .before .before .before .form-of in (omega (arith, s .pre .0), ((s .pre .1 .0), (s .pre .1 .1), (s .pre .1 .2), (s .pre .1 .3), rw (as-choice (now (s .args .table)) (now (s .args .offsets)) (s .args .level) (s .args .t) (offset′ .result) (kind′ .result) (s .args .at) (s .args .to) (now (s .args .m)) (now (s .args .buf)) (formof′ .result) (s .pre .1 .4) (offset′ .ensures) (kind′ .ensures .0) (formof′ .ensures) (c .before .enum-told .given .1)) at (s .pre .1 .4))))  -- place-item-place-choice-requires
+    (λ c. c .before .before .place-choice .kept .1 .1 .1 .1 .1 .1 .1 .0)  -- place-item-same-length
+    (λ c. let s = c .before .before .before .before .before .before .before .before .before .before .before .before .before .before in let offset′ = c .before .before .before .before .before .before .before .before .offset in let kind′ = c .before .before .before .before .before .before .before .kind in let formof′ = c .before .before .before .before .before .before .form-of in rw (as-choice (now (s .args .table)) (now (s .args .offsets)) (s .args .level) (s .args .t) (offset′ .result) (kind′ .result) (s .args .at) (s .args .to) (now (s .args .m)) (now (s .args .buf)) (formof′ .result) (s .pre .1 .4) (offset′ .ensures) (kind′ .ensures .0) (formof′ .ensures) (c .before .before .before .before .enum-told .given .1)) (c .before .before .place-choice .ensures))  -- place-item-returns
     (λ c. search needs)  -- place-item-enum-told-2
     (λ c κs. let s = c .before .before .before .before .before .before .before .before .before .before in ((s .pre .1 .1), (s .pre .1 .2)))  -- place-item-peek-requires
     (λ c κs. let kind′ = c .before .before .before .before .before .kind in let formof′ = c .before .before .before .before .form-of in let enumtold2′ = c .before .before .enum-told2 in let s = c .before .before .before .before .before .before .before .before .before .before .before .before in let offset′ = c .before .before .before .before .before .before .offset in (rw (← kind′ .ensures .0) (sym (formof′ .ensures) ∙ enumtold2′ .given .1), (s .pre .1 .1), (s .pre .1 .2), rw (as-plain (now (s .args .table)) (now (s .args .offsets)) (s .args .level) (s .args .t) (offset′ .result) (kind′ .result) (s .args .at) (s .args .to) (now (s .args .m)) (now (s .args .buf)) (formof′ .result) (s .pre .1 .4) (offset′ .ensures) (kind′ .ensures .0) (formof′ .ensures) (enumtold2′ .given .1) _ (c .before .peek .ensures)) at (s .pre .1 .4)))  -- place-item-place-simple-requires
-    (λ c. search needs)  -- place-item-enum-told-3
-    (λ c κs. let s = c .before .before .before .before .before .before .before .before .before .before in ((s .pre .1 .1), (s .pre .1 .2)))  -- place-item-peek-requires-2
-    (λ c κs. let s = c .before .before .before .before .before .before .before .before .before .before .before .before in let offset′ = c .before .before .before .before .before .before .offset in let kind′ = c .before .before .before .before .before .kind in let formof′ = c .before .before .before .before .form-of in (omega (arith, s .pre .0), ((s .pre .1 .0), shaped-at (s .pre .1 .0) _ _ (offset′ .ensures), (s .pre .1 .1), (s .pre .1 .2), (s .pre .1 .3), rw (as-members (now (s .args .table)) (now (s .args .offsets)) (s .args .level) (s .args .t) (offset′ .result) (kind′ .result) (s .args .at) (s .args .to) (now (s .args .m)) (now (s .args .buf)) (formof′ .result) (s .pre .1 .4) (offset′ .ensures) (kind′ .ensures .0) (formof′ .ensures) (c .before .before .enum-told3 .given .1) _ (c .before .peek2 .ensures)) at (s .pre .1 .4))))  -- place-item-place-constructed-requires
-    (λ c. search needs)  -- place-item-enum-told-4
-    (λ c κs. let s = c .before .before .before .before .before .before .before .before .before .before in ((s .pre .1 .1), (s .pre .1 .2)))  -- place-item-peek-requires-3
-    (λ c κs. let s = c .before .before .before .before .before .before .before .before .before .before .before .before in let offset′ = c .before .before .before .before .before .before .offset in let kind′ = c .before .before .before .before .before .kind in let formof′ = c .before .before .before .before .form-of in (omega (arith, s .pre .0), ((s .pre .1 .0), shaped-at (s .pre .1 .0) _ _ (offset′ .ensures), (s .pre .1 .1), (s .pre .1 .2), (s .pre .1 .3), rw (as-of (now (s .args .table)) (now (s .args .offsets)) (s .args .level) (s .args .t) (offset′ .result) (kind′ .result) (s .args .at) (s .args .to) (now (s .args .m)) (now (s .args .buf)) (formof′ .result) (s .pre .1 .4) (offset′ .ensures) (kind′ .ensures .0) (formof′ .ensures) (c .before .before .enum-told4 .given .1) _ (c .before .peek3 .ensures)) at (s .pre .1 .4))))  -- place-item-place-constructed-requires-2
-    (λ c. c .before .before .place-choice .kept .1 .1 .1 .1 .1 .1 .1 .0)  -- place-item-same-length
-    (λ c. let s = c .before .before .before .before .before .before .before .before .before .before .before .before .before .before in let offset′ = c .before .before .before .before .before .before .before .before .offset in let kind′ = c .before .before .before .before .before .before .before .kind in let formof′ = c .before .before .before .before .before .before .form-of in rw (as-choice (now (s .args .table)) (now (s .args .offsets)) (s .args .level) (s .args .t) (offset′ .result) (kind′ .result) (s .args .at) (s .args .to) (now (s .args .m)) (now (s .args .buf)) (formof′ .result) (s .pre .1 .4) (offset′ .ensures) (kind′ .ensures .0) (formof′ .ensures) (c .before .before .before .before .enum-told .given .1)) (c .before .before .place-choice .ensures))  -- place-item-returns
     (λ c. c .before .before .place-simple .kept .1 .1 .1 .1 .1 .0)  -- place-item-same-length-2
     (λ c. let s = c .before .before .before .before .before .before .before .before .before .before .before .before .before .before .before in let offset′ = c .before .before .before .before .before .before .before .before .before .offset in let kind′ = c .before .before .before .before .before .before .before .before .kind in let formof′ = c .before .before .before .before .before .before .before .form-of in rw (as-plain (now (s .args .table)) (now (s .args .offsets)) (s .args .level) (s .args .t) (offset′ .result) (kind′ .result) (s .args .at) (s .args .to) (now (s .args .m)) (now (s .args .buf)) (formof′ .result) (s .pre .1 .4) (offset′ .ensures) (kind′ .ensures .0) (formof′ .ensures) (c .before .before .before .before .before .enum-told2 .given .1) _ (c .before .before .before .before .peek .ensures)) (c .before .before .place-simple .ensures))  -- place-item-returns-2
+    (λ c. search needs)  -- place-item-enum-told-3
+    (λ c. search needs)  -- place-item-enum-told-4
+    (λ c κs. let s = c .before .before .before .before .before .before .before .before .before in ((s .pre .1 .1), (s .pre .1 .2)))  -- place-item-peek-requires-2
+    (λ c κs. let s = c .before .before .before .before .before .before .before .before .before .before .before in (omega (arith, s .pre .0), ((s .pre .1 .0), shaped-at (s .pre .1 .0) _ _ (c .before .before .before .before .before .offset .ensures), (s .pre .1 .1), (s .pre .1 .2), (s .pre .1 .3), rw (⊎-elim (λ g. as-members (now (s .args .table)) (now (s .args .offsets)) (s .args .level) (s .args .t) (c .before .before .before .before .before .offset .result) (c .before .before .before .before .kind .result) (s .args .at) (s .args .to) (now (s .args .m)) (now (s .args .buf)) (c .before .before .before .form-of .result) (s .pre .1 .4) (c .before .before .before .before .before .offset .ensures) (c .before .before .before .before .kind .ensures .0) (c .before .before .before .form-of .ensures) (g .1 .given .1) _ (c .before .peek2 .ensures)) (λ g. as-of (now (s .args .table)) (now (s .args .offsets)) (s .args .level) (s .args .t) (c .before .before .before .before .before .offset .result) (c .before .before .before .before .kind .result) (s .args .at) (s .args .to) (now (s .args .m)) (now (s .args .buf)) (c .before .before .before .form-of .result) (s .pre .1 .4) (c .before .before .before .before .before .offset .ensures) (c .before .before .before .before .kind .ensures .0) (c .before .before .before .form-of .ensures) (g .1 .given .1) _ (c .before .peek2 .ensures)) (c .before .before .match .came)) at (s .pre .1 .4))))  -- place-item-place-constructed-requires
     (λ c. c .before .before .place-constructed .kept .1 .1 .1 .1 .1 .1 .1 .1 .0)  -- place-item-same-length-3
-    (λ c. let s = c .before .before .before .before .before .before .before .before .before .before .before .before .before .before .before in let offset′ = c .before .before .before .before .before .before .before .before .before .offset in let kind′ = c .before .before .before .before .before .before .before .before .kind in let formof′ = c .before .before .before .before .before .before .before .form-of in rw (as-members (now (s .args .table)) (now (s .args .offsets)) (s .args .level) (s .args .t) (offset′ .result) (kind′ .result) (s .args .at) (s .args .to) (now (s .args .m)) (now (s .args .buf)) (formof′ .result) (s .pre .1 .4) (offset′ .ensures) (kind′ .ensures .0) (formof′ .ensures) (c .before .before .before .before .before .enum-told3 .given .1) _ (c .before .before .before .before .peek2 .ensures)) (c .before .before .place-constructed .ensures))  -- place-item-returns-3
-    (λ c. c .before .before .place-constructed2 .kept .1 .1 .1 .1 .1 .1 .1 .1 .0)  -- place-item-same-length-4
-    (λ c. let s = c .before .before .before .before .before .before .before .before .before .before .before .before .before .before .before in let offset′ = c .before .before .before .before .before .before .before .before .before .offset in let kind′ = c .before .before .before .before .before .before .before .before .kind in let formof′ = c .before .before .before .before .before .before .before .form-of in rw (as-of (now (s .args .table)) (now (s .args .offsets)) (s .args .level) (s .args .t) (offset′ .result) (kind′ .result) (s .args .at) (s .args .to) (now (s .args .m)) (now (s .args .buf)) (formof′ .result) (s .pre .1 .4) (offset′ .ensures) (kind′ .ensures .0) (formof′ .ensures) (c .before .before .before .before .before .enum-told4 .given .1) _ (c .before .before .before .before .peek3 .ensures)) (c .before .before .place-constructed2 .ensures)))  -- place-item-returns-4
+    (λ c. let s = c .before .before .before .before .before .before .before .before .before .before .before .before .before .before in rw (⊎-elim (λ g. as-members (now (s .args .table)) (now (s .args .offsets)) (s .args .level) (s .args .t) (c .before .before .before .before .before .before .before .before .offset .result) (c .before .before .before .before .before .before .before .kind .result) (s .args .at) (s .args .to) (now (s .args .m)) (now (s .args .buf)) (c .before .before .before .before .before .before .form-of .result) (s .pre .1 .4) (c .before .before .before .before .before .before .before .before .offset .ensures) (c .before .before .before .before .before .before .before .kind .ensures .0) (c .before .before .before .before .before .before .form-of .ensures) (g .1 .given .1) _ (c .before .before .before .before .peek2 .ensures)) (λ g. as-of (now (s .args .table)) (now (s .args .offsets)) (s .args .level) (s .args .t) (c .before .before .before .before .before .before .before .before .offset .result) (c .before .before .before .before .before .before .before .kind .result) (s .args .at) (s .args .to) (now (s .args .m)) (now (s .args .buf)) (c .before .before .before .before .before .before .form-of .result) (s .pre .1 .4) (c .before .before .before .before .before .before .before .before .offset .ensures) (c .before .before .before .before .before .before .before .kind .ensures .0) (c .before .before .before .before .before .before .form-of .ensures) (g .1 .given .1) _ (c .before .before .before .before .peek2 .ensures)) (c .before .before .before .before .before .match .came)) (c .before .before .place-constructed .ensures)))  -- place-item-returns-3
     (λ t. place-list-lts.spec (
       kind-reads.Asked,
       kind-reads.Learnt,
@@ -552,10 +545,10 @@ pub +place-body+place-choice+place-constructed+place-item+place-list+place-membe
       offset-reads.Learnt,
       explicit-count-reads.Asked,
       explicit-count-reads.Learnt,
-      place-item-below t,
-      place-item.Post,
       open-reads.Asked,
       open-reads.Learnt,
+      place-item-below t,
+      place-item.Post,
       close-reads.Asked,
       close-reads.Learnt,
     )
@@ -564,21 +557,18 @@ pub +place-body+place-choice+place-constructed+place-item+place-list+place-membe
     (λ c κs. search needs)  -- place-value-offset-requires
     (λ c κs. search needs)  -- place-value-explicit-count-requires
     (λ c. let s = c .before .before .before .before .before .before .before in let offset′ = c .before .offset in omega (arith, some-level (now (s .args .table)) (now (s .args .offsets)) (s .args .level) (s .args .t) (offset′ .result) (s .args .at) (s .args .to) (now (s .args .m)) (now (s .args .buf)) (s .pre .1 .4) (offset′ .ensures)))  -- place-value-sub-below
-    (λ c κs. let s = c .before .before .before .before .before .before .before .before .before in let offset′ = c .before .before .before .offset in (omega (arith, s .pre .0, some-level (now (s .args .table)) (now (s .args .offsets)) (s .args .level) (s .args .t) (offset′ .result) (s .args .at) (s .args .to) (now (s .args .m)) (now (s .args .buf)) (s .pre .1 .4) (offset′ .ensures)), ((s .pre .1 .0), (s .pre .1 .1), (s .pre .1 .2), omega (arith, some-level (now (s .args .table)) (now (s .args .offsets)) (s .args .level) (s .args .t) (offset′ .result) (s .args .at) (s .args .to) (now (s .args .m)) (now (s .args .buf)) (s .pre .1 .4) (offset′ .ensures), (s .pre .1 .3)), rw (bare (now (s .args .table)) (now (s .args .offsets)) (s .args .level) (s .args .t) (offset′ .result) (s .args .at) (s .args .to) (now (s .args .m)) (now (s .args .buf)) (s .pre .1 .4) (offset′ .ensures) (c .before .before .explicit-count .ensures .0) (c .before .if1 .taken)) at (s .pre .1 .4))))  -- place-value-place-item-requires
-    (λ c. c .before .before .place-item .kept .1 .1 .1 .1 .1 .1 .1 .0)  -- place-value-same-length
-    (λ c. let s = c .before .before .before .before .before .before .before .before .before .before .before .before in let offset′ = c .before .before .before .before .before .before .offset in rw (bare (now (s .args .table)) (now (s .args .offsets)) (s .args .level) (s .args .t) (offset′ .result) (s .args .at) (s .args .to) (now (s .args .m)) (now (s .args .buf)) (s .pre .1 .4) (offset′ .ensures) (c .before .before .before .before .before .explicit-count .ensures .0) (c .before .before .before .before .if1 .taken)) (c .before .before .place-item .ensures))  -- place-value-returns
     (λ c. refl)  -- place-value-slice-aggregate-open
-    (λ c κs. let s = c .before .before .before .before .before .before .before .before .before in let explicitcount′ = c .before .before .explicit-count in let f = few-tags (s .pre .1 .0) _ _ (c .before .before .before .offset .ensures) in (explicitcount′ .ensures .0, omega (arith, explicitcount′ .ensures .0), refl, (s .pre .1 .1), (s .pre .1 .2)))  -- place-value-open-requires
+    (λ c κs. let s = c .before .before .before .before .before .before .before .before in let explicitcount′ = c .before .explicit-count in let f = few-tags (s .pre .1 .0) _ _ (c .before .before .offset .ensures) in (explicitcount′ .ensures .0, omega (arith, explicitcount′ .ensures .0), refl, (s .pre .1 .1), (s .pre .1 .2)))  -- place-value-open-requires
     (λ c. search needs)  -- place-value-enum-told
     (λ c. search needs)  -- place-value-enum-known-from
-    (λ c. let s = c .before .before .before .before .before .before .before .before .before .before .before .before .before .before .before in let offset′ = c .before .before .before .before .before .before .before .before .before .offset in let open′ = c .before .before .before .before .before .«open» in let u = within (now (s .args .table)) (now (s .args .offsets)) (s .args .level) (s .args .t) (offset′ .result) (s .args .at) (s .args .to) (now (s .args .m)) (now (s .args .buf)) (s .pre .1 .4) (offset′ .ensures) _ (open′ .result) (open′ .ensures) _ _ (c .before .before .from .given .1) in sym (length-take-le _ (now (s .args .m)) (u .high)))  -- place-value-slice-aggregate-part
-    (λ c κs. let s = c .before .before .before .before .before .before .before .before .before .before .before .before .before .before .before .before in let offset′ = c .before .before .before .before .before .before .before .before .before .before .offset in let open′ = c .before .before .before .before .before .before .«open» in let u = within (now (s .args .table)) (now (s .args .offsets)) (s .args .level) (s .args .t) (offset′ .result) (s .args .at) (s .args .to) (now (s .args .m)) (now (s .args .buf)) (s .pre .1 .4) (offset′ .ensures) _ (open′ .result) (open′ .ensures) _ _ (c .before .before .before .from .given .1) in let l = length-take-le _ (now (s .args .m)) (u .high) in (omega (arith, s .pre .0, some-level (now (s .args .table)) (now (s .args .offsets)) (s .args .level) (s .args .t) (offset′ .result) (s .args .at) (s .args .to) (now (s .args .m)) (now (s .args .buf)) (s .pre .1 .4) (offset′ .ensures)), ((s .pre .1 .0), omega (arith, u .low), omega (arith, u .high, (s .pre .1 .2)), omega (arith, some-level (now (s .args .table)) (now (s .args .offsets)) (s .args .level) (s .args .t) (offset′ .result) (s .args .at) (s .args .to) (now (s .args .m)) (now (s .args .buf)) (s .pre .1 .4) (offset′ .ensures), (s .pre .1 .3)), u .fits)))  -- place-value-place-item-requires-2
+    (λ c. let s = c .before .before .before .before .before .before .before .before .before .before .before .before .before .before in let offset′ = c .before .before .before .before .before .before .before .before .offset in let open′ = c .before .before .before .before .before .«open» in let u = within (now (s .args .table)) (now (s .args .offsets)) (s .args .level) (s .args .t) (offset′ .result) (s .args .at) (s .args .to) (now (s .args .m)) (now (s .args .buf)) (s .pre .1 .4) (offset′ .ensures) _ (open′ .result) (open′ .ensures) _ _ (c .before .before .from .given .1) in sym (length-take-le _ (now (s .args .m)) (u .high)))  -- place-value-slice-aggregate-part
+    (λ c κs. let s = c .before .before .before .before .before .before .before .before .before .before .before .before .before .before .before in let offset′ = c .before .before .before .before .before .before .before .before .before .offset in let open′ = c .before .before .before .before .before .before .«open» in let u = within (now (s .args .table)) (now (s .args .offsets)) (s .args .level) (s .args .t) (offset′ .result) (s .args .at) (s .args .to) (now (s .args .m)) (now (s .args .buf)) (s .pre .1 .4) (offset′ .ensures) _ (open′ .result) (open′ .ensures) _ _ (c .before .before .before .from .given .1) in let l = length-take-le _ (now (s .args .m)) (u .high) in (omega (arith, s .pre .0, some-level (now (s .args .table)) (now (s .args .offsets)) (s .args .level) (s .args .t) (offset′ .result) (s .args .at) (s .args .to) (now (s .args .m)) (now (s .args .buf)) (s .pre .1 .4) (offset′ .ensures)), ((s .pre .1 .0), omega (arith, u .low), omega (arith, u .high, (s .pre .1 .2)), omega (arith, some-level (now (s .args .table)) (now (s .args .offsets)) (s .args .level) (s .args .t) (offset′ .result) (s .args .at) (s .args .to) (now (s .args .m)) (now (s .args .buf)) (s .pre .1 .4) (offset′ .ensures), (s .pre .1 .3)), u .fits)))  -- place-value-place-item-requires
     (λ c. search needs)  -- place-value-slice-aggregate-close
-    (λ c κs. let s = c .before .before .before .before .before .before .before .before .before .before .before .before .before .before .before .before .before .before .before .before in let offset′ = c .before .before .before .before .before .before .before .before .before .before .before .before .before .before .offset in let open′ = c .before .before .before .before .before .before .before .before .before .before .«open» in let u = within (now (s .args .table)) (now (s .args .offsets)) (s .args .level) (s .args .t) (offset′ .result) (s .args .at) (s .args .to) (now (s .args .m)) (now (s .args .buf)) (s .pre .1 .4) (offset′ .ensures) _ (open′ .result) (open′ .ensures) _ _ (c .before .before .before .before .before .before .before .from .given .1) in let l = length-take-le _ (now (s .args .m)) (u .high) in let f = few-tags (s .pre .1 .0) _ _ (offset′ .ensures) in let k = open′ .kept .1 .1 .1 .1 .1 .0 in (omega (arith, c .before .before .before .before .before .before .before .before .before .before .before .before .before .explicit-count .ensures .0), omega (arith, c .before .before .before .place-item2 .ensures .within), (s .pre .1 .2), omega arith, u .around))  -- place-value-close-requires
+    (λ c κs. let s = c .before .before .before .before .before .before .before .before .before .before .before .before .before .before .before .before .before .before .before in let offset′ = c .before .before .before .before .before .before .before .before .before .before .before .before .before .offset in let open′ = c .before .before .before .before .before .before .before .before .before .before .«open» in let u = within (now (s .args .table)) (now (s .args .offsets)) (s .args .level) (s .args .t) (offset′ .result) (s .args .at) (s .args .to) (now (s .args .m)) (now (s .args .buf)) (s .pre .1 .4) (offset′ .ensures) _ (open′ .result) (open′ .ensures) _ _ (c .before .before .before .before .before .before .before .from .given .1) in let l = length-take-le _ (now (s .args .m)) (u .high) in let f = few-tags (s .pre .1 .0) _ _ (offset′ .ensures) in let k = open′ .kept .1 .1 .1 .1 .1 .0 in (omega (arith, c .before .before .before .before .before .before .before .before .before .before .before .before .explicit-count .ensures .0), omega (arith, c .before .before .before .place-item .ensures .within), (s .pre .1 .2), omega arith, u .around))  -- place-value-close-requires
     (λ c. search needs)  -- place-value-enum-told-2
     (λ c. search needs)  -- place-value-enum-known-last
-    (λ c. let s = c .before .before .before .before .before .before .before .before .before .before .before .before .before in let offset′ = c .before .before .before .before .before .before .before .offset in let open′ = c .before .before .before .«open» in absurd (must-open (now (s .args .table)) (now (s .args .offsets)) (s .args .level) (s .args .t) (offset′ .result) (s .args .at) (s .args .to) (now (s .args .m)) (now (s .args .buf)) (s .pre .1 .4) (offset′ .ensures) _ (open′ .result) (open′ .ensures) _ _ (c .enum-told .given .1)))  -- place-value-returns-2
-    (λ c. c .before .before .before .before .before .before .place-item2 .kept .1 .1 .1 .1 .1 .1 .1 .0)  -- place-value-same-length-2
-    (λ c. let s = c .before .before .before .before .before .before .before .before .before .before .before .before .before .before .before .before .before .before .before .before .before .before .before in let offset′ = c .before .before .before .before .before .before .before .before .before .before .before .before .before .before .before .before .before .offset in let open′ = c .before .before .before .before .before .before .before .before .before .before .before .before .before .«open» in absurd (must-close (now (s .args .table)) (now (s .args .offsets)) (s .args .level) (s .args .t) (offset′ .result) (s .args .at) (s .args .to) (now (s .args .m)) (now (s .args .buf)) (s .pre .1 .4) (offset′ .ensures) _ (open′ .result) (open′ .ensures) _ _ (c .before .before .before .before .before .before .before .before .before .before .from .given .1) _ _ _ (c .before .before .before .before .before .before .place-item2 .ensures) _ (c .before .before .close .ensures) _ _ (c .enum-told2 .given .1)))  -- place-value-returns-3
-    (λ c. c .before .before .before .before .before .before .before .place-item2 .kept .1 .1 .1 .1 .1 .1 .1 .0)  -- place-value-same-length-3
-    (λ c. let s = c .before .before .before .before .before .before .before .before .before .before .before .before .before .before .before .before .before .before .before .before .before .before .before .before in let offset′ = c .before .before .before .before .before .before .before .before .before .before .before .before .before .before .before .before .before .before .offset in let open′ = c .before .before .before .before .before .before .before .before .before .before .before .before .before .before .«open» in closed-placed (now (s .args .table)) (now (s .args .offsets)) (s .args .level) (s .args .t) (offset′ .result) (s .args .at) (s .args .to) (now (s .args .m)) (now (s .args .buf)) (s .pre .1 .4) (offset′ .ensures) _ (open′ .result) (open′ .ensures) _ _ (c .before .before .before .before .before .before .before .before .before .before .before .from .given .1) _ _ _ (c .before .before .before .before .before .before .before .place-item2 .ensures) _ (c .before .before .before .close .ensures) (s .pre .1 .1) _ _ (c .before .last .given .1))  -- place-value-returns-4
+    (λ c. let s = c .before .before .before .before .before .before .before .before .before .before .before .before in let offset′ = c .before .before .before .before .before .before .offset in let open′ = c .before .before .before .«open» in absurd (must-open (now (s .args .table)) (now (s .args .offsets)) (s .args .level) (s .args .t) (offset′ .result) (s .args .at) (s .args .to) (now (s .args .m)) (now (s .args .buf)) (s .pre .1 .4) (offset′ .ensures) _ (open′ .result) (open′ .ensures) _ _ (c .enum-told .given .1)))  -- place-value-returns
+    (λ c. c .before .before .before .before .before .before .place-item .kept .1 .1 .1 .1 .1 .1 .1 .0)  -- place-value-same-length
+    (λ c. let s = c .before .before .before .before .before .before .before .before .before .before .before .before .before .before .before .before .before .before .before .before .before .before in let offset′ = c .before .before .before .before .before .before .before .before .before .before .before .before .before .before .before .before .offset in let open′ = c .before .before .before .before .before .before .before .before .before .before .before .before .before .«open» in absurd (must-close (now (s .args .table)) (now (s .args .offsets)) (s .args .level) (s .args .t) (offset′ .result) (s .args .at) (s .args .to) (now (s .args .m)) (now (s .args .buf)) (s .pre .1 .4) (offset′ .ensures) _ (open′ .result) (open′ .ensures) _ _ (c .before .before .before .before .before .before .before .before .before .before .from .given .1) _ _ _ (c .before .before .before .before .before .before .place-item .ensures) _ (c .before .before .close .ensures) _ _ (c .enum-told2 .given .1)))  -- place-value-returns-2
+    (λ c. c .before .before .before .before .before .before .before .place-item .kept .1 .1 .1 .1 .1 .1 .1 .0)  -- place-value-same-length-2
+    (λ c. let s = c .before .before .before .before .before .before .before .before .before .before .before .before .before .before .before .before .before .before .before .before .before .before .before in let offset′ = c .before .before .before .before .before .before .before .before .before .before .before .before .before .before .before .before .before .offset in let open′ = c .before .before .before .before .before .before .before .before .before .before .before .before .before .before .«open» in closed-placed (now (s .args .table)) (now (s .args .offsets)) (s .args .level) (s .args .t) (offset′ .result) (s .args .at) (s .args .to) (now (s .args .m)) (now (s .args .buf)) (s .pre .1 .4) (offset′ .ensures) _ (open′ .result) (open′ .ensures) _ _ (c .before .before .before .before .before .before .before .before .before .before .before .from .given .1) _ _ _ (c .before .before .before .before .before .before .before .place-item .ensures) _ (c .before .before .before .close .ensures) (s .pre .1 .1) _ _ (c .before .last .given .1))  -- place-value-returns-3
