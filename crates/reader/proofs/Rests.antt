@@ -126,7 +126,7 @@ module _ (tb offs : List ℕ) (level t o at to : ℕ) (m buf : List ℕ) (F : Fi
   pub some-level : 0 < level
   some-level = level-some (look tb offs) level t (drop at m) (F .done)
 
-  pub bare : {n : ℕ} → n ≡ length (explicit (recordAt tb o)) → n ≡ 0 → readValue (look tb offs) level t (drop at m) ≡ Item (drop at m)
+  bare : {n : ℕ} → n ≡ length (explicit (recordAt tb o)) → n ≡ 0 → readValue (look tb offs) level t (drop at m) ≡ Item (drop at m)
   bare en e = bare-is tb offs level t o (drop at m) eo some-level (sym en ∙ e)
 
   module _ (ns : List ℕ) (r : Opened) (O : Opens (explicit (recordAt tb o)) m at ns r) where
@@ -350,9 +350,6 @@ module _ (code at to : ℕ) (m buf : List ℕ) (body : Mode → List ℕ → Ans
     pub rest-is : constructedBy code body (drop at m) ≡ body open-ended (drop start m)
     unfolding constructedBy then inside
     rest-is = let (x, l) = header-indefinite code m at low r er start ez in rw x refl
-
-    pub rest-low : start ≤ length m
-    rest-low = header-indefinite code m at low r er start ez .1
 
 -- the alternative that was chosen
 choice-rest : (j : ℕ) (x : Answer Value) → IsDone (then x λ v s₁. got (choice j v) s₁) → rest (then x λ v s₁. got (choice j v) s₁) ≡ rest x

@@ -1,6 +1,6 @@
 -- Explicit tags that are opened one after another and closed again: what the code's answers and notes say of reading under them.
 -- Assumes nothing.
-use borrow.Author.Tests.{ltb-true, ltb-false, eq-eqb, ne-eqb, eqb-true}
+use borrow.Author.Tests.{ltb-true, ltb-false, eq-eqb, ne-eqb, eqb-true, eqb-false}
 use lib.Dec.{eqb, leb, ltb}
 use lib.ListN.{length, getD, take, drop, set, length-take, length-drop, List·getD-eq-default}
 use lib.Seq.{getD-take, take-length, drop-drop, take-take, take-suc, take-suc-set, length-take-le}
@@ -23,7 +23,7 @@ use Rattle.coding.specs.Tags.{identifierOf, before, explicitTags, explicit}
 use Rattle.coding.specs.Reading.{readWrapped}
 use Rattle.reader.specs.Answers.{cap, told, asLength, endOf, mode}
 use Rattle.reader.specs.Codes.{codeOf, headerBy}
-use Rattle.reader.specs.Wraps.{ended, shut, innerEnd, closing, noteOf, Around, wrapBy, Enters, Opens}
+use Rattle.reader.specs.Wraps.{ended, shut, innerEnd, closing, noteOf, Around, wrapBy, spanOf, Enters, Opens}
 use Rattle.reader.specs.declared.answer.Measured.the-variants.{Done, Refused}
 use Rattle.reader.specs.declared.ending.End.{End}
 use Rattle.reader.specs.declared.ending.End.the-variants.{More, Over, Broken}
@@ -33,6 +33,7 @@ use Rattle.reader.specs.declared.wrap.Entered.{Entered}
 use Rattle.reader.specs.declared.wrap.Entered.the-variants.{Inside as InsideOne, Refused as NotOne}
 use Rattle.reader.specs.declared.wrap.Opened.the-variants.{Inside, Refused as NotOpened}
 use Rattle.reader.proofs.Told.{some-at, at-more, at-over, at-broken}
+use Rattle.reader.proofs.Simple.{none-yes, none-no}
 use Rattle.reader.proofs.Coded.{length-tags, length-map}
 use Rattle.reader.proofs.Begun.{header-tag, octets-drop}
 use Rattle.reader.proofs.Done.{around-end, part-is, lengths, rest, header-definite, header-indefinite}
@@ -86,7 +87,7 @@ module _ (code : ℕ) (m : List ℕ) (at : ℕ) (h : at ≤ length m) (z : Lengt
       let (p, f, g, b, q) = rest code m at h k (drop start m) e in
       omega (arith, length-drop p m, length-drop start m, ap length f)
 
-  pub enter-refused : (c p : ℕ) → z ≡ NoLength c p → Enters code m at (NotOne c p)
+  enter-refused : (c p : ℕ) → z ≡ NoLength c p → Enters code m at (NotOne c p)
   unfolding wrapBy then
   enter-refused c p d =
       let (l, x, q) = rw (← a, d) at (lengths (length m) (headerBy code (drop at m))) in
@@ -98,14 +99,14 @@ module _ (code : ℕ) (m : List ℕ) (at : ℕ) (h : at ≤ length m) (z : Lengt
     pub enter-end : start + size ≤ length m
     enter-end = header-definite code m at h z a size start d .1
 
-    pub enter-empty : size ≡ 0 → Enters code m at (NotOne 24 start)
+    enter-empty : size ≡ 0 → Enters code m at (NotOne 24 start)
     unfolding wrapBy then inside behind atEnd if none-left
     enter-empty s =
         let (x, l) = header-definite code m at h z a size start d in
         let e : 0 + (length (drop start m) - 0) ≡ length m - start = omega (arith, length-drop start m) in
         (omega arith, λ r. rw (x, s, e) refl)
 
-    pub enter-sized : (size ≡ 0 → ⊥) → Enters code m at (InsideOne start (start + size) false)
+    enter-sized : (size ≡ 0 → ⊥) → Enters code m at (InsideOne start (start + size) false)
     unfolding wrapBy then inside shut atEnd if none-left
     enter-sized s =
         let (x, l) = header-definite code m at h z a size start d in
@@ -120,17 +121,17 @@ module _ (code : ℕ) (m : List ℕ) (at : ℕ) (h : at ≤ length m) (z : Lengt
         )
 
   module _ (start : ℕ) (d : z ≡ Indefinite start) where
-    pub enter-start : start ≤ length m
+    enter-start : start ≤ length m
     enter-start = header-indefinite code m at h z a start d .1
 
     module _ (w : End) (b : w ≡ endOf true (length m) (drop start m)) where
-      pub enter-over : (u : ℕ) → w ≡ Over u → Enters code m at (NotOne 24 start)
+      enter-over : (u : ℕ) → w ≡ Over u → Enters code m at (NotOne 24 start)
       unfolding wrapBy then inside
       enter-over u f =
           let (x, l) = header-indefinite code m at h z a start d in
           (l, λ r. rw (x, at-over {A = Value} (λ _. refused 24 (length (drop start m))) (λ _. ended open-ended (r (drop start m))) m start l true w u b f .0, length-drop start m) refl)
 
-      pub enter-broken : (c p : ℕ) → w ≡ Broken c p → Enters code m at (NotOne c p)
+      enter-broken : (c p : ℕ) → w ≡ Broken c p → Enters code m at (NotOne c p)
       unfolding wrapBy then inside
       enter-broken c p f =
           let (x, l) = header-indefinite code m at h z a start d in (
@@ -138,7 +139,7 @@ module _ (code : ℕ) (m : List ℕ) (at : ℕ) (h : at ≤ length m) (z : Lengt
             λ r. rw (x, at-broken {A = Value} (λ _. refused 24 (length (drop start m))) (λ _. ended open-ended (r (drop start m))) m start l true w c p b f .0) refl,
           )
 
-      pub enter-more : w ≡ More → Enters code m at (InsideOne start (length m) true)
+      enter-more : w ≡ More → Enters code m at (InsideOne start (length m) true)
       unfolding wrapBy then inside shut
       enter-more f =
           let (x, l) = header-indefinite code m at h z a start d in (
@@ -148,6 +149,53 @@ module _ (code : ℕ) (m : List ℕ) (at : ℕ) (h : at ≤ length m) (z : Lengt
             (λ t. refl),
             λ r. rw (x, at-more {A = Value} (λ _. refused 24 (length (drop start m))) (λ _. ended open-ended (r (drop start m))) m start l true w b f .0, take-length m) refl,
           )
+
+-- entering one tag by its span
+abbrev pub tested : ℕ → ℕ → Bool → End → Entered
+tested start end k More = InsideOne start end k
+tested start end k (Over u) = NotOne 24 start
+tested start end k (Broken c p) = NotOne c p
+
+module _ (code : ℕ) (m : List ℕ) (at : ℕ) (h : at ≤ length m) where
+  abbrev Its : Length
+  Its = asLength (length m) (headerBy code (drop at m))
+
+  abbrev Tests : Entered → Type 0
+  Tests (InsideOne start end k) = (start ≤ end) × (end ≤ length m) × ((w : End) → w ≡ endOf k (length (take end m)) (drop start (take end m)) → Enters code m at (tested start end k w))
+  Tests (NotOne c p) = Enters code m at (NotOne c p)
+
+  sized : (n start : ℕ) → Its ≡ Definite n start → Enters code m at (tested start (start + n) false (endOf false (length (take (start + n) m)) (drop start (take (start + n) m))))
+  unfolding endOf if
+  sized n start d =
+      let P = take (start + n) m in
+      let l = length-take-le (start + n) m (enter-end code m at h Its refl n start d) in
+      test (eqb n 0)
+      (λ e. rw (none-yes (drop start P) (omega (arith, eqb-true n 0 e, length-drop start P))) (enter-empty code m at h Its refl n start d (eqb-true n 0 e)))
+      λ e. rw (none-no (drop start P) (λ z. eqb-false n 0 e (omega (arith, length-drop start P)))) (enter-sized code m at h Its refl n start d (eqb-false n 0 e))
+
+  marked : (start : ℕ) → Its ≡ Indefinite start → (w : End) → w ≡ endOf true (length m) (drop start m) → Enters code m at (tested start (length m) true w)
+  marked start d More e = enter-more code m at h Its refl start d More e refl
+  marked start d (Over u) e = enter-over code m at h Its refl start d (Over u) e u refl
+  marked start d (Broken c p) e = enter-broken code m at h Its refl start d (Broken c p) e c p refl
+
+  tests : (z : Length) → Its ≡ z → Tests (spanOf (length m) z)
+  tests (Definite n start) d = (omega arith, enter-end code m at h Its refl n start d, λ w e. rw e (sized n start d))
+  tests (Indefinite start) d = (enter-start code m at h Its refl start d, omega arith, rw (take-length m) (marked start d))
+  tests (NoLength c p) d = enter-refused code m at h Its refl c p d
+
+  module _ (z : Entered) (ez : z ≡ spanOf (length m) Its) where
+    pub enters-no : (c p : ℕ) → z ≡ NotOne c p → Enters code m at (NotOne c p)
+    enters-no c p e = rw (← ez, e) at (tests Its refl)
+
+    module _ (start end : ℕ) (k : Bool) (e : z ≡ InsideOne start end k) where
+      enters : Tests (InsideOne start end k)
+      enters = rw (← ez, e) at (tests Its refl)
+
+      pub enters-within : (start ≤ end) × (end ≤ length m)
+      enters-within = (enters .0, enters .1)
+
+      pub enters-by : (w : End) → w ≡ endOf k (length (take end m)) (drop start (take end m)) → (x : End) → w ≡ x → Enters code m at (tested start end k x)
+      enters-by w b x f = enters .2 x (sym f ∙ b)
 
 -- the innermost note, which is the last
 inner-last : (ns : List ℕ) (n e : ℕ) → innerEnd (ns ++ (n ∷ [])) e ≡ innerEnd ns (n / 2)

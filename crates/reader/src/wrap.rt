@@ -62,34 +62,27 @@ fn enter(code: usize, m: &[u8], at: usize) -> Entered
     requires { ⌜ (at ≤ length (now m)) × (length (now m) ≤ 8192) ⌝ }
     ensures { λ r. ⌜ Enters code (now (m .entry)) at r ⌝ }
 {
-    match header(code, m, at) {
-        Length::Refused { cause, at: p } => Entered::Refused { cause, at: p },
-        Length::Definite { size, start } => {
-            let end = start + size;
-            if size == 0 {
-                return Entered::Refused {
+    match span(code, m, at) {
+        Entered::Refused { cause, at: p } => Entered::Refused { cause, at: p },
+        Entered::Inside {
+            start: from,
+            end,
+            marked,
+        } => {
+            let part = &m[..end];
+            match ending(part, from, marked) {
+                End::Over { end: _ } => Entered::Refused {
                     cause: 24,
-                    at: start,
-                };
-            }
-            Entered::Inside {
-                start,
-                end,
-                marked: false,
+                    at: from,
+                },
+                End::Broken { cause, at: p } => Entered::Refused { cause, at: p },
+                End::More => Entered::Inside {
+                    start: from,
+                    end,
+                    marked,
+                },
             }
         }
-        Length::Indefinite { start } => match ending(m, start, true) {
-            End::Over { end: _ } => Entered::Refused {
-                cause: 24,
-                at: start,
-            },
-            End::Broken { cause, at: p } => Entered::Refused { cause, at: p },
-            End::More => Entered::Inside {
-                start,
-                end: m.len(),
-                marked: true,
-            },
-        },
     }
 }
 
