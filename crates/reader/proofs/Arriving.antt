@@ -65,7 +65,7 @@ module _ {T : Table} {n : ℕ} {m : List ℕ} where
   allowed-lacks (came p l e d) = rw (ne-eqb (suc p) 0 (λ z. omega arith)) (allowed-lacks d)
 
 -- a refusal stands
-unawaited-then : {A B : Type 0} (s : List ℕ) (f : A → List ℕ → Answer B) → then (notAwaited {A = A} s) f ≡ notAwaited s
+pub unawaited-then : {A B : Type 0} (s : List ℕ) (f : A → List ℕ → Answer B) → then (notAwaited {A = A} s) f ≡ notAwaited s
 unfolding notAwaited then
 unawaited-then {A} {B} s f = go (readIdentifier s)
   where
@@ -107,7 +107,7 @@ pub record Comes (T : Table) (n : ℕ) (m : List ℕ) (at code : ℕ) (ms : List
 
 -- what the code of the next item says of a type: whether the item begins it, and how a value of it is measured
 pub record Begins (T : Table) (m : List ℕ) (at code : ℕ) : Type 0 where
-  yes : (t u d : ℕ) → searchIn T 129 t code ≡ At u d → begun T t (drop at m) ≡ true
+  pub yes : (t u d : ℕ) → searchIn T 129 t code ≡ At u d → begun T t (drop at m) ≡ true
   no : (t : ℕ) → searchIn T 129 t code ≡ Nothing → begun T t (drop at m) ≡ false
   lifts : (n t u d : ℕ) → searchIn T 129 t code ≡ At u d → told m size (readValue T n t (drop at m)) ≡ lifted T m n u d (drop at m)
 
@@ -192,7 +192,7 @@ module _ (T : Table) (n : ℕ) (m : List ℕ) (at code : ℕ) (B : Begins T m at
   finds _ _ _ (came {k = k} {ms = ms} {ns = ns} {os = os} {v = v} {w = w} p l e d) j =
       rw (ne-eqb (suc p) 0 (λ z. omega arith)) (tells-came k ms ns os j p v w l e (find T (suc j) ms ns code) (finds ms ns os d (suc j)))
 
-  next-unknown : (ms : List Member) (ns : List ℕ) (os : List (Option Value)) → Noted T n m ms ns os → (x : Next) → x ≡ find T 0 ms ns code → x ≡ Unknown
+  pub next-unknown : (ms : List Member) (ns : List ℕ) (os : List (Option Value)) → Noted T n m ms ns os → (x : Next) → x ≡ find T 0 ms ns code → x ≡ Unknown
       → place T (readValue T n) ms os (drop at m) ≡ notAwaited (drop at m)
   next-unknown ms ns os z x e d = rw (← e, d) at (finds ms ns os z 0)
 
@@ -241,11 +241,11 @@ module _ (T : Table) (n : ℕ) (ms : List Member) (k : Bool) (m : List ℕ) (fir
   abbrev On : Unit {0} → Answer (List (Option Value))
   On _ = if (full (S .hand)) (refused 26 (length (drop at m))) λ _. then (place T (readValue T n) ms (S .hand) (drop at m)) λ us s₁. readSet T (readValue T n) (S .fuel) ms us (mode k) s₁
 
-  set-ended : (u : ℕ) → r ≡ Over u → (Whole ≡ Ended (drop u m)) × (at ≤ u) × (u ≤ length m)
+  pub set-ended : (u : ℕ) → r ≡ Over u → (Whole ≡ Ended (drop u m)) × (at ≤ u) × (u ≤ length m)
   unfolding readSet
   set-ended u d = let (x, y, z) = at-over Ended On m at low k r u e d in (S .whole ∙ x, y, z)
 
-  set-on : r ≡ More → (Whole ≡ On tt) × (at < length m)
+  pub set-on : r ≡ More → (Whole ≡ On tt) × (at < length m)
   unfolding readSet
   set-on d = let (x, y) = at-more Ended On m at low k r e d in (S .whole ∙ x, y)
 
@@ -275,7 +275,7 @@ module _ (T : Table) (n : ℕ) (ms : List Member) (k : Bool) (m : List ℕ) (fir
       let a : full (S .hand) ≡ true = full-lacks (S .noted) ∙ ap not (sym f ∙ g) in
       (refuses m sizesIn 26 (length (drop at m)) at (rw a at (set-on d .0)) (left-at m at low), tt)
 
-  set-step : {code i u b end j : ℕ} → r ≡ More → (y : Comes T n m at code ms ns (S .hand) i u b) → Came T n (y .type) m at end j → InSet T n ms (mode k) m first (set ns i (at + 1)) end (cap (total + j))
+  pub set-step : {code i u b end j : ℕ} → r ≡ More → (y : Comes T n m at code ms ns (S .hand) i u b) → Came T n (y .type) m at end j → InSet T n ms (mode k) m first (set ns i (at + 1)) end (cap (total + j))
   unfolding if then
   set-step {i = i} {end = end} {j = j} d y z =
       let s : S .fuel ≡ suc (S .fuel - 1) = omega (arith, S .enough, length-drop at m, z .further, z .within) in
@@ -299,7 +299,7 @@ module _ (T : Table) (n : ℕ) (ms : List Member) (k : Bool) (m : List ℕ) (fir
         (j ∙ unawaited-told m size sizesIn (drop at m) ∙ ap (told m sizesIn) (sym (w ∙ q)), rw j (unawaited-scanned T n ms m Whole ns (drop at m)))
 
     module _ (i u b : ℕ) (g : x ≡ MemberAt i u b) where
-      set-next : Comes T n m at code ms ns (S .hand) i u b
+      pub set-next : Comes T n m at code ms ns (S .hand) i u b
       set-next = next-member T n m at code B ms ns (S .hand) (S .noted) x i u b f g
 
       pub set-member : (i < length ms) × (b < 129)

@@ -12,37 +12,38 @@ use Rattle.octets.specs.Answer.{Answer, got, refused, then, if}
 use Rattle.octets.specs.Numbers.{Octets}
 use Rattle.ber.specs.Identifier.{readIdentifier}
 use Rattle.ber.specs.Item.{Mode}
-use Rattle.table.specs.Syntax.{Table, isChoice}
-use Rattle.table.specs.Rules.{members}
+use Rattle.table.specs.Syntax.{Member, Table, isChoice}
 use Rattle.table.specs.Reading.{look, recordAt, membersAt, bodyAt, ownAt}
 use Rattle.table.specs.Fields.{formOf, choiceOf}
 use Rattle.table.specs.declared.kind.Form.the-variants.{Simple as FSimple, Members as FMembers, Of as FOf}
 use Rattle.table.proofs.Own.{at as at-kind}
 use Rattle.coding.specs.Value.{Value, set, slots}
 use Rattle.coding.specs.Tags.{explicit}
-use Rattle.coding.specs.Reading.{begun, nothing, readBody, readSet, readValue}
-use Rattle.reader.specs.Answers.{told, sizesIn}
+use Rattle.coding.specs.Reading.{begun, nothing, readSet, readBody, readValue}
+use Rattle.reader.specs.Answers.{cap, told, sizesIn}
 use Rattle.reader.specs.Codes.{Ready, Shaped, peeked, searchIn}
-use Rattle.reader.specs.Noting.{Scanned, readMembers}
+use Rattle.reader.specs.Noting.{Noted, Located, readMembers}
 use Rattle.reader.specs.Writing.{IsDone, written, rest, found, partsOf, presenceOf, Right, Fits, IsPlaced}
-use Rattle.reader.specs.declared.answer.Measured.{Measured}
-use Rattle.reader.specs.declared.answer.Measured.the-variants.{Done, Refused}
+use Rattle.reader.specs.declared.answer.Measured.the-variants.{Done}
 use Rattle.reader.specs.declared.search.Found.{Found}
 use Rattle.reader.specs.declared.search.Found.the-variants.{Nothing, At}
+use Rattle.reader.proofs.Told.{left-at}
 use Rattle.reader.proofs.Coded.{count-other}
 use Rattle.reader.proofs.Placing.{presence-length}
 use Rattle.reader.proofs.Begun.{not-begun, is-begun}
-use Rattle.reader.proofs.Measuring.{as-set}
-use Rattle.reader.proofs.Turns.{scanned, written-length, count-few, members-written}
-use Rattle.reader.proofs.Rests.{told-not, told-done, plain-body}
+use Rattle.reader.proofs.Turns.{its-members, scanned, written-length, count-few, members-written}
+use Rattle.reader.proofs.Rests.{plain-body}
 
 -- the contents of the SET at o
 form : formOf 17 ≡ FMembers
 unfolding formOf
 form = refl
 
-formed : {k : ℕ} → k ≡ 17 → formOf k ≡ FMembers
-formed e = rw e form
+-- of a reading that is done, so is what comes first
+then-done : {A B : Type 0} (x : Answer A) (f : A → List ℕ → Answer B) → IsDone (then x f) → (a : A) × (w : List ℕ) × (x ≡ got a w)
+unfolding then IsDone
+then-done (got a w) f d = (a, w, refl)
+then-done (refused c l) f d = absurd d
 
 module _ (tb offs : List ℕ) (n o p c at to : ℕ) (md : Mode) (m buf ns : List ℕ) (F : Fits (readBody (look tb offs) (readValue (look tb offs) n) (recordAt tb o .body) md (drop at m)) to buf)
     (ek : getD tb (o + 2) 0 ≡ 17) (ep : p ≡ ownAt tb o) (ec : c ≡ getD tb p 0) where
@@ -52,57 +53,54 @@ module _ (tb offs : List ℕ) (n o p c at to : ℕ) (md : Mode) (m buf ns : List
   abbrev Those : Answer (List (Option Value))
   Those = readMembers (look tb offs) (readValue (look tb offs) n) (recordAt tb o .body) md (drop at m)
 
+  abbrev Members : List Member
+  Members = membersAt tb (p + 1) c
+
   the-set : The ≡ then Those λ os s₁. got (set (slots os)) s₁
   unfolding recordAt bodyAt readBody readMembers if
   the-set = rw ek refl
 
-  pub as-noted : (r : Measured)
-      → (r ≡ told m sizesIn (readSet (look tb offs) (readValue (look tb offs) n) (suc (length (drop at m))) (membersAt tb (p + 1) c) (nothing (membersAt tb (p + 1) c)) md (drop at m)))
-      × Scanned (look tb offs) n (membersAt tb (p + 1) c) m (readSet (look tb offs) (readValue (look tb offs) n) (suc (length (drop at m))) (membersAt tb (p + 1) c) (nothing (membersAt tb (p + 1) c)) md (drop at m)) ns r
-      → (r ≡ told m sizesIn Those) × Scanned (look tb offs) n (members (recordAt tb o .body)) m Those ns r
-  as-noted r h = as-set tb offs n o p c 17 md m at (sym ek) ep ec (formed ek) (λ e. omega arith) r ns h
+  those-set : Those ≡ readSet (look tb offs) (readValue (look tb offs) n) (suc (length (drop at m))) Members (nothing Members) md (drop at m)
+  unfolding recordAt bodyAt readMembers if
+  those-set = rw (ek, ec, ep) refl
 
   pub set-few : Shaped tb o → c ≤ 16
   set-few h = count-few tb offs n o p c 17 (formOf 17) md m at ns (sym ek) ep ec refl (F .done) form h
 
-  module _ (r : Measured) (er : r ≡ told m sizesIn Those) (S : Scanned (look tb offs) n (members (recordAt tb o .body)) m Those ns r) where
-    pub record Whole (end : ℕ) : Type 0 where
-      pub right : Right (look tb offs) n m (membersAt tb (p + 1) c) ns
-      pub is : written The ≡ 86 ∷ 65 ∷ 17 ∷ c ∷ (presenceOf c ns ++ partsOf (look tb offs) n m (membersAt tb (p + 1) c) ns)
-      pub room : to + 4 + c + length (partsOf (look tb offs) n m (membersAt tb (p + 1) c) ns) ≤ length buf
-      pub behind : rest The ≡ drop end m
-      pub within : end ≤ length m
+  pub record Whole (end : ℕ) : Type 0 where
+    pub right : Right (look tb offs) n m Members ns
+    pub is : written The ≡ 86 ∷ 65 ∷ 17 ∷ c ∷ (presenceOf c ns ++ partsOf (look tb offs) n m Members ns)
+    pub room : to + 4 + c + length (partsOf (look tb offs) n m Members ns) ≤ length buf
+    pub behind : rest The ≡ drop end m
+    pub within : end ≤ length m
 
-    pub whole : (end i : ℕ) → r ≡ Done end i → Whole end
-    unfolding then rest
-    whole end i e =
-        let w = scanned tb offs n o p c 17 (formOf 17) md m at ns (sym ek) ep ec refl (F .done) form r er S in
-        let l = written-length tb offs n o p c 17 (formOf 17) md m at ns (sym ek) ep ec refl w in
-        let (os, x, z) = rw e at S in
-        let u = told-done m sizesIn os (drop end m) r end i (rw x at er) e in
-        let y : The ≡ got (set (slots os)) (drop end m) = the-set ∙ ap (λ (x : Answer (List (Option Value))). then x λ os s₁. got (set (slots os)) s₁) x in
-        record { right = w .right; is = w .is; room = omega (arith, F .room); behind = ap rest y; within = omega arith }
+  whole-of : (end : ℕ) (os : List (Option Value)) → Those ≡ got os (drop end m) → end ≤ length m → Noted (look tb offs) n m Members ns os → Whole end
+  unfolding then rest told
+  whole-of end os e h z =
+      let er : Done end (cap (sizesIn os)) ≡ told m sizesIn Those = rw (e, left-at m end h) refl in
+      let q = its-members tb offs n o p c 17 (formOf 17) md m at ns (sym ek) ep ec refl (F .done) form in
+      let g = scanned tb offs n o p c 17 (formOf 17) md m at ns (sym ek) ep ec refl (F .done) form (Done end (cap (sizesIn os))) er (os, e, rw q z) in
+      let l = written-length tb offs n o p c 17 (formOf 17) md m at ns (sym ek) ep ec refl g in
+      record { right = g .right; is = g .is; room = omega (arith, F .room); behind = rw (the-set, e) refl; within = h }
 
-    pub scans : (a q : ℕ) → r ≡ Refused a q → ⊥
-    unfolding then IsDone told
-    scans a q e = go Those refl
-      where
-        go : (x : Answer (List (Option Value))) → Those ≡ x → ⊥
-        go (got os w) f = told-not m sizesIn os w r a q (rw f at er) e
-        go (refused b l) f = rw (the-set, f) at (F .done)
+  pub whole : (end : ℕ) → Located (look tb offs) Members md m at ns end → Whole end
+  whole end L =
+      let (os, w, x) = then-done Those (λ os s₁. got (set (slots os)) s₁) (rw the-set at (F .done)) in
+      let (h, y, z) = L n os w (sym those-set ∙ x) in
+      whole-of end os (x ∙ ap (got os) y) h z
 
-    pub set-placed : (end : ℕ) → Whole end → (b₁ b₂ b₃ : List ℕ) (next : ℕ) → b₁ ≡ sets buf to (86 ∷ 65 ∷ 17 ∷ []) → b₂ ≡ sets (lib.ListN.set b₁ (to + 3) c) (to + 4) (presenceOf c ns)
-        → b₃ ≡ sets b₂ (to + 4 + c) (partsOf (look tb offs) n m (membersAt tb (p + 1) c) ns) → next ≡ to + 4 + c + length (partsOf (look tb offs) n m (membersAt tb (p + 1) c) ns)
-        → IsPlaced The m to buf b₃ (record { next = next; end = end })
-    set-placed end w b₁ b₂ b₃ next e₁ e₂ e₃ en =
-        let l = length-append (presenceOf c ns) (partsOf (look tb offs) n m (membersAt tb (p + 1) c) ns) in
-        let q = presence-length c ns in
-        record {
-          next = rw (w .is) (omega arith);
-          buffer = rw (w .is) (members-written buf b₁ b₂ to 17 e₁ b₃ c ns (partsOf (look tb offs) n m (membersAt tb (p + 1) c) ns) e₂ e₃);
-          within = w .within;
-          behind = w .behind;
-        }
+  pub set-placed : (end : ℕ) → Whole end → (b₁ b₂ b₃ : List ℕ) (next : ℕ) → b₁ ≡ sets buf to (86 ∷ 65 ∷ 17 ∷ []) → b₂ ≡ sets (lib.ListN.set b₁ (to + 3) c) (to + 4) (presenceOf c ns)
+      → b₃ ≡ sets b₂ (to + 4 + c) (partsOf (look tb offs) n m Members ns) → next ≡ to + 4 + c + length (partsOf (look tb offs) n m Members ns)
+      → IsPlaced The m to buf b₃ (record { next = next; end = end })
+  set-placed end w b₁ b₂ b₃ next e₁ e₂ e₃ en =
+      let l = length-append (presenceOf c ns) (partsOf (look tb offs) n m Members ns) in
+      let q = presence-length c ns in
+      record {
+        next = rw (w .is) (omega arith);
+        buffer = rw (w .is) (members-written buf b₁ b₂ to 17 e₁ b₃ c ns (partsOf (look tb offs) n m Members ns) e₂ e₃);
+        within = w .within;
+        behind = w .behind;
+      }
 
 -- contents that are no SEQUENCE's and no SET's are a list's
 module _ (T : Table) (r : ℕ → List ℕ → Answer Value) (md : Mode) (s b : List ℕ) (p : ℕ) where

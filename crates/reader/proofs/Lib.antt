@@ -23,3 +23,6 @@ pub mod Spans
 pub mod Rows
 pub mod Runs
 pub mod Bodies
+pub mod Skipped
+pub mod Past
+pub mod Locating

@@ -5,3 +5,4 @@ pub mod Codes
 pub mod Wraps
 pub mod Noting
 pub mod Writing
+pub mod Skipping

@@ -41,6 +41,12 @@ abbrev pub Scanned : Table → ℕ → List Member → List ℕ → Answer (List
 Scanned T n ms m x ns (Done e k) = (os : List (Option Value)) × (x ≡ got os (drop e m)) × Noted T n m ms ns os
 Scanned T n ms m x ns (Refused c p) = Unit {0}
 
+-- if the members of a SET are read from `first` on, with however many levels, the notes are right for them and e is where they end
+abbrev pub Located : Table → List Member → Mode → List ℕ → ℕ → List ℕ → ℕ → Type 0
+Located T ms k m first ns e =
+    (n : ℕ) (os : List (Option Value)) (w : List ℕ) → readSet T (readValue T n) (suc (length (drop first m))) ms (nothing ms) k (drop first m) ≡ got os w
+    → (e ≤ length m) × (w ≡ drop e m) × Noted T n m ms ns os
+
 -- one that has not come, and is mandatory or `all`
 unfoldable pub lacks : Bool → List Member → List ℕ → Bool
 lacks all [] ns = false

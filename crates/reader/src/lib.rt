@@ -11,6 +11,7 @@ mod measure;
 mod members;
 mod place;
 mod search;
+mod skip;
 mod wrap;
 
 ghost use mathlib.Core.Path.{_≡_};

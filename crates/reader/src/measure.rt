@@ -387,7 +387,7 @@ fn in_order(
 }
 
 // The c members of a SET, whose fields begin at p.
-pub(crate) fn any_order(
+fn any_order(
     table: &[u8],
     offsets: &[u16],
     firsts: &[u32],

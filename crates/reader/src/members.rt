@@ -3,12 +3,17 @@ ghost use mathlib.Core.Path.{_≡_};
 ghost use mathlib.Core.Bool.{not, _&&_, _||_};
 ghost use Prim.Native.Nat.{_≤_, _<_};
 ghost use lib.Dec.{eqb};
-ghost use lib.ListN.{length, getD};
+ghost use lib.ListN.{length, getD, replicate};
 ghost use Rattle.table.specs.Reading.{look, membersAt};
-ghost use Rattle.reader.specs.Codes.{Firsts};
-ghost use Rattle.reader.specs.Noting.{lacks, find};
+ghost use Rattle.reader.specs.Answers.{mode};
+ghost use Rattle.reader.specs.Codes.{Firsts, Ready};
+ghost use Rattle.reader.specs.Noting.{lacks, find, Located};
+use crate::ending::End;
+use crate::ending::ending;
+use crate::identifier::peek;
 use crate::search::Found;
 use crate::search::seek;
+use crate::skip::skip;
 use octets::octet;
 
 // A member by its place among the members, and what `Found` says of it.
@@ -85,4 +90,49 @@ pub(crate) fn awaited(
         }
     }
     Next::Unknown
+}
+
+// Where each of the c members from p on begins, and where the contents end, of a SET that was accepted.
+pub(crate) fn locate(
+    table: &[u8],
+    offsets: &[u16],
+    firsts: &[u32],
+    p: usize,
+    c: usize,
+    m: &[u8],
+    at: usize,
+    marked: bool,
+    began: &mut [u16],
+) -> usize
+    requires { ⌜ Ready (now table) (now offsets) (now firsts) × (p < 70001) × (c < 17) × (at ≤ length (now m)) × (length (now m) ≤ 8192) × (now began ≡ replicate 16 0) ⌝ }
+    ensures { λ r. ⌜ Located (look (now (table .entry)) (now (offsets .entry))) (membersAt (now (table .entry)) p c) (mode marked) (now (m .entry)) at (now (began .exit)) r ⌝ }
+{
+    let mut at = at;
+    loop {
+        match ending(m, at, marked) {
+            End::Broken { cause: _, at: q } => {
+                return q;
+            }
+            End::Over { end } => {
+                return end;
+            }
+            End::More => {
+                let code = peek(m, at);
+                match awaited(table, offsets, firsts, p, c, began, code) {
+                    Next::Unknown => {
+                        return at;
+                    }
+                    Next::Member {
+                        index,
+                        record: _,
+                        depth: _,
+                    } => {
+                        let mark = at + 1;
+                        began[index] = mark as u16;
+                        at = skip(m, at);
+                    }
+                }
+            }
+        }
+    }
 }

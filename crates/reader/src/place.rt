@@ -28,7 +28,7 @@ use crate::identifier::peek;
 use crate::integer::bits;
 use crate::integer::integer_of;
 use crate::length::Length;
-use crate::measure::any_order;
+use crate::members::locate;
 use crate::search::Found;
 use crate::search::seek;
 use crate::wrap::Entered;
@@ -464,41 +464,26 @@ fn place_set(
     let c = octet(table, p);
     let first = p + 1;
     let mut began = [0u16; 16];
-    match any_order(
+    let end = locate(table, offsets, firsts, first, c, m, at, marked, &mut began);
+    begin_node(buf, to, 17);
+    let q = to + 3;
+    buf[q] = c as u8;
+    let flags = to + 4;
+    put_presence(c, &began, buf, flags);
+    let from = flags + c;
+    let next = place_members(
         table,
         offsets,
         firsts,
         first,
         c,
         m,
-        at,
-        marked,
         level,
-        &mut began,
-    ) {
-        Measured::Refused { cause: _, at: _ } => Placed { next: to, end: at },
-        Measured::Done { end, size: _ } => {
-            begin_node(buf, to, 17);
-            let q = to + 3;
-            buf[q] = c as u8;
-            let flags = to + 4;
-            put_presence(c, &began, buf, flags);
-            let from = flags + c;
-            let next = place_members(
-                table,
-                offsets,
-                firsts,
-                first,
-                c,
-                m,
-                level,
-                &began,
-                buf,
-                from,
-            );
-            Placed { next, end }
-        }
-    }
+        &began,
+        buf,
+        from,
+    );
+    Placed { next, end }
 }
 
 // Those of the c members that came, in the table's order; their fields begin at p.

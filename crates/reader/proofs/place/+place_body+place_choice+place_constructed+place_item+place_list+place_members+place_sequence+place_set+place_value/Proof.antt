@@ -19,7 +19,7 @@ use Rattle.reader.proofs.Rests.{some-level, within, must-open, must-clo
 use Rattle.reader.proofs.Spans.{span-within, span-must, span-fits, span-placed}
 use Rattle.reader.proofs.Rows.{Row, row-none, row-miss, row-fits, row-hit, members-room, sequence-closed, sequence-open}
 use Rattle.reader.proofs.Runs.{Run, run-none, run-broken, run-fits, run-further, run-turn, elements-room, list-placed}
-use Rattle.reader.proofs.Bodies.{as-noted, set-few, whole, scans, set-placed, is-list, starts-begun}
+use Rattle.reader.proofs.Bodies.{set-few, whole, set-placed, is-list, starts-begun}
 use borrow.Author.Needs.{needs}
 use Prim.Native.Nat.{ℕ, _<_}
 use borrow.Fn.Kinds.{In}
@@ -56,7 +56,7 @@ use Rattle.reader.proofs.ending.ending.Reads as ending-reads
 use Rattle.reader.proofs.first.explicit_count.Reads as explicit-count-reads
 use Rattle.reader.proofs.wrap.span.Reads as span-reads
 use Rattle.reader.proofs.identifier.peek.Reads as peek-reads
-use Rattle.reader.proofs.measure.any_order.Reads as any-order-reads
+use Rattle.reader.proofs.members.locate.Reads as locate-reads
 use Rattle.reader.proofs.place.begin_node.Reads as begin-node-reads
 use Rattle.reader.proofs.first.is_plain.Reads as is-plain-reads
 use Rattle.reader.proofs.place.place_simple.Reads as place-simple-reads
@@ -509,8 +509,8 @@ pub +place-body+place-choice+place-constructed+place-item+place-list+place-membe
       own-reads.Learnt,
       octet-reads.Asked,
       octet-reads.Learnt,
-      any-order-reads.Asked,
-      any-order-reads.Learnt,
+      locate-reads.Asked,
+      locate-reads.Learnt,
       begin-node-reads.Asked,
       begin-node-reads.Learnt,
       put-presence-reads.Asked,
@@ -523,23 +523,20 @@ pub +place-body+place-choice+place-constructed+place-item+place-list+place-membe
     (λ c κs. search needs)  -- place-set-own-requires
     (λ c κs. search needs)  -- place-set-octet-requires
     (λ c. omega (arith, c .before .own .ensures .1))  -- place-set-add-first
-    (λ c. refl)  -- place-set-slice-aggregate-any-order
-    (λ c κs. let s = c .before .before .before .before .before .before .before .before in let f = set-few (now (s .args .table)) (now (s .args .offsets)) (s .args .level) (s .args .o) (c .before .before .own .result) (c .before .octet .result) (s .args .at) (s .args .to) (mode (s .args .marked)) (now (s .args .m)) (now (s .args .buf)) (now (s .args .m)) (s .pre .1 .6) (s .pre .1 .2) (c .before .before .own .ensures .0) (c .before .octet .ensures .0) (s .pre .1 .1) in ((s .pre .1 .0), omega (arith, c .before .before .own .ensures .1), omega arith, (s .pre .1 .3), (s .pre .1 .4), omega (arith, (s .pre .1 .5)), refl))  -- place-set-any-order-requires
-    (λ c. search needs)  -- place-set-enum-told
-    (λ c. search needs)  -- place-set-enum-known-end
-    (λ c κs. let s = c .before .before .before .before .before .before .before .before .before .before .before .before .before .before in let scan′ = c .before .before .before .before .before .any-order in let own′ = c .before .before .before .before .before .before .before .before .own in let octet′ = c .before .before .before .before .before .before .before .octet in let S = as-noted (now (s .args .table)) (now (s .args .offsets)) (s .args .level) (s .args .o) (own′ .result) (octet′ .result) (s .args .at) (s .args .to) (mode (s .args .marked)) (now (s .args .m)) (now (s .args .buf)) (scan′ .last .1 .1 .1 .1 .1 .1 .1 .1 .1 .0) (s .pre .1 .6) (s .pre .1 .2) (own′ .ensures .0) (octet′ .ensures .0) _ (scan′ .ensures) in let w = whole (now (s .args .table)) (now (s .args .offsets)) (s .args .level) (s .args .o) (own′ .result) (octet′ .result) (s .args .at) (s .args .to) (mode (s .args .marked)) (now (s .args .m)) (now (s .args .buf)) (scan′ .last .1 .1 .1 .1 .1 .1 .1 .1 .1 .0) (s .pre .1 .6) (s .pre .1 .2) (own′ .ensures .0) (octet′ .ensures .0) _ (S .0) (S .1) _ _ (c .before .before .end .given .1) in omega (arith, w .room))  -- place-set-begin-node-requires
-    (λ c. let s = c .before .before .before .before .before .before .before .before .before .before .before .before .before .before .before .before .before in let scan′ = c .before .before .before .before .before .before .before .before .any-order in let own′ = c .before .before .before .before .before .before .before .before .before .before .before .own in let octet′ = c .before .before .before .before .before .before .before .before .before .before .octet in let S = as-noted (now (s .args .table)) (now (s .args .offsets)) (s .args .level) (s .args .o) (own′ .result) (octet′ .result) (s .args .at) (s .args .to) (mode (s .args .marked)) (now (s .args .m)) (now (s .args .buf)) (scan′ .last .1 .1 .1 .1 .1 .1 .1 .1 .1 .0) (s .pre .1 .6) (s .pre .1 .2) (own′ .ensures .0) (octet′ .ensures .0) _ (scan′ .ensures) in let w = whole (now (s .args .table)) (now (s .args .offsets)) (s .args .level) (s .args .o) (own′ .result) (octet′ .result) (s .args .at) (s .args .to) (mode (s .args .marked)) (now (s .args .m)) (now (s .args .buf)) (scan′ .last .1 .1 .1 .1 .1 .1 .1 .1 .1 .0) (s .pre .1 .6) (s .pre .1 .2) (own′ .ensures .0) (octet′ .ensures .0) _ (S .0) (S .1) _ _ (c .before .before .before .before .before .end .given .1) in omega (arith, w .room, (s .pre .1 .6) .small))  -- place-set-add-q
-    (λ c. omega (arith, c .before .before .before .before .before .before .before .before .before .before .octet .ensures .1))  -- place-set-cast-buf
-    (λ c. let s = c .before .before .before .before .before .before .before .before .before .before .before .before .before .before .before .before .before in let scan′ = c .before .before .before .before .before .before .before .before .any-order in let own′ = c .before .before .before .before .before .before .before .before .before .before .before .own in let octet′ = c .before .before .before .before .before .before .before .before .before .before .octet in let S = as-noted (now (s .args .table)) (now (s .args .offsets)) (s .args .level) (s .args .o) (own′ .result) (octet′ .result) (s .args .at) (s .args .to) (mode (s .args .marked)) (now (s .args .m)) (now (s .args .buf)) (scan′ .last .1 .1 .1 .1 .1 .1 .1 .1 .1 .0) (s .pre .1 .6) (s .pre .1 .2) (own′ .ensures .0) (octet′ .ensures .0) _ (scan′ .ensures) in let w = whole (now (s .args .table)) (now (s .args .offsets)) (s .args .level) (s .args .o) (own′ .result) (octet′ .result) (s .args .at) (s .args .to) (mode (s .args .marked)) (now (s .args .m)) (now (s .args .buf)) (scan′ .last .1 .1 .1 .1 .1 .1 .1 .1 .1 .0) (s .pre .1 .6) (s .pre .1 .2) (own′ .ensures .0) (octet′ .ensures .0) _ (S .0) (S .1) _ _ (c .before .before .before .before .before .end .given .1) in let q = c .before .before .begin-node .kept .0 in omega (arith, w .room))  -- place-set-slice-write-buf
-    (λ c. let s = c .before .before .before .before .before .before .before .before .before .before .before .before .before .before .before .before .before in let scan′ = c .before .before .before .before .before .before .before .before .any-order in let own′ = c .before .before .before .before .before .before .before .before .before .before .before .own in let octet′ = c .before .before .before .before .before .before .before .before .before .before .octet in let S = as-noted (now (s .args .table)) (now (s .args .offsets)) (s .args .level) (s .args .o) (own′ .result) (octet′ .result) (s .args .at) (s .args .to) (mode (s .args .marked)) (now (s .args .m)) (now (s .args .buf)) (scan′ .last .1 .1 .1 .1 .1 .1 .1 .1 .1 .0) (s .pre .1 .6) (s .pre .1 .2) (own′ .ensures .0) (octet′ .ensures .0) _ (scan′ .ensures) in let w = whole (now (s .args .table)) (now (s .args .offsets)) (s .args .level) (s .args .o) (own′ .result) (octet′ .result) (s .args .at) (s .args .to) (mode (s .args .marked)) (now (s .args .m)) (now (s .args .buf)) (scan′ .last .1 .1 .1 .1 .1 .1 .1 .1 .1 .0) (s .pre .1 .6) (s .pre .1 .2) (own′ .ensures .0) (octet′ .ensures .0) _ (S .0) (S .1) _ _ (c .before .before .before .before .before .end .given .1) in omega (arith, w .room, (s .pre .1 .6) .small))  -- place-set-add-flags
+    (λ c. refl)  -- place-set-slice-aggregate-locate
+    (λ c κs. (c .before .before .before .before .before .before .before .before .pre .1 .0, omega (arith, c .before .before .own .ensures .1), omega (arith, set-few (now (c .before .before .before .before .before .before .before .before .args .table)) (now (c .before .before .before .before .before .before .before .before .args .offsets)) (c .before .before .before .before .before .before .before .before .args .level) (c .before .before .before .before .before .before .before .before .args .o) (c .before .before .own .result) (c .before .octet .result) (c .before .before .before .before .before .before .before .before .args .at) (c .before .before .before .before .before .before .before .before .args .to) (mode (c .before .before .before .before .before .before .before .before .args .marked)) (now (c .before .before .before .before .before .before .before .before .args .m)) (now (c .before .before .before .before .before .before .before .before .args .buf)) [] (c .before .before .before .before .before .before .before .before .pre .1 .6) (c .before .before .before .before .before .before .before .before .pre .1 .2) (c .before .before .own .ensures .0) (c .before .octet .ensures .0) (c .before .before .before .before .before .before .before .before .pre .1 .1)), c .before .before .before .before .before .before .before .before .pre .1 .3, c .before .before .before .before .before .before .before .before .pre .1 .4, refl))  -- place-set-locate-requires
+    (λ c κs. let w = whole (now (c .before .before .before .before .before .before .before .before .before .before .before .args .table)) (now (c .before .before .before .before .before .before .before .before .before .before .before .args .offsets)) (c .before .before .before .before .before .before .before .before .before .before .before .args .level) (c .before .before .before .before .before .before .before .before .before .before .before .args .o) (c .before .before .before .before .before .own .result) (c .before .before .before .before .octet .result) (c .before .before .before .before .before .before .before .before .before .before .before .args .at) (c .before .before .before .before .before .before .before .before .before .before .before .args .to) (mode (c .before .before .before .before .before .before .before .before .before .before .before .args .marked)) (now (c .before .before .before .before .before .before .before .before .before .before .before .args .m)) (now (c .before .before .before .before .before .before .before .before .before .before .before .args .buf)) (c .before .before .locate .last .1 .1 .1 .1 .1 .1 .1 .1 .0) (c .before .before .before .before .before .before .before .before .before .before .before .pre .1 .6) (c .before .before .before .before .before .before .before .before .before .before .before .pre .1 .2) (c .before .before .before .before .before .own .ensures .0) (c .before .before .before .before .octet .ensures .0) _ (c .before .before .locate .ensures) in omega (arith, w .room))  -- place-set-begin-node-requires
+    (λ c. let w = whole (now (c .before .before .before .before .before .before .before .before .before .before .before .before .before .before .args .table)) (now (c .before .before .before .before .before .before .before .before .before .before .before .before .before .before .args .offsets)) (c .before .before .before .before .before .before .before .before .before .before .before .before .before .before .args .level) (c .before .before .before .before .before .before .before .before .before .before .before .before .before .before .args .o) (c .before .before .before .before .before .before .before .before .own .result) (c .before .before .before .before .before .before .before .octet .result) (c .before .before .before .before .before .before .before .before .before .before .before .before .before .before .args .at) (c .before .before .before .before .before .before .before .before .before .before .before .before .before .before .args .to) (mode (c .before .before .before .before .before .before .before .before .before .before .before .before .before .before .args .marked)) (now (c .before .before .before .before .before .before .before .before .before .before .before .before .before .before .args .m)) (now (c .before .before .before .before .before .before .before .before .before .before .before .before .before .before .args .buf)) (c .before .before .before .before .before .locate .last .1 .1 .1 .1 .1 .1 .1 .1 .0) (c .before .before .before .before .before .before .before .before .before .before .before .before .before .before .pre .1 .6) (c .before .before .before .before .before .before .before .before .before .before .before .before .before .before .pre .1 .2) (c .before .before .before .before .before .before .before .before .own .ensures .0) (c .before .before .before .before .before .before .before .octet .ensures .0) _ (c .before .before .before .before .before .locate .ensures) in omega (arith, w .room, (c .before .before .before .before .before .before .before .before .before .before .before .before .before .before .pre .1 .6) .small))  -- place-set-add-q
+    (λ c. omega (arith, c .before .before .before .before .before .before .before .octet .ensures .1))  -- place-set-cast-buf
+    (λ c. let w = whole (now (c .before .before .before .before .before .before .before .before .before .before .before .before .before .before .args .table)) (now (c .before .before .before .before .before .before .before .before .before .before .before .before .before .before .args .offsets)) (c .before .before .before .before .before .before .before .before .before .before .before .before .before .before .args .level) (c .before .before .before .before .before .before .before .before .before .before .before .before .before .before .args .o) (c .before .before .before .before .before .before .before .before .own .result) (c .before .before .before .before .before .before .before .octet .result) (c .before .before .before .before .before .before .before .before .before .before .before .before .before .before .args .at) (c .before .before .before .before .before .before .before .before .before .before .before .before .before .before .args .to) (mode (c .before .before .before .before .before .before .before .before .before .before .before .before .before .before .args .marked)) (now (c .before .before .before .before .before .before .before .before .before .before .before .before .before .before .args .m)) (now (c .before .before .before .before .before .before .before .before .before .before .before .before .before .before .args .buf)) (c .before .before .before .before .before .locate .last .1 .1 .1 .1 .1 .1 .1 .1 .0) (c .before .before .before .before .before .before .before .before .before .before .before .before .before .before .pre .1 .6) (c .before .before .before .before .before .before .before .before .before .before .before .before .before .before .pre .1 .2) (c .before .before .before .before .before .before .before .before .own .ensures .0) (c .before .before .before .before .before .before .before .octet .ensures .0) _ (c .before .before .before .before .before .locate .ensures) in let q = c .before .before .begin-node .kept .0 in omega (arith, w .room))  -- place-set-slice-write-buf
+    (λ c. let w = whole (now (c .before .before .before .before .before .before .before .before .before .before .before .before .before .before .args .table)) (now (c .before .before .before .before .before .before .before .before .before .before .before .before .before .before .args .offsets)) (c .before .before .before .before .before .before .before .before .before .before .before .before .before .before .args .level) (c .before .before .before .before .before .before .before .before .before .before .before .before .before .before .args .o) (c .before .before .before .before .before .before .before .before .own .result) (c .before .before .before .before .before .before .before .octet .result) (c .before .before .before .before .before .before .before .before .before .before .before .before .before .before .args .at) (c .before .before .before .before .before .before .before .before .before .before .before .before .before .before .args .to) (mode (c .before .before .before .before .before .before .before .before .before .before .before .before .before .before .args .marked)) (now (c .before .before .before .before .before .before .before .before .before .before .before .before .before .before .args .m)) (now (c .before .before .before .before .before .before .before .before .before .before .before .before .before .before .args .buf)) (c .before .before .before .before .before .locate .last .1 .1 .1 .1 .1 .1 .1 .1 .0) (c .before .before .before .before .before .before .before .before .before .before .before .before .before .before .pre .1 .6) (c .before .before .before .before .before .before .before .before .before .before .before .before .before .before .pre .1 .2) (c .before .before .before .before .before .before .before .before .own .ensures .0) (c .before .before .before .before .before .before .before .octet .ensures .0) _ (c .before .before .before .before .before .locate .ensures) in omega (arith, w .room, (c .before .before .before .before .before .before .before .before .before .before .before .before .before .before .pre .1 .6) .small))  -- place-set-add-flags
     (λ c. search needs)  -- place-set-slice-aggregate-put-presence
-    (λ c κs. let s = c .before .before .before .before .before .before .before .before .before .before .before .before .before .before .before .before .before .before .before in let scan′ = c .before .before .before .before .before .before .before .before .before .before .any-order in let own′ = c .before .before .before .before .before .before .before .before .before .before .before .before .before .own in let octet′ = c .before .before .before .before .before .before .before .before .before .before .before .before .octet in let S = as-noted (now (s .args .table)) (now (s .args .offsets)) (s .args .level) (s .args .o) (own′ .result) (octet′ .result) (s .args .at) (s .args .to) (mode (s .args .marked)) (now (s .args .m)) (now (s .args .buf)) (scan′ .last .1 .1 .1 .1 .1 .1 .1 .1 .1 .0) (s .pre .1 .6) (s .pre .1 .2) (own′ .ensures .0) (octet′ .ensures .0) _ (scan′ .ensures) in let w = whole (now (s .args .table)) (now (s .args .offsets)) (s .args .level) (s .args .o) (own′ .result) (octet′ .result) (s .args .at) (s .args .to) (mode (s .args .marked)) (now (s .args .m)) (now (s .args .buf)) (scan′ .last .1 .1 .1 .1 .1 .1 .1 .1 .1 .0) (s .pre .1 .6) (s .pre .1 .2) (own′ .ensures .0) (octet′ .ensures .0) _ (S .0) (S .1) _ _ (c .before .before .before .before .before .before .before .end .given .1) in let q = c .before .before .before .before .begin-node .kept .0 in let g = scan′ .kept .1 .1 .1 .1 .1 .1 .1 .1 .1 .0 in let f = set-few (now (s .args .table)) (now (s .args .offsets)) (s .args .level) (s .args .o) (own′ .result) (octet′ .result) (s .args .at) (s .args .to) (mode (s .args .marked)) (now (s .args .m)) (now (s .args .buf)) (scan′ .last .1 .1 .1 .1 .1 .1 .1 .1 .1 .0) (s .pre .1 .6) (s .pre .1 .2) (own′ .ensures .0) (octet′ .ensures .0) (s .pre .1 .1) in (omega arith, rw length-set (omega (arith, w .room)), rw length-set (omega (arith, (s .pre .1 .6) .small))))  -- place-set-put-presence-requires
-    (λ c. let s = c .before .before .before .before .before .before .before .before .before .before .before .before .before .before .before .before .before .before .before .before .before .before in let scan′ = c .before .before .before .before .before .before .before .before .before .before .before .before .before .any-order in let own′ = c .before .before .before .before .before .before .before .before .before .before .before .before .before .before .before .before .own in let octet′ = c .before .before .before .before .before .before .before .before .before .before .before .before .before .before .before .octet in let S = as-noted (now (s .args .table)) (now (s .args .offsets)) (s .args .level) (s .args .o) (own′ .result) (octet′ .result) (s .args .at) (s .args .to) (mode (s .args .marked)) (now (s .args .m)) (now (s .args .buf)) (scan′ .last .1 .1 .1 .1 .1 .1 .1 .1 .1 .0) (s .pre .1 .6) (s .pre .1 .2) (own′ .ensures .0) (octet′ .ensures .0) _ (scan′ .ensures) in let w = whole (now (s .args .table)) (now (s .args .offsets)) (s .args .level) (s .args .o) (own′ .result) (octet′ .result) (s .args .at) (s .args .to) (mode (s .args .marked)) (now (s .args .m)) (now (s .args .buf)) (scan′ .last .1 .1 .1 .1 .1 .1 .1 .1 .1 .0) (s .pre .1 .6) (s .pre .1 .2) (own′ .ensures .0) (octet′ .ensures .0) _ (S .0) (S .1) _ _ (c .before .before .before .before .before .before .before .before .before .before .end .given .1) in omega (arith, w .room, (s .pre .1 .6) .small))  -- place-set-add-from
+    (λ c κs. let w = whole (now (c .before .before .before .before .before .before .before .before .before .before .before .before .before .before .before .before .args .table)) (now (c .before .before .before .before .before .before .before .before .before .before .before .before .before .before .before .before .args .offsets)) (c .before .before .before .before .before .before .before .before .before .before .before .before .before .before .before .before .args .level) (c .before .before .before .before .before .before .before .before .before .before .before .before .before .before .before .before .args .o) (c .before .before .before .before .before .before .before .before .before .before .own .result) (c .before .before .before .before .before .before .before .before .before .octet .result) (c .before .before .before .before .before .before .before .before .before .before .before .before .before .before .before .before .args .at) (c .before .before .before .before .before .before .before .before .before .before .before .before .before .before .before .before .args .to) (mode (c .before .before .before .before .before .before .before .before .before .before .before .before .before .before .before .before .args .marked)) (now (c .before .before .before .before .before .before .before .before .before .before .before .before .before .before .before .before .args .m)) (now (c .before .before .before .before .before .before .before .before .before .before .before .before .before .before .before .before .args .buf)) (c .before .before .before .before .before .before .before .locate .last .1 .1 .1 .1 .1 .1 .1 .1 .0) (c .before .before .before .before .before .before .before .before .before .before .before .before .before .before .before .before .pre .1 .6) (c .before .before .before .before .before .before .before .before .before .before .before .before .before .before .before .before .pre .1 .2) (c .before .before .before .before .before .before .before .before .before .before .own .ensures .0) (c .before .before .before .before .before .before .before .before .before .octet .ensures .0) _ (c .before .before .before .before .before .before .before .locate .ensures) in let q = c .before .before .before .before .begin-node .kept .0 in let g = c .before .before .before .before .before .before .before .locate .kept .1 .1 .1 .1 .1 .1 .1 .1 .0 in let f = set-few (now (c .before .before .before .before .before .before .before .before .before .before .before .before .before .before .before .before .args .table)) (now (c .before .before .before .before .before .before .before .before .before .before .before .before .before .before .before .before .args .offsets)) (c .before .before .before .before .before .before .before .before .before .before .before .before .before .before .before .before .args .level) (c .before .before .before .before .before .before .before .before .before .before .before .before .before .before .before .before .args .o) (c .before .before .before .before .before .before .before .before .before .before .own .result) (c .before .before .before .before .before .before .before .before .before .octet .result) (c .before .before .before .before .before .before .before .before .before .before .before .before .before .before .before .before .args .at) (c .before .before .before .before .before .before .before .before .before .before .before .before .before .before .before .before .args .to) (mode (c .before .before .before .before .before .before .before .before .before .before .before .before .before .before .before .before .args .marked)) (now (c .before .before .before .before .before .before .before .before .before .before .before .before .before .before .before .before .args .m)) (now (c .before .before .before .before .before .before .before .before .before .before .before .before .before .before .before .before .args .buf)) (c .before .before .before .before .before .before .before .locate .last .1 .1 .1 .1 .1 .1 .1 .1 .0) (c .before .before .before .before .before .before .before .before .before .before .before .before .before .before .before .before .pre .1 .6) (c .before .before .before .before .before .before .before .before .before .before .before .before .before .before .before .before .pre .1 .2) (c .before .before .before .before .before .before .before .before .before .before .own .ensures .0) (c .before .before .before .before .before .before .before .before .before .octet .ensures .0) (c .before .before .before .before .before .before .before .before .before .before .before .before .before .before .before .before .pre .1 .1) in (omega arith, rw length-set (omega (arith, w .room)), rw length-set (omega (arith, (c .before .before .before .before .before .before .before .before .before .before .before .before .before .before .before .before .pre .1 .6) .small))))  -- place-set-put-presence-requires
+    (λ c. let w = whole (now (c .before .before .before .before .before .before .before .before .before .before .before .before .before .before .before .before .before .before .before .args .table)) (now (c .before .before .before .before .before .before .before .before .before .before .before .before .before .before .before .before .before .before .before .args .offsets)) (c .before .before .before .before .before .before .before .before .before .before .before .before .before .before .before .before .before .before .before .args .level) (c .before .before .before .before .before .before .before .before .before .before .before .before .before .before .before .before .before .before .before .args .o) (c .before .before .before .before .before .before .before .before .before .before .before .before .before .own .result) (c .before .before .before .before .before .before .before .before .before .before .before .before .octet .result) (c .before .before .before .before .before .before .before .before .before .before .before .before .before .before .before .before .before .before .before .args .at) (c .before .before .before .before .before .before .before .before .before .before .before .before .before .before .before .before .before .before .before .args .to) (mode (c .before .before .before .before .before .before .before .before .before .before .before .before .before .before .before .before .before .before .before .args .marked)) (now (c .before .before .before .before .before .before .before .before .before .before .before .before .before .before .before .before .before .before .before .args .m)) (now (c .before .before .before .before .before .before .before .before .before .before .before .before .before .before .before .before .before .before .before .args .buf)) (c .before .before .before .before .before .before .before .before .before .before .locate .last .1 .1 .1 .1 .1 .1 .1 .1 .0) (c .before .before .before .before .before .before .before .before .before .before .before .before .before .before .before .before .before .before .before .pre .1 .6) (c .before .before .before .before .before .before .before .before .before .before .before .before .before .before .before .before .before .before .before .pre .1 .2) (c .before .before .before .before .before .before .before .before .before .before .before .before .before .own .ensures .0) (c .before .before .before .before .before .before .before .before .before .before .before .before .octet .ensures .0) _ (c .before .before .before .before .before .before .before .before .before .before .locate .ensures) in omega (arith, w .room, (c .before .before .before .before .before .before .before .before .before .before .before .before .before .before .before .before .before .before .before .pre .1 .6) .small))  -- place-set-add-from
     (λ c. search needs)  -- place-set-slice-aggregate-place-members
-    (λ c κs. let s = c .before .before .before .before .before .before .before .before .before .before .before .before .before .before .before .before .before .before .before .before .before .before .before .before in let scan′ = c .before .before .before .before .before .before .before .before .before .before .before .before .before .before .before .any-order in let own′ = c .before .before .before .before .before .before .before .before .before .before .before .before .before .before .before .before .before .before .own in let octet′ = c .before .before .before .before .before .before .before .before .before .before .before .before .before .before .before .before .before .octet in let S = as-noted (now (s .args .table)) (now (s .args .offsets)) (s .args .level) (s .args .o) (own′ .result) (octet′ .result) (s .args .at) (s .args .to) (mode (s .args .marked)) (now (s .args .m)) (now (s .args .buf)) (scan′ .last .1 .1 .1 .1 .1 .1 .1 .1 .1 .0) (s .pre .1 .6) (s .pre .1 .2) (own′ .ensures .0) (octet′ .ensures .0) _ (scan′ .ensures) in let w = whole (now (s .args .table)) (now (s .args .offsets)) (s .args .level) (s .args .o) (own′ .result) (octet′ .result) (s .args .at) (s .args .to) (mode (s .args .marked)) (now (s .args .m)) (now (s .args .buf)) (scan′ .last .1 .1 .1 .1 .1 .1 .1 .1 .1 .0) (s .pre .1 .6) (s .pre .1 .2) (own′ .ensures .0) (octet′ .ensures .0) _ (S .0) (S .1) _ _ (c .before .before .before .before .before .before .before .before .before .before .before .before .end .given .1) in let q = c .before .before .before .before .before .before .before .before .before .begin-node .kept .0 in let g = scan′ .kept .1 .1 .1 .1 .1 .1 .1 .1 .1 .0 in let f = set-few (now (s .args .table)) (now (s .args .offsets)) (s .args .level) (s .args .o) (own′ .result) (octet′ .result) (s .args .at) (s .args .to) (mode (s .args .marked)) (now (s .args .m)) (now (s .args .buf)) (scan′ .last .1 .1 .1 .1 .1 .1 .1 .1 .1 .0) (s .pre .1 .6) (s .pre .1 .2) (own′ .ensures .0) (octet′ .ensures .0) (s .pre .1 .1) in let v = rw length-set at (c .before .before .before .before .put-presence .kept .1 .1 .0) in (omega (arith, s .pre .0), ((s .pre .1 .0), omega (arith, own′ .ensures .1), omega arith, omega arith, (s .pre .1 .4), (s .pre .1 .5), omega (arith, (s .pre .1 .6) .small), w .right, omega (arith, w .room))))  -- place-set-place-members-requires
-    (λ c. let s = c .before .before .before .before .before .before .before .before .before .before .before .before in let scan′ = c .before .before .before .any-order in let own′ = c .before .before .before .before .before .before .own in let octet′ = c .before .before .before .before .before .octet in let S = as-noted (now (s .args .table)) (now (s .args .offsets)) (s .args .level) (s .args .o) (own′ .result) (octet′ .result) (s .args .at) (s .args .to) (mode (s .args .marked)) (now (s .args .m)) (now (s .args .buf)) (scan′ .last .1 .1 .1 .1 .1 .1 .1 .1 .1 .0) (s .pre .1 .6) (s .pre .1 .2) (own′ .ensures .0) (octet′ .ensures .0) _ (scan′ .ensures) in absurd (scans (now (s .args .table)) (now (s .args .offsets)) (s .args .level) (s .args .o) (own′ .result) (octet′ .result) (s .args .at) (s .args .to) (mode (s .args .marked)) (now (s .args .m)) (now (s .args .buf)) (scan′ .last .1 .1 .1 .1 .1 .1 .1 .1 .1 .0) (s .pre .1 .6) (s .pre .1 .2) (own′ .ensures .0) (octet′ .ensures .0) _ (S .0) (S .1) _ _ (c .enum-told .given .1)))  -- place-set-returns
+    (λ c κs. let w = whole (now (c .before .before .before .before .before .before .before .before .before .before .before .before .before .before .before .before .before .before .before .before .before .args .table)) (now (c .before .before .before .before .before .before .before .before .before .before .before .before .before .before .before .before .before .before .before .before .before .args .offsets)) (c .before .before .before .before .before .before .before .before .before .before .before .before .before .before .before .before .before .before .before .before .before .args .level) (c .before .before .before .before .before .before .before .before .before .before .before .before .before .before .before .before .before .before .before .before .before .args .o) (c .before .before .before .before .before .before .before .before .before .before .before .before .before .before .before .own .result) (c .before .before .before .before .before .before .before .before .before .before .before .before .before .before .octet .result) (c .before .before .before .before .before .before .before .before .before .before .before .before .before .before .before .before .before .before .before .before .before .args .at) (c .before .before .before .before .before .before .before .before .before .before .before .before .before .before .before .before .before .before .before .before .before .args .to) (mode (c .before .before .before .before .before .before .before .before .before .before .before .before .before .before .before .before .before .before .before .before .before .args .marked)) (now (c .before .before .before .before .before .before .before .before .before .before .before .before .before .before .before .before .before .before .before .before .before .args .m)) (now (c .before .before .before .before .before .before .before .before .before .before .before .before .before .before .before .before .before .before .before .before .before .args .buf)) (c .before .before .before .before .before .before .before .before .before .before .before .before .locate .last .1 .1 .1 .1 .1 .1 .1 .1 .0) (c .before .before .before .before .before .before .before .before .before .before .before .before .before .before .before .before .before .before .before .before .before .pre .1 .6) (c .before .before .before .before .before .before .before .before .before .before .before .before .before .before .before .before .before .before .before .before .before .pre .1 .2) (c .before .before .before .before .before .before .before .before .before .before .before .before .before .before .before .own .ensures .0) (c .before .before .before .before .before .before .before .before .before .before .before .before .before .before .octet .ensures .0) _ (c .before .before .before .before .before .before .before .before .before .before .before .before .locate .ensures) in let q = c .before .before .before .before .before .before .before .before .before .begin-node .kept .0 in let g = c .before .before .before .before .before .before .before .before .before .before .before .before .locate .kept .1 .1 .1 .1 .1 .1 .1 .1 .0 in let f = set-few (now (c .before .before .before .before .before .before .before .before .before .before .before .before .before .before .before .before .before .before .before .before .before .args .table)) (now (c .before .before .before .before .before .before .before .before .before .before .before .before .before .before .before .before .before .before .before .before .before .args .offsets)) (c .before .before .before .before .before .before .before .before .before .before .before .before .before .before .before .before .before .before .before .before .before .args .level) (c .before .before .before .before .before .before .before .before .before .before .before .before .before .before .before .before .before .before .before .before .before .args .o) (c .before .before .before .before .before .before .before .before .before .before .before .before .before .before .before .own .result) (c .before .before .before .before .before .before .before .before .before .before .before .before .before .before .octet .result) (c .before .before .before .before .before .before .before .before .before .before .before .before .before .before .before .before .before .before .before .before .before .args .at) (c .before .before .before .before .before .before .before .before .before .before .before .before .before .before .before .before .before .before .before .before .before .args .to) (mode (c .before .before .before .before .before .before .before .before .before .before .before .before .before .before .before .before .before .before .before .before .before .args .marked)) (now (c .before .before .before .before .before .before .before .before .before .before .before .before .before .before .before .before .before .before .before .before .before .args .m)) (now (c .before .before .before .before .before .before .before .before .before .before .before .before .before .before .before .before .before .before .before .before .before .args .buf)) (c .before .before .before .before .before .before .before .before .before .before .before .before .locate .last .1 .1 .1 .1 .1 .1 .1 .1 .0) (c .before .before .before .before .before .before .before .before .before .before .before .before .before .before .before .before .before .before .before .before .before .pre .1 .6) (c .before .before .before .before .before .before .before .before .before .before .before .before .before .before .before .before .before .before .before .before .before .pre .1 .2) (c .before .before .before .before .before .before .before .before .before .before .before .before .before .before .before .own .ensures .0) (c .before .before .before .before .before .before .before .before .before .before .before .before .before .before .octet .ensures .0) (c .before .before .before .before .before .before .before .before .before .before .before .before .before .before .before .before .before .before .before .before .before .pre .1 .1) in let v = rw length-set at (c .before .before .before .before .put-presence .kept .1 .1 .0) in (omega (arith, c .before .before .before .before .before .before .before .before .before .before .before .before .before .before .before .before .before .before .before .before .before .pre .0), (c .before .before .before .before .before .before .before .before .before .before .before .before .before .before .before .before .before .before .before .before .before .pre .1 .0, omega (arith, c .before .before .before .before .before .before .before .before .before .before .before .before .before .before .before .own .ensures .1), omega arith, omega arith, c .before .before .before .before .before .before .before .before .before .before .before .before .before .before .before .before .before .before .before .before .before .pre .1 .4, c .before .before .before .before .before .before .before .before .before .before .before .before .before .before .before .before .before .before .before .before .before .pre .1 .5, omega (arith, (c .before .before .before .before .before .before .before .before .before .before .before .before .before .before .before .before .before .before .before .before .before .pre .1 .6) .small), w .right, omega (arith, w .room))))  -- place-set-place-members-requires
     (λ c. c .before .before .place-members .kept .1 .1 .1 .1 .1 .1 .1 .1 .0 ∙ c .before .before .before .before .before .before .before .put-presence .kept .1 .1 .0 ∙ rw length-set (c .before .before .before .before .before .before .before .before .before .before .before .before .begin-node .kept .0))  -- place-set-same-length
-    (λ c. let s = c .before .before .before .before .before .before .before .before .before .before .before .before .before .before .before .before .before .before .before .before .before .before .before .before .before .before .before in let scan′ = c .before .before .before .before .before .before .before .before .before .before .before .before .before .before .before .before .before .before .any-order in let own′ = c .before .before .before .before .before .before .before .before .before .before .before .before .before .before .before .before .before .before .before .before .before .own in let octet′ = c .before .before .before .before .before .before .before .before .before .before .before .before .before .before .before .before .before .before .before .before .octet in let S = as-noted (now (s .args .table)) (now (s .args .offsets)) (s .args .level) (s .args .o) (own′ .result) (octet′ .result) (s .args .at) (s .args .to) (mode (s .args .marked)) (now (s .args .m)) (now (s .args .buf)) (scan′ .last .1 .1 .1 .1 .1 .1 .1 .1 .1 .0) (s .pre .1 .6) (s .pre .1 .2) (own′ .ensures .0) (octet′ .ensures .0) _ (scan′ .ensures) in let placemembers′ = c .before .before .place-members in set-placed (now (s .args .table)) (now (s .args .offsets)) (s .args .level) (s .args .o) (own′ .result) (octet′ .result) (s .args .at) (s .args .to) (mode (s .args .marked)) (now (s .args .m)) (now (s .args .buf)) (scan′ .last .1 .1 .1 .1 .1 .1 .1 .1 .1 .0) (s .pre .1 .6) (s .pre .1 .2) (own′ .ensures .0) (octet′ .ensures .0) _ (S .0) (S .1) _ (whole (now (s .args .table)) (now (s .args .offsets)) (s .args .level) (s .args .o) (own′ .result) (octet′ .result) (s .args .at) (s .args .to) (mode (s .args .marked)) (now (s .args .m)) (now (s .args .buf)) (scan′ .last .1 .1 .1 .1 .1 .1 .1 .1 .1 .0) (s .pre .1 .6) (s .pre .1 .2) (own′ .ensures .0) (octet′ .ensures .0) _ (S .0) (S .1) _ _ (c .before .before .before .before .before .before .before .before .before .before .before .before .before .before .before .end .given .1)) _ _ _ _ (c .before .before .before .before .before .before .before .before .before .before .before .before .begin-node .ensures) (c .before .before .before .before .before .before .before .put-presence .ensures) (placemembers′ .ensures .1) (placemembers′ .ensures .0)))  -- place-set-returns-2
+    (λ c. set-placed (now (c .before .before .before .before .before .before .before .before .before .before .before .before .before .before .before .before .before .before .before .before .before .before .before .before .args .table)) (now (c .before .before .before .before .before .before .before .before .before .before .before .before .before .before .before .before .before .before .before .before .before .before .before .before .args .offsets)) (c .before .before .before .before .before .before .before .before .before .before .before .before .before .before .before .before .before .before .before .before .before .before .before .before .args .level) (c .before .before .before .before .before .before .before .before .before .before .before .before .before .before .before .before .before .before .before .before .before .before .before .before .args .o) (c .before .before .before .before .before .before .before .before .before .before .before .before .before .before .before .before .before .before .own .result) (c .before .before .before .before .before .before .before .before .before .before .before .before .before .before .before .before .before .octet .result) (c .before .before .before .before .before .before .before .before .before .before .before .before .before .before .before .before .before .before .before .before .before .before .before .before .args .at) (c .before .before .before .before .before .before .before .before .before .before .before .before .before .before .before .before .before .before .before .before .before .before .before .before .args .to) (mode (c .before .before .before .before .before .before .before .before .before .before .before .before .before .before .before .before .before .before .before .before .before .before .before .before .args .marked)) (now (c .before .before .before .before .before .before .before .before .before .before .before .before .before .before .before .before .before .before .before .before .before .before .before .before .args .m)) (now (c .before .before .before .before .before .before .before .before .before .before .before .before .before .before .before .before .before .before .before .before .before .before .before .before .args .buf)) (c .before .before .before .before .before .before .before .before .before .before .before .before .before .before .before .locate .last .1 .1 .1 .1 .1 .1 .1 .1 .0) (c .before .before .before .before .before .before .before .before .before .before .before .before .before .before .before .before .before .before .before .before .before .before .before .before .pre .1 .6) (c .before .before .before .before .before .before .before .before .before .before .before .before .before .before .before .before .before .before .before .before .before .before .before .before .pre .1 .2) (c .before .before .before .before .before .before .before .before .before .before .before .before .before .before .before .before .before .before .own .ensures .0) (c .before .before .before .before .before .before .before .before .before .before .before .before .before .before .before .before .before .octet .ensures .0) _ (whole (now (c .before .before .before .before .before .before .before .before .before .before .before .before .before .before .before .before .before .before .before .before .before .before .before .before .args .table)) (now (c .before .before .before .before .before .before .before .before .before .before .before .before .before .before .before .before .before .before .before .before .before .before .before .before .args .offsets)) (c .before .before .before .before .before .before .before .before .before .before .before .before .before .before .before .before .before .before .before .before .before .before .before .before .args .level) (c .before .before .before .before .before .before .before .before .before .before .before .before .before .before .before .before .before .before .before .before .before .before .before .before .args .o) (c .before .before .before .before .before .before .before .before .before .before .before .before .before .before .before .before .before .before .own .result) (c .before .before .before .before .before .before .before .before .before .before .before .before .before .before .before .before .before .octet .result) (c .before .before .before .before .before .before .before .before .before .before .before .before .before .before .before .before .before .before .before .before .before .before .before .before .args .at) (c .before .before .before .before .before .before .before .before .before .before .before .before .before .before .before .before .before .before .before .before .before .before .before .before .args .to) (mode (c .before .before .before .before .before .before .before .before .before .before .before .before .before .before .before .before .before .before .before .before .before .before .before .before .args .marked)) (now (c .before .before .before .before .before .before .before .before .before .before .before .before .before .before .before .before .before .before .before .before .before .before .before .before .args .m)) (now (c .before .before .before .before .before .before .before .before .before .before .before .before .before .before .before .before .before .before .before .before .before .before .before .before .args .buf)) (c .before .before .before .before .before .before .before .before .before .before .before .before .before .before .before .locate .last .1 .1 .1 .1 .1 .1 .1 .1 .0) (c .before .before .before .before .before .before .before .before .before .before .before .before .before .before .before .before .before .before .before .before .before .before .before .before .pre .1 .6) (c .before .before .before .before .before .before .before .before .before .before .before .before .before .before .before .before .before .before .before .before .before .before .before .before .pre .1 .2) (c .before .before .before .before .before .before .before .before .before .before .before .before .before .before .before .before .before .before .own .ensures .0) (c .before .before .before .before .before .before .before .before .before .before .before .before .before .before .before .before .before .octet .ensures .0) _ (c .before .before .before .before .before .before .before .before .before .before .before .before .before .before .before .locate .ensures)) _ _ _ _ (c .before .before .before .before .before .before .before .before .before .before .before .before .begin-node .ensures) (c .before .before .before .before .before .before .before .put-presence .ensures) (c .before .before .place-members .ensures .1) (c .before .before .place-members .ensures .0)))  -- place-set-returns
     λ t. place-value-lts.spec (
       offset-reads.Asked,
       offset-reads.Learnt,
