@@ -28,11 +28,9 @@ use Rattle.reader.specs.declared.answer.Measured.the-variants.{Done}
 use Rattle.reader.specs.declared.search.Found.{Found}
 use Rattle.reader.specs.declared.search.Found.the-variants.{Nothing, At}
 use Rattle.reader.proofs.Told.{left-at}
-use Rattle.reader.proofs.Coded.{count-other}
 use Rattle.reader.proofs.Placing.{presence-length}
 use Rattle.reader.proofs.Begun.{not-begun, is-begun}
 use Rattle.reader.proofs.Turns.{its-members, scanned, written-length, count-few, members-written}
-use Rattle.reader.proofs.Rests.{plain-body}
 
 -- the contents of the SET at o
 form : formOf 17 ≡ FMembers
@@ -137,11 +135,3 @@ module _ {tb offs fs : List ℕ} (R : Ready tb offs fs) (ob : Octets tb) (m : Li
       go : (x : Found) → searchIn (look tb offs) 129 t code ≡ x → begun (look tb offs) t (drop at m) ≡ b
       go Nothing e = not-begun R ob m om at t code ec Nothing (sym e) refl ∙ sym (eb ∙ ap found e)
       go (At u d) e = is-begun R ob m om at t code ec (At u d) (sym e) u d refl ∙ sym (eb ∙ ap found e)
-
--- a simple kind with at most one tag has no explicit tag
-pub no-tags : (tb : List ℕ) (o k c : ℕ) → k ≡ getD tb (o + 2) 0 → c ≡ getD tb (o + 3) 0 → formOf k ≡ FSimple → c < 2 → length (explicit (recordAt tb o)) ≡ 0
-unfolding isChoice
-no-tags tb o k c ek ec es h =
-    let (q, e) = plain-body [] 0 k (rw es tt) in
-    let x = count-other tb o k c ek ec {r = choiceOf k} refl (rw e refl) in
-    sym x ∙ omega arith

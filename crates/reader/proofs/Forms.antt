@@ -42,6 +42,7 @@ use Rattle.reader.specs.Writing.{IsDone, written, writtenAll, counts, le
 use Rattle.reader.specs.declared.length.Length.{Length}
 use Rattle.reader.specs.declared.length.Length.the-variants.{Definite, Indefinite, Refused as NoLength}
 use Rattle.reader.proofs.Done.{header-definite, header-indefinite, header-none}
+use Rattle.reader.proofs.Plain.{IsSimple}
 
 -- contents c of a simple kind, with s behind them; l octets are left where the item begins
 unfoldable pub readPlain : Body → ℕ → List ℕ → List ℕ → Answer Value
@@ -87,13 +88,6 @@ listed-small b o p (suc n) k e =
     test (eqb (two b p) k)
     (λ f. let g = eqb-true (two b p) k f in omega (arith, o p, o (p + 1)))
     λ f. listed-small b o (p + 2) n k (rw f at e)
-
--- contents of a simple kind that can be read
-abbrev pub IsSimple : Form → Type 0
-IsSimple FSimple = Unit {0}
-IsSimple FMembers = ⊥
-IsSimple FOf = ⊥
-IsSimple FChoice = ⊥
 
 module _ (b : List ℕ) (o : Octets b) (p l : ℕ) (c s : List ℕ) where
   abbrev pub Leafy : ℕ → Type 0

@@ -5,6 +5,7 @@ pub mod Integers
 pub mod Searching
 pub mod Simple
 pub mod Coded
+pub mod Plain
 pub mod Placing
 pub mod Done
 pub mod Forms
@@ -20,6 +21,7 @@ pub mod Arriving
 pub mod Measuring
 pub mod Rests
 pub mod Spans
+pub mod Spanned
 pub mod Rows
 pub mod Runs
 pub mod Bodies

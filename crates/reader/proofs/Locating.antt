@@ -29,7 +29,7 @@ use Rattle.reader.specs.declared.members.Next.{Next}
 use Rattle.reader.specs.declared.members.Next.the-variants.{Unknown, Member as MemberAt}
 use Rattle.reader.proofs.Done.{done-of, not-awaited-undone}
 use Rattle.reader.proofs.Turns.{Came}
-use Rattle.reader.proofs.Rests.{told-not}
+use Rattle.reader.proofs.Told.{told-not}
 use Rattle.reader.proofs.Arriving.{unawaited-then, Comes, Begins, next-unknown, InSet, set-none, set-ended, set-on, set-step, set-broken, set-next}
 use Rattle.reader.proofs.Skipped.{value-skips}
 

@@ -42,8 +42,10 @@ use Rattle.reader.specs.declared.place.Placed.{Placed}
 use Rattle.reader.specs.declared.wrap.Opened.{Opened}
 use Rattle.reader.specs.declared.wrap.Opened.the-variants.{Inside, Refused as NotOpened}
 use Rattle.reader.proofs.Done.{done-got, level-some, value-is, bare-is, opened, not-opened, header-definite, header-indefinite, header-none, in-part, not-headed}
-use Rattle.reader.proofs.Forms.{readPlain, IsSimple, leafy, read-by, the-item, item-choice}
+use Rattle.reader.proofs.Forms.{readPlain, leafy, read-by, the-item, item-choice}
 use Rattle.reader.proofs.Turns.{choose-found, choose-hit, choice-written}
+use Rattle.reader.proofs.Plain.{IsSimple, plain-body}
+use Rattle.reader.proofs.Told.{told-not}
 
 -- answers that differ in what was read alone
 data Alike {A B : Type 0} : Answer A → Answer B → Type 0 where
@@ -90,14 +92,6 @@ module _ {A B : Type 0} where
 pub told-done : {A : Type 0} (m : List ℕ) (f : A → ℕ) (a : A) (u : List ℕ) (r : Measured) (e n : ℕ) → r ≡ told m f (got a u) → r ≡ Done e n → e ≡ length m - length u
 unfolding told
 told-done m f a u r e n h d = cc
-
-abbrev IsMeasured : Measured → Type 0
-IsMeasured (Done e n) = Unit {0}
-IsMeasured (Refused c p) = ⊥
-
-pub told-not : {A : Type 0} (m : List ℕ) (f : A → ℕ) (a : A) (u : List ℕ) (r : Measured) (c p : ℕ) → r ≡ told m f (got a u) → r ≡ Refused c p → ⊥
-unfolding told
-told-not m f a u r c p h d = let i : IsMeasured r = rw h tt in rw d at i
 
 -- a value's rest is the message from some place on
 value-rest : (T : Table) (n t : ℕ) (m : List ℕ) (at : ℕ) → at ≤ length m → IsDone (readValue T n t (drop at m)) → rest (readValue T n t (drop at m)) ≡ drop (length m - length (rest (readValue T n t (drop at m)))) m
@@ -189,25 +183,6 @@ own-header i s code ec d = go (readIdentifier s) refl
         let f : codeOf j ≡ code = sym (rw e at ec) in
         test (same i j) (λ g. rw (e, eq-eqb (codeOf j) code f, g) refl) λ g. absurd (rw (e, g) at d)
     go (refused c l) e = absurd (rw e at d)
-
--- kinds that are simple
-abbrev pub Plainly : List ℕ → ℕ → ℕ → Type 0
-Plainly b p k = IsSimple (formOf k) → (q : Simple) × (bodyAt b k p ≡ Plain q)
-
-pub plain-body : (b : List ℕ) (p k : ℕ) → Plainly b p k
-unfolding formOf bodyAt
-plain-body b p k =
-    at-kind k 1 (Plainly b p) (λ h. (_, refl)) λ e₁.
-    at-kind k 2 (Plainly b p) (λ h. (_, refl)) λ e₂.
-    at-kind k 3 (Plainly b p) (λ h. (_, refl)) λ e₃.
-    at-kind k 4 (Plainly b p) (λ h. (_, refl)) λ e₄.
-    at-kind k 5 (Plainly b p) (λ h. (_, refl)) λ e₅.
-    at-kind k 10 (Plainly b p) (λ h. (_, refl)) λ e₁₀.
-    at-kind k 16 (Plainly b p) (λ h. absurd h) λ e₁₆.
-    at-kind k 17 (Plainly b p) (λ h. absurd h) λ e₁₇.
-    at-kind k 48 (Plainly b p) (λ h. absurd h) λ e₄₈.
-    at-kind k 49 (Plainly b p) (λ h. absurd h) λ e₄₉.
-    λ h. absurd (rw (e₁, e₂, e₃, e₄, e₅, e₁₀, e₁₆, e₁₇, e₄₈, e₄₉) at h)
 
 plain-item : (T : Table) (r : ℕ → List ℕ → Answer Value) (i s : List ℕ) (code : ℕ) (x : Body) (q : Simple) → x ≡ Plain q → code ≡ peeked (readIdentifier s) → IsDone (readKind T r i x s) → readKind T r i x s ≡ plainBy code x s
 unfolding readKind readPrimitive plainBy

@@ -388,3 +388,12 @@ module _ (g : Value → ℕ) (m : List ℕ) (at : ℕ) (h : at ≤ length m) (k 
   pub missing-more : r ≡ More → told m g (notAwaited (drop at m)) ≡ told m g (missing k (drop at m))
   unfolding missing
   missing-more d = rw (at-more {A = Value} (λ u. refused 24 (length (drop at m))) (λ _. notAwaited (drop at m)) m at h k r e d .0)
+
+-- an answer of measuring that says done
+abbrev IsMeasured : Measured → Type 0
+IsMeasured (Done e n) = Unit {0}
+IsMeasured (Refused c p) = ⊥
+
+pub told-not : {A : Type 0} (m : List ℕ) (f : A → ℕ) (a : A) (u : List ℕ) (r : Measured) (c p : ℕ) → r ≡ told m f (got a u) → r ≡ Refused c p → ⊥
+unfolding told
+told-not m f a u r c p h d = let i : IsMeasured r = rw h tt in rw d at i

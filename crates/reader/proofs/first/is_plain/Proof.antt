@@ -2,7 +2,7 @@ use mathlib.Core.Bool.{false≢true}
 use mathlib.Core.Path.{_≡_, sym, _∙_}
 use borrow.Author.Tests.{ltb-true}
 use denote.Ref.{now}
-use Rattle.reader.proofs.Bodies.{no-tags}
+use Rattle.reader.proofs.Plain.{no-tags}
 use borrow.Author.Needs.{needs}
 use Rattle.reader.proofs.first.is_plain.Statement.{statement}
 use Rattle.reader.proofs.first.is_plain.Tie as tie

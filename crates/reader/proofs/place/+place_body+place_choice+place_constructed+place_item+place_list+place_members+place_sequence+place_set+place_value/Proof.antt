@@ -16,7 +16,8 @@ use Rattle.reader.specs.Codes.{peeked}
 use Rattle.reader.proofs.Records.{few-tags, shaped-at}
 use Rattle.reader.proofs.Turns.{choose-first, choose-miss, choose-end, Left, left-none, left-end, left-skip, left-head, left-take}
 use Rattle.reader.proofs.Rests.{some-level, within, must-open, must-close, closed-placed, as-choice, as-plain, as-members, as-of, plain-value, chosen-room, chosen-fits, chosen-placed}
-use Rattle.reader.proofs.Spans.{span-within, span-must, span-fits, span-placed}
+use Rattle.reader.proofs.Spans.{span-within}
+use Rattle.reader.proofs.Spanned.{span-must, span-fits, span-placed}
 use Rattle.reader.proofs.Rows.{Row, row-none, row-miss, row-fits, row-hit, members-room, sequence-closed, sequence-open}
 use Rattle.reader.proofs.Runs.{Run, run-none, run-broken, run-fits, run-further, run-turn, elements-room, list-placed}
 use Rattle.reader.proofs.Bodies.{set-few, whole, set-placed, is-list, starts-begun}
