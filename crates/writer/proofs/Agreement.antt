@@ -58,7 +58,7 @@ kind-of b k p =
 abbrev NodeKindAt : List ℕ → ℕ → ℕ → Type 0
 NodeKindAt v p k = 0 < ownEnd k v p → nodeKind (nodeOf k v p) ≡ k
 
-node-kind : (k : ℕ) (v : List ℕ) (p : ℕ) → NodeKindAt v p k
+pub node-kind : (k : ℕ) (v : List ℕ) (p : ℕ) → NodeKindAt v p k
 unfolding nodeOf leafOf nodeKind leafKind ownEnd
 node-kind k v p =
     at k 1 (NodeKindAt v p) (λ h. refl) λ e₁.

@@ -1,37 +1,36 @@
 -- The judge at a node: its own octets, its record, and what stands below it.
 -- Assumes nothing.
-use mathlib.Core.Bool.{Bool, true, false, not, _&&_, false≢true}
-use mathlib.Core.List.{List, [], _∷_, _++_}
-use mathlib.Core.Logic.{_⊎_, inl, inr, ⊎-elim}
+use mathlib.Core.Bool.{Bool, true, false, _&&_, false≢true}
+use mathlib.Core.List.{List, []}
+use mathlib.Core.Logic.{_⊎_, ⊎-elim}
 use mathlib.Core.Option.{Option}
 use mathlib.Core.Path.{_≡_, refl, sym, ap, _∙_}
 use Prim.Native.Nat.{ℕ, zero, suc, _+_, _-_, _*_, _≤_, _<_}
 use native.Mathlib.Omega.{arith}
-use borrow.Author.Tests.{eq-eqb, ne-eqb, eqb-true, eqb-false, ltb-true, ltb-false}
+use borrow.Author.Tests.{ne-eqb, eqb-true, eqb-false, ltb-true, ltb-false}
 use lib.Dec.{ltb, eqb}
 use lib.ListN.{length, getD, drop, length-drop}
 use Rattle.octets.specs.Answer.{Answer, got, refused, then, if, got-value, refused≢got}
-use Rattle.octets.specs.Lists.{joined}
 use Rattle.octets.specs.Numbers.{two}
 use Rattle.octets.specs.Tests.{test}
 use Rattle.octets.proofs.Lists.{both}
-use Rattle.table.specs.Syntax.{Tag, Member, Simple, Boolean, Integer, BitString, OctetString, Null, Enumerated, Body, Plain, Sequence, Set, SequenceOf, SetOf, Choice, Record, Table, isChoice, constructed}
+use Rattle.table.specs.Syntax.{Boolean, Integer, BitString, OctetString, Null, Enumerated, Body, Plain, Sequence, Set, SequenceOf, SetOf, Choice, Record, Table, isChoice, constructed}
 use Rattle.table.specs.Octets.{kind}
 use Rattle.table.specs.Rules.{members}
-use Rattle.table.specs.Reading.{everyAt, membersAt, numbersAt, tagsAt, bodyAt, ownAt, recordAt, look}
+use Rattle.table.specs.Reading.{everyAt, membersAt, tagsAt, bodyAt, ownAt, recordAt, look}
 use Rattle.table.proofs.Own.{at}
-use Rattle.coding.specs.Value.{Leaf, boolean, integer, bits, string, null, enumerated, Value, leaf, sequence, set, sequenceOf, setOf, choice, slots, bag}
+use Rattle.coding.specs.Value.{Leaf, boolean, integer, bits, string, null, enumerated, Value, sequence, set, sequenceOf, setOf, choice, slots, bag}
 use Rattle.coding.specs.Content.{encode}
 use Rattle.ber.specs.Item.{item}
 use Rattle.coding.specs.Tags.{own, explicit}
-use Rattle.coding.specs.Form.{element, alternatives, formMembers, formElements, formBody, wrap, formAt}
+use Rattle.coding.specs.Form.{element, alternatives, formBody, wrap, formAt}
 use Rattle.coding.specs.Judging.{Node, a-leaf, a-sequence, a-set, a-sequence-of, a-set-of, a-choice, flags, leafKind, nodeKind, agreeing, counts, agrees, readNode, judgeMembers, judgeElements, judgeBelow, judgeValue}
-use Rattle.writer.specs.Nodes.{ownEnd, endAt, leafOf, nodeOf, nodeAt}
+use Rattle.writer.specs.Nodes.{endAt, leafOf, nodeOf, nodeAt}
 use Rattle.writer.specs.Frames.{cap, framed, Tagged}
 use Rattle.writer.specs.Told.{told, membersForm, elementsForm, contentsForm}
 use Rattle.writer.specs.declared.judge.Judged.{Judged}
 use Rattle.writer.specs.declared.judge.Judged.the-variants.{Done, Refused}
-use Rattle.writer.proofs.Agreement.{kind-of, agreeing-long, own-shaped}
+use Rattle.writer.proofs.Agreement.{kind-of, agreeing-long}
 use Rattle.writer.proofs.Frames.{frames, wrapped-choice, wrapped-item, framed-length}
 use Rattle.writer.proofs.Reading.{Reads, bad, good, node-reads}
 use Rattle.writer.proofs.Judging.{done, no, JudgedMembers, JudgedElements}
@@ -286,7 +285,7 @@ pub value-below : (T : Table) (t : ℕ) (v : List ℕ) (p n : ℕ) → p ≤ len
 unfolding judgeValue then if
 value-below T t v p n h e z g = let s : n ≡ suc (n - 1) = omega arith in rw (s, stands v p h e .is, g) (let q : suc (n - 1) - 1 ≡ n - 1 = omega arith in rw q refl)
 
-agreed-kind : (b : Body) (x : Node) → agrees b x ≡ true → kind b ≡ nodeKind x
+pub agreed-kind : (b : Body) (x : Node) → agrees b x ≡ true → kind b ≡ nodeKind x
 unfolding agrees
 agreed-kind b x e = sym (eqb-true (nodeKind x) (kind b) (both (eqb (nodeKind x) (kind b)) (counts b x) e .0))
 
@@ -303,9 +302,6 @@ positive r x e h = test (ltb 0 x) (λ t. ltb-true 0 x t) λ t. absurd (h (let k 
 
 pub end-within : (v : List ℕ) (p e : ℕ) → p ≤ length v → e ≡ endAt v p → 0 < e → (e ≤ length v) × (p + 3 ≤ e)
 end-within v p e h q k = let z = stands v p h (rw (← q) k) in (rw q (z .within), rw q (z .onward))
-
-pub own-end-at : (v : List ℕ) (p e k : ℕ) → k ≡ getD v (p + 2) 0 → e ≡ endAt v p → 0 < e → 0 < ownEnd k v (p + 3)
-own-end-at v p e k ek q h = rw ek (own-shaped v p (rw (← q) h))
 
 module _ (b os v : List ℕ) (t o p e n : ℕ) (h : p ≤ length v) (eo : o ≡ getD os t 65535) (ee : e ≡ endAt v p) (k : 0 < e) where
   some-end : 0 < endAt v p

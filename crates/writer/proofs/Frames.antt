@@ -1,12 +1,11 @@
 -- The items around the contents of a value: their length and their octets, by the tags of the record.
 -- Assumes nothing.
-use mathlib.Core.Bool.{Bool, true, false, not, _||_, _&&_, false≢true}
+use mathlib.Core.Bool.{Bool, true, false, _||_, false≢true}
 use mathlib.Core.List.{List, [], _∷_, _++_, map, append-assoc}
 use mathlib.Core.Path.{_≡_, refl, sym, ap, _∙_}
-use Prim.Native.Nat.{ℕ, zero, suc, _+_, _-_, _*_, _≤_, _<_, min}
-use native.Mathlib.Nat.{add-zero}
+use Prim.Native.Nat.{ℕ, zero, suc, _+_, _-_, _*_, _≤_, _<_}
 use native.Mathlib.Omega.{arith}
-use borrow.Author.Tests.{lt-ltb, le-ltb, leb-true, ltb-true, ltb-false}
+use borrow.Author.Tests.{leb-true, ltb-true, ltb-false}
 use lib.Dec.{ltb, leb}
 use lib.ListN.{length, getD, length-append}
 use lib.Seq.{sets}
@@ -14,17 +13,15 @@ use Rattle.octets.specs.Tests.{test}
 use Rattle.octets.specs.Lists.{all}
 use Rattle.octets.specs.Numbers.{two}
 use Rattle.octets.proofs.Lists.{both}
-use Rattle.ber.specs.Identifier.{identifier}
+use Rattle.ber.specs.Identifier.{leading, identifier}
 use Rattle.ber.specs.Length.{lengthOctets}
 use Rattle.ber.specs.Item.{item}
 use Rattle.table.specs.Syntax.{Tag, Body, Plain, Sequence, Set, SequenceOf, SetOf, Choice, Record, isChoice, constructed}
 use Rattle.table.specs.Reading.{tagsAt, recordAt}
-use Rattle.table.specs.Fields.{constructedOf}
-use Rattle.table.proofs.Fields.{constructed-of}
-use Rattle.coding.specs.Tags.{identifierOf, last, before, explicitTags, own, explicit}
+use Rattle.coding.specs.Tags.{identifierOf, last, before, explicitTags, explicit}
 use Rattle.coding.specs.Form.{wrap}
-use Rattle.writer.specs.Frames.{cap, identifierSize, lengthSize, framed, some, heads}
-use Rattle.writer.proofs.Headers.{identifier-length}
+use Rattle.writer.specs.Frames.{cap, identifierSize, lengthSize, framed, some, heads, Short}
+use Rattle.writer.proofs.Headers.{identifier-one, length-one, identifier-length}
 use Rattle.writer.proofs.Stores.{sets-append}
 
 pub cap-small : (n : ℕ) → n ≤ 8192 → cap n ≡ n
@@ -202,11 +199,56 @@ module _ (b : List ℕ) (o n k : ℕ) (c : Bool) (first : List ℕ) (to : ℕ) (
       let l = rw m at (S .long) in
       (omega arith, sym (rw m at (S .target)))
 
-pub heads-whole : (b : List ℕ) (o rk n k : ℕ) (c : Bool) → c ≡ constructedOf rk → rk ≡ getD b (o + 2) 0 → n ≡ getD b (o + 3) 0
+pub heads-whole : (b : List ℕ) (o n k : ℕ) (c : Bool) → c ≡ constructed (recordAt b o .body) → n ≡ getD b (o + 3) 0
     → heads (constructed (recordAt b o .body)) (recordAt b o .tags) k ≡ heads c (tagsAt b (o + 4) n) k
 unfolding recordAt
-heads-whole b o rk n k c ec er en = rw (constructed-of, ← er, ← ec, ← en) refl
+heads-whole b o n k c ec en = rw (← ec, ← en) refl
 
 pub classes-whole : (b : List ℕ) (o n : ℕ) → n ≡ getD b (o + 3) 0 → all (λ g. leb (g .class) 3) (recordAt b o .tags) ≡ true → all (λ g. leb (g .class) 3) (tagsAt b (o + 4) n) ≡ true
 unfolding recordAt
 classes-whole b o n e h = rw e h
+
+-- one tag of one octet, and a length of one octet
+module _ (b : List ℕ) (o k : ℕ) (S : Short b o k) where
+  low-number : two b (o + 4 + 1) ≡ getD b (o + 6) 0
+  low-number =
+      let e : o + 4 + 1 ≡ o + 5 = omega arith in
+      let f : o + 5 + 1 ≡ o + 6 = omega arith in
+      let h = S .high in
+      rw (e, f) (omega arith)
+
+  one-tag : recordAt b o .tags ≡ tagsAt b (o + 4) 1
+  unfolding recordAt
+  one-tag = rw (S .one) refl
+
+  pub short-size : k + 2 ≡ framed (recordAt b o .tags) k
+  unfolding tagsAt framed
+  short-size =
+      let i : identifierSize (getD b (o + 6) 0) ≡ 1 = ap length (identifier-one 0 true (getD b (o + 6) 0) (S .low)) in
+      let l : lengthSize k ≡ 1 = ap length (length-one k (S .little)) in
+      let h = S .little in
+      rw (one-tag, low-number, i, l) (omega arith)
+
+  pub short-heads : (c x : ℕ) → c ≡ getD b (o + 4) 0 → x ≡ getD b (o + 4 + 2) 0 → heads false (recordAt b o .tags) k ≡ (c * 64 + x) ∷ k ∷ []
+  unfolding tagsAt heads some framed leading
+  short-heads c x ec ex =
+      let e : o + 4 + 2 ≡ o + 6 = omega arith in
+      let g : x ≡ getD b (o + 6) 0 = rw e at ex in
+      let z : c * 64 + 0 + x ≡ c * 64 + x = omega arith in
+      rw (one-tag, low-number, ← g, ← ec, identifier-one c false x (rw (← g) at (S .low)), length-one k (S .little), z) refl
+
+  pub short-octet : (c x : ℕ) → c ≡ getD b (o + 4) 0 → x ≡ getD b (o + 4 + 2) 0 → all (λ g. leb (g .class) 3) (recordAt b o .tags) ≡ true → c * 64 + x < 256
+  unfolding tagsAt all
+  short-octet c x ec ex h =
+      let e : o + 4 + 2 ≡ o + 6 = omega arith in
+      let g : x ≡ getD b (o + 6) 0 = rw e at ex in
+      let k : getD b (o + 4) 0 ≤ 3 = leb-true (getD b (o + 4) 0) 3 (both _ _ (rw one-tag at h) .0) in
+      let l = S .low in
+      omega arith
+
+pub size-whole : (b : List ℕ) (o k : ℕ) → framed (tagsAt b (o + 4 + 3 * 0) (getD b (o + 3) 0 - 0)) k ≡ framed (recordAt b o .tags) k
+unfolding recordAt
+size-whole b o k =
+    let x : o + 4 + 3 * 0 ≡ o + 4 = omega arith in
+    let y : getD b (o + 3) 0 - 0 ≡ getD b (o + 3) 0 = omega arith in
+    rw (x, y) refl

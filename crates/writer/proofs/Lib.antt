@@ -13,4 +13,5 @@ pub mod Below
 pub mod Gathering
 pub mod Notes
 pub mod Putting
+pub mod Simple
 pub mod Written

@@ -1,14 +1,14 @@
 -- What is put: the form of an answer is what stands in front, then the form of what is still to be written.
 -- Assumes nothing.
-use mathlib.Core.Bool.{Bool, true, false, not, _&&_, _||_, false≢true}
+use mathlib.Core.Bool.{Bool, true, false, not, false≢true}
 use mathlib.Core.List.{List, [], _∷_, _++_}
 use mathlib.Core.Option.{Option, some, none}
 use mathlib.Core.Path.{_≡_, refl, sym, ap, subst, _∙_}
-use Prim.Native.Nat.{ℕ, zero, suc, _+_, _-_, _*_, _≤_, _<_}
+use Prim.Native.Nat.{ℕ, zero, suc, _+_, _-_, _≤_, _<_}
 use native.Mathlib.Nat.{add-zero}
 use native.Mathlib.Omega.{arith}
 use borrow.Author.Tests.{eq-eqb, ne-eqb, eqb-true, eqb-false, ltb-true}
-use lib.Dec.{ltb, leb, eqb}
+use lib.Dec.{leb, eqb}
 use lib.ListN.{length, getD, drop, length-append, length-drop}
 use lib.Seq.{sets}
 use Rattle.octets.specs.Answer.{Answer, got, refused, then, if, Holds, yields, refuses, got-holds}
@@ -16,18 +16,18 @@ use Rattle.octets.specs.Lists.{all, joined}
 use Rattle.octets.specs.Numbers.{two}
 use Rattle.octets.specs.Tests.{test}
 use Rattle.octets.proofs.Lists.{both}
-use Rattle.table.specs.Syntax.{Member, Simple, Boolean, Integer, BitString, OctetString, Null, Enumerated, Body, Plain, Sequence, Set, SequenceOf, SetOf, Choice, Table, isChoice, constructed}
+use Rattle.table.specs.Syntax.{Member, Boolean, Integer, BitString, OctetString, Null, Enumerated, Body, Plain, Sequence, Set, SequenceOf, SetOf, Choice, Table, isChoice, constructed}
 use Rattle.table.specs.Octets.{kind}
 use Rattle.table.specs.Rules.{members}
 use Rattle.table.specs.Reading.{everyAt, membersAt, bodyAt, ownAt, recordAt, look}
 use Rattle.table.proofs.Own.{at}
-use Rattle.coding.specs.Value.{Leaf, Value, leaf, sequence, set, sequenceOf, setOf, choice, slots, bag}
+use Rattle.coding.specs.Value.{Value, leaf, sequence, set, sequenceOf, setOf, choice, slots, bag}
 use Rattle.coding.specs.Content.{encode}
 use Rattle.coding.specs.Tags.{own, explicit}
 use Rattle.coding.specs.Form.{element, alternatives, formMembers, formElements, formBody, wrap, formAt}
 use Rattle.coding.specs.Judging.{Node, a-leaf, a-sequence, a-set, a-sequence-of, a-set-of, a-choice, flags, leafKind, nodeKind, agreeing, counts, agrees, readNode, judgeMembers, judgeElements, judgeBelow, judgeValue}
 use Rattle.coding.specs.Value.{boolean, integer, bits, string, null, enumerated}
-use Rattle.writer.specs.Nodes.{ownEnd, endAt, leafOf, nodeOf, nodeAt}
+use Rattle.writer.specs.Nodes.{endAt, leafOf, nodeOf, nodeAt}
 use Rattle.writer.specs.Frames.{cap, heads, Tagged}
 use Rattle.writer.specs.Told.{written, ended, IsDone, membersForm, elementsForm, contentsForm}
 use Rattle.writer.specs.Putting.{Fits, IsPut}
@@ -35,8 +35,8 @@ use Rattle.writer.specs.declared.put.Placed.{Placed}
 use Rattle.writer.proofs.Stores.{sets-append}
 use Rattle.writer.proofs.Frames.{cap-below, frames, wrapped-choice, wrapped-item, heads-wrap}
 use Rattle.writer.proofs.Reading.{Reads, bad, good, node-reads}
-use Rattle.writer.proofs.Agreement.{agreeing-long, own-shaped}
-use Rattle.writer.proofs.Gathering.{members-take, members-pass, elements-take, Behind, value-behind}
+use Rattle.writer.proofs.Agreement.{agreeing-long}
+use Rattle.writer.proofs.Gathering.{members-take, members-pass, elements-take, value-behind}
 
 -- U is written as y and then J, and ends where J ends
 pub record Split {A B : Type 0} (g : A → List ℕ) (U : Answer A) (y : List ℕ) (h : B → List ℕ) (J : Answer B) (v : List ℕ) : Type 0 where
@@ -531,19 +531,9 @@ module _ (T : Table) (n : ℕ) (b : List ℕ) (o : ℕ) (v : List ℕ) (p e k q 
     unfolding written contentsForm
     leaf-written = ap (written (contentsForm T n (recordAt b o .body))) leaf-below
 
-    leaf-ends : e ≤ length v → ended v Below-at ≡ e
+    pub leaf-ends : e ≤ length v → ended v Below-at ≡ e
     unfolding ended
     leaf-ends h = let l = length-drop e v in ap (ended v) leaf-below ∙ omega arith
-
-    pub leaf-put : (to : ℕ) (first last : List ℕ) (r : Placed) → e ≤ length v → r .end ≡ e → r .to ≡ to + length (encode (leafOf k v (p + 3))) → last ≡ sets first to (encode (leafOf k v (p + 3)))
-        → IsPut (contentsForm T n (recordAt b o .body)) Below-at v to first last r
-    leaf-put to first last r h re rt rb = record { ends = re ∙ sym (leaf-ends h); reaches = rw leaf-written rt; buffer = rw leaf-written rb }
-
-    pub leaf-fits : (to : ℕ) (buf : List ℕ) → Fits (contentsForm T n (recordAt b o .body)) Below-at to buf → to + length (encode (leafOf k v (p + 3))) ≤ length buf
-    leaf-fits to buf F = rw leaf-written at (F .room)
-
-pub leaf-shaped : (v : List ℕ) (p k e : ℕ) → k ≡ getD v (p + 2) 0 → e ≡ endAt v p → 0 < e → 0 < ownEnd k v (p + 3)
-leaf-shaped v p k e ek ee h = rw ek (own-shaped v p (rw (← ee) h))
 
 -- the loop over elements
 abbrev pub Elements : Table → ℕ → ℕ → List ℕ → ℕ → ℕ → ℕ → List ℕ → ℕ → ℕ → ℕ → List ℕ → Type 0
@@ -595,7 +585,7 @@ module _ (b offs : List ℕ) (n t : ℕ) (v : List ℕ) (at o e : ℕ) (h : at �
   abbrev Heads-of : List ℕ
   Heads-of = heads (constructed (recordAt b o .body)) (recordAt b o .tags) k
 
-  the-split : Split (formAt (look b offs) n t) (judgeValue (look b offs) n t (drop at v)) Heads-of (contentsForm (look b offs) (n - 1) (recordAt b o .body)) (judgeBelow (λ u w. judgeValue (look b offs) (n - 1) u w) (recordAt b o .body) (nodeAt v at) (drop e v)) v
+  pub the-split : Split (formAt (look b offs) n t) (judgeValue (look b offs) n t (drop at v)) Heads-of (contentsForm (look b offs) (n - 1) (recordAt b o .body)) (judgeBelow (λ u w. judgeValue (look b offs) (n - 1) u w) (recordAt b o .body) (nodeAt v at) (drop e v)) v
   the-split = value-split b offs n t v at o e h eo ee (F .done) k g (F .short) size-is
 
   pub head-fits : to + length Heads-of ≤ length buf

@@ -3,9 +3,9 @@
 use mathlib.Core.Bool.{Bool, true, false, not, _||_}
 use mathlib.Core.List.{List, [], _∷_, _++_}
 use mathlib.Core.Path.{_≡_}
-use Prim.Native.Nat.{ℕ, zero, suc, _+_, _≤_, min}
+use Prim.Native.Nat.{ℕ, zero, suc, _+_, _<_, _≤_, min}
 use lib.Dec.{ltb, leb}
-use lib.ListN.{length}
+use lib.ListN.{length, getD}
 use Rattle.octets.specs.Lists.{all}
 use Rattle.ber.specs.Identifier.{identifier}
 use Rattle.ber.specs.Length.{lengthOctets}
@@ -40,3 +40,11 @@ heads c (g ∷ gs) k = identifier (g .class) (some gs || c) (g .number) ++ (leng
 pub record Tagged (T : Table) : Type 0 where
   pub some-tag : (t : ℕ) → T t .tags ≡ [] → isChoice (T t .body) ≡ true
   pub classes : (t : ℕ) → all (λ g. leb (g .class) 3) (T t .tags) ≡ true
+
+-- the record at o has one tag, and its identifier and the length of k octets are of one octet each
+pub record Short (b : List ℕ) (o k : ℕ) : Type 0 where
+  pub there : o + 7 ≤ length b
+  pub one : getD b (o + 3) 0 ≡ 1
+  pub high : getD b (o + 5) 0 ≡ 0
+  pub low : getD b (o + 6) 0 < 31
+  pub little : k < 128

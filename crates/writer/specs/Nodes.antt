@@ -2,7 +2,8 @@
 -- Assumes nothing.
 use mathlib.Core.Bool.{Bool, true, false, not}
 use mathlib.Core.List.{List, [], _∷_}
-use Prim.Native.Nat.{ℕ, zero, suc, _+_, _-_, _*_, _/_, _^_}
+use mathlib.Core.Path.{_≡_}
+use Prim.Native.Nat.{ℕ, zero, suc, _+_, _-_, _*_, _/_, _^_, _≤_}
 use lib.Dec.{ltb, leb, eqb}
 use lib.ListN.{length, getD, take, drop}
 use Rattle.octets.specs.Tests.{if}
@@ -96,3 +97,8 @@ nodeOf k v p =
 -- the node at a place
 abbrev pub nodeAt : List ℕ → ℕ → Node
 nodeAt v at = nodeOf (getD v (at + 2) 0) v (at + 3)
+
+-- whether the mark of a node is at a place, and its kind behind it
+pub record Marked (v : List ℕ) (at : ℕ) (r : Bool) : Type 0 where
+  pub yes : r ≡ true → (at + 3 ≤ length v) × (endAt v at ≡ ownEnd (getD v (at + 2) 0) v (at + 3))
+  pub no : r ≡ false → endAt v at ≡ 0

@@ -1,35 +1,83 @@
 // The contents octets of the simple kinds.
 ghost use mathlib.Core.Path.{_≡_};
 ghost use Prim.Native.Nat.{_<_, _≤_, _+_};
+ghost use lib.IntN.{pos};
 ghost use lib.ListN.{length, take, drop};
 ghost use lib.Seq.{sets};
+ghost use Rattle.octets.specs.Numbers.{two};
+ghost use Rattle.ber.specs.Integer.{fewestOf};
 ghost use Rattle.coding.specs.Content.{encode};
 ghost use Rattle.writer.specs.Nodes.{ownEnd, leafOf};
+ghost use Rattle.writer.specs.Leaves.{Measures};
 use octets::number;
 use octets::octet;
 
-// How many contents octets the leaf of kind k has whose own part is at p.
-pub fn size(k: usize, v: &[u8], p: usize) -> usize
-    requires { ⌜ (p < 20000) × (0 < ownEnd k (now v) p) ⌝ }
-    ensures { λ r. ⌜ (r ≡ length (encode (leafOf k (now (v .entry)) p))) × (r < 65536) ⌝ }
+// Where the own part of a leaf ends, and how many contents octets it has; an end of 0 if it is not shaped.
+pub struct Extent {
+    pub end: usize,
+    pub size: usize,
+}
+
+// How many octets a number of two octets has as an integer.
+fn number_size(n: usize) -> usize
+    requires { ⌜ n < 65536 ⌝ }
+    ensures { λ r. ⌜ (r ≡ length (fewestOf (pos n))) × (r < 4) ⌝ }
 {
-    if k == 1 {
+    if n < 128 {
         return 1;
     }
+    if n < 32768 {
+        return 2;
+    }
+    3
+}
+
+// The leaf of kind k whose own part is at p.
+pub fn measure(k: usize, v: &[u8], p: usize) -> Extent
+    requires { ⌜ (p < 20000) × (k < 16) ⌝ }
+    ensures { λ r. ⌜ Measures k (now (v .entry)) p r ⌝ }
+{
+    if k == 1 {
+        let end = crate::node::boolean_end(v, p);
+        return Extent { end, size: 1 };
+    }
     if k == 2 {
-        let e = p + 8;
-        return crate::integer::size(crate::integer::of(&v[p..e]));
+        let end = crate::node::fixed_end(v, p + 8);
+        if end == 0 {
+            return Extent { end: 0, size: 0 };
+        }
+        let a = crate::integer::start(&v[p..end]);
+        return Extent { end, size: 8 - a };
     }
     if k == 3 {
-        return 1 + (number(v, p) + 7) / 8;
+        let end = crate::node::bits_end(v, p);
+        if end == 0 {
+            return Extent { end: 0, size: 0 };
+        }
+        return Extent {
+            end,
+            size: end - p - 1,
+        };
     }
     if k == 4 {
-        return number(v, p);
+        let end = crate::node::string_end(v, p);
+        if end == 0 {
+            return Extent { end: 0, size: 0 };
+        }
+        return Extent {
+            end,
+            size: end - p - 2,
+        };
     }
     if k == 5 {
-        return 0;
+        return Extent { end: p, size: 0 };
     }
-    crate::integer::size(number(v, p) as i64)
+    if k == 10 {
+        let end = crate::node::fixed_end(v, p + 2);
+        let size = number_size(number(v, p));
+        return Extent { end, size };
+    }
+    Extent { end: 0, size: 0 }
 }
 
 // Copies n octets of v from p on.
@@ -47,36 +95,60 @@ fn copy(v: &[u8], p: usize, n: usize, buf: &mut [u8], to: usize) -> usize
     to + n
 }
 
-// The contents octets of the leaf of kind k whose own part is at p.
-pub fn put(k: usize, v: &[u8], p: usize, buf: &mut [u8], to: usize) -> usize
-    requires { ⌜ (p < 20000) × (0 < ownEnd k (now v) p) × (to + length (encode (leafOf k (now v) p)) ≤ length (now buf)) ⌝ }
-    ensures { λ r. ⌜ (r ≡ to + length (encode (leafOf k (now (v .entry)) p))) × (now (buf .exit) ≡ sets (now (buf .entry)) to (encode (leafOf k (now (v .entry)) p))) ⌝ }
+// The number of two octets at p, as an integer of `size` octets.
+fn put_number(size: usize, v: &[u8], p: usize, buf: &mut [u8], to: usize) -> usize
+    requires { ⌜ (p + 2 ≤ length (now v)) × (size ≡ length (fewestOf (pos (two (now v) p)))) × (to + size ≤ length (now buf)) ⌝ }
+    ensures { λ r. ⌜ (r ≡ p + 2) × (now (buf .exit) ≡ sets (now (buf .entry)) to (fewestOf (pos (two (now (v .entry)) p)))) ⌝ }
+{
+    let q = p + 1;
+    if size == 1 {
+        buf[to] = v[q];
+        return p + 2;
+    }
+    let b = to + 1;
+    if size == 2 {
+        buf[to] = v[p];
+        buf[b] = v[q];
+        return p + 2;
+    }
+    let c = to + 2;
+    buf[to] = 0;
+    buf[b] = v[p];
+    buf[c] = v[q];
+    p + 2
+}
+
+// The contents octets, `size` of them, of the leaf of kind k whose own part is at p; gives the end of that part.
+pub fn put(k: usize, size: usize, v: &[u8], p: usize, buf: &mut [u8], to: usize) -> usize
+    requires { ⌜ (p < 20000) × (k < 16) × (0 < ownEnd k (now v) p) × (size ≡ length (encode (leafOf k (now v) p))) × (to + size ≤ length (now buf)) ⌝ }
+    ensures { λ r. ⌜ (r ≡ ownEnd k (now (v .entry)) p) × (now (buf .exit) ≡ sets (now (buf .entry)) to (encode (leafOf k (now (v .entry)) p))) ⌝ }
 {
     if k == 1 {
         if octet(v, p) == 1 {
             buf[to] = 255;
-            return to + 1;
+            return p + 1;
         }
         buf[to] = 0;
-        return to + 1;
+        return p + 1;
     }
     if k == 2 {
-        let e = p + 8;
-        return crate::integer::put(crate::integer::of(&v[p..e]), buf, to);
+        copy(v, p + 8 - size, size, buf, to);
+        return p + 8;
     }
     if k == 3 {
-        let n = number(v, p);
-        let size = (n + 7) / 8;
-        let spare = 8 * size - n;
+        let n = size - 1;
+        let spare = 8 * n - number(v, p);
         buf[to] = spare as u8;
         let next = to + 1;
-        return copy(v, p + 2, size, buf, next);
+        copy(v, p + 2, n, buf, next);
+        return p + 2 + n;
     }
     if k == 4 {
-        return copy(v, p + 2, number(v, p), buf, to);
+        copy(v, p + 2, size, buf, to);
+        return p + 2 + size;
     }
     if k == 5 {
-        return to;
+        return p;
     }
-    crate::integer::put(number(v, p) as i64, buf, to)
+    put_number(size, v, p, buf, to)
 }

@@ -1,6 +1,6 @@
 // The items around the contents of a value, by the tags of the record at o.
 ghost use mathlib.Core.Path.{_≡_};
-ghost use mathlib.Core.Bool.{true, _||_};
+ghost use mathlib.Core.Bool.{true, false, _||_};
 ghost use Prim.Native.Nat.{_<_, _≤_, _+_, _*_, _-_};
 ghost use lib.Dec.{ltb, leb};
 ghost use lib.ListN.{length, getD};
@@ -8,7 +8,7 @@ ghost use lib.Seq.{sets};
 ghost use Rattle.octets.specs.Lists.{all};
 ghost use Rattle.table.specs.Syntax.{constructed};
 ghost use Rattle.table.specs.Reading.{tagsAt, recordAt};
-ghost use Rattle.writer.specs.Frames.{cap, framed, heads};
+ghost use Rattle.writer.specs.Frames.{cap, framed, heads, Short};
 use octets::number;
 use octets::octet;
 use table::record;
@@ -51,13 +51,12 @@ fn built(i: usize, n: usize, last: bool) -> bool
     last
 }
 
-// Their identifier and length octets.
-pub fn put(table: &[u8], o: u16, inner: usize, buf: &mut [u8], to: usize) -> usize
-    requires { ⌜ (inner < 8194) × (all (λ g. leb (g .class) 3) (recordAt (now table) o .tags) ≡ true) × (to + length (heads (constructed (recordAt (now table) o .body)) (recordAt (now table) o .tags) inner) ≤ length (now buf)) ⌝ }
+// Their identifier and length octets; `last` says whether the innermost is constructed.
+pub fn put(table: &[u8], o: u16, inner: usize, last: bool, buf: &mut [u8], to: usize) -> usize
+    requires { ⌜ (inner < 8194) × (last ≡ constructed (recordAt (now table) o .body)) × (all (λ g. leb (g .class) 3) (recordAt (now table) o .tags) ≡ true) × (to + length (heads (constructed (recordAt (now table) o .body)) (recordAt (now table) o .tags) inner) ≤ length (now buf)) ⌝ }
     ensures { λ r. ⌜ (r ≡ to + length (heads (constructed (recordAt (now (table .entry)) o .body)) (recordAt (now (table .entry)) o .tags) inner)) × (now (buf .exit) ≡ sets (now (buf .entry)) to (heads (constructed (recordAt (now (table .entry)) o .body)) (recordAt (now (table .entry)) o .tags) inner)) ⌝ }
 {
     let n = record::tag_count(table, o);
-    let last = table::kind::constructed(record::kind(table, o));
     let mut i = 0;
     let mut at = to;
     while i < n {
@@ -71,4 +70,54 @@ pub fn put(table: &[u8], o: u16, inner: usize, buf: &mut [u8], to: usize) -> usi
         at = crate::length::put(inside, buf, at);
     }
     at
+}
+
+// Whether the record has one tag, and that and the length of contents of `inner` octets take an octet each.
+fn short(table: &[u8], o: u16, inner: usize) -> bool
+    ensures { λ r. ⌜ (r ≡ true → Short (now (table .entry)) o inner) ⌝ }
+{
+    let e = o as usize + 7;
+    if table.len() < e {
+        return false;
+    }
+    let a = o as usize + 3;
+    if table[a] != 1 {
+        return false;
+    }
+    let b = o as usize + 5;
+    if table[b] != 0 {
+        return false;
+    }
+    let c = o as usize + 6;
+    if 31 <= table[c] {
+        return false;
+    }
+    inner < 128
+}
+
+// The length of all items, the short ones first.
+pub fn leaf_size(table: &[u8], o: u16, inner: usize) -> usize
+    requires { ⌜ inner < 8194 ⌝ }
+    ensures { λ r. ⌜ (r ≡ framed (recordAt (now (table .entry)) o .tags) inner) × (r < 8194) ⌝ }
+{
+    if short(table, o, inner) {
+        return inner + 2;
+    }
+    size(table, o, 0, inner)
+}
+
+// The octets in front of the contents of a simple kind, the short ones first.
+pub fn leaf_put(table: &[u8], o: u16, inner: usize, buf: &mut [u8], to: usize) -> usize
+    requires { ⌜ (inner < 8194) × (constructed (recordAt (now table) o .body) ≡ false) × (all (λ g. leb (g .class) 3) (recordAt (now table) o .tags) ≡ true) × (to + length (heads false (recordAt (now table) o .tags) inner) ≤ length (now buf)) ⌝ }
+    ensures { λ r. ⌜ (r ≡ to + length (heads false (recordAt (now (table .entry)) o .tags) inner)) × (now (buf .exit) ≡ sets (now (buf .entry)) to (heads false (recordAt (now (table .entry)) o .tags) inner)) ⌝ }
+{
+    if short(table, o, inner) {
+        let p = o as usize + 4;
+        let first = octet(table, p) * 64 + octet(table, p + 2);
+        buf[to] = first as u8;
+        let next = to + 1;
+        buf[next] = inner as u8;
+        return to + 2;
+    }
+    put(table, o, inner, false, buf, to)
 }

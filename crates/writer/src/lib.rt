@@ -47,7 +47,7 @@ fn write_noted(
     requires { ⌜ Passes (look (now table) (now offsets)) (length (now offsets)) × (t < length (now offsets)) × (length (now value) ≤ 16384) × (length (now value) ≤ 3 * length (now lens)) ⌝ }
     ensures { λ r. ⌜ (r ≡ writeOutcome (look (now (table .entry)) (now (offsets .entry))) (length (now (offsets .entry))) t (now (value .entry)) (now (buf .entry)) .answer) × (now (buf .exit) ≡ writeOutcome (look (now (table .entry)) (now (offsets .entry))) (length (now (offsets .entry))) t (now (value .entry)) (now (buf .entry)) .buffer) ⌝ }
 {
-    match judge::value(table, offsets, t, value, 0, 24, lens) {
+    match judge::whole(table, offsets, t, value, lens) {
         Judged::Refused { cause, at } => Answer::Refused(Refusal::Value(cause_of(cause, at))),
         Judged::Done { end, size } => {
             if end < value.len() {
@@ -59,7 +59,7 @@ fn write_noted(
             if buf.len() < size {
                 return Answer::Refused(Refusal::Value(ValueCause::Room));
             }
-            put::value(table, offsets, t, value, 0, 24, lens, buf, 0);
+            put::whole(table, offsets, t, value, lens, buf);
             Answer::Done(size)
         }
     }

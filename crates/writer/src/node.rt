@@ -1,20 +1,19 @@
 // The nodes of a value: their shape, and whether they agree with a record.
 ghost use mathlib.Core.Path.{_≡_};
 ghost use Prim.Native.Nat.{_<_, _≤_, _+_, _^_, _/_};
-ghost use mathlib.Core.Bool.{_||_};
-ghost use lib.Dec.{ltb, eqb};
-ghost use lib.ListN.{length, getD};
+ghost use lib.Dec.{ltb};
+ghost use lib.ListN.{getD};
 ghost use Rattle.octets.specs.Lists.{all};
 ghost use Rattle.table.specs.Reading.{everyAt, numbersAt, membersAt, recordAt};
 ghost use Rattle.coding.specs.Content.{listed};
 ghost use Rattle.coding.specs.Judging.{flags, agreeing};
-ghost use Rattle.writer.specs.Nodes.{fixedEnd, booleanEnd, stringEnd, clearAt, bitsEnd, membersEnd, ownEnd, endAt, nodeAt};
+ghost use Rattle.writer.specs.Nodes.{fixedEnd, booleanEnd, stringEnd, clearAt, bitsEnd, membersEnd, ownEnd, endAt, nodeAt, Marked};
 use octets::number;
 use octets::octet;
 use table::kind::Form;
 
 // e, if v has so many octets; else 0.
-fn fixed_end(v: &[u8], e: usize) -> usize
+pub fn fixed_end(v: &[u8], e: usize) -> usize
     ensures { λ r. ⌜ r ≡ fixedEnd (now (v .entry)) e ⌝ }
 {
     if v.len() < e {
@@ -23,7 +22,7 @@ fn fixed_end(v: &[u8], e: usize) -> usize
     e
 }
 
-fn boolean_end(v: &[u8], p: usize) -> usize
+pub fn boolean_end(v: &[u8], p: usize) -> usize
     requires { ⌜ p < 20000 ⌝ }
     ensures { λ r. ⌜ r ≡ booleanEnd (now (v .entry)) p ⌝ }
 {
@@ -37,7 +36,7 @@ fn boolean_end(v: &[u8], p: usize) -> usize
     e
 }
 
-fn string_end(v: &[u8], p: usize) -> usize
+pub fn string_end(v: &[u8], p: usize) -> usize
     requires { ⌜ p < 20000 ⌝ }
     ensures { λ r. ⌜ r ≡ stringEnd (now (v .entry)) p ⌝ }
 {
@@ -77,7 +76,7 @@ fn clear(v: &[u8], p: usize, n: usize) -> bool
     last / unit * unit == last
 }
 
-fn bits_end(v: &[u8], p: usize) -> usize
+pub fn bits_end(v: &[u8], p: usize) -> usize
     requires { ⌜ p < 20000 ⌝ }
     ensures { λ r. ⌜ r ≡ bitsEnd (now (v .entry)) p ⌝ }
 {
@@ -174,22 +173,45 @@ fn own_end(k: usize, v: &[u8], p: usize) -> usize
     0
 }
 
+// Whether the octets of a node with its mark are there, to its kind.
+pub fn marked(v: &[u8], at: usize) -> bool
+    requires { ⌜ at ≤ 16384 ⌝ }
+    ensures { λ r. ⌜ Marked (now (v .entry)) at r ⌝ }
+{
+    if v.len() < at + 3 {
+        return false;
+    }
+    if octet(v, at) != 0x56 {
+        return false;
+    }
+    octet(v, at + 1) == 0x41
+}
+
 // Where the own part of the node at a place ends; 0 if it is not shaped.
 pub fn end(v: &[u8], at: usize) -> usize
     requires { ⌜ at ≤ 16384 ⌝ }
     ensures { λ r. ⌜ r ≡ endAt (now (v .entry)) at ⌝ }
 {
+    if !marked(v, at) {
+        return 0;
+    }
+    own_end(octet(v, at + 2), v, at + 3)
+}
+
+// The same of a node that is shaped and constructed.
+pub fn shaped_end(v: &[u8], at: usize) -> usize
+    requires { ⌜ (at ≤ 16384) × (0 < endAt (now v) at) × (16 ≤ getD (now v) (at + 2) 0) ⌝ }
+    ensures { λ r. ⌜ r ≡ endAt (now (v .entry)) at ⌝ }
+{
+    let k = octet(v, at + 2);
     let p = at + 3;
-    if v.len() < p {
-        return 0;
+    if k < 18 {
+        return p + 1 + octet(v, p);
     }
-    if octet(v, at) != 0x56 {
-        return 0;
+    if k < 50 {
+        return p + 2;
     }
-    if octet(v, at + 1) != 0x41 {
-        return 0;
-    }
-    own_end(octet(v, at + 2), v, p)
+    p + 1
 }
 
 // Whether x is one of the n numbers of two octets from p on.
@@ -209,16 +231,6 @@ fn lists(table: &[u8], p: usize, n: usize, x: usize) -> bool
     false
 }
 
-// Whether a member is present or optional, by its octets.
-fn allowed(mark: usize, optional: usize) -> bool
-    ensures { λ r. ⌜ r ≡ (eqb mark 1 || eqb optional 1) ⌝ }
-{
-    if mark == 1 {
-        return true;
-    }
-    optional == 1
-}
-
 // Whether the mandatory ones of the n members from p on are present; which are present says v, from q on.
 fn mandatory(table: &[u8], p: usize, n: usize, v: &[u8], q: usize) -> bool
     requires { ⌜ (p < 70000) × (n < 256) × (q < 20001) ⌝ }
@@ -228,9 +240,10 @@ fn mandatory(table: &[u8], p: usize, n: usize, v: &[u8], q: usize) -> bool
     let mut mark = q;
     let mut left = n;
     while 0 < left {
-        let optional = octet(table, at + 1);
-        if !allowed(octet(v, mark), optional) {
-            return false;
+        if octet(v, mark) != 1 {
+            if octet(table, at + 1) != 1 {
+                return false;
+            }
         }
         at += 2;
         mark += 1;
@@ -274,6 +287,21 @@ pub fn agrees(table: &[u8], o: u16, v: &[u8], at: usize) -> bool
             return false;
         }
         return mandatory(table, own + 1, count, v, p + 1);
+    }
+    true
+}
+
+// The same for a node of a simple kind k.
+pub fn suits(table: &[u8], o: u16, k: usize, v: &[u8], at: usize) -> bool
+    requires { ⌜ (at ≤ 16384) × (0 < endAt (now v) at) × (k ≡ getD (now v) (at + 2) 0) × (k < 16) ⌝ }
+    ensures { λ r. ⌜ r ≡ Rattle.coding.specs.Judging.agrees (recordAt (now (table .entry)) o .body) (nodeAt (now (v .entry)) at) ⌝ }
+{
+    if k != table::record::kind(table, o) {
+        return false;
+    }
+    if k == 10 {
+        let own = table::record::own(table, o);
+        return lists(table, own + 1, octet(table, own), number(v, at + 3));
     }
     true
 }

@@ -1,59 +1,57 @@
-use Prim.Native.Nat.{_/_}
-use Rattle.writer.proofs.Leaves.{bits-copy, string-copy}
-use mathlib.Core.Path.{_≡_, refl, sym, ap, _∙_}
+use mathlib.Core.Path.{refl, ap, _∙_}
 use native.Mathlib.Omega.{arith}
-use native.Mathlib.Numerals.{add-one}
-use Prim.Native.Nat.{ℕ, suc, _+_, _-_, _*_, _≤_, _<_, _^_}
-use Rattle.writer.proofs.Leaves.{part-length, part-eight, integer-within, bits-within, string-within, encode-boolean, encode-true, encode-false, encode-integer, encode-bits, encode-string, encode-null, encode-enumerated, bits-size, string-size, put-bits, put-string}
+use Prim.Native.Nat.{_+_, _-_, _*_}
 use lib.ListN.{length, length-set}
-use lib.IntN.{ℤ}
-use mir.Syntax.{w64}
-use mir.ValLaws.{toZ-ofZ, toZ-pos}
-use Rattle.ber.specs.Integer.{fewestOf}
+use Rattle.writer.proofs.Leaves.{encode-true, encode-false, end-boolean, end-integer, integer-there, integer-copied, bits-one, bits-there, end-bits, bits-copied, string-there, end-string, string-copied, end-null, null-copied, number-there, number-size, end-number, number-copied}
 use borrow.Author.Needs.{needs}
 use Rattle.writer.proofs.contents.put.Statement.{statement}
 use Rattle.writer.proofs.contents.put.Tie as tie
+use Rattle.writer.proofs.contents.put.Reads as reads
+use Rattle.writer.proofs.contents.put.Lts as lts
+use Rattle.octets.proofs.number.Reads as number-reads
+use Rattle.octets.proofs.octet.Reads as octet-reads
+use Rattle.writer.proofs.contents.copy.Reads as copy-reads
+use Rattle.writer.proofs.contents.put_number.Reads as put-number-reads
 
 pub put-spec : {M : Type 1} → statement M
 put-spec =
     tie.close
     (tie.spec
     (λ c κs. search needs)  -- octet-requires
-    (λ c. let h = rw (encode-true (c .before .before .before .before .before .args .k) (c .before .before .before .before .before .args .v .now) (c .before .before .before .before .before .args .p) _ (c .before .before .if1 .taken) (c .before .octet .ensures .0) (c .if2 .taken)) at (c .before .before .before .before .before .pre .2) in omega arith)  -- slice-write-buf
+    (λ c. let h = ap length (encode-true (c .before .before .before .before .before .args .k) (c .before .before .before .before .before .args .v .now) (c .before .before .before .before .before .args .p) _ (c .before .before .if1 .taken) (c .before .octet .ensures .0) (c .if2 .taken)) in omega (arith, c .before .before .before .before .before .pre .3, c .before .before .before .before .before .pre .4))  -- slice-write-buf
     (λ c. search needs)  -- add-result
     (λ c. search needs)  -- same-length
-    (λ c. rw (encode-true (c .before .before .before .before .before .args .k) (c .before .before .before .before .before .args .v .now) (c .before .before .before .before .before .args .p) _ (c .before .before .if1 .taken) (c .before .octet .ensures .0) (c .if2 .taken)) (refl, refl))  -- returns
-    (λ c. let h = rw (encode-false (c .before .before .before .before .before .args .k) (c .before .before .before .before .before .args .v .now) (c .before .before .before .before .before .args .p) _ (c .before .before .if1 .taken) (c .before .octet .ensures .0) (c .if2 .left)) at (c .before .before .before .before .before .pre .2) in omega arith)  -- slice-write-buf-2
+    (λ c. (end-boolean (c .before .before .before .before .before .args .k) (c .before .before .before .before .before .args .v .now) (c .before .before .before .before .before .args .p) (c .before .before .before .before .before .pre .2) (c .before .before .before .before .before .args .size) (c .before .before .before .before .before .pre .3) (c .before .before .if1 .taken), rw (encode-true (c .before .before .before .before .before .args .k) (c .before .before .before .before .before .args .v .now) (c .before .before .before .before .before .args .p) _ (c .before .before .if1 .taken) (c .before .octet .ensures .0) (c .if2 .taken)) refl))  -- returns
+    (λ c. let h = ap length (encode-false (c .before .before .before .before .before .args .k) (c .before .before .before .before .before .args .v .now) (c .before .before .before .before .before .args .p) _ (c .before .before .if1 .taken) (c .before .octet .ensures .0) (c .if2 .left)) in omega (arith, c .before .before .before .before .before .pre .3, c .before .before .before .before .before .pre .4))  -- slice-write-buf-2
     (λ c. search needs)  -- add-result-2
     (λ c. search needs)  -- same-length-2
-    (λ c. rw (encode-false (c .before .before .before .before .before .args .k) (c .before .before .before .before .before .args .v .now) (c .before .before .before .before .before .args .p) _ (c .before .before .if1 .taken) (c .before .octet .ensures .0) (c .if2 .left)) (refl, refl))  -- returns-2
-    (λ c. search needs)  -- add-e
-    (λ c. search needs)  -- sub-of
-    (λ c. search needs)  -- part-of-start
-    (λ c. let h = integer-within (c .before .before .before .before .args .k) (c .before .before .before .before .args .v .now) (c .before .before .before .before .args .p) (c .if3 .taken) (c .before .before .before .before .pre .1) in search needs)  -- part-of-end
-    (λ c κs. let k = part-eight (c .before .before .before .before .before .args .v .now) (c .before .before .before .before .before .args .p) (integer-within (c .before .before .before .before .before .args .k) (c .before .before .before .before .before .args .v .now) (c .before .before .before .before .before .args .p) (c .before .if3 .taken) (c .before .before .before .before .before .pre .1)) in (omega arith, omega arith))  -- of-requires
-    (λ c κs. rw (encode-integer (c .before .before .before .before .before .before .before .args .k) (c .before .before .before .before .before .before .before .args .v .now) (c .before .before .before .before .before .before .before .args .p) _ _ (c .before .before .before .if3 .taken) (toZ-ofZ w64 (c .before .of .result) (record { sfits = c .before .of .ok })) (c .before .of .ensures)) (c .before .before .before .before .before .before .before .pre .2))  -- put-requires
-    (λ c. search needs)  -- same-length-3
-    (λ c. rw (← encode-integer (c .before .before .before .before .before .before .before .before .before .before .args .k) (c .before .before .before .before .before .before .before .before .before .before .args .v .now) (c .before .before .before .before .before .before .before .before .before .before .args .p) _ _ (c .before .before .before .before .before .before .if3 .taken) (toZ-ofZ w64 (c .before .before .before .before .of .result) (record { sfits = c .before .before .before .before .of .ok })) (c .before .before .before .before .of .ensures)) (c .before .before .put .ensures))  -- returns-3
-    (λ c κs. search needs)  -- number-requires
-    (λ c. search needs)  -- add-size
-    (λ c. search needs)  -- mul-spare
-    (λ c. search needs)  -- sub-spare
-    (λ c. search needs)  -- cast-buf
-    (λ c. let h = rw (bits-size (c .before .before .before .before .before .before .args .k) (c .before .before .before .before .before .before .args .v .now) (c .before .before .before .before .before .before .args .p) (c .before .if4 .taken) (c .before .before .before .before .before .before .pre .1)) at (c .before .before .before .before .before .before .pre .2) in omega arith)  -- slice-write-buf-3
-    (λ c. search needs)  -- add-next
+    (λ c. (end-boolean (c .before .before .before .before .before .args .k) (c .before .before .before .before .before .args .v .now) (c .before .before .before .before .before .args .p) (c .before .before .before .before .before .pre .2) (c .before .before .before .before .before .args .size) (c .before .before .before .before .before .pre .3) (c .before .before .if1 .taken), rw (encode-false (c .before .before .before .before .before .args .k) (c .before .before .before .before .before .args .v .now) (c .before .before .before .before .before .args .p) _ (c .before .before .if1 .taken) (c .before .octet .ensures .0) (c .if2 .left)) refl))  -- returns-2
     (λ c. search needs)  -- add-copy
-    (λ c κs. bits-copy (c .before .before .before .before .before .before .before .args .k) (c .before .before .before .before .before .before .before .args .v .now) (c .before .before .before .before .before .before .before .args .p) (c .before .before .before .before .before .before .before .args .to) (c .before .number .result) _ (c .before .before .before .before .before .before .before .args .buf .now) (c .before .before .if4 .taken) (c .before .before .before .before .before .before .before .pre .1) (c .before .number .ensures .0) (c .before .before .before .before .before .before .before .pre .2))  -- copy-requires
-    (λ c. c .before .before .copy .kept .1 .1 .1 .0 ∙ length-set (c .before .before .before .before .before .before .before .before .before .before .args .buf .now) (c .before .before .before .before .before .before .before .before .before .before .args .to) (8 * ((c .before .before .before .before .number .result + 7) / 8) - c .before .before .before .before .number .result))  -- same-length-4
-    (λ c. put-bits (c .before .before .before .before .before .before .before .before .before .before .args .k) (c .before .before .before .before .before .before .before .before .before .before .args .v .now) (c .before .before .before .before .before .before .before .before .before .before .args .p) _ _ _ _ _ (c .before .before .before .before .before .if4 .taken) (c .before .before .before .before .before .before .before .before .before .before .pre .1) (c .before .before .before .before .number .ensures .0) (c .before .before .copy .ensures .0) (c .before .before .copy .ensures .1))  -- returns-4
+    (λ c. let w = integer-there (c .before .before .before .before .args .k) (c .before .before .before .before .args .v .now) (c .before .before .before .before .args .p) (c .before .before .before .before .pre .2) (c .before .before .before .before .args .size) (c .before .before .before .before .pre .3) (λ i. omega (arith, c .before .before .before .shared-slice-known .given i)) (c .if3 .taken) in omega (arith, w .0))  -- sub-copy
+    (λ c κs. (integer-there (c .before .before .before .before .before .args .k) (c .before .before .before .before .before .args .v .now) (c .before .before .before .before .before .args .p) (c .before .before .before .before .before .pre .2) (c .before .before .before .before .before .args .size) (c .before .before .before .before .before .pre .3) (λ i. omega (arith, c .before .before .before .before .shared-slice-known .given i)) (c .before .if3 .taken) .1, c .before .before .before .before .before .pre .4))  -- copy-requires
+    (λ c. search needs)  -- add-result-3
+    (λ c. search needs)  -- same-length-3
+    (λ c. (end-integer (c .before .before .before .before .before .before .before .before .args .k) (c .before .before .before .before .before .before .before .before .args .v .now) (c .before .before .before .before .before .before .before .before .args .p) (c .before .before .before .before .before .before .before .before .pre .2) (c .before .before .before .before .before .before .before .before .args .size) (c .before .before .before .before .before .before .before .before .pre .3) (c .before .before .before .before .if3 .taken), rw (← integer-copied (c .before .before .before .before .before .before .before .before .args .k) (c .before .before .before .before .before .before .before .before .args .v .now) (c .before .before .before .before .before .before .before .before .args .p) (c .before .before .before .before .before .before .before .before .pre .2) (c .before .before .before .before .before .before .before .before .args .size) (c .before .before .before .before .before .before .before .before .pre .3) (λ i. omega (arith, c .before .before .before .before .before .before .before .shared-slice-known .given i)) (c .before .before .before .before .if3 .taken)) (c .before .before .copy .ensures .1)))  -- returns-3
+    (λ c. let w = bits-one (c .before .before .before .before .before .args .k) (c .before .before .before .before .before .args .v .now) (c .before .before .before .before .before .args .p) (c .before .before .before .before .before .pre .2) (c .before .before .before .before .before .args .size) (c .before .before .before .before .before .pre .3) (c .if4 .taken) in omega arith)  -- sub-n
+    (λ c. let w = bits-one (c .before .before .before .before .before .args .k) (c .before .before .before .before .before .args .v .now) (c .before .before .before .before .before .args .p) (c .before .before .before .before .before .pre .2) (c .before .before .before .before .before .args .size) (c .before .before .before .before .before .pre .3) (c .if4 .taken) in omega (arith, c .before .before .before .before .shared-slice-known .given (c .before .before .before .before .before .args .p), c .before .before .before .before .shared-slice-known .given (c .before .before .before .before .before .args .p + 1)))  -- mul-spare
+    (λ c κs. search needs)  -- number-requires
+    (λ c. let w = bits-one (c .before .before .before .before .before .before .args .k) (c .before .before .before .before .before .before .args .v .now) (c .before .before .before .before .before .before .args .p) (c .before .before .before .before .before .before .pre .2) (c .before .before .before .before .before .before .args .size) (c .before .before .before .before .before .before .pre .3) (c .before .if4 .taken) in omega (arith, c .number .ensures .0))  -- sub-spare
+    (λ c. let w = bits-one (c .before .before .before .before .before .before .args .k) (c .before .before .before .before .before .before .args .v .now) (c .before .before .before .before .before .before .args .p) (c .before .before .before .before .before .before .pre .2) (c .before .before .before .before .before .before .args .size) (c .before .before .before .before .before .before .pre .3) (c .before .if4 .taken) in omega (arith, c .number .ensures .0))  -- cast-buf
+    (λ c. let w = bits-one (c .before .before .before .before .before .before .args .k) (c .before .before .before .before .before .before .args .v .now) (c .before .before .before .before .before .before .args .p) (c .before .before .before .before .before .before .pre .2) (c .before .before .before .before .before .before .args .size) (c .before .before .before .before .before .before .pre .3) (c .before .if4 .taken) in omega (arith, c .before .before .before .before .before .before .pre .4))  -- slice-write-buf-3
+    (λ c. search needs)  -- add-next
     (λ c. search needs)  -- add-copy-2
-    (λ c κs. search needs)  -- number-requires-2
-    (λ c κs. string-copy (c .before .before .before .before .before .before .before .before .args .k) (c .before .before .before .before .before .before .before .before .args .v .now) (c .before .before .before .before .before .before .before .before .args .p) (c .before .before .before .before .before .before .before .before .args .to) (c .before .number2 .result) (c .before .before .before .before .before .before .before .before .args .buf .now) (c .before .before .if5 .taken) (c .before .before .before .before .before .before .before .before .pre .1) (c .before .number2 .ensures .0) (c .before .before .before .before .before .before .before .before .pre .2))  -- copy-requires-2
+    (λ c κs. let w = bits-one (c .before .before .before .before .before .before .before .args .k) (c .before .before .before .before .before .before .before .args .v .now) (c .before .before .before .before .before .before .before .args .p) (c .before .before .before .before .before .before .before .pre .2) (c .before .before .before .before .before .before .before .args .size) (c .before .before .before .before .before .before .before .pre .3) (c .before .before .if4 .taken) in (bits-there (c .before .before .before .before .before .before .before .args .k) (c .before .before .before .before .before .before .before .args .v .now) (c .before .before .before .before .before .before .before .args .p) (c .before .before .before .before .before .before .before .pre .2) (c .before .before .before .before .before .before .before .args .size) (c .before .before .before .before .before .before .before .pre .3) (c .before .before .if4 .taken), rw length-set (omega (arith, c .before .before .before .before .before .before .before .pre .4))))  -- copy-requires-2
+    (λ c. search needs)  -- add-result-4
+    (λ c. search needs)  -- add-result-5
+    (λ c. c .before .before .copy2 .kept .1 .1 .1 .0 ∙ length-set (c .before .before .before .before .before .before .before .before .before .before .args .buf .now) (c .before .before .before .before .before .before .before .before .before .before .args .to) (8 * (c .before .before .before .before .before .before .before .before .before .before .args .size - 1) - c .before .before .before .before .number .result))  -- same-length-4
+    (λ c. (end-bits (c .before .before .before .before .before .before .before .before .before .before .args .k) (c .before .before .before .before .before .before .before .before .before .before .args .v .now) (c .before .before .before .before .before .before .before .before .before .before .args .p) (c .before .before .before .before .before .before .before .before .before .before .pre .2) (c .before .before .before .before .before .before .before .before .before .before .args .size) (c .before .before .before .before .before .before .before .before .before .before .pre .3) (c .before .before .before .before .before .if4 .taken), bits-copied (c .before .before .before .before .before .before .before .before .before .before .args .k) (c .before .before .before .before .before .before .before .before .before .before .args .v .now) (c .before .before .before .before .before .before .before .before .before .before .args .p) (c .before .before .before .before .before .before .before .before .before .before .pre .2) (c .before .before .before .before .before .before .before .before .before .before .args .size) (c .before .before .before .before .before .before .before .before .before .before .pre .3) (c .before .before .before .before .before .if4 .taken) _ _ _ _ (c .before .before .before .before .number .ensures .0) (c .before .before .copy2 .ensures .1)))  -- returns-4
+    (λ c. search needs)  -- add-copy-3
+    (λ c κs. (string-there (c .before .before .before .before .before .before .before .args .k) (c .before .before .before .before .before .before .before .args .v .now) (c .before .before .before .before .before .before .before .args .p) (c .before .before .before .before .before .before .before .pre .2) (c .before .before .before .before .before .before .before .args .size) (c .before .before .before .before .before .before .before .pre .3) (c .before .if5 .taken), c .before .before .before .before .before .before .before .pre .4))  -- copy-requires-3
+    (λ c. search needs)  -- add-result-6
+    (λ c. search needs)  -- add-result-7
     (λ c. search needs)  -- same-length-5
-    (λ c. put-string (c .before .before .before .before .before .before .before .before .before .before .before .args .k) (c .before .before .before .before .before .before .before .before .before .before .before .args .v .now) (c .before .before .before .before .before .before .before .before .before .before .before .args .p) _ _ _ _ _ (c .before .before .before .before .before .if5 .taken) (c .before .before .before .before .before .before .before .before .before .before .before .pre .1) (c .before .before .before .before .number2 .ensures .0) (c .before .before .copy2 .ensures .0) (c .before .before .copy2 .ensures .1))  -- returns-5
-    (λ c. rw (encode-null (c .before .before .before .before .before .before .before .args .k) (c .before .before .before .before .before .before .before .args .v .now) (c .before .before .before .before .before .before .before .args .p) (c .if6 .taken)) (omega arith, refl))  -- returns-6
-    (λ c κs. search needs)  -- number-requires-3
-    (λ c. search needs)  -- cast-put
-    (λ c κs. rw (encode-enumerated (c .before .before .before .before .before .before .before .before .before .args .k) (c .before .before .before .before .before .before .before .before .before .args .v .now) (c .before .before .before .before .before .before .before .before .before .args .p) _ _ (c .before .before .before .before .before .before .if1 .left) (c .before .before .before .before .before .if3 .left) (c .before .before .before .before .if4 .left) (c .before .before .before .if5 .left) (c .before .before .if6 .left) (toZ-pos w64 (c .before .number3 .result) (omega arith)) (c .before .number3 .ensures .0)) (c .before .before .before .before .before .before .before .before .before .pre .2))  -- put-requires-2
+    (λ c. (end-string (c .before .before .before .before .before .before .before .before .before .before .args .k) (c .before .before .before .before .before .before .before .before .before .before .args .v .now) (c .before .before .before .before .before .before .before .before .before .before .args .p) (c .before .before .before .before .before .before .before .before .before .before .pre .2) (c .before .before .before .before .before .before .before .before .before .before .args .size) (c .before .before .before .before .before .before .before .before .before .before .pre .3) (c .before .before .before .before .if5 .taken), rw (← string-copied (c .before .before .before .before .before .before .before .before .before .before .args .k) (c .before .before .before .before .before .before .before .before .before .before .args .v .now) (c .before .before .before .before .before .before .before .before .before .before .args .p) (c .before .before .before .before .before .before .before .before .before .before .pre .2) (c .before .before .before .before .before .before .before .before .before .before .args .size) (c .before .before .before .before .before .before .before .before .before .before .pre .3) (c .before .before .before .before .if5 .taken)) (c .before .before .copy3 .ensures .1)))  -- returns-5
+    (λ c. (end-null (c .before .before .before .before .before .before .before .args .k) (c .before .before .before .before .before .before .before .args .v .now) (c .before .before .before .before .before .before .before .args .p) (c .before .before .before .before .before .before .before .pre .2) (c .before .before .before .before .before .before .before .args .size) (c .before .before .before .before .before .before .before .pre .3) (c .if6 .taken), null-copied (c .before .before .before .before .before .before .before .args .k) (c .before .before .before .before .before .before .before .args .v .now) (c .before .before .before .before .before .before .before .args .p) (c .before .before .before .before .before .before .before .pre .2) (c .before .before .before .before .before .before .before .args .size) (c .before .before .before .before .before .before .before .pre .3) _ _ (c .if6 .taken)))  -- returns-6
+    (λ c κs. (number-there (c .before .before .before .before .before .before .before .before .args .k) (c .before .before .before .before .before .before .before .before .args .v .now) (c .before .before .before .before .before .before .before .before .args .p) (c .before .before .before .before .before .before .before .before .pre .2) (c .before .before .before .before .before .before .before .before .args .size) (c .before .before .before .before .before .before .before .before .pre .3) (c .before .before .before .before .before .before .before .before .pre .1) (c .before .before .before .before .before .if1 .left) (c .before .before .before .before .if3 .left) (c .before .before .before .if4 .left) (c .before .before .if5 .left) (c .before .if6 .left), number-size (c .before .before .before .before .before .before .before .before .args .k) (c .before .before .before .before .before .before .before .before .args .v .now) (c .before .before .before .before .before .before .before .before .args .p) (c .before .before .before .before .before .before .before .before .pre .2) (c .before .before .before .before .before .before .before .before .args .size) (c .before .before .before .before .before .before .before .before .pre .3) (c .before .before .before .before .before .before .before .before .pre .1) (c .before .before .before .before .before .if1 .left) (c .before .before .before .before .if3 .left) (c .before .before .before .if4 .left) (c .before .before .if5 .left) (c .before .if6 .left), c .before .before .before .before .before .before .before .before .pre .4))  -- put-number-requires
     (λ c. search needs)  -- same-length-6
-    (λ c. rw (← encode-enumerated (c .before .before .before .before .before .before .before .before .before .before .before .before .args .k) (c .before .before .before .before .before .before .before .before .before .before .before .before .args .v .now) (c .before .before .before .before .before .before .before .before .before .before .before .before .args .p) _ _ (c .before .before .before .before .before .before .before .before .before .if1 .left) (c .before .before .before .before .before .before .before .before .if3 .left) (c .before .before .before .before .before .before .before .if4 .left) (c .before .before .before .before .before .before .if5 .left) (c .before .before .before .before .before .if6 .left) (toZ-pos w64 (c .before .before .before .before .number3 .result) (omega arith)) (c .before .before .before .before .number3 .ensures .0)) (c .before .before .put2 .ensures)))  -- returns-7
+    (λ c. (c .before .before .put-number .ensures .0 ∙ end-number (c .before .before .before .before .before .before .before .before .before .before .before .args .k) (c .before .before .before .before .before .before .before .before .before .before .before .args .v .now) (c .before .before .before .before .before .before .before .before .before .before .before .args .p) (c .before .before .before .before .before .before .before .before .before .before .before .pre .2) (c .before .before .before .before .before .before .before .before .before .before .before .args .size) (c .before .before .before .before .before .before .before .before .before .before .before .pre .3) (c .before .before .before .before .before .before .before .before .before .before .before .pre .1) (c .before .before .before .before .before .before .before .before .if1 .left) (c .before .before .before .before .before .before .before .if3 .left) (c .before .before .before .before .before .before .if4 .left) (c .before .before .before .before .before .if5 .left) (c .before .before .before .before .if6 .left), rw (number-copied (c .before .before .before .before .before .before .before .before .before .before .before .args .k) (c .before .before .before .before .before .before .before .before .before .before .before .args .v .now) (c .before .before .before .before .before .before .before .before .before .before .before .args .p) (c .before .before .before .before .before .before .before .before .before .before .before .pre .2) (c .before .before .before .before .before .before .before .before .before .before .before .args .size) (c .before .before .before .before .before .before .before .before .before .before .before .pre .3) (c .before .before .before .before .before .before .before .before .before .before .before .pre .1) (c .before .before .before .before .before .before .before .before .if1 .left) (c .before .before .before .before .before .before .before .if3 .left) (c .before .before .before .before .before .before .if4 .left) (c .before .before .before .before .before .if5 .left) (c .before .before .before .before .if6 .left)) (c .before .before .put-number .ensures .1))))  -- returns-7

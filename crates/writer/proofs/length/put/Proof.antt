@@ -1,10 +1,10 @@
-use mathlib.Core.Path.{_≡_, refl, sym, ap, _∙_}
+use mathlib.Core.Path.{refl}
 use native.Mathlib.Omega.{arith}
 use native.Mathlib.Numerals.{add-one}
-use Prim.Native.Nat.{ℕ, suc, _+_, _-_, _*_, _≤_, _<_, _^_}
+use Prim.Native.Nat.{_-_}
 use Rattle.writer.proofs.Headers.{length-one, length-two, length-three}
 use lib.ListN.{length-set}
-use Rattle.writer.proofs.Stores.{two, three}
+use Rattle.writer.proofs.Stores.{two}
 use borrow.Author.Needs.{needs}
 use Rattle.writer.proofs.length.put.Statement.{statement}
 use Rattle.writer.proofs.length.put.Tie as tie
