@@ -282,3 +282,14 @@ told-capped m f (refused c l) = tt
 -- sizes are never beyond what stands for all great ones
 pub told-small : {A : Type 0} (m : List ℕ) (f : A → ℕ) (x : Answer A) (r : Measured) (e k : ℕ) → r ≡ told m f x → r ≡ Done e k → k < 16386
 told-small m f x r e k er q = rw (← er, q) at (told-capped m f x)
+
+-- a value under no CHOICE
+pub under-none : (T : Table) (m : List ℕ) (at n t d : ℕ) → d ≡ 0 → 0 < n → (r : Measured) → r ≡ told m size (readValue T n t (drop at m)) → r ≡ lifted T m n t d (drop at m)
+under-none T m at n t d z some r er = go r refl
+  where
+    same : r ≡ told m size (readValue T (n - d) t (drop at m))
+    same = let e : n - d ≡ n = omega arith in rw e er
+
+    go : (y : Measured) → r ≡ y → r ≡ lifted T m n t d (drop at m)
+    go (Done e k) q = q ∙ under-done T m at n t d (omega arith) r same e k k q (omega (arith, told-small m size (readValue T n t (drop at m)) r e k er q))
+    go (Refused c p) q = q ∙ under-refused T m at n t d (omega arith) r same c p q

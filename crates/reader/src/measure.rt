@@ -196,6 +196,31 @@ pub(crate) fn under(
     }
 }
 
+// A value of type t under CHOICEs without tags, which is most often a simple one under none.
+fn member(
+    table: &[u8],
+    offsets: &[u16],
+    firsts: &[u32],
+    t: usize,
+    depth: usize,
+    m: &[u8],
+    at: usize,
+    level: usize,
+) -> Measured
+    requires { ⌜ Ready (now table) (now offsets) (now firsts) × (at ≤ length (now m)) × (length (now m) ≤ 8192) × (depth < 131) × (level < 26) ⌝ }
+    ensures { λ r. ⌜ r ≡ lifted (look (now (table .entry)) (now (offsets .entry))) (now (m .entry)) level t depth (drop at (now (m .entry))) ⌝ }
+{
+    if depth == 0 {
+        if 0 < level {
+            let o = offset(offsets, t);
+            if is_plain(table, o) {
+                return simple(table, o, first(firsts, t), m, at);
+            }
+        }
+    }
+    under(table, offsets, firsts, t, depth, m, at, level)
+}
+
 // The next item, which must begin a value of type t.
 pub(crate) fn step(
     table: &[u8],
@@ -341,7 +366,7 @@ fn in_order(
         let q = p + 2 * j;
         let t = octet(table, q);
         match seek(table, offsets, firsts, t, code) {
-            Found::At { record, depth } => match under(
+            Found::At { record, depth } => match member(
                 table,
                 offsets,
                 firsts,

@@ -10,7 +10,7 @@ use Rattle.reader.proofs.Records.{few-tags, shaped-at}
 use Rattle.reader.proofs.Searching.{found-under}
 use Rattle.reader.proofs.Spans.{span-item, span-no, span-within}
 use Rattle.reader.proofs.Turns.{step-done, value-done}
-use Rattle.reader.proofs.Under.{alternative-found, alternative-none, found-deep, found-depth, found-lifted, step-found, step-none, told-small, under-deep, under-done, under-refused}
+use Rattle.reader.proofs.Under.{alternative-found, alternative-none, found-deep, found-depth, found-lifted, step-found, step-none, told-small, under-deep, under-done, under-none, under-refused}
 use Rattle.reader.specs.Answers.{mode, sizes, sizesIn}
 use Rattle.reader.specs.Codes.{peeked}
 use Rattle.table.proofs.Pieces.{length-members}
@@ -31,34 +31,37 @@ use borrow.Fn.Kinds.{In}
 use borrow.Fn.PlainCycle.{Measures, is, falls, and}
 use Rattle.reader.proofs.measure.alternative.Reads as alternative
 use Rattle.reader.proofs.measure.alternative.Kinds as alternative-kinds
-use Rattle.reader.proofs.measure.+alternative+any_order+body+constructed+elements+in_order+item+step+under+value.Lts-alternative as alternative-lts
+use Rattle.reader.proofs.measure.+alternative+any_order+body+constructed+elements+in_order+item+member+step+under+value.Lts-alternative as alternative-lts
 use Rattle.reader.proofs.measure.any_order.Reads as any-order
 use Rattle.reader.proofs.measure.any_order.Kinds as any-order-kinds
-use Rattle.reader.proofs.measure.+alternative+any_order+body+constructed+elements+in_order+item+step+under+value.Lts-any_order as any-order-lts
+use Rattle.reader.proofs.measure.+alternative+any_order+body+constructed+elements+in_order+item+member+step+under+value.Lts-any_order as any-order-lts
 use Rattle.reader.proofs.measure.body.Reads as body
 use Rattle.reader.proofs.measure.body.Kinds as body-kinds
-use Rattle.reader.proofs.measure.+alternative+any_order+body+constructed+elements+in_order+item+step+under+value.Lts-body as body-lts
+use Rattle.reader.proofs.measure.+alternative+any_order+body+constructed+elements+in_order+item+member+step+under+value.Lts-body as body-lts
 use Rattle.reader.proofs.measure.constructed.Reads as constructed
 use Rattle.reader.proofs.measure.constructed.Kinds as constructed-kinds
-use Rattle.reader.proofs.measure.+alternative+any_order+body+constructed+elements+in_order+item+step+under+value.Lts-constructed as constructed-lts
+use Rattle.reader.proofs.measure.+alternative+any_order+body+constructed+elements+in_order+item+member+step+under+value.Lts-constructed as constructed-lts
 use Rattle.reader.proofs.measure.elements.Reads as elements
 use Rattle.reader.proofs.measure.elements.Kinds as elements-kinds
-use Rattle.reader.proofs.measure.+alternative+any_order+body+constructed+elements+in_order+item+step+under+value.Lts-elements as elements-lts
+use Rattle.reader.proofs.measure.+alternative+any_order+body+constructed+elements+in_order+item+member+step+under+value.Lts-elements as elements-lts
 use Rattle.reader.proofs.measure.in_order.Reads as in-order
 use Rattle.reader.proofs.measure.in_order.Kinds as in-order-kinds
-use Rattle.reader.proofs.measure.+alternative+any_order+body+constructed+elements+in_order+item+step+under+value.Lts-in_order as in-order-lts
+use Rattle.reader.proofs.measure.+alternative+any_order+body+constructed+elements+in_order+item+member+step+under+value.Lts-in_order as in-order-lts
 use Rattle.reader.proofs.measure.item.Reads as item
 use Rattle.reader.proofs.measure.item.Kinds as item-kinds
-use Rattle.reader.proofs.measure.+alternative+any_order+body+constructed+elements+in_order+item+step+under+value.Lts-item as item-lts
+use Rattle.reader.proofs.measure.+alternative+any_order+body+constructed+elements+in_order+item+member+step+under+value.Lts-item as item-lts
+use Rattle.reader.proofs.measure.member.Reads as member
+use Rattle.reader.proofs.measure.member.Kinds as member-kinds
+use Rattle.reader.proofs.measure.+alternative+any_order+body+constructed+elements+in_order+item+member+step+under+value.Lts-member as member-lts
 use Rattle.reader.proofs.measure.step.Reads as step
 use Rattle.reader.proofs.measure.step.Kinds as step-kinds
-use Rattle.reader.proofs.measure.+alternative+any_order+body+constructed+elements+in_order+item+step+under+value.Lts-step as step-lts
+use Rattle.reader.proofs.measure.+alternative+any_order+body+constructed+elements+in_order+item+member+step+under+value.Lts-step as step-lts
 use Rattle.reader.proofs.measure.under.Reads as under
 use Rattle.reader.proofs.measure.under.Kinds as under-kinds
-use Rattle.reader.proofs.measure.+alternative+any_order+body+constructed+elements+in_order+item+step+under+value.Lts-under as under-lts
+use Rattle.reader.proofs.measure.+alternative+any_order+body+constructed+elements+in_order+item+member+step+under+value.Lts-under as under-lts
 use Rattle.reader.proofs.measure.value.Reads as value
 use Rattle.reader.proofs.measure.value.Kinds as value-kinds
-use Rattle.reader.proofs.measure.+alternative+any_order+body+constructed+elements+in_order+item+step+under+value.Lts-value as value-lts
+use Rattle.reader.proofs.measure.+alternative+any_order+body+constructed+elements+in_order+item+member+step+under+value.Lts-value as value-lts
 use Rattle.octets.proofs.octet.Reads as octet-reads
 use Rattle.reader.proofs.answer.grow.Reads as grow-reads
 use Rattle.reader.proofs.ending.ending.Reads as ending-reads
@@ -81,10 +84,10 @@ use Rattle.table.proofs.kind.form_of.Reads as form-of-reads
 use Rattle.table.proofs.record.kind.Reads as kind-reads
 use Rattle.table.proofs.record.offset.Reads as offset-reads
 use Rattle.table.proofs.record.own.Reads as own-reads
-use Rattle.reader.proofs.measure.+alternative+any_order+body+constructed+elements+in_order+item+step+under+value.{
+use Rattle.reader.proofs.measure.+alternative+any_order+body+constructed+elements+in_order+item+member+step+under+value.{
   statement,
 }
-use Rattle.reader.proofs.measure.+alternative+any_order+body+constructed+elements+in_order+item+step+under+value.Tie.{
+use Rattle.reader.proofs.measure.+alternative+any_order+body+constructed+elements+in_order+item+member+step+under+value.Tie.{
   close,
 }
 
@@ -108,6 +111,9 @@ abbrev μ-in-order : Measures 5 in-order-kinds.ps ℕ
 
 abbrev μ-item : Measures 4 item-kinds.ps ℕ
 μ-item κs a = 8 * a .1 .1 .1 .1 .1 .1 .0 + 7
+
+abbrev μ-member : Measures 4 member-kinds.ps ℕ
+μ-member κs a = 8 * (a .1 .1 .1 .1 .1 .1 .1 .0 - a .1 .1 .1 .1 .0) + 2
 
 abbrev μ-step : Measures 4 step-kinds.ps ℕ
 μ-step κs a = 8 * a .1 .1 .1 .1 .1 .1 .0 + 2
@@ -167,6 +173,12 @@ item-at t = and 4 item-kinds.ps (is 4 item-kinds.ps μ-item t) item.Pre
 abbrev item-below : ℕ → In 4 item-kinds.ps
 item-below t = and 4 item-kinds.ps (falls 4 item-kinds.ps _<_ μ-item t) item.Pre
 
+abbrev member-at : ℕ → In 4 member-kinds.ps
+member-at t = and 4 member-kinds.ps (is 4 member-kinds.ps μ-member t) member.Pre
+
+abbrev member-below : ℕ → In 4 member-kinds.ps
+member-below t = and 4 member-kinds.ps (falls 4 member-kinds.ps _<_ μ-member t) member.Pre
+
 abbrev step-at : ℕ → In 4 step-kinds.ps
 step-at t = and 4 step-kinds.ps (is 4 step-kinds.ps μ-step t) step.Pre
 
@@ -205,9 +217,9 @@ abbrev in-order-μ-loop : in-order-lts.MeasureT-loop
 in-order-μ-loop table offsets firsts p c m at marked level began₀ j₀ at₀ total₀ passed₀ code₀ began j at' total passed code =
     c - j
 
-pub +alternative+any-order+body+constructed+elements+in-order+item+step+under+value-spec :
+pub +alternative+any-order+body+constructed+elements+in-order+item+member+step+under+value-spec :
     {M : Type 1} → statement M
-+alternative+any-order+body+constructed+elements+in-order+item+step+under+value-spec =
++alternative+any-order+body+constructed+elements+in-order+item+member+step+under+value-spec =
     close
     μ-alternative
     μ-any-order
@@ -216,6 +228,7 @@ pub +alternative+any-order+body+constructed+elements+in-order+item+step+under+va
     μ-elements
     μ-in-order
     μ-item
+    μ-member
     μ-step
     μ-under
     μ-value
@@ -391,8 +404,8 @@ pub +alternative+any-order+body+constructed+elements+in-order+item+step+under+va
       octet-reads.Learnt,
       seek-reads.Asked,
       seek-reads.Learnt,
-      under-below t,
-      under.Post,
+      member-below t,
+      member.Post,
       grow-reads.Asked,
       grow-reads.Learnt,
       missing-reads.Asked,
@@ -413,20 +426,20 @@ pub +alternative+any-order+body+constructed+elements+in-order+item+step+under+va
     (λ c κs. search needs)  -- in-order-octet-requires
     (λ c κs. c .before .before .before .before .before .before .before .before .before .pre .1 .0 .firsts)  -- in-order-seek-requires
     (λ c. search needs)  -- in-order-enum-known-record
-    (λ c κs. let d = found-under _ _ _ _ _ _ _ (c .before .before .before .seek .ensures) (c .before .«record» .given .1) in (omega (arith, c .before .before .before .before .before .before .before .before .before .before .before .before .before .pre .0), (c .before .before .before .before .before .before .before .before .before .before .before .before .before .pre .1 .0, c .before .before .before .before .before .before .loop .inv .1, c .before .before .before .before .before .before .before .before .before .before .before .before .before .pre .1 .4, omega arith, omega (arith, c .before .before .before .before .before .before .before .before .before .before .before .before .before .pre .1 .5))))  -- in-order-under-requires
+    (λ c κs. let d = found-under _ _ _ _ _ _ _ (c .before .before .before .seek .ensures) (c .before .«record» .given .1) in (omega (arith, c .before .before .before .before .before .before .before .before .before .before .before .before .before .pre .0), (c .before .before .before .before .before .before .before .before .before .before .before .before .before .pre .1 .0, c .before .before .before .before .before .before .loop .inv .1, c .before .before .before .before .before .before .before .before .before .before .before .before .before .pre .1 .4, omega arith, omega (arith, c .before .before .before .before .before .before .before .before .before .before .before .before .before .pre .1 .5))))  -- in-order-member-requires
     (λ c. search needs)  -- in-order-enum-known-cause
     (λ c. c .before .before .before .before .before .before .before .before .before .before .loop .inv .3)  -- in-order-same-length
-    (λ c. pass-refused _ _ _ _ _ (c .before .before .before .before .before .before .before .before .before .before .before .before .before .before .before .before .before .args .marked) _ _ _ _ _ _ (c .before .before .before .before .before .before .before .before .before .before .loop .inv .1) (c .before .before .before .before .before .before .before .before .before .before .loop .inv .5) (c .before .before .before .before .before .before .before .before .before .loop-test .taken) _ (c .before .before .before .before .before .before .before .before .octet .ensures .0) _ _ _ (is-begun (c .before .before .before .before .before .before .before .before .before .before .before .before .before .before .before .before .before .pre .1 .0) (λ i. c .before .before .before .before .before .before .before .before .before .before .before .before .before .before .before .before .shared-slice-known .given i .fits) (now (c .before .before .before .before .before .before .before .before .before .before .before .before .before .before .before .before .before .args .m)) (λ i. c .before .before .before .before .before .before .before .before .before .before .before .before .before .shared-slice-known4 .given i .fits) (c .before .before .before .before .before .before .before .before .before .before .loop .at) (c .before .before .before .before .before .before .before .before .octet .result) (c .before .before .before .before .before .before .before .before .before .before .loop .code) (c .before .before .before .before .before .before .before .before .before .before .loop .inv .4) _ (c .before .before .before .before .before .before .before .seek .ensures) _ _ (c .before .before .before .before .before .«record» .given .1)) (c .before .before .before .under .ensures ∙ sym (found-lifted (c .before .before .before .before .before .before .before .before .before .before .before .before .before .before .before .before .before .pre .1 .0) (λ i. c .before .before .before .before .before .before .before .before .before .before .before .before .before .before .before .before .shared-slice-known .given i .fits) (now (c .before .before .before .before .before .before .before .before .before .before .before .before .before .before .before .before .before .args .m)) (λ i. c .before .before .before .before .before .before .before .before .before .before .before .before .before .shared-slice-known4 .given i .fits) (c .before .before .before .before .before .before .before .before .before .before .loop .at) (c .before .before .before .before .before .before .before .before .before .before .before .before .before .before .before .before .before .args .level) (c .before .before .before .before .before .before .before .before .before .before .loop .code) (c .before .before .before .before .before .before .before .before .before .before .loop .inv .4) _ (c .before .before .before .before .before .before .before .before .octet .result) (c .before .before .before .before .before .before .before .seek .ensures) _ _ (c .before .before .before .before .before .«record» .given .1))) (c .before .cause .given .1))  -- in-order-returns
+    (λ c. pass-refused _ _ _ _ _ (c .before .before .before .before .before .before .before .before .before .before .before .before .before .before .before .before .before .args .marked) _ _ _ _ _ _ (c .before .before .before .before .before .before .before .before .before .before .loop .inv .1) (c .before .before .before .before .before .before .before .before .before .before .loop .inv .5) (c .before .before .before .before .before .before .before .before .before .loop-test .taken) _ (c .before .before .before .before .before .before .before .before .octet .ensures .0) _ _ _ (is-begun (c .before .before .before .before .before .before .before .before .before .before .before .before .before .before .before .before .before .pre .1 .0) (λ i. c .before .before .before .before .before .before .before .before .before .before .before .before .before .before .before .before .shared-slice-known .given i .fits) (now (c .before .before .before .before .before .before .before .before .before .before .before .before .before .before .before .before .before .args .m)) (λ i. c .before .before .before .before .before .before .before .before .before .before .before .before .before .shared-slice-known4 .given i .fits) (c .before .before .before .before .before .before .before .before .before .before .loop .at) (c .before .before .before .before .before .before .before .before .octet .result) (c .before .before .before .before .before .before .before .before .before .before .loop .code) (c .before .before .before .before .before .before .before .before .before .before .loop .inv .4) _ (c .before .before .before .before .before .before .before .seek .ensures) _ _ (c .before .before .before .before .before .«record» .given .1)) (c .before .before .before .member .ensures ∙ sym (found-lifted (c .before .before .before .before .before .before .before .before .before .before .before .before .before .before .before .before .before .pre .1 .0) (λ i. c .before .before .before .before .before .before .before .before .before .before .before .before .before .before .before .before .shared-slice-known .given i .fits) (now (c .before .before .before .before .before .before .before .before .before .before .before .before .before .before .before .before .before .args .m)) (λ i. c .before .before .before .before .before .before .before .before .before .before .before .before .before .shared-slice-known4 .given i .fits) (c .before .before .before .before .before .before .before .before .before .before .loop .at) (c .before .before .before .before .before .before .before .before .before .before .before .before .before .before .before .before .before .args .level) (c .before .before .before .before .before .before .before .before .before .before .loop .code) (c .before .before .before .before .before .before .before .before .before .before .loop .inv .4) _ (c .before .before .before .before .before .before .before .before .octet .result) (c .before .before .before .before .before .before .before .seek .ensures) _ _ (c .before .before .before .before .before .«record» .given .1))) (c .before .cause .given .1))  -- in-order-returns
     (λ c. search needs)  -- in-order-enum-known-end
     (λ c. search needs)  -- in-order-add-mark
     (λ c. search needs)  -- in-order-cast-began
     (λ c. search needs)  -- in-order-mul-began
     (λ c. let l : length (now (c .before .before .before .before .before .before .before .before .before .before .before .before .before .before .before .before .before .args .began)) ≡ 16 = ap length (c .before .before .before .before .before .before .before .before .before .before .before .before .before .before .before .before .before .pre .1 .6) in omega (arith, c .before .before .before .before .before .before .before .before .before .before .loop .inv .3, c .before .before .before .before .before .before .before .before .before .loop-test .taken, c .before .before .before .before .before .before .before .before .before .before .before .before .before .before .before .before .before .pre .1 .2))  -- in-order-slice-write-began
-    (λ c κs. let v = value-done _ _ _ _ _ (c .before .before .before .before .before .before .before .before .before .before .loop .inv .1) _ _ _ (is-begun (c .before .before .before .before .before .before .before .before .before .before .before .before .before .before .before .before .before .pre .1 .0) (λ i. c .before .before .before .before .before .before .before .before .before .before .before .before .before .before .before .before .shared-slice-known .given i .fits) (now (c .before .before .before .before .before .before .before .before .before .before .before .before .before .before .before .before .before .args .m)) (λ i. c .before .before .before .before .before .before .before .before .before .before .before .before .before .shared-slice-known4 .given i .fits) (c .before .before .before .before .before .before .before .before .before .before .loop .at) (c .before .before .before .before .before .before .before .before .octet .result) (c .before .before .before .before .before .before .before .before .before .before .loop .code) (c .before .before .before .before .before .before .before .before .before .before .loop .inv .4) _ (c .before .before .before .before .before .before .before .seek .ensures) _ _ (c .before .before .before .before .before .«record» .given .1)) (c .before .before .before .under .ensures ∙ sym (found-lifted (c .before .before .before .before .before .before .before .before .before .before .before .before .before .before .before .before .before .pre .1 .0) (λ i. c .before .before .before .before .before .before .before .before .before .before .before .before .before .before .before .before .shared-slice-known .given i .fits) (now (c .before .before .before .before .before .before .before .before .before .before .before .before .before .before .before .before .before .args .m)) (λ i. c .before .before .before .before .before .before .before .before .before .before .before .before .before .shared-slice-known4 .given i .fits) (c .before .before .before .before .before .before .before .before .before .before .loop .at) (c .before .before .before .before .before .before .before .before .before .before .before .before .before .before .before .before .before .args .level) (c .before .before .before .before .before .before .before .before .before .before .loop .code) (c .before .before .before .before .before .before .before .before .before .before .loop .inv .4) _ (c .before .before .before .before .before .before .before .before .octet .result) (c .before .before .before .before .before .before .before .seek .ensures) _ _ (c .before .before .before .before .before .«record» .given .1))) (c .before .end .given .1) in (c .before .before .before .before .before .before .before .before .before .before .loop .inv .2, rw (v .sized) (cap-below _)))  -- in-order-grow-requires
-    (λ c κs. let v = value-done _ _ _ _ _ (c .before .before .before .before .before .before .before .before .before .before .before .loop .inv .1) _ _ _ (is-begun (c .before .before .before .before .before .before .before .before .before .before .before .before .before .before .before .before .before .before .pre .1 .0) (λ i. c .before .before .before .before .before .before .before .before .before .before .before .before .before .before .before .before .before .shared-slice-known .given i .fits) (now (c .before .before .before .before .before .before .before .before .before .before .before .before .before .before .before .before .before .before .args .m)) (λ i. c .before .before .before .before .before .before .before .before .before .before .before .before .before .before .shared-slice-known4 .given i .fits) (c .before .before .before .before .before .before .before .before .before .before .before .loop .at) (c .before .before .before .before .before .before .before .before .before .octet .result) (c .before .before .before .before .before .before .before .before .before .before .before .loop .code) (c .before .before .before .before .before .before .before .before .before .before .before .loop .inv .4) _ (c .before .before .before .before .before .before .before .before .seek .ensures) _ _ (c .before .before .before .before .before .before .«record» .given .1)) (c .before .before .before .before .under .ensures ∙ sym (found-lifted (c .before .before .before .before .before .before .before .before .before .before .before .before .before .before .before .before .before .before .pre .1 .0) (λ i. c .before .before .before .before .before .before .before .before .before .before .before .before .before .before .before .before .before .shared-slice-known .given i .fits) (now (c .before .before .before .before .before .before .before .before .before .before .before .before .before .before .before .before .before .before .args .m)) (λ i. c .before .before .before .before .before .before .before .before .before .before .before .before .before .before .shared-slice-known4 .given i .fits) (c .before .before .before .before .before .before .before .before .before .before .before .loop .at) (c .before .before .before .before .before .before .before .before .before .before .before .before .before .before .before .before .before .before .args .level) (c .before .before .before .before .before .before .before .before .before .before .before .loop .code) (c .before .before .before .before .before .before .before .before .before .before .before .loop .inv .4) _ (c .before .before .before .before .before .before .before .before .before .octet .result) (c .before .before .before .before .before .before .before .before .seek .ensures) _ _ (c .before .before .before .before .before .before .«record» .given .1))) (c .before .before .end .given .1) in (v .within, c .before .before .before .before .before .before .before .before .before .before .before .before .before .before .before .before .before .before .pre .1 .4))  -- in-order-peek-requires-2
+    (λ c κs. let v = value-done _ _ _ _ _ (c .before .before .before .before .before .before .before .before .before .before .loop .inv .1) _ _ _ (is-begun (c .before .before .before .before .before .before .before .before .before .before .before .before .before .before .before .before .before .pre .1 .0) (λ i. c .before .before .before .before .before .before .before .before .before .before .before .before .before .before .before .before .shared-slice-known .given i .fits) (now (c .before .before .before .before .before .before .before .before .before .before .before .before .before .before .before .before .before .args .m)) (λ i. c .before .before .before .before .before .before .before .before .before .before .before .before .before .shared-slice-known4 .given i .fits) (c .before .before .before .before .before .before .before .before .before .before .loop .at) (c .before .before .before .before .before .before .before .before .octet .result) (c .before .before .before .before .before .before .before .before .before .before .loop .code) (c .before .before .before .before .before .before .before .before .before .before .loop .inv .4) _ (c .before .before .before .before .before .before .before .seek .ensures) _ _ (c .before .before .before .before .before .«record» .given .1)) (c .before .before .before .member .ensures ∙ sym (found-lifted (c .before .before .before .before .before .before .before .before .before .before .before .before .before .before .before .before .before .pre .1 .0) (λ i. c .before .before .before .before .before .before .before .before .before .before .before .before .before .before .before .before .shared-slice-known .given i .fits) (now (c .before .before .before .before .before .before .before .before .before .before .before .before .before .before .before .before .before .args .m)) (λ i. c .before .before .before .before .before .before .before .before .before .before .before .before .before .shared-slice-known4 .given i .fits) (c .before .before .before .before .before .before .before .before .before .before .loop .at) (c .before .before .before .before .before .before .before .before .before .before .before .before .before .before .before .before .before .args .level) (c .before .before .before .before .before .before .before .before .before .before .loop .code) (c .before .before .before .before .before .before .before .before .before .before .loop .inv .4) _ (c .before .before .before .before .before .before .before .before .octet .result) (c .before .before .before .before .before .before .before .seek .ensures) _ _ (c .before .before .before .before .before .«record» .given .1))) (c .before .end .given .1) in (c .before .before .before .before .before .before .before .before .before .before .loop .inv .2, rw (v .sized) (cap-below _)))  -- in-order-grow-requires
+    (λ c κs. let v = value-done _ _ _ _ _ (c .before .before .before .before .before .before .before .before .before .before .before .loop .inv .1) _ _ _ (is-begun (c .before .before .before .before .before .before .before .before .before .before .before .before .before .before .before .before .before .before .pre .1 .0) (λ i. c .before .before .before .before .before .before .before .before .before .before .before .before .before .before .before .before .before .shared-slice-known .given i .fits) (now (c .before .before .before .before .before .before .before .before .before .before .before .before .before .before .before .before .before .before .args .m)) (λ i. c .before .before .before .before .before .before .before .before .before .before .before .before .before .before .shared-slice-known4 .given i .fits) (c .before .before .before .before .before .before .before .before .before .before .before .loop .at) (c .before .before .before .before .before .before .before .before .before .octet .result) (c .before .before .before .before .before .before .before .before .before .before .before .loop .code) (c .before .before .before .before .before .before .before .before .before .before .before .loop .inv .4) _ (c .before .before .before .before .before .before .before .before .seek .ensures) _ _ (c .before .before .before .before .before .before .«record» .given .1)) (c .before .before .before .before .member .ensures ∙ sym (found-lifted (c .before .before .before .before .before .before .before .before .before .before .before .before .before .before .before .before .before .before .pre .1 .0) (λ i. c .before .before .before .before .before .before .before .before .before .before .before .before .before .before .before .before .before .shared-slice-known .given i .fits) (now (c .before .before .before .before .before .before .before .before .before .before .before .before .before .before .before .before .before .before .args .m)) (λ i. c .before .before .before .before .before .before .before .before .before .before .before .before .before .before .shared-slice-known4 .given i .fits) (c .before .before .before .before .before .before .before .before .before .before .before .loop .at) (c .before .before .before .before .before .before .before .before .before .before .before .before .before .before .before .before .before .before .args .level) (c .before .before .before .before .before .before .before .before .before .before .before .loop .code) (c .before .before .before .before .before .before .before .before .before .before .before .loop .inv .4) _ (c .before .before .before .before .before .before .before .before .before .octet .result) (c .before .before .before .before .before .before .before .before .seek .ensures) _ _ (c .before .before .before .before .before .before .«record» .given .1))) (c .before .before .end .given .1) in (v .within, c .before .before .before .before .before .before .before .before .before .before .before .before .before .before .before .before .before .before .pre .1 .4))  -- in-order-peek-requires-2
     (λ c. omega (arith, c .before .before .before .before .before .before .before .before .before .before .before .loop-test .taken, c .before .before .before .before .before .before .before .before .before .before .before .before .before .before .before .before .before .before .before .pre .1 .2))  -- in-order-add-j
     (λ c. search needs)  -- in-order-loop-less
-    (λ c. let v = value-done _ _ _ _ _ (c .before .before .before .before .before .before .before .before .before .before .before .before .loop .inv .1) _ _ _ (is-begun (c .before .before .before .before .before .before .before .before .before .before .before .before .before .before .before .before .before .before .before .pre .1 .0) (λ i. c .before .before .before .before .before .before .before .before .before .before .before .before .before .before .before .before .before .before .shared-slice-known .given i .fits) (now (c .before .before .before .before .before .before .before .before .before .before .before .before .before .before .before .before .before .before .before .args .m)) (λ i. c .before .before .before .before .before .before .before .before .before .before .before .before .before .before .before .shared-slice-known4 .given i .fits) (c .before .before .before .before .before .before .before .before .before .before .before .before .loop .at) (c .before .before .before .before .before .before .before .before .before .before .octet .result) (c .before .before .before .before .before .before .before .before .before .before .before .before .loop .code) (c .before .before .before .before .before .before .before .before .before .before .before .before .loop .inv .4) _ (c .before .before .before .before .before .before .before .before .before .seek .ensures) _ _ (c .before .before .before .before .before .before .before .«record» .given .1)) (c .before .before .before .before .before .under .ensures ∙ sym (found-lifted (c .before .before .before .before .before .before .before .before .before .before .before .before .before .before .before .before .before .before .before .pre .1 .0) (λ i. c .before .before .before .before .before .before .before .before .before .before .before .before .before .before .before .before .before .before .shared-slice-known .given i .fits) (now (c .before .before .before .before .before .before .before .before .before .before .before .before .before .before .before .before .before .before .before .args .m)) (λ i. c .before .before .before .before .before .before .before .before .before .before .before .before .before .before .before .shared-slice-known4 .given i .fits) (c .before .before .before .before .before .before .before .before .before .before .before .before .loop .at) (c .before .before .before .before .before .before .before .before .before .before .before .before .before .before .before .before .before .before .before .args .level) (c .before .before .before .before .before .before .before .before .before .before .before .before .loop .code) (c .before .before .before .before .before .before .before .before .before .before .before .before .loop .inv .4) _ (c .before .before .before .before .before .before .before .before .before .before .octet .result) (c .before .before .before .before .before .before .before .before .before .seek .ensures) _ _ (c .before .before .before .before .before .before .before .«record» .given .1))) (c .before .before .before .end .given .1) in let l : length (now (c .before .before .before .before .before .before .before .before .before .before .before .before .before .before .before .before .before .before .before .args .began)) ≡ 16 = ap length (c .before .before .before .before .before .before .before .before .before .before .before .before .before .before .before .before .before .before .before .pre .1 .6) in (omega (arith, c .before .before .before .before .before .before .before .before .before .before .before .loop-test .taken), v .within, rw (c .before .grow .ensures) (cap-below _), rw length-set (c .before .before .before .before .before .before .before .before .before .before .before .before .loop .inv .3), c .peek2 .ensures, rw (c .before .grow .ensures) (pass-came _ _ _ _ _ (c .before .before .before .before .before .before .before .before .before .before .before .before .before .before .before .before .before .before .before .args .marked) _ _ _ _ _ _ (c .before .before .before .before .before .before .before .before .before .before .before .before .loop .inv .1) (c .before .before .before .before .before .before .before .before .before .before .before .before .loop .inv .5) (c .before .before .before .before .before .before .before .before .before .before .before .loop-test .taken) _ (c .before .before .before .before .before .before .before .before .before .before .octet .ensures .0) _ _ (omega (arith, c .before .before .before .before .before .before .before .before .before .before .before .before .loop .inv .3, c .before .before .before .before .before .before .before .before .before .before .before .loop-test .taken, c .before .before .before .before .before .before .before .before .before .before .before .before .before .before .before .before .before .before .before .pre .1 .2)) v)))  -- in-order-loop-again
+    (λ c. let v = value-done _ _ _ _ _ (c .before .before .before .before .before .before .before .before .before .before .before .before .loop .inv .1) _ _ _ (is-begun (c .before .before .before .before .before .before .before .before .before .before .before .before .before .before .before .before .before .before .before .pre .1 .0) (λ i. c .before .before .before .before .before .before .before .before .before .before .before .before .before .before .before .before .before .before .shared-slice-known .given i .fits) (now (c .before .before .before .before .before .before .before .before .before .before .before .before .before .before .before .before .before .before .before .args .m)) (λ i. c .before .before .before .before .before .before .before .before .before .before .before .before .before .before .before .shared-slice-known4 .given i .fits) (c .before .before .before .before .before .before .before .before .before .before .before .before .loop .at) (c .before .before .before .before .before .before .before .before .before .before .octet .result) (c .before .before .before .before .before .before .before .before .before .before .before .before .loop .code) (c .before .before .before .before .before .before .before .before .before .before .before .before .loop .inv .4) _ (c .before .before .before .before .before .before .before .before .before .seek .ensures) _ _ (c .before .before .before .before .before .before .before .«record» .given .1)) (c .before .before .before .before .before .member .ensures ∙ sym (found-lifted (c .before .before .before .before .before .before .before .before .before .before .before .before .before .before .before .before .before .before .before .pre .1 .0) (λ i. c .before .before .before .before .before .before .before .before .before .before .before .before .before .before .before .before .before .before .shared-slice-known .given i .fits) (now (c .before .before .before .before .before .before .before .before .before .before .before .before .before .before .before .before .before .before .before .args .m)) (λ i. c .before .before .before .before .before .before .before .before .before .before .before .before .before .before .before .shared-slice-known4 .given i .fits) (c .before .before .before .before .before .before .before .before .before .before .before .before .loop .at) (c .before .before .before .before .before .before .before .before .before .before .before .before .before .before .before .before .before .before .before .args .level) (c .before .before .before .before .before .before .before .before .before .before .before .before .loop .code) (c .before .before .before .before .before .before .before .before .before .before .before .before .loop .inv .4) _ (c .before .before .before .before .before .before .before .before .before .before .octet .result) (c .before .before .before .before .before .before .before .before .before .seek .ensures) _ _ (c .before .before .before .before .before .before .before .«record» .given .1))) (c .before .before .before .end .given .1) in let l : length (now (c .before .before .before .before .before .before .before .before .before .before .before .before .before .before .before .before .before .before .before .args .began)) ≡ 16 = ap length (c .before .before .before .before .before .before .before .before .before .before .before .before .before .before .before .before .before .before .before .pre .1 .6) in (omega (arith, c .before .before .before .before .before .before .before .before .before .before .before .loop-test .taken), v .within, rw (c .before .grow .ensures) (cap-below _), rw length-set (c .before .before .before .before .before .before .before .before .before .before .before .before .loop .inv .3), c .peek2 .ensures, rw (c .before .grow .ensures) (pass-came _ _ _ _ _ (c .before .before .before .before .before .before .before .before .before .before .before .before .before .before .before .before .before .before .before .args .marked) _ _ _ _ _ _ (c .before .before .before .before .before .before .before .before .before .before .before .before .loop .inv .1) (c .before .before .before .before .before .before .before .before .before .before .before .before .loop .inv .5) (c .before .before .before .before .before .before .before .before .before .before .before .loop-test .taken) _ (c .before .before .before .before .before .before .before .before .before .before .octet .ensures .0) _ _ (omega (arith, c .before .before .before .before .before .before .before .before .before .before .before .before .loop .inv .3, c .before .before .before .before .before .before .before .before .before .before .before .loop-test .taken, c .before .before .before .before .before .before .before .before .before .before .before .before .before .before .before .before .before .before .before .pre .1 .2)) v)))  -- in-order-loop-again
     (λ c. search needs)  -- in-order-enum-told
     (λ c. search needs)  -- in-order-add-f
     (λ c κs. search needs)  -- in-order-octet-requires-2
@@ -482,6 +495,27 @@ pub +alternative+any-order+body+constructed+elements+in-order+item+step+under+va
     (λ c κs. (c .before .before .before .before .before .before .before .before .pre .1 .0, c .before .before .before .offset .ensures))  -- item-code-of-requires-2
     (λ c κs. (omega (arith, c .before .before .before .before .before .before .before .before .before .pre .0), (c .before .before .before .before .before .before .before .before .before .pre .1 .0, shaped-at (c .before .before .before .before .before .before .before .before .before .pre .1 .0) _ _ (c .before .before .before .before .offset .ensures), c .before .before .before .before .before .before .before .before .before .pre .1 .1, c .before .before .before .before .before .before .before .before .before .pre .1 .2, c .before .before .before .before .before .before .before .before .before .pre .1 .3)))  -- item-constructed-requires
     (λ c. rw (⊎-elim (λ g. item-members (now (c .before .before .before .before .before .before .before .before .before .before .args .table)) (now (c .before .before .before .before .before .before .before .before .before .before .args .offsets)) (c .before .before .before .before .before .before .before .before .before .before .args .level) (c .before .before .before .before .before .before .before .before .before .before .args .t) (c .before .before .before .before .before .offset .result) (c .before .before .before .before .kind .result) (drop (c .before .before .before .before .before .before .before .before .before .before .args .at) (now (c .before .before .before .before .before .before .before .before .before .before .args .m))) (c .before .before .before .form-of .result) (c .before .before .before .before .before .offset .ensures) (c .before .before .before .before .kind .ensures .0) (c .before .before .before .form-of .ensures) (c .before .code-of2 .result) (headed (c .before .before .before .before .before .before .before .before .before .before .pre .1 .0) (λ i. c .before .before .before .before .before .before .before .before .before .shared-slice-known .given i .fits) (now (c .before .before .before .before .before .before .before .before .before .before .args .m)) (λ i. c .before .before .before .before .before .before .shared-slice-known4 .given i .fits) (c .before .before .before .before .before .before .before .before .before .before .args .at) (c .before .before .before .before .before .before .before .before .before .before .args .t) (c .before .before .before .before .before .offset .result) (c .before .code-of2 .result) (c .before .before .before .before .before .offset .ensures) (c .before .code-of2 .ensures)) (g .1 .given .1)) (λ g. item-of (now (c .before .before .before .before .before .before .before .before .before .before .args .table)) (now (c .before .before .before .before .before .before .before .before .before .before .args .offsets)) (c .before .before .before .before .before .before .before .before .before .before .args .level) (c .before .before .before .before .before .before .before .before .before .before .args .t) (c .before .before .before .before .before .offset .result) (c .before .before .before .before .kind .result) (drop (c .before .before .before .before .before .before .before .before .before .before .args .at) (now (c .before .before .before .before .before .before .before .before .before .before .args .m))) (c .before .before .before .form-of .result) (c .before .before .before .before .before .offset .ensures) (c .before .before .before .before .kind .ensures .0) (c .before .before .before .form-of .ensures) (c .before .code-of2 .result) (headed (c .before .before .before .before .before .before .before .before .before .before .pre .1 .0) (λ i. c .before .before .before .before .before .before .before .before .before .shared-slice-known .given i .fits) (now (c .before .before .before .before .before .before .before .before .before .before .args .m)) (λ i. c .before .before .before .before .before .before .shared-slice-known4 .given i .fits) (c .before .before .before .before .before .before .before .before .before .before .args .at) (c .before .before .before .before .before .before .before .before .before .before .args .t) (c .before .before .before .before .before .offset .result) (c .before .code-of2 .result) (c .before .before .before .before .before .offset .ensures) (c .before .code-of2 .ensures)) (g .1 .given .1)) (c .before .before .match .came)) (c .constructed .ensures)))  -- item-returns-3
+    (λ t. member-lts.spec (
+      offset-reads.Asked,
+      offset-reads.Learnt,
+      is-plain-reads.Asked,
+      is-plain-reads.Learnt,
+      first-reads.Asked,
+      first-reads.Learnt,
+      simple-reads.Asked,
+      simple-reads.Learnt,
+      under-below t,
+      under.Post,
+    )
+    (member-at t)
+    member.Post
+    (λ c κs. search needs)  -- member-offset-requires
+    (λ c κs. search needs)  -- member-is-plain-requires
+    (λ c κs. search needs)  -- member-first-requires
+    (λ c κs. (c .before .before .is-plain .ensures (c .before .if3 .taken) .1, c .before .before .before .before .before .before .before .before .before .before .pre .1 .1, c .before .before .before .before .before .before .before .before .before .before .pre .1 .2))  -- member-simple-requires
+    (λ c. under-none (look (now (c .before .before .before .before .before .before .before .before .before .before .before .args .table)) (now (c .before .before .before .before .before .before .before .before .before .before .before .args .offsets))) (now (c .before .before .before .before .before .before .before .before .before .before .before .args .m)) (c .before .before .before .before .before .before .before .before .before .before .before .args .at) (c .before .before .before .before .before .before .before .before .before .before .before .args .level) (c .before .before .before .before .before .before .before .before .before .before .before .args .t) (c .before .before .before .before .before .before .before .before .before .before .before .args .depth) (c .before .before .before .before .before .before .if1 .taken) (c .before .before .before .before .before .if2 .taken) _ (rw (plain-value (c .before .before .before .before .before .before .before .before .before .before .before .pre .1 .0) (λ i. c .before .before .before .before .before .before .before .before .before .before .shared-slice-known .given i .fits) (now (c .before .before .before .before .before .before .before .before .before .before .before .args .m)) (λ i. c .before .before .before .before .before .before .before .shared-slice-known4 .given i .fits) (c .before .before .before .before .before .before .before .before .before .before .before .args .at) (c .before .before .before .before .before .before .before .before .before .before .before .args .level) (c .before .before .before .before .before .before .before .before .before .before .before .args .t) (c .before .before .before .before .offset .result) (c .before .first .result) (c .before .before .before .before .offset .ensures) (c .before .before .before .before .before .if2 .taken) (c .before .before .before .is-plain .ensures (c .before .before .if3 .taken) .0) (c .before .before .before .is-plain .ensures (c .before .before .if3 .taken) .1) (c .before .first .ensures .0)) (c .simple .ensures)))  -- member-returns
+    (λ c κs. (omega (arith, c .before .before .before .before .before .pre .0), (c .before .before .before .before .before .pre .1 .0, c .before .before .before .before .before .pre .1 .1, c .before .before .before .before .before .pre .1 .2, c .before .before .before .before .before .pre .1 .3, c .before .before .before .before .before .pre .1 .4)))  -- member-under-requires
+    (λ c. c .under .ensures))  -- member-returns-2
     (λ t. step-lts.spec (
       peek-reads.Asked,
       peek-reads.Learnt,
