@@ -48,7 +48,7 @@ use table::record::own;
 use table::record::tag_count;
 
 // The code of the own identifier of record t, which begins at o.
-pub(crate) fn code_of(table: &[u8], offsets: &[u16], firsts: &[u32], t: usize, o: u16) -> usize
+fn code_of(table: &[u8], offsets: &[u16], firsts: &[u32], t: usize, o: u16) -> usize
     requires { ⌜ Ready (now table) (now offsets) (now firsts) × (o ≡ getD (now offsets) t 65535) ⌝ }
     ensures { λ r. ⌜ r ≡ codeOf (Tags·own (recordAt (now (table .entry)) o)) ⌝ }
 {
@@ -79,7 +79,7 @@ fn simple(table: &[u8], o: u16, code: usize, m: &[u8], at: usize) -> Measured
 }
 
 // A value of type t, with its explicit tags.
-pub(crate) fn value(
+fn value(
     table: &[u8],
     offsets: &[u16],
     firsts: &[u32],
@@ -170,7 +170,7 @@ fn alternative(
 }
 
 // A value of type t under CHOICEs without tags.
-pub(crate) fn under(
+fn under(
     table: &[u8],
     offsets: &[u16],
     firsts: &[u32],
@@ -222,7 +222,7 @@ fn member(
 }
 
 // The next item, which must begin a value of type t.
-pub(crate) fn step(
+fn step(
     table: &[u8],
     offsets: &[u16],
     firsts: &[u32],
