@@ -20,17 +20,18 @@ use Rattle.table.proofs.Own.{at as at-kind}
 use Rattle.coding.specs.Value.{Value, set, slots}
 use Rattle.coding.specs.Tags.{explicit}
 use Rattle.coding.specs.Reading.{begun, nothing, readSet, readBody, readValue}
-use Rattle.reader.specs.Answers.{cap, told, sizesIn}
-use Rattle.reader.specs.Codes.{Ready, Shaped, peeked, searchIn}
-use Rattle.reader.specs.Noting.{Noted, Located, readMembers}
-use Rattle.reader.specs.Writing.{IsDone, written, rest, found, partsOf, presenceOf, Right, Fits, IsPlaced}
-use Rattle.reader.specs.declared.answer.Measured.the-variants.{Done}
-use Rattle.reader.specs.declared.search.Found.{Found}
-use Rattle.reader.specs.declared.search.Found.the-variants.{Nothing, At}
-use Rattle.reader.proofs.Told.{left-at}
-use Rattle.reader.proofs.Placing.{presence-length}
-use Rattle.reader.proofs.Begun.{not-begun, is-begun}
-use Rattle.reader.proofs.Turns.{its-members, scanned, written-length, count-few, members-written}
+use Rattle.message.specs.Answers.{cap, told, sizesIn}
+use Rattle.message.specs.Codes.{Ready, Shaped, peeked, searchIn}
+use Rattle.measuring.specs.Noting.{Noted, Located, readMembers}
+use Rattle.measuring.specs.Writing.{IsDone, written, rest, partsOf, presenceOf, Right}
+use Rattle.reader.specs.Placed.{found, Fits, IsPlaced}
+use Rattle.message.specs.declared.answer.Measured.the-variants.{Done}
+use Rattle.message.specs.declared.search.Found.{Found}
+use Rattle.message.specs.declared.search.Found.the-variants.{Nothing, At}
+use Rattle.message.proofs.Told.{left-at}
+use Rattle.measuring.proofs.Placing.{presence-length}
+use Rattle.message.proofs.Begun.{not-begun, is-begun}
+use Rattle.measuring.proofs.Turns.{its-members, scanned, written-length, count-few, members-written}
 
 -- the contents of the SET at o
 form : formOf 17 ≡ FMembers

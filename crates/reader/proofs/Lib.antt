@@ -1,30 +1,8 @@
--- Laws by which the functions that read a message are proved.
+-- Laws of placing, and of the outcome of reading.
 -- Assumes nothing.
-pub mod Told
-pub mod Integers
-pub mod Searching
-pub mod Simple
-pub mod Coded
-pub mod Plain
-pub mod Placing
-pub mod Done
-pub mod Forms
-pub mod Records
-pub mod Begun
-pub mod Turns
-pub mod Wrapping
-pub mod Under
-pub mod Lacking
-pub mod Passing
 pub mod Outcomes
-pub mod Arriving
-pub mod Measuring
 pub mod Rests
-pub mod Spans
 pub mod Spanned
 pub mod Rows
 pub mod Runs
 pub mod Bodies
-pub mod Skipped
-pub mod Past
-pub mod Locating

@@ -24,10 +24,10 @@ use Rattle.coding.specs.declared.MessageCause.the-variants.{TooLong, Room}
 use Rattle.coding.specs.declared.Refusal.the-variants.{Table as of-table, Message as of-message}
 use Rattle.coding.specs.declared.Answer.the-variants.{Done as done, Refused as refusal}
 use Rattle.coding.proofs.Checked.{Says}
-use Rattle.reader.specs.Answers.{cap, told, size}
-use Rattle.reader.specs.Writing.{IsDone, written}
-use Rattle.reader.specs.declared.answer.Measured.{Measured}
-use Rattle.reader.specs.declared.answer.Measured.the-variants.{Done, Refused}
+use Rattle.message.specs.Answers.{cap, told, size}
+use Rattle.measuring.specs.Writing.{IsDone, written}
+use Rattle.message.specs.declared.answer.Measured.{Measured}
+use Rattle.message.specs.declared.answer.Measured.the-variants.{Done, Refused}
 
 -- the buffer behind a part of it that was lent on
 pub rejoined : (s : ℕ) (buf w : List ℕ) → length w ≡ length (take s buf) → length (w ++ drop s buf) ≡ length buf

@@ -30,22 +30,23 @@ use Rattle.coding.specs.ContentLaws.{content-sound}
 use Rattle.coding.specs.Tags.{own, explicit}
 use Rattle.coding.specs.Sound.{value-sound}
 use Rattle.coding.specs.Reading.{begun, readValue, readKind, readBody, choose}
-use Rattle.reader.specs.Answers.{told, asLength}
-use Rattle.reader.specs.Codes.{codeOf, peeked, headerBy, plainBy, constructedBy}
-use Rattle.reader.specs.Wraps.{ended, shut, innerEnd, closing, Around, Opens}
-use Rattle.reader.specs.Writing.{IsDone, written, rest, leafOf, Lawful, Fits, IsPlaced}
-use Rattle.reader.specs.declared.answer.Measured.{Measured}
-use Rattle.reader.specs.declared.answer.Measured.the-variants.{Done, Refused}
-use Rattle.reader.specs.declared.length.Length.{Length}
-use Rattle.reader.specs.declared.length.Length.the-variants.{Definite, Indefinite, Refused as NoLength}
+use Rattle.message.specs.Answers.{told, asLength}
+use Rattle.message.specs.Codes.{codeOf, peeked, headerBy, plainBy, constructedBy}
+use Rattle.measuring.specs.Wraps.{ended, shut, innerEnd, closing, Around, Opens}
+use Rattle.measuring.specs.Writing.{IsDone, written, rest, leafOf, Lawful}
+use Rattle.reader.specs.Placed.{Fits, IsPlaced}
+use Rattle.message.specs.declared.answer.Measured.{Measured}
+use Rattle.message.specs.declared.answer.Measured.the-variants.{Done, Refused}
+use Rattle.message.specs.declared.length.Length.{Length}
+use Rattle.message.specs.declared.length.Length.the-variants.{Definite, Indefinite, Refused as NoLength}
 use Rattle.reader.specs.declared.place.Placed.{Placed}
-use Rattle.reader.specs.declared.wrap.Opened.{Opened}
-use Rattle.reader.specs.declared.wrap.Opened.the-variants.{Inside, Refused as NotOpened}
-use Rattle.reader.proofs.Done.{done-got, level-some, value-is, bare-is, opened, not-opened, header-definite, header-indefinite, header-none, in-part, not-headed}
-use Rattle.reader.proofs.Forms.{readPlain, leafy, read-by, the-item, item-choice}
-use Rattle.reader.proofs.Turns.{choose-found, choose-hit, choice-written}
-use Rattle.reader.proofs.Plain.{IsSimple, plain-body}
-use Rattle.reader.proofs.Told.{told-not}
+use Rattle.measuring.specs.declared.wrap.Opened.{Opened}
+use Rattle.measuring.specs.declared.wrap.Opened.the-variants.{Inside, Refused as NotOpened}
+use Rattle.measuring.proofs.Done.{done-got, level-some, value-is, bare-is, opened, not-opened, header-definite, header-indefinite, header-none, in-part, not-headed}
+use Rattle.measuring.proofs.Forms.{readPlain, leafy, read-by, the-item, item-choice}
+use Rattle.measuring.proofs.Turns.{choose-found, choose-hit, choice-written}
+use Rattle.message.proofs.Plain.{IsSimple, plain-body}
+use Rattle.message.proofs.Told.{told-not}
 
 -- answers that differ in what was read alone
 data Alike {A B : Type 0} : Answer A → Answer B → Type 0 where

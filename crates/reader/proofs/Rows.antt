@@ -19,11 +19,12 @@ use Rattle.table.proofs.Pieces.{length-members}
 use Rattle.coding.specs.Value.{Value, sequence, slots, octets, count, presence, parts}
 use Rattle.coding.specs.Sound.{not-awaited}
 use Rattle.coding.specs.Reading.{begun, unwanted, readSequence, readBody, readValue}
-use Rattle.reader.specs.Answers.{mode}
-use Rattle.reader.specs.Writing.{IsDone, written, rest, Fits, IsPlaced}
+use Rattle.message.specs.Answers.{mode}
+use Rattle.measuring.specs.Writing.{IsDone, written, rest}
+use Rattle.reader.specs.Placed.{Fits, IsPlaced}
 use Rattle.reader.specs.declared.place.Placed.{Placed}
-use Rattle.reader.proofs.Placing.{sets-append}
-use Rattle.reader.proofs.Turns.{set-sets, choice-sets, members-step, members-first, members-none}
+use Rattle.measuring.proofs.Placing.{sets-append}
+use Rattle.measuring.proofs.Turns.{set-sets, choice-sets, members-step, members-first, members-none}
 
 -- members in a row
 slots-parts : (os us : List (Option Value)) → parts (slots (os ++ us)) ≡ parts (slots os) ++ parts (slots us)

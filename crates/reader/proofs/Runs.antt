@@ -22,14 +22,15 @@ use Rattle.coding.specs.Value.{Value, Slots, sequenceOf, setOf, bag, octets, co
 use Rattle.coding.specs.Sound.{not-awaited}
 use Rattle.coding.specs.Refusals.{value-shorter}
 use Rattle.coding.specs.Reading.{begun, notAwaited, readMany, readBody, readValue}
-use Rattle.reader.specs.Answers.{mode, endOf}
-use Rattle.reader.specs.Writing.{IsDone, written, rest, Fits, IsPlaced}
-use Rattle.reader.specs.declared.ending.End.{End}
-use Rattle.reader.specs.declared.ending.End.the-variants.{More, Over, Broken}
+use Rattle.message.specs.Answers.{mode, endOf}
+use Rattle.measuring.specs.Writing.{IsDone, written, rest}
+use Rattle.reader.specs.Placed.{Fits, IsPlaced}
+use Rattle.message.specs.declared.ending.End.{End}
+use Rattle.message.specs.declared.ending.End.the-variants.{More, Over, Broken}
 use Rattle.reader.specs.declared.place.Placed.{Placed}
-use Rattle.reader.proofs.Told.{at-more, at-over, at-broken}
-use Rattle.reader.proofs.Placing.{sets-append}
-use Rattle.reader.proofs.Turns.{of-written}
+use Rattle.message.proofs.Told.{at-more, at-over, at-broken}
+use Rattle.measuring.proofs.Placing.{sets-append}
+use Rattle.measuring.proofs.Turns.{of-written}
 use Rattle.reader.proofs.Rows.{anything, those, those-got}
 
 -- elements in a row

@@ -15,21 +15,22 @@ use Rattle.ber.specs.ItemLaws.{Ends, no-more, atEnd-holds}
 use Rattle.table.specs.Syntax.{Member, Body, Plain, Sequence, Set, SequenceOf, SetOf, Choice, Table}
 use Rattle.coding.specs.Value.{Value}
 use Rattle.coding.specs.Reading.{notAwaited, unwanted, nothing, place, readSequence, readSet, readMany, readBody}
-use Rattle.reader.specs.Answers.{cap, told, size, mode, asLength}
-use Rattle.reader.specs.Codes.{headerBy, constructedBy}
-use Rattle.reader.specs.Wraps.{spanOf}
-use Rattle.reader.specs.Writing.{rest, Fits, IsPlaced}
-use Rattle.reader.specs.declared.answer.Measured.{Measured}
-use Rattle.reader.specs.declared.answer.Measured.the-variants.{Done, Refused}
-use Rattle.reader.specs.declared.length.Length.{Length}
-use Rattle.reader.specs.declared.length.Length.the-variants.{Definite, Indefinite, Refused as NoLength}
+use Rattle.message.specs.Answers.{cap, told, size, mode, asLength}
+use Rattle.message.specs.Codes.{headerBy, constructedBy}
+use Rattle.measuring.specs.Wraps.{spanOf}
+use Rattle.measuring.specs.Writing.{rest}
+use Rattle.reader.specs.Placed.{Fits, IsPlaced}
+use Rattle.message.specs.declared.answer.Measured.{Measured}
+use Rattle.message.specs.declared.answer.Measured.the-variants.{Done, Refused}
+use Rattle.message.specs.declared.length.Length.{Length}
+use Rattle.message.specs.declared.length.Length.the-variants.{Definite, Indefinite, Refused as NoLength}
 use Rattle.reader.specs.declared.place.Placed.{Placed}
-use Rattle.reader.specs.declared.wrap.Entered.{Entered}
-use Rattle.reader.specs.declared.wrap.Entered.the-variants.{Inside as InsideOne, Refused as NotOne}
-use Rattle.reader.proofs.Done.{header-definite, header-indefinite}
-use Rattle.reader.proofs.Measuring.{built-no, built-open, built-part-no, built-part-done}
+use Rattle.measuring.specs.declared.wrap.Entered.{Entered}
+use Rattle.measuring.specs.declared.wrap.Entered.the-variants.{Inside as InsideOne, Refused as NotOne}
+use Rattle.measuring.proofs.Done.{header-definite, header-indefinite}
+use Rattle.measuring.proofs.Measuring.{built-no, built-open, built-part-no, built-part-done}
 use Rattle.reader.proofs.Rests.{must-head, part-fits, part-placed, rest-is}
-use Rattle.reader.proofs.Spans.{Whole, body-whole}
+use Rattle.measuring.proofs.Spans.{Whole, body-whole}
 
 rest-whole : {A : Type 0} (x : Answer A) → Holds Whole x → length (rest x) ≡ 0
 unfolding rest

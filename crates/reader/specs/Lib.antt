@@ -1,8 +1,3 @@
--- What the functions that read a message answer, in terms of the reading of messages.
+-- What placing a value requires and leaves.
 -- Assumes nothing.
-pub mod Answers
-pub mod Codes
-pub mod Wraps
-pub mod Noting
-pub mod Writing
-pub mod Skipping
+pub mod Placed

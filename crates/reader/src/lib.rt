@@ -1,18 +1,5 @@
 // Reads messages into values: a message is measured, which finds every refusal, and its value is then placed into a lent buffer.
-mod answer;
-mod contents;
-mod ending;
-mod first;
-mod header;
-mod identifier;
-mod integer;
-mod length;
-mod measure;
-mod members;
 mod place;
-mod search;
-mod skip;
-mod wrap;
 
 ghost use mathlib.Core.Path.{_≡_};
 ghost use Prim.Native.Nat.{_≤_};
@@ -21,13 +8,13 @@ ghost use Rattle.table.specs.Passes.{Passes};
 ghost use Rattle.table.specs.Reading.{look};
 ghost use Rattle.coding.specs.Causes.{messageCause};
 ghost use Rattle.coding.specs.Outcome.{readOutcome, wholeRead};
-ghost use Rattle.reader.specs.Codes.{Ready};
-use answer::Measured;
+ghost use Rattle.message.specs.Codes.{Ready};
 use coding::Answer;
 use coding::MessageCause;
 use coding::Refusal;
-use first::fill_firsts;
-use measure::measure_message;
+use measuring::measure::measure_message;
+use message::answer::Measured;
+use message::first::fill_firsts;
 use place::place_value;
 use table::TableCause;
 use table::Verdict;

@@ -12,7 +12,7 @@ use Rattle.reader.proofs.read_by.Tie as tie
 use Rattle.reader.proofs.read_by.Reads as reads
 use Rattle.reader.proofs.read_by.Lts as lts
 use Rattle.reader.proofs.cause_of.Reads as cause-of-reads
-use Rattle.reader.proofs.measure.measure_message.Reads as measure-message-reads
+use Rattle.measuring.proofs.measure.measure_message.Reads as measure-message-reads
 use Rattle.reader.proofs.place.place_value.Reads as place-value-reads
 
 pub read-by-spec : {M : Type 1} → statement M

@@ -9,7 +9,7 @@ use Rattle.reader.proofs.read_passed.Statement.{statement}
 use Rattle.reader.proofs.read_passed.Tie as tie
 use Rattle.reader.proofs.read_passed.Reads as reads
 use Rattle.reader.proofs.read_passed.Lts as lts
-use Rattle.reader.proofs.first.fill_firsts.Reads as fill-firsts-reads
+use Rattle.message.proofs.first.fill_firsts.Reads as fill-firsts-reads
 use Rattle.reader.proofs.read_by.Reads as read-by-reads
 
 pub read-passed-spec : {M : Type 1} → statement M

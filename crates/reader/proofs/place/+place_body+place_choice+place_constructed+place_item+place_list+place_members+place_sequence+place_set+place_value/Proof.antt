@@ -11,12 +11,12 @@ use Rattle.ber.specs.Identifier.{readIdentifier}
 use Rattle.table.specs.Rules.{parts}
 use Rattle.table.specs.Reading.{look, recordAt, membersAt, everyAt}
 use Rattle.coding.specs.Reading.{readMany, readSequence, choose, readValue}
-use Rattle.reader.specs.Answers.{mode}
-use Rattle.reader.specs.Codes.{peeked}
-use Rattle.reader.proofs.Records.{few-tags, shaped-at}
-use Rattle.reader.proofs.Turns.{choose-first, choose-miss, choose-end, Left, left-none, left-end, left-skip, left-head, left-take}
+use Rattle.message.specs.Answers.{mode}
+use Rattle.message.specs.Codes.{peeked}
+use Rattle.message.proofs.Records.{few-tags, shaped-at}
+use Rattle.measuring.proofs.Turns.{choose-first, choose-miss, choose-end, Left, left-none, left-end, left-skip, left-head, left-take}
 use Rattle.reader.proofs.Rests.{some-level, within, must-open, must-close, closed-placed, as-choice, as-plain, as-members, as-of, plain-value, chosen-room, chosen-fits, chosen-placed}
-use Rattle.reader.proofs.Spans.{span-within}
+use Rattle.measuring.proofs.Spans.{span-within}
 use Rattle.reader.proofs.Spanned.{span-must, span-fits, span-placed}
 use Rattle.reader.proofs.Rows.{Row, row-none, row-miss, row-fits, row-hit, members-room, sequence-closed, sequence-open}
 use Rattle.reader.proofs.Runs.{Run, run-none, run-broken, run-fits, run-further, run-turn, elements-room, list-placed}
@@ -53,19 +53,19 @@ use Rattle.reader.proofs.place.place_value.Reads as place-value
 use Rattle.reader.proofs.place.place_value.Kinds as place-value-kinds
 use Rattle.reader.proofs.place.+place_body+place_choice+place_constructed+place_item+place_list+place_members+place_sequence+place_set+place_value.Lts-place_value as place-value-lts
 use Rattle.octets.proofs.octet.Reads as octet-reads
-use Rattle.reader.proofs.ending.ending.Reads as ending-reads
-use Rattle.reader.proofs.first.explicit_count.Reads as explicit-count-reads
-use Rattle.reader.proofs.wrap.span.Reads as span-reads
-use Rattle.reader.proofs.identifier.peek.Reads as peek-reads
-use Rattle.reader.proofs.members.locate.Reads as locate-reads
+use Rattle.message.proofs.ending.ending.Reads as ending-reads
+use Rattle.message.proofs.first.explicit_count.Reads as explicit-count-reads
+use Rattle.measuring.proofs.wrap.span.Reads as span-reads
+use Rattle.message.proofs.identifier.peek.Reads as peek-reads
+use Rattle.measuring.proofs.members.locate.Reads as locate-reads
 use Rattle.reader.proofs.place.begin_node.Reads as begin-node-reads
-use Rattle.reader.proofs.first.is_plain.Reads as is-plain-reads
+use Rattle.message.proofs.first.is_plain.Reads as is-plain-reads
 use Rattle.reader.proofs.place.place_simple.Reads as place-simple-reads
 use Rattle.reader.proofs.place.put_number.Reads as put-number-reads
 use Rattle.reader.proofs.place.put_presence.Reads as put-presence-reads
 use Rattle.reader.proofs.place.starts.Reads as starts-reads
-use Rattle.reader.proofs.wrap.close.Reads as close-reads
-use Rattle.reader.proofs.wrap.open.Reads as open-reads
+use Rattle.measuring.proofs.wrap.close.Reads as close-reads
+use Rattle.measuring.proofs.wrap.open.Reads as open-reads
 use Rattle.table.proofs.kind.form_of.Reads as form-of-reads
 use Rattle.table.proofs.record.kind.Reads as kind-reads
 use Rattle.table.proofs.record.offset.Reads as offset-reads

@@ -2,7 +2,7 @@ use mathlib.Core.Path.{refl}
 use native.Mathlib.Omega.{arith}
 use native.Mathlib.Numerals.{add-one}
 use lib.ListN.{length-set}
-use Rattle.reader.proofs.Placing.{two}
+use Rattle.measuring.proofs.Placing.{two}
 use borrow.Author.Needs.{needs}
 use Rattle.reader.proofs.place.begin_node.Statement.{statement}
 use Rattle.reader.proofs.place.begin_node.Tie as tie

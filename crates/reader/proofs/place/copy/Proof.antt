@@ -3,7 +3,7 @@ use Prim.Native.Nat.{_-_, _≤_}
 use native.Mathlib.Omega.{arith}
 use lib.ListN.{length, drop, length-set}
 use lib.Seq.{sets}
-use Rattle.reader.proofs.Placing.{copy-turn, copy-end, copied, copied-length, part-length}
+use Rattle.measuring.proofs.Placing.{copy-turn, copy-end, copied, copied-length, part-length}
 use borrow.Author.Needs.{needs}
 use Rattle.reader.proofs.place.copy.Statement.{statement}
 use Rattle.reader.proofs.place.copy.Tie as tie

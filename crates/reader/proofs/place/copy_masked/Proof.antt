@@ -5,7 +5,7 @@ use native.Mathlib.Omega.{arith}
 use denote.Ref.{now}
 use lib.ListN.{length, getD, length-set}
 use lib.Pow.{pow-pos}
-use Rattle.reader.proofs.Placing.{powers-is, masked-none, masked-end}
+use Rattle.measuring.proofs.Placing.{powers-is, masked-none, masked-end}
 use borrow.Author.Needs.{needs}
 use Rattle.reader.proofs.place.copy_masked.Statement.{statement}
 use Rattle.reader.proofs.place.copy_masked.Tie as tie

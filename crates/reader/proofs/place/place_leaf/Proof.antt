@@ -4,15 +4,15 @@ use denote.Ref.{now}
 use mir.Syntax.{w64}
 use mir.Facts.{toZ-ofZ}
 use lib.ListN.{length, length-set, length-drop}
-use Rattle.reader.specs.Writing.{leafOf}
-use Rattle.reader.proofs.Placing.{three, from-is, node-sets, number-sets, leaf-three, lawful-kind, lawful-boolean, lawful-integer, lawful-bits, lawful-enumerated, small-bits, boolean-octets, integer-octets, bits-octets, string-octets, null-octets, enumerated-octets, boolean-length, integer-length, bits-length, string-length, null-length, enumerated-length}
+use Rattle.measuring.specs.Writing.{leafOf}
+use Rattle.measuring.proofs.Placing.{three, from-is, node-sets, number-sets, leaf-three, lawful-kind, lawful-boolean, lawful-integer, lawful-bits, lawful-enumerated, small-bits, boolean-octets, integer-octets, bits-octets, string-octets, null-octets, enumerated-octets, boolean-length, integer-length, bits-length, string-length, null-length, enumerated-length}
 use borrow.Author.Needs.{needs}
 use Rattle.reader.proofs.place.place_leaf.Statement.{statement}
 use Rattle.reader.proofs.place.place_leaf.Tie as tie
 use Rattle.reader.proofs.place.place_leaf.Reads as reads
 use Rattle.reader.proofs.place.place_leaf.Lts as lts
-use Rattle.reader.proofs.integer.bits.Reads as bits-reads
-use Rattle.reader.proofs.integer.integer_of.Reads as integer-of-reads
+use Rattle.message.proofs.integer.bits.Reads as bits-reads
+use Rattle.message.proofs.integer.integer_of.Reads as integer-of-reads
 use Rattle.reader.proofs.place.begin_node.Reads as begin-node-reads
 use Rattle.reader.proofs.place.copy.Reads as copy-reads
 use Rattle.reader.proofs.place.copy_masked.Reads as copy-masked-reads

@@ -3,14 +3,14 @@ use Prim.Native.Nat.{_+_}
 use native.Mathlib.Omega.{arith}
 use denote.Ref.{now}
 use lib.ListN.{getD}
-use Rattle.reader.proofs.Placing.{part-length}
+use Rattle.measuring.proofs.Placing.{part-length}
 use Rattle.reader.proofs.Rests.{leafed, plain-headed, plain-closed}
 use borrow.Author.Needs.{needs}
 use Rattle.reader.proofs.place.place_simple.Statement.{statement}
 use Rattle.reader.proofs.place.place_simple.Tie as tie
 use Rattle.reader.proofs.place.place_simple.Reads as reads
 use Rattle.reader.proofs.place.place_simple.Lts as lts
-use Rattle.reader.proofs.header.header.Reads as header-reads
+use Rattle.message.proofs.header.header.Reads as header-reads
 use Rattle.reader.proofs.place.place_leaf.Reads as place-leaf-reads
 use Rattle.table.proofs.record.kind.Reads as kind-reads
 

@@ -3,7 +3,7 @@ use native.Mathlib.Omega.{arith}
 use native.Mathlib.Numerals.{add-one}
 use lib.ListN.{length-set}
 use Rattle.ber.specs.Integer.{eight}
-use Rattle.reader.proofs.Placing.{two, three, four, five, six, seven}
+use Rattle.measuring.proofs.Placing.{two, three, four, five, six, seven}
 use borrow.Author.Needs.{needs}
 use Rattle.reader.proofs.place.put_eight.Statement.{statement}
 use Rattle.reader.proofs.place.put_eight.Tie as tie

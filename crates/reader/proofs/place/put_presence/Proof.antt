@@ -3,8 +3,8 @@ use native.Mathlib.Omega.{arith}
 use Prim.Native.Nat.{_+_, _-_, _≤_}
 use lib.ListN.{length, drop, length-set}
 use lib.Seq.{sets}
-use Rattle.reader.specs.Writing.{presenceOf}
-use Rattle.reader.proofs.Placing.{presence-none, presence-turn, presence-end}
+use Rattle.measuring.specs.Writing.{presenceOf}
+use Rattle.measuring.proofs.Placing.{presence-none, presence-turn, presence-end}
 use borrow.Author.Needs.{needs}
 use Rattle.reader.proofs.place.put_presence.Statement.{statement}
 use Rattle.reader.proofs.place.put_presence.Tie as tie

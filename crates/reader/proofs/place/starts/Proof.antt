@@ -1,11 +1,11 @@
 use mathlib.Core.Path.{_≡_, sym, ap, _∙_}
-use Rattle.reader.specs.Writing.{found}
+use Rattle.reader.specs.Placed.{found}
 use borrow.Author.Needs.{needs}
 use Rattle.reader.proofs.place.starts.Statement.{statement}
 use Rattle.reader.proofs.place.starts.Tie as tie
 use Rattle.reader.proofs.place.starts.Reads as reads
 use Rattle.reader.proofs.place.starts.Lts as lts
-use Rattle.reader.proofs.search.seek.Reads as seek-reads
+use Rattle.message.proofs.search.seek.Reads as seek-reads
 
 pub starts-spec : {M : Type 1} → statement M
 starts-spec =
