@@ -220,13 +220,6 @@ module _ (code : ℕ) (m : List ℕ) (at : ℕ) (h : at ≤ length m) where
           let z = part-is start size m l in
           rw (x, z) (y .0, y .1, l)
 
-      pub in-rest : (start : ℕ) → r ≡ Indefinite start
-          → IsDone (body open-ended (drop start m)) × (written (constructedBy code body (drop at m)) ≡ written (body open-ended (drop start m))) × (start ≤ length m)
-      unfolding constructedBy then inside
-      in-rest start d =
-          let (x, l) = header-indefinite start d in
-          rw x (rw x at done, refl, l)
-
       pub not-headed : (c p : ℕ) → r ≡ NoLength c p → ⊥
       unfolding constructedBy then IsDone
       not-headed c p d = let (l, x) = header-none c p d in rw x at done

@@ -205,43 +205,6 @@ module _ (tb offs : List ℕ) (n t o k : ℕ) (s : List ℕ) (f : Form) (eo : o 
     unfolding readPrimitive
     item-simple g = the-item ∙ (rw g at read-by) ∙ rw eh refl
 
-module _ (tb offs : List ℕ) (n t o k : ℕ) (m : List ℕ) (at : ℕ) (f : Form) (eo : o ≡ getD offs t 65535) (ek : k ≡ getD tb (o + 2) 0) (ef : f ≡ formOf k) (simple : f ≡ FSimple)
-    (code : ℕ) (eh : headerBy code (drop at m) ≡ readHeader (own (recordAt tb o)) (drop at m)) (low : at ≤ length m)
-    (r : Length) (er : r ≡ asLength (length m) (headerBy code (drop at m)))
-    (d : IsDone (readKind (look tb offs) (readValue (look tb offs) n) (own (look tb offs t)) (look tb offs t .body) (drop at m))) where
-  item-done : IsDone (then (then (headerBy code (drop at m)) (contents (length (drop at m)))) λ c s₁. readPlain (recordAt tb o .body) (length (drop at m)) c s₁)
-  item-done = rw (item-simple tb offs n t o k (drop at m) f eo ek ef code eh simple) at d
-
-  pub leaf-not-headed : (c p : ℕ) → r ≡ NoLength c p → ⊥
-  unfolding then IsDone
-  leaf-not-headed c p g = let (l, x) = header-none code m at low r er c p g in rw x at item-done
-
-  pub leaf-not-open : (start : ℕ) → r ≡ Indefinite start → ⊥
-  unfolding then contents IsDone
-  leaf-not-open start g = let (x, l) = header-indefinite code m at low r er start g in rw x at item-done
-
-  pub record Simply (size start : ℕ) : Type 0 where
-    pub within : start + size ≤ length m
-    pub lawful : Lawful k (take (start + size - start) (drop start m))
-    pub is : written (readKind (look tb offs) (readValue (look tb offs) n) (own (look tb offs t)) (look tb offs t .body) (drop at m)) ≡ leafOctets (leafOf k (take (start + size - start) (drop start m)))
-
-  pub simply : Octets tb → (size start : ℕ) → r ≡ Definite size start → Simply size start
-  unfolding then contents recordAt
-  simply oc size start g =
-      let (x, l) = header-definite code m at low r er size start g in
-      let h : IsSimple (formOf (getD tb (o + 2) 0)) = rw (← ek, ← ef, simple) tt in
-      let z = leafy tb oc (ownAt tb o) (length (drop at m)) (take size (drop start m)) (drop size (drop start m)) (getD tb (o + 2) 0) h (rw x at item-done) in
-      let y = item-simple tb offs n t o k (drop at m) f eo ek ef code eh simple in
-      let q = add-sub-cancel-left start size in
-      record { within = l; lawful = rw (q, ek) (z .0); is = ap written y ∙ rw (x, ek, q) (z .1) }
-
--- the contents of a SEQUENCE or SET
-abbrev HasMembers : Form → Type 0
-HasMembers FSimple = ⊥
-HasMembers FMembers = Unit {0}
-HasMembers FOf = ⊥
-HasMembers FChoice = ⊥
-
 -- of the octets of an answer that has members: the kind, how many there are, which came, and those
 unfoldable pub gathered : ℕ → Answer (List (Option Value)) → List ℕ
 gathered k (got os w) = 86 ∷ 65 ∷ k ∷ count (slots os) ∷ (presence (slots os) ++ Value-of.parts (slots os))

@@ -309,21 +309,6 @@ pub record Hand (W : Answer (List Value)) (T : Table) (n t : ℕ) (k : Mode) (m 
 pub many-none : (T : Table) (n t : ℕ) (k : Mode) (m : List ℕ) (at : ℕ) → Hand (readMany T (readValue T n) (suc (length (drop at m))) t k [] (drop at m)) T n t k m at []
 many-none T n t k m at = record { fuel = length (drop at m); enough = omega arith; whole = refl }
 
--- and what is still to come
-pub record Going (W : Answer (List Value)) (T : Table) (n t : ℕ) (k : Mode) (m : List ℕ) (at : ℕ) (hand us : List Value) : Type 0 where
-  pub many : Hand W T n t k m at hand
-  pub last : List ℕ
-  pub final : W ≡ got (hand ++ us) last
-
-going-none : (T : Table) (n t : ℕ) (k : Mode) (m : List ℕ) (at : ℕ) → IsDone (readMany T (readValue T n) (suc (length (drop at m))) t k [] (drop at m))
-    → (us : List Value) × Going (readMany T (readValue T n) (suc (length (drop at m))) t k [] (drop at m)) T n t k m at [] us
-going-none T n t k m at d =
-    let (vs, w, e) = done-got (readMany T (readValue T n) (suc (length (drop at m))) t k [] (drop at m)) d in
-    (vs, record { many = many-none T n t k m at; last = w; final = e })
-
-cancel : (hand us vs : List Value) → hand ++ us ≡ hand ++ vs → us ≡ vs
-cancel hand us vs e = sym (drop-append-seam hand us) ∙ ap (drop (length hand)) e ∙ drop-append-seam hand vs
-
 -- a value that was awaited and came
 pub record Came (T : Table) (n t : ℕ) (m : List ℕ) (at end i : ℕ) : Type 0 where
   pub value : Value
@@ -404,72 +389,4 @@ module _ (W : Answer (List Value)) (T : Table) (n t : ℕ) (k : Bool) (m : List 
         fuel = S .fuel - 1;
         enough = omega (arith, S .enough, length-drop end m, length-drop at m, z .further, z .within);
         whole = rw (z .begins, z .is, s) at (many-more d);
-      }
-
-module _ (W : Answer (List Value)) (T : Table) (n t : ℕ) (k : Bool) (m : List ℕ) (at : ℕ) (low : at ≤ length m) (hand us : List Value) (S : Going W T n t (mode k) m at hand us)
-    (r : End) (e : r ≡ endOf k (length m) (drop at m)) where
-  going-over : (u : ℕ) → r ≡ Over u → us ≡ []
-  going-over u d = cancel hand us [] (got-value (sym (S .final) ∙ many-over W T n t k m at low hand (S .many) r e u d .0) ∙ sym (append-nil hand))
-
-  going-broken : (c p : ℕ) → r ≡ Broken c p → ⊥
-  going-broken c p d = refused≢got (sym (many-broken W T n t k m at low hand (S .many) r e c p d .0) ∙ S .final)
-
-  going-refused : (v : Measured) (c p : ℕ) → r ≡ More → v ≡ told m size (awaitedValue T n t (drop at m)) → v ≡ Refused c p → ⊥
-  going-refused v c p d h i = let (l, y, q) = many-refused W T n t k m at low hand (S .many) r e v c p d h i in refused≢got (sym y ∙ S .final)
-
-  going-step : {i : ℕ} (end : ℕ) → r ≡ More → (z : Came T n t m at end i) → (vs : List Value) × (us ≡ z .value ∷ vs) × Going W T n t (mode k) m end (hand ++ (z .value ∷ [])) vs
-  going-step end d z =
-      let q = many-step W T n t k m at low hand (S .many) r e end d z in
-      let o = got-holds (many-sound as-given T (EncodesAt as-given T n) (readValue T n) (value-sound as-given T n) (suc (q .fuel)) t (mode k) (hand ++ (z .value ∷ [])) (drop end m)) (sym (q .whole) ∙ S .final) in
-      let (vs, a, f) = o .body .has in
-      (vs, cancel hand us (z .value ∷ vs) (a ∙ append-snoc hand (z .value) vs), record { many = q; last = S .last; final = S .final ∙ ap (λ (l : List Value). got l (S .last)) a })
-
--- the loop that writes the elements
-pub record Items (W : Answer (List Value)) (T : Table) (n t : ℕ) (k : Mode) (m first : List ℕ) (to : ℕ) (buf : List ℕ) (at next i : ℕ) : Type 0 where
-  pub hand : List Value
-  pub us : List Value
-  pub going : Going W T n t k m at hand us
-  pub count : i ≡ length hand
-  pub long : to + length (writtenAll W) ≡ next + length (Value-of.parts (bag us))
-  pub target : sets first to (writtenAll W) ≡ sets buf next (Value-of.parts (bag us))
-
-pub items-none : (T : Table) (n t : ℕ) (k : Mode) (m first : List ℕ) (to at : ℕ) → IsDone (readMany T (readValue T n) (suc (length (drop at m))) t k [] (drop at m))
-    → Items (readMany T (readValue T n) (suc (length (drop at m))) t k [] (drop at m)) T n t k m first to first at to 0
-unfolding writtenAll
-items-none T n t k m first to at d =
-    let (us, g) = going-none T n t k m at d in
-    record { hand = []; us = us; going = g; count = refl; long = rw (g .final) refl; target = rw (g .final) refl }
-
-module _ (W : Answer (List Value)) (T : Table) (n t : ℕ) (k : Bool) (m first : List ℕ) (to : ℕ) (buf : List ℕ) (at next i : ℕ) (low : at ≤ length m) (S : Items W T n t (mode k) m first to buf at next i)
-    (r : End) (e : r ≡ endOf k (length m) (drop at m)) where
-  pub items-over : (u : ℕ) → r ≡ Over u → (next ≡ to + length (writtenAll W)) × (i ≡ counts W) × (buf ≡ sets first to (writtenAll W))
-  unfolding bag Value-of.parts counts
-  items-over u d =
-      let z = going-over W T n t k m at low (S .hand) (S .us) (S .going) r e u d in
-      let l = rw z at (S .long) in
-      (omega arith, S .count ∙ ap length (sym (append-nil (S .hand)) ∙ ap (λ (l : List Value). S .hand ++ l) (sym z)) ∙ sym (ap counts (S .going .final)), sym (rw z at (S .target)))
-
-  pub items-broken : (c p : ℕ) → r ≡ Broken c p → ⊥
-  items-broken c p d = going-broken W T n t k m at low (S .hand) (S .us) (S .going) r e c p d
-
-  pub items-refused : (v : Measured) (c p : ℕ) → r ≡ More → v ≡ told m size (awaitedValue T n t (drop at m)) → v ≡ Refused c p → ⊥
-  items-refused v c p d h i = going-refused W T n t k m at low (S .hand) (S .us) (S .going) r e v c p d h i
-
-  pub record Next (end : ℕ) : Type 0 where
-    pub done : IsDone (readValue T n t (drop at m))
-    pub fits : next + length (written (readValue T n t (drop at m))) ≤ to + length (writtenAll W)
-    pub after : Items W T n t (mode k) m first to (sets buf next (written (readValue T n t (drop at m)))) end (next + length (written (readValue T n t (drop at m)))) (i + 1)
-
-  pub items-turn : {h : ℕ} (end : ℕ) → r ≡ More → Came T n t m at end h → Next end
-  unfolding IsDone written bag Value-of.parts
-  items-turn end d z =
-      let (vs, a, g) = going-step W T n t k m at low (S .hand) (S .us) (S .going) r e end d z in
-      let l = rw (a, length-append) at (S .long) in
-      let q = rw (a, sets-append) at (S .target) in
-      let c : i + 1 ≡ length (S .hand ++ (z .value ∷ [])) = rw (S .count) (sym (length-append (S .hand) (z .value ∷ []))) in
-      let y = z .is in
-      record {
-        done = rw y tt;
-        fits = rw y (omega arith);
-        after = rw y (record { hand = S .hand ++ (z .value ∷ []); us = vs; going = g; count = c; long = omega arith; target = q });
       }
