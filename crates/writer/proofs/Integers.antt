@@ -1,25 +1,87 @@
--- The fewest octets of an integer: where they begin among eight, and those of a number of two octets.
+-- Integers of 64 bits and their octets, as the code reads and writes them.
 -- Assumes nothing.
 use mathlib.Core.Path.{_≡_, refl, sym, ap, _∙_}
-use mathlib.Core.Bool.{Bool, true, false, not, _&&_, _||_, false≢true}
+use mathlib.Core.Bool.{Bool, true, false, not, _&&_, _||_, true≢false, false≢true}
 use mathlib.Core.List.{List, [], _∷_, _++_}
-use Prim.Native.Nat.{ℕ, suc, _+_, _-_, _/_, _%_, _≤_, _<_}
+use Prim.Native.Nat.{ℕ, zero, suc, _+_, _-_, _*_, _/_, _%_, _^_, _≤_, _<_}
+use native.Mathlib.Nat.{zero-add, pow-suc, pow-le-pow-right}
+use native.Mathlib.Numerals.{add-one}
 use native.Mathlib.Omega.{arith}
-use borrow.Author.Tests.{ltb-true, ltb-false, lt-ltb, le-ltb, le-leb, lt-leb, eqb-true, eqb-false, ne-eqb}
+use borrow.Author.Tests.{ltb-true, ltb-false, lt-ltb, le-ltb, le-leb, lt-leb, eq-eqb, ne-eqb, eqb-true, eqb-false}
 use lib.Dec.{ltb, leb, eqb}
-use lib.IntN.{pos}
+use lib.IntN.{ℤ, pos, negsuc}
 use lib.ListN.{length, take, drop, getD, drop-of-length-le, length-drop, List·getD-eq-default}
 use lib.Seq.{drop-cons, drop-drop, drop-append-seam, take-add, length-take-le, getD-take, getD-drop}
-use Rattle.octets.specs.Answer.{run, if-cases}
+use lib.Signed.{mag, ltZ}
+use mir.Syntax.{w64}
+use mir.Val.{SFits, toZ, ofZ}
+use mir.ValLaws.{toZ-pos, toZ-neg, toZ-ofZ}
+use Rattle.octets.specs.Answer.{if, run, if-cases}
+use Rattle.ber.specs.Integer.{negative, digit, pile, signed, integerOf, spare, minimal, eight, fewest, fewestOf, eightOf}
 use Rattle.octets.specs.Tests.{test}
 use Rattle.octets.specs.Numbers.{Octets, two}
 use Rattle.octets.specs.Permutations.{all-octets}
-use Rattle.ber.specs.Integer.{integerOf, spare, minimal, eight, eightOf, fewest, fewestOf}
 use Rattle.ber.specs.IntegerLaws.{fewest-length, fewest-minimal, eight-same}
+
+-- what `z < 0` says, and the two ways from z to its bits
+pub bits-neg : (z : ℤ) → SFits w64 z → ltZ (toZ w64 (ofZ w64 z)) (pos 0) ≡ true
+    → (toZ w64 (18446744073709551615 - ofZ w64 z) ≡ pos (mag z)) × (18446744073709551615 - mag z ≡ ofZ w64 z)
+bits-neg (pos n) f h =
+    let e : ltb n 0 ≡ true = sym (ap (λ (y : ℤ). ltZ y (pos 0)) (toZ-ofZ w64 (pos n) f)) ∙ h in
+    absurd (omega (arith, ltb-true n 0 e))
+bits-neg (negsuc n) f h =
+    let b = f .sfits in
+    let e : 18446744073709551615 - (18446744073709551616 - suc n) ≡ n = omega arith in
+    (ap (toZ w64) e ∙ toZ-pos w64 n b, omega arith)
+
+pub bits-pos : (z : ℤ) → SFits w64 z → ltZ (toZ w64 (ofZ w64 z)) (pos 0) ≡ false
+    → (toZ w64 (ofZ w64 z) ≡ pos (mag z)) × (mag z ≡ ofZ w64 z)
+bits-pos (pos n) f h = (toZ-ofZ w64 (pos n) f, refl)
+bits-pos (negsuc n) f h = absurd (true≢false (sym (ap (λ (y : ℤ). ltZ y (pos 0)) (toZ-ofZ w64 (negsuc n) f)) ∙ h))
+
+-- one octet more
+pub more : (k acc d : ℕ) → acc < 128 * 256 ^ k → d < 256 → acc * 256 + d < 128 * 256 ^ suc k
+more k acc d h g = rw pow-suc (omega arith)
+
+pub within : (k acc : ℕ) → k ≤ 7 → acc < 128 * 256 ^ k → acc < 9223372036854775808
+within k acc le h = omega (arith, pow-le-pow-right {n = 256} (omega arith) {i = k} {j = 7} le)
+
+pub room : (k acc : ℕ) → k ≤ 6 → acc < 128 * 256 ^ k → acc < 36028797018963968
+room k acc le h = omega (arith, pow-le-pow-right {n = 256} (omega arith) {i = k} {j = 6} le)
+
+-- the sign octet, or its complement, is below 128
+head-side : (b : ℕ) (t : Bool) → ltb b 128 ≡ t → digit (not t) b < 128
+head-side b true e = ltb-true b 128 e
+head-side b false e = let k : 128 ≤ b = ltb-false b 128 e in omega arith
+
+pub head-small : (s : List ℕ) (neg : Bool) → 0 < length s → neg ≡ negative s → digit neg (getD s 0 0) < 128
+unfolding negative
+head-small [] neg h e = absurd (omega arith)
+head-small (b ∷ s) neg h e = rw e (head-side b (ltb b 128) refl)
+
+-- the number that is left to be read: at the start, one octet on, and at the end
+pub pile-next : (neg : Bool) (acc i : ℕ) (s : List ℕ) → i < length s
+    → pile neg (acc * 256 + digit neg (getD s i 0)) (drop (i + 1) s) ≡ pile neg acc (drop i s)
+unfolding pile
+pile-next neg acc i s h = rw (add-one, drop-cons s i 0 h) refl
+
+pub pile-ended : (neg : Bool) (acc i : ℕ) (s : List ℕ) → length s ≤ i → pile neg acc (drop i s) ≡ acc
+unfolding pile
+pile-ended neg acc i s h = rw (drop-of-length-le s h) refl
+
+pub pile-begun : (neg : Bool) (s : List ℕ) → 0 < length s → pile neg (digit neg (getD s 0 0)) (drop 1 s) ≡ pile neg 0 s
+unfolding pile
+pile-begun neg [] h = absurd (omega arith)
+pile-begun neg (b ∷ s) h = rw zero-add refl
 
 not-below : (b : ℕ) (t : Bool) → ltb b 128 ≡ t → leb 128 b ≡ not t
 not-below b true e = lt-leb 128 b (ltb-true b 128 e)
 not-below b false e = le-leb 128 b (ltb-false b 128 e)
+
+pub sign-of : (s : List ℕ) → 0 < length s → leb 128 (getD s 0 0) ≡ negative s
+unfolding negative
+sign-of [] h = absurd (omega arith)
+sign-of (b ∷ s) h = not-below b (ltb b 128) refl
 
 -- an octet that only repeats the sign
 
@@ -72,48 +134,21 @@ no-fewer s i h e = ap fewest (at-two s i h) ∙ fewest-same _ _ _ e ∙ sym (at-
 pub one-left : (s : List ℕ) (i : ℕ) → i + 1 ≡ length s → fewest (drop i s) ≡ drop i s
 one-left s i h = rw (drop-cons s i 0 (omega arith), drop-of-length-le s {i = suc i} (omega arith)) (fewest-one (getD s i 0))
 
--- the fewest are the last of them
-fewest-last : (s : List ℕ) → fewest s ≡ drop (length s - length (fewest s)) s
-unfolding fewest
-fewest-last [] = refl
-fewest-last (a ∷ s) =
-    if-cases (λ (x : List ℕ). x ≡ drop (suc (length s) - length x) (a ∷ s)) (minimal (a ∷ s)) (a ∷ s) (λ _. fewest s)
-    (λ e. let q : suc (length s) - suc (length s) ≡ 0 = omega arith in rw q refl)
-    (λ e. let h = fewest-length s in let q : suc (length s) - length (fewest s) ≡ suc (length s - length (fewest s)) = omega arith in rw q (fewest-last s))
+-- eight octets cut to the fewest
 
-drop-take : (a n : ℕ) (l : List ℕ) → a ≤ length l → drop a (take (a + n) l) ≡ take n (drop a l)
-drop-take a n l h =
-    ap (drop a) (take-add a n l)
-    ∙ ap (λ (i : ℕ). drop i (take a l ++ take n (drop a l))) (sym (length-take-le a l h))
-    ∙ drop-append-seam (take a l) (take n (drop a l))
+pub eight-length : (u : ℕ) (o : List ℕ) → o ≡ eight u → length o ≡ 8
+unfolding eight
+eight-length u o e = ap length e
 
-module _ (v : List ℕ) (p : ℕ) (h : p + 8 ≤ length v) where
-  eight-long : length (take 8 (drop p v)) ≡ 8
-  eight-long = length-take-le 8 (drop p v) (let l = length-drop p v in omega arith)
+pub fewest-cut : (z : ℤ) (u a : ℕ) (o : List ℕ) → o ≡ eight u → u ≡ ofZ w64 z → drop a o ≡ fewest o → drop a o ≡ fewestOf z
+fewest-cut z u a o e f d = d ∙ ap fewest (e ∙ ap eight f)
 
-  pub integer-fewest : Octets v → fewestOf (integerOf (take 8 (drop p v))) ≡ fewest (take 8 (drop p v))
-  integer-fewest o = ap fewest (eight-same (take 8 (drop p v)) (all-octets (take 8 (drop p v)) (part-octets o)) eight-long)
-    where
-      part-octets : Octets v → Octets (take 8 (drop p v))
-      part-octets o i =
-          test (ltb i 8) (λ e. rw (getD-take 8 (drop p v) i 0 (ltb-true i 8 e), getD-drop p v i 0) (o (p + i)))
-          (λ e. rw (List·getD-eq-default (take 8 (drop p v)) 0 {n = i} (let k = ltb-false i 8 e in let l = eight-long in omega arith)) (omega arith))
-
-  pub fewest-few : length (fewest (take 8 (drop p v))) ≤ 8
-  fewest-few = let k = fewest-length (take 8 (drop p v)) in let l = eight-long in omega arith
-
-  pub fewest-part : (n : ℕ) → n ≡ length (fewest (take 8 (drop p v))) → take n (drop (p + 8 - n) v) ≡ fewest (take 8 (drop p v))
-  fewest-part n e =
-      let k = fewest-few in
-      let l = length-drop p v in
-      let q : length (take 8 (drop p v)) - length (fewest (take 8 (drop p v))) ≡ 8 - n = (let m = eight-long in omega arith) in
-      let a : 8 ≡ 8 - n + n = omega arith in
-      let b : p + (8 - n) ≡ p + 8 - n = omega arith in
-      sym (fewest-last (take 8 (drop p v))
-      ∙ ap (λ (i : ℕ). drop i (take 8 (drop p v))) q
-      ∙ ap (λ (i : ℕ). drop (8 - n) (take i (drop p v))) a
-      ∙ drop-take (8 - n) n (drop p v) (omega arith)
-      ∙ ap (take n) (drop-drop (8 - n) p v ∙ ap (λ (i : ℕ). drop i v) b))
+pub fewest-size : (z : ℤ) (u a : ℕ) (o : List ℕ) → o ≡ eight u → u ≡ ofZ w64 z → drop a o ≡ fewest o → 8 - a ≡ length (fewestOf z)
+fewest-size z u a o e f d =
+    let k = eight-length u o e in
+    let l = length-drop a o in
+    let m = ap length (fewest-cut z u a o e f d) in
+    omega arith
 
 minimal-some : (s : List ℕ) → minimal s ≡ true → 0 < length s
 unfolding minimal

@@ -7,12 +7,12 @@ use Prim.Native.Nat.{ℕ, suc, _+_, _-_, _*_, _≤_, _<_}
 use native.Mathlib.Omega.{arith}
 use borrow.Author.Tests.{eq-eqb, ne-eqb, ltb-true, ltb-false}
 use lib.Dec.{ltb, leb, eqb}
-use lib.IntN.{pos}
+use lib.IntN.{ℤ, pos}
 use lib.ListN.{length, getD, take, drop, set, length-drop}
 use lib.Seq.{sets, length-take-le}
 use Rattle.octets.specs.Tests.{test}
 use Rattle.octets.specs.Numbers.{Octets, two}
-use Rattle.ber.specs.Integer.{fewest, fewestOf}
+use Rattle.ber.specs.Integer.{integerOf, fewestOf}
 use Rattle.table.proofs.Own.{at}
 use Rattle.coding.specs.Content.{encode, truth}
 use Rattle.coding.specs.Judging.{octetsFor, spareIn}
@@ -20,7 +20,6 @@ use Rattle.writer.specs.Nodes.{fixedEnd, booleanEnd, stringEnd, bitsEnd,
 use Rattle.writer.specs.Leaves.{Measures}
 use Rattle.writer.specs.declared.contents.Extent.{Extent}
 use Rattle.writer.proofs.Nodes.{fixed-is}
-use Rattle.writer.proofs.Integers.{integer-fewest, fewest-few, fewest-part}
 
 none : {X : Type 0} → 0 < 0 → X
 none h = absurd (omega arith)
@@ -117,9 +116,9 @@ module _ (k : ℕ) (v : List ℕ) (p : ℕ) where
   integer-within : k ≡ 2 → 0 < ownEnd k v p → p + 8 ≤ length v
   integer-within e h = fixed-is v (p + 8) (rw (own-integer e) at h) .1
 
-  encode-integer : Octets v → k ≡ 2 → 0 < ownEnd k v p → encode (leafOf k v p) ≡ fewest (take 8 (drop p v))
+  pub encode-integer : (z y : ℤ) (e : ℕ) → k ≡ 2 → e ≡ p + 8 → y ≡ z → z ≡ integerOf (take (e - p) (drop p v)) → fewestOf y ≡ encode (leafOf k v p)
   unfolding encode leafOf
-  encode-integer o e h = rw e (integer-fewest v p (integer-within e h) o)
+  encode-integer z y e ek ee f g = let q : e - p ≡ 8 = omega arith in ap fewestOf (f ∙ g ∙ ap (λ (n : ℕ). integerOf (take n (drop p v))) q) ∙ rw ek refl
 
   encode-bits : k ≡ 3 → encode (leafOf k v p) ≡ spareIn (two v p) ∷ take (octetsFor (two v p)) (drop (p + 2) v)
   unfolding encode leafOf
@@ -194,19 +193,9 @@ module _ (k : ℕ) (v : List ℕ) (p : ℕ) where
       pub eight-part : length (take (e - p) (drop p v)) ≡ 8
       eight-part = let w = eight-there in let q : e - p ≡ 8 = omega (arith, w .0) in rw q (part-length v p 8 (w .1))
 
-      pub measured-integer : Octets v → (a : ℕ) → a ≤ 7 → drop a (take (e - p) (drop p v)) ≡ fewest (take (e - p) (drop p v)) → r .end ≡ e → r .size ≡ 8 - a → Measures k v p r
-      measured-integer o a s d f g =
-          let w = eight-there in
-          let q : e - p ≡ 8 = omega (arith, w .0) in
-          let l = length-drop a (take (e - p) (drop p v)) in
-          let m = eight-part in
-          let i = ap length d in
-          let j : length (fewest (take (e - p) (drop p v))) ≡ length (fewest (take 8 (drop p v))) = rw q refl in
-          record {
-            ends = f ∙ ee ∙ sym (own-integer ek);
-            sized = λ x. let y = ap length (encode-integer o ek x) in omega arith;
-            small = omega arith;
-          }
+      pub measured-integer : (z y : ℤ) (n : ℕ) → y ≡ z → z ≡ integerOf (take (e - p) (drop p v)) → n ≡ length (fewestOf y) → n ≤ 8 → r .end ≡ e → r .size ≡ n → Measures k v p r
+      measured-integer z y n f g i s j l =
+          record { ends = j ∙ ee ∙ sym (own-integer ek); sized = λ x. l ∙ i ∙ ap length (encode-integer z y e ek (eight-there .0) f g); small = omega arith }
 
   -- what is put
   module _ (h : 0 < ownEnd k v p) (n : ℕ) (en : n ≡ length (encode (leafOf k v p))) where
@@ -216,15 +205,11 @@ module _ (k : ℕ) (v : List ℕ) (p : ℕ) where
     pub end-integer : k ≡ 2 → p + 8 ≡ ownEnd k v p
     end-integer e = sym (own-integer e ∙ fixed-is v (p + 8) (rw (own-integer e) at h) .0)
 
-    pub integer-there : Octets v → k ≡ 2 → (n ≤ 8) × (p + 8 - n + n ≤ length v)
-    integer-there o e =
+    pub integer-there : k ≡ 2 → (p + 8 ≤ length v) × (length (take (p + 8 - p) (drop p v)) ≡ 8)
+    integer-there e =
         let w = integer-within e h in
-        let f = fewest-few v p w in
-        let g = ap length (encode-integer o e h) in
-        (omega arith, omega arith)
-
-    pub integer-copied : Octets v → k ≡ 2 → take n (drop (p + 8 - n) v) ≡ encode (leafOf k v p)
-    integer-copied o e = let f = encode-integer o e h in fewest-part v p (integer-within e h) n (en ∙ ap length f) ∙ sym f
+        let q : p + 8 - p ≡ 8 = omega arith in
+        (w, rw q (part-length v p 8 w))
 
     module _ (e : k ≡ 3) where
       bits-at : (bitsEnd v p ≡ p + 2 + octetsFor (two v p)) × (p + 2 + octetsFor (two v p) ≤ length v)

@@ -1,11 +1,12 @@
 -- Runs of stores, one after another.
 -- Assumes nothing.
 use mathlib.Core.List.{List, [], _∷_, _++_}
-use mathlib.Core.Path.{_≡_, refl, sym}
+use mathlib.Core.Path.{_≡_, refl, sym, _∙_}
 use Prim.Native.Nat.{ℕ, suc, _+_, _-_, _≤_, _<_}
 use native.Mathlib.Nat.{add-zero, add-suc, suc-add}
+use native.Mathlib.Numerals.{add-one}
 use native.Mathlib.Omega.{arith}
-use lib.ListN.{length, getD, take, drop, set}
+use lib.ListN.{length, getD, take, drop, set, drop-of-length-le}
 use lib.Seq.{sets, drop-cons}
 
 pub sets-append : (vs d : List ℕ) (i : ℕ) (ws : List ℕ) → sets d i (vs ++ ws) ≡ sets (sets d i vs) (i + length vs) ws
@@ -19,6 +20,12 @@ pub three : (n : ℕ) → n + 3 ≡ suc (suc (suc n))
 three n = omega arith
 
 -- the loop of a copy: what is still to be stored
+pub stores-turn : (w buf o : List ℕ) (at i : ℕ) → i < length o → w ≡ sets buf at (drop i o) → w ≡ sets (set buf at (getD o i 0)) (at + 1) (drop (i + 1) o)
+stores-turn w buf o at i h e = e ∙ rw (drop-cons o i 0 h, add-one, add-one) refl
+
+pub stores-end : (w buf o : List ℕ) (at i : ℕ) → length o ≤ i → w ≡ sets buf at (drop i o) → buf ≡ w
+stores-end w buf o at i h e = sym (rw (drop-of-length-le o h) at e)
+
 pub copies-none : (b l : List ℕ) (to p n : ℕ) → sets b to (take n (drop p l)) ≡ sets b (to + 0) (take (n - 0) (drop (p + 0) l))
 copies-none b l to p n =
     let e : to + 0 ≡ to = omega arith in

@@ -46,8 +46,9 @@ pub fn measure(k: usize, v: &[u8], p: usize) -> Extent
         if end == 0 {
             return Extent { end: 0, size: 0 };
         }
-        let a = crate::integer::start(&v[p..end]);
-        return Extent { end, size: 8 - a };
+        let z = crate::integer::of(&v[p..end]);
+        let size = crate::integer::size(z);
+        return Extent { end, size };
     }
     if k == 3 {
         let end = crate::node::bits_end(v, p);
@@ -132,8 +133,10 @@ pub fn put(k: usize, size: usize, v: &[u8], p: usize, buf: &mut [u8], to: usize)
         return p + 1;
     }
     if k == 2 {
-        copy(v, p + 8 - size, size, buf, to);
-        return p + 8;
+        let e = p + 8;
+        let z = crate::integer::of(&v[p..e]);
+        crate::integer::put(z, buf, to);
+        return e;
     }
     if k == 3 {
         let n = size - 1;

@@ -1,5 +1,7 @@
 use mathlib.Core.Path.{refl}
 use native.Mathlib.Omega.{arith}
+use mir.Syntax.{w64}
+use mir.ValLaws.{toZ-ofZ}
 use Prim.Native.Nat.{_+_}
 use Rattle.writer.proofs.Leaves.{bits-past, string-past, measured-boolean, no-integer, eight-there, eight-part, measured-integer, no-bits, measured-bits, no-string, measured-string, measured-null, measured-number, no-kind}
 use borrow.Author.Needs.{needs}
@@ -9,7 +11,8 @@ use Rattle.writer.proofs.contents.measure.Reads as reads
 use Rattle.writer.proofs.contents.measure.Lts as lts
 use Rattle.octets.proofs.number.Reads as number-reads
 use Rattle.writer.proofs.contents.number_size.Reads as number-size-reads
-use Rattle.writer.proofs.integer.start.Reads as start-reads
+use Rattle.writer.proofs.integer.of.Reads as integer-of-reads
+use Rattle.writer.proofs.integer.size.Reads as integer-size-reads
 use Rattle.writer.proofs.node.bits_end.Reads as bits-end-reads
 use Rattle.writer.proofs.node.boolean_end.Reads as boolean-end-reads
 use Rattle.writer.proofs.node.fixed_end.Reads as fixed-end-reads
@@ -24,12 +27,12 @@ measure-spec =
     (λ c. search needs)  -- add-fixed-end
     (λ c κs. search needs)  -- fixed-end-requires
     (λ c. no-integer (c .before .before .before .before .before .args .k) (c .before .before .before .before .before .args .v .now) (c .before .before .before .before .before .args .p) _ (c .before .before .if2 .taken) _ (c .before .fixed-end .ensures) (c .if3 .taken) refl refl)  -- returns-2
-    (λ c. let w = eight-there (c .before .before .before .before .before .args .k) (c .before .before .before .before .before .args .v .now) (c .before .before .before .before .before .args .p) (record { end = 0; size = 0 }) (c .before .fixed-end .result) (c .before .before .if2 .taken) (c .before .fixed-end .ensures) (c .if3 .left) in omega (arith, w .0))  -- sub-start
-    (λ c. let w = eight-there (c .before .before .before .before .before .args .k) (c .before .before .before .before .before .args .v .now) (c .before .before .before .before .before .args .p) (record { end = 0; size = 0 }) (c .before .fixed-end .result) (c .before .before .if2 .taken) (c .before .fixed-end .ensures) (c .if3 .left) in omega (arith, w .0))  -- part-start-start
-    (λ c. let w = eight-there (c .before .before .before .before .before .args .k) (c .before .before .before .before .before .args .v .now) (c .before .before .before .before .before .args .p) (record { end = 0; size = 0 }) (c .before .fixed-end .result) (c .before .before .if2 .taken) (c .before .fixed-end .ensures) (c .if3 .left) in omega (arith, w .0, w .1))  -- part-start-end
-    (λ c κs. eight-part (c .before .before .before .before .before .before .args .k) (c .before .before .before .before .before .before .args .v .now) (c .before .before .before .before .before .before .args .p) (record { end = 0; size = 0 }) (c .before .before .fixed-end .result) (c .before .before .before .if2 .taken) (c .before .before .fixed-end .ensures) (c .before .if3 .left))  -- start-requires
-    (λ c. omega (arith, c .start .ensures .0))  -- sub-t12
-    (λ c. measured-integer (c .before .before .before .before .before .before .before .args .k) (c .before .before .before .before .before .before .before .args .v .now) (c .before .before .before .before .before .before .before .args .p) _ (c .before .before .before .fixed-end .result) (c .before .before .before .before .if2 .taken) (c .before .before .before .fixed-end .ensures) (c .before .before .if3 .left) (λ i. omega (arith, c .before .before .before .before .before .before .shared-slice-known .given i)) _ (c .start .ensures .0) (c .start .ensures .1) refl refl)  -- returns-3
+    (λ c. let w = eight-there (c .before .before .before .before .before .args .k) (c .before .before .before .before .before .args .v .now) (c .before .before .before .before .before .args .p) (record { end = 0; size = 0 }) (c .before .fixed-end .result) (c .before .before .if2 .taken) (c .before .fixed-end .ensures) (c .if3 .left) in omega (arith, w .0))  -- sub-of
+    (λ c. let w = eight-there (c .before .before .before .before .before .args .k) (c .before .before .before .before .before .args .v .now) (c .before .before .before .before .before .args .p) (record { end = 0; size = 0 }) (c .before .fixed-end .result) (c .before .before .if2 .taken) (c .before .fixed-end .ensures) (c .if3 .left) in omega (arith, w .0))  -- part-of-start
+    (λ c. let w = eight-there (c .before .before .before .before .before .args .k) (c .before .before .before .before .before .args .v .now) (c .before .before .before .before .before .args .p) (record { end = 0; size = 0 }) (c .before .fixed-end .result) (c .before .before .if2 .taken) (c .before .fixed-end .ensures) (c .if3 .left) in omega (arith, w .0, w .1))  -- part-of-end
+    (λ c κs. let l = eight-part (c .before .before .before .before .before .before .args .k) (c .before .before .before .before .before .before .args .v .now) (c .before .before .before .before .before .before .args .p) (record { end = 0; size = 0 }) (c .before .before .fixed-end .result) (c .before .before .before .if2 .taken) (c .before .before .fixed-end .ensures) (c .before .if3 .left) in (omega arith, omega arith))  -- of-requires
+    (λ c κs. search needs)  -- size-requires
+    (λ c. measured-integer (c .before .before .before .before .before .before .before .before .args .k) (c .before .before .before .before .before .before .before .before .args .v .now) (c .before .before .before .before .before .before .before .before .args .p) _ (c .before .before .before .before .fixed-end .result) (c .before .before .before .before .before .if2 .taken) (c .before .before .before .before .fixed-end .ensures) (c .before .before .before .if3 .left) _ _ _ (toZ-ofZ w64 (c .before .of .result) (record { sfits = c .before .of .ok })) (c .before .of .ensures) (c .size .ensures .0) (c .size .ensures .1) refl refl)  -- returns-3
     (λ c κs. search needs)  -- bits-end-requires
     (λ c. no-bits (c .before .before .before .before .before .before .args .k) (c .before .before .before .before .before .before .args .v .now) (c .before .before .before .before .before .before .args .p) _ (c .before .before .if4 .taken) _ (c .before .bits-end .ensures) (c .if5 .taken) refl refl)  -- returns-4
     (λ c. let w = bits-past (c .before .before .before .before .before .before .args .v .now) (c .before .before .before .before .before .before .args .p) _ (c .before .bits-end .ensures) (c .if5 .left) in omega arith)  -- sub-t18

@@ -1,0 +1,17 @@
+use mathlib.Core.Path.{_≡_, refl, sym, ap, _∙_}
+use native.Mathlib.Omega.{arith}
+use native.Mathlib.Numerals.{add-one}
+use Prim.Native.Nat.{ℕ, suc, _+_, _-_, _*_, _≤_, _<_, _^_}
+use Rattle.writer.proofs.Integers.{bits-neg, bits-pos, more, within, room, head-small, pile-next, pile-ended, pile-begun, sign-of, spare-zero, spare-ones, spare-other, fewer, no-fewer, one-left}
+use borrow.Author.Needs.{needs}
+use Rattle.writer.proofs.integer.bits.Statement.{statement}
+use Rattle.writer.proofs.integer.bits.Tie as tie
+use Rattle.writer.proofs.integer.bits.Reads as reads
+use Rattle.writer.proofs.integer.bits.Lts as lts
+
+pub bits-spec : {M : Type 1} → statement M
+bits-spec = tie.close (tie.spec
+    (λ c. let f = c .before .fits .z in rw (bits-neg (c .before .args .z) f (c .if1 .taken) .0) (tt, omega (arith, f .sfits)))  -- cast-result
+    (λ c. let f = c .before .fits .z in rw (bits-pos (c .before .args .z) f (c .if1 .left) .0) (tt, omega (arith, f .sfits)))  -- cast-result-2
+    (λ c. let e = bits-neg (c .before .args .z) (c .before .fits .z) (c .if1 .taken) in rw (e .0) (e .1))  -- returns
+    (λ c. let e = bits-pos (c .before .args .z) (c .before .fits .z) (c .if1 .left) in rw (e .0) (e .1)))  -- returns-2

@@ -1,0 +1,20 @@
+use mathlib.Core.Path.{_≡_, refl, sym, ap, _∙_}
+use native.Mathlib.Omega.{arith}
+use native.Mathlib.Numerals.{add-one}
+use Prim.Native.Nat.{ℕ, suc, _+_, _-_, _*_, _≤_, _<_, _^_}
+use Rattle.writer.proofs.Integers.{bits-neg, bits-pos, more, within, room, head-small, pile-next, pile-ended, pile-begun, sign-of, spare-zero, spare-ones, spare-other, fewer, no-fewer, one-left}
+use mir.Syntax.{w64}
+use mir.Val.{toZ}
+use mir.ValLaws.{toZ-pos, toZ-neg}
+use borrow.Author.Needs.{needs}
+use Rattle.writer.proofs.integer.signed.Statement.{statement}
+use Rattle.writer.proofs.integer.signed.Tie as tie
+use Rattle.writer.proofs.integer.signed.Reads as reads
+use Rattle.writer.proofs.integer.signed.Lts as lts
+
+pub signed-spec : {M : Type 1} → statement M
+signed-spec = tie.close (tie.spec
+    (λ c. search needs)  -- cast-result
+    (λ c. search needs)  -- cast-result-2
+    (λ c. let n = c .before .args .n in let e : 18446744073709551615 - n ≡ 18446744073709551616 - suc n = omega arith in rw (c .if1 .taken) (ap (toZ w64) e ∙ toZ-neg w64 n (c .before .pre)))  -- returns
+    (λ c. rw (c .if1 .left) (toZ-pos w64 (c .before .args .n) (c .before .pre))))  -- returns-2
