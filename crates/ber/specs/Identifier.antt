@@ -1,11 +1,10 @@
 -- Identifier octets (X.690, 8.1.2; document 01, "Messages" and "Refused" 22 to 24).
 -- Assumes nothing.
-use mathlib.Core.Bool.{Bool, true, false, _&&_}
-use mathlib.Core.List.{List, [], _∷_, _++_}
-use Prim.Native.Nat.{ℕ, suc, _+_, _*_, _/_, _%_}
-use lib.Dec.{ltb, eqb}
-use lib.ListN.{length, getD}
-use Rattle.octets.specs.Answer.{Answer, got, refused, then, if}
+use mathlib.Core.Bool.{Bool, true, false}
+use mathlib.Core.List.{List, [], _∷_}
+use Prim.Native.Nat.{ℕ, _+_, _*_, _/_, _%_}
+use lib.Dec.{ltb}
+use Rattle.octets.specs.Answer.{if}
 
 -- 8.1.2.5: bit 6 is 1 in a constructed encoding
 abbrev pub bit : Bool → ℕ
@@ -28,25 +27,3 @@ unfoldable pub identifier : ℕ → Bool → ℕ → List ℕ
 identifier class constructed number =
     if (ltb number 31) (leading class constructed number ∷ []) λ _.
     leading class constructed 31 ∷ following number
-
--- the octets up to and with the first below 128, after those in hand; l octets are left where the item begins
-unfoldable pub readFollowing : ℕ → List ℕ → List ℕ → Answer (List ℕ)
-readFollowing l ds [] = refused 22 l
-readFollowing l ds (d ∷ s) = if (ltb d 128) (got (ds ++ (d ∷ [])) s) λ _. readFollowing l (ds ++ (d ∷ [])) s
-
--- "identifier octets present (22), form (23)": a long form begins with no 80, and its number is over 30
-unfoldable pub readIdentifier : List ℕ → Answer (List ℕ)
-readIdentifier [] = refused 22 0
-readIdentifier (b ∷ s) =
-    if (ltb (b % 32) 31) (got (b ∷ []) s) λ _.
-    then (readFollowing (suc (length s)) [] s) λ ds s₁.
-    if (eqb (getD ds 0 0) 128) (refused 23 (suc (length s))) λ _.
-    if (ltb (getD ds 0 0) 31) (refused 23 (suc (length s))) λ _.
-    got (b ∷ ds) s₁
-
--- the same identifier octets. A tag has one form, so these are the same class, bit and number, whatever the number.
-unfoldable pub same : List ℕ → List ℕ → Bool
-same [] [] = true
-same [] (y ∷ ys) = false
-same (x ∷ xs) [] = false
-same (x ∷ xs) (y ∷ ys) = eqb x y && same xs ys

@@ -1,15 +1,14 @@
 -- From the check of a table to the outcome of a call that is given the table.
 -- Assumes nothing.
-use mathlib.Core.Bool.{Bool, true, false}
+use borrow.Author.Tests.{ltb-false}
 use mathlib.Core.List.{List}
 use mathlib.Core.Path.{_≡_, sym, ap, _∙_}
-use Prim.Native.Nat.{ℕ, _≤_}
 use native.Mathlib.Omega.{arith}
-use borrow.Author.Tests.{ltb-false}
+use Prim.Native.Nat.{ℕ, _≤_}
 use lib.Dec.{ltb}
 use lib.ListN.{length, take}
 use Rattle.octets.specs.Numbers.{Octets}
-use Rattle.octets.specs.Tests.{test}
+use Rattle.octets.proofs.Tests.{test}
 use Rattle.table.specs.Syntax.{Table}
 use Rattle.table.specs.Reading.{look}
 use Rattle.table.specs.Passes.{Passes}

@@ -18,10 +18,11 @@ use Rattle.coding.specs.Typed.{WellTyped}
 use Rattle.coding.specs.Shaped.{Shaped}
 use Rattle.coding.specs.Judging.{judgeWhole}
 use Rattle.coding.specs.Outcome.{levels, longestValue, longestMessage, Outcome, done, refusal, Refusal, readOutcome, writeOutcome, afterCheck, wholeRead, wholeWrite}
-use Rattle.coding.specs.Theorems.{Read, Received, Sent, Wrote, read-again}
-use Rattle.coding.specs.Refusals.{read-refused, write-refused}
-use Rattle.coding.specs.ShapedLaws.{limited}
-use Rattle.coding.specs.Whole.{tableOf, countOf, Promise, demand-2-read, demand-2-write, demand-3-read, demand-3-write}
+use Rattle.coding.specs.Demands.{Read, Received, Sent, Wrote}
+use Rattle.coding.proofs.Theorems.{read-again}
+use Rattle.coding.proofs.Refusals.{read-refused, write-refused}
+use Rattle.coding.proofs.Shaped.{limited}
+use Rattle.coding.proofs.Whole.{tableOf, countOf, Promise, demand-2-read, demand-2-write, demand-3-read, demand-3-write}
 use Rattle.coding.proofs.Limits.{numbers}
 
 -- the promise of the table's check is kept

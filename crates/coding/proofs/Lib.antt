@@ -1,5 +1,21 @@
--- The demands on raw octets, with the table's theorems in the place of its promise.
+-- The demands and what they rest on.
 -- Assumes nothing.
-pub mod Limits
 pub mod Demands
+pub mod Whole
+pub mod Theorems
+pub mod Refusals
 pub mod Checked
+pub mod Examples
+pub mod Content
+pub mod Sound
+pub mod FirstTags
+pub mod Complete
+pub mod Levels
+pub mod Form
+pub mod Equivalence
+pub mod Nodes
+pub mod Judging
+pub mod Shape
+pub mod Shaped
+pub mod Awaited
+pub mod Limits

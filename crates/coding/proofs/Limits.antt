@@ -1,23 +1,25 @@
 -- The ENUMERATED numbers of a table that passes have two octets.
 -- Assumes nothing.
-use mathlib.Core.Bool.{Bool, true, false, _||_, true≢false, false≢true}
+use borrow.Author.Tests.{eqb-true}
+use mathlib.Core.Bool.{true, true≢false, false≢true}
 use mathlib.Core.List.{List, [], _∷_, map}
-use mathlib.Core.Path.{_≡_, refl, sym, ap, _∙_}
+use mathlib.Core.Path.{_≡_, sym, ap, _∙_}
 use native.Mathlib.Omega.{arith}
 use Prim.Native.Nat.{ℕ, zero, suc, _<_}
-use borrow.Author.Tests.{eqb-true}
 use lib.Dec.{eqb}
 use lib.ListN.{length}
 use Rattle.octets.specs.Lists.{joined, any}
 use Rattle.octets.specs.Numbers.{Octets, octetsOf}
-use Rattle.octets.specs.Permutations.{Every, every-cons, every-right, AllOctets, all-octets, joined-octets}
+use Rattle.octets.specs.Permutations.{Every, every-cons, AllOctets}
+use Rattle.octets.proofs.Permutations.{every-right, all-octets, joined-octets}
+use Rattle.octets.proofs.Tests.{or-by}
 use Rattle.table.specs.Syntax.{Record, Body, Plain, Enumerated, Choice, table, isChoice}
 use Rattle.table.specs.Octets.{tagOctets, own, recordOctets}
 use Rattle.table.specs.Verdict.{verdict}
 use Rattle.table.specs.declared.Verdict.the-variants.{Passed}
 use Rattle.table.proofs.Theorems.{passed-records}
 use Rattle.coding.specs.Content.{listed}
-use Rattle.coding.specs.Whole.{tableOf}
+use Rattle.coding.proofs.Whole.{tableOf}
 
 not-choice : {ns : List ℕ} {C : Type 0} → Choice [] ≡ Plain (Enumerated ns) → C
 unfolding isChoice
@@ -37,15 +39,11 @@ table-octets [] o t ns q = not-choice q
 table-octets (r ∷ rs) (every-cons a o) zero ns q = record-octets r ns q a
 table-octets (r ∷ rs) (every-cons a o) (suc t) ns q = table-octets rs o t ns q
 
-or-cases : {C : Type 0} (a b : Bool) → (a || b) ≡ true → (a ≡ true → C) → (b ≡ true → C) → C
-or-cases true b e h k = h refl
-or-cases false b e h k = k e
-
 number-small : (ns : List ℕ) → AllOctets (joined (map octetsOf ns)) → (k : ℕ) → listed ns k ≡ true → k < 65536
 unfolding joined listed any
 number-small [] o k e = absurd (false≢true e)
 number-small (n ∷ ns) (every-cons a (every-cons b o)) k e =
-    or-cases (eqb n k) _ e (λ x. let q : n ≡ k = eqb-true n k x in omega arith) (number-small ns o k)
+    or-by (eqb n k) _ e (λ x. let q : n ≡ k = eqb-true n k x in omega arith) (number-small ns o k)
 
 pub numbers : (b : List ℕ) → Octets b → verdict b ≡ Passed → (t : ℕ) (ns : List ℕ) → tableOf b t .body ≡ Plain (Enumerated ns) → (k : ℕ) → listed ns k ≡ true → k < 65536
 numbers b o e t ns q =

@@ -1,15 +1,30 @@
 -- The writer's form of a value: "definite shortest lengths, FF for true, unused bits 0, members in table order, elements in value order".
 -- Assumes nothing.
 use mathlib.Core.List.{List, [], _∷_}
+use mathlib.Core.Bool.{Bool, true, false}
 use Prim.Native.Nat.{ℕ, zero, suc}
 use lib.ListN.{getD}
+use lib.IntN.{pos}
 use Rattle.octets.specs.Lists.{joined}
 use Rattle.ber.specs.Item.{item}
+use Rattle.ber.specs.Integer.{fewestOf}
 use Rattle.table.specs.Syntax.{Member, Body, Plain, Sequence, Set, SequenceOf, SetOf, Choice, Table}
 use Rattle.table.specs.Rules.{members}
-use Rattle.coding.specs.Value.{Value, leaf, sequence, set, sequenceOf, setOf, choice, Slots, end, missing, present}
-use Rattle.coding.specs.Content.{encode}
+use Rattle.coding.specs.Value.{Value, leaf, sequence, set, sequenceOf, setOf, choice, Slots, end, missing, present, Leaf, boolean, integer, bits, string, null, enumerated}
 use Rattle.coding.specs.Tags.{own, explicit}
+
+-- "FF for true, unused bits 0"
+abbrev pub truth : Bool → ℕ
+truth true = 0xFF
+truth false = 0
+
+unfoldable pub encode : Leaf → List ℕ
+encode (boolean b) = truth b ∷ []
+encode (integer z) = fewestOf z
+encode (bits n c) = n ∷ c
+encode (string c) = c
+encode null = []
+encode (enumerated k) = fewestOf (pos k)
 
 -- the type of the elements
 unfoldable pub element : Body → ℕ

@@ -9,11 +9,10 @@ use lib.Dec.{ltb, leb, eqb}
 use lib.ListN.{length, getD, take, drop}
 use Rattle.octets.specs.Answer.{Answer, got, refused, then, if, none-left}
 use Rattle.octets.specs.Numbers.{two}
-use Rattle.octets.specs.Lists.{all}
-use Rattle.ber.specs.Identifier.{same}
+use Rattle.octets.specs.Lists.{all, same}
 use Rattle.ber.specs.Integer.{integerOf}
 use Rattle.ber.specs.BitString.{masked}
-use Rattle.table.specs.Syntax.{Member, Simple, Boolean, Integer, BitString, OctetString, Null, Enumerated, Body, Plain, Sequence, Set, SequenceOf, SetOf, Choice, Table}
+use Rattle.table.specs.Syntax.{Member, Boolean, Integer, BitString, OctetString, Null, Enumerated, Body, Plain, Sequence, Set, SequenceOf, SetOf, Choice, Table}
 use Rattle.table.specs.Octets.{kind}
 use Rattle.table.specs.Rules.{members}
 use Rattle.coding.specs.Value.{Leaf, boolean, integer, bits, string, null, enumerated, Value, leaf, sequence, set, sequenceOf, setOf, choice, slots, bag}
@@ -199,40 +198,4 @@ judgeValue T (suc n) t s =
 unfoldable pub judgeWhole : Table → ℕ → ℕ → List ℕ → Answer Value
 judgeWhole T n t s =
     then (judgeValue T n t s) λ v r.
-    if (not (none-left r)) (refused 11 (length r)) λ _. got v r
-
--- The shape alone: the same, with a body that agrees with any node.
-unfoldable pub anyMembers : List Bool → List Member
-anyMembers [] = []
-anyMembers (b ∷ bs) = record { type = 0; optional = true } ∷ anyMembers bs
-
-unfoldable pub anySimple : Leaf → Simple
-anySimple (boolean b) = Boolean
-anySimple (integer z) = Integer
-anySimple (bits n c) = BitString
-anySimple (string c) = OctetString
-anySimple null = Null
-anySimple (enumerated k) = Enumerated (k ∷ [])
-
-unfoldable pub zeros : ℕ → List ℕ
-zeros zero = 0 ∷ []
-zeros (suc i) = 0 ∷ zeros i
-
-unfoldable pub anyBody : Node → Body
-anyBody (a-leaf x) = Plain (anySimple x)
-anyBody (a-sequence bs) = Sequence (anyMembers bs)
-anyBody (a-set bs) = Set (anyMembers bs)
-anyBody (a-sequence-of n) = SequenceOf 0
-anyBody (a-set-of n) = SetOf 0
-anyBody (a-choice i) = Choice (zeros i)
-
--- a tree of at most n levels
-unfoldable pub shapeValue : ℕ → List ℕ → Answer Value
-shapeValue zero s = refused 11 (length s)
-shapeValue (suc n) s = then (readNode s) λ x s₁. judgeBelow (λ u w. shapeValue n w) (anyBody x) x s₁
-
--- "value not shaped as above, empty, .. octets left": a tree has no more levels than octets
-unfoldable pub shapeWhole : List ℕ → Answer Value
-shapeWhole s =
-    then (shapeValue (length s) s) λ v r.
     if (not (none-left r)) (refused 11 (length r)) λ _. got v r

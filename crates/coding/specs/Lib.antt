@@ -1,32 +1,19 @@
--- Values of the types of a table, what may be sent for them, and what it means (document 01, "Values" to "Refused").
+-- Values of the types of a table, what may be sent for them, and what it means.
 -- Assumes nothing.
--- The definitions, in the order in which document 01 tells them.
+-- What may be sent: no reader and no writer.
 pub mod Value
-pub mod Content
 pub mod Tags
+pub mod Content
 pub mod Encodes
 pub mod Typed
-pub mod Equivalent
-pub mod Form
-pub mod Reading
-pub mod Awaited
-pub mod Judging
 pub mod Shaped
+pub mod Equivalent
+-- What the writer sends, how values and messages are judged, what is answered.
+pub mod Form
+pub mod Judging
+pub mod Awaited
+pub mod Reading
 pub mod Causes
 pub mod Outcome
--- What is promised of them, and the examples.
-pub mod Theorems
-pub mod Whole
-pub mod Refusals
-pub mod Examples
--- The laws behind the promises.
-pub mod ContentLaws
-pub mod Sound
-pub mod FirstTags
-pub mod Complete
-pub mod Levels
-pub mod FormLaws
-pub mod Equivalence
-pub mod NodeLaws
-pub mod JudgingLaws
-pub mod ShapedLaws
+-- What the demands say.
+pub mod Demands

@@ -7,6 +7,12 @@ use lib.Dec.{ltb, leb}
 use lib.ListN.{length, drop}
 use Rattle.octets.specs.Answer.{Answer, got, refused, if}
 use Rattle.table.specs.Syntax.{Table}
+use Rattle.table.specs.Cause.{number as tableNumber, place as tablePlace}
+use Rattle.table.specs.Verdict.{verdict}
+use Rattle.table.specs.Reading.{scan, look}
+use Rattle.table.specs.declared.TableCause.the-variants.{NoType}
+use Rattle.table.specs.declared.Verdict.{Verdict}
+use Rattle.table.specs.declared.Verdict.the-variants.{Passed, Refused}
 use Rattle.coding.specs.Value.{Value, octets}
 use Rattle.coding.specs.Form.{formAt}
 use Rattle.coding.specs.Reading.{readMessage}
@@ -14,11 +20,6 @@ use Rattle.coding.specs.Judging.{judgeWhole}
 use Rattle.coding.specs.Causes.{valueNumber, valuePlace, messageNumber, messagePlace, valueCause, messageCause}
 use Rattle.coding.specs.declared.ValueCause.the-variants.{Shape, Room as RoomV}
 use Rattle.coding.specs.declared.MessageCause.the-variants.{TooLong, Room}
-use Rattle.table.specs.Verdict.{number as tableNumber, place as tablePlace, verdict}
-use Rattle.table.specs.Reading.{scan, look}
-use Rattle.table.specs.declared.TableCause.the-variants.{NoType}
-use Rattle.table.specs.declared.Verdict.{Verdict}
-use Rattle.table.specs.declared.Verdict.the-variants.{Passed, Refused}
 pub use Rattle.coding.specs.declared.Refusal.{Refusal}
 pub use Rattle.coding.specs.declared.Refusal.the-variants.{Table as of-table, Value as of-value, Message as of-message}
 pub use Rattle.coding.specs.declared.Answer.{Answer as Told}

@@ -5,15 +5,45 @@ use mathlib.Core.Bool.{Bool, true, false, not}
 use mathlib.Core.List.{List, [], _∷_, _++_}
 use mathlib.Core.Option.{Option, some, none}
 use Prim.Native.Nat.{ℕ, zero, suc}
-use lib.ListN.{length}
+use lib.ListN.{length, getD, drop}
+use lib.Dec.{leb, eqb}
+use lib.IntN.{ℤ, pos, negsuc}
 use Rattle.octets.specs.Answer.{Answer, got, refused, then, if, none-left}
-use Rattle.ber.specs.Identifier.{readIdentifier}
-use Rattle.ber.specs.Item.{Mode, atEnd, readConstructed, readPrimitive}
-use Rattle.table.specs.Syntax.{Member, Body, Plain, Sequence, Set, SequenceOf, SetOf, Choice, Table}
-use Rattle.coding.specs.Value.{Value, leaf, sequence, set, sequenceOf, setOf, choice, slots, bag}
-use Rattle.coding.specs.Content.{decode}
+use Rattle.ber.specs.Reading.{readIdentifier, Mode, atEnd, readConstructed, readPrimitive}
+use Rattle.ber.specs.Integer.{integerOf, minimal}
+use Rattle.ber.specs.BitString.{unused, masked}
+use Rattle.table.specs.Syntax.{Member, Body, Plain, Sequence, Set, SequenceOf, SetOf, Choice, Table, Simple, Boolean, Integer, BitString, OctetString, Null, Enumerated}
+use Rattle.coding.specs.Value.{Value, leaf, sequence, set, sequenceOf, setOf, choice, slots, bag, Leaf, boolean, integer, bits, string, null, enumerated}
 use Rattle.coding.specs.Encodes.{allowed}
-use Rattle.coding.specs.Tags.{own, explicit, begins}
+use Rattle.coding.specs.Tags.{own, explicit}
+use Rattle.coding.proofs.Awaited.{begins}
+
+unfoldable pub isListed : List ℕ → ℤ → Bool
+isListed ns (pos k) = listed ns k
+isListed ns (negsuc k) = false
+
+abbrev pub natural : ℤ → ℕ
+natural (pos k) = k
+natural (negsuc k) = 0
+
+-- "contents (25)": the leaf, with what stands behind the contents; l octets are left where the item begins
+unfoldable pub decode : Simple → ℕ → List ℕ → List ℕ → Answer Leaf
+decode Boolean l c s = if (not (eqb (length c) 1)) (refused 25 l) λ _. got (boolean (not (eqb (getD c 0 0) 0))) s
+decode Integer l c s =
+    if (not (minimal c)) (refused 25 l) λ _.
+    if (not (leb (length c) 8)) (refused 25 l) λ _.
+    got (integer (integerOf c)) s
+decode BitString l c s =
+    if (none-left c) (refused 25 l) λ _.
+    if (not (unused (getD c 0 0) (drop 1 c))) (refused 25 l) λ _.
+    got (bits (getD c 0 0) (masked (getD c 0 0) (drop 1 c))) s
+decode OctetString l c s = got (string c) s
+decode Null l c s = if (not (none-left c)) (refused 25 l) λ _. got null s
+decode (Enumerated ns) l c s =
+    if (not (minimal c)) (refused 25 l) λ _.
+    if (not (leb (length c) 8)) (refused 25 l) λ _.
+    if (not (isListed ns (integerOf c))) (refused 25 l) λ _.
+    got (enumerated (natural (integerOf c))) s
 
 -- the identifier octets that come next pass a test
 unfoldable pub passes : (List ℕ → Bool) → Answer (List ℕ) → Bool

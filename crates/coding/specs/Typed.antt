@@ -1,15 +1,27 @@
 -- Well-typed values (document 01, "Values").
 -- Assumes nothing.
-use mathlib.Core.Bool.{true}
+use mathlib.Core.Bool.{true, Bool}
 use mathlib.Core.List.{List, [], _∷_}
 use mathlib.Core.Option.{Option, some, none}
 use mathlib.Core.Path.{_≡_}
 use Prim.Native.Nat.{ℕ, zero, suc}
-use Rattle.octets.specs.Permutations.{Every}
-use Rattle.table.specs.Syntax.{Member, Simple, Body, Plain, Sequence, Set, SequenceOf, SetOf, Choice, Table}
-use Rattle.coding.specs.Value.{Leaf, Value, leaf, sequence, set, sequenceOf, setOf, choice, slots, bag}
-use Rattle.coding.specs.Content.{TypedLeaf}
+use lib.IntN.{ℤ, pos}
+use mir.Syntax.{w64}
+use mir.Val.{SFits}
+use Rattle.octets.specs.Permutations.{Every, AllOctets}
+use Rattle.ber.specs.BitString.{unused, masked}
+use Rattle.table.specs.Syntax.{Member, Simple, Body, Plain, Sequence, Set, SequenceOf, SetOf, Choice, Table, Boolean, Integer, BitString, OctetString, Null, Enumerated}
+use Rattle.coding.specs.Value.{Leaf, Value, leaf, sequence, set, sequenceOf, setOf, choice, slots, bag, boolean, integer, bits, string, null, enumerated}
 use Rattle.coding.specs.Encodes.{allowed, At}
+
+-- the leaves of a kind: an INTEGER of 64 bits, spare bits 0, an ENUMERATED number that is listed (a table's numbers are far below 2 ^ 63)
+pub data TypedLeaf : Simple → Leaf → Type 0 where
+  l-boolean : {b : Bool} → TypedLeaf Boolean (boolean b)
+  l-integer : {z : ℤ} → SFits w64 z → TypedLeaf Integer (integer z)
+  l-bits : {n : ℕ} {c : List ℕ} → AllOctets c → unused n c ≡ true → masked n c ≡ c → TypedLeaf BitString (bits n c)
+  l-string : {c : List ℕ} → AllOctets c → TypedLeaf OctetString (string c)
+  l-null : TypedLeaf Null null
+  l-enumerated : {ns : List ℕ} {k : ℕ} → SFits w64 (pos k) → listed ns k ≡ true → TypedLeaf (Enumerated ns) (enumerated k)
 
 -- the members that are there have their types
 pub data Fits (W : ℕ → Value → Type 0) : List Member → List (Option Value) → Type 0 where

@@ -1,7 +1,7 @@
 // Document 01's number and place of a refusal.
 ghost use mathlib.Core.Path.{_≡_};
 ghost use Prim.Native.Nat.{_<_};
-ghost use Rattle.table.specs.Verdict.{number as tableNumber, place as tablePlace};
+ghost use Rattle.table.specs.Cause.{number as tableNumber, place as tablePlace};
 ghost use Rattle.coding.specs.Causes.{valueNumber, valuePlace, messageNumber, messagePlace};
 ghost use Rattle.coding.specs.Outcome.{numberOf, placeOf};
 use coding::MessageCause;

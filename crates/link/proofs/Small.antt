@@ -1,22 +1,22 @@
 -- The places and lengths of answers fit 16 bits.
 -- Assumes nothing.
-use mathlib.Core.Bool.{Bool, true, false, not}
+use mathlib.Core.Bool.{Bool, not}
 use mathlib.Core.List.{List, [], _∷_, _++_}
-use mathlib.Core.Path.{_≡_, refl, sym, _∙_}
+use mathlib.Core.Path.{_≡_, refl}
 use Prim.Native.Nat.{ℕ, zero, suc, _+_, _≤_, _<_}
 use native.Mathlib.Omega.{arith}
 use lib.Dec.{ltb, eqb}
 use lib.ListN.{length, length-append}
 use borrow.Author.Tests.{ltb-true}
-use Rattle.octets.specs.Tests.{if, test}
+use Rattle.octets.proofs.Tests.{test}
 use Rattle.octets.specs.Lists.{lowest}
 use Rattle.table.specs.Syntax.{Table}
-use Rattle.table.specs.Reading.{Scan, recordEnd, scanFrom, scan, look}
+use Rattle.table.specs.Reading.{recordEnd, scanFrom, scan, look}
 use Rattle.table.specs.Decide.{dangling, mistagged, circular, sharing, infinite}
 use Rattle.table.specs.Verdict.{unless, judgeChoices, judge, verdict}
-use Rattle.table.specs.Verdict.{place as tablePlace}
+use Rattle.table.specs.Cause.{place as tablePlace}
 use Rattle.table.specs.declared.TableCause.{TableCause}
-use Rattle.table.specs.declared.TableCause.the-variants.{Shape, NoRecord, WrongTag, ChoiceLoop, SharedTag, NoValue, NoType}
+use Rattle.table.specs.declared.TableCause.the-variants.{NoRecord, WrongTag, ChoiceLoop, SharedTag, NoValue}
 use Rattle.table.specs.declared.Verdict.{Verdict}
 use Rattle.table.specs.declared.Verdict.the-variants.{Passed, Refused}
 use Rattle.octets.specs.Numbers.{Octets}
@@ -24,8 +24,8 @@ use Rattle.coding.specs.declared.Refusal.{Refusal}
 use Rattle.coding.specs.declared.Answer.{Answer as Told}
 use Rattle.coding.specs.declared.Answer.the-variants.{Done as done, Refused as refusal}
 use Rattle.coding.specs.Outcome.{placeOf, Outcome, readOutcome, writeOutcome, afterCheck, wholeRead, wholeWrite, checkAnswer}
-use Rattle.coding.specs.Theorems.{reads-only, writes-only}
-use Rattle.coding.specs.Refusals.{ReadRefused, no-such-type, too-long, as-read, no-room, read-refused, WriteRefused, over-long, as-judged, write-refused}
+use Rattle.coding.proofs.Theorems.{reads-only, writes-only}
+use Rattle.coding.proofs.Refusals.{ReadRefused, no-such-type, too-long, as-read, no-room, read-refused, WriteRefused, over-long, as-judged, write-refused}
 use Rattle.link.specs.Pack.{place}
 
 -- the place of a verdict

@@ -1,6 +1,5 @@
 -- An answer as one number for C: document 01's number of the refusal, or 0 for done, times 65,536, and its place, or the length written.
 -- Assumes nothing.
-use mathlib.Core.Bool.{Bool, true, false}
 use mathlib.Core.Path.{_≡_, refl, _∙_}
 use Prim.Native.Nat.{ℕ, _+_, _*_, _/_, _%_, _<_}
 use native.Mathlib.Omega.{arith}

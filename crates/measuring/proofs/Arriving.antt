@@ -10,10 +10,9 @@ use native.Mathlib.Omega.{arith}
 use borrow.Author.Tests.{ne-eqb}
 use lib.ListN.{length, drop, set, replicate, length-append, length-drop}
 use Rattle.octets.specs.Answer.{Answer, got, refused, then, if}
-use Rattle.octets.specs.Tests.{test}
+use Rattle.octets.proofs.Tests.{test}
 use Rattle.octets.specs.Numbers.{Octets}
-use Rattle.ber.specs.Identifier.{readIdentifier}
-use Rattle.ber.specs.Item.{Mode}
+use Rattle.ber.specs.Reading.{readIdentifier, Mode}
 use Rattle.table.specs.Syntax.{Member, Table}
 use Rattle.table.specs.Reading.{look, membersAt}
 use Rattle.table.proofs.Pieces.{length-members}

@@ -1,30 +1,28 @@
 -- What follows from an answer that is done: of tags, headers and contents.
 -- Assumes nothing.
-use mathlib.Core.Bool.{Bool, true, false, not}
+use mathlib.Core.Bool.{Bool, true, false}
 use mathlib.Core.List.{List, [], _∷_, _++_}
 use mathlib.Core.Path.{_≡_, refl, sym, ap, _∙_}
 use Prim.Native.Nat.{ℕ, zero, suc, _+_, _-_, _/_, _%_, _≤_, _<_}
-use native.Mathlib.Nat.{add-sub-cancel-left}
 use native.Mathlib.Numerals.{sub-one}
 use native.Mathlib.Omega.{arith}
 use lib.Dec.{eqb}
-use lib.ListN.{length, getD, take, drop, length-drop, length-append}
-use lib.Seq.{length-take-le, take-take, drop-drop, take-add, drop-append-seam}
-use Rattle.octets.specs.Answer.{Answer, got, refused, then, if, behind, Holds, yields, refuses, then-holds, if-holds, map-holds, got-holds, got-value}
+use lib.ListN.{length, getD, take, drop, length-drop}
+use lib.Seq.{length-take-le, take-add, drop-append-seam}
+use Rattle.octets.specs.Answer.{Answer, got, refused, then, behind}
+use Rattle.octets.proofs.Answer.{Holds, yields, refuses, then-holds, if-holds, map-holds, got-holds}
 use Rattle.octets.proofs.Lists.{behind as behind-part, length-behind}
-use Rattle.ber.specs.Identifier.{readIdentifier}
-use Rattle.ber.specs.IdentifierLaws.{identifier-sound}
-use Rattle.ber.specs.Length.{Size, definite, indefinite, readLength}
-use Rattle.ber.specs.LengthLaws.{Shape, is-definite, is-indefinite, length-sound}
-use Rattle.ber.specs.Item.{Mode, closed, open-ended, atEnd, inside}
-use Rattle.ber.specs.ItemLaws.{atEnd-holds}
+use Rattle.ber.specs.Reading.{readIdentifier, Size, definite, indefinite, Mode, closed, open-ended, atEnd, inside}
+use Rattle.ber.proofs.Identifier.{identifier-sound}
+use Rattle.ber.proofs.Length.{Shape, is-definite, is-indefinite, length-sound}
+use Rattle.ber.proofs.Item.{atEnd-holds}
 use Rattle.table.specs.Syntax.{Table}
 use Rattle.table.specs.Reading.{look, recordAt}
 use Rattle.coding.specs.Value.{Value, choice, octets}
 use Rattle.coding.specs.Tags.{own, explicit}
 use Rattle.coding.specs.Reading.{notAwaited, readWrapped, readKind, readValue}
 use Rattle.message.specs.Answers.{asLength}
-use Rattle.message.specs.Codes.{headerBy, constructedBy, codeOf}
+use Rattle.message.specs.Codes.{headerBy, constructedBy}
 use Rattle.measuring.specs.Wraps.{ended, shut, innerEnd, closing, Around, Opens}
 use Rattle.measuring.specs.Writing.{IsDone, written}
 use Rattle.message.specs.declared.length.Length.{Length}

@@ -1,47 +1,37 @@
 -- The reading of a record's item by the form of its kind, and what is written of it.
 -- Assumes nothing.
-use mathlib.Core.Bool.{Bool, true, false, not, _&&_, _||_, false≢true, true≢false}
+use mathlib.Core.Bool.{true, false, false≢true, true≢false}
 use mathlib.Core.List.{List, [], _∷_, _++_}
 use mathlib.Core.Option.{Option}
-use mathlib.Core.Path.{_≡_, refl, sym, ap, subst, _∙_}
-use Prim.Native.Nat.{ℕ, zero, suc, _+_, _-_, _*_, _≤_, _<_}
-use native.Mathlib.Nat.{add-sub-cancel-left}
+use mathlib.Core.Path.{_≡_, refl, sym, ap, _∙_}
+use Prim.Native.Nat.{ℕ, zero, suc, _+_, _-_, _≤_, _<_}
 use native.Mathlib.Omega.{arith}
-use borrow.Author.Tests.{eqb-true, leb-true, not-true, not-false}
+use borrow.Author.Tests.{eqb-true, leb-true}
 use lib.Dec.{eqb, leb}
 use lib.IntN.{ℤ, pos, negsuc}
-use lib.ListN.{length, getD, take, drop, length-append}
-use lib.Seq.{length-take-le}
+use lib.ListN.{length, getD, drop}
 use Rattle.octets.specs.Answer.{Answer, got, refused, then, if, none-left}
-use Rattle.octets.specs.Tests.{test}
+use Rattle.octets.proofs.Tests.{test}
 use Rattle.octets.specs.Lists.{any}
 use Rattle.octets.specs.Numbers.{Octets, two, octetsOf}
-use Rattle.octets.proofs.Lists.{both}
 use Rattle.ber.specs.Integer.{integerOf, minimal}
 use Rattle.ber.specs.BitString.{unused}
-use Rattle.ber.specs.Length.{Size, definite, indefinite}
-use Rattle.ber.specs.Item.{Mode, contents, inside, readHeader, readPrimitive, readConstructed}
-use Rattle.table.specs.Syntax.{Member, Simple, Boolean, Integer, BitString, OctetString, Null, Enumerated, Body, Plain, Sequence, Set, SequenceOf, SetOf, Choice, Table, absent}
+use Rattle.ber.specs.Reading.{Mode, contents, readHeader, readPrimitive, readConstructed}
+use Rattle.table.specs.Syntax.{Body, Plain, Sequence, Set, SequenceOf, SetOf, Choice, Table}
 use Rattle.table.specs.Rules.{parts, members}
-use Rattle.table.specs.Reading.{look, recordAt, bodyAt, ownAt, numbersAt, membersAt, everyAt}
-use Rattle.table.specs.Octets.{recordShaped, bodyShaped}
+use Rattle.table.specs.Reading.{look, recordAt, bodyAt, ownAt, numbersAt, membersAt}
 use Rattle.table.specs.Fields.{formOf}
 use Rattle.table.specs.declared.kind.Form.{Form}
 use Rattle.table.specs.declared.kind.Form.the-variants.{Simple as FSimple, Members as FMembers, Of as FOf, Choice as FChoice}
 use Rattle.table.proofs.Own.{at}
-use Rattle.table.proofs.Pieces.{length-members}
-use Rattle.coding.specs.Value.{Leaf, Value, leaf, sequence, set, sequenceOf, setOf, slots, bag, octets, leafOctets, count, presence}
+use Rattle.coding.specs.Value.{Value, leaf, sequence, set, sequenceOf, setOf, slots, bag, octets, leafOctets, count, presence}
 use Rattle.coding.specs.Value as Value-of
-use Rattle.coding.specs.Content.{decode, listed, isListed}
+use Rattle.coding.specs.Reading.{decode, isListed, readKind, readBody, readMany, choose, readValue}
+use Rattle.coding.specs.Content.{listed}
 use Rattle.coding.specs.Tags.{own}
-use Rattle.coding.specs.Reading.{readKind, readBody, readMany, readSequence, readSet, nothing, choose, readValue}
-use Rattle.message.specs.Answers.{asLength}
-use Rattle.message.specs.Codes.{headerBy, constructedBy, codeOf}
+use Rattle.message.specs.Codes.{headerBy, constructedBy}
 use Rattle.measuring.specs.Noting.{readMembers}
 use Rattle.measuring.specs.Writing.{IsDone, written, writtenAll, counts, leafOf, Lawful, one-octet, one-to-eight, some-unused, any-octets, no-octet, small-number}
-use Rattle.message.specs.declared.length.Length.{Length}
-use Rattle.message.specs.declared.length.Length.the-variants.{Definite, Indefinite, Refused as NoLength}
-use Rattle.measuring.proofs.Done.{header-definite, header-indefinite, header-none}
 use Rattle.message.proofs.Plain.{IsSimple}
 
 -- contents c of a simple kind, with s behind them; l octets are left where the item begins

@@ -1,25 +1,26 @@
 -- The members of a SET that was accepted, in the order in which they come: where each begins, and where the last ends.
 -- Assumes nothing.
-use mathlib.Core.Bool.{Bool, true, false, not}
+use mathlib.Core.Bool.{Bool, not}
 use mathlib.Core.List.{List, [], _∷_}
-use mathlib.Core.Option.{Option, some}
-use mathlib.Core.Path.{_≡_, refl, sym, ap, subst, _∙_}
-use Prim.Native.Nat.{ℕ, zero, suc, _+_, _-_, _≤_, _<_}
+use mathlib.Core.Option.{Option}
+use mathlib.Core.Path.{_≡_, refl, sym, ap, _∙_}
+use Prim.Native.Nat.{ℕ, suc, _+_, _-_, _≤_, _<_}
 use native.Mathlib.Omega.{arith}
 use lib.Dec.{eqb}
 use lib.ListN.{length, getD, drop, set, replicate}
-use Rattle.octets.specs.Answer.{Answer, got, refused, then, if, refused≢got, got-value, got-rest, got-holds}
-use Rattle.octets.specs.Tests.{test}
-use Rattle.ber.specs.Item.{Mode}
+use Rattle.octets.specs.Answer.{Answer, got, refused, then, if}
+use Rattle.octets.proofs.Answer.{refused≢got, got-value, got-rest, got-holds}
+use Rattle.octets.proofs.Tests.{test}
+use Rattle.ber.specs.Reading.{Mode}
 use Rattle.table.specs.Syntax.{Member, Table}
 use Rattle.table.specs.Reading.{look, membersAt}
 use Rattle.coding.specs.Value.{Value}
 use Rattle.coding.specs.Encodes.{allowed}
-use Rattle.coding.specs.FirstTags.{Good, good}
-use Rattle.coding.specs.Reading.{begun, nothing, notAwaited, full, place, readSet, readValue}
+use Rattle.coding.proofs.FirstTags.{Good, good}
+use Rattle.coding.specs.Reading.{nothing, full, readSet, readValue}
 use Rattle.message.specs.Answers.{cap, size, sizesIn, mode, endOf}
 use Rattle.message.specs.Codes.{Ready, searchIn}
-use Rattle.measuring.specs.Noting.{Noted, Located, named, find}
+use Rattle.measuring.specs.Noting.{Located, named, find}
 use Rattle.measuring.specs.Skipping.{Skips}
 use Rattle.message.specs.declared.ending.End.{End}
 use Rattle.message.specs.declared.ending.End.the-variants.{More, Over, Broken}
@@ -30,7 +31,7 @@ use Rattle.measuring.specs.declared.members.Next.the-variants.{Unknown, 
 use Rattle.measuring.proofs.Done.{done-of, not-awaited-undone}
 use Rattle.measuring.proofs.Turns.{Came}
 use Rattle.message.proofs.Told.{told-not}
-use Rattle.measuring.proofs.Arriving.{unawaited-then, Comes, Begins, next-unknown, InSet, set-none, set-ended, set-on, set-step, set-broken, set-next}
+use Rattle.measuring.proofs.Arriving.{unawaited-then, Begins, next-unknown, InSet, set-none, set-ended, set-on, set-step, set-broken, set-next}
 use Rattle.measuring.proofs.Skipped.{value-skips}
 
 -- a table that passed

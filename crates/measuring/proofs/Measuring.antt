@@ -11,14 +11,13 @@ use borrow.Author.Tests.{eqb-true, eq-eqb, ne-eqb}
 use lib.Dec.{eqb}
 use lib.ListN.{length, getD, take, drop, length-append, length-drop}
 use lib.Seq.{length-take-le}
-use Rattle.octets.specs.Answer.{Answer, got, refused, then, if, if-cases, none-left, behind, got-holds, got-value}
-use Rattle.octets.specs.Tests.{test}
+use Rattle.octets.specs.Answer.{Answer, got, refused, then, if, none-left, behind}
+use Rattle.octets.proofs.Answer.{if-cases, got-holds, got-value}
+use Rattle.octets.proofs.Tests.{test}
 use Rattle.octets.specs.Numbers.{Octets}
 use Rattle.octets.specs.Permutations.{as-given}
 use Rattle.octets.proofs.Lists.{behind as behind-part, length-behind}
-use Rattle.ber.specs.Identifier.{readIdentifier}
-use Rattle.ber.specs.Length.{Size}
-use Rattle.ber.specs.Item.{Mode, closed, open-ended, atEnd, inside, contents, readHeader, readPrimitive}
+use Rattle.ber.specs.Reading.{readIdentifier, Size, Mode, closed, open-ended, atEnd, inside, contents, readHeader, readPrimitive}
 use Rattle.table.specs.Syntax.{Tag, Simple, Boolean, Integer, BitString, OctetString, Null, Enumerated, Body, Plain, Sequence, Set, SequenceOf, SetOf, Choice, Record, Table, constructed}
 use Rattle.table.specs.Rules.{members}
 use Rattle.table.specs.Reading.{look, recordAt, bodyAt, ownAt, numbersAt, membersAt}
@@ -29,12 +28,11 @@ use Rattle.table.proofs.Own.{at as at-kind}
 use Rattle.table.proofs.Pieces.{length-members}
 use Rattle.coding.specs.Value.{Leaf, boolean, integer, bits, string, null, enumerated, Value, sequence, set, sequenceOf, setOf, slots, bag, octets, leafOctets, count, presence, Slots, end, missing, present}
 use Rattle.coding.specs.Value as Value-of
-use Rattle.coding.specs.Content.{decode}
-use Rattle.coding.specs.ContentLaws.{content-sound, content-complete}
+use Rattle.coding.specs.Reading.{decode, begun, notAwaited, nothing, readSequence, readSet, readMany, readBody, readKind, readValue, readMessage}
+use Rattle.coding.proofs.Content.{content-sound, content-complete}
 use Rattle.coding.specs.Tags.{identifierOf, last, before, explicitTags, own, explicit}
 use Rattle.coding.specs.Encodes.{EncodesAt}
-use Rattle.coding.specs.Sound.{value-sound, kind-sound}
-use Rattle.coding.specs.Reading.{begun, notAwaited, nothing, readSequence, readSet, readMany, readBody, readKind, readValue, readMessage}
+use Rattle.coding.proofs.Sound.{value-sound, kind-sound}
 use Rattle.message.specs.Answers.{cap, told, size, sizes, sizesIn, weight, leafWeight, asLength, awaitedValue}
 use Rattle.message.specs.Codes.{codeOf, untagged, headerBy, plainBy, constructedBy, bodyFirst, outermost, firstOf, Ready}
 use Rattle.measuring.specs.Noting.{Scanned, readMembers}

@@ -11,9 +11,9 @@ use borrow.Author.Tests.{eq-eqb, ne-eqb}
 use lib.Dec.{eqb}
 use lib.ListN.{length, getD, drop, set, replicate, length-append}
 use lib.Seq.{getD-set-other}
-use Rattle.octets.specs.Answer.{Answer, got, refused, then, if, then-refused}
-use Rattle.ber.specs.Identifier.{readIdentifier}
-use Rattle.ber.specs.Item.{Mode, atEnd}
+use Rattle.octets.specs.Answer.{Answer, got, refused, then, if}
+use Rattle.octets.proofs.Answer.{then-refused}
+use Rattle.ber.specs.Reading.{readIdentifier, Mode, atEnd}
 use Rattle.table.specs.Syntax.{Member, Table}
 use Rattle.table.specs.Reading.{membersAt}
 use Rattle.table.proofs.Pieces.{length-members}

@@ -1,21 +1,22 @@
 -- Laws of passing over items by their headers.
 -- Assumes nothing.
-use lib.ListN.{length, getD, drop, length-append, length-drop}
+use lib.ListN.{length, getD, drop, length-drop}
 use lib.Seq.{drop-drop, getD-drop}
-use mathlib.Core.Bool.{Bool, true, false}
+use mathlib.Core.Bool.{Bool}
 use mathlib.Core.List.{List, [], _∷_, _++_}
 use mathlib.Core.Path.{_≡_, refl, sym, ap, subst, _∙_}
 use native.Mathlib.Nat.{add-zero}
 use native.Mathlib.Omega.{arith}
 use Prim.Native.Nat.{ℕ, zero, suc, _+_, _-_, _%_, _≤_, _<_}
 use lib.Dec.{ltb}
-use Rattle.octets.specs.Answer.{Answer, got, refused, then, if, refused≢got, got-value, got-rest, Holds, then-holds, map-holds, got-holds}
-use Rattle.octets.specs.Tests.{test}
+use Rattle.octets.specs.Answer.{Answer, got, refused, then, if}
+use Rattle.octets.proofs.Answer.{refused≢got, got-value, got-rest, Holds, then-holds, map-holds, got-holds}
+use Rattle.octets.proofs.Tests.{test}
 use Rattle.octets.proofs.Lists.{behind as behind-part, length-behind}
-use Rattle.ber.specs.Identifier.{readFollowing, readIdentifier}
-use Rattle.ber.specs.IdentifierLaws.{identifier-sound}
-use Rattle.ber.specs.Length.{Size, definite, indefinite, readLength, Length as Octets, short, long}
-use Rattle.ber.specs.LengthLaws.{length-sound, Shape, is-definite, is-indefinite}
+use Rattle.ber.specs.Reading.{readFollowing, readIdentifier, Size, definite, indefinite, readLength}
+use Rattle.ber.proofs.Identifier.{identifier-sound}
+use Rattle.ber.specs.Length.{Length as Octets, short, long}
+use Rattle.ber.proofs.Length.{length-sound, Shape, is-definite, is-indefinite}
 use Rattle.message.specs.Answers.{asLength, endOf}
 use Rattle.message.specs.Codes.{asIdentifier}
 use Rattle.measuring.specs.Skipping.{headed, Passed, behind-all, closes, jumps, opens, Skips, sized, marked}

@@ -4,26 +4,24 @@ use borrow.Author.Tests.{ne-eqb}
 use mathlib.Core.Bool.{Bool, true, false, false≢true}
 use mathlib.Core.List.{List, [], _∷_, _++_}
 use mathlib.Core.Option.{Option, some, none}
-use mathlib.Core.Path.{_≡_, refl, sym, ap, _∙_}
+use mathlib.Core.Path.{_≡_, refl}
 use native.Mathlib.Nat.{zero-add, suc-add}
 use native.Mathlib.Omega.{arith}
-use Prim.Native.Nat.{ℕ, zero, suc, _+_, _≤_, _<_}
+use Prim.Native.Nat.{ℕ, zero, suc, _+_}
 use lib.ListN.{length, take}
-use Rattle.octets.specs.Answer.{Answer, got, refused, then, if, none-left, run, Holds, yields, refuses, then-holds, map-holds, behind-holds, if-holds, got-holds}
-use Rattle.ber.specs.Identifier.{readIdentifier}
-use Rattle.ber.specs.IdentifierLaws.{identifier-sound}
-use Rattle.ber.specs.Length.{Size, definite, indefinite, readLength}
-use Rattle.ber.specs.Item.{open-ended, closed, atEnd, readHeader, inside, readConstructed, contents, readPrimitive}
-use Rattle.ber.specs.ItemLaws.{Ends, mark, atEnd-holds}
+use Rattle.octets.specs.Answer.{Answer, got, refused, then, if, none-left}
+use Rattle.octets.proofs.Answer.{Holds, yields, refuses, then-holds, map-holds, behind-holds, if-holds, got-holds}
+use Rattle.ber.specs.Reading.{readIdentifier, Size, definite, indefinite, readLength, open-ended, closed, atEnd, readHeader, inside, readConstructed, contents, readPrimitive}
+use Rattle.ber.proofs.Identifier.{identifier-sound}
+use Rattle.ber.proofs.Item.{Ends, mark, atEnd-holds}
 use Rattle.table.specs.Syntax.{Member, Body, Plain, Sequence, Set, SequenceOf, SetOf, Choice, Table}
 use Rattle.coding.specs.Value.{Value}
-use Rattle.coding.specs.Content.{decode}
-use Rattle.coding.specs.ContentLaws.{content-sound}
-use Rattle.coding.specs.Tags.{own, explicit, begins}
-use Rattle.coding.specs.FirstTags.{Good, proper-begun}
-use Rattle.coding.specs.Awaited.{GoesOn, no-end}
-use Rattle.coding.specs.Sound.{not-awaited}
-use Rattle.coding.specs.Reading.{passes, begun, notAwaited, unwanted, nothing, readWrapped, readSequence, place, readSet, readMany, choose, readBody, readKind, readValue}
+use Rattle.coding.specs.Reading.{passes, begun, unwanted, nothing, readWrapped, readSequence, place, readSet, readMany, choose, readBody, readKind, readValue}
+use Rattle.coding.proofs.Content.{content-sound}
+use Rattle.coding.specs.Tags.{own, explicit}
+use Rattle.coding.specs.Awaited.{begins, GoesOn, no-end}
+use Rattle.coding.proofs.FirstTags.{Good, proper-begun}
+use Rattle.coding.proofs.Sound.{not-awaited}
 use Rattle.measuring.specs.Skipping.{headed, Passed, behind-all, closes, jumps, opens, Skips, sized, marked}
 
 -- an answer is what it is

@@ -3,15 +3,15 @@
 use mathlib.Core.Bool.{Bool, true, false}
 use mathlib.Core.List.{List, [], _∷_, _++_}
 use mathlib.Core.Option.{Option, none, some}
-use mathlib.Core.Path.{_≡_, refl, sym, ap, _∙_}
+use mathlib.Core.Path.{_≡_, refl, ap, _∙_}
 use native.Mathlib.Omega.{arith}
 use Prim.Native.Nat.{ℕ, zero, suc, _+_, _-_, _≤_}
-use lib.ListN.{length, take, drop, length-drop}
+use lib.ListN.{length, take, drop}
 use lib.Seq.{length-take-le, take-length}
-use Rattle.octets.specs.Answer.{Answer, got, refused, Holds, yields, refuses, then-holds, if-holds, got-holds}
-use Rattle.ber.specs.Identifier.{readIdentifier}
-use Rattle.ber.specs.Item.{Mode, closed, open-ended}
-use Rattle.ber.specs.ItemLaws.{Ends, no-more, atEnd-holds}
+use Rattle.octets.specs.Answer.{Answer, got, refused}
+use Rattle.octets.proofs.Answer.{Holds, yields, refuses, then-holds, if-holds}
+use Rattle.ber.specs.Reading.{readIdentifier, Mode, closed}
+use Rattle.ber.proofs.Item.{Ends, no-more, atEnd-holds}
 use Rattle.table.specs.Syntax.{Member, Body, Plain, Sequence, Set, SequenceOf, SetOf, Choice, Table}
 use Rattle.coding.specs.Value.{Value}
 use Rattle.coding.specs.Reading.{notAwaited, unwanted, nothing, place, readSequence, readSet, readMany, readBody}

@@ -1,38 +1,36 @@
 -- The loops that place: alternatives, members and elements; and the contents around them.
 -- Assumes nothing.
 use mathlib.Core.Bool.{Bool, true, false, not}
-use mathlib.Core.List.{List, [], _∷_, _++_, append-nil}
-use mathlib.Core.Option.{Option, some, none}
+use mathlib.Core.List.{List, [], _∷_, _++_}
+use mathlib.Core.Option.{Option}
 use mathlib.Core.Path.{_≡_, refl, sym, ap, _∙_}
-use Prim.Native.Nat.{ℕ, zero, suc, _+_, _-_, _*_, _≤_, _<_}
+use Prim.Native.Nat.{ℕ, suc, _+_, _-_, _*_, _≤_, _<_}
 use native.Mathlib.Nat.{add-zero}
 use native.Mathlib.Numerals.{sub-one}
 use native.Mathlib.Omega.{arith}
 use borrow.Author.Tests.{eq-eqb, ne-eqb}
 use lib.Dec.{eqb}
 use lib.ListN.{length, getD, drop, set, length-append, length-drop}
-use lib.Seq.{append-snoc, drop-append-seam, sets, set-comm, drop-cons, drop-drop, getD-drop}
-use Rattle.octets.specs.Answer.{Answer, got, refused, then, if, got-holds, got-value, refused≢got}
-use Rattle.octets.specs.Tests.{test}
+use lib.Seq.{sets, set-comm, drop-cons, drop-drop, getD-drop}
+use Rattle.octets.specs.Answer.{Answer, got, refused, then, if}
+use Rattle.octets.proofs.Answer.{got-holds}
+use Rattle.octets.proofs.Tests.{test}
 use Rattle.octets.specs.Numbers.{octetsOf}
 use Rattle.octets.specs.Permutations.{as-given}
 use Rattle.octets.proofs.Lists.{behind as behind-part, length-behind}
-use Rattle.ber.specs.Identifier.{readIdentifier}
-use Rattle.ber.specs.Item.{Mode, atEnd}
+use Rattle.ber.specs.Reading.{readIdentifier, Mode}
 use Rattle.table.specs.Syntax.{Member, Table}
 use Rattle.table.specs.Rules.{members}
 use Rattle.table.specs.Reading.{look, recordAt, membersAt, everyAt, bodyAt, ownAt}
-use Rattle.table.specs.Fields.{formOf, Spans}
+use Rattle.table.specs.Fields.{formOf}
 use Rattle.table.specs.declared.kind.Form.{Form}
 use Rattle.table.specs.declared.kind.Form.the-variants.{Simple as FSimple, Members as FMembers, Of as FOf, Choice as FChoice}
-use Rattle.table.specs.declared.record.Span.{Span}
 use Rattle.table.proofs.Loops.{every-step}
 use Rattle.table.proofs.Pieces.{length-members}
-use Rattle.coding.specs.Value.{Value, choice, slots, bag, octets, count, presence, flag}
+use Rattle.coding.specs.Value.{Value, choice, slots, count, presence}
 use Rattle.coding.specs.Value as Value-of
-use Rattle.coding.specs.Encodes.{EncodesAt}
-use Rattle.coding.specs.Sound.{value-sound, many-sound}
-use Rattle.coding.specs.Refusals.{encodes-some}
+use Rattle.coding.proofs.Sound.{value-sound}
+use Rattle.coding.proofs.Refusals.{encodes-some}
 use Rattle.coding.specs.Reading.{begun, notAwaited, readMany, choose, readBody, readValue}
 use Rattle.message.specs.Answers.{cap, told, size, sizesIn, mode, endOf, awaitedValue}
 use Rattle.measuring.specs.Noting.{Noted, over, free, came, Scanned, readMembers}
@@ -42,8 +40,8 @@ use Rattle.message.specs.declared.answer.Measured.the-variants.{Done, Refused}
 use Rattle.message.specs.declared.ending.End.{End}
 use Rattle.message.specs.declared.ending.End.the-variants.{More, Over, Broken}
 use Rattle.message.proofs.Told.{at-more, at-over, at-broken}
-use Rattle.measuring.proofs.Placing.{three, four, five, sets-append, number-sets, presence-length}
-use Rattle.measuring.proofs.Done.{done-got, done-of, choice-done, not-awaited-undone}
+use Rattle.measuring.proofs.Placing.{three, four, sets-append, number-sets, presence-length}
+use Rattle.measuring.proofs.Done.{done-of, choice-done, not-awaited-undone}
 use Rattle.measuring.proofs.Forms.{gathered, gathers}
 
 -- stores that do not meet

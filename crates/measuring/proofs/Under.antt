@@ -9,9 +9,9 @@ use borrow.Author.Tests.{le-leb, lt-leb, leb-true, leb-false, ltb-true, ltb-fals
 use lib.Dec.{ltb, leb, eqb}
 use lib.ListN.{length, drop}
 use Rattle.octets.specs.Answer.{Answer, got, refused, then, if}
-use Rattle.octets.specs.Tests.{test}
+use Rattle.octets.proofs.Tests.{test}
 use Rattle.octets.specs.Numbers.{Octets}
-use Rattle.ber.specs.Identifier.{readIdentifier}
+use Rattle.ber.specs.Reading.{readIdentifier}
 use Rattle.table.specs.Syntax.{Tag, Body, Plain, Sequence, Set, SequenceOf, SetOf, Choice, Record, Table}
 use Rattle.table.specs.Rules.{bodyBelow, tagsBelow, below, parts}
 use Rattle.table.specs.Passes.{Nested}

@@ -10,12 +10,12 @@ use mathlib.Core.Path.{_≡_, refl, sym, ap, _∙_}
 use native.Mathlib.Numerals.{add-one}
 use native.Mathlib.Omega.{arith}
 use Prim.Native.Nat.{ℕ, zero, suc, _+_, _-_, _*_, _/_, _%_, _≤_, _<_}
-use Rattle.octets.specs.Answer.{Answer, got, refused, then, if, behind, none-left, if-cases}
+use Rattle.octets.specs.Answer.{Answer, got, refused, then, if, behind, none-left}
+use Rattle.octets.proofs.Answer.{if-cases}
 use Rattle.octets.specs.Numbers.{Octets, two}
-use Rattle.octets.specs.Tests.{test}
-use Rattle.ber.specs.Identifier.{identifier, readFollowing, readIdentifier}
-use Rattle.ber.specs.Length.{Size, definite, indefinite, fit, readLong, readLength}
-use Rattle.ber.specs.Item.{open-ended, atEnd, readConstructed, inside}
+use Rattle.octets.proofs.Tests.{test}
+use Rattle.ber.specs.Identifier.{identifier}
+use Rattle.ber.specs.Reading.{readFollowing, readIdentifier, Size, definite, indefinite, fit, readLong, readLength, open-ended, atEnd, readConstructed, inside}
 use Rattle.table.specs.Syntax.{Tag, Body, Plain, Sequence, Set, SequenceOf, SetOf, Choice}
 use Rattle.table.specs.Reading.{tagsAt, recordAt}
 use Rattle.coding.specs.Value.{Value}

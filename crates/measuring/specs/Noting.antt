@@ -8,8 +8,8 @@ use Prim.Native.Nat.{ℕ, zero, suc, _≤_}
 use lib.Dec.{eqb}
 use lib.ListN.{length, getD, drop}
 use Rattle.octets.specs.Answer.{Answer, got, refused, if}
-use Rattle.ber.specs.Item.{Mode}
-use Rattle.table.specs.Syntax.{Member, Simple, Body, Plain, Sequence, Set, SequenceOf, SetOf, Choice, Table}
+use Rattle.ber.specs.Reading.{Mode}
+use Rattle.table.specs.Syntax.{Member, Body, Plain, Sequence, Set, SequenceOf, SetOf, Choice, Table}
 use Rattle.coding.specs.Value.{Value}
 use Rattle.coding.specs.Reading.{readValue, readSequence, readSet, nothing}
 use Rattle.message.specs.Codes.{searchIn}

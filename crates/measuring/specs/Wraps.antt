@@ -4,11 +4,11 @@
 use mathlib.Core.Bool.{Bool, true, false}
 use mathlib.Core.List.{List, [], _∷_}
 use mathlib.Core.Path.{_≡_}
-use Prim.Native.Nat.{ℕ, zero, suc, _+_, _-_, _*_, _/_, _%_, _≤_, _<_}
+use Prim.Native.Nat.{ℕ, _+_, _-_, _*_, _/_, _%_, _≤_}
 use lib.Dec.{eqb}
 use lib.ListN.{length, take, drop}
-use Rattle.octets.specs.Answer.{Answer, got, refused, then, if, behind}
-use Rattle.ber.specs.Item.{Mode, closed, open-ended, atEnd, inside}
+use Rattle.octets.specs.Answer.{Answer, got, refused, then, behind}
+use Rattle.ber.specs.Reading.{Mode, closed, open-ended, atEnd, inside}
 use Rattle.coding.specs.Value.{Value}
 use Rattle.coding.specs.Reading.{readWrapped}
 use Rattle.message.specs.Codes.{headerBy}

@@ -1,6 +1,6 @@
 -- What is written of an answer that is done.
 -- Assumes nothing.
-use mathlib.Core.Bool.{Bool, true, false, not}
+use mathlib.Core.Bool.{true, not}
 use mathlib.Core.List.{List, [], _∷_, _++_}
 use mathlib.Core.Option.{Option}
 use mathlib.Core.Path.{_≡_}
@@ -8,14 +8,12 @@ use Prim.Native.Nat.{ℕ, zero, suc, _+_, _-_, _≤_, _<_}
 use lib.Dec.{eqb}
 use lib.IntN.{pos}
 use lib.ListN.{length, getD, drop}
-use lib.Seq.{sets}
 use Rattle.octets.specs.Answer.{Answer, got, refused, if}
 use Rattle.ber.specs.Integer.{integerOf}
 use Rattle.ber.specs.BitString.{unused, masked}
 use Rattle.table.specs.Syntax.{Member, Table}
 use Rattle.coding.specs.Value.{Leaf, boolean, integer, bits, string, null, enumerated, Value, octets, parts, bag, flag}
-use Rattle.coding.specs.Content.{natural}
-use Rattle.coding.specs.Reading.{readValue}
+use Rattle.coding.specs.Reading.{natural, readValue}
 use Rattle.measuring.specs.Noting.{Noted}
 
 unfoldable pub IsDone : {A : Type 0} → Answer A → Type 0

@@ -1,28 +1,30 @@
 -- The code of an identifier stands for it: headers by their codes, and the search for what an item begins.
 -- Assumes nothing.
-use mathlib.Core.Bool.{Bool, true, false, not, _&&_, _||_, true≢false, false≢true}
+use mathlib.Core.Bool.{Bool, true, false, not, _&&_, _||_}
 use mathlib.Core.List.{List, [], _∷_, _++_, map}
 use mathlib.Core.Path.{_≡_, refl, sym, ap, _∙_}
 use Prim.Native.Nat.{ℕ, zero, suc, _+_, _*_, _/_, _%_, _≤_, _<_, min}
 use native.Mathlib.Omega.{arith}
-use borrow.Author.Tests.{lt-ltb, le-ltb, ltb-true, ltb-false, eq-eqb, ne-eqb, eqb-true, eqb-false, leb-true}
+use borrow.Author.Tests.{lt-ltb, le-ltb, ltb-true, ltb-false, ne-eqb, eqb-true, eqb-false, leb-true}
 use lib.Dec.{ltb, leb, eqb}
 use lib.ListN.{length, getD, drop}
 use lib.Seq.{append-snoc, getD-drop}
-use Rattle.octets.specs.Answer.{Answer, got, refused, then, if, Holds, yields, refuses, if-holds, then-holds, map-holds, got-holds}
-use Rattle.octets.specs.Tests.{test}
-use Rattle.octets.specs.Lists.{any, all}
-use Rattle.octets.specs.Numbers.{Octets, two}
+use Rattle.octets.specs.Answer.{Answer, got, refused, then, if}
+use Rattle.octets.proofs.Answer.{Holds, yields, refuses, if-holds, then-holds, map-holds, got-holds}
+use Rattle.octets.proofs.Tests.{test}
+use Rattle.octets.specs.Lists.{any, all, same}
+use Rattle.octets.specs.Numbers.{Octets}
 use Rattle.octets.proofs.Lists.{both}
-use Rattle.ber.specs.Identifier.{bit, leading, following, identifier, readFollowing, readIdentifier, same}
-use Rattle.ber.specs.IdentifierLaws.{same-refl, same-true}
-use Rattle.ber.specs.Item.{readHeader}
-use Rattle.table.specs.Syntax.{Tag, Simple, Body, Plain, Sequence, Set, SequenceOf, SetOf, Choice, Record, Table, absent, constructed}
+use Rattle.ber.specs.Identifier.{bit, leading, following, identifier}
+use Rattle.ber.specs.Reading.{readFollowing, readIdentifier, readHeader}
+use Rattle.octets.proofs.Lists.{same-refl, same-true}
+use Rattle.table.specs.Syntax.{Tag, Body, Plain, Sequence, Set, SequenceOf, SetOf, Choice, Record, Table, constructed}
 use Rattle.table.specs.Rules.{parts}
 use Rattle.table.specs.Octets.{recordShaped, bodyShaped}
 use Rattle.table.specs.Reading.{tagsAt, look, recordAt}
-use Rattle.coding.specs.Tags.{identifierOf, last, before, explicitTags, own, explicit, beginsBody, beginsItem, beginsIn, begins}
-use Rattle.coding.specs.Complete.{never}
+use Rattle.coding.specs.Tags.{identifierOf, last, before, explicitTags, own, explicit}
+use Rattle.coding.specs.Awaited.{beginsBody, beginsItem, beginsIn, begins}
+use Rattle.coding.proofs.Complete.{never}
 use Rattle.coding.specs.Reading.{passes, begun}
 use Rattle.message.specs.Codes.{spelled, codeOf, untagged, none, peeked, headerBy, bodyFirst, outermost, firstOf, Ready, pick, among, searchIn}
 use Rattle.message.specs.declared.search.Found.{Found}

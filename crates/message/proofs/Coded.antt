@@ -3,16 +3,16 @@
 use borrow.Author.Tests.{ltb-true, ltb-false}
 use lib.Dec.{ltb}
 use lib.ListN.{length, getD, List·getD-eq-default}
-use mathlib.Core.Bool.{Bool, true, false, not, true≢false, false≢true}
+use mathlib.Core.Bool.{Bool, true, false, true≢false, false≢true}
 use mathlib.Core.List.{List, [], _∷_, map}
 use mathlib.Core.Path.{_≡_, refl, sym, ap, _∙_}
 use native.Mathlib.Omega.{arith}
 use Prim.Native.Nat.{ℕ, zero, suc, _+_, _-_, _*_, _/_, _%_, _≤_, _<_, min}
-use Rattle.octets.specs.Answer.{if, if-cases}
-use Rattle.octets.specs.Tests.{test}
+use Rattle.octets.proofs.Answer.{if-cases}
+use Rattle.octets.proofs.Tests.{test}
 use Rattle.octets.specs.Numbers.{two}
 use Rattle.ber.specs.Identifier.{bit, leading, following, identifier}
-use Rattle.table.specs.Syntax.{Tag, Simple, Boolean, Integer, BitString, OctetString, Null, Enumerated, Body, Plain, Sequence, Set, SequenceOf, SetOf, Choice, Record, isChoice, universal, constructed}
+use Rattle.table.specs.Syntax.{Tag, Boolean, Integer, BitString, OctetString, Null, Enumerated, Body, Plain, Sequence, Set, SequenceOf, SetOf, Choice, isChoice, universal}
 use Rattle.table.specs.Reading.{tagsAt, bodyAt, ownAt, recordAt, look}
 use Rattle.table.specs.Fields.{universalOf, constructedOf, choiceOf}
 use Rattle.table.proofs.Fields.{universal-of, constructed-of, choice-of}

@@ -3,14 +3,14 @@
 use borrow.Author.Tests.{eq-eqb, ne-eqb}
 use lib.Dec.{eqb}
 use lib.ListN.{length, getD}
-use mathlib.Core.Bool.{Bool, true, false, not}
+use mathlib.Core.Bool.{not}
 use mathlib.Core.List.{List, [], _∷_}
-use mathlib.Core.Path.{_≡_, refl, sym, ap, _∙_}
+use mathlib.Core.Path.{_≡_, refl, ap, _∙_}
 use native.Mathlib.Numerals.{add-one}
 use native.Mathlib.Omega.{arith}
-use Prim.Native.Nat.{ℕ, zero, suc, _+_, _-_, _*_, _≤_, _<_}
+use Prim.Native.Nat.{ℕ, zero, suc, _+_, _-_, _≤_, _<_}
 use Rattle.octets.specs.Answer.{if}
-use Rattle.octets.specs.Tests.{test}
+use Rattle.octets.proofs.Tests.{test}
 use Rattle.table.specs.Syntax.{Table}
 use Rattle.table.specs.Rules.{parts}
 use Rattle.table.specs.Reading.{everyAt, look, recordAt}

@@ -1,29 +1,29 @@
 -- Laws of the contents of simple kinds, by the kind's number.
 -- Assumes nothing.
-use borrow.Author.Tests.{lt-ltb, le-ltb, le-leb, lt-leb, eq-eqb, ne-eqb, ltb-true, leb-true}
+use borrow.Author.Tests.{le-leb, lt-leb, eq-eqb, ne-eqb, ltb-true, leb-true}
 use lib.Dec.{ltb, leb, eqb}
 use lib.IntN.{ℤ, pos, negsuc}
-use lib.ListN.{length, getD, drop, length-append, length-drop}
+use lib.ListN.{length, getD, drop, length-drop}
 use lib.Signed.{mag, ltZ}
 use mir.Syntax.{w64}
 use mir.Val.{SFits, toZ, ofZ}
 use mir.ValLaws.{toZ-ofZ}
-use mathlib.Core.Bool.{Bool, true, false, not, _&&_, _||_, true≢false}
-use mathlib.Core.List.{List, [], _∷_, _++_}
+use mathlib.Core.Bool.{Bool, true, false, _&&_, true≢false}
+use mathlib.Core.List.{List, [], _∷_}
 use mathlib.Core.Path.{_≡_, refl, sym, ap, _∙_}
 use native.Mathlib.Omega.{arith}
-use Prim.Native.Nat.{ℕ, zero, suc, _+_, _-_, _*_, _/_, _^_, _≤_, _<_}
-use Rattle.octets.specs.Answer.{Answer, got, refused, if, none-left}
-use Rattle.octets.specs.Tests.{test}
+use Prim.Native.Nat.{ℕ, suc, _+_, _-_, _≤_, _<_}
+use Rattle.octets.specs.Answer.{if, none-left}
+use Rattle.octets.proofs.Tests.{test}
 use Rattle.octets.specs.Lists.{any}
 use Rattle.octets.specs.Numbers.{two}
 use Rattle.octets.proofs.Lists.{both}
 use Rattle.ber.specs.Integer.{integerOf, minimal, eight}
 use Rattle.ber.specs.BitString.{unused, masked}
-use Rattle.table.specs.Syntax.{Simple, Enumerated, Body, Plain}
 use Rattle.table.specs.Reading.{numbersAt, bodyAt}
 use Rattle.coding.specs.Value.{leafOctets}
-use Rattle.coding.specs.Content.{listed, isListed, decode}
+use Rattle.coding.specs.Content.{listed}
+use Rattle.coding.specs.Reading.{isListed, decode}
 use Rattle.message.specs.Answers.{weight, leafWeight}
 
 -- the turns of the loop over an ENUMERATED's numbers

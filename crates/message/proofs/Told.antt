@@ -1,26 +1,26 @@
 -- Laws of the answers of the code: of identifiers, lengths, ends and headers, by places.
 -- Assumes nothing.
 use borrow.Author.Tests.{lt-ltb, le-ltb, le-leb, lt-leb, eq-eqb, ne-eqb, eqb-true, eqb-false, leb-true, leb-false}
-use lib.Dec.{ltb, leb, eqb}
-use lib.ListN.{length, getD, take, drop, length-append, length-drop, length-take, drop-of-length-le}
-use lib.Seq.{append-snoc, drop-cons, drop-drop, drop-append-seam, getD-drop, getD-take, take-all, length-take-le}
-use mathlib.Core.Bool.{Bool, true, false, not}
+use lib.Dec.{leb, eqb}
+use lib.ListN.{length, getD, take, drop, length-drop, length-take, drop-of-length-le}
+use lib.Seq.{append-snoc, drop-cons, getD-drop, getD-take}
+use mathlib.Core.Bool.{Bool, true, false}
 use mathlib.Core.List.{List, [], _∷_, _++_}
-use mathlib.Core.Path.{_≡_, refl, sym, ap, subst, _∙_}
-use native.Mathlib.Nat.{add-sub-cancel, add-sub-cancel-left, add-zero}
+use mathlib.Core.Path.{_≡_, refl, sym, ap, _∙_}
+use native.Mathlib.Nat.{add-zero}
 use native.Mathlib.Numerals.{add-one}
 use native.Mathlib.Omega.{arith}
-use Prim.Native.Nat.{ℕ, zero, suc, _+_, _-_, _*_, _/_, _%_, _≤_, _<_, min}
-use Rattle.octets.specs.Answer.{Answer, got, refused, then, if, none-left, Holds, yields, refuses, got-holds, map-holds, run}
-use Rattle.octets.specs.Tests.{test}
+use Prim.Native.Nat.{ℕ, suc, _+_, _-_, _*_, _/_, _%_, _≤_, _<_, min}
+use Rattle.octets.specs.Answer.{Answer, got, refused, then, if, none-left}
+use Rattle.octets.proofs.Answer.{got-holds}
+use Rattle.octets.proofs.Tests.{test}
 use Rattle.octets.proofs.Lists.{behind, length-behind}
-use Rattle.ber.specs.Identifier.{readFollowing, readIdentifier}
-use Rattle.ber.specs.IdentifierLaws.{identifier-sound}
-use Rattle.ber.specs.Length.{Size, definite, indefinite, readLength, readLong, fit, number}
-use Rattle.ber.specs.Item.{Mode, closed, open-ended, atEnd}
+use Rattle.ber.specs.Reading.{readFollowing, readIdentifier, readLength, readLong, fit, atEnd}
+use Rattle.ber.proofs.Identifier.{identifier-sound}
+use Rattle.ber.specs.Length.{number}
 use Rattle.coding.specs.Value.{Value}
 use Rattle.coding.specs.Reading.{notAwaited}
-use Rattle.message.specs.Answers.{cap, told, asLength, endOf, mode, missing}
+use Rattle.message.specs.Answers.{told, asLength, endOf, mode, missing}
 use Rattle.message.specs.Codes.{spelled, codeOf, asIdentifier, peeked, headerBy}
 use Rattle.message.specs.declared.answer.Measured.{Measured}
 use Rattle.message.specs.declared.answer.Measured.the-variants.{Done, Refused}

@@ -1,19 +1,16 @@
 -- The answers of the code in terms of the definitions of reading. Places count from the start of the octets m that were lent.
 -- Assumes nothing.
 use mathlib.Core.Bool.{Bool, true, false, not}
-use mathlib.Core.List.{List, [], _∷_}
+use mathlib.Core.List.{List, []}
 use mathlib.Core.Option.{Option}
-use Prim.Native.Nat.{ℕ, zero, suc, _+_, _-_, _*_, min}
+use Prim.Native.Nat.{ℕ, _+_, _-_, _*_, min}
 use lib.Dec.{leb, eqb}
 use lib.ListN.{length, getD, drop}
-use Rattle.octets.specs.Answer.{Answer, got, refused, then, if, none-left}
-use Rattle.ber.specs.Length.{Size, definite, indefinite, readLength}
-use Rattle.ber.specs.Identifier.{readIdentifier}
-use Rattle.ber.specs.Item.{Mode, closed, open-ended, atEnd}
-use Rattle.table.specs.Syntax.{Simple, Body, Plain, Sequence, Set, SequenceOf, SetOf, Choice, Table}
+use Rattle.octets.specs.Answer.{Answer, got, refused, if, none-left}
+use Rattle.ber.specs.Reading.{Size, definite, indefinite, Mode, closed, open-ended, atEnd}
+use Rattle.table.specs.Syntax.{Body, Plain, Sequence, Set, SequenceOf, SetOf, Choice, Table}
 use Rattle.coding.specs.Value.{Leaf, Value, octets, parts, leafOctets, slots, bag}
-use Rattle.coding.specs.Content.{decode}
-use Rattle.coding.specs.Reading.{begun, readValue, notAwaited}
+use Rattle.coding.specs.Reading.{decode, begun, readValue, notAwaited}
 use Rattle.message.specs.declared.answer.Measured.{Measured}
 use Rattle.message.specs.declared.answer.Measured.the-variants.{Done, Refused}
 use Rattle.message.specs.declared.length.Length.{Length}

@@ -1,21 +1,19 @@
 -- Identifiers as numbers, and the search for the record that an identifier begins.
 -- Assumes nothing.
-use mathlib.Core.Bool.{Bool, true, false, not}
+use mathlib.Core.Bool.{not}
 use mathlib.Core.List.{List, [], _∷_}
 use mathlib.Core.Path.{_≡_}
-use Prim.Native.Nat.{ℕ, zero, suc, _+_, _-_, _*_, _/_, _%_, _≤_, _<_, min}
+use Prim.Native.Nat.{ℕ, zero, suc, _+_, _-_, _*_, _/_, _%_, _≤_, min}
 use lib.Dec.{eqb}
 use lib.ListN.{length, getD}
 use Rattle.octets.specs.Answer.{Answer, got, refused, then, if}
-use Rattle.ber.specs.Identifier.{readIdentifier}
-use Rattle.ber.specs.Length.{Size, readLength}
-use Rattle.ber.specs.Item.{Mode, inside, contents}
-use Rattle.table.specs.Syntax.{Simple, Body, Plain, Sequence, Set, SequenceOf, SetOf, Choice, Record, Table}
+use Rattle.ber.specs.Reading.{readIdentifier, Size, readLength, Mode, inside, contents}
+use Rattle.table.specs.Syntax.{Body, Plain, Sequence, Set, SequenceOf, SetOf, Choice, Record, Table}
 use Rattle.table.specs.Rules.{parts, members}
 use Rattle.table.specs.Reading.{look, recordAt}
 use Rattle.table.specs.Passes.{Passes}
 use Rattle.coding.specs.Value.{Value, leaf}
-use Rattle.coding.specs.Content.{decode}
+use Rattle.coding.specs.Reading.{decode}
 use Rattle.coding.specs.Tags.{own, explicit}
 use Rattle.message.specs.declared.identifier.Identifier.{Identifier}
 use Rattle.message.specs.declared.identifier.Identifier.the-variants.{Read, Refused}

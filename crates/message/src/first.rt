@@ -1,7 +1,7 @@
 // The codes of the tags in a table.
 ghost use mathlib.Core.Path.{_≡_};
-ghost use mathlib.Core.Bool.{Bool, true};
-ghost use Prim.Native.Nat.{ℕ, _≤_, _<_, _+_, _*_, _-_};
+ghost use mathlib.Core.Bool.{true};
+ghost use Prim.Native.Nat.{_≤_, _<_, _+_, _*_, _-_};
 ghost use lib.ListN.{length, getD};
 ghost use Rattle.ber.specs.Identifier.{identifier};
 ghost use Rattle.octets.specs.Numbers.{two};

@@ -1,10 +1,8 @@
 // Identifier octets. Their code is a number by which they are compared: the class and the bit, then the tag number.
 ghost use mathlib.Core.Path.{_≡_};
-ghost use mathlib.Core.List.{_∷_};
 ghost use Prim.Native.Nat.{_≤_, _<_, _+_, _*_, _%_, _/_, min};
 ghost use lib.ListN.{length, getD, drop};
-ghost use Rattle.octets.specs.Answer.{then};
-ghost use Rattle.ber.specs.Identifier.{readIdentifier};
+ghost use Rattle.ber.specs.Reading.{readIdentifier};
 ghost use Rattle.coding.specs.Reading.{notAwaited};
 ghost use Rattle.message.specs.Answers.{told, size};
 ghost use Rattle.message.specs.Codes.{asIdentifier, peeked};

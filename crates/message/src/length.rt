@@ -2,7 +2,7 @@
 ghost use mathlib.Core.Path.{_≡_};
 ghost use Prim.Native.Nat.{_≤_, _<_, _-_};
 ghost use lib.ListN.{length, getD, drop};
-ghost use Rattle.ber.specs.Length.{readLength};
+ghost use Rattle.ber.specs.Reading.{readLength};
 ghost use Rattle.message.specs.Answers.{asLength};
 
 pub enum Length {

@@ -1,16 +1,19 @@
 -- Laws on tests over lists, on parts by their places, and on items of one size that stand one after another.
 -- Assumes nothing.
+use borrow.Author.Tests.{eqb-true, eq-eqb}
 use mathlib.Core.Bool.{Bool, true, false, _&&_, false≢true}
 use mathlib.Core.List.{List, [], _∷_, _++_, map, append-assoc}
 use mathlib.Core.Path.{_≡_, refl, sym, ap, _∙_}
-use Prim.Native.Nat.{ℕ, zero, suc, _+_, _*_, _/_, _%_, _≤_}
 use native.Mathlib.Nat.{div-add-mod', add-zero}
 use native.Mathlib.Numerals.{add-one}
 use native.Mathlib.Omega.{arith}
+use Prim.Native.Nat.{ℕ, zero, suc, _+_, _*_, _/_, _%_, _≤_}
 use lib.ListN.{length, drop, getD, length-append, length-drop}
 use lib.Seq.{drop-cons, getD-drop, drop-drop, drop-append-seam}
-use Rattle.octets.specs.Lists.{all, joined}
+use lib.Dec.{eqb}
+use Rattle.octets.specs.Lists.{all, joined, same}
 use Rattle.octets.specs.Numbers.{Octets, two, octetsOf}
+use Rattle.octets.proofs.Tests.{and-left, and-right}
 
 pub both : (a b : Bool) → (a && b) ≡ true → (a ≡ true) × (b ≡ true)
 both true b e = (refl, e)
@@ -100,3 +103,18 @@ two-back b o p h =
 
 pub two-only : (b : List ℕ) (p n : ℕ) (w : List ℕ) → drop p b ≡ octetsOf n ++ w → two b p ≡ n
 two-only b p n w e = rw (at-first b p 0 _ _ e, at-part b p 1 0 _ e) (div-add-mod' n 256)
+
+pub same-refl : (i : List ℕ) → same i i ≡ true
+unfolding same
+same-refl [] = refl
+same-refl (x ∷ i) = simp (eq-eqb x x refl, same-refl i)
+
+pub same-true : (i j : List ℕ) → same i j ≡ true → i ≡ j
+unfolding same
+same-true [] [] e = refl
+same-true [] (y ∷ j) e = absurd (false≢true e)
+same-true (x ∷ i) [] e = absurd (false≢true e)
+same-true (x ∷ i) (y ∷ j) e =
+    let h : x ≡ y = eqb-true x y (and-left (eqb x y) (same i j) e) in
+    let k : i ≡ j = same-true i j (and-right (eqb x y) (same i j) e) in
+    rw (h, k)

@@ -3,6 +3,7 @@
 use mathlib.Core.Bool.{Bool, true, false, _&&_, _||_}
 use mathlib.Core.List.{List, [], _∷_, _++_}
 use Prim.Native.Nat.{ℕ, zero, suc, _+_}
+use lib.Dec.{eqb}
 use Rattle.octets.specs.Tests.{if}
 
 module _ {A : Type 0} where
@@ -34,3 +35,10 @@ lowestFrom f k (suc n) = if (f k) k λ _. lowestFrom f (suc k) n
 -- the lowest number below n that passes; n if none does
 abbrev pub lowest : (ℕ → Bool) → ℕ → ℕ
 lowest f n = lowestFrom f 0 n
+
+-- the same numbers in the same order
+unfoldable pub same : List ℕ → List ℕ → Bool
+same [] [] = true
+same [] (y ∷ ys) = false
+same (x ∷ xs) [] = false
+same (x ∷ xs) (y ∷ ys) = eqb x y && same xs ys

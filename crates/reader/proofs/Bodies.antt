@@ -1,24 +1,22 @@
 -- The contents of a SET, the kinds of contents, and the tests before a value is placed.
 -- Assumes nothing.
-use mathlib.Core.Bool.{Bool, true, false}
+use mathlib.Core.Bool.{Bool}
 use mathlib.Core.List.{List, [], _∷_, _++_}
 use mathlib.Core.Option.{Option}
 use mathlib.Core.Path.{_≡_, refl, sym, ap, _∙_}
-use Prim.Native.Nat.{ℕ, suc, _+_, _-_, _≤_, _<_}
+use Prim.Native.Nat.{ℕ, suc, _+_, _-_, _≤_}
 use native.Mathlib.Omega.{arith}
 use lib.ListN.{length, getD, drop, length-append}
 use lib.Seq.{sets}
 use Rattle.octets.specs.Answer.{Answer, got, refused, then, if}
 use Rattle.octets.specs.Numbers.{Octets}
-use Rattle.ber.specs.Identifier.{readIdentifier}
-use Rattle.ber.specs.Item.{Mode}
-use Rattle.table.specs.Syntax.{Member, Table, isChoice}
+use Rattle.ber.specs.Reading.{readIdentifier, Mode}
+use Rattle.table.specs.Syntax.{Member, Table}
 use Rattle.table.specs.Reading.{look, recordAt, membersAt, bodyAt, ownAt}
-use Rattle.table.specs.Fields.{formOf, choiceOf}
-use Rattle.table.specs.declared.kind.Form.the-variants.{Simple as FSimple, Members as FMembers, Of as FOf}
+use Rattle.table.specs.Fields.{formOf}
+use Rattle.table.specs.declared.kind.Form.the-variants.{Members as FMembers, Of as FOf}
 use Rattle.table.proofs.Own.{at as at-kind}
 use Rattle.coding.specs.Value.{Value, set, slots}
-use Rattle.coding.specs.Tags.{explicit}
 use Rattle.coding.specs.Reading.{begun, nothing, readSet, readBody, readValue}
 use Rattle.message.specs.Answers.{cap, told, sizesIn}
 use Rattle.message.specs.Codes.{Ready, Shaped, peeked, searchIn}

@@ -1,20 +1,20 @@
 -- The ways through the reading of a whole message.
 -- Assumes nothing.
-use mathlib.Core.Bool.{Bool, true, false, not}
-use mathlib.Core.List.{List, [], _∷_, _++_, append-nil}
+use mathlib.Core.Bool.{true, false, not}
+use mathlib.Core.List.{List, [], _++_, append-nil}
 use mathlib.Core.Path.{_≡_, refl, sym, ap, _∙_}
-use Prim.Native.Nat.{ℕ, zero, suc, _+_, _-_, _≤_, _<_, min}
-use native.Mathlib.Nat.{zero-add}
+use Prim.Native.Nat.{ℕ, _+_, _-_, _≤_, _<_, min}
 use native.Mathlib.Omega.{arith}
 use borrow.Author.Tests.{lt-ltb, le-ltb, le-leb, lt-leb}
 use lib.Dec.{ltb, leb}
 use lib.ListN.{length, take, drop, drop-of-length-le, length-append, take-append-drop}
 use lib.Seq.{sets, sets-eq, length-take-le}
-use Rattle.octets.specs.Tests.{test}
-use Rattle.octets.specs.Answer.{Answer, got, refused, then, if, none-left, run, refused≢got}
+use Rattle.octets.proofs.Tests.{test}
+use Rattle.octets.specs.Answer.{Answer, got, refused, then, if, none-left}
+use Rattle.octets.proofs.Answer.{run, refused≢got}
 use Rattle.table.specs.Syntax.{Table}
 use Rattle.table.specs.declared.TableCause.the-variants.{NoType}
-use Rattle.ber.specs.Identifier.{readIdentifier}
+use Rattle.ber.specs.Reading.{readIdentifier}
 use Rattle.coding.specs.Value.{Value, octets}
 use Rattle.coding.specs.Reading.{begun, notAwaited, readValue, readMessage}
 use Rattle.coding.specs.Causes.{messageCause}

@@ -10,26 +10,25 @@ use borrow.Author.Tests.{eq-eqb, ne-eqb}
 use lib.Dec.{eqb}
 use lib.ListN.{length, getD, take, drop, set, length-drop}
 use lib.Seq.{sets, drop-drop}
-use Rattle.octets.specs.Answer.{Answer, got, refused, then, if, behind, none-left, got-holds}
-use Rattle.octets.specs.Tests.{test}
+use Rattle.octets.specs.Answer.{Answer, got, refused, then, if, behind, none-left}
+use Rattle.octets.proofs.Answer.{got-holds}
+use Rattle.octets.proofs.Tests.{test}
 use Rattle.octets.specs.Numbers.{Octets}
 use Rattle.octets.specs.Permutations.{as-given}
 use Rattle.octets.proofs.Lists.{behind as behind-part, length-behind}
-use Rattle.ber.specs.Identifier.{readIdentifier, same}
-use Rattle.ber.specs.Item.{Mode, closed, open-ended, atEnd, contents, inside, readHeader, readPrimitive, readConstructed}
+use Rattle.ber.specs.Reading.{readIdentifier, Mode, closed, open-ended, atEnd, contents, inside, readHeader, readPrimitive, readConstructed}
+use Rattle.octets.specs.Lists.{same}
 use Rattle.table.specs.Syntax.{Simple, Body, Plain, Table}
 use Rattle.table.specs.Rules.{parts}
-use Rattle.table.specs.Reading.{look, recordAt, bodyAt, ownAt, everyAt}
+use Rattle.table.specs.Reading.{look, recordAt, ownAt, everyAt}
 use Rattle.table.specs.Fields.{formOf}
 use Rattle.table.specs.declared.kind.Form.{Form}
 use Rattle.table.specs.declared.kind.Form.the-variants.{Simple as FSimple, Members as FMembers, Of as FOf, Choice as FChoice}
-use Rattle.table.proofs.Own.{at as at-kind}
-use Rattle.coding.specs.Value.{Leaf, Value, leaf, choice, octets, leafOctets}
-use Rattle.coding.specs.Content.{decode}
-use Rattle.coding.specs.ContentLaws.{content-sound}
+use Rattle.coding.specs.Value.{Leaf, Value, leaf, choice, leafOctets}
+use Rattle.coding.specs.Reading.{decode, begun, readValue, readKind, readBody, choose}
+use Rattle.coding.proofs.Content.{content-sound}
 use Rattle.coding.specs.Tags.{own, explicit}
-use Rattle.coding.specs.Sound.{value-sound}
-use Rattle.coding.specs.Reading.{begun, readValue, readKind, readBody, choose}
+use Rattle.coding.proofs.Sound.{value-sound}
 use Rattle.message.specs.Answers.{told, asLength}
 use Rattle.message.specs.Codes.{codeOf, peeked, headerBy, plainBy, constructedBy}
 use Rattle.measuring.specs.Wraps.{ended, shut, innerEnd, closing, Around, Opens}

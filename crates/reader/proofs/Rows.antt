@@ -9,15 +9,16 @@ use native.Mathlib.Omega.{arith}
 use lib.Dec.{eqb}
 use lib.ListN.{length, getD, drop, set, length-set, length-append, length-drop}
 use lib.Seq.{append-snoc, sets, length-sets, drop-drop}
-use Rattle.octets.specs.Answer.{Answer, got, refused, then, if, Holds, yields, refuses, then-holds, if-holds, map-holds, got-holds}
-use Rattle.octets.specs.Tests.{test}
-use Rattle.ber.specs.Item.{Mode}
-use Rattle.ber.specs.ItemLaws.{Ends, no-more, mark, atEnd-holds}
+use Rattle.octets.specs.Answer.{Answer, got, refused, then, if}
+use Rattle.octets.proofs.Answer.{Holds, yields, refuses, then-holds, if-holds, map-holds, got-holds}
+use Rattle.octets.proofs.Tests.{test}
+use Rattle.ber.specs.Reading.{Mode}
+use Rattle.ber.proofs.Item.{Ends, no-more, mark, atEnd-holds}
 use Rattle.table.specs.Syntax.{Member, Table}
 use Rattle.table.specs.Reading.{look, recordAt, membersAt, bodyAt, ownAt}
 use Rattle.table.proofs.Pieces.{length-members}
 use Rattle.coding.specs.Value.{Value, sequence, slots, octets, count, presence, parts}
-use Rattle.coding.specs.Sound.{not-awaited}
+use Rattle.coding.proofs.Sound.{not-awaited}
 use Rattle.coding.specs.Reading.{begun, unwanted, readSequence, readBody, readValue}
 use Rattle.message.specs.Answers.{mode}
 use Rattle.measuring.specs.Writing.{IsDone, written, rest}

@@ -7,11 +7,12 @@ use Prim.Native.Nat.{ℕ, zero, suc, _+_, _-_, _≤_, _<_}
 use native.Mathlib.Omega.{arith}
 use lib.ListN.{length, getD, drop, length-append, length-drop}
 use lib.Seq.{append-snoc, sets, length-sets}
-use Rattle.octets.specs.Answer.{Answer, got, refused, then, if, Holds, yields, refuses, then-holds, if-holds, map-holds, got-holds, refused≢got}
-use Rattle.octets.specs.Tests.{test}
+use Rattle.octets.specs.Answer.{Answer, got, refused, then, if}
+use Rattle.octets.proofs.Answer.{Holds, yields, refuses, then-holds, if-holds, map-holds, got-holds, refused≢got}
+use Rattle.octets.proofs.Tests.{test}
 use Rattle.octets.specs.Numbers.{octetsOf}
-use Rattle.ber.specs.Item.{Mode}
-use Rattle.ber.specs.ItemLaws.{atEnd-holds}
+use Rattle.ber.specs.Reading.{Mode}
+use Rattle.ber.proofs.Item.{atEnd-holds}
 use Rattle.table.specs.Syntax.{Table}
 use Rattle.table.specs.Reading.{look, recordAt, bodyAt, ownAt}
 use Rattle.table.specs.Fields.{formOf}
@@ -19,8 +20,8 @@ use Rattle.table.specs.declared.kind.Form.{Form}
 use Rattle.table.specs.declared.kind.Form.the-variants.{Simple as FSimple, Members as FMembers, Of as FOf, Choice as FChoice}
 use Rattle.table.proofs.Own.{at as at-kind}
 use Rattle.coding.specs.Value.{Value, Slots, sequenceOf, setOf, bag, octets, count, parts}
-use Rattle.coding.specs.Sound.{not-awaited}
-use Rattle.coding.specs.Refusals.{value-shorter}
+use Rattle.coding.proofs.Sound.{not-awaited}
+use Rattle.coding.proofs.Refusals.{value-shorter}
 use Rattle.coding.specs.Reading.{begun, notAwaited, readMany, readBody, readValue}
 use Rattle.message.specs.Answers.{mode, endOf}
 use Rattle.measuring.specs.Writing.{IsDone, written, rest}

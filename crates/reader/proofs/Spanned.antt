@@ -1,34 +1,29 @@
 -- Placing an item by its span.
 -- Assumes nothing.
-use mathlib.Core.Bool.{Bool, true, false}
-use mathlib.Core.List.{List, [], _∷_, _++_}
-use mathlib.Core.Option.{Option, none, some}
-use mathlib.Core.Path.{_≡_, refl, sym, ap, _∙_}
+use mathlib.Core.Bool.{Bool}
+use mathlib.Core.List.{List}
+use mathlib.Core.Path.{_≡_, refl, ap, _∙_}
 use native.Mathlib.Omega.{arith}
-use Prim.Native.Nat.{ℕ, zero, suc, _+_, _-_, _≤_}
+use Prim.Native.Nat.{ℕ, _+_, _-_, _≤_}
 use lib.ListN.{length, take, drop, length-drop}
 use lib.Seq.{length-take-le, take-length}
-use Rattle.octets.specs.Answer.{Answer, got, refused, Holds, yields, refuses, then-holds, if-holds, got-holds}
-use Rattle.ber.specs.Identifier.{readIdentifier}
-use Rattle.ber.specs.Item.{Mode, closed, open-ended}
-use Rattle.ber.specs.ItemLaws.{Ends, no-more, atEnd-holds}
-use Rattle.table.specs.Syntax.{Member, Body, Plain, Sequence, Set, SequenceOf, SetOf, Choice, Table}
+use Rattle.octets.specs.Answer.{Answer, got, refused}
+use Rattle.octets.proofs.Answer.{Holds, yields}
+use Rattle.ber.specs.Reading.{closed}
+use Rattle.table.specs.Syntax.{Body, Table}
 use Rattle.coding.specs.Value.{Value}
-use Rattle.coding.specs.Reading.{notAwaited, unwanted, nothing, place, readSequence, readSet, readMany, readBody}
-use Rattle.message.specs.Answers.{cap, told, size, mode, asLength}
+use Rattle.coding.specs.Reading.{readBody}
+use Rattle.message.specs.Answers.{mode, asLength}
 use Rattle.message.specs.Codes.{headerBy, constructedBy}
 use Rattle.measuring.specs.Wraps.{spanOf}
 use Rattle.measuring.specs.Writing.{rest}
 use Rattle.reader.specs.Placed.{Fits, IsPlaced}
-use Rattle.message.specs.declared.answer.Measured.{Measured}
-use Rattle.message.specs.declared.answer.Measured.the-variants.{Done, Refused}
 use Rattle.message.specs.declared.length.Length.{Length}
 use Rattle.message.specs.declared.length.Length.the-variants.{Definite, Indefinite, Refused as NoLength}
 use Rattle.reader.specs.declared.place.Placed.{Placed}
 use Rattle.measuring.specs.declared.wrap.Entered.{Entered}
 use Rattle.measuring.specs.declared.wrap.Entered.the-variants.{Inside as InsideOne, Refused as NotOne}
-use Rattle.measuring.proofs.Done.{header-definite, header-indefinite}
-use Rattle.measuring.proofs.Measuring.{built-no, built-open, built-part-no, built-part-done}
+use Rattle.measuring.proofs.Done.{header-definite}
 use Rattle.reader.proofs.Rests.{must-head, part-fits, part-placed, rest-is}
 use Rattle.measuring.proofs.Spans.{Whole, body-whole}
 

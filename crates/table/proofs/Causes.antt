@@ -1,14 +1,15 @@
 -- The verdict is the first cause that holds.
 -- Assumes nothing.
-use mathlib.Core.Bool.{Bool, true, false, not, true≢false}
+use mathlib.Core.Bool.{Bool, true, true≢false}
 use mathlib.Core.List.{List}
-use mathlib.Core.Path.{_≡_, refl, sym, ap, _∙_, subst, fun-ext}
+use mathlib.Core.Path.{_≡_, refl, sym, _∙_, subst, fun-ext}
 use Prim.Native.Nat.{ℕ, suc, _≤_, _<_}
 use native.Mathlib.Omega.{arith}
 use lib.Dec.{ltb, eqb}
 use lib.ListN.{length}
 use borrow.Author.Tests.{ltb-true, ltb-false, eqb-true, eqb-false}
-use Rattle.octets.specs.Tests.{if, test}
+use Rattle.octets.specs.Tests.{if}
+use Rattle.octets.proofs.Tests.{test}
 use Rattle.octets.specs.Lists.{lowest}
 use Rattle.octets.specs.Numbers.{Octets}
 use Rattle.octets.proofs.Search.{lowest-passes, before-lowest}
@@ -17,8 +18,8 @@ use Rattle.table.specs.Octets.{Spells, over-long}
 use Rattle.table.specs.Rules.{Dangling, Mistagged, Circular, Sharing, Infinite}
 use Rattle.table.specs.Reading.{scan, look}
 use Rattle.table.specs.Decide.{dangling, mistagged, circular, sharing, infinite}
-use Rattle.table.specs.Verdict.{number, place, unless, judgeChoices, judge, verdict}
-use Rattle.table.specs.Cause.{Holds, Cause, FirstCause}
+use Rattle.table.specs.Cause.{number, place, Holds, Cause, FirstCause}
+use Rattle.table.specs.Verdict.{unless, judgeChoices, judge, verdict}
 use Rattle.table.specs.Passes.{Passes}
 use Rattle.table.specs.Walk.{Named}
 use Rattle.table.specs.declared.TableCause.{TableCause}

@@ -9,7 +9,7 @@ use native.Mathlib.Omega.{arith}
 use lib.Dec.{ltb, leb, eqb}
 use lib.ListN.{length, getD}
 use borrow.Author.Tests.{ltb-true, ltb-false, leb-true, le-leb, eqb-true, eqb-false, eq-eqb, ne-eqb, not-true, not-false}
-use Rattle.octets.specs.Tests.{test}
+use Rattle.octets.proofs.Tests.{test}
 use Rattle.octets.specs.Lists.{any}
 use Rattle.octets.proofs.Lists.{both}
 use Rattle.octets.proofs.Members.{or-cases, or-left, or-right, not-both, Some, any-some, some-any, all-each, each-all, in-place, place-in, in-below}

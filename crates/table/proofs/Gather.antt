@@ -2,20 +2,20 @@
 -- Assumes nothing.
 use mathlib.Core.Bool.{Bool, true, false, true≢false, false≢true}
 use mathlib.Core.List.{List, [], _∷_, _++_, append-assoc, append-nil, List·Memᴰ as In, List·Memᴰ·head as first-of, Memᴰ·append-right as in-right}
-use mathlib.Core.Path.{_≡_, refl, sym, ap, _∙_}
+use mathlib.Core.Path.{_≡_, refl, sym, _∙_}
 use Prim.Native.Nat.{ℕ, zero, suc, _+_, _-_, _≤_, _<_}
 use native.Mathlib.Omega.{arith}
 use lib.Dec.{eqb}
 use lib.ListN.{length, getD, set}
 use lib.Seq.{getD-set-same, getD-set-other}
 use borrow.Author.Tests.{eqb-true, eqb-false}
-use Rattle.octets.specs.Tests.{test}
+use Rattle.octets.proofs.Tests.{test}
 use Rattle.table.specs.Syntax.{Table}
 use Rattle.table.specs.Rules.{below, tagsBelow}
 use Rattle.table.specs.Reading.{everyAt, recordAt, look}
 use Rattle.table.specs.Fields.{Spans}
 use Rattle.table.specs.declared.record.Span.{Span}
-use Rattle.table.specs.Walk.{like, free, Hits, at, under, Walks, done, seen, down, Met, Gathered}
+use Rattle.table.specs.Walk.{like, free, at, under, Walks, done, seen, down, Met, Gathered}
 use Rattle.table.proofs.Loops.{every-step}
 use Rattle.table.proofs.Walk.{walks-append, Kept, kept, newly, keeps, marked}
 

@@ -2,7 +2,7 @@
 -- Assumes nothing.
 use mathlib.Core.Bool.{Bool, true, false, true≢false}
 use mathlib.Core.List.{List}
-use mathlib.Core.Path.{_≡_, refl, sym, ap, _∙_}
+use mathlib.Core.Path.{_≡_, sym, ap, _∙_}
 use Prim.Native.Nat.{ℕ, _≤_, _<_}
 use native.Mathlib.Omega.{arith}
 use borrow.Author.Tests.{lt-ltb, le-ltb}
@@ -13,7 +13,7 @@ use Rattle.octets.proofs.Search.{before-lowest}
 use Rattle.table.specs.Syntax.{Table, absent}
 use Rattle.table.specs.Octets.{recordShaped}
 use Rattle.table.specs.Decide.{dangling, mistagged, circular}
-use Rattle.table.specs.Reading.{scan, look}
+use Rattle.table.specs.Reading.{look}
 use Rattle.table.specs.Verdict.{judge, verdict}
 use Rattle.table.specs.Index.{Indexed, CheckedTable}
 use Rattle.table.specs.declared.index.Index.{Index}

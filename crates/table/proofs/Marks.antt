@@ -10,7 +10,7 @@ use lib.Dec.{eqb}
 use lib.ListN.{length, getD, set, take, replicate, List·getD-eq-default, List·getD-append}
 use lib.Seq.{getD-set-other}
 use borrow.Author.Tests.{eqb-true, eqb-false, eq-eqb, ne-eqb}
-use Rattle.octets.specs.Tests.{test}
+use Rattle.octets.proofs.Tests.{test}
 use Rattle.octets.specs.Lists.{all}
 use Rattle.octets.proofs.Members.{not-both, if-not-true}
 use Rattle.table.specs.Syntax.{Member, Table, absent}

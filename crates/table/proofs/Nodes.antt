@@ -1,17 +1,17 @@
 -- What stands for the records with one outermost tag, and how hits agree with first tags and with what is reached.
 -- Assumes nothing.
-use mathlib.Core.Bool.{Bool, true, false, true≢false, _&&_}
-use mathlib.Core.List.{List, [], _∷_, List·Memᴰ as In, List·Memᴰ·head as first-of, List·Memᴰ·not-nil as not-in-nil}
+use mathlib.Core.Bool.{true, true≢false}
+use mathlib.Core.List.{List, [], _∷_}
 use mathlib.Core.Path.{_≡_, refl, sym, ap, _∙_}
-use Prim.Native.Nat.{ℕ, zero, suc, _≤_, _<_}
+use Prim.Native.Nat.{ℕ, _≤_}
 use native.Mathlib.Omega.{arith}
-use lib.Dec.{eqb, ltb}
+use lib.Dec.{ltb}
 use borrow.Author.Tests.{eq-eqb, ltb-true, ltb-false}
-use Rattle.octets.specs.Tests.{test}
+use Rattle.octets.proofs.Tests.{test}
 use Rattle.octets.specs.Lists.{lowest}
 use Rattle.octets.proofs.Search.{lowest-most, lowest-passes, before-lowest}
-use Rattle.table.specs.Syntax.{Tag, Table, Body}
-use Rattle.table.specs.Rules.{below, tagsBelow, Reaches, here, through, First, outermost, inside}
+use Rattle.table.specs.Syntax.{Tag, Table}
+use Rattle.table.specs.Rules.{Reaches, here, through, First, outermost, inside}
 use Rattle.table.specs.Decide.{sameTag, begins}
 use Rattle.table.proofs.Decided.{same-tag}
 use Rattle.table.specs.Walk.{sameOutermost, like, Hits, at, under}

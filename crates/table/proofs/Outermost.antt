@@ -1,13 +1,13 @@
 -- The outermost tags of two records by their octets.
 -- Assumes nothing.
-use mathlib.Core.Bool.{Bool, true, false, _&&_}
+use mathlib.Core.Bool.{Bool, false, _&&_}
 use mathlib.Core.List.{List, [], _∷_}
-use mathlib.Core.Path.{_≡_, refl, sym, ap, _∙_}
+use mathlib.Core.Path.{_≡_, refl, sym, _∙_}
 use Prim.Native.Nat.{ℕ, zero, suc, _+_}
 use lib.Dec.{eqb}
 use lib.ListN.{getD}
 use Rattle.octets.specs.Numbers.{two}
-use Rattle.table.specs.Syntax.{Tag, Record}
+use Rattle.table.specs.Syntax.{Tag}
 use Rattle.table.specs.Reading.{tagsAt, recordAt, look}
 use Rattle.table.specs.Decide.{sameTag, begins}
 use Rattle.table.specs.Walk.{sameOutermost}

@@ -8,7 +8,8 @@ use native.Mathlib.Omega.{arith}
 use lib.Dec.{leb, eqb}
 use lib.ListN.{length, drop, getD}
 use borrow.Author.Tests.{leb-true, leb-false, le-leb, lt-leb, eqb-true, eqb-false, ne-eqb}
-use Rattle.octets.specs.Tests.{if, test}
+use Rattle.octets.specs.Tests.{if}
+use Rattle.octets.proofs.Tests.{test}
 use Rattle.octets.specs.Lists.{all, joined}
 use Rattle.octets.specs.Numbers.{Octets, octetsOf}
 use Rattle.octets.proofs.Lists.{both, behind, length-behind, at-first, drop-one}

@@ -8,7 +8,7 @@ use native.Mathlib.Omega.{arith}
 use lib.Dec.{leb, eqb}
 use lib.ListN.{length, drop, getD}
 use borrow.Author.Tests.{leb-true, eqb-true, eqb-false}
-use Rattle.octets.specs.Tests.{test}
+use Rattle.octets.proofs.Tests.{test}
 use Rattle.octets.specs.Lists.{all, joined}
 use Rattle.octets.specs.Numbers.{Octets, two, octetsOf}
 use Rattle.octets.proofs.Lists.{map-same, all-map, all-yes, behind, at-part, at-first, length-joined, itemsAt, length-items, items-back, items-only, drop-one, drop-two, two-back, two-only}

@@ -9,12 +9,12 @@ use native.Mathlib.Omega.{arith}
 use lib.Dec.{eqb, ltb, leb}
 use lib.ListN.{length, getD, length-append, length-map, List·getD-append}
 use lib.Seq.{getD-append-seam}
-use borrow.Author.Tests.{eqb-true, eqb-false, ltb-true, ltb-false, leb-true, eq-eqb, ne-eqb}
-use Rattle.octets.specs.Tests.{test}
+use borrow.Author.Tests.{ltb-true, ltb-false, leb-true, eq-eqb}
+use Rattle.octets.proofs.Tests.{test}
 use Rattle.octets.proofs.Lists.{both}
 use Rattle.table.specs.Syntax.{Tag, Table, Body, Plain, Sequence, Set, SequenceOf, SetOf, Choice, references}
 use Rattle.table.specs.Octets.{recordShaped, bodyShaped}
-use Rattle.table.specs.Rules.{below, tagsBelow, parts, Circular, Sharing, First}
+use Rattle.table.specs.Rules.{below, tagsBelow, parts, Circular, Sharing}
 use Rattle.table.specs.Reading.{everyAt, recordAt, look}
 use Rattle.table.specs.Fields.{Spans}
 use Rattle.table.specs.declared.record.Span.{Span}

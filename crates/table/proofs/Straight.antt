@@ -1,21 +1,21 @@
 -- CHOICEs without tags that do not reach themselves end; every record then has a first tag; members that hit one node share one.
 -- Assumes nothing.
-use mathlib.Core.Bool.{Bool, true, false, not, _&&_, true≢false}
+use mathlib.Core.Bool.{true, _&&_}
 use mathlib.Core.List.{List, [], _∷_, List·Memᴰ as In, List·Memᴰ·head as first-of, List·Memᴰ·not-nil as not-in-nil}
-use mathlib.Core.Path.{_≡_, refl, sym, ap, _∙_}
-use Prim.Native.Nat.{ℕ, zero, suc, _+_, _≤_, _<_}
+use mathlib.Core.Path.{_≡_, refl, ap, _∙_}
+use Prim.Native.Nat.{ℕ, zero, suc, _≤_, _<_}
 use native.Mathlib.Nat.{not-suc-le-zero, le-of-suc-le-suc}
 use native.Mathlib.Omega.{arith}
 use lib.Dec.{eqb, leb}
 use lib.ListN.{length, getD, set, length-set, replicate, length-replicate}
 use lib.Seq.{getD-set-other}
 use borrow.Author.Tests.{eqb-true, eqb-false, leb-true, leb-false}
-use Rattle.octets.specs.Tests.{test}
+use Rattle.octets.proofs.Tests.{test}
 use Rattle.octets.specs.Lists.{all}
 use Rattle.octets.proofs.Lists.{both}
 use Rattle.table.specs.Syntax.{Tag, Table, Body, Plain, Sequence, Set, SequenceOf, SetOf, Choice, Record, isChoice, references}
 use Rattle.table.specs.Octets.{recordShaped, bodyShaped}
-use Rattle.table.specs.Rules.{below, tagsBelow, bodyBelow, parts, Dangling, Reaches, here, through, Circular, First, outermost, inside, Mistagged, missing}
+use Rattle.table.specs.Rules.{below, tagsBelow, bodyBelow, parts, Reaches, here, through, Circular, First, outermost, inside, Mistagged, missing}
 use Rattle.table.specs.Passes.{Nested}
 use Rattle.table.specs.Walk.{like, free, Hits, Named, Straight}
 use Rattle.table.proofs.Nodes.{hits-record, hits-first, hits-reaches, reaches-first, like-untagged}

@@ -3,20 +3,19 @@
 -- Assumes nothing.
 use mathlib.Core.Bool.{true}
 use mathlib.Core.List.{List}
-use mathlib.Core.Logic.{_⊎_}
 use mathlib.Core.Path.{_≡_, refl, sym, subst, _∙_}
-use Prim.Native.Nat.{ℕ, _≤_, _<_}
+use Prim.Native.Nat.{ℕ, _≤_}
 use native.Mathlib.Omega.{arith}
 use lib.Dec.{ltb}
 use lib.ListN.{length, take}
 use borrow.Author.Tests.{ltb-true, ltb-false}
-use Rattle.octets.specs.Tests.{test}
+use Rattle.octets.proofs.Tests.{test}
 use Rattle.octets.specs.Numbers.{Octets}
 use Rattle.table.specs.Syntax.{Record, table}
 use Rattle.table.specs.Octets.{Spells, Misshapen}
 use Rattle.table.specs.Reading.{scan, look}
-use Rattle.table.specs.Verdict.{number, place, verdict}
-use Rattle.table.specs.Cause.{Cause, FirstCause}
+use Rattle.table.specs.Cause.{number, place, Cause, FirstCause}
+use Rattle.table.specs.Verdict.{verdict}
 use Rattle.table.specs.Index.{CheckedTable}
 use Rattle.table.specs.Passes.{Passes}
 use Rattle.table.specs.declared.Checked.{Checked}

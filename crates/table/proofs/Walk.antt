@@ -1,20 +1,19 @@
 -- Laws of the walk that gathers first tags.
 -- Assumes nothing.
-use mathlib.Core.Bool.{Bool, true, false}
 use mathlib.Core.List.{List, [], _∷_, _++_, List·Memᴰ as In, List·Memᴰ·head as first-of, List·Memᴰ·tail as later, List·Memᴰ·not-nil as not-in-nil, List·Memᴰ·cases-cons as in-cons}
 use mathlib.Core.Logic.{_⊎_, inl, inr, ⊎-elim}
 use mathlib.Core.Path.{_≡_, refl, sym, ap, _∙_}
-use Prim.Native.Nat.{ℕ, zero, suc, _+_, _≤_, _<_}
+use Prim.Native.Nat.{ℕ, zero, suc, _+_, _<_}
 use native.Mathlib.Nat.{le-of-suc-le-suc, not-suc-le-zero}
 use native.Mathlib.Omega.{arith}
 use lib.Dec.{eqb}
 use lib.ListN.{length, getD, set, length-set}
 use lib.Seq.{getD-set-same, getD-set-other}
 use borrow.Author.Tests.{eqb-true, eqb-false}
-use Rattle.octets.specs.Tests.{test}
+use Rattle.octets.proofs.Tests.{test}
 use Rattle.table.specs.Syntax.{Tag, Table}
 use Rattle.table.specs.Rules.{below, tagsBelow}
-use Rattle.table.specs.Walk.{like, free, fresh, Hits, at, under, Walks, done, seen, down, Met, Gathered}
+use Rattle.table.specs.Walk.{like, free, Hits, at, under, Walks, done, seen, down}
 use Rattle.table.proofs.Nodes.{like-alone, like-untagged}
 
 -- a record that is marked is one fewer that is free

@@ -7,9 +7,28 @@ use lib.ListN.{length}
 use Rattle.table.specs.Syntax.{Record, Table, table}
 use Rattle.table.specs.Octets.{Spells, Misshapen}
 use Rattle.table.specs.Rules.{Dangling, Mistagged, Circular, Sharing, Infinite}
-use Rattle.table.specs.Verdict.{number, place}
 use Rattle.table.specs.declared.TableCause.{TableCause}
 use Rattle.table.specs.declared.TableCause.the-variants.{Shape, NoRecord, WrongTag, ChoiceLoop, SharedTag, NoValue, NoType}
+
+-- document 01's number of a cause
+abbrev pub number : TableCause → ℕ
+number (Shape p) = 1
+number (NoRecord p) = 2
+number (WrongTag p) = 3
+number (ChoiceLoop p) = 4
+number (SharedTag p) = 5
+number (NoValue p) = 6
+number NoType = 7
+
+-- its place: a record number; 7 has place 0
+abbrev pub place : TableCause → ℕ
+place (Shape p) = p
+place (NoRecord p) = p
+place (WrongTag p) = p
+place (ChoiceLoop p) = p
+place (SharedTag p) = p
+place (NoValue p) = p
+place NoType = 0
 
 -- the octets are those of records, p is one of their numbers, and this holds of their table and their count
 pub record Holds (b : List ℕ) (p : ℕ) (rule : Table → ℕ → Type 0) : Type 0 where

@@ -6,7 +6,7 @@ use Prim.Native.Nat.{ℕ, zero, suc}
 use lib.Dec.{leb, eqb}
 use lib.ListN.{getD, replicate}
 use Rattle.octets.specs.Lists.{any, all, tabulate}
-use Rattle.table.specs.Syntax.{Tag, Member, Body, Plain, Sequence, Set, SequenceOf, SetOf, Choice, Record, Table, references, isChoice, universal}
+use Rattle.table.specs.Syntax.{Tag, Body, Plain, Sequence, Set, SequenceOf, SetOf, Choice, Table, references, isChoice, universal}
 use Rattle.table.specs.Rules.{below, parts}
 
 -- what a rule finds of a record number, given what it has found of others

@@ -1,11 +1,10 @@
 -- Document 01's examples that concern a table, and the cases of its readings.
 -- Assumes nothing.
 use mathlib.Core.List.{List, [], _∷_, _++_}
-use mathlib.Core.Bool.{Bool, true, false}
 use mathlib.Core.Path.{_≡_, refl}
-use Prim.Native.Nat.{ℕ, zero, suc, _+_, _*_}
+use Prim.Native.Nat.{ℕ, suc, _+_, _*_}
 use lib.Dec.{eqb}
-use lib.ListN.{getD, replicate}
+use lib.ListN.{replicate}
 use Rattle.octets.specs.Tests.{if}
 use Rattle.octets.specs.Lists.{joined, any, all, tabulate, lowestFrom}
 use Rattle.table.specs.Syntax.{references, isChoice, universal}
@@ -13,7 +12,8 @@ use Rattle.table.specs.Octets.{rising}
 use Rattle.table.specs.Rules.{bodyBelow, tagsBelow, parts}
 use Rattle.table.specs.Reading.{tagsAt, numbersAt, membersAt, everyAt, bodyAt, recordAt, countedEnd, enumeratedEnd, membersEnd, ownEnd, recordEnd, scanFrom, scan, look}
 use Rattle.table.specs.Decide.{round, rounds, found, dangling, wrongTags, reachStep, circular, sameTag, begins, firstStep, firstOfBoth, share, pair, sharing, finiteBody, finiteStep, infinite}
-use Rattle.table.specs.Verdict.{number, place, judgeChoices, judge, verdict}
+use Rattle.table.specs.Cause.{number, place}
+use Rattle.table.specs.Verdict.{judgeChoices, judge, verdict}
 use Rattle.table.specs.declared.Verdict.{Verdict}
 use Rattle.table.specs.declared.Verdict.the-variants.{Passed, Refused}
 

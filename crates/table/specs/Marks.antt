@@ -1,12 +1,12 @@
 -- The marking of records that have a finite value, for the contracts of the code alone: no definition of the verdict rests on this file.
 -- Assumes nothing.
 use mathlib.Core.Bool.{Bool, true, false, not}
-use mathlib.Core.List.{List, [], _∷_}
+use mathlib.Core.List.{List}
 use mathlib.Core.Path.{_≡_}
 use Prim.Native.Nat.{ℕ, _<_}
 use lib.Dec.{eqb}
-use lib.ListN.{length, getD, set}
-use Rattle.table.specs.Syntax.{Table, Record}
+use lib.ListN.{getD, set}
+use Rattle.table.specs.Syntax.{Table}
 use Rattle.table.specs.Decide.{finiteBody}
 use Rattle.table.specs.Walk.{free}
 

@@ -1,12 +1,12 @@
 -- What holds of a table that passes: all that the crates above rely on.
 -- Assumes nothing.
-use mathlib.Core.Bool.{Bool, true, false}
-use mathlib.Core.List.{List, [], _∷_, List·Memᴰ as In}
+use mathlib.Core.Bool.{true}
+use mathlib.Core.List.{[], List·Memᴰ as In}
 use mathlib.Core.Path.{_≡_}
 use Prim.Native.Nat.{ℕ, zero, suc, _≤_, _<_}
-use Rattle.table.specs.Syntax.{Record, Table, absent}
+use Rattle.table.specs.Syntax.{Table, absent}
 use Rattle.table.specs.Octets.{recordShaped}
-use Rattle.table.specs.Rules.{Dangling, Mistagged, Circular, Sharing, Finite, below}
+use Rattle.table.specs.Rules.{Dangling, Mistagged, Sharing, Finite, below}
 
 -- the CHOICEs without tags under t are nested at most k deep
 unfoldable pub Nested : Table → ℕ → ℕ → Type 0

@@ -1,7 +1,7 @@
 -- What octets stand for as records: the record at a place, where a well-formed one ends, and where all records begin.
 -- Reads are total: what lies behind the last octet counts as 0.
 -- Assumes nothing.
-use mathlib.Core.Bool.{Bool, true, false, not, _&&_}
+use mathlib.Core.Bool.{Bool, true, false, not}
 use mathlib.Core.List.{List, [], _∷_, _++_}
 use Prim.Native.Nat.{ℕ, zero, suc, _+_, _*_}
 use lib.Dec.{leb, eqb}

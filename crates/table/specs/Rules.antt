@@ -1,11 +1,11 @@
 -- The rules that a table of well-formed records must keep, each for a record number t, and n records (document 01, "Tables" and "Refused" 2 to 6).
 -- Assumes nothing.
-use mathlib.Core.Bool.{Bool, true, false}
+use mathlib.Core.Bool.{true, false}
 use mathlib.Core.List.{List, [], _∷_, _++_, List·Memᴰ as In}
 use mathlib.Core.Path.{_≡_}
 use Prim.Native.Nat.{ℕ, _≤_, _<_}
 use lib.ListN.{length, getD}
-use Rattle.table.specs.Syntax.{Tag, Member, Simple, Body, Plain, Sequence, Set, SequenceOf, SetOf, Choice, Record, Table, references, isChoice, universal}
+use Rattle.table.specs.Syntax.{Tag, Member, Body, Plain, Sequence, Set, SequenceOf, SetOf, Choice, Record, Table, references, isChoice, universal}
 
 -- 2: "record number not there"
 pub record Dangling (T : Table) (n t : ℕ) : Type 0 where

@@ -1,39 +1,19 @@
 -- The verdict on a table's octets, and the number and place of each refusal (document 01, "Refused").
 -- Assumes nothing.
-use mathlib.Core.Bool.{Bool, true, false, not}
+use mathlib.Core.Bool.{Bool, not}
 use mathlib.Core.List.{List}
 use Prim.Native.Nat.{ℕ}
-use lib.Dec.{leb, ltb}
+use lib.Dec.{ltb}
 use lib.ListN.{length}
 use Rattle.octets.specs.Tests.{if}
 use Rattle.octets.specs.Lists.{lowest}
 use Rattle.table.specs.Syntax.{Table}
-use Rattle.table.specs.Reading.{Scan, scan, look}
+use Rattle.table.specs.Reading.{scan, look}
 use Rattle.table.specs.Decide.{dangling, mistagged, circular, sharing, infinite}
 use Rattle.table.specs.declared.TableCause.{TableCause}
-use Rattle.table.specs.declared.TableCause.the-variants.{Shape, NoRecord, WrongTag, ChoiceLoop, SharedTag, NoValue, NoType}
+use Rattle.table.specs.declared.TableCause.the-variants.{Shape, NoRecord, WrongTag, ChoiceLoop, SharedTag, NoValue}
 use Rattle.table.specs.declared.Verdict.{Verdict}
 use Rattle.table.specs.declared.Verdict.the-variants.{Passed, Refused}
-
--- document 01's number of a cause
-abbrev pub number : TableCause → ℕ
-number (Shape p) = 1
-number (NoRecord p) = 2
-number (WrongTag p) = 3
-number (ChoiceLoop p) = 4
-number (SharedTag p) = 5
-number (NoValue p) = 6
-number NoType = 7
-
--- its place: a record number; 7 has place 0
-abbrev pub place : TableCause → ℕ
-place (Shape p) = p
-place (NoRecord p) = p
-place (WrongTag p) = p
-place (ChoiceLoop p) = p
-place (SharedTag p) = p
-place (NoValue p) = p
-place NoType = 0
 
 -- refused at the lowest of the n records that fail a test, if any does
 abbrev pub unless : ℕ → (ℕ → TableCause) → (ℕ → Bool) → (Unit {0} → Verdict) → Verdict

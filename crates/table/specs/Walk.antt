@@ -7,7 +7,7 @@ use mathlib.Core.Path.{_≡_}
 use Prim.Native.Nat.{ℕ, zero, suc, _+_, _≤_, _<_}
 use lib.ListN.{length, getD, set}
 use Rattle.octets.specs.Lists.{lowest}
-use Rattle.table.specs.Syntax.{Tag, Table, absent, Record}
+use Rattle.table.specs.Syntax.{Tag, Table}
 use Rattle.table.specs.Octets.{recordShaped}
 use Rattle.table.specs.Rules.{below, Dangling, Mistagged}
 use Rattle.table.specs.Decide.{begins}

@@ -1,5 +1,4 @@
 // Where the records of a table begin.
-ghost use mathlib.Core.Path.{_≡_};
 ghost use Prim.Native.Nat.{_≤_};
 ghost use lib.ListN.{length};
 ghost use Rattle.table.specs.Index.{Indexed};

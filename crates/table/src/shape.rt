@@ -1,8 +1,7 @@
 // Where well-formed records end. 0 is no end.
 ghost use mathlib.Core.Path.{_≡_};
-ghost use Prim.Native.Nat.{_<_, _≤_};
+ghost use Prim.Native.Nat.{_<_};
 ghost use lib.Dec.{leb};
-ghost use lib.ListN.{length};
 ghost use Rattle.octets.specs.Lists.{all};
 ghost use Rattle.table.specs.Octets.{rising};
 ghost use Rattle.table.specs.Reading.{everyAt, numbersAt, countedEnd, enumeratedEnd, membersEnd, referenceEnd, ownEnd, recordEnd};

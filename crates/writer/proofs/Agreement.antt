@@ -1,17 +1,17 @@
 -- A node against a record, by the node's kind.
 -- Assumes nothing.
 use mathlib.Core.Bool.{Bool, true, false, not, _&&_, _||_}
-use mathlib.Core.List.{List, [], _∷_}
+use mathlib.Core.List.{List}
 use mathlib.Core.Logic.{_⊎_, inl, inr, ⊎-elim}
 use mathlib.Core.Path.{_≡_, refl, sym, ap, _∙_}
-use Prim.Native.Nat.{ℕ, zero, suc, _+_, _-_, _*_, _≤_, _<_}
+use Prim.Native.Nat.{ℕ, zero, suc, _+_, _-_, _<_}
 use native.Mathlib.Omega.{arith}
-use borrow.Author.Tests.{eq-eqb, ne-eqb, eqb-true, eqb-false}
+use borrow.Author.Tests.{ne-eqb}
 use lib.Dec.{ltb, eqb}
 use lib.ListN.{length, getD}
-use Rattle.octets.specs.Tests.{test}
+use Rattle.octets.proofs.Tests.{test}
 use Rattle.octets.specs.Numbers.{two}
-use Rattle.table.specs.Syntax.{Member, Simple, Boolean, Integer, BitString, OctetString, Null, Enumerated, Body, Plain, Sequence, Set, SequenceOf, SetOf, Choice}
+use Rattle.table.specs.Syntax.{Boolean, Integer, BitString, OctetString, Null, Enumerated, Body}
 use Rattle.table.specs.Octets.{kind}
 use Rattle.table.specs.Rules.{members}
 use Rattle.table.specs.Reading.{numbersAt, membersAt, everyAt, bodyAt, ownAt, recordAt}
@@ -22,7 +22,7 @@ use Rattle.table.proofs.Own.{at}
 use Rattle.table.proofs.Fields.{Viewed, viewed, plain, sequence, set, sequence-of, set-of, choice}
 use Rattle.coding.specs.Form.{alternatives}
 use Rattle.coding.specs.Content.{listed}
-use Rattle.coding.specs.Judging.{Node, a-leaf, a-sequence, a-set, a-sequence-of, a-set-of, a-choice, flags, leafKind, nodeKind, numbers, leafAgrees, agreeing, counts, agrees}
+use Rattle.coding.specs.Judging.{a-choice, flags, leafKind, nodeKind, numbers, leafAgrees, agreeing, counts, agrees}
 use Rattle.writer.specs.Nodes.{ownEnd, endAt, leafOf, nodeOf, nodeAt}
 
 -- a node that is shaped has a shaped own part

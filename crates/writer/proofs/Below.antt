@@ -10,9 +10,10 @@ use native.Mathlib.Omega.{arith}
 use borrow.Author.Tests.{ne-eqb, eqb-true, eqb-false, ltb-true, ltb-false}
 use lib.Dec.{ltb, eqb}
 use lib.ListN.{length, getD, drop, length-drop}
-use Rattle.octets.specs.Answer.{Answer, got, refused, then, if, got-value, refused≢got}
+use Rattle.octets.specs.Answer.{Answer, got, refused, then, if}
+use Rattle.octets.proofs.Answer.{got-value, refused≢got}
 use Rattle.octets.specs.Numbers.{two}
-use Rattle.octets.specs.Tests.{test}
+use Rattle.octets.proofs.Tests.{test}
 use Rattle.octets.proofs.Lists.{both}
 use Rattle.table.specs.Syntax.{Boolean, Integer, BitString, OctetString, Null, Enumerated, Body, Plain, Sequence, Set, SequenceOf, SetOf, Choice, Record, Table, isChoice, constructed}
 use Rattle.table.specs.Octets.{kind}
@@ -20,10 +21,9 @@ use Rattle.table.specs.Rules.{members}
 use Rattle.table.specs.Reading.{everyAt, membersAt, tagsAt, bodyAt, ownAt, recordAt, look}
 use Rattle.table.proofs.Own.{at}
 use Rattle.coding.specs.Value.{Leaf, boolean, integer, bits, string, null, enumerated, Value, sequence, set, sequenceOf, setOf, choice, slots, bag}
-use Rattle.coding.specs.Content.{encode}
+use Rattle.coding.specs.Form.{encode, element, alternatives, formBody, wrap, formAt}
 use Rattle.ber.specs.Item.{item}
 use Rattle.coding.specs.Tags.{own, explicit}
-use Rattle.coding.specs.Form.{element, alternatives, formBody, wrap, formAt}
 use Rattle.coding.specs.Judging.{Node, a-leaf, a-sequence, a-set, a-sequence-of, a-set-of, a-choice, flags, leafKind, nodeKind, agreeing, counts, agrees, readNode, judgeMembers, judgeElements, judgeBelow, judgeValue}
 use Rattle.writer.specs.Nodes.{endAt, leafOf, nodeOf, nodeAt}
 use Rattle.writer.specs.Frames.{cap, framed, Tagged}

@@ -4,16 +4,17 @@ use mathlib.Core.Bool.{Bool, true, false}
 use mathlib.Core.List.{List, [], _∷_, _++_, append-nil}
 use mathlib.Core.Option.{Option, some, none}
 use mathlib.Core.Path.{_≡_, refl, sym, ap, _∙_}
-use Prim.Native.Nat.{ℕ, zero, suc, _+_, _-_, _≤_, _<_}
+use Prim.Native.Nat.{ℕ, zero, suc, _+_, _-_, _≤_}
 use native.Mathlib.Omega.{arith}
 use lib.ListN.{length, getD, drop}
 use lib.Seq.{append-snoc}
-use Rattle.octets.specs.Answer.{Answer, got, refused, then, if, Holds, yields, refuses, then-holds, map-holds, if-holds}
+use Rattle.octets.specs.Answer.{Answer, got, refused, then}
+use Rattle.octets.proofs.Answer.{Holds, yields, refuses, then-holds, map-holds, if-holds}
 use Rattle.table.specs.Syntax.{Member, Body, Table}
 use Rattle.table.specs.Rules.{members}
-use Rattle.coding.specs.Value.{Value, leaf, sequence, set, sequenceOf, setOf, choice, slots, bag}
+use Rattle.coding.specs.Value.{Value}
 use Rattle.coding.specs.Form.{element, alternatives}
-use Rattle.coding.specs.Judging.{Node, a-leaf, a-sequence, a-set, a-sequence-of, a-set-of, a-choice, agrees, readNode, judgeMembers, judgeElements, judgeBelow, judgeValue}
+use Rattle.coding.specs.Judging.{Node, a-leaf, a-sequence, a-set, a-sequence-of, a-set-of, a-choice, judgeMembers, judgeElements, judgeBelow, judgeValue}
 use Rattle.writer.proofs.Reading.{Reads, bad, good, node-reads}
 
 regroup : {A : Type 0} (J : Answer (List A)) (acc : List A) (a : A)

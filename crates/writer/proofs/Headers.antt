@@ -1,16 +1,15 @@
 -- Identifier and length octets by their forms.
 -- Assumes nothing.
-use mathlib.Core.Bool.{Bool, true, false}
-use mathlib.Core.List.{List, [], _∷_, _++_}
-use mathlib.Core.Path.{_≡_, refl, sym, ap, _∙_}
-use Prim.Native.Nat.{ℕ, zero, suc, _+_, _-_, _*_, _/_, _%_, _≤_, _<_}
-use native.Mathlib.Nat.{add-zero}
+use mathlib.Core.Bool.{Bool, true}
+use mathlib.Core.List.{List, [], _∷_}
+use mathlib.Core.Path.{_≡_, refl, _∙_}
+use Prim.Native.Nat.{ℕ, zero, suc, _+_, _-_, _/_, _%_, _≤_, _<_}
 use native.Mathlib.Omega.{arith}
 use borrow.Author.Tests.{ltb-true, ltb-false, lt-ltb, le-ltb, ne-eqb}
 use lib.Dec.{ltb}
 use lib.ListN.{length}
-use Rattle.octets.specs.Tests.{test}
-use Rattle.octets.specs.Answer.{if, run, if-cases}
+use Rattle.octets.proofs.Tests.{test}
+use Rattle.octets.proofs.Answer.{run, if-cases}
 use Rattle.ber.specs.Identifier.{leading, following, identifier}
 use Rattle.ber.specs.Length.{digits, lengthOctets}
 

@@ -2,26 +2,25 @@
 -- Assumes nothing.
 use mathlib.Core.Path.{_≡_, refl, sym, ap, _∙_}
 use mathlib.Core.Bool.{Bool, true, false, not, _&&_, _||_, true≢false, false≢true}
-use mathlib.Core.List.{List, [], _∷_, _++_}
-use Prim.Native.Nat.{ℕ, zero, suc, _+_, _-_, _*_, _/_, _%_, _^_, _≤_, _<_}
+use mathlib.Core.List.{List, [], _∷_}
+use Prim.Native.Nat.{ℕ, suc, _+_, _-_, _*_, _/_, _%_, _^_, _≤_, _<_}
 use native.Mathlib.Nat.{zero-add, pow-suc, pow-le-pow-right}
 use native.Mathlib.Numerals.{add-one}
 use native.Mathlib.Omega.{arith}
-use borrow.Author.Tests.{ltb-true, ltb-false, lt-ltb, le-ltb, le-leb, lt-leb, eq-eqb, ne-eqb, eqb-true, eqb-false}
+use borrow.Author.Tests.{ltb-true, ltb-false, lt-ltb, le-ltb, le-leb, lt-leb, ne-eqb, eqb-true, eqb-false}
 use lib.Dec.{ltb, leb, eqb}
 use lib.IntN.{ℤ, pos, negsuc}
-use lib.ListN.{length, take, drop, getD, drop-of-length-le, length-drop, List·getD-eq-default}
-use lib.Seq.{drop-cons, drop-drop, drop-append-seam, take-add, length-take-le, getD-take, getD-drop}
+use lib.ListN.{length, drop, getD, drop-of-length-le, length-drop}
+use lib.Seq.{drop-cons}
 use lib.Signed.{mag, ltZ}
 use mir.Syntax.{w64}
 use mir.Val.{SFits, toZ, ofZ}
-use mir.ValLaws.{toZ-pos, toZ-neg, toZ-ofZ}
-use Rattle.octets.specs.Answer.{if, run, if-cases}
-use Rattle.ber.specs.Integer.{negative, digit, pile, signed, integerOf, spare, minimal, eight, fewest, fewestOf, eightOf}
-use Rattle.octets.specs.Tests.{test}
+use mir.ValLaws.{toZ-pos, toZ-ofZ}
+use Rattle.octets.proofs.Answer.{run}
+use Rattle.ber.specs.Integer.{negative, digit, pile, spare, minimal, eight, fewest, fewestOf, eightOf}
+use Rattle.octets.proofs.Tests.{test}
 use Rattle.octets.specs.Numbers.{Octets, two}
-use Rattle.octets.specs.Permutations.{all-octets}
-use Rattle.ber.specs.IntegerLaws.{fewest-length, fewest-minimal, eight-same}
+use Rattle.ber.proofs.Integer.{fewest-minimal}
 
 -- what `z < 0` says, and the two ways from z to its bits
 pub bits-neg : (z : ℤ) → SFits w64 z → ltZ (toZ w64 (ofZ w64 z)) (pos 0) ≡ true

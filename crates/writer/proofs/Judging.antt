@@ -1,42 +1,34 @@
 -- The judge: what it says of a part is what the definitions answer there.
 -- Assumes nothing.
-use mathlib.Core.Bool.{Bool, true, false, not, _&&_, _||_, false≢true, true≢false}
+use mathlib.Core.Bool.{Bool, true, false}
 use mathlib.Core.List.{List, [], _∷_, _++_, append-nil}
-use mathlib.Core.Logic.{_⊎_, inl, inr, ⊎-elim}
 use mathlib.Core.Option.{Option, some, none}
 use mathlib.Core.Path.{_≡_, refl, sym, ap, subst, _∙_}
-use Prim.Native.Nat.{ℕ, zero, suc, _+_, _-_, _*_, _≤_, _<_, min}
+use Prim.Native.Nat.{ℕ, zero, suc, _+_, _-_, _≤_, _<_}
 use native.Mathlib.Omega.{arith}
-use borrow.Author.Tests.{eq-eqb, ne-eqb, eqb-true, eqb-false, ltb-true}
-use lib.Dec.{ltb, eqb}
-use lib.ListN.{length, getD, take, drop, length-append, length-drop}
+use borrow.Author.Tests.{eq-eqb, ne-eqb}
+use lib.Dec.{eqb}
+use lib.ListN.{length, getD, drop, length-append, length-drop}
 use lib.Seq.{append-snoc, drop-drop, drop-append-seam, getD-drop}
-use Rattle.octets.specs.Answer.{Answer, got, refused, then, if, Holds, yields, refuses, got-holds}
+use Rattle.octets.specs.Answer.{Answer, got, refused, then}
+use Rattle.octets.proofs.Answer.{got-holds}
 use Rattle.octets.specs.Lists.{joined}
-use Rattle.octets.specs.Numbers.{Octets, two}
-use Rattle.octets.specs.Permutations.{AllOctets, all-octets}
-use Rattle.octets.specs.Tests.{test}
-use Rattle.octets.proofs.Lists.{both}
-use Rattle.table.specs.Syntax.{Tag, Member, Simple, Boolean, Integer, BitString, OctetString, Null, Enumerated, Body, Plain, Sequence, Set, SequenceOf, SetOf, Choice, Record, Table, isChoice, constructed}
-use Rattle.table.specs.Octets.{kind}
-use Rattle.table.specs.Rules.{members}
-use Rattle.table.specs.Reading.{everyAt, membersAt, bodyAt, ownAt, recordAt, look}
-use Rattle.coding.specs.Value.{Leaf, Value, leaf, sequence, set, sequenceOf, setOf, choice, slots, bag, octets}
-use Rattle.coding.specs.Content.{encode}
-use Rattle.coding.specs.Tags.{own, explicit}
-use Rattle.coding.specs.Form.{element, alternatives, formMembers, formElements, formBody, wrap, formAt}
-use Rattle.coding.specs.Judging.{Node, a-leaf, a-sequence, a-set, a-sequence-of, a-set-of, a-choice, flags, nodeKind, agreeing, counts, agrees, readNode, judgeMembers, judgeElements, judgeBelow, judgeValue}
+use Rattle.octets.specs.Numbers.{Octets}
+use Rattle.octets.specs.Permutations.{AllOctets}
+use Rattle.octets.proofs.Permutations.{all-octets}
+use Rattle.table.specs.Syntax.{Member, Table}
+use Rattle.table.specs.Reading.{everyAt, membersAt}
+use Rattle.coding.specs.Value.{Value, slots, bag, octets}
+use Rattle.coding.specs.Form.{formMembers, formElements, formAt}
+use Rattle.coding.specs.Judging.{flags, judgeMembers, judgeElements, judgeValue}
 use Rattle.coding.specs.Judging as definition
-use Rattle.coding.specs.JudgingLaws.{judge-sound}
-use Rattle.coding.specs.JudgingLaws as laws
-use Rattle.coding.specs.Typed.{WellTypedAt}
-use Rattle.writer.specs.Nodes.{ownEnd, endAt, leafOf, nodeOf, nodeAt}
-use Rattle.writer.specs.Frames.{cap, framed, Tagged}
-use Rattle.writer.specs.Told.{told, membersForm, elementsForm, contentsForm}
+use Rattle.coding.proofs.Judging.{judge-sound}
+use Rattle.coding.proofs.Judging as laws
+use Rattle.writer.specs.Frames.{cap}
+use Rattle.writer.specs.Told.{told, membersForm, elementsForm}
 use Rattle.writer.specs.declared.judge.Judged.{Judged}
 use Rattle.writer.specs.declared.judge.Judged.the-variants.{Done, Refused}
-use Rattle.writer.proofs.Frames.{cap-small, cap-below, cap-sum, frames, wrapped-choice, wrapped-item, framed-length}
-use Rattle.writer.proofs.Reading.{Reads, bad, good, node-reads}
+use Rattle.writer.proofs.Frames.{cap-below, cap-sum}
 
 -- the answers apart
 abbrev IsDoneAnswer : Judged → Type 0

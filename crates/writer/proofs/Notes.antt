@@ -6,14 +6,14 @@ use Prim.Native.Nat.{ℕ, suc, _+_, _-_, _*_, _/_, _≤_, _<_}
 use native.Mathlib.Omega.{arith}
 use lib.ListN.{length, getD, drop, set, length-drop}
 use lib.Seq.{getD-set-same, getD-set-other}
-use Rattle.octets.specs.Answer.{got-holds}
+use Rattle.octets.proofs.Answer.{got-holds}
 use Rattle.octets.specs.Numbers.{two}
 use Rattle.table.specs.Reading.{ownAt, recordAt, look}
 use Rattle.coding.specs.Judging.{judgeBelow, judgeValue}
 use Rattle.writer.specs.Nodes.{endAt, nodeAt}
 use Rattle.writer.specs.Frames.{cap}
 use Rattle.writer.specs.Told.{told, written, ended, contentsForm}
-use Rattle.writer.specs.Notes.{noteAt, EachMember, EachElement, EachBelow, endsAt, contentsAt, Noted, NotedBelow, NotedMembers, NotedElements, Same, Noting}
+use Rattle.writer.specs.Notes.{noteAt, EachMember, EachElement, endsAt, contentsAt, Noted, NotedBelow, NotedMembers, NotedElements, Same, Noting}
 use Rattle.writer.specs.declared.judge.Judged.{Judged}
 use Rattle.writer.specs.declared.judge.Judged.the-variants.{Done, Refused}
 use Rattle.writer.proofs.Judging.{done, Came}

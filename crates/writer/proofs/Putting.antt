@@ -11,22 +11,21 @@ use borrow.Author.Tests.{eq-eqb, ne-eqb, eqb-true, eqb-false, ltb-true}
 use lib.Dec.{leb, eqb}
 use lib.ListN.{length, getD, drop, length-append, length-drop}
 use lib.Seq.{sets}
-use Rattle.octets.specs.Answer.{Answer, got, refused, then, if, Holds, yields, refuses, got-holds}
+use Rattle.octets.specs.Answer.{Answer, got, refused, then, if}
+use Rattle.octets.proofs.Answer.{Holds, yields, refuses, got-holds}
 use Rattle.octets.specs.Lists.{all, joined}
 use Rattle.octets.specs.Numbers.{two}
-use Rattle.octets.specs.Tests.{test}
+use Rattle.octets.proofs.Tests.{test}
 use Rattle.octets.proofs.Lists.{both}
 use Rattle.table.specs.Syntax.{Member, Boolean, Integer, BitString, OctetString, Null, Enumerated, Body, Plain, Sequence, Set, SequenceOf, SetOf, Choice, Table, isChoice, constructed}
 use Rattle.table.specs.Octets.{kind}
 use Rattle.table.specs.Rules.{members}
 use Rattle.table.specs.Reading.{everyAt, membersAt, bodyAt, ownAt, recordAt, look}
 use Rattle.table.proofs.Own.{at}
-use Rattle.coding.specs.Value.{Value, leaf, sequence, set, sequenceOf, setOf, choice, slots, bag}
-use Rattle.coding.specs.Content.{encode}
+use Rattle.coding.specs.Value.{Value, leaf, sequence, set, sequenceOf, setOf, choice, slots, bag, boolean, integer, bits, string, null, enumerated}
+use Rattle.coding.specs.Form.{encode, element, alternatives, formMembers, formElements, formBody, wrap, formAt}
 use Rattle.coding.specs.Tags.{own, explicit}
-use Rattle.coding.specs.Form.{element, alternatives, formMembers, formElements, formBody, wrap, formAt}
 use Rattle.coding.specs.Judging.{Node, a-leaf, a-sequence, a-set, a-sequence-of, a-set-of, a-choice, flags, leafKind, nodeKind, agreeing, counts, agrees, readNode, judgeMembers, judgeElements, judgeBelow, judgeValue}
-use Rattle.coding.specs.Value.{boolean, integer, bits, string, null, enumerated}
 use Rattle.writer.specs.Nodes.{endAt, leafOf, nodeOf, nodeAt}
 use Rattle.writer.specs.Frames.{cap, heads, Tagged}
 use Rattle.writer.specs.Told.{written, ended, IsDone, membersForm, elementsForm, contentsForm}

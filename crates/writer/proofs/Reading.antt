@@ -1,26 +1,25 @@
 -- The node at a place is what the definition reads there.
 -- Assumes nothing.
-use mathlib.Core.Bool.{Bool, true, false, not, _&&_}
-use mathlib.Core.List.{List, [], _∷_}
-use mathlib.Core.Path.{_≡_, refl, sym, ap, subst, _∙_}
+use mathlib.Core.Bool.{Bool, true, false, _&&_}
+use mathlib.Core.List.{List, _∷_}
+use mathlib.Core.Path.{_≡_, refl, ap, _∙_}
 use Prim.Native.Nat.{ℕ, zero, suc, _+_, _-_, _*_, _/_, _^_, _≤_, _<_}
 use native.Mathlib.Nat.{add-zero}
 use native.Mathlib.Omega.{arith}
-use borrow.Author.Tests.{ltb-true, ltb-false, leb-true, leb-false, eqb-true, eqb-false, lt-ltb, le-ltb, le-leb, lt-leb, eq-eqb, ne-eqb}
+use borrow.Author.Tests.{ltb-true, ltb-false, leb-true, leb-false, lt-ltb, le-ltb, le-leb, lt-leb, eq-eqb, ne-eqb}
 use lib.Dec.{ltb, leb, eqb}
 use lib.ListN.{length, getD, take, drop, length-drop}
-use lib.Seq.{drop-cons, drop-drop, getD-drop, length-take-le}
-use Rattle.octets.specs.Answer.{Answer, got, refused, if, run}
-use Rattle.octets.specs.Tests.{test}
-use Rattle.octets.specs.Lists.{all}
+use lib.Seq.{drop-cons, drop-drop, getD-drop}
+use Rattle.octets.specs.Answer.{Answer, got, refused, if}
+use Rattle.octets.proofs.Answer.{run}
+use Rattle.octets.proofs.Tests.{test}
+use Rattle.octets.specs.Lists.{all, same}
 use Rattle.octets.specs.Numbers.{two}
-use Rattle.ber.specs.Identifier.{same}
-use Rattle.ber.specs.IdentifierLaws.{same-refl, same-true}
 use Rattle.ber.specs.BitString.{masked}
 use Rattle.ber.specs.Integer.{integerOf}
 use Rattle.table.specs.Reading.{everyAt}
 use Rattle.table.proofs.Own.{at}
-use Rattle.coding.specs.Value.{boolean, integer, bits, string, null, enumerated}
+use Rattle.coding.specs.Value.{boolean, integer, bits, string, enumerated}
 use Rattle.coding.specs.Judging.{Node, a-leaf, a-sequence, a-set, a-sequence-of, a-set-of, a-choice, need, flags, ownMembers, ownCount, ownBoolean, ownInteger, ownString, octetsFor, spareIn, ownBits, ownEnumerated, ownChoice, readOwn, readNode}
 use Rattle.writer.specs.Nodes.{fixedEnd, booleanEnd, stringEnd, clearAt, bitsEnd, membersEnd, ownEnd, endAt, leafOf, nodeOf, nodeAt}
 

@@ -12,8 +12,7 @@ use lib.Seq.{sets}
 use Rattle.table.specs.Syntax.{Boolean, Integer, BitString, OctetString, Null, Enumerated, Body, Plain, Sequence, Set, SequenceOf, SetOf, Choice, constructed}
 use Rattle.table.specs.Octets.{kind}
 use Rattle.table.specs.Reading.{ownAt, recordAt, look}
-use Rattle.coding.specs.Content.{encode}
-use Rattle.coding.specs.Form.{formAt}
+use Rattle.coding.specs.Form.{encode, formAt}
 use Rattle.coding.specs.Judging.{agrees, judgeBelow, judgeValue}
 use Rattle.writer.specs.Nodes.{ownEnd, endAt, leafOf, nodeAt, Marked}
 use Rattle.writer.specs.Leaves.{Measures}

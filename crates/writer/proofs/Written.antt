@@ -1,22 +1,23 @@
 -- The ways through the writer of a whole value.
 -- Assumes nothing.
-use mathlib.Core.Bool.{Bool, true, false, not}
+use mathlib.Core.Bool.{Bool, true, false}
 use mathlib.Core.List.{List, [], _∷_, _++_}
-use mathlib.Core.Path.{_≡_, refl, sym, ap, subst, _∙_}
-use Prim.Native.Nat.{ℕ, zero, suc, _+_, _-_, _≤_, _<_, min}
+use mathlib.Core.Path.{_≡_, refl, sym, ap, _∙_}
+use Prim.Native.Nat.{ℕ, _+_, _-_, _≤_, _<_, min}
 use native.Mathlib.Nat.{zero-add}
 use native.Mathlib.Omega.{arith}
 use borrow.Author.Tests.{lt-ltb, le-ltb, le-leb, lt-leb, ltb-true, ltb-false, eqb-true, eqb-false}
 use lib.Dec.{ltb, leb, eqb}
 use lib.ListN.{length, take, drop}
 use lib.Seq.{sets, sets-eq}
-use Rattle.octets.specs.Tests.{test}
+use Rattle.octets.proofs.Tests.{test}
 use Rattle.octets.specs.Lists.{all}
-use Rattle.octets.specs.Answer.{Answer, got, refused, then, if, none-left, run, refused≢got, then-refused}
+use Rattle.octets.specs.Answer.{Answer, got, refused, then, if, none-left}
+use Rattle.octets.proofs.Answer.{run, refused≢got, then-refused}
 use Rattle.octets.proofs.Lists.{both}
-use Rattle.table.specs.Syntax.{Table, Record, isChoice, absent, Choice}
+use Rattle.table.specs.Syntax.{Table, Record, isChoice}
 use Rattle.table.specs.Octets.{recordShaped, bodyShaped}
-use Rattle.table.specs.Rules.{Mistagged, missing}
+use Rattle.table.specs.Rules.{missing}
 use Rattle.table.specs.Passes.{Passes}
 use Rattle.table.specs.declared.TableCause.the-variants.{NoType}
 use Rattle.coding.specs.Value.{Value}
@@ -25,10 +26,8 @@ use Rattle.coding.specs.Judging.{need, readNode, judgeValue, judgeWhole}
 use Rattle.coding.specs.Causes.{valueCause}
 use Rattle.coding.specs.Outcome.{afterJudging, writeOutcome}
 use Rattle.coding.specs.declared.ValueCause.{ValueCause}
-use Rattle.coding.specs.declared.ValueCause.the-variants.{Shape, IllTyped, Level, Room}
-use Rattle.coding.specs.declared.Refusal.{Refusal}
+use Rattle.coding.specs.declared.ValueCause.the-variants.{Shape, Room}
 use Rattle.coding.specs.declared.Refusal.the-variants.{Table as OfTable, Value as OfValue}
-use Rattle.coding.specs.declared.Answer.{Answer as Told}
 use Rattle.coding.specs.declared.Answer.the-variants.{Done as TDone, Refused as TRefused}
 use Rattle.coding.proofs.Checked.{Says}
 use Rattle.writer.specs.Frames.{cap, Tagged}

@@ -1,15 +1,15 @@
 -- The items around the contents of a value, by the tags of its record: their length, and the octets in front of the contents.
 -- Assumes nothing.
-use mathlib.Core.Bool.{Bool, true, false, not, _||_}
+use mathlib.Core.Bool.{Bool, true, false, _||_}
 use mathlib.Core.List.{List, [], _∷_, _++_}
 use mathlib.Core.Path.{_≡_}
-use Prim.Native.Nat.{ℕ, zero, suc, _+_, _<_, _≤_, min}
-use lib.Dec.{ltb, leb}
+use Prim.Native.Nat.{ℕ, _+_, _<_, _≤_, min}
+use lib.Dec.{leb}
 use lib.ListN.{length, getD}
 use Rattle.octets.specs.Lists.{all}
 use Rattle.ber.specs.Identifier.{identifier}
 use Rattle.ber.specs.Length.{lengthOctets}
-use Rattle.table.specs.Syntax.{Tag, Record, Table, isChoice}
+use Rattle.table.specs.Syntax.{Tag, Table, isChoice}
 
 -- a length that is over 8,192 counts as 8,193
 abbrev pub cap : ℕ → ℕ

@@ -4,7 +4,7 @@ use mathlib.Core.List.{List}
 use mathlib.Core.Path.{_≡_}
 use Prim.Native.Nat.{ℕ, _<_}
 use lib.ListN.{length}
-use Rattle.coding.specs.Content.{encode}
+use Rattle.coding.specs.Form.{encode}
 use Rattle.writer.specs.Nodes.{ownEnd, leafOf}
 use Rattle.writer.specs.declared.contents.Extent.{Extent}
 

@@ -11,7 +11,7 @@ use Rattle.octets.specs.Answer.{Answer}
 use Rattle.octets.specs.Lists.{all}
 use Rattle.table.specs.Syntax.{constructed}
 use Rattle.table.specs.Reading.{recordAt}
-use Rattle.coding.specs.Content.{encode}
+use Rattle.coding.specs.Form.{encode}
 use Rattle.writer.specs.Nodes.{endAt, leafOf}
 use Rattle.writer.specs.Frames.{heads}
 use Rattle.writer.specs.Told.{written, ended, IsDone}

@@ -1,6 +1,6 @@
 -- What the judge says of an answer of the definitions, and what is written of one that is done.
 -- Assumes nothing.
-use mathlib.Core.List.{List, [], _∷_}
+use mathlib.Core.List.{List, []}
 use mathlib.Core.Option.{Option}
 use Prim.Native.Nat.{ℕ, _-_}
 use lib.ListN.{length, getD}
@@ -9,8 +9,7 @@ use Rattle.octets.specs.Lists.{joined}
 use Rattle.table.specs.Syntax.{Member, Body, Table}
 use Rattle.table.specs.Rules.{members}
 use Rattle.coding.specs.Value.{Value, leaf, sequence, set, sequenceOf, setOf, choice, slots, bag}
-use Rattle.coding.specs.Content.{encode}
-use Rattle.coding.specs.Form.{element, alternatives, formMembers, formElements, formAt}
+use Rattle.coding.specs.Form.{encode, element, alternatives, formMembers, formElements, formAt}
 use Rattle.writer.specs.Frames.{cap}
 use Rattle.writer.specs.declared.judge.Judged.{Judged}
 use Rattle.writer.specs.declared.judge.Judged.the-variants.{Done, Refused}

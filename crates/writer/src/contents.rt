@@ -6,7 +6,7 @@ ghost use lib.ListN.{length, take, drop};
 ghost use lib.Seq.{sets};
 ghost use Rattle.octets.specs.Numbers.{two};
 ghost use Rattle.ber.specs.Integer.{fewestOf};
-ghost use Rattle.coding.specs.Content.{encode};
+ghost use Rattle.coding.specs.Form.{encode};
 ghost use Rattle.writer.specs.Nodes.{ownEnd, leafOf};
 ghost use Rattle.writer.specs.Leaves.{Measures};
 use octets::number;

@@ -5,7 +5,7 @@ ghost use lib.ListN.{length, drop};
 ghost use lib.Seq.{sets};
 ghost use mir.Syntax.{w64};
 ghost use mir.Val.{ofZ};
-ghost use Rattle.ber.specs.Integer.{negative, integerOf, eightOf, fewest, fewestOf};
+ghost use Rattle.ber.specs.Integer.{negative, integerOf, fewest, fewestOf};
 
 fn wide(x: u8) -> u64
     ensures { λ r. ⌜ r ≡ x ⌝ }

@@ -1,6 +1,5 @@
 -- `link::link_write` meets its contract: the answer of `write`, packed.
 -- Assumes nothing.
-use native.Mathlib.Omega.{arith}
 use mathlib.Core.Path.{ap, _∙_}
 use Rattle.link.specs.Pack.{packed}
 use Rattle.link.proofs.Small.{write-small}

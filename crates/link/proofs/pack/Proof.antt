@@ -1,8 +1,6 @@
 -- `link::pack` meets its contract: the number and the place, joined.
 -- Assumes nothing.
 use native.Mathlib.Omega.{arith}
-use mathlib.Core.Path.{ap}
-use Rattle.link.specs.Pack.{place, packed}
 use borrow.Author.Needs.{needs}
 use Rattle.link.proofs.pack.Statement.{statement}
 use Rattle.link.proofs.pack.Tie as tie

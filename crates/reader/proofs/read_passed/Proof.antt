@@ -1,7 +1,5 @@
 -- `reader::read_passed` meets its contract: what `read_by` says, with the codes filled in.
 -- Assumes nothing.
-use borrow.Author.Needs.{needs}
-use native.Mathlib.Omega.{arith}
 use mathlib.Core.Path.{sym}
 use lib.ListN.{length, replicate}
 use lib.Seq.{length-take-le}

@@ -2,13 +2,7 @@
 -- Assumes nothing.
 use borrow.Author.Needs.{needs}
 use borrow.Author.Tests.{not-true, not-false}
-use Prim.Native.Nat.{ℕ, _≤_}
-use mathlib.Core.Path.{_≡_}
 use native.Mathlib.Omega.{arith}
-use lib.ListN.{length}
-use Rattle.table.specs.Syntax.{absent}
-use Rattle.table.specs.Reading.{look}
-use Rattle.table.specs.Verdict.{verdict}
 use Rattle.table.proofs.Judged.{checked-long, checked-misshapen, checked-judged, count-is, shaped-found}
 use Rattle.table.proofs.check_and_index.Statement.{statement}
 use Rattle.table.proofs.check_and_index.Tie as tie

@@ -1,5 +1,5 @@
 use Prim.Native.Nat.{_*_, _+_, _-_, _≤_, suc}
-use Rattle.ber.specs.Identifier.{readIdentifier}
+use Rattle.ber.specs.Reading.{readIdentifier}
 use Rattle.coding.specs.Reading.{readMany, readSequence, readValue}
 use Rattle.measuring.proofs.Arriving.{InSet, begins, set-broken, set-full, set-further, set-lacking, set-member, set-none, set-over, set-refused, set-turn, set-unawaited}
 use Rattle.message.proofs.Begun.{headed, is-begun, not-begun}
@@ -16,7 +16,6 @@ use Rattle.message.specs.Codes.{peeked}
 use Rattle.table.proofs.Pieces.{length-members}
 use Rattle.table.specs.Fields.{formOf}
 use Rattle.table.specs.Reading.{look, membersAt, recordAt}
-use borrow.Author.Tests.{not-false, not-true}
 use denote.Ref.{now}
 use lib.ListN.{drop, length, length-set}
 use lib.Seq.{length-take-le}

@@ -1,7 +1,6 @@
 use native.Mathlib.Omega.{arith}
 use denote.Ref.{now}
 use Rattle.message.proofs.Simple.{bits-none, bits-some}
-use borrow.Author.Needs.{needs}
 use Rattle.message.proofs.contents.are_bits.Statement.{statement}
 use Rattle.message.proofs.contents.are_bits.Tie as tie
 use Rattle.message.proofs.contents.are_bits.Reads as reads

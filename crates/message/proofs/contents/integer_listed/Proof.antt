@@ -1,9 +1,7 @@
 use native.Mathlib.Omega.{arith}
-use denote.Ref.{now}
 use mathlib.Core.Path.{_∙_}
 use Rattle.message.proofs.Integers.{bits-pos}
 use Rattle.message.proofs.Simple.{listed-negative, listed-natural}
-use borrow.Author.Needs.{needs}
 use Rattle.message.proofs.contents.integer_listed.Statement.{statement}
 use Rattle.message.proofs.contents.integer_listed.Tie as tie
 use Rattle.message.proofs.contents.integer_listed.Reads as reads

@@ -1,7 +1,6 @@
 use Rattle.message.proofs.Told.{ends-none, ends-more, ends-half, ends-wrong, ends-over, ends-closed, ends-not}
 use native.Mathlib.Omega.{arith}
 use denote.Ref.{now}
-use borrow.Author.Needs.{needs}
 use Rattle.message.proofs.ending.ending.Statement.{statement}
 use Rattle.message.proofs.ending.ending.Tie as tie
 use Rattle.message.proofs.ending.ending.Reads as reads

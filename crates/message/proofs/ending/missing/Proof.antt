@@ -1,6 +1,5 @@
 use Rattle.message.proofs.Told.{missing-over, missing-broken, missing-more}
-use native.Mathlib.Omega.{arith}
-use mathlib.Core.Path.{refl, sym, _∙_}
+use mathlib.Core.Path.{_∙_}
 use denote.Ref.{now}
 use borrow.Author.Needs.{needs}
 use Rattle.message.proofs.ending.missing.Statement.{statement}

@@ -1,6 +1,5 @@
 use native.Mathlib.Omega.{arith}
 use denote.Ref.{now}
-use mathlib.Core.Path.{_≡_, refl, sym, ap, _∙_}
 use Rattle.message.proofs.Coded.{count-choice, count-other}
 use borrow.Author.Needs.{needs}
 use Rattle.message.proofs.first.explicit_count.Statement.{statement}

@@ -1,6 +1,3 @@
-use native.Mathlib.Omega.{arith}
-use denote.Ref.{now}
-use mathlib.Core.Path.{_≡_, refl, sym, ap, _∙_}
 use mathlib.Core.List.{[]}
 use Rattle.table.proofs.Fields.{choice-by}
 use borrow.Author.Needs.{needs}

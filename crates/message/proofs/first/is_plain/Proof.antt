@@ -1,5 +1,5 @@
 use mathlib.Core.Bool.{false≢true}
-use mathlib.Core.Path.{_≡_, sym, _∙_}
+use mathlib.Core.Path.{sym, _∙_}
 use borrow.Author.Tests.{ltb-true}
 use denote.Ref.{now}
 use Rattle.message.proofs.Plain.{no-tags}

@@ -1,6 +1,6 @@
 use native.Mathlib.Omega.{arith}
 use denote.Ref.{now}
-use mathlib.Core.Path.{_≡_, refl, sym, ap, _∙_}
+use mathlib.Core.Path.{refl, _∙_}
 use Rattle.message.proofs.Coded.{first-explicit, first-choice-at, first-own}
 use borrow.Author.Needs.{needs}
 use Rattle.message.proofs.first.outermost_code.Statement.{statement}

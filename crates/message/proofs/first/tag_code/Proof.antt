@@ -1,6 +1,4 @@
 use native.Mathlib.Omega.{arith}
-use denote.Ref.{now}
-use mathlib.Core.Path.{_≡_, refl, sym, ap, _∙_}
 use Rattle.message.proofs.Coded.{code-set, code-clear}
 use borrow.Author.Needs.{needs}
 use Rattle.message.proofs.first.tag_code.Statement.{statement}

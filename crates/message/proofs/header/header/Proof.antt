@@ -1,6 +1,5 @@
 use Rattle.message.proofs.Told.{header-refused, header-other, header-same, identifier-rest}
-use native.Mathlib.Omega.{arith}
-use mathlib.Core.Path.{refl, sym, _∙_}
+use mathlib.Core.Path.{_∙_}
 use denote.Ref.{now}
 use borrow.Author.Needs.{needs}
 use Rattle.message.proofs.header.header.Statement.{statement}

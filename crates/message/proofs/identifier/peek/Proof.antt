@@ -1,6 +1,4 @@
 use Rattle.message.proofs.Told.{peek-read, peek-refused}
-use native.Mathlib.Omega.{arith}
-use mathlib.Core.Path.{refl, sym, _∙_}
 use denote.Ref.{now}
 use borrow.Author.Needs.{needs}
 use Rattle.message.proofs.identifier.peek.Statement.{statement}

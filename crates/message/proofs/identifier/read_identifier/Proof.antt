@@ -1,8 +1,7 @@
 use Rattle.message.proofs.Told.{identifier-none, identifier-short}
 use native.Mathlib.Omega.{arith}
-use mathlib.Core.Path.{refl, sym, _∙_}
+use mathlib.Core.Path.{refl}
 use denote.Ref.{now}
-use borrow.Author.Needs.{needs}
 use Rattle.message.proofs.identifier.read_identifier.Statement.{statement}
 use Rattle.message.proofs.identifier.read_identifier.Tie as tie
 use Rattle.message.proofs.identifier.read_identifier.Reads as reads

@@ -3,7 +3,6 @@ use native.Mathlib.Omega.{arith}
 use lib.ListN.{length}
 use Rattle.message.proofs.Told.{Following, follow-none, follow-next, long-cut, long-zero, long-few, long-read}
 use denote.Ref.{now}
-use borrow.Author.Needs.{needs}
 use Rattle.message.proofs.identifier.read_long.Statement.{statement}
 use Rattle.message.proofs.identifier.read_long.Tie as tie
 use Rattle.message.proofs.identifier.read_long.Reads as reads

@@ -1,7 +1,5 @@
 use native.Mathlib.Omega.{arith}
-use denote.Ref.{now}
 use Rattle.message.proofs.Integers.{bits-neg, bits-pos}
-use borrow.Author.Needs.{needs}
 use Rattle.message.proofs.integer.bits.Statement.{statement}
 use Rattle.message.proofs.integer.bits.Tie as tie
 use Rattle.message.proofs.integer.bits.Reads as reads

@@ -1,7 +1,5 @@
 use native.Mathlib.Omega.{arith}
-use denote.Ref.{now}
 use mathlib.Core.Path.{refl}
-use borrow.Author.Needs.{needs}
 use Rattle.message.proofs.integer.digit.Statement.{statement}
 use Rattle.message.proofs.integer.digit.Tie as tie
 use Rattle.message.proofs.integer.digit.Reads as reads

@@ -1,14 +1,13 @@
-use mathlib.Core.Path.{_≡_, refl, _∙_, ap}
+use mathlib.Core.Path.{_∙_, ap}
 use native.Mathlib.Omega.{arith}
 use mathlib.Core.Bool.{Bool, not}
 use lib.Dec.{ltb}
-use lib.ListN.{length, getD}
+use lib.ListN.{getD}
 use mir.Syntax.{w64}
 use mir.ValLaws.{toZ-ofZ}
 use denote.Ref.{now}
-use Rattle.ber.specs.Integer.{integerOf, signed, pile, negative}
+use Rattle.ber.specs.Integer.{integerOf, signed, pile}
 use Rattle.message.proofs.Integers.{of-head}
-use borrow.Author.Needs.{needs}
 use Rattle.message.proofs.integer.integer_of.Statement.{statement}
 use Rattle.message.proofs.integer.integer_of.Tie as tie
 use Rattle.message.proofs.integer.integer_of.Reads as reads

@@ -1,5 +1,4 @@
 use Rattle.message.proofs.Integers.{spare-zero, spare-ones, spare-other}
-use borrow.Author.Needs.{needs}
 use Rattle.message.proofs.integer.spare.Statement.{statement}
 use Rattle.message.proofs.integer.spare.Tie as tie
 use Rattle.message.proofs.integer.spare.Reads as reads

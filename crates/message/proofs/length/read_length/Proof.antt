@@ -1,8 +1,7 @@
 use Rattle.message.proofs.Told.{length-none, length-short, length-short-no, length-indefinite, length-reserved}
 use native.Mathlib.Omega.{arith}
-use mathlib.Core.Path.{refl, sym, _∙_}
+use mathlib.Core.Path.{refl}
 use denote.Ref.{now}
-use borrow.Author.Needs.{needs}
 use Rattle.message.proofs.length.read_length.Statement.{statement}
 use Rattle.message.proofs.length.read_length.Tie as tie
 use Rattle.message.proofs.length.read_length.Reads as reads

@@ -1,11 +1,10 @@
 use Prim.Native.Nat.{_+_, _-_, _≤_, _<_}
 use mathlib.Core.Path.{_≡_, refl}
 use native.Mathlib.Omega.{arith}
-use lib.ListN.{length, take, drop}
+use lib.ListN.{take, drop}
 use Rattle.ber.specs.Length.{number}
 use Rattle.message.proofs.Told.{length-few, length-long, length-long-no, one-digit}
 use denote.Ref.{now}
-use borrow.Author.Needs.{needs}
 use Rattle.message.proofs.length.read_long.Statement.{statement}
 use Rattle.message.proofs.length.read_long.Tie as tie
 use Rattle.message.proofs.length.read_long.Reads as reads

@@ -7,7 +7,7 @@ use native.Mathlib.Omega.{arith}
 use denote.Ref.{now}
 use lib.ListN.{length, drop, set, length-set}
 use lib.Seq.{sets, length-take-le}
-use Rattle.ber.specs.Identifier.{readIdentifier}
+use Rattle.ber.specs.Reading.{readIdentifier}
 use Rattle.table.specs.Rules.{parts}
 use Rattle.table.specs.Reading.{look, recordAt, membersAt, everyAt}
 use Rattle.coding.specs.Reading.{readMany, readSequence, choose, readValue}

@@ -1,9 +1,9 @@
-use mathlib.Core.Path.{_≡_, refl, sym, ap, _∙_}
+use mathlib.Core.Path.{refl, _∙_}
 use native.Mathlib.Omega.{arith}
 use denote.Ref.{now}
 use mir.Syntax.{w64}
 use mir.Facts.{toZ-ofZ}
-use lib.ListN.{length, length-set, length-drop}
+use lib.ListN.{length-set, length-drop}
 use Rattle.measuring.specs.Writing.{leafOf}
 use Rattle.measuring.proofs.Placing.{three, from-is, node-sets, number-sets, leaf-three, lawful-kind, lawful-boolean, lawful-integer, lawful-bits, lawful-enumerated, small-bits, boolean-octets, integer-octets, bits-octets, string-octets, null-octets, enumerated-octets, boolean-length, integer-length, bits-length, string-length, null-length, enumerated-length}
 use borrow.Author.Needs.{needs}

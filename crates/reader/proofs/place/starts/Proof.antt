@@ -1,4 +1,4 @@
-use mathlib.Core.Path.{_≡_, sym, ap, _∙_}
+use mathlib.Core.Path.{sym, ap, _∙_}
 use Rattle.reader.specs.Placed.{found}
 use borrow.Author.Needs.{needs}
 use Rattle.reader.proofs.place.starts.Statement.{statement}

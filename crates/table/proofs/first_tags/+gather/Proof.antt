@@ -2,12 +2,12 @@
 -- Assumes nothing.
 use borrow.Author.Needs.{needs}
 use Prim.Native.Nat.{ℕ, _<_, _≤_, _+_, _*_}
-use mathlib.Core.Path.{_≡_, sym, refl, ap, _∙_}
+use mathlib.Core.Path.{_≡_, sym, refl, _∙_}
 use native.Mathlib.Omega.{arith}
-use lib.ListN.{length, getD, set, length-set}
+use lib.ListN.{length, getD, length-set}
 use Rattle.table.specs.Rules.{below}
 use Rattle.table.specs.Reading.{everyAt, look}
-use Rattle.table.specs.Walk.{like, free}
+use Rattle.table.specs.Walk.{free}
 use Rattle.table.proofs.Nodes.{like-low}
 use Rattle.table.proofs.Walk.{marked}
 use Rattle.table.proofs.Gather.{Going, below-span, going-from, next-in, next-turn, gathered-seen, gathered-met, gathered-under, gathered-down}

@@ -2,8 +2,7 @@
 -- Assumes nothing.
 use borrow.Author.Needs.{needs}
 use Prim.Native.Nat.{_-_}
-use mathlib.Core.Path.{sym, _∙_}
-use native.Mathlib.Omega.{arith}
+use mathlib.Core.Path.{_∙_}
 use Rattle.octets.proofs.Search.{Rest, rest-first, rest-here, rest-next, rest-none}
 use Rattle.table.specs.Reading.{look}
 use Rattle.table.specs.Walk.{sameOutermost, like}

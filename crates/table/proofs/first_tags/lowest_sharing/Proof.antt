@@ -3,9 +3,7 @@
 use borrow.Author.Needs.{needs}
 use Prim.Native.Nat.{ℕ, _-_, _≤_}
 use Rattle.table.specs.Syntax.{absent}
-use mathlib.Core.Bool.{true, false}
-use mathlib.Core.Path.{_≡_, refl, sym, _∙_}
-use native.Mathlib.Omega.{arith}
+use mathlib.Core.Path.{_≡_, refl, _∙_}
 use lib.ListN.{length}
 use Rattle.octets.proofs.Search.{Rest, rest-first, rest-here, rest-next, rest-none}
 use Rattle.table.specs.Reading.{look}

@@ -1,16 +1,12 @@
 use mathlib.Core.Bool.{true}
 use Rattle.ber.specs.Identifier.{identifier}
-use mathlib.Core.Path.{_≡_, refl, sym, ap, _∙_}
+use mathlib.Core.Path.{_≡_, refl, ap, _∙_}
 use native.Mathlib.Omega.{arith}
-use native.Mathlib.Numerals.{add-one}
-use Prim.Native.Nat.{ℕ, suc, _+_, _-_, _*_, _≤_, _<_, _^_}
-use Rattle.writer.proofs.Frames.{cap-below, framed-turn, framed-end, Heads, heads-none, heads-turn, heads-end}
-use lib.ListN.{length, getD, length-set}
-use lib.Seq.{sets, length-sets}
-use Rattle.table.specs.Reading.{tagsAt, recordAt}
-use Rattle.table.specs.Fields.{constructedOf}
-use Rattle.table.proofs.Fields.{constructed-of}
-use Rattle.writer.specs.Frames.{framed, heads}
+use Prim.Native.Nat.{ℕ, _+_, _-_, _*_, _≤_, _<_}
+use Rattle.writer.proofs.Frames.{cap-below, framed-turn, framed-end}
+use lib.ListN.{length, getD}
+use Rattle.table.specs.Reading.{tagsAt}
+use Rattle.writer.specs.Frames.{framed}
 use borrow.Author.Needs.{needs}
 use Rattle.writer.proofs.frame.size.Statement.{statement}
 use Rattle.writer.proofs.frame.size.Tie as tie

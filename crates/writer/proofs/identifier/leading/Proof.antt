@@ -1,7 +1,5 @@
-use mathlib.Core.Path.{_≡_, refl, sym, ap, _∙_}
 use native.Mathlib.Omega.{arith}
-use native.Mathlib.Numerals.{add-one}
-use Prim.Native.Nat.{ℕ, suc, _+_, _-_, _*_, _≤_, _<_, _^_}
+use Prim.Native.Nat.{_-_}
 use Rattle.ber.specs.Identifier.{leading}
 use borrow.Author.Needs.{needs}
 use Rattle.writer.proofs.identifier.leading.Statement.{statement}

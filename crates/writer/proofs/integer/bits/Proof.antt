@@ -1,9 +1,6 @@
-use mathlib.Core.Path.{_≡_, refl, sym, ap, _∙_}
 use native.Mathlib.Omega.{arith}
-use native.Mathlib.Numerals.{add-one}
-use Prim.Native.Nat.{ℕ, suc, _+_, _-_, _*_, _≤_, _<_, _^_}
-use Rattle.writer.proofs.Integers.{bits-neg, bits-pos, more, within, room, head-small, pile-next, pile-ended, pile-begun, sign-of, spare-zero, spare-ones, spare-other, fewer, no-fewer, one-left}
-use borrow.Author.Needs.{needs}
+use Prim.Native.Nat.{_-_}
+use Rattle.writer.proofs.Integers.{bits-neg, bits-pos}
 use Rattle.writer.proofs.integer.bits.Statement.{statement}
 use Rattle.writer.proofs.integer.bits.Tie as tie
 use Rattle.writer.proofs.integer.bits.Reads as reads

@@ -1,17 +1,13 @@
-use mathlib.Core.Path.{_≡_, refl, sym, ap, _∙_}
+use mathlib.Core.Path.{ap, _∙_}
 use native.Mathlib.Omega.{arith}
-use native.Mathlib.Numerals.{add-one}
-use Prim.Native.Nat.{ℕ, suc, _+_, _-_, _*_, _≤_, _<_, _^_}
-use Rattle.writer.proofs.Integers.{bits-neg, bits-pos, more, within, room, head-small, pile-next, pile-ended, pile-begun, sign-of, spare-zero, spare-ones, spare-other, fewer, no-fewer, one-left}
+use Prim.Native.Nat.{_-_}
+use Rattle.writer.proofs.Integers.{sign-of}
 use mir.Syntax.{w64}
-use mir.Val.{ofZ}
 use mir.ValLaws.{toZ-ofZ}
-use lib.ListN.{length, getD, drop, length-set, length-drop}
-use lib.Seq.{sets}
+use lib.ListN.{getD}
 use lib.Dec.{leb}
 use mathlib.Core.Bool.{Bool}
-use Rattle.ber.specs.Integer.{negative, pile, signed, integerOf, eight, eightOf, fewest, fewestOf}
-use Rattle.writer.proofs.Stores.{stores-turn, stores-end}
+use Rattle.ber.specs.Integer.{pile, signed, integerOf}
 use borrow.Author.Needs.{needs}
 use Rattle.writer.proofs.integer.of.Statement.{statement}
 use Rattle.writer.proofs.integer.of.Tie as tie

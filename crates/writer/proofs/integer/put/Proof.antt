@@ -1,15 +1,12 @@
-use mathlib.Core.Path.{_≡_, refl, sym, ap, _∙_}
+use mathlib.Core.Path.{_≡_, refl, ap, _∙_}
 use native.Mathlib.Omega.{arith}
-use native.Mathlib.Numerals.{add-one}
-use Prim.Native.Nat.{ℕ, suc, _+_, _-_, _*_, _≤_, _<_, _^_}
-use Rattle.writer.proofs.Integers.{bits-neg, bits-pos, more, within, room, head-small, pile-next, pile-ended, pile-begun, sign-of, spare-zero, spare-ones, spare-other, fewer, no-fewer, one-left}
+use Prim.Native.Nat.{_+_, _-_, _≤_}
 use Rattle.writer.proofs.Integers.{eight-length, fewest-cut, fewest-size}
 use mir.Syntax.{w64}
 use mir.Val.{ofZ}
 use mir.ValLaws.{toZ-ofZ}
-use lib.ListN.{length, getD, drop, length-set}
+use lib.ListN.{length, drop, length-set}
 use lib.Seq.{sets}
-use Rattle.ber.specs.Integer.{fewestOf}
 use Rattle.writer.proofs.Stores.{stores-turn, stores-end}
 use borrow.Author.Needs.{needs}
 use Rattle.writer.proofs.integer.put.Statement.{statement}

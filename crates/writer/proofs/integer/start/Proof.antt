@@ -1,9 +1,8 @@
-use mathlib.Core.Path.{_≡_, refl, sym, ap, _∙_}
+use mathlib.Core.Path.{_≡_, refl, sym, _∙_}
 use native.Mathlib.Omega.{arith}
-use native.Mathlib.Numerals.{add-one}
-use Prim.Native.Nat.{ℕ, suc, _+_, _-_, _*_, _≤_, _<_, _^_}
-use Rattle.writer.proofs.Integers.{bits-neg, bits-pos, more, within, room, head-small, pile-next, pile-ended, pile-begun, sign-of, spare-zero, spare-ones, spare-other, fewer, no-fewer, one-left}
-use lib.ListN.{length, drop}
+use Prim.Native.Nat.{_-_, _≤_}
+use Rattle.writer.proofs.Integers.{fewer, no-fewer, one-left}
+use lib.ListN.{drop}
 use Rattle.ber.specs.Integer.{fewest}
 use borrow.Author.Needs.{needs}
 use Rattle.writer.proofs.integer.start.Statement.{statement}

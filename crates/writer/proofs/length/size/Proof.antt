@@ -1,9 +1,7 @@
-use mathlib.Core.Path.{_≡_, refl, sym, ap, _∙_}
+use mathlib.Core.Path.{refl}
 use native.Mathlib.Omega.{arith}
-use native.Mathlib.Numerals.{add-one}
-use Prim.Native.Nat.{ℕ, suc, _+_, _-_, _*_, _≤_, _<_, _^_}
+use Prim.Native.Nat.{_-_}
 use Rattle.writer.proofs.Headers.{length-one, length-two, length-three}
-use borrow.Author.Needs.{needs}
 use Rattle.writer.proofs.length.size.Statement.{statement}
 use Rattle.writer.proofs.length.size.Tie as tie
 use Rattle.writer.proofs.length.size.Reads as reads

@@ -1,8 +1,7 @@
-use mathlib.Core.Path.{_≡_, refl, sym, ap, _∙_}
+use mathlib.Core.Path.{refl}
 use native.Mathlib.Omega.{arith}
-use native.Mathlib.Numerals.{add-one}
-use Prim.Native.Nat.{ℕ, suc, _+_, _-_, _*_, _≤_, _<_, _^_}
-use Rattle.writer.proofs.Agreement.{agrees-choice, agrees-not, agrees-listed, agrees-sequence, agrees-set, agrees-sequence-not, agrees-set-not, agrees-rest, own-shaped}
+use Prim.Native.Nat.{_-_}
+use Rattle.writer.proofs.Agreement.{agrees-choice, agrees-not, agrees-listed, agrees-sequence, agrees-set, agrees-sequence-not, agrees-set-not, agrees-rest}
 use Rattle.table.specs.declared.kind.Form.the-variants.{Simple as FSimple, Members as FMembers, Of as FOf, Choice as FChoice}
 use borrow.Author.Needs.{needs}
 use Rattle.writer.proofs.node.agrees.Statement.{statement}

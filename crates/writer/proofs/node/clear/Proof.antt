@@ -1,7 +1,4 @@
-use mathlib.Core.Path.{_≡_, refl, sym, ap, _∙_}
-use native.Mathlib.Omega.{arith}
-use native.Mathlib.Numerals.{add-one}
-use Prim.Native.Nat.{ℕ, suc, _+_, _-_, _*_, _≤_, _<_, _^_}
+use Prim.Native.Nat.{_-_}
 use Rattle.octets.proofs.Search.{tests}
 use native.Mathlib.Nat.{div-mul-le-self}
 use Rattle.writer.specs.Nodes.{clearAt}

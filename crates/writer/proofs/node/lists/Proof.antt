@@ -1,11 +1,9 @@
-use mathlib.Core.Path.{_≡_, refl, sym, ap, _∙_}
+use mathlib.Core.Path.{_≡_, refl}
 use native.Mathlib.Omega.{arith}
-use native.Mathlib.Numerals.{add-one}
-use Prim.Native.Nat.{ℕ, suc, _+_, _-_, _*_, _≤_, _<_, _^_}
+use Prim.Native.Nat.{_+_, _-_, _*_, _≤_}
 use Rattle.table.specs.Reading.{numbersAt}
 use Rattle.coding.specs.Content.{listed}
 use Rattle.writer.proofs.Nodes.{listed-stops, listed-goes, listed-ends}
-use borrow.Author.Needs.{needs}
 use Rattle.writer.proofs.node.lists.Statement.{statement}
 use Rattle.writer.proofs.node.lists.Tie as tie
 use Rattle.writer.proofs.node.lists.Reads as reads

@@ -1,9 +1,6 @@
-use mathlib.Core.Path.{_≡_, refl, sym, ap, _∙_}
-use native.Mathlib.Omega.{arith}
-use native.Mathlib.Numerals.{add-one}
-use Prim.Native.Nat.{ℕ, suc, _+_, _-_, _*_, _≤_, _<_, _^_}
+use Prim.Native.Nat.{_-_}
 use Rattle.octets.proofs.Search.{tests}
-use Rattle.writer.specs.Nodes.{fixedEnd, booleanEnd, stringEnd, clearAt, bitsEnd, membersEnd, ownEnd, endAt}
+use Rattle.writer.specs.Nodes.{ownEnd}
 use borrow.Author.Needs.{needs}
 use Rattle.writer.proofs.node.own_end.Statement.{statement}
 use Rattle.writer.proofs.node.own_end.Tie as tie

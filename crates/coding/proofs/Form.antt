@@ -7,18 +7,18 @@ use native.Mathlib.Omega.{arith}
 use Prim.Native.Nat.{ℕ, zero, suc}
 use lib.ListN.{getD, length-append}
 use Rattle.octets.specs.Lists.{joined}
-use Rattle.octets.specs.Permutations.{Perm·refl, Each, nil, cons, Every, every-nil, every-cons, Order, arranged-refl}
+use Rattle.octets.specs.Permutations.{Each, nil, cons, Every, every-nil, every-cons, Order}
+use Rattle.octets.proofs.Permutations.{Perm·refl, arranged-refl}
 use Rattle.ber.specs.Item.{in-size}
-use Rattle.ber.specs.ItemLaws.{Short, item-content, item-definite}
+use Rattle.ber.proofs.Item.{Short, item-content, item-definite}
 use Rattle.table.specs.Syntax.{Member, Body, Table}
 use Rattle.table.specs.Rules.{members}
 use Rattle.coding.specs.Value.{Value, slots, bag}
-use Rattle.coding.specs.Content.{encode}
-use Rattle.coding.specs.ContentLaws.{encode-content}
+use Rattle.coding.specs.Form.{encode, element, alternatives, formMembers, formElements, formBody, wrap, formAt}
 use Rattle.coding.specs.Tags.{explicit}
 use Rattle.coding.specs.Encodes.{Coding, Pieces, done, left, sent, At, first, later, Codes, is-plain, is-sequence, is-set, is-sequence-of, is-set-of, is-choice, Wrapped, bare, tagged, EncodesAt}
 use Rattle.coding.specs.Typed.{Fits, f-done, f-left, f-sent, Typed, t-plain, t-sequence, t-set, t-sequence-of, t-set-of, t-choice, WellTypedAt}
-use Rattle.coding.specs.Form.{element, alternatives, formMembers, formElements, formBody, wrap, formAt}
+use Rattle.coding.proofs.Content.{encode-content}
 
 short-left : (p s : List ℕ) → Short (p ++ s) → Short p
 short-left p s h = omega (arith, simp length-append at h)

@@ -1,20 +1,23 @@
 -- Laws of items: what may be sent is read, and what is read may be sent.
 -- Assumes nothing.
-use borrow.Author.Tests.{ne-eqb}
-use lib.ListN.{length, take, drop, length-append, take-append-drop}
-use lib.Seq.{length-take-le, take-append-seam, drop-append-seam}
-use mathlib.Core.Bool.{Bool, true, false, not, true≢false}
+use borrow.Author.Tests.{ne-eqb, not-false}
 use mathlib.Core.List.{List, [], _∷_, _++_, append-assoc, append-nil}
 use mathlib.Core.Path.{_≡_, refl, sym, ap, _∙_}
 use native.Mathlib.Omega.{arith}
 use Prim.Native.Nat.{ℕ, zero, suc, _^_, _≤_, _<_}
-use Rattle.octets.specs.Answer.{Answer, got, if, none-left, Holds, yields, refuses, if-holds, then-holds, map-holds, behind-holds, run, Reads}
-use Rattle.octets.specs.Permutations.{AllOctets, every-left, every-right}
-use Rattle.ber.specs.Identifier.{readIdentifier, same}
-use Rattle.ber.specs.IdentifierLaws.{same-refl, same-true, identifier-sound}
-use Rattle.ber.specs.Length.{Length, lengthOctets, Size, definite, indefinite, readLength}
-use Rattle.ber.specs.LengthLaws.{length-complete, length-sound, length-octets, Shape, is-definite, is-indefinite}
-use Rattle.ber.specs.Item.{Definite, sized, Constructed, in-size, in-marks, item, Mode, closed, open-ended, atEnd, readHeader, inside, readConstructed, contents, readPrimitive}
+use lib.ListN.{length, take, drop, length-append, take-append-drop}
+use lib.Seq.{length-take-le, take-append-seam, drop-append-seam}
+use Rattle.octets.specs.Answer.{Answer, got, if, none-left}
+use Rattle.octets.specs.Permutations.{AllOctets}
+use Rattle.octets.specs.Lists.{same}
+use Rattle.octets.proofs.Answer.{Holds, yields, refuses, if-holds, then-holds, map-holds, behind-holds, run, Reads}
+use Rattle.octets.proofs.Permutations.{every-left, every-right}
+use Rattle.octets.proofs.Lists.{same-refl, same-true}
+use Rattle.ber.specs.Reading.{readIdentifier, Size, definite, indefinite, readLength, Mode, closed, open-ended, atEnd, readHeader, inside, readConstructed, contents, readPrimitive}
+use Rattle.ber.specs.Length.{Length, lengthOctets}
+use Rattle.ber.specs.Item.{Definite, sized, Constructed, in-size, in-marks, item}
+use Rattle.ber.proofs.Identifier.{identifier-sound}
+use Rattle.ber.proofs.Length.{length-complete, length-sound, length-octets, Shape, is-definite, is-indefinite}
 
 -- behind contents stands `tail`: the contents end there, and r follows
 pub data Ends : Mode → List ℕ → List ℕ → Type 0 where
@@ -94,10 +97,6 @@ constructed-complete body {i = i} {c} s g b (in-size (sized ls l e)) =
 constructed-complete body {i = i} {c} s g b (in-marks e) =
     let x = b open-ended (0 ∷ 0 ∷ s) s mark in
     record { value = x .value; answer = rw (e, whole-marked i c s) (simp (run, header-marked i (c ++ (0 ∷ 0 ∷ s)) g, inside, x .answer)); alike = x .alike }
-
-not-false : (b : Bool) → not b ≡ false → b ≡ true
-not-false true e = refl
-not-false false e = absurd (true≢false e)
 
 -- what a reader of the identifier and the length took
 pub header-sound : (i s : List ℕ) → Holds (λ z r. (u : List ℕ) × (s ≡ i ++ u) × Shape u z r) (readHeader i s)

@@ -6,24 +6,26 @@ use mathlib.Core.Path.{_≡_, refl}
 use Prim.Native.Nat.{ℕ, zero, suc}
 use lib.ListN.{length, take}
 use Rattle.octets.specs.Answer.{if, then, behind, none-left}
-use Rattle.octets.specs.Lists.{any, all, joined}
-use Rattle.ber.specs.Identifier.{leading, following, identifier, readFollowing, readIdentifier, same}
-use Rattle.ber.specs.Length.{number, digits, lengthOctets, fit, readLong, readLength}
-use Rattle.ber.specs.Item.{item, atEnd, readHeader, inside, readConstructed, contents, readPrimitive}
+use Rattle.octets.specs.Lists.{any, all, joined, same}
+use Rattle.ber.specs.Identifier.{leading, following, identifier}
+use Rattle.ber.specs.Reading.{readFollowing, readIdentifier, fit, readLong, readLength, atEnd, readHeader, inside, readConstructed, contents, readPrimitive}
+use Rattle.ber.specs.Length.{number, digits, lengthOctets}
+use Rattle.ber.specs.Item.{item}
 use Rattle.ber.specs.Integer.{negative, pile, integerOf, spare, minimal, eight, fewest}
 use Rattle.ber.specs.BitString.{unused, masked}
 use Rattle.table.specs.Syntax.{Tag, Member, Simple, Boolean, Integer, BitString, OctetString, Null, Enumerated, Plain, Sequence, Set, SequenceOf, SetOf, Choice, Record, table, universal, constructed}
 use Rattle.table.specs.Octets.{kind}
 use Rattle.table.specs.Rules.{members}
 use Rattle.coding.specs.Value.{slots, bag, leafOctets, count, presence, octets}
-use Rattle.coding.specs.Content.{listed, encode, isListed, decode}
-use Rattle.coding.specs.Tags.{identifierOf, last, before, explicitTags, own, explicit, beginsBody, beginsItem, beginsIn, begins}
+use Rattle.coding.specs.Content.{listed}
+use Rattle.coding.specs.Form.{encode, element, alternatives, formMembers, formElements, formBody, wrap, formAt}
+use Rattle.coding.specs.Reading.{isListed, decode, passes, begun, notAwaited, nothing, full, unwanted, readWrapped, readSequence, place, readSet, readMany, choose, readBody, readKind, readValue, readMessage}
+use Rattle.coding.specs.Tags.{identifierOf, last, before, explicitTags, own, explicit}
 use Rattle.coding.specs.Encodes.{allowed}
-use Rattle.coding.specs.Form.{element, alternatives, formMembers, formElements, formBody, wrap, formAt}
-use Rattle.coding.specs.Reading.{passes, begun, notAwaited, nothing, full, unwanted, readWrapped, readSequence, place, readSet, readMany, choose, readBody, readKind, readValue, readMessage}
 use Rattle.coding.specs.Judging.{need, flags, ownMembers, ownCount, ownBoolean, ownInteger, ownString, ownBits, ownEnumerated, ownChoice, readOwn, readNode, leafKind, nodeKind, numbers, leafAgrees, agreeing, counts, agrees, judgeMembers, judgeElements, judgeBelow, judgeValue, judgeWhole}
 use Rattle.coding.specs.Causes.{valueCause, messageCause}
 use Rattle.coding.specs.Outcome.{Outcome, Told, done, refusal, numberOf, placeOf, afterReading, readOutcome, afterJudging, writeOutcome}
+use Rattle.coding.proofs.Awaited.{beginsBody, beginsItem, beginsIn, begins}
 
 -- n octets b, and then those of l
 abbrev fill : ℕ → ℕ → List ℕ → List ℕ

@@ -1,7 +1,7 @@
 -- Laws of identifier octets: what is written is read, what is read stood there, a tag has one form.
 -- Assumes nothing.
-use borrow.Author.Tests.{ltb-true, ltb-false, eqb-true, lt-ltb, le-ltb, eq-eqb, ne-eqb}
-use mathlib.Core.Bool.{Bool, true, false, _&&_, false≢true}
+use borrow.Author.Tests.{ltb-true, ltb-false, lt-ltb, le-ltb, ne-eqb}
+use mathlib.Core.Bool.{Bool, true, false}
 use mathlib.Core.List.{List, [], _∷_, _++_}
 use mathlib.Core.Path.{_≡_, refl, sym, ap, _∙_}
 use native.Mathlib.Omega.{arith}
@@ -9,31 +9,10 @@ use Prim.Native.Nat.{ℕ, zero, suc, _+_, _-_, _*_, _/_, _%_, _≤_, _<_}
 use lib.Dec.{ltb, eqb}
 use lib.ListN.{length, getD}
 use lib.Seq.{append-snoc}
-use Rattle.octets.specs.Answer.{got, Holds, yields, refuses, if-holds, then-holds, map-holds, if-cases, run}
-use Rattle.ber.specs.Identifier.{bit, leading, following, identifier, readFollowing, readIdentifier, same}
-
-and-left : (a b : Bool) → (a && b) ≡ true → a ≡ true
-and-left true b e = refl
-and-left false b e = e
-
-and-right : (a b : Bool) → (a && b) ≡ true → b ≡ true
-and-right true b e = e
-and-right false b e = absurd (false≢true e)
-
-pub same-refl : (i : List ℕ) → same i i ≡ true
-unfolding same
-same-refl [] = refl
-same-refl (x ∷ i) = simp (eq-eqb x x refl, same-refl i)
-
-pub same-true : (i j : List ℕ) → same i j ≡ true → i ≡ j
-unfolding same
-same-true [] [] e = refl
-same-true [] (y ∷ j) e = absurd (false≢true e)
-same-true (x ∷ i) [] e = absurd (false≢true e)
-same-true (x ∷ i) (y ∷ j) e =
-    let h : x ≡ y = eqb-true x y (and-left (eqb x y) (same i j) e) in
-    let k : i ≡ j = same-true i j (and-right (eqb x y) (same i j) e) in
-    rw (h, k)
+use Rattle.octets.specs.Answer.{got}
+use Rattle.octets.proofs.Answer.{Holds, yields, refuses, if-holds, then-holds, map-holds, if-cases, run}
+use Rattle.ber.specs.Identifier.{bit, leading, following, identifier}
+use Rattle.ber.specs.Reading.{readFollowing, readIdentifier}
 
 following-sound : (l : ℕ) (ds s : List ℕ) → Holds (λ xs r. ds ++ s ≡ xs ++ r) (readFollowing l ds s)
 unfolding readFollowing

@@ -1,17 +1,19 @@
 -- Laws of length octets: what may be sent is read, what is read may be sent, what is written may be sent.
 -- Assumes nothing.
 use borrow.Author.Tests.{ltb-true, ltb-false, leb-true, eqb-true, eqb-false, lt-ltb, le-ltb, le-leb, ne-eqb}
-use lib.Dec.{eqb}
-use lib.ListN.{length, take, length-append, take-append-drop}
-use lib.Seq.{length-take-le, take-append-seam, drop-append-seam}
 use mathlib.Core.Bool.{false}
 use mathlib.Core.List.{List, [], _∷_, _++_}
 use mathlib.Core.Path.{_≡_, refl, sym, ap, _∙_}
 use native.Mathlib.Nat.{pow-suc, div-add-mod', div-lt-iff-lt-mul}
 use native.Mathlib.Omega.{arith}
 use Prim.Native.Nat.{ℕ, zero, suc, _+_, _-_, _/_, _%_, _^_, _≤_, _<_}
-use Rattle.octets.specs.Answer.{got, Holds, yields, refuses, if-holds, if-cases, run}
-use Rattle.ber.specs.Length.{number, Length, short, long, digits, lengthOctets, Size, definite, indefinite, fit, readLong, readLength}
+use lib.Dec.{eqb}
+use lib.ListN.{length, take, length-append, take-append-drop}
+use lib.Seq.{length-take-le, take-append-seam, drop-append-seam}
+use Rattle.octets.specs.Answer.{got}
+use Rattle.octets.proofs.Answer.{Holds, yields, refuses, if-holds, if-cases, run}
+use Rattle.ber.specs.Length.{number, Length, short, long, digits, lengthOctets}
+use Rattle.ber.specs.Reading.{Size, definite, indefinite, fit, readLong, readLength}
 
 -- what may be sent is read
 pub length-complete : {n : ℕ} {m : List ℕ} (l : ℕ) (s : List ℕ) → Length n m → n ≤ length s → readLength l (m ++ s) ≡ got (definite n) s

@@ -1,6 +1,6 @@
 -- What reading accepts is permitted for the value that it yields.
 -- Assumes nothing.
-use mathlib.Core.Bool.{Bool, true, false, _&&_, false≢true}
+use mathlib.Core.Bool.{Bool, true, false, false≢true}
 use mathlib.Core.List.{List, [], _∷_, _++_, append-nil}
 use mathlib.Core.Option.{Option, some, none}
 use mathlib.Core.Path.{_≡_, refl, sym, ap, _∙_}
@@ -9,18 +9,21 @@ use native.Mathlib.Omega.{arith}
 use Prim.Native.Nat.{ℕ, zero, suc, _+_, _≤_}
 use lib.ListN.{length, length-append}
 use lib.Seq.{append-snoc}
-use Rattle.octets.specs.Answer.{Answer, Holds, yields, refuses, if-holds, then-holds, map-holds, Taken}
+use Rattle.octets.specs.Answer.{Answer}
 use Rattle.octets.specs.Lists.{joined}
-use Rattle.octets.specs.Permutations.{flat, joined-flat, Sel, Sel.here, Sel.there, Perm, Perm.none as none-p, Perm.next, Each, nil, cons, Order, as-given, arranged-refl}
-use Rattle.ber.specs.IdentifierLaws.{identifier-sound}
-use Rattle.ber.specs.Item.{Mode}
-use Rattle.ber.specs.ItemLaws.{Ends, no-more, mark, atEnd-holds, Body as Contents, constructed-sound, primitive-sound}
+use Rattle.octets.specs.Permutations.{Sel, Sel.here, Sel.there, Perm, Perm.none as none-p, Perm.next, Each, nil, cons, Order, as-given}
+use Rattle.octets.proofs.Answer.{Holds, yields, refuses, if-holds, then-holds, map-holds, Taken}
+use Rattle.octets.proofs.Permutations.{flat, joined-flat, arranged-refl}
+use Rattle.octets.proofs.Tests.{and-right}
+use Rattle.ber.specs.Reading.{Mode}
+use Rattle.ber.proofs.Identifier.{identifier-sound}
+use Rattle.ber.proofs.Item.{Ends, no-more, mark, atEnd-holds, Body as Contents, constructed-sound, primitive-sound}
 use Rattle.table.specs.Syntax.{Member, Body, Plain, Sequence, Set, SequenceOf, SetOf, Choice, Table}
 use Rattle.coding.specs.Value.{Value, sequence, set, sequenceOf, setOf, choice, slots, bag}
-use Rattle.coding.specs.ContentLaws.{content-sound}
 use Rattle.coding.specs.Tags.{own, explicit}
 use Rattle.coding.specs.Encodes.{allowed, Coding, Pieces, done, left, sent, At, first, later, Codes, is-plain, is-sequence, is-set, is-sequence-of, is-set-of, is-choice, Wrapped, bare, tagged, EncodesAt}
 use Rattle.coding.specs.Reading.{notAwaited, unwanted, nothing, readWrapped, readSequence, place, readSet, readMany, choose, readBody, readKind, readValue}
+use Rattle.coding.proofs.Content.{content-sound}
 
 pub not-awaited : {A : Type 0} {P : A → List ℕ → Type 0} (s : List ℕ) → Holds P (notAwaited s)
 unfolding notAwaited
@@ -88,11 +91,6 @@ unfolding nothing
 pending-nothing {ms = []} p-done = done
 pending-nothing {ms = m ∷ ms} (p-left p) = left (pending-nothing p)
 pending-nothing {ms = m ∷ ms} (p-sent e p) = sent e (pending-nothing p)
-
-and-right : (a b : Bool) → (a && b) ≡ true → b ≡ true
-and-right true b e = e
-and-right false true e = refl
-and-right false false e = e
 
 all-there : {E : Coding} (ms : List Member) (os : List (Option Value)) → allowed ms os ≡ true → Pending E _≡_ ms os os []
 unfolding allowed

@@ -9,16 +9,18 @@ use Prim.Native.Nat.{ℕ, zero, suc, _≤_, _<_}
 use lib.Dec.{ltb}
 use lib.ListN.{length, getD}
 use lib.Seq.{append-snoc}
-use Rattle.octets.specs.Tests.{test}
 use Rattle.octets.specs.Lists.{any}
 use Rattle.octets.specs.Permutations.{Every, every-nil, every-cons}
-use Rattle.ber.specs.IdentifierLaws.{same-refl, same-true, identifier-complete, identifier-tag, identifier-begun, Begun}
-use Rattle.ber.specs.ItemLaws.{Readable}
+use Rattle.octets.proofs.Tests.{test, or-by, or-false}
+use Rattle.octets.proofs.Lists.{same-refl, same-true}
+use Rattle.ber.proofs.Identifier.{identifier-complete, identifier-tag, identifier-begun, Begun}
+use Rattle.ber.proofs.Item.{Readable}
 use Rattle.table.specs.Syntax.{Tag, Member, Simple, Boolean, Integer, BitString, OctetString, Null, Enumerated, Body, Plain, Sequence, Set, SequenceOf, SetOf, Choice, Record, Table, absent, references, isChoice, universal, constructed}
 use Rattle.table.specs.Rules.{Mistagged, missing, not-last, not-its-number, on-choice, bodyBelow, tagsBelow, below, First, outermost, inside, parts, Sharing}
 use Rattle.table.specs.Passes.{Nested, Passes}
 use Rattle.coding.specs.Awaited.{types, further, awaited}
-use Rattle.coding.specs.Tags.{identifierOf, last, before, explicitTags, own, explicit, beginsBody, beginsItem, beginsIn, begins}
+use Rattle.coding.specs.Tags.{identifierOf, last, before, explicitTags, own, explicit}
+use Rattle.coding.proofs.Awaited.{beginsBody, beginsItem, beginsIn, begins}
 
 -- i begins one of the types
 abbrev pub beginsAny : Table → List ℕ → List ℕ → Bool
@@ -88,10 +90,6 @@ or-left : (a b : Bool) → a ≡ true → (a || b) ≡ true
 or-left true b e = refl
 or-left false b e = absurd (false≢true e)
 
-or-cases : {C : Type 0} (a b : Bool) → (a || b) ≡ true → (a ≡ true → C) → (b ≡ true → C) → C
-or-cases true b e h k = h refl
-or-cases false b e h k = k e
-
 never : (a : Bool) → (a ≡ true → ⊥) → a ≡ false
 never true h = absurd (h refl)
 never false h = refl
@@ -100,7 +98,7 @@ any-mono : (f g : ℕ → Bool) (ts : List ℕ) → ((u : ℕ) → In u ts → f
 unfolding any
 any-mono f g [] h e = e
 any-mono f g (t ∷ ts) h e =
-    or-cases (f t) (any f ts) e (λ x. or-left (g t) _ (h t (List·Memᴰ·head refl) x)) (λ x. or-right (g t) _ (any-mono f g ts (λ u m. h u (List·Memᴰ·tail m)) x))
+    or-by (f t) (any f ts) e (λ x. or-left (g t) _ (h t (List·Memᴰ·head refl) x)) (λ x. or-right (g t) _ (any-mono f g ts (λ u m. h u (List·Memᴰ·tail m)) x))
 
 -- the element that passes, and its place
 record Found (f : ℕ → Bool) (ts : List ℕ) : Type 0 where
@@ -115,7 +113,7 @@ any-found : (f : ℕ → Bool) (ts : List ℕ) → any f ts ≡ true → Found f
 unfolding any
 any-found f [] e = absurd (false≢true e)
 any-found f (t ∷ ts) e =
-    or-cases (f t) (any f ts) e
+    or-by (f t) (any f ts) e
     (λ x. record { element = t; among = List·Memᴰ·head refl; passes = x; place = 0; within = omega arith; there = refl })
     (λ x. let y = any-found f ts x in let h = y .within in
     record { element = y .element; among = List·Memᴰ·tail (y .among); passes = y .passes; place = suc (y .place); within = omega arith; there = y .there })
@@ -370,10 +368,6 @@ module _ (T : Table) (n : ℕ) (p : Passes T n) (few : n ≤ 128) where
         f 0 (suc (y .place)) (omega arith) (omega arith) x e (rw (y .there) (y .passes))),
     distinct-from ts (λ i j lt w. f (suc i) (suc j) (omega arith) (omega arith)),
   )
-
-  or-false : (a b : Bool) → (a || b) ≡ false → (a ≡ false) × (b ≡ false)
-  or-false true b e = absurd (true≢false e)
-  or-false false b e = (refl, e)
 
   some-false : (f : ℕ → Bool) (ms : List Member) → any f (types ms) ≡ false → any f (awaited ms) ≡ false
   unfolding any awaited

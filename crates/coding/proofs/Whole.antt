@@ -17,7 +17,8 @@ use Rattle.coding.specs.Encodes.{Encodes}
 use Rattle.coding.specs.Typed.{WellTyped}
 use Rattle.coding.specs.Shaped.{Shaped}
 use Rattle.coding.specs.Outcome.{levels, longestValue, longestMessage, Outcome, done, readOutcome, writeOutcome, afterCheck, wholeRead, wholeWrite}
-use Rattle.coding.specs.Theorems.{Read, exactly, Received, received, Sent, sent, Wrote, writes-only}
+use Rattle.coding.specs.Demands.{Read, Received, Sent, Wrote}
+use Rattle.coding.proofs.Theorems.{exactly, received, sent, writes-only}
 
 -- the records of a table's octets by number, and their count
 abbrev pub tableOf : List ℕ → Table

@@ -9,23 +9,27 @@ use native.Mathlib.Omega.{arith}
 use Prim.Native.Nat.{ℕ, zero, suc, _+_, _<_}
 use lib.ListN.{length, getD, length-append}
 use lib.Seq.{append-snoc}
-use Rattle.octets.specs.Answer.{Answer, got, refused, then, if, none-left, run, Reads}
+use Rattle.octets.specs.Answer.{Answer, got, refused, then, if, none-left}
 use Rattle.octets.specs.Lists.{any, joined}
-use Rattle.octets.specs.Permutations.{flat, joined-flat, Sel, Sel.here, Sel.there, Perm, Perm.none as none-p, Perm.next, Each, nil, cons, Order, Arranged, arranged-each, Every, every-cons}
-use Rattle.ber.specs.Identifier.{readIdentifier}
-use Rattle.ber.specs.IdentifierLaws.{Begun}
-use Rattle.ber.specs.Item.{Mode, Definite, sized, Constructed, in-size, in-marks, atEnd}
-use Rattle.ber.specs.ItemLaws.{Ends, no-more, mark, atEnd-end, atEnd-more, Readable, constructed-complete, primitive-complete}
+use Rattle.octets.specs.Permutations.{Sel, Sel.here, Sel.there, Perm, Perm.none as none-p, Perm.next, Each, nil, cons, Order, Arranged, Every, every-cons}
+use Rattle.octets.proofs.Answer.{run, Reads}
+use Rattle.octets.proofs.Permutations.{flat, joined-flat, arranged-each}
+use Rattle.octets.proofs.Tests.{or-by, and-left, and-right}
+use Rattle.ber.specs.Reading.{readIdentifier, Mode, atEnd}
+use Rattle.ber.specs.Item.{Definite, sized, Constructed, in-size, in-marks}
+use Rattle.ber.proofs.Identifier.{Begun}
+use Rattle.ber.proofs.Item.{Ends, no-more, mark, atEnd-end, atEnd-more, Readable, constructed-complete, primitive-complete}
 use Rattle.table.specs.Syntax.{Member, Body, Sequence, Set, SequenceOf, SetOf, Table, isChoice}
 use Rattle.coding.specs.Value.{Value, leaf, sequence, set, sequenceOf, setOf, choice, slots, bag}
-use Rattle.coding.specs.ContentLaws.{content-complete}
-use Rattle.coding.specs.Tags.{own, explicit, begins}
+use Rattle.coding.specs.Tags.{own, explicit}
+use Rattle.coding.specs.Awaited.{types, further, awaited}
 use Rattle.coding.specs.Encodes.{allowed, Coding, Pieces, done, left, sent, At, first, later, Codes, is-plain, is-sequence, is-set, is-sequence-of, is-set-of, is-choice, Wrapped, bare, tagged, EncodesAt}
 use Rattle.coding.specs.Equivalent.{Slot, Alike, same-leaf, same-sequence, same-set, same-sequence-of, same-set-of, same-choice, EquivalentAt}
 use Rattle.coding.specs.Reading.{passes, begun, nothing, full, readWrapped, readSequence, place, readSet, readMany, choose, readBody, readKind, readValue}
-use Rattle.coding.specs.Awaited.{types, further, awaited}
-use Rattle.coding.specs.FirstTags.{beginsAny, Distinct, Apart, GoodBody, Proper, proper-readable, proper-begun, Begins, Good}
-use Rattle.coding.specs.Sound.{Pending, p-done, p-left, p-sent, p-have}
+use Rattle.coding.proofs.Content.{content-complete}
+use Rattle.coding.proofs.Awaited.{begins}
+use Rattle.coding.proofs.FirstTags.{beginsAny, Distinct, Apart, GoodBody, Proper, proper-readable, proper-begun, Begins, Good}
+use Rattle.coding.proofs.Sound.{Pending, p-done, p-left, p-sent, p-have}
 
 -- m begins with identifier octets with which encodings of the type t begin; of one of the types ts
 pub record Starts (T : Table) (t : ℕ) (m : List ℕ) : Type 0 where
@@ -47,18 +51,6 @@ or-left false b e = absurd (false≢true e)
 or-right : (a b : Bool) → b ≡ true → (a || b) ≡ true
 or-right true b e = refl
 or-right false b e = e
-
-pub or-cases : {C : Type 0} (a b : Bool) → (a || b) ≡ true → (a ≡ true → C) → (b ≡ true → C) → C
-or-cases true b e h k = h refl
-or-cases false b e h k = k e
-
-pub and-left : (a b : Bool) → (a && b) ≡ true → a ≡ true
-and-left true b e = refl
-and-left false b e = e
-
-pub and-right : (a b : Bool) → (a && b) ≡ true → b ≡ true
-and-right true b e = e
-and-right false b e = absurd (false≢true e)
 
 pub never : (a : Bool) → (a ≡ true → ⊥) → a ≡ false
 never true h = absurd (h refl)
@@ -99,7 +91,7 @@ module _ {T : Table} where
 any-proper : (T : Table) → Good T → (ts i : List ℕ) → beginsAny T i ts ≡ true → Proper i
 unfolding any
 any-proper T good [] i e = absurd (false≢true e)
-any-proper T good (t ∷ ts) i e = or-cases (begins T t i) _ e (good t .first i) (any-proper T good ts i)
+any-proper T good (t ∷ ts) i e = or-by (begins T t i) _ e (good t .first i) (any-proper T good ts i)
 
 no-zero : Proper (0 ∷ []) → ⊥
 no-zero p = let b = proper-begun p in let e : 0 ≡ b .head = ap (λ (l : List ℕ). getD l 0 0) (b .is) in let z = b .not-zero in omega arith

@@ -1,17 +1,19 @@
 -- What is promised of reading and writing: demands 2 and 3 over the outcomes, with 8,192, 16,384, 24 levels and the buffer's length in them.
 -- Assumes nothing.
-use borrow.Author.Tests.{leb-true, le-leb, lt-leb, lt-ltb}
-use mathlib.Core.Bool.{true, false, not, true≢false}
-use mathlib.Core.List.{List, [], _∷_, _++_, append-nil}
+use borrow.Author.Tests.{leb-true, le-leb, lt-leb, lt-ltb, not-false}
+use mathlib.Core.Bool.{true, false, not}
+use mathlib.Core.List.{List, [], _++_, append-nil}
 use mathlib.Core.Logic.{_↔_}
 use mathlib.Core.Path.{_≡_, refl, sym, ap, subst, _∙_}
 use native.Mathlib.Omega.{arith}
 use Prim.Native.Nat.{ℕ, _≤_, _<_, min, max}
 use lib.Dec.{ltb, leb}
 use lib.ListN.{length, drop}
-use Rattle.octets.specs.Answer.{Answer, got, refused, none-left, run, Holds, yields, refuses, if-holds, if-cases, then-holds, got-holds, got-value, got-rest, Reads}
+use Rattle.octets.specs.Answer.{Answer, got, refused, none-left}
 use Rattle.octets.specs.Numbers.{Octets}
-use Rattle.octets.specs.Permutations.{all-octets, Order, any-order, as-given}
+use Rattle.octets.specs.Permutations.{Order, any-order, as-given}
+use Rattle.octets.proofs.Answer.{run, Holds, yields, refuses, if-holds, if-cases, then-holds, got-holds, got-value, got-rest, Reads, none-there}
+use Rattle.octets.proofs.Permutations.{all-octets}
 use Rattle.table.specs.Syntax.{Table}
 use Rattle.table.specs.Passes.{Passes}
 use Rattle.coding.specs.Value.{Value, octets, depth}
@@ -21,23 +23,18 @@ use Rattle.coding.specs.Equivalent.{EquivalentAt, Equivalent}
 use Rattle.coding.specs.Form.{formAt}
 use Rattle.coding.specs.Reading.{begun, readValue, readMessage}
 use Rattle.coding.specs.Outcome.{levels, longestValue, longestMessage, Outcome, Told, done, refusal, Refusal, refuse, write-at-start, afterReading, readOutcome, of-value, afterJudging, writeOutcome}
-use Rattle.coding.specs.ContentLaws.{not-false}
-use Rattle.coding.specs.Sound.{value-sound, not-awaited}
-use Rattle.coding.specs.FirstTags.{Good, good, proper-readable}
-use Rattle.coding.specs.Complete.{value-complete, starts-at, next-is, started-some}
-use Rattle.coding.specs.Levels.{relevel, retype, well-typed, deep, in-some-order}
-use Rattle.coding.specs.FormLaws.{form-encodes}
 use Rattle.coding.specs.Shaped.{Shaped}
+use Rattle.coding.specs.Demands.{Read, Received, Sent, Wrote}
 use Rattle.coding.specs.Judging.{judgeWhole}
-use Rattle.coding.specs.JudgingLaws.{judge-whole, judge-octets}
-use Rattle.coding.specs.ShapedLaws.{Limited, equivalent-shaped, encodes-shaped}
 use Rattle.coding.specs.declared.ValueCause.the-variants.{Room as RoomV}
-use Rattle.coding.specs.Equivalence.{equivalent-length, equivalent-equal, equivalent-sym, equivalent-trans}
-
-none-there : (r : List ℕ) → none-left r ≡ true → r ≡ []
-unfolding none-left
-none-there [] e = refl
-none-there (b ∷ r) e = absurd (true≢false (sym e))
+use Rattle.coding.proofs.Sound.{value-sound, not-awaited}
+use Rattle.coding.proofs.FirstTags.{Good, good, proper-readable}
+use Rattle.coding.proofs.Complete.{value-complete, starts-at, next-is, started-some}
+use Rattle.coding.proofs.Levels.{relevel, retype, well-typed, deep, in-some-order}
+use Rattle.coding.proofs.Form.{form-encodes}
+use Rattle.coding.proofs.Judging.{judge-whole, judge-octets}
+use Rattle.coding.proofs.Shaped.{Limited, equivalent-shaped, encodes-shaped}
+use Rattle.coding.proofs.Equivalence.{equivalent-length, equivalent-equal, equivalent-sym, equivalent-trans}
 
 -- an accepted message is an encoding of the value that is read
 message-holds : (o : Order) (T : Table) (n t : ℕ) (m : List ℕ) → Holds (λ v r. (r ≡ []) × EncodesAt o T n t v m) (readMessage T n t m)
@@ -104,20 +101,6 @@ unfolding readOutcome afterReading
 read-done T n t m buf v r lt h k l e =
     simp (run, lt-ltb t n lt, le-leb (length m) 8192 h, e, afterReading, le-leb (length (octets v)) (min 16384 (length buf)) (omega arith))
 
--- What the reader tells when it is done: a value of the type, well-typed, at most 24 levels deep, in at most 16,384 octets, for which X.690 permits the
--- message, with the elements of SET OF in the order of arrival. Its length is told, its octets stand at the start of the buffer, the rest is as it was.
-pub record Read (T : Table) (t : ℕ) (m buf : List ℕ) (k : ℕ) (after : List ℕ) : Type 0 where
-  pub within : length m ≤ longestMessage
-  pub value : Value
-  pub arrives : Arrives T t value m
-  pub encodes : Encodes T t value m
-  pub typed : WellTyped T t value
-  pub deep : depth value ≤ levels
-  pub short : length (octets value) ≤ longestValue
-  pub room : length (octets value) ≤ length buf
-  pub told : k ≡ length (octets value)
-  pub buffer : after ≡ octets value ++ drop (length (octets value)) buf
-
 refusal≢done : {C : Type 0} {r : Refusal} {k : ℕ} → refusal r ≡ done k → C
 refusal≢done e = absurd (subst IsRefusal e tt)
   where
@@ -181,18 +164,6 @@ exactly T n p few t m buf lt o k after = (
     told-same : {j : ℕ} {w : List ℕ} → k ≡ j → after ≡ w → _≡_ {A = Outcome} (record { answer = done j; buffer = w }) (record { answer = done k; buffer = after })
     told-same x y = rw (x, y)
 
--- Demand 3, the receiver: any value at most 24 levels deep, any of the encodings that X.690 permits for it in at most 8,192 octets, any buffer at least as long as the
--- value: the reader is done with the value's length, and the buffer begins with the octets of a value equivalent to the sender's. The octets after them are as they were.
-pub record Received (T : Table) (t : ℕ) (v : Value) (buf : List ℕ) (x : Outcome) : Type 0 where
-  pub value : Value
-  pub equivalent : Equivalent v value
-  pub answer : x .answer ≡ done (length (octets v))
-  pub start : x .buffer ≡ octets value ++ drop (length (octets v)) buf
-  pub size : length (octets value) ≡ length (octets v)
-  pub shaped : Shaped v → Shaped value
-  pub typed : WellTyped T t value
-  pub deep : depth value ≤ levels
-
 pub received : (T : Table) (n : ℕ) → Passes T n → n ≤ 128 → (t : ℕ) (v : Value) (m buf : List ℕ) → t < n → depth v ≤ levels → length (octets v) ≤ longestValue
     → Octets m → Encodes T t v m → length m ≤ longestMessage → length (octets v) ≤ length buf → Received T t v buf (readOutcome T n t m buf)
 received T n p few t v m buf lt d k o e h l =
@@ -238,13 +209,6 @@ write-lacks : (f : Value → List ℕ) (b buf : List ℕ) (v : Value) (r : List 
 unfolding afterJudging
 write-lacks f b buf v r h = simp (run, lt-leb (length (f v)) (min 8192 (length buf)) h)
 
--- Demand 3, the sender: for each value that is well-typed for the type, at most 24 levels deep and in at most 16,384 octets, whatever buffer is lent, the writer is done
--- exactly when the form fixed for it fits the buffer and 8,192 octets. What it then wrote, of the length it tells, is that form, and one of the permitted encodings.
-pub record Sent (T : Table) (t : ℕ) (v : Value) (buf : List ℕ) (x : Outcome) : Type 0 where
-  pub when-it-fits : length (formAt T levels t v) ≤ longestMessage → length (formAt T levels t v) ≤ length buf → x ≡ write-at-start (formAt T levels t v) buf
-  pub else-14 : min longestMessage (length buf) < length (formAt T levels t v) → x ≡ refuse (of-value RoomV) buf
-  pub encodes : length (formAt T levels t v) ≤ longestMessage → Encodes T t v (formAt T levels t v)
-
 form-permitted : (T : Table) (t : ℕ) (v : Value) → WellTypedAt T levels t v → length (formAt T levels t v) ≤ longestMessage → Encodes T t v (formAt T levels t v)
 form-permitted T t v w h = record { level = levels; encodes = form-encodes any-order T levels t v w (omega arith) }
 
@@ -258,20 +222,6 @@ sent T n t v buf lt w d s h =
       else-14 = λ k. q ∙ write-lacks (formAt T levels t) (octets v) buf v [] k;
       encodes = form-permitted T t v a;
     }
-
--- What the writer tells when it is done: the octets were those of a value of the type within the limits, and what stands in the buffer is the one form fixed for it.
-pub record Wrote (T : Table) (t : ℕ) (b buf : List ℕ) (k : ℕ) (after : List ℕ) : Type 0 where
-  pub value : Value
-  pub is : b ≡ octets value
-  pub shaped : Shaped value
-  pub typed : WellTyped T t value
-  pub deep : depth value ≤ levels
-  pub short : length b ≤ longestValue
-  pub within : length (formAt T levels t value) ≤ longestMessage
-  pub room : length (formAt T levels t value) ≤ length buf
-  pub told : k ≡ length (formAt T levels t value)
-  pub buffer : after ≡ formAt T levels t value ++ drop (length (formAt T levels t value)) buf
-  pub encodes : Encodes T t value (formAt T levels t value)
 
 after-judged : (T : Table) (t : ℕ) (b buf : List ℕ) → Octets b → length b ≤ longestValue → (x : Answer Value) → judgeWhole T levels t b ≡ x → IfDone (Wrote T t b buf) (afterJudging (formAt T levels t) b buf x)
 unfolding afterJudging

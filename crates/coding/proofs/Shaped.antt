@@ -1,7 +1,7 @@
 -- A value equivalent to one that has octets has octets; so does every value that is read from a message of at most 8,192 octets.
 -- Assumes nothing.
 use borrow.Author.Tests.{leb-true, ltb-true, ltb-false}
-use mathlib.Core.Bool.{Bool, true, false, _&&_, false≢true}
+use mathlib.Core.Bool.{true, _&&_}
 use mathlib.Core.List.{List, [], _∷_}
 use mathlib.Core.Option.{Option, some, none}
 use mathlib.Core.Path.{_≡_, refl, ap, _∙_}
@@ -10,14 +10,15 @@ use Prim.Native.Nat.{ℕ, zero, suc, _≤_, _<_}
 use lib.Dec.{leb, ltb}
 use lib.ListN.{length, length-append}
 use Rattle.octets.specs.Lists.{joined, all}
-use Rattle.octets.specs.Tests.{test}
-use Rattle.octets.specs.Permutations.{Perm, Perm·sym, Sel, Sel.here, Sel.there, Perm.none as none-p, Perm.next, Each, nil, cons, Every, every-nil, every-cons, every-perm, AllOctets, joined-octets, Order, arranged-perm}
-use Rattle.ber.specs.IntegerLaws.{integer-fits}
+use Rattle.octets.specs.Permutations.{Perm, Sel, Sel.here, Sel.there, Perm.none as none-p, Perm.next, Each, nil, cons, Every, every-nil, every-cons, AllOctets, Order}
+use Rattle.octets.proofs.Tests.{test, and-right}
+use Rattle.octets.proofs.Permutations.{Perm·sym, every-perm, joined-octets, arranged-perm}
 use Rattle.ber.specs.BitString.{masked}
-use Rattle.ber.specs.BitStringLaws.{masked-masked, masked-unused, masked-octets}
 use Rattle.ber.specs.Length.{short, long}
 use Rattle.ber.specs.Item.{Definite, sized, Constructed, in-size, in-marks}
-use Rattle.ber.specs.ItemLaws.{definite-octets, constructed-octets}
+use Rattle.ber.proofs.Integer.{integer-fits}
+use Rattle.ber.proofs.BitString.{masked-masked, masked-unused, masked-octets}
+use Rattle.ber.proofs.Item.{definite-octets, constructed-octets}
 use Rattle.table.specs.Syntax.{Member, Simple, Boolean, Integer, BitString, OctetString, Null, Enumerated, Body, Plain, Sequence, Set, SequenceOf, SetOf, Choice, Record, Table, absent}
 use Rattle.table.specs.Octets.{bodyShaped, recordShaped}
 use Rattle.table.specs.Passes.{Passes}
@@ -26,7 +27,7 @@ use Rattle.coding.specs.Content.{listed, Content, c-boolean, c-integer, 
 use Rattle.coding.specs.Encodes.{Coding, Pieces, done, left, sent, At, first, later, Codes, is-plain, is-sequence, is-set, is-sequence-of, is-set-of, is-choice, Wrapped, bare, tagged, EncodesAt}
 use Rattle.coding.specs.Equivalent.{Slot, Alike, same-leaf, same-sequence, same-set, same-sequence-of, same-set-of, same-choice, EquivalentAt}
 use Rattle.coding.specs.Shaped.{LeafShaped, Whole, Shaped, AllShaped}
-use Rattle.coding.specs.Refusals.{encodes-some}
+use Rattle.coding.proofs.Refusals.{encodes-some}
 
 -- elements
 
@@ -219,14 +220,6 @@ encodes-shaped o T l zero t v m a h e = absurd e
 encodes-shaped o T l (suc n) t v m a h e =
     let (c, b, k, x) = wrapped-inner a h e in
     kind-shaped (encodes-some o T n) (encodes-shaped o T l n) (l t) b k x
-
-and-left : (a b : Bool) → (a && b) ≡ true → a ≡ true
-and-left true b e = refl
-and-left false b e = e
-
-and-right : (a b : Bool) → (a && b) ≡ true → b ≡ true
-and-right true b e = e
-and-right false b e = absurd (false≢true e)
 
 shaped-limited : (b : Body) → bodyShaped b ≡ true → ((ns : List ℕ) → b ≡ Plain (Enumerated ns) → (k : ℕ) → listed ns k ≡ true → k < 65536) → Limited b
 unfolding bodyShaped Limited

@@ -6,7 +6,8 @@ use mathlib.Core.Path.{_≡_, refl, ap}
 use native.Mathlib.Omega.{arith}
 use Prim.Native.Nat.{ℕ, zero, suc, _+_, _≤_}
 use lib.ListN.{length, length-append}
-use Rattle.octets.specs.Permutations.{Sel, Sel.here, Sel.there, Perm, Perm.none as none-p, Perm.next, Perm·sym, Perm·trans, Each, nil, cons, each-flip, each-map, each-then, Order, as-given, Arranged, permuted, kept, arranged-each, arranged-perm}
+use Rattle.octets.specs.Permutations.{Sel, Sel.here, Sel.there, Perm, Perm.none as none-p, Perm.next, Each, nil, cons, Order, as-given, Arranged, permuted, kept}
+use Rattle.octets.proofs.Permutations.{Perm·sym, Perm·trans, each-flip, each-map, each-then, arranged-each, arranged-perm}
 use Rattle.coding.specs.Value.{Leaf, Value, leaf, sequence, set, sequenceOf, setOf, choice, Slots, end, missing, present, slots, bag, presence, octets, parts}
 use Rattle.coding.specs.Equivalent.{Slot, Alike, same-leaf, same-sequence, same-set, same-sequence-of, same-set-of, same-choice, EquivalentAt}
 

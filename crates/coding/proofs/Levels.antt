@@ -4,13 +4,14 @@ use mathlib.Core.List.{List}
 use mathlib.Core.Option.{Option}
 use native.Mathlib.Omega.{arith}
 use Prim.Native.Nat.{ℕ, zero, suc, _≤_}
-use Rattle.octets.specs.Permutations.{Each, nil, cons, Every, every-nil, every-cons, every-perm, AllOctets, joined-octets, Order, any-order, arranged-perm, permuted}
-use Rattle.ber.specs.ItemLaws.{definite-octets, constructed-octets}
+use Rattle.octets.specs.Permutations.{Each, nil, cons, Every, every-nil, every-cons, AllOctets, Order, any-order, permuted}
+use Rattle.octets.proofs.Permutations.{every-perm, joined-octets, arranged-perm}
+use Rattle.ber.proofs.Item.{definite-octets, constructed-octets}
 use Rattle.table.specs.Syntax.{Member, Body, Table}
 use Rattle.coding.specs.Value.{Value, leaf, sequence, set, sequenceOf, setOf, choice, slots, bag, depth, depths}
-use Rattle.coding.specs.ContentLaws.{content-typed}
 use Rattle.coding.specs.Encodes.{Coding, Pieces, done, left, sent, Codes, is-plain, is-sequence, is-set, is-sequence-of, is-set-of, is-choice, Wrapped, bare, tagged, EncodesAt}
 use Rattle.coding.specs.Typed.{Fits, f-done, f-left, f-sent, Typed, t-plain, t-sequence, t-set, t-sequence-of, t-set-of, t-choice, WellTypedAt}
+use Rattle.coding.proofs.Content.{content-typed}
 
 pub wrapped-map : {C D : List ℕ → Type 0} {is : List (List ℕ)} {m : List ℕ} → ((c : List ℕ) → C c → D c) → Wrapped C is m → Wrapped D is m
 wrapped-map f (bare c) = bare (f _ c)

@@ -7,9 +7,10 @@ use Prim.Native.Nat.{ℕ, suc, _-_}
 use lib.IntN.{ℤ, pos, negsuc}
 use lib.ListN.{length}
 use Rattle.octets.specs.Answer.{Answer, got, refused, if, then, behind, none-left}
-use Rattle.ber.specs.Identifier.{leading, following, identifier, readFollowing, readIdentifier, same}
-use Rattle.ber.specs.Length.{number, digits, lengthOctets, fit, readLong, readLength}
-use Rattle.ber.specs.Item.{readHeader, inside, readConstructed}
+use Rattle.octets.specs.Lists.{same}
+use Rattle.ber.specs.Identifier.{leading, following, identifier}
+use Rattle.ber.specs.Reading.{readFollowing, readIdentifier, fit, readLong, readLength, readHeader, inside, readConstructed}
+use Rattle.ber.specs.Length.{number, digits, lengthOctets}
 use Rattle.ber.specs.Integer.{spare, minimal, eight, eightOf, fewest, fewestOf}
 
 -- what is written, and the octets that it should be

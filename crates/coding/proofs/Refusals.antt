@@ -1,42 +1,37 @@
 -- Every answer names one cause, one of document 01's, and one place, within what was handed in; on a refusal the buffer is as it was.
 -- Assumes nothing.
-use borrow.Author.Tests.{leb-true, leb-false, ltb-true, ltb-false}
+use borrow.Author.Tests.{leb-true, leb-false, ltb-true, ltb-false, not-false, not-true}
 use mathlib.Core.Bool.{Bool, true, false, not}
 use mathlib.Core.List.{List, [], _∷_, _++_}
 use mathlib.Core.Option.{Option, some, none}
-use mathlib.Core.Path.{_≡_, refl, sym, subst}
+use mathlib.Core.Path.{_≡_, refl, subst}
 use native.Mathlib.Omega.{arith}
 use Prim.Native.Nat.{ℕ, zero, suc, _+_, _-_, _≤_, _<_, min}
 use lib.Dec.{ltb, leb}
 use lib.ListN.{length, take, drop, length-append}
 use lib.Seq.{length-take-le}
-use Rattle.octets.specs.Answer.{Answer, got, refused, then, if, behind, Holds, yields, if-holds, then-holds, map-holds, if-cases, got-holds, Taken}
+use Rattle.octets.specs.Answer.{Answer, got, refused, then, if, behind}
 use Rattle.octets.specs.Numbers.{Octets}
-use Rattle.octets.specs.Permutations.{AllOctets, all-octets, every-right, Order, as-given}
-use Rattle.ber.specs.Identifier.{readFollowing, readIdentifier}
-use Rattle.ber.specs.Length.{short, long, Size, definite, indefinite, fit, readLong, readLength}
-use Rattle.ber.specs.LengthLaws.{Shape, is-definite, is-indefinite}
-use Rattle.ber.specs.Item.{Definite, sized, Constructed, in-size, in-marks, Mode, closed, open-ended, atEnd, readHeader, inside, readConstructed, contents, readPrimitive}
-use Rattle.ber.specs.ItemLaws.{Ends, no-more, mark, header-sound}
+use Rattle.octets.specs.Permutations.{AllOctets, Order, as-given}
+use Rattle.octets.proofs.Answer.{Holds, yields, if-holds, then-holds, map-holds, if-cases, got-holds, Taken}
+use Rattle.octets.proofs.Permutations.{all-octets, every-right}
+use Rattle.ber.specs.Reading.{readFollowing, readIdentifier, Size, definite, indefinite, fit, readLong, readLength, Mode, closed, open-ended, atEnd, readHeader, inside, readConstructed, contents, readPrimitive}
+use Rattle.ber.specs.Length.{short, long}
+use Rattle.ber.specs.Item.{Definite, sized, Constructed, in-size, in-marks}
+use Rattle.ber.proofs.Length.{Shape, is-definite, is-indefinite}
+use Rattle.ber.proofs.Item.{Ends, no-more, mark, header-sound}
 use Rattle.table.specs.Syntax.{Member, Simple, Boolean, Integer, BitString, OctetString, Null, Enumerated, Body, Plain, Sequence, Set, SequenceOf, SetOf, Choice, Table}
 use Rattle.coding.specs.Value.{Value, octets}
-use Rattle.coding.specs.Content.{decode}
+use Rattle.coding.specs.Reading.{decode, notAwaited, unwanted, nothing, readWrapped, readSequence, place, readSet, readMany, choose, readBody, readKind, readValue, readMessage}
 use Rattle.coding.specs.Tags.{own, explicit}
 use Rattle.coding.specs.Encodes.{Coding, Codes, is-plain, is-sequence, is-set, is-sequence-of, is-set-of, is-choice, Wrapped, bare, tagged, EncodesAt}
-use Rattle.coding.specs.Reading.{notAwaited, unwanted, nothing, readWrapped, readSequence, place, readSet, readMany, choose, readBody, readKind, readValue, readMessage}
-use Rattle.coding.specs.Sound.{wrapped-sound, kind-sound, value-sound, not-awaited}
 use Rattle.coding.specs.Judging.{Node, a-leaf, a-sequence, a-set, a-sequence-of, a-set-of, a-choice, need, ownMembers, ownCount, ownBoolean, ownInteger, ownString, ownBits, ownEnumerated, ownChoice, readOwn, readNode, judgeMembers, judgeElements, judgeBelow, judgeValue, judgeWhole}
-use Rattle.coding.specs.Shaped.{nodeOctets}
-use Rattle.coding.specs.NodeLaws.{node-sound}
-use Rattle.coding.specs.JudgingLaws.{judge-sound}
 use Rattle.coding.specs.Form.{formAt}
-use Rattle.coding.specs.ContentLaws.{not-false}
 use Rattle.coding.specs.Outcome.{levels, longestValue, longestMessage, Refusal, numberOf, placeOf, Told, done, refusal, Outcome, afterReading, readOutcome, afterJudging, writeOutcome}
 use Rattle.coding.specs.Causes.{valueNumber, valuePlace, messageNumber, messagePlace, valueCause, messageCause}
-
-not-true : (b : Bool) → not b ≡ true → b ≡ false
-not-true true e = sym e
-not-true false e = refl
+use Rattle.coding.proofs.Sound.{wrapped-sound, kind-sound, value-sound, not-awaited}
+use Rattle.coding.proofs.Nodes.{nodeOctets, node-sound}
+use Rattle.coding.proofs.Judging.{judge-sound}
 
 -- An answer that refuses names a number that K allows, and a place where at most n octets are left.
 pub data Speaks {A : Type 0} (K : ℕ → Type 0) (n : ℕ) : Answer A → Type 0 where

@@ -2,10 +2,10 @@
 -- Assumes nothing.
 use mathlib.Core.List.{List, [], _∷_}
 use mathlib.Core.Path.{_≡_, refl, ap, _∙_}
-use lib.Pow.{pow-pos}
 use native.Mathlib.Nat.{mul-div-cancel, div-mul-le-self}
 use native.Mathlib.Omega.{arith}
 use Prim.Native.Nat.{ℕ, _*_, _/_, _^_}
+use lib.Pow.{pow-pos}
 use Rattle.octets.specs.Permutations.{AllOctets, every-cons}
 use Rattle.ber.specs.BitString.{unused, masked}
 

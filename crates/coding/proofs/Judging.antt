@@ -1,42 +1,33 @@
 -- Octets are judged to be a value of a type exactly when they are the octets of one; and a tree has one octet form.
 -- Assumes nothing.
-use borrow.Author.Tests.{ltb-true, lt-ltb, eqb-true, eq-eqb}
-use mathlib.Core.Bool.{Bool, true, false, _&&_, true≢false, false≢true}
+use borrow.Author.Tests.{ltb-true, lt-ltb, eqb-true, eq-eqb, not-false}
+use mathlib.Core.Bool.{Bool, true, false, false≢true}
 use mathlib.Core.List.{List, [], _∷_, _++_, append-assoc, append-nil}
 use mathlib.Core.Option.{Option, some, none}
-use mathlib.Core.Logic.{_↔_}
 use mathlib.Core.Path.{_≡_, refl, sym, ap, _∙_}
 use native.Mathlib.Omega.{arith}
-use Prim.Native.Nat.{ℕ, zero, suc, _<_, _≤_}
+use Prim.Native.Nat.{ℕ, zero, suc, _<_}
 use lib.Dec.{eqb}
-use lib.ListN.{length, getD, length-append}
+use lib.ListN.{length, getD}
 use lib.Seq.{append-snoc}
-use Rattle.octets.specs.Answer.{Answer, got, none-left, run, Holds, yields, refuses, if-holds, then-holds, map-holds, got-holds, got-value}
-use Rattle.octets.specs.Numbers.{octetsOf, Octets}
-use Rattle.octets.specs.Lists.{any}
-use Rattle.octets.specs.Permutations.{Every, every-nil, every-cons, every-right, AllOctets, all-octets}
+use Rattle.octets.specs.Answer.{Answer, got, none-left}
+use Rattle.octets.specs.Numbers.{octetsOf}
+use Rattle.octets.specs.Permutations.{Every, every-nil, every-cons, AllOctets}
+use Rattle.octets.proofs.Answer.{run, Holds, yields, refuses, if-holds, then-holds, map-holds, none-there}
+use Rattle.octets.proofs.Permutations.{every-right}
+use Rattle.octets.proofs.Tests.{and-left, and-right}
 use Rattle.table.specs.Syntax.{Member, Simple, Boolean, Integer, BitString, OctetString, Null, Enumerated, Body, Plain, Sequence, Set, SequenceOf, SetOf, Choice, Table}
 use Rattle.table.specs.Octets.{kind}
 use Rattle.table.specs.Rules.{members}
-use Rattle.coding.specs.Value.{Leaf, boolean, integer, bits, string, null, enumerated, Value, leaf, sequence, set, sequenceOf, setOf, choice, Slots, end, missing, present, slots, bag, leafOctets, count, presence, octets, parts, depth, depths}
-use Rattle.coding.specs.Content.{listed, TypedLeaf, l-boolean, l-integer, l-bits, l-string, l-null, l-enumerated}
-use Rattle.coding.specs.ContentLaws.{not-false}
+use Rattle.coding.specs.Value.{Leaf, boolean, integer, bits, string, null, enumerated, Value, leaf, sequence, set, sequenceOf, setOf, choice, Slots, end, missing, present, slots, bag, leafOctets, count, presence, octets, parts}
+use Rattle.coding.specs.Content.{listed}
+use Rattle.coding.specs.Typed.{TypedLeaf, l-boolean, l-integer, l-bits, l-string, l-null, l-enumerated, Fits, f-done, f-left, f-sent, Typed, t-plain, t-sequence, t-set, t-sequence-of, t-set-of, t-choice, WellTypedAt}
 use Rattle.coding.specs.Encodes.{allowed, At, first, later}
-use Rattle.coding.specs.Typed.{Fits, f-done, f-left, f-sent, Typed, t-plain, t-sequence, t-set, t-sequence-of, t-set-of, t-choice, WellTypedAt}
 use Rattle.coding.specs.Form.{element, alternatives}
-use Rattle.coding.specs.FormLaws.{at-index}
-use Rattle.coding.specs.Levels.{shallow}
-use Rattle.coding.specs.Judging.{Node, a-leaf, a-sequence, a-set, a-sequence-of, a-set-of, a-choice, readNode, leafKind, nodeKind, numbers, leafAgrees, agreeing, counts, agrees, judgeMembers, judgeElements, judgeBelow, judgeValue, judgeWhole, anyMembers, anySimple, zeros, anyBody, shapeValue, shapeWhole}
-use Rattle.coding.specs.Shaped.{LeafShaped, Whole, Shaped, AllShaped, flagsOf, leafOwn, nodeOwn, nodeOctets, NodeShaped}
-use Rattle.coding.specs.NodeLaws.{node-sound, node-complete}
-
-and-left : (a b : Bool) → (a && b) ≡ true → a ≡ true
-and-left true b e = refl
-and-left false b e = e
-
-and-right : (a b : Bool) → (a && b) ≡ true → b ≡ true
-and-right true b e = e
-and-right false b e = absurd (false≢true e)
+use Rattle.coding.specs.Judging.{Node, a-leaf, a-sequence, a-set, a-sequence-of, a-set-of, a-choice, readNode, leafKind, nodeKind, numbers, leafAgrees, agreeing, counts, agrees, judgeMembers, judgeElements, judgeBelow, judgeValue, judgeWhole}
+use Rattle.coding.specs.Shaped.{LeafShaped, Whole, Shaped, AllShaped}
+use Rattle.coding.proofs.Form.{at-index}
+use Rattle.coding.proofs.Nodes.{flagsOf, leafOwn, nodeOwn, nodeOctets, NodeShaped, node-sound, node-complete}
 
 -- the body of a kind
 record Kinds (b : Body) : Type 0 where
@@ -215,12 +206,12 @@ module _ (W : ℕ → Value → Type 0) (r : ℕ → List ℕ → Answer Value) 
   typed-choice b ts i {v} q h w = rw q (t-choice {t = getD ts i 0} (at-place ts i (rw q at h)) (rw q at w))
 
   -- what stands below a node, put behind it, is the octets of a value with that node
-  record Below (b : Body) (x : Node) (s : List ℕ) (v : Value) (u : List ℕ) : Type 0 where
-    cut : nodeOctets x ++ s ≡ octets v ++ u
-    typed : Typed W b v
-    shaped : Shaped v
+  pub record Below (b : Body) (x : Node) (s : List ℕ) (v : Value) (u : List ℕ) : Type 0 where
+    pub cut : nodeOctets x ++ s ≡ octets v ++ u
+    pub typed : Typed W b v
+    pub shaped : Shaped v
 
-  below-sound : (b : Body) (x : Node) (s : List ℕ) → AllOctets s → agrees b x ≡ true → NodeShaped x → Holds (Below b x s) (judgeBelow r b x s)
+  pub below-sound : (b : Body) (x : Node) (s : List ℕ) → AllOctets s → agrees b x ≡ true → NodeShaped x → Holds (Below b x s) (judgeBelow r b x s)
   unfolding judgeBelow agrees counts nodeKind nodeOwn NodeShaped octets Shaped
   below-sound b (a-leaf x) s o e h =
       let (k, q, l) = leaf-typed b x (and-left (eqb (leafKind x) (kind b)) _ e) (and-right (eqb (leafKind x) (kind b)) _ e) h in
@@ -282,7 +273,7 @@ judge-sound T (suc n) t s o =
 
 -- what stands there is judged
 
-unfoldable presentOf : Slots → List Bool
+unfoldable pub presentOf : Slots → List Bool
 presentOf end = []
 presentOf (missing s) = false ∷ presentOf s
 presentOf (present v s) = true ∷ presentOf s
@@ -309,7 +300,7 @@ allowed-agreeing (m ∷ ms) (none ∷ os) e = let op : m .optional ≡ true = an
 allowed-agreeing (m ∷ ms) (some v ∷ os) e = allowed-agreeing ms os e
 
 -- the node of a value
-unfoldable nodeOf : Value → Node
+unfoldable pub nodeOf : Value → Node
 nodeOf (leaf x) = a-leaf x
 nodeOf (sequence s) = a-sequence (presentOf s)
 nodeOf (set s) = a-set (presentOf s)
@@ -356,13 +347,13 @@ module _ (W : ℕ → Value → Type 0) (r : ℕ → List ℕ → Answer Value) 
       (simp run (elements-judged (acc ++ (v ∷ [])) s f (h .1) ∙ rw append-snoc))
 
   -- the node is read, agrees, and the value is judged below it
-  record Seen (b : Body) (v : Value) (s : List ℕ) : Type 0 where
-    rest : List ℕ
-    reading : readNode (octets v ++ s) ≡ got (nodeOf v) rest
-    agreed : agrees b (nodeOf v) ≡ true
-    below : judgeBelow r b (nodeOf v) rest ≡ got v s
+  pub record Seen (b : Body) (v : Value) (s : List ℕ) : Type 0 where
+    pub rest : List ℕ
+    pub reading : readNode (octets v ++ s) ≡ got (nodeOf v) rest
+    pub agreed : agrees b (nodeOf v) ≡ true
+    pub below : judgeBelow r b (nodeOf v) rest ≡ got v s
 
-  seen : (b : Body) (v : Value) (s : List ℕ) → Typed W b v → Shaped v → Seen b v s
+  pub seen : (b : Body) (v : Value) (s : List ℕ) → Typed W b v → Shaped v → Seen b v s
   unfolding octets Shaped NodeShaped nodeOf nodeKind nodeOwn agrees counts kind members element alternatives judgeBelow
   seen b v s (t-plain {x = x} l) h =
       record { rest = s; reading = ap (λ (l : List ℕ). readNode (l ++ s)) (leaf-octets x) ∙ node-complete (a-leaf x) s h; agreed = leaf-agrees l; below = refl }
@@ -410,160 +401,6 @@ judge-complete T zero t v s w h = absurd w
 judge-complete T (suc n) t v s w h =
     let x = seen (WellTypedAt T n) (λ u w. judgeValue T n u w) (λ t v s. judge-complete T n t v s) (T t .body) v s w h in
     simp (run, x .reading, x .agreed, x .below)
-
--- the shape alone
-
-any-agreeing : (bs : List Bool) → agreeing (anyMembers bs) bs ≡ true
-unfolding agreeing anyMembers
-any-agreeing [] = refl
-any-agreeing (true ∷ bs) = any-agreeing bs
-any-agreeing (false ∷ bs) = any-agreeing bs
-
-zeros-length : (i : ℕ) → length (zeros i) ≡ suc i
-unfolding zeros
-zeros-length zero = refl
-zeros-length (suc i) = ap suc (zeros-length i)
-
-zeros-at : (i : ℕ) → At 0 (zeros i) i
-unfolding zeros
-zeros-at zero = first
-zeros-at (suc i) = later (zeros-at i)
-
-any-leaf : (x : Leaf) → agrees (Plain (anySimple x)) (a-leaf x) ≡ true
-unfolding agrees nodeKind leafKind kind counts leafAgrees numbers anySimple listed any
-any-leaf (boolean b) = refl
-any-leaf (integer z) = refl
-any-leaf (bits n c) = refl
-any-leaf (string c) = refl
-any-leaf null = refl
-any-leaf (enumerated k) = simp (eq-eqb k k refl)
-
-any-agrees : (x : Node) → agrees (anyBody x) x ≡ true
-unfolding anyBody agrees nodeKind kind counts members alternatives
-any-agrees (a-leaf x) = any-leaf x
-any-agrees (a-sequence bs) = any-agreeing bs
-any-agrees (a-set bs) = any-agreeing bs
-any-agrees (a-sequence-of n) = refl
-any-agrees (a-set-of n) = refl
-any-agrees (a-choice i) = let e = zeros-length i in lt-ltb i (length (zeros i)) (omega arith)
-
-shape-holds : (n t : ℕ) (s : List ℕ) → AllOctets s → Holds (Judged (λ u v. Unit {0}) t s) (shapeValue n s)
-unfolding shapeValue
-shape-holds zero t s o = refuses
-shape-holds (suc n) t s o =
-    then-holds (node-sound s o) λ x s₁ h.
-    map-holds (below-sound (λ u v. Unit {0}) (λ u w. shapeValue n w) (shape-holds n) (anyBody x) x s₁ (every-right (nodeOctets x) (rw (h .0) at o)) (any-agrees x) (h .1)) λ v u y.
-    record { cut = h .0 ∙ y .cut; typed = tt; shaped = y .shaped }
-
-leaf-any : (x : Leaf) → LeafShaped x → TypedLeaf (anySimple x) x
-unfolding LeafShaped anySimple listed any
-leaf-any (boolean b) h = l-boolean
-leaf-any (integer z) h = l-integer h
-leaf-any (bits n c) h = l-bits (h .0) (h .1) (h .2)
-leaf-any (string c) h = l-string (h .0)
-leaf-any null h = l-null
-leaf-any (enumerated k) h = l-enumerated {ns = k ∷ []} {k = k} (record { sfits = omega arith }) (simp (eq-eqb k k refl))
-
-abbrev Low : ℕ → ℕ → Value → Type 0
-Low n t v = depth v ≤ n
-
-record AnyMembers (n : ℕ) (s : Slots) : Type 0 where
-  list : List (Option Value)
-  is : s ≡ slots list
-  fits : Fits (Low n) (anyMembers (presentOf s)) list
-  allowed : allowed (anyMembers (presentOf s)) list ≡ true
-
-any-members : (n : ℕ) (s : Slots) → depths s ≤ n → AnyMembers n s
-unfolding slots presentOf anyMembers allowed depth
-any-members n end h = record { list = []; is = refl; fits = f-done; allowed = refl }
-any-members n (missing s) h =
-    let x = any-members n s h in record { list = none ∷ x .list; is = ap missing (x .is); fits = f-left (x .fits); allowed = x .allowed }
-any-members n (present v s) h =
-    let x = any-members n s (omega arith) in
-    let d : depth v ≤ n = omega arith in
-    record { list = some v ∷ x .list; is = ap (present v) (x .is); fits = f-sent d (x .fits); allowed = x .allowed }
-
-any-elements : (n : ℕ) (s : Slots) → Whole s → depths s ≤ n → (vs : List Value) × (s ≡ bag vs) × Every (Low n 0) vs
-unfolding bag Whole depth
-any-elements n end w h = ([], refl, every-nil)
-any-elements n (missing s) w h = absurd w
-any-elements n (present v s) w h = let (vs, e, a) = any-elements n s w (omega arith) in (v ∷ vs, ap (present v) e, every-cons {x = v} (omega arith) a)
-
-sequence-typed : (n : ℕ) (s : Slots) (os : List (Option Value)) (ms : List Member) → s ≡ slots os → Fits (Low n) ms os → allowed ms os ≡ true → Typed (Low n) (Sequence ms) (sequence s)
-sequence-typed n s os ms e f a = rw e (t-sequence f a)
-
-set-typed : (n : ℕ) (s : Slots) (os : List (Option Value)) (ms : List Member) → s ≡ slots os → Fits (Low n) ms os → allowed ms os ≡ true → Typed (Low n) (Set ms) (set s)
-set-typed n s os ms e f a = rw e (t-set f a)
-
--- a tree is of some type
-any-typed : (n : ℕ) (v : Value) → depth v ≤ suc n → Shaped v → Typed (Low n) (anyBody (nodeOf v)) v
-unfolding depth Shaped anyBody nodeOf
-any-typed n (leaf x) d h = t-plain (leaf-any x h)
-any-typed n (sequence s) d h = let x = any-members n s (omega arith) in sequence-typed n s (x .list) (anyMembers (presentOf s)) (x .is) (x .fits) (x .allowed)
-any-typed n (set s) d h = let x = any-members n s (omega arith) in set-typed n s (x .list) (anyMembers (presentOf s)) (x .is) (x .fits) (x .allowed)
-any-typed n (sequenceOf s) d h = let (vs, e, a) = any-elements n s (h .1) (omega arith) in rw e (t-sequence-of a)
-any-typed n (setOf s) d h = let (vs, e, a) = any-elements n s (h .1) (omega arith) in rw e (t-set-of a)
-any-typed n (choice i v) d h = t-choice {v = v} (zeros-at i) (omega arith)
-
-pub shape-complete : (n : ℕ) (v : Value) (s : List ℕ) → depth v ≤ n → Shaped v → shapeValue n (octets v ++ s) ≡ got v s
-unfolding shapeValue
-shape-complete zero v s d h = absurd (shallow v d)
-shape-complete (suc n) v s d h =
-    let x = seen (Low n) (λ u w. shapeValue n w) (λ t v s. shape-complete n v s) (anyBody (nodeOf v)) v s (any-typed n v d h) h in
-    simp (run, x .reading, x .below)
-
-leaf-some : (x : Leaf) → 1 ≤ length (leafOctets x)
-unfolding leafOctets
-leaf-some (boolean b) = omega arith
-leaf-some (integer z) = omega arith
-leaf-some (bits n c) = omega arith
-leaf-some (string c) = omega arith
-leaf-some null = omega arith
-leaf-some (enumerated k) = omega arith
-
--- a tree has no more levels than octets
-mutual
-  unfolding octets depth
-
-  depth-octets : (v : Value) → depth v ≤ length (octets v)
-  depth-octets (leaf x) = leaf-some x
-  depth-octets (sequence s) = let h = depths-parts s in let e = length-append (presence s) (parts s) in omega arith
-  depth-octets (set s) = let h = depths-parts s in let e = length-append (presence s) (parts s) in omega arith
-  depth-octets (sequenceOf s) = let h = depths-parts s in omega arith
-  depth-octets (setOf s) = let h = depths-parts s in omega arith
-  depth-octets (choice i v) = let h = depth-octets v in omega arith
-
-  depths-parts : (s : Slots) → depths s ≤ length (parts s)
-  depths-parts end = omega arith
-  depths-parts (missing s) = depths-parts s
-  depths-parts (present v s) = let h = depth-octets v in let k = depths-parts s in let e = length-append (octets v) (parts s) in omega arith
-
-none-there : (r : List ℕ) → none-left r ≡ true → r ≡ []
-unfolding none-left
-none-there [] e = refl
-none-there (b ∷ r) e = absurd (true≢false (sym e))
-
-shape-whole : (s : List ℕ) → AllOctets s → Holds (λ v r. (r ≡ []) × (s ≡ octets v) × Shaped v) (shapeWhole s)
-unfolding shapeWhole
-shape-whole s o =
-    then-holds (shape-holds (length s) 0 s o) λ v r x.
-    if-holds _ (λ e. refuses) λ e _.
-    let z : r ≡ [] = none-there r (not-false (none-left r) e) in
-    yields (z, x .cut ∙ ap (λ (l : List ℕ). octets v ++ l) z ∙ append-nil (octets v), x .shaped)
-
-shape-octets : (v : Value) → Shaped v → shapeWhole (octets v) ≡ got v []
-unfolding shapeWhole
-shape-octets v h =
-    let x : shapeValue (length (octets v)) (octets v) ≡ got v [] = rw append-nil at (shape-complete (length (octets v)) v [] (depth-octets v) h) in
-    simp (run, x)
-
--- Octets are judged shaped exactly when they are the form of a tree.
-pub shaped-exactly : (s : List ℕ) → Octets s → (v : Value) → (shapeWhole s ≡ got v []) ↔ ((s ≡ octets v) × Shaped v)
-shaped-exactly s o v = (λ e. let x = got-holds (shape-whole s (all-octets s o)) e in (x .1, x .2), λ x. rw (x .0) (shape-octets v (x .1)))
-
--- A tree has one octet form, and a form is of one tree.
-pub one-form : (v w : Value) → Shaped v → Shaped w → octets v ≡ octets w → v ≡ w
-one-form v w h k e = got-value (sym (shape-octets v h) ∙ ap shapeWhole e ∙ shape-octets w k)
 
 -- what judging the whole accepts is the octets of a value of the type, and nothing more
 pub judge-whole : (T : Table) (n t : ℕ) (b : List ℕ) → AllOctets b → Holds (λ v r. (r ≡ []) × (b ≡ octets v) × WellTypedAt T n t v × Shaped v) (judgeWhole T n t b)

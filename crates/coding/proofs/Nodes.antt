@@ -1,7 +1,7 @@
 -- A node is read exactly where its octets stand.
 -- Assumes nothing.
-use borrow.Author.Tests.{ltb-true, leb-true, eqb-true, lt-ltb, le-leb, eq-eqb}
-use mathlib.Core.Bool.{Bool, true, false, _&&_, false≢true}
+use borrow.Author.Tests.{ltb-true, leb-true, eqb-true, lt-ltb, le-leb, eq-eqb, not-false}
+use mathlib.Core.Bool.{Bool, true, false}
 use mathlib.Core.List.{List, [], _∷_, _++_}
 use mathlib.Core.Path.{_≡_, refl, sym, ap, _∙_}
 use native.Mathlib.Nat.{div-add-mod'}
@@ -10,27 +10,52 @@ use Prim.Native.Nat.{ℕ, zero, suc, _+_, _-_, _*_, _/_, _%_, _≤_, _<_}
 use lib.Dec.{ltb, leb, eqb}
 use lib.ListN.{length, take, drop, length-append, take-append-drop}
 use lib.Seq.{length-take-le, take-append-seam, drop-append-seam}
-use Rattle.octets.specs.Answer.{Answer, got, if, run, Holds, yields, refuses, if-holds, map-holds}
-use Rattle.octets.specs.Lists.{all}
+use Rattle.octets.specs.Answer.{Answer, got, if}
+use Rattle.octets.specs.Lists.{all, same}
 use Rattle.octets.specs.Numbers.{two, octetsOf}
-use Rattle.octets.specs.Permutations.{every-cons, every-left, AllOctets}
-use Rattle.ber.specs.Identifier.{same}
-use Rattle.ber.specs.IdentifierLaws.{same-refl, same-true}
+use Rattle.octets.specs.Permutations.{every-cons, AllOctets}
+use Rattle.octets.proofs.Answer.{run, Holds, yields, refuses, if-holds, map-holds}
+use Rattle.octets.proofs.Permutations.{every-left}
+use Rattle.octets.proofs.Lists.{same-refl, same-true}
+use Rattle.octets.proofs.Tests.{and-left, and-right}
 use Rattle.ber.specs.Integer.{integerOf, eight, eightOf}
-use Rattle.ber.specs.IntegerLaws.{eight-back, eight-same, integer-fits}
 use Rattle.ber.specs.BitString.{unused, masked}
+use Rattle.ber.proofs.Integer.{eight-back, eight-same, integer-fits}
 use Rattle.coding.specs.Value.{Leaf, boolean, integer, bits, string, null, enumerated, flag, bitCount}
-use Rattle.coding.specs.ContentLaws.{not-false}
 use Rattle.coding.specs.Judging.{Node, a-leaf, a-sequence, a-set, a-sequence-of, a-set-of, a-choice, need, flags, ownMembers, ownCount, ownBoolean, ownInteger, ownString, ownBits, ownEnumerated, ownChoice, readOwn, readNode, leafKind, nodeKind}
-use Rattle.coding.specs.Shaped.{LeafShaped, flagsOf, leafOwn, nodeOwn, nodeOctets, NodeShaped}
+use Rattle.coding.specs.Shaped.{LeafShaped}
 
-and-left : (a b : Bool) → (a && b) ≡ true → a ≡ true
-and-left true b e = refl
-and-left false b e = e
+-- the own octets of a node, behind the mark and the kind
+unfoldable pub flagsOf : List Bool → List ℕ
+flagsOf [] = []
+flagsOf (b ∷ bs) = flag b ∷ flagsOf bs
 
-and-right : (a b : Bool) → (a && b) ≡ true → b ≡ true
-and-right true b e = e
-and-right false b e = absurd (false≢true e)
+unfoldable pub leafOwn : Leaf → List ℕ
+leafOwn (boolean b) = flag b ∷ []
+leafOwn (integer z) = eightOf z
+leafOwn (bits n c) = octetsOf (bitCount n c) ++ c
+leafOwn (string c) = octetsOf (length c) ++ c
+leafOwn null = []
+leafOwn (enumerated k) = octetsOf k
+
+unfoldable pub nodeOwn : Node → List ℕ
+nodeOwn (a-leaf x) = leafOwn x
+nodeOwn (a-sequence bs) = length bs ∷ flagsOf bs
+nodeOwn (a-set bs) = length bs ∷ flagsOf bs
+nodeOwn (a-sequence-of n) = octetsOf n
+nodeOwn (a-set-of n) = octetsOf n
+nodeOwn (a-choice i) = i ∷ []
+
+abbrev pub nodeOctets : Node → List ℕ
+nodeOctets x = 0x56 ∷ 0x41 ∷ nodeKind x ∷ nodeOwn x
+
+unfoldable pub NodeShaped : Node → Type 0
+NodeShaped (a-leaf x) = LeafShaped x
+NodeShaped (a-sequence bs) = length bs < 256
+NodeShaped (a-set bs) = length bs < 256
+NodeShaped (a-sequence-of n) = n < 65536
+NodeShaped (a-set-of n) = n < 65536
+NodeShaped (a-choice i) = i < 256
 
 -- what stands in two octets
 

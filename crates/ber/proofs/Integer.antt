@@ -1,13 +1,13 @@
 -- Laws of two's complement: what is written of an integer of 64 bits is read back as it.
 -- Assumes nothing.
+use borrow.Author.Tests.{ltb-true, ltb-false, eqb-true, not-false}
 use mathlib.Core.Path.{_≡_, refl, sym, ap, _∙_}
 use mathlib.Core.Bool.{Bool, true, false, not, _&&_, _||_, true≢false}
 use mathlib.Core.List.{List, [], _∷_}
 use mathlib.Core.Logic.{_⊎_, inl, inr, ⊎-elim}
-use Prim.Native.Nat.{ℕ, suc, _+_, _-_, _*_, _/_, _%_, _^_, _≤_, _<_}
 use native.Mathlib.Nat.{zero-add, pow-suc, pow-le-pow-right}
 use native.Mathlib.Omega.{arith}
-use borrow.Author.Tests.{ltb-true, ltb-false, eqb-true}
+use Prim.Native.Nat.{ℕ, suc, _+_, _-_, _*_, _/_, _%_, _^_, _≤_, _<_}
 use lib.Dec.{ltb, eqb}
 use lib.IntN.{ℤ, pos, negsuc}
 use lib.ListN.{length}
@@ -15,8 +15,8 @@ use mir.Syntax.{w64}
 use mir.Val.{SFits, toZ, ofZ}
 use mir.Facts.{fits-ofZ}
 use mir.ValLaws.{toZ-pos, toZ-neg, toZ-ofZ, ofZ-toZ}
-use Rattle.octets.specs.Answer.{if-cases}
 use Rattle.octets.specs.Permutations.{AllOctets, every-cons}
+use Rattle.octets.proofs.Answer.{if-cases}
 use Rattle.ber.specs.Integer.{negative, digit, pile, signed, integerOf, spare, minimal, eight, eightOf, fewest, fewestOf}
 
 -- the eight octets read back
@@ -83,15 +83,11 @@ spare-says false true false e = inr (refl, refl)
 spare-says false false true e = absurd (true≢false (sym e))
 spare-says false false false e = absurd (true≢false (sym e))
 
-not-true : (b : Bool) → not b ≡ false → b ≡ true
-not-true true e = refl
-not-true false e = absurd (true≢false e)
-
 spare-same : (a b : ℕ) (s : List ℕ) → not (spare a b) ≡ false → integerOf (a ∷ b ∷ s) ≡ integerOf (b ∷ s)
 unfolding spare
 spare-same a b s e =
     ⊎-elim (λ w. rw (eqb-true a 0 (w .0)) (spare-pos b s (w .1))) (λ w. rw (eqb-true a 255 (w .0)) (spare-neg b s (w .1)))
-    (spare-says (eqb a 0) (eqb a 255) (ltb b 128) (not-true _ e))
+    (spare-says (eqb a 0) (eqb a 255) (ltb b 128) (not-false _ e))
 
 pub fewest-same : (s : List ℕ) → integerOf (fewest s) ≡ integerOf s
 unfolding fewest minimal

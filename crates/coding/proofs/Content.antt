@@ -1,27 +1,27 @@
 -- Laws of the contents of simple kinds: what may be sent is read, what is read may be sent and is a leaf of the kind, what is written may be sent.
 -- Assumes nothing.
-use borrow.Author.Tests.{leb-true, le-leb, ne-eqb}
-use lib.Dec.{leb}
-use lib.IntN.{ℤ, pos, negsuc}
-use lib.ListN.{length}
-use mathlib.Core.Bool.{Bool, true, false, not, true≢false, false≢true}
+use borrow.Author.Tests.{leb-true, le-leb, ne-eqb, not-false}
+use mathlib.Core.Bool.{true, false, true≢false, false≢true}
 use mathlib.Core.List.{List, [], _∷_}
 use mathlib.Core.Path.{_≡_, refl, _∙_}
 use native.Mathlib.Omega.{arith}
 use Prim.Native.Nat.{ℕ, suc}
-use Rattle.octets.specs.Answer.{got, none-left, Holds, yields, refuses, if-holds, run}
+use lib.Dec.{leb}
+use lib.IntN.{ℤ, pos, negsuc}
+use lib.ListN.{length}
+use Rattle.octets.specs.Answer.{got, none-left}
 use Rattle.octets.specs.Permutations.{AllOctets, every-cons}
+use Rattle.octets.proofs.Answer.{Holds, yields, refuses, if-holds, run}
 use Rattle.ber.specs.Integer.{integerOf, minimal, fewestOf}
-use Rattle.ber.specs.IntegerLaws.{fewest-written, integer-fits}
 use Rattle.ber.specs.BitString.{unused}
-use Rattle.ber.specs.BitStringLaws.{masked-masked, masked-unused, masked-octets}
+use Rattle.ber.proofs.Integer.{fewest-written, integer-fits}
+use Rattle.ber.proofs.BitString.{masked-masked, masked-unused, masked-octets}
 use Rattle.table.specs.Syntax.{Simple, Boolean, Integer, BitString, OctetString, Null, Enumerated}
 use Rattle.coding.specs.Value.{Leaf}
-use Rattle.coding.specs.Content.{listed, Content, c-boolean, c-integer, c-bits, c-string, c-null, c-enumerated, TypedLeaf, l-boolean, l-integer, l-bits, l-string, l-null, l-enumerated, encode, isListed, natural, decode}
-
-pub not-false : (b : Bool) → not b ≡ false → b ≡ true
-not-false true e = refl
-not-false false e = absurd (true≢false e)
+use Rattle.coding.specs.Content.{listed, Content, c-boolean, c-integer, c-bits, c-string, c-null, c-enumerated}
+use Rattle.coding.specs.Typed.{TypedLeaf, l-boolean, l-integer, l-bits, l-string, l-null, l-enumerated}
+use Rattle.coding.specs.Form.{encode}
+use Rattle.coding.specs.Reading.{isListed, natural, decode}
 
 pub content-complete : {k : Simple} {x : Leaf} {c : List ℕ} (l : ℕ) (s : List ℕ) → Content k x c → decode k l c s ≡ got x s
 unfolding decode isListed

@@ -1,0 +1,82 @@
+-- The reading of items: identifier octets, length octets, contents and their end, with the refusals 22, 23 and 24 and their places.
+-- Assumes nothing.
+use mathlib.Core.List.{List, [], _∷_, _++_}
+use mathlib.Core.Bool.{not}
+use Prim.Native.Nat.{ℕ, suc, _+_, _%_, _-_}
+use lib.Dec.{ltb, eqb, leb}
+use lib.ListN.{length, getD, take, drop}
+use Rattle.octets.specs.Answer.{Answer, got, refused, then, if, behind, none-left}
+use Rattle.octets.specs.Lists.{same}
+
+-- the octets up to and with the first below 128, after those in hand; l octets are left where the item begins
+unfoldable pub readFollowing : ℕ → List ℕ → List ℕ → Answer (List ℕ)
+readFollowing l ds [] = refused 22 l
+readFollowing l ds (d ∷ s) = if (ltb d 128) (got (ds ++ (d ∷ [])) s) λ _. readFollowing l (ds ++ (d ∷ [])) s
+
+-- "identifier octets present (22), form (23)": a long form begins with no 80, and its number is over 30
+unfoldable pub readIdentifier : List ℕ → Answer (List ℕ)
+readIdentifier [] = refused 22 0
+readIdentifier (b ∷ s) =
+    if (ltb (b % 32) 31) (got (b ∷ []) s) λ _.
+    then (readFollowing (suc (length s)) [] s) λ ds s₁.
+    if (eqb (getD ds 0 0) 128) (refused 23 (suc (length s))) λ _.
+    if (ltb (getD ds 0 0) 31) (refused 23 (suc (length s))) λ _.
+    got (b ∷ ds) s₁
+
+pub data Size : Type 0 where
+  definite : ℕ → Size
+  indefinite : Size
+
+-- "fits (22)"; l octets are left where the item begins
+unfoldable pub fit : ℕ → ℕ → List ℕ → Answer Size
+fit l n s = if (leb n (length s)) (got (definite n) s) λ _. refused 22 l
+
+unfoldable pub readLong : ℕ → ℕ → List ℕ → Answer Size
+readLong l k s = if (leb k (length s)) (fit l (number 0 (take k s)) (drop k s)) λ _. refused 22 l
+
+-- "length octets present (22; FF is 23 once seen)"
+unfoldable pub readLength : ℕ → List ℕ → Answer Size
+readLength l [] = refused 22 l
+readLength l (b ∷ s) =
+    if (ltb b 128) (fit l b s) λ _.
+    if (eqb b 128) (got indefinite s) λ _.
+    if (ltb b 255) (readLong l (b - 128) s) λ _.
+    refused 23 l
+
+-- contents that end where their octets do, or contents that 00 00 closes
+pub data Mode : Type 0 where
+  closed open-ended : Mode
+
+-- Go on with f behind the end of the contents, with x where they go on.
+-- "In an indefinite item, 00 begins the end: a missing second octet is 22, one other than 00 is 23; .. no octet is 22".
+unfoldable pub atEnd : {A : Type 0} → Mode → List ℕ → (List ℕ → Answer A) → (Unit {0} → Answer A) → Answer A
+atEnd closed s f x = if (none-left s) (f []) x
+atEnd open-ended s f x =
+    if (none-left s) (refused 22 0) λ _.
+    if (not (eqb (getD s 0 0) 0)) (x tt) λ _.
+    if (none-left (drop 1 s)) (refused 22 (length s)) λ _.
+    if (not (eqb (getD s 1 0) 0)) (refused 23 (length s)) λ _.
+    f (drop 2 s)
+
+-- the identifier octets (22, 23), awaited (24), the length octets (22, 23)
+unfoldable pub readHeader : List ℕ → List ℕ → Answer Size
+readHeader i s =
+    then (readIdentifier s) λ j s₁.
+    if (not (same i j)) (refused 24 (length s)) λ _.
+    readLength (length s) s₁
+
+-- "The contents of an item are that part of the message only."
+unfoldable pub inside : {A : Type 0} → (Mode → List ℕ → Answer A) → Size → List ℕ → Answer A
+inside body (definite n) s = then (behind (length s - n) (body closed (take n s))) λ v r. got v (drop n s)
+inside body indefinite s = body open-ended s
+
+unfoldable pub readConstructed : {A : Type 0} → List ℕ → (Mode → List ℕ → Answer A) → List ℕ → Answer A
+readConstructed i body s = then (readHeader i s) (inside body)
+
+-- "form (23; indefinite on a primitive)"; l octets are left where the item begins
+unfoldable pub contents : ℕ → Size → List ℕ → Answer (List ℕ)
+contents l (definite n) s = got (take n s) (drop n s)
+contents l indefinite s = refused 23 l
+
+unfoldable pub readPrimitive : List ℕ → List ℕ → Answer (List ℕ)
+readPrimitive i s = then (readHeader i s) (contents (length s))
