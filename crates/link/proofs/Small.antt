@@ -23,7 +23,8 @@ use Rattle.octets.specs.Numbers.{Octets}
 use Rattle.coding.specs.declared.Refusal.{Refusal}
 use Rattle.coding.specs.declared.Answer.{Answer as Told}
 use Rattle.coding.specs.declared.Answer.the-variants.{Done as done, Refused as refusal}
-use Rattle.coding.specs.Outcome.{placeOf, Outcome, readOutcome, writeOutcome, afterCheck, wholeRead, wholeWrite, checkAnswer}
+use Rattle.coding.specs.Outcome.{placeOf, Outcome}
+use Rattle.coding.specs.Calls.{readOutcome, writeOutcome, afterCheck, wholeRead, wholeWrite, checkAnswer}
 use Rattle.coding.proofs.Theorems.{reads-only, writes-only}
 use Rattle.coding.proofs.Refusals.{ReadRefused, no-such-type, too-long, as-read, no-room, read-refused, WriteRefused, over-long, as-judged, write-refused}
 use Rattle.link.specs.Pack.{place}
