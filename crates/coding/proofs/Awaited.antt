@@ -1,7 +1,7 @@
 -- What is awaited (document 01, "Messages"), and that an item which begins none of it is refused: 24 as long as anything is awaited, else 26.
 -- Assumes nothing.
 use borrow.Author.Tests.{ne-eqb}
-use mathlib.Core.Bool.{Bool, true, false, not, _||_}
+use mathlib.Core.Bool.{Bool, true, false, not, _||_, true≢false}
 use mathlib.Core.List.{List, [], _∷_, _++_}
 use mathlib.Core.Option.{Option, some, none}
 use mathlib.Core.Path.{_≡_, refl, sym, ap, _∙_}
@@ -16,7 +16,7 @@ use Rattle.octets.proofs.Tests.{test, or-false}
 use Rattle.ber.specs.Reading.{readIdentifier, Size, readLength, Mode, atEnd, readHeader, readConstructed, readPrimitive}
 use Rattle.table.specs.Syntax.{Member, Body, Plain, Sequence, Set, SequenceOf, SetOf, Choice, Table}
 use Rattle.coding.specs.Value.{Value, leaf}
-use Rattle.coding.specs.Awaited.{further, awaited, notYetRead, anything, Slotted, no-slot, a-slot, GoesOn, an-octet, no-end}
+use Rattle.coding.specs.Awaited.{further, awaited, notYetRead, anything, Slotted, no-slot, a-slot, GoesOn, an-octet, no-end, begins, beginsItem, beginsBody}
 use Rattle.coding.specs.Reading.{decode, passes, begun, notAwaited, unwanted, full, readWrapped, readSequence, place, readSet, readMany, choose, readKind, readValue, readMessage}
 
 goes-on : {A : Type 0} {mode : Mode} {s : List ℕ} (f : List ℕ → Answer A) (x : Unit {0} → Answer A) → GoesOn mode s → atEnd mode s f x ≡ x tt

@@ -65,8 +65,7 @@ module _ {b : List ℕ} (o : Octets b) where
       let f = records-found o (a .spells) in
       limited (table rs) (length rs) (kept a) (rw (f .2) at (numbers b o (none-passed b o (a .no-cause))))
 
-  later : {t : ℕ} {buf : List ℕ} {g : Table → Outcome} {x : Outcome} {P : Table → Type 0} → ((rs : List Record) → Accepted b rs → (g (table rs) ≡ x) ↔ P (table rs))
-      → (call b t buf g ≡ x) ↔ OfType b t (λ T. g T ≡ x) → (call b t buf g ≡ x) ↔ OfType b t P
+  later : {t : ℕ} {P Q : Table → Type 0} {R : Type 0} → ((rs : List Record) → Accepted b rs → P (table rs) ↔ Q (table rs)) → R ↔ OfType b t P → R ↔ OfType b t Q
   later f e = (
     λ z. let r = e .0 z in record { records = r .records; accepted = r .accepted; there = r .there; holds = f (r .records) (r .accepted) .0 (r .holds) },
     λ r. e .1 (record { records = r .records; accepted = r .accepted; there = r .there; holds = f (r .records) (r .accepted) .1 (r .holds) }),
@@ -81,12 +80,12 @@ module _ (b : List ℕ) (o : Octets b) where
   unfolding checkAnswer
   check-refuses c = (λ e. by (verdict b) refl e, λ x. ap checkAnswer (first-named b o c x))
     where
+      same-table : {d : TableCause} → refusal (of-table d) ≡ refusal (of-table c) → d ≡ c
+      same-table e = cc
+
       by : (v : Verdict) → verdict b ≡ v → checkAnswer v ≡ refusal (of-table c) → FirstCause b c
       by Passed q e = done≢refusal e
       by (Refused d) q e = named-first b o c (q ∙ ap Refused (same-table e))
-
-      same-table : {d : TableCause} → refusal (of-table d) ≡ refusal (of-table c) → d ≡ c
-      same-table e = cc
 
   -- check: the table passes where no cause holds
   pub check-passes : (checkAnswer (verdict b) ≡ done 0) ↔ ((c : TableCause) → Cause b c → ⊥)

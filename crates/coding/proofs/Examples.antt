@@ -25,7 +25,7 @@ use Rattle.coding.specs.Encodes.{allowed}
 use Rattle.coding.specs.Judging.{need, flags, ownMembers, ownCount, ownBoolean, ownInteger, ownString, ownBits, ownEnumerated, ownChoice, readOwn, readNode, leafKind, nodeKind, numbers, leafAgrees, agreeing, counts, agrees, judgeMembers, judgeElements, judgeBelow, judgeValue, judgeWhole}
 use Rattle.coding.specs.Calls.{valueCause, messageCause, afterReading, readOutcome, afterJudging, writeOutcome}
 use Rattle.coding.specs.Outcome.{Outcome, Told, done, refusal, numberOf, placeOf}
-use Rattle.coding.proofs.Awaited.{beginsBody, beginsItem, beginsIn, begins}
+use Rattle.coding.specs.Awaited.{beginsBody, beginsItem, beginsIn, begins}
 
 -- n octets b, and then those of l
 abbrev fill : ℕ → ℕ → List ℕ → List ℕ

@@ -88,13 +88,13 @@ unfolding IsRefusal
 done≢refusal e = absurd (subst IsRefusal (sym e) tt)
 
 same-message : {j k : MessageCause} {b c : List ℕ} → refuse (of-message j) b ≡ refuse (of-message k) c → j ≡ k
-same-message e = cc
+same-message e = let z : refusal (of-message _) ≡ refusal (of-message _) = ap (λ (o : Outcome). o .answer) e in cc
 
 same-value : {j k : ValueCause} {b c : List ℕ} → refuse (of-value j) b ≡ refuse (of-value k) c → j ≡ k
-same-value e = cc
+same-value e = let z : refusal (of-value _) ≡ refusal (of-value _) = ap (λ (o : Outcome). o .answer) e in cc
 
 same-length : {j k : ℕ} {b c : List ℕ} → _≡_ {A = Outcome} (record { answer = done j; buffer = b }) (record { answer = done k; buffer = c }) → j ≡ k
-same-length e = cc
+same-length e = let z : done _ ≡ done _ = ap (λ (o : Outcome). o .answer) e in cc
 
 same-buffer : {j k : ℕ} {b c : List ℕ} → _≡_ {A = Outcome} (record { answer = done j; buffer = b }) (record { answer = done k; buffer = c }) → b ≡ c
 same-buffer e = ap (λ (o : Outcome). o .buffer) e
@@ -271,7 +271,7 @@ module _ (T : Table) (t : ℕ) (m buf : List ℕ) where
   after-read-beyond : (x : Answer Value) → Beyond (afterReading m buf x)
   unfolding afterReading
   after-read-beyond (refused c l) = message-beyond _ buf
-  after-read-beyond (got v r) = if-cases Beyond (not (leb (length (octets v)) (min longestValue (length buf)))) _ _ (λ f. message-beyond Room buf) λ f. done-beyond _ _
+  after-read-beyond (got v r) = if-cases Beyond (not (leb (length (octets v)) (min longestValue (length buf)))) _ _ (λ f. message-beyond Room buf) λ f. done-beyond _ buf
 
   pub read-beyond : Beyond (reading T t m buf)
   read-beyond = if-cases Beyond (not (leb (length m) longestMessage)) _ _ (λ f. message-beyond TooLong buf) λ f. after-read-beyond (readMessage T levels t m)
@@ -347,7 +347,7 @@ module _ (T : Table) (t : ℕ) (v buf : List ℕ) where
   after-judged-beyond : (x : Answer Value) → Beyond (afterJudging (formAt T levels t) v buf x)
   unfolding afterJudging
   after-judged-beyond (refused c l) = value-beyond _ buf
-  after-judged-beyond (got w r) = if-cases Beyond (not (leb (length (formAt T levels t w)) (min longestMessage (length buf)))) _ _ (λ f. value-beyond RoomV buf) λ f. done-beyond _ _
+  after-judged-beyond (got w r) = if-cases Beyond (not (leb (length (formAt T levels t w)) (min longestMessage (length buf)))) _ _ (λ f. value-beyond RoomV buf) λ f. done-beyond _ buf
 
   pub write-beyond : Beyond (writing T t v buf)
   write-beyond = if-cases Beyond (not (leb (length v) longestValue)) _ _ (λ f. value-beyond (Shape 0) buf) λ f. after-judged-beyond (judgeWhole T levels t v)

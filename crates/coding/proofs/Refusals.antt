@@ -391,7 +391,7 @@ whole-says T n t b o =
 
 -- the enums say these numbers and places
 
-message-cause : {c : ℕ} (p : ℕ) → OfMessage c → (messageNumber (messageCause c p) ≡ c) × (messagePlace (messageCause c p) ≡ p)
+pub message-cause : {c : ℕ} (p : ℕ) → OfMessage c → (messageNumber (messageCause c p) ≡ c) × (messagePlace (messageCause c p) ≡ p)
 unfolding messageCause if
 message-cause p is-22 = (refl, refl)
 message-cause p is-23 = (refl, refl)
@@ -400,7 +400,7 @@ message-cause p is-25 = (refl, refl)
 message-cause p is-26 = (refl, refl)
 message-cause p is-28 = (refl, refl)
 
-value-cause : {c : ℕ} (p : ℕ) → OfValue c → (valueNumber (valueCause c p) ≡ c) × (valuePlace (valueCause c p) ≡ p)
+pub value-cause : {c : ℕ} (p : ℕ) → OfValue c → (valueNumber (valueCause c p) ≡ c) × (valuePlace (valueCause c p) ≡ p)
 unfolding valueCause if
 value-cause p is-11 = (refl, refl)
 value-cause p is-12 = (refl, refl)

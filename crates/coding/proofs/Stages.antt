@@ -28,7 +28,7 @@ use Rattle.coding.specs.Demands.{Accepted, NoSuchType, OfType}
 use Rattle.coding.proofs.Outcomes.{Beyond, Unchanged}
 
 same-table : {c d : TableCause} {b w : List ℕ} → refuse (of-table c) b ≡ refuse (of-table d) w → c ≡ d
-same-table e = cc
+same-table e = let z : refusal (of-table _) ≡ refusal (of-table _) = ap (λ (o : Outcome). o .answer) e in cc
 
 -- g is what a call does with the records by number, once it has found the type among them
 module _ (b : List ℕ) (t : ℕ) (buf : List ℕ) (g : Table → Outcome) where

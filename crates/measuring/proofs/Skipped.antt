@@ -19,7 +19,7 @@ use Rattle.coding.specs.Value.{Value}
 use Rattle.coding.specs.Reading.{passes, begun, unwanted, nothing, readWrapped, readSequence, place, readSet, readMany, choose, readBody, readKind, readValue}
 use Rattle.coding.proofs.Content.{content-sound}
 use Rattle.coding.specs.Tags.{own, explicit}
-use Rattle.coding.proofs.Awaited.{begins}
+use Rattle.coding.specs.Awaited.{begins}
 use Rattle.coding.specs.Awaited.{GoesOn, no-end}
 use Rattle.coding.proofs.FirstTags.{Good, proper-begun}
 use Rattle.coding.proofs.Sound.{not-awaited}

@@ -23,7 +23,7 @@ use Rattle.table.specs.Rules.{parts}
 use Rattle.table.specs.Octets.{recordShaped, bodyShaped}
 use Rattle.table.specs.Reading.{tagsAt, look, recordAt}
 use Rattle.coding.specs.Tags.{identifierOf, last, before, explicitTags, own, explicit}
-use Rattle.coding.proofs.Awaited.{beginsBody, beginsItem, beginsIn, begins}
+use Rattle.coding.specs.Awaited.{beginsBody, beginsItem, beginsIn, begins}
 use Rattle.coding.proofs.Complete.{never}
 use Rattle.coding.specs.Reading.{passes, begun}
 use Rattle.message.specs.Codes.{spelled, codeOf, untagged, none, peeked, headerBy, bodyFirst, outermost, firstOf, Ready, pick, among, searchIn}
