@@ -1,4 +1,4 @@
--- An answer as one number for C: document 01's number of the refusal, or 0 for done, times 65,536, and its place, or the length written.
+-- An answer as one number for C (FORMATS, "Answers for C"): the number of the refusal, or 0 for done, times 65,536, and its place, or the length written.
 -- Assumes nothing.
 use Prim.Native.Nat.{ℕ, _+_, _*_, _/_, _%_}
 use lib.Dec.{eqb}
