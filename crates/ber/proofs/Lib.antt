@@ -5,4 +5,3 @@ pub mod Length
 pub mod Item
 pub mod Integer
 pub mod BitString
-pub mod Examples
