@@ -1,10 +1,12 @@
 -- Laws of the unused bits of a BIT STRING.
 -- Assumes nothing.
 use mathlib.Core.List.{List, [], _∷_}
-use mathlib.Core.Path.{_≡_, refl, ap, _∙_}
-use native.Mathlib.Nat.{mul-div-cancel, div-mul-le-self}
+use mathlib.Core.Path.{_≡_, refl, sym, ap, _∙_}
+use native.Mathlib.Nat.{mul-div-cancel, div-mul-le-self, add-zero}
 use native.Mathlib.Omega.{arith}
-use Prim.Native.Nat.{ℕ, _*_, _/_, _^_}
+use Prim.Native.Nat.{ℕ, _*_, _/_, _%_, _^_}
+use lib.Arith.{digits-mod}
+use lib.ListN.{length, getD}
 use lib.Pow.{pow-pos}
 use Rattle.octets.specs.Permutations.{AllOctets, every-cons}
 use Rattle.ber.specs.BitString.{unused, masked}
@@ -31,3 +33,9 @@ unfolding masked
 masked-octets n {c = []} es = es
 masked-octets n {c = x ∷ []} (every-cons h es) = every-cons {x = x / 2 ^ n * 2 ^ n} (omega (arith, div-mul-le-self x (2 ^ n))) es
 masked-octets n {c = x ∷ y ∷ c} (every-cons h es) = every-cons h (masked-octets n es)
+
+-- the unused bits of what is read are 0
+pub masked-clear : (n x : ℕ) (c : List ℕ) → getD (masked n (x ∷ c)) (length c) 0 % 2 ^ n ≡ 0
+unfolding masked
+masked-clear n x [] = ap (λ (z : ℕ). z % 2 ^ n) (sym (add-zero (x / 2 ^ n * 2 ^ n))) ∙ digits-mod (x / 2 ^ n) (pow-pos n)
+masked-clear n x (y ∷ c) = masked-clear n y c

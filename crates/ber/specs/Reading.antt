@@ -6,6 +6,7 @@ use Prim.Native.Nat.{ℕ, suc, _+_, _%_, _-_}
 use lib.Dec.{ltb, eqb, leb}
 use lib.ListN.{length, getD, take, drop}
 use Rattle.octets.specs.Answer.{Answer, got, refused, then, if, behind, none-left}
+use Rattle.ber.specs.Length.{number}
 use Rattle.octets.specs.Lists.{same}
 
 -- the octets up to and with the first below 128, after those in hand; l octets are left where the item begins

@@ -1,22 +1,23 @@
 -- What is awaited (document 01, "Messages"), and that an item which begins none of it is refused: 24 as long as anything is awaited, else 26.
 -- Assumes nothing.
 use borrow.Author.Tests.{ne-eqb}
-use mathlib.Core.Bool.{Bool, true, false, not, _||_}
+use mathlib.Core.Bool.{Bool, true, false, not, _||_, true≢false}
 use mathlib.Core.List.{List, [], _∷_, _++_}
 use mathlib.Core.Option.{Option, some, none}
-use mathlib.Core.Path.{_≡_, refl, _∙_}
+use mathlib.Core.Path.{_≡_, refl, sym, ap, _∙_}
 use native.Mathlib.Omega.{arith}
 use Prim.Native.Nat.{ℕ, suc}
 use lib.ListN.{length}
-use Rattle.octets.specs.Answer.{Answer, got, refused, then, if}
-use Rattle.octets.specs.Lists.{any}
+use Rattle.octets.specs.Answer.{Answer, got, refused, then, if, none-left}
+use Rattle.octets.specs.Lists.{any, same}
+use Rattle.octets.proofs.Lists.{same-refl, same-true}
 use Rattle.octets.proofs.Answer.{run}
 use Rattle.octets.proofs.Tests.{test, or-false}
-use Rattle.ber.specs.Reading.{readIdentifier, Mode, atEnd}
-use Rattle.table.specs.Syntax.{Member, Table}
-use Rattle.coding.specs.Value.{Value}
-use Rattle.coding.specs.Awaited.{further, awaited, notYetRead, anything, Slotted, no-slot, a-slot, GoesOn, an-octet, no-end}
-use Rattle.coding.specs.Reading.{begun, notAwaited, unwanted, full, readSequence, place, readSet}
+use Rattle.ber.specs.Reading.{readIdentifier, Size, readLength, Mode, atEnd, readHeader, readConstructed, readPrimitive}
+use Rattle.table.specs.Syntax.{Member, Body, Plain, Sequence, Set, SequenceOf, SetOf, Choice, Table}
+use Rattle.coding.specs.Value.{Value, leaf}
+use Rattle.coding.specs.Awaited.{further, awaited, notYetRead, anything, Slotted, no-slot, a-slot, GoesOn, an-octet, no-end, begins, beginsItem, beginsBody}
+use Rattle.coding.specs.Reading.{decode, passes, begun, notAwaited, unwanted, full, readWrapped, readSequence, place, readSet, readMany, choose, readKind, readValue, readMessage}
 
 goes-on : {A : Type 0} {mode : Mode} {s : List ℕ} (f : List ℕ → Answer A) (x : Unit {0} → Answer A) → GoesOn mode s → atEnd mode s f x ≡ x tt
 unfolding atEnd
@@ -80,3 +81,87 @@ set-unwanted T r k ms os mode s g p e = goes-on _ _ g ∙ by (anything (notYetRe
     by : (b : Bool) → full os ≡ not b → place T r ms os s ≡ notAwaited s → if (full os) (refused 26 (length s)) (λ _. then (place T r ms os s) λ us s₁. readSet T r k ms us mode s₁) ≡ unwanted b s
     by true f h = simp (run, f, h) (refused-on s _)
     by false f h = simp (run, f)
+
+-- In a list an element is always awaited.
+pub list-unwanted : (T : Table) (r : ℕ → List ℕ → Answer Value) (k t : ℕ) (mode : Mode) (vs : List Value) (s : List ℕ) → GoesOn mode s → begun T t s ≡ false
+    → readMany T r (suc k) t mode vs s ≡ unwanted true s
+unfolding readMany unwanted
+list-unwanted T r k t mode vs s g e = goes-on _ _ g ∙ simp (run, e)
+
+-- An item that has other identifier octets than the ones that are awaited.
+
+same-false : (i j : List ℕ) → same j i ≡ false → same i j ≡ false
+same-false i j e = test (same i j) (λ q. absurd (true≢false (sym (same-refl i) ∙ ap (λ (k : List ℕ). same k i) (same-true i j q) ∙ e))) λ q. q
+
+header-unwanted : {A : Type 0} (i s : List ℕ) (f : Size → List ℕ → Answer A) → passes (λ j. same j i) (readIdentifier s) ≡ false → then (readHeader i s) f ≡ notAwaited s
+unfolding readHeader notAwaited passes then
+header-unwanted i s f e = by (readIdentifier s) e
+  where
+    by : (x : Answer (List ℕ)) → passes (λ j. same j i) x ≡ false
+        → then (then x λ j s₁. if (not (same i j)) (refused 24 (length s)) λ _. readLength (length s) s₁) f ≡ then x (λ j s₁. refused 24 (length s))
+    by (got j u) q = simp (run, same-false i j q)
+    by (refused c l) q = refl
+
+-- the alternatives of a CHOICE
+
+any-none : (ts : List ℕ) → any (λ t. false) ts ≡ false
+unfolding any
+any-none [] = refl
+any-none (t ∷ ts) = any-none ts
+
+any-begun : (T : Table) (ts s : List ℕ) → any (λ t. begun T t s) ts ≡ passes (λ j. any (λ t. begins T t j) ts) (readIdentifier s)
+unfolding begun passes
+any-begun T ts s = by (readIdentifier s)
+  where
+    by : (x : Answer (List ℕ)) → any (λ t. passes (begins T t) x) ts ≡ passes (λ j. any (λ t. begins T t j) ts) x
+    by (got j u) = refl
+    by (refused c l) = any-none ts
+
+choose-unwanted : (T : Table) (r : ℕ → List ℕ → Answer Value) (ts : List ℕ) (n : ℕ) (s : List ℕ) → any (λ t. begun T t s) ts ≡ false → choose T r ts n s ≡ notAwaited s
+unfolding choose any
+choose-unwanted T r [] n s e = refl
+choose-unwanted T r (t ∷ ts) n s e = let h = or-false (begun T t s) _ e in simp (run, h .0) (choose-unwanted T r ts (suc n) s (h .1))
+
+-- What begins a value: the next explicit tag, else the kind's own identifier octets, else what begins an alternative.
+module _ (T : Table) (r : ℕ → List ℕ → Answer Value) (i : List ℕ) where
+  pub item-unwanted : (is : List (List ℕ)) (b : Body) (s : List ℕ) → passes (λ j. beginsItem (λ a. begins T a j) j is i b) (readIdentifier s) ≡ false
+      → readWrapped is (readKind T r i b) s ≡ notAwaited s
+  unfolding readWrapped readKind readConstructed readPrimitive beginsItem beginsBody
+  item-unwanted (e ∷ es) b s h = header-unwanted e s _ h
+  item-unwanted [] (Plain k) s h = ap (λ (x : Answer (List ℕ)). then x λ c s₁. then (decode k (length s) c s₁) λ y s₂. got (leaf y) s₂) (header-unwanted i s _ h) ∙ refused-on s _
+  item-unwanted [] (Sequence ms) s h = header-unwanted i s _ h
+  item-unwanted [] (Set ms) s h = header-unwanted i s _ h
+  item-unwanted [] (SequenceOf t) s h = header-unwanted i s _ h
+  item-unwanted [] (SetOf t) s h = header-unwanted i s _ h
+  item-unwanted [] (Choice ts) s h = choose-unwanted T r ts 0 s (any-begun T ts s ∙ h)
+
+-- Under an explicit tag its one item is awaited, and behind it nothing.
+
+abbrev pub underTag : {A : Type 0} → (List ℕ → Answer A) → Mode → List ℕ → Answer A
+underTag r mode u =
+    atEnd mode u (λ _. refused 24 (length u)) λ _.
+    then (r u) λ v w.
+    atEnd mode w (λ y. got v y) λ _. refused 26 (length w)
+
+pub wrapped-under : {A : Type 0} (i : List ℕ) (is : List (List ℕ)) (r : List ℕ → Answer A) (s : List ℕ) → readWrapped (i ∷ is) r s ≡ readConstructed i (underTag (readWrapped is r)) s
+unfolding readWrapped
+wrapped-under i is r s = refl
+
+pub tag-unwanted : {A : Type 0} (r : List ℕ → Answer A) (mode : Mode) (u : List ℕ) → GoesOn mode u → r u ≡ notAwaited u → underTag r mode u ≡ unwanted true u
+unfolding unwanted
+tag-unwanted r mode u g e = goes-on _ _ g ∙ rw e (refused-on u _)
+
+pub tag-trailing : {A : Type 0} (r : List ℕ → Answer A) (mode : Mode) (u : List ℕ) (v : A) (w : List ℕ) → GoesOn mode u → GoesOn mode w → r u ≡ got v w → underTag r mode u ≡ unwanted false w
+unfolding unwanted
+tag-trailing r mode u v w g h e = goes-on _ _ g ∙ rw e (simp run (goes-on _ _ h))
+
+-- In the message the root is awaited, and behind it nothing.
+
+pub message-unwanted : (T : Table) (n t : ℕ) (b : ℕ) (s : List ℕ) → begun T t (b ∷ s) ≡ false → readMessage T n t (b ∷ s) ≡ unwanted true (b ∷ s)
+unfolding readMessage unwanted
+message-unwanted T n t b s e = simp (run, e)
+
+pub message-trailing : (T : Table) (n t : ℕ) (s : List ℕ) (v : Value) (b : ℕ) (r : List ℕ) → none-left s ≡ false → begun T t s ≡ true → readValue T n t s ≡ got v (b ∷ r)
+    → readMessage T n t s ≡ unwanted false (b ∷ r)
+unfolding readMessage unwanted
+message-trailing T n t s v b r q h e = simp (run, q, h, e)

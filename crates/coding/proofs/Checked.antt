@@ -19,7 +19,8 @@ use Rattle.table.specs.declared.TableCause.the-variants.{Shape}
 use Rattle.table.specs.declared.Verdict.the-variants.{Passed, Refused}
 use Rattle.table.specs.declared.Checked.{Checked}
 use Rattle.table.proofs.Theorems.{checked-passes}
-use Rattle.coding.specs.Outcome.{Outcome, Told, afterCheck, refusal, of-table}
+use Rattle.coding.specs.Outcome.{Outcome, Told, refusal, of-table}
+use Rattle.coding.specs.Calls.{afterCheck}
 
 -- an outcome is what was answered and what the buffer holds
 abbrev pub Says : Outcome → Told → List ℕ → Type 0

@@ -27,7 +27,7 @@ use Rattle.coding.specs.Encodes.{allowed, Coding, Pieces, done, left, se
 use Rattle.coding.specs.Equivalent.{Slot, Alike, same-leaf, same-sequence, same-set, same-sequence-of, same-set-of, same-choice, EquivalentAt}
 use Rattle.coding.specs.Reading.{passes, begun, nothing, full, readWrapped, readSequence, place, readSet, readMany, choose, readBody, readKind, readValue}
 use Rattle.coding.proofs.Content.{content-complete}
-use Rattle.coding.proofs.Awaited.{begins}
+use Rattle.coding.specs.Awaited.{begins}
 use Rattle.coding.proofs.FirstTags.{beginsAny, Distinct, Apart, GoodBody, Proper, proper-readable, proper-begun, Begins, Good}
 use Rattle.coding.proofs.Sound.{Pending, p-done, p-left, p-sent, p-have}
 

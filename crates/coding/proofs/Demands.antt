@@ -1,69 +1,205 @@
--- Demands 2 and 3 of any table whose verdict is `Passed`, with no hypothesis left: the first page to read of what the definitions promise.
+-- The three demands, for every table, type, value, message and buffer: the page to read of what is promised. What its words mean is in
+-- `specs/Demands`. That the functions' answers are these outcomes is in their contracts (`engine`), and for C in `link/proofs/Boundary`.
 -- Assumes nothing.
 use mathlib.Core.List.{List, []}
 use mathlib.Core.Logic.{_↔_}
-use mathlib.Core.Path.{_≡_, refl}
+use mathlib.Core.Path.{_≡_, refl, sym, ap, subst, _∙_}
 use Prim.Native.Nat.{ℕ, _≤_, _<_}
 use lib.ListN.{length}
 use Rattle.octets.specs.Answer.{got}
 use Rattle.octets.specs.Numbers.{Octets}
+use Rattle.octets.specs.Permutations.{any-order}
+use Rattle.octets.proofs.Permutations.{all-octets}
+use Rattle.table.specs.Syntax.{Record, Table, table}
+use Rattle.table.specs.Cause.{number, Cause, FirstCause}
+use Rattle.table.specs.Passes.{Passes}
 use Rattle.table.specs.Verdict.{verdict}
-use Rattle.table.specs.Syntax.{Table}
+use Rattle.table.specs.declared.TableCause.{TableCause}
+use Rattle.table.specs.declared.TableCause.the-variants.{NoType}
 use Rattle.table.specs.declared.Verdict.{Verdict}
 use Rattle.table.specs.declared.Verdict.the-variants.{Passed, Refused}
-use Rattle.table.proofs.Theorems.{passes, passed-count}
+use Rattle.table.proofs.Theorems.{passes, records-found, named-first, first-named, passed-none, none-passed}
 use Rattle.coding.specs.Value.{Value, octets, depth}
 use Rattle.coding.specs.Encodes.{Encodes}
 use Rattle.coding.specs.Typed.{WellTyped}
 use Rattle.coding.specs.Shaped.{Shaped}
 use Rattle.coding.specs.Judging.{judgeWhole}
-use Rattle.coding.specs.Outcome.{levels, longestValue, longestMessage, Outcome, done, refusal, Refusal, readOutcome, writeOutcome, afterCheck, wholeRead, wholeWrite}
-use Rattle.coding.specs.Demands.{Read, Received, Sent, Wrote}
-use Rattle.coding.proofs.Theorems.{read-again}
-use Rattle.coding.proofs.Refusals.{read-refused, write-refused}
-use Rattle.coding.proofs.Shaped.{limited}
-use Rattle.coding.proofs.Whole.{tableOf, countOf, Promise, demand-2-read, demand-2-write, demand-3-read, demand-3-write}
+use Rattle.coding.specs.Causes.{valueNumber, messageNumber, OfValue, OfMessage}
+use Rattle.coding.specs.Outcome.{levels, longestValue, longestMessage, Refusal, of-table, of-value, of-message, done, refusal, Outcome, refuse}
+use Rattle.coding.specs.Calls.{readOutcome, writeOutcome, wholeRead, wholeWrite, checkAnswer}
+use Rattle.coding.specs.Demands.{Accepted, NoSuchType, OfType, MessageRefused, NoRoomForValue, Read, ValueRefused, NoRoomForMessage, Wrote, Received, Sent}
+use Rattle.coding.specs.declared.ValueCause.{ValueCause}
+use Rattle.coding.specs.declared.ValueCause.the-variants.{Room as RoomV}
+use Rattle.coding.specs.declared.MessageCause.{MessageCause}
+use Rattle.coding.specs.declared.MessageCause.the-variants.{TooLong, Room}
+use Rattle.coding.proofs.FirstTags.{Good, good}
+use Rattle.coding.proofs.Levels.{retype}
+use Rattle.coding.proofs.Judging.{judge-octets}
+use Rattle.coding.proofs.Shaped.{Limited, limited, encodes-shaped}
+use Rattle.coding.proofs.Outcomes.{reading, writing, long-exactly, refused-exactly, lacks-exactly, read-exactly, received, read-beyond, read-unchanged, judged-exactly, full-exactly, written-exactly, sent, write-beyond, write-unchanged, done≢refusal, message-beyond, value-beyond, done-beyond}
+use Rattle.coding.proofs.Stages.{call, call-found, found-exactly, table-exactly, type-exactly, call-unchanged}
 use Rattle.coding.proofs.Limits.{numbers}
 
--- the promise of the table's check is kept
-pub promise : Promise
-promise = record { passes = λ b o e. passes b o e; few = λ b o e. passed-count b o e .1 }
+-- both outcomes are those of a call: the table is judged, the type is looked for, then it is read or written
 
-module _ (b : List ℕ) (o : Octets b) (e : verdict b ≡ Passed) (t : ℕ) (lt : t < countOf b) where
-  -- Demand 2: "the reader accepts exactly the messages that X.690 permits for the named type, within the limits of document 01, and yields the value they carry".
-  pub reads-exactly : (m buf : List ℕ) → Octets m → (k : ℕ) (after : List ℕ) → (wholeRead b t m buf ≡ record { answer = done k; buffer = after }) ↔ Read (tableOf b) t m buf k after
-  reads-exactly = demand-2-read promise b o e t lt
+read-call : (b : List ℕ) (t : ℕ) (m buf : List ℕ) → wholeRead b t m buf ≡ call b t buf (λ T. reading T t m buf)
+unfolding wholeRead readOutcome
+read-call b t m buf = refl
 
-  -- Demand 2: "The writer yields the one form that document 01 fixes".
-  pub writes-one-form : (v buf : List ℕ) → Octets v → (k : ℕ) → wholeWrite b t v buf .answer ≡ done k → Wrote (tableOf b) t v buf k (wholeWrite b t v buf .buffer)
-  writes-one-form = demand-2-write promise b o e t lt
+write-call : (b : List ℕ) (t : ℕ) (v buf : List ℕ) → wholeWrite b t v buf ≡ call b t buf (λ T. writing T t v buf)
+unfolding wholeWrite writeOutcome
+write-call b t v buf = refl
+
+along : {x y z : Outcome} {Q : Type 0} → x ≡ y → (y ≡ z) ↔ Q → (x ≡ z) ↔ Q
+along q e = (λ z. e .0 (sym q ∙ z), λ r. q ∙ e .1 r)
+
+module _ {b : List ℕ} (o : Octets b) where
+  kept : {rs : List Record} → Accepted b rs → Passes (table rs) (length rs)
+  kept a = let f = records-found o (a .spells) in rw (f .2, f .1) at (passes b o (none-passed b o (a .no-cause)))
+
+  good-of : {rs : List Record} → Accepted b rs → Good (table rs)
+  good-of {rs} a = good (table rs) (length rs) (kept a) (a .spells .few)
+
+  limits-of : {rs : List Record} → Accepted b rs → (u : ℕ) → Limited (table rs u .body)
+  limits-of {rs} a =
+      let f = records-found o (a .spells) in
+      limited (table rs) (length rs) (kept a) (rw (f .2) at (numbers b o (none-passed b o (a .no-cause))))
+
+  later : {t : ℕ} {P Q : Table → Type 0} {R : Type 0} → ((rs : List Record) → Accepted b rs → P (table rs) ↔ Q (table rs)) → R ↔ OfType b t P → R ↔ OfType b t Q
+  later f e = (
+    λ z. let r = e .0 z in record { records = r .records; accepted = r .accepted; there = r .there; holds = f (r .records) (r .accepted) .0 (r .holds) },
+    λ r. e .1 (record { records = r .records; accepted = r .accepted; there = r .there; holds = f (r .records) (r .accepted) .1 (r .holds) }),
+  )
+
+-- Demand 1. Which answer is given when, from the octets alone: one equivalence a stage, in the order of the stages. All other answers are none
+-- of `read` (of the value stage) and none of `write` (of the message stage).
+
+module _ (b : List ℕ) (o : Octets b) where
+  -- check, 1 to 6: the first cause is named
+  pub check-refuses : (c : TableCause) → (checkAnswer (verdict b) ≡ refusal (of-table c)) ↔ FirstCause b c
+  unfolding checkAnswer
+  check-refuses c = (λ e. by (verdict b) refl e, λ x. ap checkAnswer (first-named b o c x))
+    where
+      same-table : {d : TableCause} → refusal (of-table d) ≡ refusal (of-table c) → d ≡ c
+      same-table e = cc
+
+      by : (v : Verdict) → verdict b ≡ v → checkAnswer v ≡ refusal (of-table c) → FirstCause b c
+      by Passed q e = done≢refusal e
+      by (Refused d) q e = named-first b o c (q ∙ ap Refused (same-table e))
+
+  -- check: the table passes where no cause holds
+  pub check-passes : (checkAnswer (verdict b) ≡ done 0) ↔ ((c : TableCause) → Cause b c → ⊥)
+  unfolding checkAnswer
+  check-passes = (λ e. by (verdict b) refl e, λ h. ap checkAnswer (none-passed b o h))
+    where
+      by : (v : Verdict) → verdict b ≡ v → checkAnswer v ≡ done 0 → (c : TableCause) → Cause b c → ⊥
+      by Passed q e = passed-none b o q
+      by (Refused d) q e = done≢refusal (sym e)
+
+  module _ (t : ℕ) (m buf : List ℕ) (p : Octets m) where
+    -- read, 1 to 6
+    pub read-refuses-table : (c : TableCause) → number c < 7 → (wholeRead b t m buf ≡ refuse (of-table c) buf) ↔ FirstCause b c
+    read-refuses-table c k = along (read-call b t m buf) (table-exactly b t buf (λ T. reading T t m buf) o (λ T. read-beyond T t m buf) c k)
+
+    -- 7
+    pub read-refuses-type : (wholeRead b t m buf ≡ refuse (of-table NoType) buf) ↔ NoSuchType b t
+    read-refuses-type = along (read-call b t m buf) (type-exactly b t buf (λ T. reading T t m buf) o (λ T. read-beyond T t m buf))
+
+    -- 21
+    pub read-refuses-length : (wholeRead b t m buf ≡ refuse (of-message TooLong) buf) ↔ OfType b t (λ T. longestMessage < length m)
+    read-refuses-length =
+        along (read-call b t m buf)
+        (later o (λ rs a. long-exactly (table rs) t m buf p) (found-exactly b t buf (λ T. reading T t m buf) o (refuse (of-message TooLong) buf) (message-beyond TooLong buf)))
+
+    -- 22 to 26, 28
+    pub read-refuses-message : (k : MessageCause) → OfMessage (messageNumber k) → (wholeRead b t m buf ≡ refuse (of-message k) buf) ↔ OfType b t (λ T. MessageRefused T t m k)
+    read-refuses-message k i =
+        along (read-call b t m buf)
+        (later o (λ rs a. refused-exactly (table rs) t m buf p k i) (found-exactly b t buf (λ T. reading T t m buf) o (refuse (of-message k) buf) (message-beyond k buf)))
+
+    -- 27
+    pub read-refuses-room : (wholeRead b t m buf ≡ refuse (of-message Room) buf) ↔ OfType b t (λ T. NoRoomForValue T t m buf)
+    read-refuses-room =
+        along (read-call b t m buf)
+        (later o (λ rs a. lacks-exactly (table rs) t m buf p (good-of o a)) (found-exactly b t buf (λ T. reading T t m buf) o (refuse (of-message Room) buf) (message-beyond Room buf)))
+
+    -- done
+    pub read-is-done : (k : ℕ) (after : List ℕ) → (wholeRead b t m buf ≡ record { answer = done k; buffer = after }) ↔ OfType b t (λ T. Read T t m buf k after)
+    read-is-done k after =
+        along (read-call b t m buf)
+        (later o (λ rs a. read-exactly (table rs) t m buf p (good-of o a) k after) (found-exactly b t buf (λ T. reading T t m buf) o (record { answer = done k; buffer = after }) (done-beyond k after)))
+
+  module _ (t : ℕ) (v buf : List ℕ) (p : Octets v) where
+    -- write, 1 to 6
+    pub write-refuses-table : (c : TableCause) → number c < 7 → (wholeWrite b t v buf ≡ refuse (of-table c) buf) ↔ FirstCause b c
+    write-refuses-table c k = along (write-call b t v buf) (table-exactly b t buf (λ T. writing T t v buf) o (λ T. write-beyond T t v buf) c k)
+
+    -- 7
+    pub write-refuses-type : (wholeWrite b t v buf ≡ refuse (of-table NoType) buf) ↔ NoSuchType b t
+    write-refuses-type = along (write-call b t v buf) (type-exactly b t buf (λ T. writing T t v buf) o (λ T. write-beyond T t v buf))
+
+    -- 11 to 13
+    pub write-refuses-value : (k : ValueCause) → OfValue (valueNumber k) → (wholeWrite b t v buf ≡ refuse (of-value k) buf) ↔ OfType b t (λ T. ValueRefused T t v k)
+    write-refuses-value k i =
+        along (write-call b t v buf)
+        (later o (λ rs a. judged-exactly (table rs) t v buf p k i) (found-exactly b t buf (λ T. writing T t v buf) o (refuse (of-value k) buf) (value-beyond k buf)))
+
+    -- 14
+    pub write-refuses-room : (wholeWrite b t v buf ≡ refuse (of-value RoomV) buf) ↔ OfType b t (λ T. NoRoomForMessage T t v buf)
+    write-refuses-room =
+        along (write-call b t v buf)
+        (later o (λ rs a. full-exactly (table rs) t v buf p) (found-exactly b t buf (λ T. writing T t v buf) o (refuse (of-value RoomV) buf) (value-beyond RoomV buf)))
+
+    -- done
+    pub write-is-done : (k : ℕ) (after : List ℕ) → (wholeWrite b t v buf ≡ record { answer = done k; buffer = after }) ↔ OfType b t (λ T. Wrote T t v buf k after)
+    write-is-done k after =
+        along (write-call b t v buf)
+        (later o (λ rs a. written-exactly (table rs) t v buf p k after) (found-exactly b t buf (λ T. writing T t v buf) o (record { answer = done k; buffer = after }) (done-beyond k after)))
+
+-- a refusal leaves the buffer as it was
+
+pub read-leaves : (b : List ℕ) (t : ℕ) (m buf : List ℕ) (r : Refusal) → wholeRead b t m buf .answer ≡ refusal r → wholeRead b t m buf .buffer ≡ buf
+unfolding wholeRead readOutcome
+read-leaves b t m buf = call-unchanged b t buf (λ T. reading T t m buf) (λ T. read-unchanged T t m buf)
+
+pub write-leaves : (b : List ℕ) (t : ℕ) (v buf : List ℕ) (r : Refusal) → wholeWrite b t v buf .answer ≡ refusal r → wholeWrite b t v buf .buffer ≡ buf
+unfolding wholeWrite writeOutcome
+write-leaves b t v buf = call-unchanged b t buf (λ T. writing T t v buf) (λ T. write-unchanged T t v buf)
+
+-- Demands 2 and 3, for a table that is not refused and a type in it.
+
+module _ (b : List ℕ) (o : Octets b) (rs : List Record) (a : Accepted b rs) (t : ℕ) (lt : t < length rs) where
+  read-found : (m buf : List ℕ) → wholeRead b t m buf ≡ reading (table rs) t m buf
+  read-found m buf = read-call b t m buf ∙ call-found b t buf (λ T. reading T t m buf) o a lt
+
+  write-found : (v buf : List ℕ) → wholeWrite b t v buf ≡ writing (table rs) t v buf
+  write-found v buf = write-call b t v buf ∙ call-found b t buf (λ T. writing T t v buf) o a lt
+
+  -- Demand 2: the reader accepts exactly what X.690 permits for the type within the limits, and yields the value that it carries.
+  pub reads-exactly : (m buf : List ℕ) → Octets m → (k : ℕ) (after : List ℕ) → (wholeRead b t m buf ≡ record { answer = done k; buffer = after }) ↔ Read (table rs) t m buf k after
+  reads-exactly m buf p k after = along (read-found m buf) (read-exactly (table rs) t m buf p (good-of o a) k after)
+
+  -- Demand 2: the writer yields the one form fixed for the value, and for nothing else.
+  pub writes-exactly : (v buf : List ℕ) → Octets v → (k : ℕ) (after : List ℕ) → (wholeWrite b t v buf ≡ record { answer = done k; buffer = after }) ↔ Wrote (table rs) t v buf k after
+  writes-exactly v buf p k after = along (write-found v buf) (written-exactly (table rs) t v buf p k after)
 
   -- Demand 3, the receiver.
-  pub what-was-sent-arrives : (v : Value) (m buf : List ℕ) → depth v ≤ levels → length (octets v) ≤ longestValue → Octets m → Encodes (tableOf b) t v m → length m ≤ longestMessage
-      → length (octets v) ≤ length buf → Received (tableOf b) t v buf (wholeRead b t m buf)
-  what-was-sent-arrives = demand-3-read promise b o e t lt
+  pub what-was-sent-arrives : (v : Value) (m buf : List ℕ) → depth v ≤ levels → length (octets v) ≤ longestValue → Octets m → Encodes (table rs) t v m → length m ≤ longestMessage
+      → length (octets v) ≤ length buf → Received (table rs) t v m buf (wholeRead b t m buf)
+  what-was-sent-arrives v m buf d l p e h k =
+      subst (λ (x : Outcome). Received (table rs) t v m buf x) (sym (read-found m buf)) (received (table rs) t m buf p (good-of o a) (limits-of o a) v d l e h k)
 
   -- Demand 3, the sender.
-  pub what-is-sent-is-permitted : (v : Value) (buf : List ℕ) → WellTyped (tableOf b) t v → depth v ≤ levels → Shaped v → length (octets v) ≤ longestValue → Sent (tableOf b) t v buf (wholeWrite b t (octets v) buf)
-  what-is-sent-is-permitted = demand-3-write promise b o e t lt
+  pub what-is-sent-is-permitted : (v : Value) (buf : List ℕ) → WellTyped (table rs) t v → depth v ≤ levels → Shaped v → length (octets v) ≤ longestValue
+      → Sent (table rs) t v buf (wholeWrite b t (octets v) buf)
+  what-is-sent-is-permitted v buf w d s h =
+      subst (λ (x : Outcome). Sent (table rs) t v buf x) (sym (write-found (octets v) buf)) (sent (table rs) t buf v w d s h)
 
   -- What the reader left at the start of the buffer is a value: judged again, it is that value.
-  pub what-was-read-is-a-value : (m buf : List ℕ) → Octets m → (k : ℕ) (after : List ℕ) → (x : Read (tableOf b) t m buf k after)
-      → Shaped (x .value) × (judgeWhole (tableOf b) levels t (octets (x .value)) ≡ got (x .value) [])
-  what-was-read-is-a-value m buf p k after = read-again (tableOf b) t m buf k after (limited (tableOf b) (countOf b) (passes b o e) (numbers b o e)) p
-
--- "On a refusal the buffer is unchanged."
-
-unchanged : (b : List ℕ) (buf : List ℕ) (x : Table → ℕ → Outcome) (r : Refusal) → (x (tableOf b) (countOf b) .answer ≡ refusal r → x (tableOf b) (countOf b) .buffer ≡ buf)
-    → (v : Verdict) → afterCheck b buf x v .answer ≡ refusal r → afterCheck b buf x v .buffer ≡ buf
-unfolding afterCheck
-unchanged b buf x r f Passed z = f z
-unchanged b buf x r f (Refused c) z = refl
-
-pub read-unchanged : (b : List ℕ) (t : ℕ) (m buf : List ℕ) (r : Refusal) → wholeRead b t m buf .answer ≡ refusal r → wholeRead b t m buf .buffer ≡ buf
-unfolding wholeRead
-read-unchanged b t m buf r = unchanged b buf (λ T n. readOutcome T n t m buf) r (λ z. read-refused (tableOf b) (countOf b) t m buf r z .0) (verdict b)
-
-pub write-unchanged : (b : List ℕ) (t : ℕ) (v buf : List ℕ) → Octets v → (r : Refusal) → wholeWrite b t v buf .answer ≡ refusal r → wholeWrite b t v buf .buffer ≡ buf
-unfolding wholeWrite
-write-unchanged b t v buf o r = unchanged b buf (λ T n. writeOutcome T n t v buf) r (λ z. write-refused (tableOf b) (countOf b) t v buf o r z .0) (verdict b)
+  pub what-was-read-is-a-value : (m buf : List ℕ) → Octets m → (k : ℕ) (after : List ℕ) → (x : Read (table rs) t m buf k after)
+      → Shaped (x .value) × (judgeWhole (table rs) levels t (octets (x .value)) ≡ got (x .value) [])
+  what-was-read-is-a-value m buf p k after x =
+      let e = x .encodes in
+      let w = x .typed in
+      let h = encodes-shaped any-order (table rs) (limits-of o a) (e .level) t (x .value) m (all-octets m p) (x .within) (e .encodes) in
+      (h, judge-octets (table rs) levels t (x .value) (retype (table rs) (w .level) levels t (x .value) (x .deep) (w .typed)) h)

@@ -27,8 +27,8 @@ use Rattle.coding.specs.Form.{encode, element, alternatives, formMembers
 use Rattle.coding.specs.Judging.{need, flags, ownMembers, ownCount, ownBoolean, ownInteger, ownString, ownBits, ownEnumerated, ownChoice, readOwn, readNode, leafKind, nodeKind, numbers, leafAgrees, agreeing, counts, agrees, judgeMembers, judgeElements, judgeBelow, judgeValue, judgeWhole}
 use Rattle.coding.specs.Awaited.{beginsBody, beginsItem, beginsIn, begins}
 use Rattle.coding.specs.Reading.{isListed, decode, passes, begun, notAwaited, nothing, full, unwanted, readWrapped, readSequence, place, readSet, readMany, choose, readBody, readKind, readValue, readMessage}
-use Rattle.coding.specs.Causes.{valueCause, messageCause}
-use Rattle.coding.specs.Outcome.{Outcome, Told, done, refusal, numberOf, placeOf, afterReading, readOutcome, afterJudging, writeOutcome, afterCheck, wholeWrite, wholeRead, checkAnswer}
+use Rattle.coding.specs.Calls.{valueCause, messageCause, afterReading, readOutcome, afterJudging, writeOutcome, afterCheck, wholeWrite, wholeRead, checkAnswer}
+use Rattle.coding.specs.Outcome.{Outcome, Told, done, refusal, numberOf, placeOf}
 
 -- octets as one hexadecimal number; the first of them is not 00
 abbrev hex : ℕ → List ℕ

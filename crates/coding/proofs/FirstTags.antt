@@ -20,7 +20,7 @@ use Rattle.table.specs.Rules.{Mistagged, missing, not-last, not-its-number, on-
 use Rattle.table.specs.Passes.{Nested, Passes}
 use Rattle.coding.specs.Awaited.{types, further, awaited}
 use Rattle.coding.specs.Tags.{identifierOf, last, before, explicitTags, own, explicit}
-use Rattle.coding.proofs.Awaited.{beginsBody, beginsItem, beginsIn, begins}
+use Rattle.coding.specs.Awaited.{beginsBody, beginsItem, beginsIn, begins}
 
 -- i begins one of the types
 abbrev pub beginsAny : Table → List ℕ → List ℕ → Bool

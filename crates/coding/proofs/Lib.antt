@@ -1,8 +1,10 @@
 -- The demands and what they rest on.
 -- Assumes nothing.
 pub mod Demands
-pub mod Whole
-pub mod Theorems
+pub mod Witness
+pub mod Stages
+pub mod Outcomes
+pub mod Messages
 pub mod Refusals
 pub mod Checked
 pub mod Examples

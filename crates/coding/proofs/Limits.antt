@@ -17,9 +17,9 @@ use Rattle.table.specs.Syntax.{Record, Body, Plain, Enumerated, Choice, table, 
 use Rattle.table.specs.Octets.{tagOctets, own, recordOctets}
 use Rattle.table.specs.Verdict.{verdict}
 use Rattle.table.specs.declared.Verdict.the-variants.{Passed}
+use Rattle.table.specs.Reading.{scan, look}
 use Rattle.table.proofs.Theorems.{passed-records}
 use Rattle.coding.specs.Content.{listed}
-use Rattle.coding.proofs.Whole.{tableOf}
 
 not-choice : {ns : List ℕ} {C : Type 0} → Choice [] ≡ Plain (Enumerated ns) → C
 unfolding isChoice
@@ -45,7 +45,7 @@ number-small [] o k e = absurd (false≢true e)
 number-small (n ∷ ns) (every-cons a (every-cons b o)) k e =
     or-by (eqb n k) _ e (λ x. let q : n ≡ k = eqb-true n k x in omega arith) (number-small ns o k)
 
-pub numbers : (b : List ℕ) → Octets b → verdict b ≡ Passed → (t : ℕ) (ns : List ℕ) → tableOf b t .body ≡ Plain (Enumerated ns) → (k : ℕ) → listed ns k ≡ true → k < 65536
+pub numbers : (b : List ℕ) → Octets b → verdict b ≡ Passed → (t : ℕ) (ns : List ℕ) → look b (scan b .offsets) t .body ≡ Plain (Enumerated ns) → (k : ℕ) → listed ns k ≡ true → k < 65536
 numbers b o e t ns q =
     let x = passed-records b o e in
     let rs = x .0 in

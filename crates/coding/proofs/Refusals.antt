@@ -1,20 +1,17 @@
--- Every answer names one cause, one of document 01's, and one place, within what was handed in; on a refusal the buffer is as it was.
+-- Every refusal in reading and judging has one of the numbers of its stage, and a place within what was handed in.
 -- Assumes nothing.
-use borrow.Author.Tests.{leb-true, leb-false, ltb-true, ltb-false, not-false, not-true}
-use mathlib.Core.Bool.{Bool, true, false, not}
+use mathlib.Core.Bool.{Bool, true, false}
 use mathlib.Core.List.{List, [], _∷_, _++_}
 use mathlib.Core.Option.{Option, some, none}
 use mathlib.Core.Path.{_≡_, refl, subst}
 use native.Mathlib.Omega.{arith}
-use Prim.Native.Nat.{ℕ, zero, suc, _+_, _-_, _≤_, _<_, min}
-use lib.Dec.{ltb, leb}
+use Prim.Native.Nat.{ℕ, zero, suc, _+_, _-_, _≤_, _<_}
 use lib.ListN.{length, take, drop, length-append}
 use lib.Seq.{length-take-le}
 use Rattle.octets.specs.Answer.{Answer, got, refused, then, if, behind}
-use Rattle.octets.specs.Numbers.{Octets}
 use Rattle.octets.specs.Permutations.{AllOctets, Order, as-given}
-use Rattle.octets.proofs.Answer.{Holds, yields, if-holds, then-holds, map-holds, if-cases, got-holds, Taken}
-use Rattle.octets.proofs.Permutations.{all-octets, every-right}
+use Rattle.octets.proofs.Answer.{Holds, yields, if-holds, then-holds, map-holds, got-holds, Taken}
+use Rattle.octets.proofs.Permutations.{every-right}
 use Rattle.ber.specs.Reading.{readFollowing, readIdentifier, Size, definite, indefinite, fit, readLong, readLength, Mode, closed, open-ended, atEnd, readHeader, inside, readConstructed, contents, readPrimitive}
 use Rattle.ber.specs.Length.{short, long}
 use Rattle.ber.specs.Item.{Definite, sized, Constructed, in-size, in-marks}
@@ -26,9 +23,8 @@ use Rattle.coding.specs.Reading.{decode, notAwaited, unwanted, nothing, 
 use Rattle.coding.specs.Tags.{own, explicit}
 use Rattle.coding.specs.Encodes.{Coding, Codes, is-plain, is-sequence, is-set, is-sequence-of, is-set-of, is-choice, Wrapped, bare, tagged, EncodesAt}
 use Rattle.coding.specs.Judging.{Node, a-leaf, a-sequence, a-set, a-sequence-of, a-set-of, a-choice, need, ownMembers, ownCount, ownBoolean, ownInteger, ownString, ownBits, ownEnumerated, ownChoice, readOwn, readNode, judgeMembers, judgeElements, judgeBelow, judgeValue, judgeWhole}
-use Rattle.coding.specs.Form.{formAt}
-use Rattle.coding.specs.Outcome.{levels, longestValue, longestMessage, Refusal, numberOf, placeOf, Told, done, refusal, Outcome, afterReading, readOutcome, afterJudging, writeOutcome}
-use Rattle.coding.specs.Causes.{valueNumber, valuePlace, messageNumber, messagePlace, valueCause, messageCause}
+use Rattle.coding.specs.Causes.{valueNumber, valuePlace, messageNumber, messagePlace, OfMessage, is-22, is-23, is-24, is-25, is-26, is-28, OfValue, is-11, is-12, is-13}
+use Rattle.coding.specs.Calls.{valueCause, messageCause}
 use Rattle.coding.proofs.Sound.{wrapped-sound, kind-sound, value-sound, not-awaited}
 use Rattle.coding.proofs.Nodes.{nodeOctets, node-sound}
 use Rattle.coding.proofs.Judging.{judge-sound}
@@ -61,15 +57,6 @@ module _ {K : ℕ → Type 0} where
   -- at the place itself
   here : {A : Type 0} {n c : ℕ} → K c → Speaks {A = A} K n (refused c n)
   here {n = n} c = names {l = n} c (omega arith)
-
--- the numbers that reading gives
-pub data OfMessage : ℕ → Type 0 where
-  is-22 : OfMessage 22
-  is-23 : OfMessage 23
-  is-24 : OfMessage 24
-  is-25 : OfMessage 25
-  is-26 : OfMessage 26
-  is-28 : OfMessage 28
 
 abbrev pub Says : {A : Type 0} → ℕ → Answer A → Type 0
 Says n x = Speaks OfMessage n x
@@ -325,12 +312,6 @@ message-says T n t m =
     let h = got-holds (value-shorter T n t m) e in
     if-speaks _ (λ f. names {l = length r} is-26 (omega arith)) λ f _. answers
 
--- the numbers that judging gives
-pub data OfValue : ℕ → Type 0 where
-  is-11 : OfValue 11
-  is-12 : OfValue 12
-  is-13 : OfValue 13
-
 need-says : {A : Type 0} (n l k : ℕ) (s : List ℕ) {x : Unit {0} → Answer A} → l ≤ n → ((u : Unit {0}) → Speaks OfValue n (x u)) → Speaks OfValue n (need l k s x)
 unfolding need
 need-says n l k s h f = if-speaks _ (λ e. names is-11 h) λ e. f
@@ -410,7 +391,7 @@ whole-says T n t b o =
 
 -- the enums say these numbers and places
 
-message-cause : {c : ℕ} (p : ℕ) → OfMessage c → (messageNumber (messageCause c p) ≡ c) × (messagePlace (messageCause c p) ≡ p)
+pub message-cause : {c : ℕ} (p : ℕ) → OfMessage c → (messageNumber (messageCause c p) ≡ c) × (messagePlace (messageCause c p) ≡ p)
 unfolding messageCause if
 message-cause p is-22 = (refl, refl)
 message-cause p is-23 = (refl, refl)
@@ -419,84 +400,8 @@ message-cause p is-25 = (refl, refl)
 message-cause p is-26 = (refl, refl)
 message-cause p is-28 = (refl, refl)
 
-value-cause : {c : ℕ} (p : ℕ) → OfValue c → (valueNumber (valueCause c p) ≡ c) × (valuePlace (valueCause c p) ≡ p)
+pub value-cause : {c : ℕ} (p : ℕ) → OfValue c → (valueNumber (valueCause c p) ≡ c) × (valuePlace (valueCause c p) ≡ p)
 unfolding valueCause if
 value-cause p is-11 = (refl, refl)
 value-cause p is-12 = (refl, refl)
 value-cause p is-13 = (refl, refl)
-
--- An outcome: done, or one refusal with its number and place; and then the buffer is as it was.
-
-unfoldable IsDone : Told → Type 0
-IsDone (done k) = Unit {0}
-IsDone (refusal r) = ⊥
-
-done≢refusal : {C : Type 0} {r : Refusal} {k : ℕ} → done k ≡ refusal r → C
-unfolding IsDone
-done≢refusal e = absurd (subst IsDone e tt)
-
-same-refusal : {r q : Refusal} → refusal r ≡ refusal q → r ≡ q
-same-refusal e = cc
-
-carry : (P : Refusal → Type 0) {q r : Refusal} → refusal q ≡ refusal r → P q → P r
-carry P z p = subst P (same-refusal z) p
-
--- when the reader gives which refusal: 7, 21, then what the reading says, 27 only for a message otherwise accepted
-pub data ReadRefused (T : Table) (n t : ℕ) (m buf : List ℕ) (r : Refusal) : Type 0 where
-  no-such-type : n ≤ t → numberOf r ≡ 7 → placeOf r ≡ 0 → ReadRefused T n t m buf r
-  too-long : t < n → longestMessage < length m → numberOf r ≡ 21 → placeOf r ≡ 0 → ReadRefused T n t m buf r
-  as-read : (c l : ℕ) → t < n → length m ≤ longestMessage → readMessage T levels t m ≡ refused c l → l ≤ length m → numberOf r ≡ c → placeOf r ≡ length m - l → ReadRefused T n t m buf r
-  no-room : (v : Value) (s : List ℕ) → t < n → length m ≤ longestMessage → readMessage T levels t m ≡ got v s → min longestValue (length buf) < length (octets v)
-      → numberOf r ≡ 27 → placeOf r ≡ 0 → ReadRefused T n t m buf r
-
-abbrev IfRefused : List ℕ → (Refusal → Type 0) → Outcome → Type 0
-IfRefused buf P x = (r : Refusal) → x .answer ≡ refusal r → (x .buffer ≡ buf) × P r
-
-after-refused : (T : Table) (n t : ℕ) (m buf : List ℕ) → t < n → length m ≤ longestMessage → (x : Answer Value) → readMessage T levels t m ≡ x → Says (length m) x
-    → IfRefused buf (ReadRefused T n t m buf) (afterReading m buf x)
-unfolding afterReading
-after-refused T n t m buf lt h (refused c l) e (names k q) =
-    λ r z. let y = message-cause (length m - l) k in (refl, carry (ReadRefused T n t m buf) z (as-read c l lt h e q (y .0) (y .1)))
-after-refused T n t m buf lt h (got v s) e q =
-    if-cases (IfRefused buf (ReadRefused T n t m buf)) (not (leb (length (octets v)) (min 16384 (length buf)))) _ _
-    (λ f r z. (refl, carry (ReadRefused T n t m buf) z (no-room v s lt h e (leb-false (length (octets v)) (min 16384 (length buf)) (not-true (leb (length (octets v)) (min 16384 (length buf))) f)) refl refl)))
-    (λ f r z. done≢refusal z)
-
-pub read-refused : (T : Table) (n t : ℕ) (m buf : List ℕ) (r : Refusal) → readOutcome T n t m buf .answer ≡ refusal r → (readOutcome T n t m buf .buffer ≡ buf) × ReadRefused T n t m buf r
-unfolding readOutcome
-read-refused T n t m buf =
-    if-cases (IfRefused buf (ReadRefused T n t m buf)) (not (ltb t n)) _ _
-    (λ e r z. (refl, carry (ReadRefused T n t m buf) z (no-such-type (ltb-false t n (not-true (ltb t n) e)) refl refl))) λ e.
-    let lt : t < n = ltb-true t n (not-false (ltb t n) e) in
-    if-cases (IfRefused buf (ReadRefused T n t m buf)) (not (leb (length m) 8192)) _ _
-    (λ f r z. (refl, carry (ReadRefused T n t m buf) z (too-long lt (leb-false (length m) 8192 (not-true (leb (length m) 8192) f)) refl refl))) λ f.
-    after-refused T n t m buf lt (leb-true (length m) 8192 (not-false (leb (length m) 8192) f)) (readMessage T levels t m) refl (message-says T levels t m)
-
--- when the writer gives which refusal: 7, 11 for an over-long value, then what the judging says, 14 only for a value otherwise accepted
-pub data WriteRefused (T : Table) (n t : ℕ) (b buf : List ℕ) (r : Refusal) : Type 0 where
-  no-such-type : n ≤ t → numberOf r ≡ 7 → placeOf r ≡ 0 → WriteRefused T n t b buf r
-  over-long : t < n → longestValue < length b → numberOf r ≡ 11 → placeOf r ≡ 0 → WriteRefused T n t b buf r
-  as-judged : (c l : ℕ) → t < n → length b ≤ longestValue → judgeWhole T levels t b ≡ refused c l → l ≤ length b → numberOf r ≡ c → placeOf r ≡ length b - l → WriteRefused T n t b buf r
-  no-room : (v : Value) (s : List ℕ) → t < n → length b ≤ longestValue → judgeWhole T levels t b ≡ got v s → min longestMessage (length buf) < length (formAt T levels t v)
-      → numberOf r ≡ 14 → placeOf r ≡ 0 → WriteRefused T n t b buf r
-
-after-refused-write : (T : Table) (n t : ℕ) (b buf : List ℕ) → t < n → length b ≤ longestValue → (x : Answer Value) → judgeWhole T levels t b ≡ x → Speaks OfValue (length b) x
-    → IfRefused buf (WriteRefused T n t b buf) (afterJudging (formAt T levels t) b buf x)
-unfolding afterJudging
-after-refused-write T n t b buf lt h (refused c l) e (names k q) =
-    λ r z. let y = value-cause (length b - l) k in (refl, carry (WriteRefused T n t b buf) z (as-judged c l lt h e q (y .0) (y .1)))
-after-refused-write T n t b buf lt h (got v s) e q =
-    let f = formAt T levels t v in
-    if-cases (IfRefused buf (WriteRefused T n t b buf)) (not (leb (length f) (min 8192 (length buf)))) _ _
-    (λ g r z. (refl, carry (WriteRefused T n t b buf) z (WriteRefused.no-room v s lt h e (leb-false (length f) (min 8192 (length buf)) (not-true (leb (length f) (min 8192 (length buf))) g)) refl refl)))
-    (λ g r z. done≢refusal z)
-
-pub write-refused : (T : Table) (n t : ℕ) (b buf : List ℕ) → Octets b → (r : Refusal) → writeOutcome T n t b buf .answer ≡ refusal r → (writeOutcome T n t b buf .buffer ≡ buf) × WriteRefused T n t b buf r
-unfolding writeOutcome
-write-refused T n t b buf o =
-    if-cases (IfRefused buf (WriteRefused T n t b buf)) (not (ltb t n)) _ _
-    (λ e r z. (refl, carry (WriteRefused T n t b buf) z (WriteRefused.no-such-type (ltb-false t n (not-true (ltb t n) e)) refl refl))) λ e.
-    let lt : t < n = ltb-true t n (not-false (ltb t n) e) in
-    if-cases (IfRefused buf (WriteRefused T n t b buf)) (not (leb (length b) 16384)) _ _
-    (λ f r z. (refl, carry (WriteRefused T n t b buf) z (over-long lt (leb-false (length b) 16384 (not-true (leb (length b) 16384) f)) refl refl))) λ f.
-    after-refused-write T n t b buf lt (leb-true (length b) 16384 (not-false (leb (length b) 16384) f)) (judgeWhole T levels t b) refl (whole-says T levels t b (all-octets b o))

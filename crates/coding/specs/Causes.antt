@@ -1,8 +1,6 @@
 -- The refusals of the value stage and of the message stage: their numbers and places (document 01, "Refused").
 -- Assumes nothing.
 use Prim.Native.Nat.{ℕ}
-use lib.Dec.{eqb}
-use Rattle.octets.specs.Answer.{if}
 use Rattle.coding.specs.declared.ValueCause.{ValueCause}
 use Rattle.coding.specs.declared.ValueCause.the-variants.{Shape, IllTyped, Level as LevelV, Room as RoomV}
 use Rattle.coding.specs.declared.MessageCause.{MessageCause}
@@ -42,19 +40,17 @@ messagePlace (Trailing p) = p
 messagePlace Room = 0
 messagePlace (Level p) = p
 
--- the cause with a number that judging gives, and a place
-unfoldable pub valueCause : ℕ → ℕ → ValueCause
-valueCause c p =
-    if (eqb c 11) (Shape p) λ _.
-    if (eqb c 12) (IllTyped p) λ _.
-    LevelV p
+-- the numbers that judging gives
+pub data OfValue : ℕ → Type 0 where
+  is-11 : OfValue 11
+  is-12 : OfValue 12
+  is-13 : OfValue 13
 
--- the cause with a number that reading gives, and a place
-unfoldable pub messageCause : ℕ → ℕ → MessageCause
-messageCause c p =
-    if (eqb c 22) (Cut p) λ _.
-    if (eqb c 23) (Form p) λ _.
-    if (eqb c 24) (NotAwaited p) λ _.
-    if (eqb c 25) (Contents p) λ _.
-    if (eqb c 26) (Trailing p) λ _.
-    Level p
+-- the numbers that reading gives
+pub data OfMessage : ℕ → Type 0 where
+  is-22 : OfMessage 22
+  is-23 : OfMessage 23
+  is-24 : OfMessage 24
+  is-25 : OfMessage 25
+  is-26 : OfMessage 26
+  is-28 : OfMessage 28

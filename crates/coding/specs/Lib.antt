@@ -15,5 +15,6 @@ pub mod Awaited
 pub mod Reading
 pub mod Causes
 pub mod Outcome
+pub mod Calls
 -- What the demands say.
 pub mod Demands

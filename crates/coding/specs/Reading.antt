@@ -14,9 +14,10 @@ use Rattle.ber.specs.Integer.{integerOf, minimal}
 use Rattle.ber.specs.BitString.{unused, masked}
 use Rattle.table.specs.Syntax.{Member, Body, Plain, Sequence, Set, SequenceOf, SetOf, Choice, Table, Simple, Boolean, Integer, BitString, OctetString, Null, Enumerated}
 use Rattle.coding.specs.Value.{Value, leaf, sequence, set, sequenceOf, setOf, choice, slots, bag, Leaf, boolean, integer, bits, string, null, enumerated}
+use Rattle.coding.specs.Content.{listed}
 use Rattle.coding.specs.Encodes.{allowed}
 use Rattle.coding.specs.Tags.{own, explicit}
-use Rattle.coding.proofs.Awaited.{begins}
+use Rattle.coding.specs.Awaited.{begins}
 
 unfoldable pub isListed : List ℕ → ℤ → Bool
 isListed ns (pos k) = listed ns k

@@ -12,6 +12,7 @@ use Rattle.octets.specs.Permutations.{Every, AllOctets}
 use Rattle.ber.specs.BitString.{unused, masked}
 use Rattle.table.specs.Syntax.{Member, Simple, Body, Plain, Sequence, Set, SequenceOf, SetOf, Choice, Table, Boolean, Integer, BitString, OctetString, Null, Enumerated}
 use Rattle.coding.specs.Value.{Leaf, Value, leaf, sequence, set, sequenceOf, setOf, choice, slots, bag, boolean, integer, bits, string, null, enumerated}
+use Rattle.coding.specs.Content.{listed}
 use Rattle.coding.specs.Encodes.{allowed, At}
 
 -- the leaves of a kind: an INTEGER of 64 bits, spare bits 0, an ENUMERATED number that is listed (a table's numbers are far below 2 ^ 63)

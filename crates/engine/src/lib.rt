@@ -3,7 +3,7 @@ pub mod refusal;
 
 ghost use mathlib.Core.Path.{_≡_};
 ghost use Rattle.table.specs.Verdict.{verdict};
-ghost use Rattle.coding.specs.Outcome.{checkAnswer, wholeWrite, wholeRead};
+ghost use Rattle.coding.specs.Calls.{checkAnswer, wholeWrite, wholeRead};
 use coding::Answer;
 use coding::Refusal;
 use table::Verdict;

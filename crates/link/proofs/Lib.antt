@@ -1,3 +1,5 @@
--- The places and lengths of answers fit 16 bits.
+-- What the packed answers tell, and that they fit.
 -- Assumes nothing.
+pub mod Boundary
+pub mod Back
 pub mod Small

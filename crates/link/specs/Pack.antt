@@ -1,8 +1,6 @@
 -- An answer as one number for C: document 01's number of the refusal, or 0 for done, times 65,536, and its place, or the length written.
 -- Assumes nothing.
-use mathlib.Core.Path.{_≡_, refl, _∙_}
-use Prim.Native.Nat.{ℕ, _+_, _*_, _/_, _%_, _<_}
-use native.Mathlib.Omega.{arith}
+use Prim.Native.Nat.{ℕ, _+_, _*_, _/_, _%_}
 use lib.Dec.{eqb}
 use Rattle.octets.specs.Tests.{if}
 use Rattle.table.specs.declared.TableCause.the-variants.{Shape, NoRecord, WrongTag, ChoiceLoop, SharedTag, NoValue, NoType}
@@ -50,37 +48,3 @@ answerOf k p =
 
 unfoldable pub unpacked : ℕ → Answer
 unpacked u = answerOf (u / 65536) (u % 65536)
-
-apart : (k p : ℕ) → p < 65536 → unpacked (k * 65536 + p) ≡ answerOf k p
-unfolding unpacked
-apart k p h =
-    let d : (k * 65536 + p) / 65536 ≡ k = omega arith in
-    let m : (k * 65536 + p) % 65536 ≡ p = omega arith in
-    rw (d, m)
-
-which : (a : Answer) → answerOf (number a) (place a) ≡ a
-unfolding answerOf
-which (Done n) = refl
-which (Refused (Table (Shape p))) = refl
-which (Refused (Table (NoRecord p))) = refl
-which (Refused (Table (WrongTag p))) = refl
-which (Refused (Table (ChoiceLoop p))) = refl
-which (Refused (Table (SharedTag p))) = refl
-which (Refused (Table (NoValue p))) = refl
-which (Refused (Table NoType)) = refl
-which (Refused (Value (ShapeV p))) = refl
-which (Refused (Value (IllTyped p))) = refl
-which (Refused (Value (LevelV p))) = refl
-which (Refused (Value RoomV)) = refl
-which (Refused (Message TooLong)) = refl
-which (Refused (Message (Cut p))) = refl
-which (Refused (Message (Form p))) = refl
-which (Refused (Message (NotAwaited p))) = refl
-which (Refused (Message (Contents p))) = refl
-which (Refused (Message (Trailing p))) = refl
-which (Refused (Message Room)) = refl
-which (Refused (Message (Level p))) = refl
-
--- a packed answer comes apart again: no two answers share a number
-pub back : (a : Answer) → place a < 65536 → unpacked (packed a) ≡ a
-back a h = apart (number a) (place a) h ∙ which a

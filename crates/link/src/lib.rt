@@ -2,7 +2,7 @@
 ghost use mathlib.Core.Path.{_≡_};
 ghost use Prim.Native.Nat.{_+_, _*_, _<_};
 ghost use Rattle.table.specs.Verdict.{verdict};
-ghost use Rattle.coding.specs.Outcome.{checkAnswer, wholeWrite, wholeRead};
+ghost use Rattle.coding.specs.Calls.{checkAnswer, wholeWrite, wholeRead};
 ghost use Rattle.link.specs.Pack.{place, packed};
 use coding::Answer;
 

@@ -17,8 +17,7 @@ use Rattle.table.specs.declared.TableCause.the-variants.{NoType}
 use Rattle.ber.specs.Reading.{readIdentifier}
 use Rattle.coding.specs.Value.{Value, octets}
 use Rattle.coding.specs.Reading.{begun, notAwaited, readValue, readMessage}
-use Rattle.coding.specs.Causes.{messageCause}
-use Rattle.coding.specs.Outcome.{afterReading, readOutcome}
+use Rattle.coding.specs.Calls.{messageCause, afterReading, readOutcome}
 use Rattle.coding.specs.declared.MessageCause.{MessageCause}
 use Rattle.coding.specs.declared.MessageCause.the-variants.{TooLong, Room}
 use Rattle.coding.specs.declared.Refusal.the-variants.{Table as of-table, Message as of-message}

@@ -23,8 +23,7 @@ use Rattle.table.specs.declared.TableCause.the-variants.{NoType}
 use Rattle.coding.specs.Value.{Value}
 use Rattle.coding.specs.Form.{formAt}
 use Rattle.coding.specs.Judging.{need, readNode, judgeValue, judgeWhole}
-use Rattle.coding.specs.Causes.{valueCause}
-use Rattle.coding.specs.Outcome.{afterJudging, writeOutcome}
+use Rattle.coding.specs.Calls.{valueCause, afterJudging, writeOutcome}
 use Rattle.coding.specs.declared.ValueCause.{ValueCause}
 use Rattle.coding.specs.declared.ValueCause.the-variants.{Shape, Room}
 use Rattle.coding.specs.declared.Refusal.the-variants.{Table as OfTable, Value as OfValue}

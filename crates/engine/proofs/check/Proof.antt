@@ -1,7 +1,7 @@
 -- `engine::check` meets its contract: the verdict as an answer.
 -- Assumes nothing.
 use borrow.Author.Needs.{needs}
-use Rattle.coding.specs.Outcome.{checkAnswer}
+use Rattle.coding.specs.Calls.{checkAnswer}
 use Rattle.engine.proofs.check.Statement.{statement}
 use Rattle.engine.proofs.check.Tie as tie
 use Rattle.engine.proofs.check.Reads as reads

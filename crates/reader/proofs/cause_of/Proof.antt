@@ -2,7 +2,7 @@
 -- Assumes nothing.
 use borrow.Author.Tests.{eq-eqb, ne-eqb}
 use Rattle.octets.specs.Answer.{if}
-use Rattle.coding.specs.Causes.{messageCause}
+use Rattle.coding.specs.Calls.{messageCause}
 use Rattle.reader.proofs.cause_of.Statement.{statement}
 use Rattle.reader.proofs.cause_of.Tie as tie
 use Rattle.reader.proofs.cause_of.Reads as reads

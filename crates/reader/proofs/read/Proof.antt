@@ -2,7 +2,7 @@
 -- Assumes nothing.
 use borrow.Author.Needs.{needs}
 use native.Mathlib.Omega.{arith}
-use Rattle.coding.specs.Outcome.{readOutcome, wholeRead}
+use Rattle.coding.specs.Calls.{readOutcome, wholeRead}
 use Rattle.coding.proofs.Checked.{out-table, count-within, count-is, few-records, short-table, passed, out-passed}
 use Rattle.reader.proofs.read.Statement.{statement}
 use Rattle.reader.proofs.read.Tie as tie

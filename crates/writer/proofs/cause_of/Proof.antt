@@ -2,7 +2,7 @@
 -- Assumes nothing.
 use borrow.Author.Tests.{eq-eqb, ne-eqb}
 use Rattle.octets.specs.Answer.{if}
-use Rattle.coding.specs.Causes.{valueCause}
+use Rattle.coding.specs.Calls.{valueCause}
 use Rattle.writer.proofs.cause_of.Statement.{statement}
 use Rattle.writer.proofs.cause_of.Tie as tie
 use Rattle.writer.proofs.cause_of.Reads as reads

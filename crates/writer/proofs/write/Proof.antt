@@ -2,7 +2,7 @@
 -- Assumes nothing.
 use borrow.Author.Needs.{needs}
 use native.Mathlib.Omega.{arith}
-use Rattle.coding.specs.Outcome.{writeOutcome, wholeWrite}
+use Rattle.coding.specs.Calls.{writeOutcome, wholeWrite}
 use Rattle.coding.proofs.Checked.{out-table, count-within, count-is, passed, out-passed}
 use Rattle.writer.proofs.write.Statement.{statement}
 use Rattle.writer.proofs.write.Tie as tie

@@ -1,0 +1,98 @@
+-- The reading of a message accepts what may be sent, all of it and nothing else: sound, complete, unique.
+-- Assumes nothing.
+use borrow.Author.Tests.{not-false}
+use mathlib.Core.Bool.{true, false}
+use mathlib.Core.List.{List, [], _++_, append-nil}
+use mathlib.Core.Path.{_≡_, sym, _∙_}
+use native.Mathlib.Omega.{arith}
+use Prim.Native.Nat.{ℕ, _≤_, max}
+use Rattle.octets.specs.Answer.{got, none-left}
+use Rattle.octets.specs.Numbers.{Octets}
+use Rattle.octets.specs.Permutations.{Order, any-order, as-given}
+use Rattle.octets.proofs.Answer.{run, Holds, yields, refuses, if-holds, then-holds, got-holds, got-value, got-rest, Reads, none-there}
+use Rattle.octets.proofs.Permutations.{all-octets}
+use Rattle.table.specs.Syntax.{Table}
+use Rattle.coding.specs.Value.{Value, depth}
+use Rattle.coding.specs.Encodes.{EncodesAt, Encodes, Arrives}
+use Rattle.coding.specs.Typed.{WellTyped}
+use Rattle.coding.specs.Equivalent.{EquivalentAt, Equivalent}
+use Rattle.coding.specs.Reading.{begun, readValue, readMessage}
+use Rattle.coding.proofs.Sound.{value-sound, not-awaited}
+use Rattle.coding.proofs.FirstTags.{Good, good, proper-readable}
+use Rattle.coding.proofs.Complete.{value-complete, starts-at, next-is, started-some}
+use Rattle.coding.proofs.Levels.{relevel, well-typed, deep, in-some-order}
+use Rattle.coding.proofs.Equivalence.{equivalent-equal, equivalent-sym, equivalent-trans}
+
+-- an accepted message is an encoding of the value that is read
+message-holds : (o : Order) (T : Table) (n t : ℕ) (m : List ℕ) → Holds (λ v r. (r ≡ []) × EncodesAt o T n t v m) (readMessage T n t m)
+unfolding readMessage
+message-holds o T n t m =
+    if-holds _ (λ e. refuses) λ e _.
+    if-holds _ (λ e. not-awaited m) λ e _.
+    then-holds (value-sound o T n t m) λ v r x.
+    if-holds _ (λ h. refuses) λ h _.
+    let z : r ≡ [] = none-there r (not-false (none-left r) h) in
+    yields (z, rw (x .cut, z, append-nil) (x .has))
+
+-- Sound: what the reading of a message accepts is permitted for the value that it yields, which is well-typed and within the level.
+pub record Sound (T : Table) (n t : ℕ) (m : List ℕ) (v : Value) (r : List ℕ) : Type 0 where
+  pub to-the-end : r ≡ []
+  pub arrives : Arrives T t v m
+  pub encodes : Encodes T t v m
+  pub typed : WellTyped T t v
+  pub deep : depth v ≤ n
+
+pub sound : (T : Table) (n t : ℕ) (m : List ℕ) (v : Value) (r : List ℕ) → Octets m → readMessage T n t m ≡ got v r → Sound T n t m v r
+sound T n t m v r o e =
+    let x = got-holds (message-holds as-given T n t m) e in
+    let w = well-typed as-given T n t v m (all-octets m o) (x .1) in
+    record {
+      to-the-end = x .0;
+      arrives = record { level = n; encodes = x .1 };
+      encodes = record { level = n; encodes = in-some-order as-given T n t v m (x .1) };
+      typed = record { level = n; typed = w };
+      deep = deep T n t v w;
+    }
+
+-- the reading of one value in front of anything: a permitted encoding within the level is read to its end
+pub complete : (T : Table) → Good T → (n t : ℕ) (v : Value) (m s : List ℕ) → Encodes T t v m → depth v ≤ n → Reads Equivalent (readValue T n t) v (m ++ s) s
+complete T good n t v m s e h =
+    let x = value-complete any-order T good n t v m s (relevel any-order T (e .level) n t v m h (e .encodes)) in
+    record { value = x .value; answer = x .answer; alike = record { level = n; equivalent = x .alike } }
+
+-- and with the elements of SET OF in the order of arrival it yields that very value
+pub complete-as-given : (T : Table) → Good T → (n t : ℕ) (v : Value) (m s : List ℕ) → Arrives T t v m → depth v ≤ n → readValue T n t (m ++ s) ≡ got v s
+complete-as-given T good n t v m s e h =
+    let x = value-complete as-given T good n t v m s (relevel as-given T (e .level) n t v m h (e .encodes)) in
+    rw (equivalent-equal n v (x .value) (x .alike)) (x .answer)
+
+message-accepts : (o : Order) (T : Table) → Good T → (n t : ℕ) (v w : Value) (m : List ℕ) → EncodesAt o T n t v m → readValue T n t m ≡ got w [] → readMessage T n t m ≡ got w []
+unfolding readMessage
+message-accepts o T good n t v w m e a =
+    let y = starts-at o T good n t v m e in
+    let some-octet : none-left m ≡ false = started-some T good t m y in
+    let b : begun T t m ≡ true = rw append-nil at (next-is T t {i = y .ident} {m = m} (y .rest) [] (proper-readable (good t .first (y .ident) (y .begins))) (y .is) ∙ y .begins) in
+    simp (run, some-octet, b, a)
+
+-- A message that arrives as a value within the level is read to that very value.
+pub accepts-as-given : (T : Table) → Good T → (n t : ℕ) (v : Value) (m : List ℕ) → Arrives T t v m → depth v ≤ n → readMessage T n t m ≡ got v []
+accepts-as-given T good n t v m e h =
+    let a = relevel as-given T (e .level) n t v m h (e .encodes) in
+    message-accepts as-given T good n t v v m a (rw append-nil at (complete-as-given T good n t v m [] e h))
+
+-- A message that is a permitted encoding of a value within the level is accepted, and what is read is equivalent.
+pub message-complete : (o : Order) (T : Table) → Good T → (n t : ℕ) (v : Value) (m : List ℕ) → EncodesAt o T n t v m → Reads (EquivalentAt o n) (readMessage T n t) v m []
+message-complete o T good n t v m e =
+    let x = value-complete o T good n t v m [] e in
+    let z : readValue T n t m ≡ got (x .value) [] = rw append-nil at (x .answer) in
+    record { value = x .value; answer = message-accepts o T good n t v (x .value) m e z; alike = x .alike }
+
+-- an encoding that begins with an encoding is that encoding, and of an equivalent value
+pub unique : (T : Table) → Good T → (t : ℕ) (v w : Value) (m x : List ℕ) → Encodes T t v m → Encodes T t w (m ++ x) → (x ≡ []) × Equivalent v w
+unique T good t v w m x e f =
+    let n = max (depth v) (depth w) in
+    let a = value-complete any-order T good n t v m x (relevel any-order T (e .level) n t v m (omega arith) (e .encodes)) in
+    let b = value-complete any-order T good n t w (m ++ x) [] (relevel any-order T (f .level) n t w (m ++ x) (omega arith) (f .encodes)) in
+    let z : got (a .value) x ≡ got (b .value) [] = sym (a .answer) ∙ rw append-nil at (b .answer) in
+    let q : EquivalentAt any-order n w (a .value) = rw (got-value z) (b .alike) in
+    (got-rest z, record { level = n; equivalent = equivalent-trans any-order n v (a .value) w (a .alike) (equivalent-sym any-order n w (a .value) q) })

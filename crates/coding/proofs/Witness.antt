@@ -1,0 +1,250 @@
+-- One table, one value and one message carried through every theorem of `Demands`, so that no premise there is empty: table S of document 01,
+-- its type 2 with 5 and true, and a permitted encoding of it in the indefinite form with the members in the other order.
+-- Assumes nothing.
+use borrow.Author.Tests.{ltb-true}
+use mathlib.Core.Bool.{Bool, true, false}
+use mathlib.Core.List.{List, [], _∷_, _++_}
+use mathlib.Core.Option.{some}
+use mathlib.Core.Path.{_≡_, refl, ap}
+use native.Mathlib.Omega.{arith}
+use Prim.Native.Nat.{ℕ, zero, suc, _≤_, _<_}
+use lib.Dec.{ltb}
+use lib.IntN.{pos}
+use lib.ListN.{length, getD, replicate}
+use Rattle.octets.specs.Answer.{got, then, if, behind, none-left}
+use Rattle.octets.specs.Lists.{any, all, joined, tabulate, lowestFrom, same}
+use Rattle.octets.specs.Numbers.{Octets}
+use Rattle.octets.specs.Permutations.{here, there, none, next, any-order}
+use Rattle.octets.proofs.Tests.{and-left, and-right}
+use Rattle.ber.specs.Identifier.{leading, following, identifier}
+use Rattle.ber.specs.Length.{short, number, digits, lengthOctets}
+use Rattle.ber.specs.Item.{sized, in-marks, item}
+use Rattle.ber.specs.Integer.{negative, pile, integerOf, spare, minimal, eight, fewest}
+use Rattle.ber.specs.BitString.{unused, masked}
+use Rattle.ber.specs.Reading.{readFollowing, readIdentifier, fit, readLong, readLength, atEnd, readHeader, inside, readConstructed, contents, readPrimitive}
+use Rattle.table.specs.Syntax.{Tag, Boolean, Integer, Plain, Set, Record, table, references, isChoice, universal, constructed}
+use Rattle.table.specs.Octets.{kind, tagOctets, memberOctets, own as ownOctets, recordOctets, rising, bodyShaped, recordShaped}
+use Rattle.table.specs.Rules.{bodyBelow, tagsBelow, parts, members}
+use Rattle.table.specs.Reading.{tagsAt, numbersAt, membersAt, everyAt, bodyAt, recordAt, countedEnd, enumeratedEnd, membersEnd, ownEnd, recordEnd, scanFrom, scan, look}
+use Rattle.table.specs.Decide.{round, rounds, found, dangling, wrongTags, reachStep, circular, sameTag, begins as firstBegins, firstStep, firstOfBoth, share, pair, sharing, finiteBody, finiteStep, infinite}
+use Rattle.table.specs.Cause.{Cause, FirstCause}
+use Rattle.table.specs.Verdict.{judgeChoices, judge, verdict}
+use Rattle.table.specs.declared.TableCause.{TableCause}
+use Rattle.table.specs.declared.TableCause.the-variants.{Shape as ShapeT, NoType}
+use Rattle.table.specs.declared.Verdict.the-variants.{Passed}
+use Rattle.table.proofs.Theorems.{passed-none}
+use Rattle.coding.specs.Value.{Value, leaf, integer, boolean, set, slots, bag, leafOctets, count, presence, octets, depth}
+use Rattle.coding.specs.Tags.{identifierOf, last, before, explicitTags, own, explicit}
+use Rattle.coding.specs.Content.{listed, c-boolean, c-integer}
+use Rattle.coding.specs.Encodes.{allowed, done, sent, is-plain, is-set, bare, EncodesAt, Encodes}
+use Rattle.coding.specs.Typed.{l-boolean, l-integer, f-done, f-sent, t-plain, t-set, WellTypedAt, WellTyped}
+use Rattle.coding.specs.Shaped.{LeafShaped, Shaped}
+use Rattle.coding.specs.Form.{encode, element, alternatives, formMembers, formElements, formBody, wrap, formAt}
+use Rattle.coding.specs.Judging.{need, flags, ownMembers, ownCount, ownBoolean, ownInteger, ownString, ownBits, ownEnumerated, ownChoice, readOwn, readNode, leafKind, nodeKind, numbers, leafAgrees, agreeing, counts, agrees, judgeMembers, judgeElements, judgeBelow, judgeValue, judgeWhole}
+use Rattle.coding.specs.Awaited.{beginsBody, beginsItem, beginsIn, begins}
+use Rattle.coding.specs.Reading.{isListed, decode, passes, begun, notAwaited, nothing, full, unwanted, readWrapped, readSequence, place, readSet, readMany, choose, readBody, readKind, readValue, readMessage}
+use Rattle.coding.specs.Causes.{is-11, is-22}
+use Rattle.coding.specs.Outcome.{levels, longestMessage, done as done-with, refusal, of-table, of-value, of-message, Outcome, refuse}
+use Rattle.coding.specs.Calls.{valueCause, messageCause, afterReading, readOutcome, afterJudging, writeOutcome, afterCheck, wholeRead, wholeWrite, checkAnswer}
+use Rattle.coding.specs.Demands.{Accepted, NoSuchType, OfType, MessageRefused, NoRoomForValue, Read, ValueRefused, NoRoomForMessage, Wrote, Received, Sent}
+use Rattle.coding.specs.declared.ValueCause.the-variants.{Shape, Room as RoomV}
+use Rattle.coding.specs.declared.MessageCause.the-variants.{TooLong, Cut, Room}
+use Rattle.coding.proofs.Demands as page
+
+octets-by : (s : List ℕ) → all (λ x. ltb x 256) s ≡ true → Octets s
+unfolding all
+octets-by [] e i = omega arith
+octets-by (x ∷ s) e zero = ltb-true x 256 (and-left (ltb x 256) _ e)
+octets-by (x ∷ s) e (suc i) = octets-by s (and-right (ltb x 256) _ e) i
+
+-- the table
+
+abbrev S : List ℕ
+S =
+    0x54 ∷ 0x59 ∷ 2 ∷ 1 ∷ 2 ∷ 0 ∷ 0
+    ∷ 0x54 ∷ 0x59 ∷ 1 ∷ 1 ∷ 0 ∷ 0 ∷ 1
+    ∷ 0x54 ∷ 0x59 ∷ 0x11 ∷ 1 ∷ 0 ∷ 0 ∷ 0x11 ∷ 2 ∷ 0 ∷ 0 ∷ 1 ∷ 1
+    ∷ []
+
+abbrev tag : ℕ → ℕ → Tag
+tag c n = record { class = c; number = n }
+
+abbrev records : List Record
+records =
+    record { tags = tag 2 0 ∷ []; body = Plain Integer }
+    ∷ record { tags = tag 0 1 ∷ []; body = Plain Boolean }
+    ∷ record { tags = tag 0 17 ∷ []; body = Set (record { type = 0; optional = false } ∷ record { type = 1; optional = true } ∷ []) }
+    ∷ []
+
+table-octets : Octets S
+unfolding all
+table-octets = octets-by S refl
+
+passed : verdict S ≡ Passed
+unfolding any all joined tabulate lowestFrom references isChoice universal rising bodyBelow tagsBelow parts tagsAt numbersAt membersAt everyAt bodyAt recordAt countedEnd enumeratedEnd membersEnd ownEnd recordEnd scanFrom scan look round rounds found dangling wrongTags reachStep circular sameTag firstBegins firstStep firstOfBoth share pair sharing finiteBody finiteStep infinite judgeChoices judge verdict
+passed = refl
+
+accepted : Accepted S records
+unfolding all joined kind tagOctets memberOctets ownOctets recordOctets rising bodyShaped recordShaped
+accepted = record {
+  spells = record { is = refl; shaped = refl; some = omega arith; few = omega arith; short = omega arith };
+  no-cause = passed-none S table-octets passed;
+}
+
+-- the value and the message
+
+abbrev value : Value
+value = set (slots (some (leaf (integer (pos 5))) ∷ some (leaf (boolean true)) ∷ []))
+
+abbrev five : List ℕ
+five = 0x80 ∷ 1 ∷ 5 ∷ []
+
+abbrev truth : List ℕ
+truth = 1 ∷ 1 ∷ 0x7F ∷ []
+
+abbrev message : List ℕ
+message = 0x31 ∷ 0x80 ∷ (truth ++ five ++ (0 ∷ 0 ∷ []))
+
+message-octets : Octets message
+unfolding all
+message-octets = octets-by message refl
+
+five-permitted : EncodesAt any-order (table records) 1 0 (leaf (integer (pos 5))) five
+unfolding EncodesAt table explicit explicitTags before own identifierOf identifier leading last constructed if minimal integerOf negative pile
+five-permitted = bare (is-plain {x = integer (pos 5)} (5 ∷ []) (c-integer {c = 5 ∷ []} refl (omega arith)) (sized (1 ∷ []) (short (omega arith) refl) refl))
+
+truth-permitted : EncodesAt any-order (table records) 1 1 (leaf (boolean true)) truth
+unfolding EncodesAt table explicit explicitTags before own identifierOf identifier leading last constructed if
+truth-permitted = bare (is-plain {x = boolean true} (0x7F ∷ []) (c-boolean {x = 0x7F}) (sized (1 ∷ []) (short (omega arith) refl) refl))
+
+permitted : Encodes (table records) 2 value message
+unfolding EncodesAt table explicit explicitTags before own identifierOf identifier leading last constructed if joined allowed
+permitted = record {
+  level = 2;
+  encodes = bare (is-set (five ∷ truth ∷ []) (truth ∷ five ∷ []) (sent five-permitted (sent truth-permitted done)) refl (next (there here) (next here none)) (in-marks refl));
+}
+
+typed : WellTyped (table records) 2 value
+unfolding WellTypedAt table allowed
+typed = record { level = 2; typed = t-set (f-sent (t-plain (l-integer {z = pos 5} (record { sfits = omega arith }))) (f-sent (t-plain l-boolean) f-done)) refl }
+
+shaped : Shaped value
+unfolding Shaped slots count LeafShaped
+shaped = (omega arith, (record { sfits = omega arith }, (tt, tt)))
+
+-- what the definitions compute: every stage of reading, of writing and of the check
+
+abbrev room : ℕ → List ℕ
+room n = replicate n 0
+
+abbrev valueOctets : List ℕ
+valueOctets = 0x56 ∷ 0x41 ∷ 0x11 ∷ 2 ∷ 1 ∷ 1 ∷ 0x56 ∷ 0x41 ∷ 2 ∷ 0 ∷ 0 ∷ 0 ∷ 0 ∷ 0 ∷ 0 ∷ 0 ∷ 5 ∷ 0x56 ∷ 0x41 ∷ 1 ∷ 1 ∷ []
+
+abbrev form : List ℕ
+form = 0x31 ∷ 6 ∷ 0x80 ∷ 1 ∷ 5 ∷ 1 ∷ 1 ∷ 0xFF ∷ []
+
+abbrev after-reading : Outcome
+after-reading = record { answer = done-with 21; buffer = valueOctets ++ room 3 }
+
+abbrev after-writing : Outcome
+after-writing = record { answer = done-with 8; buffer = form ++ room 1 }
+
+outcomes :
+    (checkAnswer (verdict []) ≡ refusal (of-table (ShapeT 0)))
+    × (wholeRead [] 2 message [] ≡ refuse (of-table (ShapeT 0)) [])
+    × (wholeRead S 3 message [] ≡ refuse (of-table NoType) [])
+    × (wholeRead S 2 (room 8193) [] ≡ refuse (of-message TooLong) [])
+    × (wholeRead S 2 (0x31 ∷ 0x80 ∷ []) [] ≡ refuse (of-message (Cut 2)) [])
+    × (wholeRead S 2 message (room 3) ≡ refuse (of-message Room) (room 3))
+    × (wholeRead S 2 message (room 24) ≡ after-reading)
+    × (wholeWrite [] 2 valueOctets [] ≡ refuse (of-table (ShapeT 0)) [])
+    × (wholeWrite S 3 valueOctets [] ≡ refuse (of-table NoType) [])
+    × (wholeWrite S 2 [] [] ≡ refuse (of-value (Shape 0)) [])
+    × (wholeWrite S 2 valueOctets (room 7) ≡ refuse (of-value RoomV) (room 7))
+    × (wholeWrite S 2 valueOctets (room 9) ≡ after-writing)
+unfolding if then behind none-left any all joined tabulate lowestFrom same references isChoice universal constructed kind members rising bodyBelow tagsBelow parts tagsAt numbersAt membersAt everyAt bodyAt recordAt countedEnd enumeratedEnd membersEnd ownEnd recordEnd scanFrom scan look round rounds found dangling wrongTags reachStep circular sameTag firstBegins firstStep firstOfBoth share pair sharing finiteBody finiteStep infinite judgeChoices judge verdict leading following identifier number digits lengthOctets item negative pile integerOf spare minimal eight fewest unused masked readFollowing readIdentifier fit readLong readLength atEnd readHeader inside readConstructed contents readPrimitive slots bag leafOctets count presence octets listed identifierOf last before explicitTags own explicit allowed encode element alternatives formMembers formElements formBody wrap formAt need flags ownMembers ownCount ownBoolean ownInteger ownString ownBits ownEnumerated ownChoice readOwn readNode leafKind nodeKind numbers leafAgrees agreeing counts agrees judgeMembers judgeElements judgeBelow judgeValue judgeWhole beginsBody beginsItem beginsIn begins isListed decode passes begun notAwaited nothing full unwanted readWrapped readSequence place readSet readMany choose readBody readKind readValue readMessage valueCause messageCause afterReading readOutcome afterJudging writeOutcome afterCheck wholeRead wholeWrite checkAnswer
+outcomes = (refl, refl, refl, refl, refl, refl, refl, refl, refl, refl, refl, refl)
+
+-- every theorem of the page, at these
+
+module _ where
+  read-octets : Octets (room 8193)
+  unfolding all
+  read-octets = octets-by (room 8193) refl
+
+  cut-octets : Octets (0x31 ∷ 0x80 ∷ [])
+  unfolding all
+  cut-octets = octets-by (0x31 ∷ 0x80 ∷ []) refl
+
+  value-octets : Octets valueOctets
+  unfolding all
+  value-octets = octets-by valueOctets refl
+
+  none-octets : Octets []
+  unfolding all
+  none-octets = octets-by [] refl
+
+pub checked : (FirstCause [] (ShapeT 0)) × (checkAnswer (verdict S) ≡ done-with 0)
+checked = (page.check-refuses [] none-octets (ShapeT 0) .0 (outcomes .0), page.check-passes S table-octets .1 (accepted .no-cause))
+
+pub reading :
+    FirstCause [] (ShapeT 0)
+    × NoSuchType S 3
+    × OfType S 2 (λ T. longestMessage < length (room 8193))
+    × OfType S 2 (λ T. MessageRefused T 2 (0x31 ∷ 0x80 ∷ []) (Cut 2))
+    × OfType S 2 (λ T. NoRoomForValue T 2 message (room 3))
+    × OfType S 2 (λ T. Read T 2 message (room 24) 21 (valueOctets ++ room 3))
+reading = (
+  page.read-refuses-table [] none-octets 2 message [] message-octets (ShapeT 0) (omega arith) .0 (outcomes .1),
+  page.read-refuses-type S table-octets 3 message [] message-octets .0 (outcomes .2),
+  page.read-refuses-length S table-octets 2 (room 8193) [] read-octets .0 (outcomes .3),
+  page.read-refuses-message S table-octets 2 (0x31 ∷ 0x80 ∷ []) [] cut-octets (Cut 2) is-22 .0 (outcomes .4),
+  page.read-refuses-room S table-octets 2 message (room 3) message-octets .0 (outcomes .5),
+  page.read-is-done S table-octets 2 message (room 24) message-octets 21 (valueOctets ++ room 3) .0 (outcomes .6),
+)
+
+pub writing :
+    FirstCause [] (ShapeT 0)
+    × NoSuchType S 3
+    × OfType S 2 (λ T. ValueRefused T 2 [] (Shape 0))
+    × OfType S 2 (λ T. NoRoomForMessage T 2 valueOctets (room 7))
+    × OfType S 2 (λ T. Wrote T 2 valueOctets (room 9) 8 (form ++ room 1))
+writing = (
+  page.write-refuses-table [] none-octets 2 valueOctets [] value-octets (ShapeT 0) (omega arith) .0 (outcomes .7),
+  page.write-refuses-type S table-octets 3 valueOctets [] value-octets .0 (outcomes .8),
+  page.write-refuses-value S table-octets 2 [] [] none-octets (Shape 0) is-11 .0 (outcomes .9),
+  page.write-refuses-room S table-octets 2 valueOctets (room 7) value-octets .0 (outcomes .10),
+  page.write-is-done S table-octets 2 valueOctets (room 9) value-octets 8 (form ++ room 1) .0 (outcomes .11),
+)
+
+pub left : (wholeRead S 2 message (room 3) .buffer ≡ room 3) × (wholeWrite S 2 valueOctets (room 7) .buffer ≡ room 7)
+left = (
+  page.read-leaves S 2 message (room 3) (of-message Room) (ap (λ (x : Outcome). x .answer) (outcomes .5)),
+  page.write-leaves S 2 valueOctets (room 7) (of-value RoomV) (ap (λ (x : Outcome). x .answer) (outcomes .10)),
+)
+
+pub is-read : Read (table records) 2 message (room 24) 21 (valueOctets ++ room 3)
+is-read = page.reads-exactly S table-octets records accepted 2 (omega arith) message (room 24) message-octets 21 (valueOctets ++ room 3) .0 (outcomes .6)
+
+pub exactly :
+    Read (table records) 2 message (room 24) 21 (valueOctets ++ room 3)
+    × Wrote (table records) 2 valueOctets (room 9) 8 (form ++ room 1)
+    × Shaped (is-read .value)
+    × (judgeWhole (table records) levels 2 (octets (is-read .value)) ≡ got (is-read .value) [])
+exactly =
+    let x = page.what-was-read-is-a-value S table-octets records accepted 2 (omega arith) message (room 24) message-octets 21 (valueOctets ++ room 3) is-read in
+    (is-read, page.writes-exactly S table-octets records accepted 2 (omega arith) valueOctets (room 9) value-octets 8 (form ++ room 1) .0 (outcomes .11), x .0, x .1)
+
+low : depth value ≤ levels
+unfolding slots depth
+low = omega arith
+
+small : length (octets value) ≤ 24
+unfolding slots octets leafOctets count presence eight
+small = omega arith
+
+pub arrives : Received (table records) 2 value message (room 24) (wholeRead S 2 message (room 24))
+arrives = page.what-was-sent-arrives S table-octets records accepted 2 (omega arith) value message (room 24) low (omega (arith, small)) message-octets permitted (omega arith) small
+
+pub sends : Sent (table records) 2 value (room 9) (wholeWrite S 2 (octets value) (room 9))
+sends = page.what-is-sent-is-permitted S table-octets records accepted 2 (omega arith) value (room 9) typed low shaped (omega (arith, small))

@@ -1,0 +1,29 @@
+-- What call control in C is told: the packed answer of an exported function, taken apart, is the outcome of which the demands speak
+-- (`coding/proofs/Demands`). r is what the function returns, `after` what the lent buffer then holds; the premises are the functions' contracts.
+-- Assumes nothing.
+use mathlib.Core.List.{List}
+use mathlib.Core.Path.{_≡_, ap, _∙_}
+use Prim.Native.Nat.{ℕ, _/_, _%_, _<_}
+use native.Mathlib.Omega.{arith}
+use Rattle.octets.specs.Numbers.{Octets}
+use Rattle.table.specs.Verdict.{verdict}
+use Rattle.coding.specs.Outcome.{Outcome}
+use Rattle.coding.specs.declared.Answer.{Answer as Told}
+use Rattle.coding.specs.Calls.{checkAnswer, wholeRead, wholeWrite}
+use Rattle.link.specs.Pack.{number, place, packed, unpacked}
+use Rattle.link.proofs.Back.{back}
+use Rattle.link.proofs.Small.{check-within, read-small, write-small}
+
+-- the high part is the number, 0 for done; the low part is the place or the length
+pub parts-of : (a : Told) → place a < 65536 → (packed a / 65536 ≡ number a) × (packed a % 65536 ≡ place a)
+parts-of a h = (omega arith, omega arith)
+
+pub link-checks : (b : List ℕ) (r : ℕ) → r ≡ packed (checkAnswer (verdict b)) → unpacked r ≡ checkAnswer (verdict b)
+link-checks b r e = ap unpacked e ∙ back (checkAnswer (verdict b)) (check-within b)
+
+module _ (b : List ℕ) (t : ℕ) (m buf : List ℕ) (o : Octets m) (r : ℕ) (after : List ℕ) where
+  pub link-reads : (r ≡ packed (wholeRead b t m buf .answer)) × (after ≡ wholeRead b t m buf .buffer) → _≡_ {A = Outcome} (record { answer = unpacked r; buffer = after }) (wholeRead b t m buf)
+  link-reads (e, f) = let q : unpacked r ≡ wholeRead b t m buf .answer = ap unpacked e ∙ back (wholeRead b t m buf .answer) (read-small b t m buf o) in rw (q, f)
+
+  pub link-writes : (r ≡ packed (wholeWrite b t m buf .answer)) × (after ≡ wholeWrite b t m buf .buffer) → _≡_ {A = Outcome} (record { answer = unpacked r; buffer = after }) (wholeWrite b t m buf)
+  link-writes (e, f) = let q : unpacked r ≡ wholeWrite b t m buf .answer = ap unpacked e ∙ back (wholeWrite b t m buf .answer) (write-small b t m buf o) in rw (q, f)
