@@ -1,4 +1,5 @@
--- Document 01's examples as one table: what the definitions answer to octets, and what the lent buffer then holds. One fact covers all rows.
+-- Document 01's examples in one table that one fact covers: what the definitions answer to octets, and what the lent buffer then holds.
+-- The rows that the paper marks come first, then a row or more for each refusal. Quoted words are sections of docs/FORMATS.md.
 -- Assumes nothing.
 use mathlib.Core.Bool.{Bool, true, false}
 use mathlib.Core.List.{List, [], _∷_, _++_}
@@ -30,7 +31,7 @@ use Rattle.coding.specs.Reading.{isListed, decode, passes, begun, notAwa
 use Rattle.coding.specs.Calls.{valueCause, messageCause, afterReading, readOutcome, afterJudging, writeOutcome, afterCheck, wholeWrite, wholeRead, checkAnswer}
 use Rattle.coding.specs.Outcome.{Outcome, Told, done, refusal, numberOf, placeOf}
 
--- octets as one hexadecimal number; the first of them is not 00
+-- at most 64 octets as one hexadecimal number; the first is not 00
 abbrev hex : ℕ → List ℕ
 hex n = digits 64 n []
 
@@ -102,7 +103,7 @@ wrong k (e ∷ es) = if (right (replicate 200 0xEE) e) (wrong (suc k) es) λ _. 
 
 abbrev pub examples : List Example
 examples =
-    -- WHAT DOCUMENT 01 MARKS. "Messages": INTEGER 127, 128, -128 and -129 in the fewest octets
+    -- MARKED BY DOCUMENT 01. "Messages": INTEGER 127, 128, -128 and -129 in the fewest octets
     writes I 0 (hex 0x56_41_02_00_00_00_00_00_00_00_7F) (ok (hex 0x02_01_7F))
     ∷ writes I 0 (hex 0x56_41_02_00_00_00_00_00_00_00_80) (ok (hex 0x02_02_00_80))
     ∷ writes I 0 (hex 0x56_41_02_FF_FF_FF_FF_FF_FF_FF_80) (ok (hex 0x02_01_80))
@@ -133,7 +134,7 @@ examples =
     ∷ reads S 2 (hex 0x31_80_01_01_7F_80_01_05_00_00) (ok (hex 0x56_41_11_02_01_01 ++ five ++ yea))
     -- "Tables": lists of themselves
     ∷ checks L (ok [])
-    -- EACH REFUSAL, its own example first. "Tables", 1: cut; over 8,192 octets; over 128 records
+    -- EACH REFUSAL, the paper's example of it first. "Tables", 1: a record that is cut; over 8,192 octets; over 128 records
     ∷ checks [] (no 1 0)
     ∷ checks (B ++ hex 0x54) (no 1 1)
     ∷ checks (B ++ replicate 8186 0) (no 1 0)
@@ -141,37 +142,35 @@ examples =
     -- 2, of the whole table before 3 of any record
     ∷ checks (hex 0x54_59_30_01_00_00_10_05) (no 2 0)
     ∷ checks (hex 0x54_59_02_00_54_59_30_01_00_00_10_05) (no 2 1)
-    -- 3: a UNIVERSAL tag on a CHOICE; write and read look at the table first
+    -- 3: a UNIVERSAL tag on a CHOICE; write and read check the table too, before the type
     ∷ checks (hex 0x54_59_02_00) (no 3 0)
     ∷ checks (B ++ hex 0x54_59_32_01_00_00_00_01_00) (no 3 1)
     ∷ writes (hex 0x54_59_02_00) 1 [] (no 3 0)
     ∷ reads (hex 0x54_59_02_00) 1 [] (no 3 0)
-    -- 4, of the CHOICE that comes back to itself and not of the one before it
+    -- 4, of a CHOICE on the circle and not of the one that leads there
     ∷ checks (hex 0x54_59_32_00_01_00) (no 4 0)
     ∷ checks (hex 0x54_59_32_00_01_01_54_59_32_00_01_01) (no 4 1)
-    -- 5, also by an alternative of an alternative
+    -- 5: with an alternative of an alternative
     ∷ checks (B ++ hex 0x54_59_11_01_00_00_11_02_00_00_00_00) (no 5 1)
     ∷ checks (B ++ hex 0x54_59_32_00_02_00_02_54_59_32_00_01_00) (no 5 1)
-    -- 6; passed if the member may be missing
+    -- 6, of a record behind a sound one
     ∷ checks (hex 0x54_59_10_01_00_00_10_01_00_00) (no 6 0)
     ∷ checks (B ++ hex 0x54_59_10_01_00_00_10_01_01_00) (no 6 1)
-    ∷ checks (hex 0x54_59_10_01_00_00_10_01_00_01) (ok [])
-    -- "Order of refusals", 7: before the value or the message is looked at
+    -- "Order of refusals", 7: before any look at the value
     ∷ reads B 1 (hex 0x01_01_FF) (no 7 0)
     ∷ writes B 1 [] (no 7 0)
-    -- "Values", 11: octets left; an element that is not there; a member
+    -- "Values", 11: octets left; an element that is not there
     ∷ writes B 0 (hex 0x56_41_01_02) (no 11 0)
     ∷ writes B 0 (hex 0x56_41_01_01_00) (no 11 4)
     ∷ writes L 0 (hex 0x56_41_30_00_01) (no 11 5)
-    ∷ writes S 2 (hex 0x56_41_11_02_01_01 ++ five ++ hex 0x56_41_01_02) (no 11 17)
     -- 12: members in the other order
     ∷ writes I 0 yea (no 12 0)
     ∷ writes S 2 (hex 0x56_41_11_02_01_01 ++ yea ++ five) (no 12 6)
-    -- 13, behind 11; level 24 is written
+    -- 13: what is cut on level 25 is 11; level 24 is written
     ∷ writes L 0 (nested 24) (no 13 120)
     ∷ writes L 0 (times 24 (hex 0x56_41_30_00_01) ++ hex 0x56_41_30) (no 11 120)
     ∷ writes L 0 (nested 23) (ok (hex 0x30_2E_30_2C_30_2A_30_28_30_26_30_24_30_22_30_20_30_1E_30_1C_30_1A_30_18_30_16_30_14_30_12_30_10_30_0E_30_0C_30_0A_30_08_30_06_30_04_30_02_30_00))
-    -- "Limits", 14: a buffer of 2 is too short, one of 3 is not
+    -- "Limits", 14: a buffer of 2, and of 3
     ∷ into 2 (writes B 0 yea (no 14 0))
     ∷ into 3 (writes B 0 yea (ok (hex 0x01_01_FF)))
     -- "Limits", 21
@@ -179,11 +178,11 @@ examples =
     -- "Messages", 22: no end
     ∷ reads B 0 (hex 0x01_01) (no 22 0)
     ∷ reads L 0 (hex 0x30_80) (no 22 2)
-    -- 23: 00 and no other 00; the long form with a 0 in front
+    -- 23: an end of one 00; an identifier in the long form with a 0 in front
     ∷ reads B 0 (hex 0x1F_01) (no 23 0)
     ∷ reads L 0 (hex 0x30_80_00_05) (no 23 2)
     ∷ reads S 2 (hex 0x31_06_80_01_05_1F_80_01) (no 23 5)
-    -- 24: 00 00 in a definite item; a member that came already; one that did not come
+    -- 24: 00 00 in a definite item; a member that came already; a member that did not come
     ∷ reads B 0 (hex 0x02_01_05) (no 24 0)
     ∷ reads L 0 (hex 0x30_02_00_00) (no 24 2)
     ∷ reads S 2 (hex 0x31_06_01_01_FF_01_01_FF) (no 24 5)
@@ -192,15 +191,14 @@ examples =
     ∷ reads I 0 (hex 0x02_02_00_7F) (no 25 0)
     ∷ reads (hex 0x54_59_01_02_02_00_00_00_00_01) 0 (hex 0xA0_04_01_02_FF_FF) (no 25 2)
     ∷ reads (hex 0x54_59_30_01_00_00_10_01 ++ I) 0 (hex 0x30_08_02_02_01_00_02_02_00_7F) (no 25 6)
-    -- 26: behind the last member; behind the item of an explicit tag
+    -- 26: behind the last member
     ∷ reads B 0 (hex 0x01_01_FF_00) (no 26 3)
     ∷ reads S 2 (hex 0x31_09_80_01_05_01_01_FF_80_01_05) (no 26 8)
-    ∷ reads (hex 0x54_59_01_02_02_00_00_00_00_01) 0 (hex 0xA0_80_01_01_FF_05_00) (no 26 5)
-    -- "Limits", 27: buffers of 3 and of 0 are too short, one of 4 is not
+    -- "Limits", 27: a buffer of 3, of 0 and of 4
     ∷ into 3 (reads B 0 (hex 0x01_01_FF) (no 27 0))
     ∷ into 0 (reads B 0 (hex 0x01_01_FF) (no 27 0))
     ∷ into 4 (reads B 0 (hex 0x01_01_FF) (ok yea))
-    -- "Octets and levels", 28: a list is a level, a CHOICE without tags and the NULL in it are two; level 24 is read
+    -- "Octets and levels", 28: a CHOICE without tags and the NULL in it are two levels that begin at one octet; level 24 is read
     ∷ reads L 0 (times 25 (hex 0x30_80)) (no 28 48)
     ∷ reads (hex 0x54_59_30_01_00_00_10_01_54_59_32_00_02_00_02_54_59_05_01_00_00_05) 0 (times 12 (hex 0x30_80) ++ hex 0x05) (no 28 24)
     ∷ reads L 0 (times 24 (hex 0x30_80) ++ replicate 48 0) (ok (nested 23))
