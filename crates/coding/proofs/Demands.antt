@@ -36,8 +36,8 @@ use Rattle.coding.proofs.FirstTags.{Good, good}
 use Rattle.coding.proofs.Levels.{retype}
 use Rattle.coding.proofs.Judging.{judge-octets}
 use Rattle.coding.proofs.Shaped.{Limited, limited, encodes-shaped}
-use Rattle.coding.proofs.Outcomes.{reading, writing, long-exactly, refused-exactly, lacks-exactly, read-exactly, received, read-beyond, read-unchanged, judged-exactly, full-exactly, written-exactly, sent, write-beyond, write-unchanged, done≢refusal, message-beyond, value-beyond, done-beyond}
-use Rattle.coding.proofs.Stages.{call, call-found, found-exactly, table-exactly, type-exactly, call-unchanged}
+use Rattle.coding.proofs.Outcomes.{Beyond, reading, writing, long-exactly, refused-exactly, lacks-exactly, read-exactly, received, read-beyond, read-unchanged, read-stage, read-never-value, write-stage, write-never-message, judged-exactly, full-exactly, written-exactly, sent, write-beyond, write-unchanged, done≢refusal, message-beyond, value-beyond, done-beyond}
+use Rattle.coding.proofs.Stages.{never, call, call-found, found-exactly, table-exactly, type-exactly, call-unchanged}
 use Rattle.coding.proofs.Limits.{numbers}
 
 -- both outcomes are those of a call: the table is judged, the type is looked for, then it is read or written
@@ -65,14 +65,25 @@ module _ {b : List ℕ} (o : Octets b) where
       let f = records-found o (a .spells) in
       limited (table rs) (length rs) (kept a) (rw (f .2) at (numbers b o (none-passed b o (a .no-cause))))
 
-  later : {t : ℕ} {P Q : Table → Type 0} {R : Type 0} → ((rs : List Record) → Accepted b rs → P (table rs) ↔ Q (table rs)) → R ↔ OfType b t P → R ↔ OfType b t Q
-  later f e = (
-    λ z. let r = e .0 z in record { records = r .records; accepted = r .accepted; there = r .there; holds = f (r .records) (r .accepted) .0 (r .holds) },
-    λ r. e .1 (record { records = r .records; accepted = r .accepted; there = r .there; holds = f (r .records) (r .accepted) .1 (r .holds) }),
-  )
+  -- an answer behind the table's: what it says of the records for g, it says of the call
+  later : (t : ℕ) (buf : List ℕ) (g : Table → Outcome) (x : Outcome) {P : Table → Type 0} → Beyond x → ((rs : List Record) → Accepted b rs → (g (table rs) ≡ x) ↔ P (table rs))
+      → (call b t buf g ≡ x) ↔ OfType b t P
+  later t buf g x far f =
+      let e = found-exactly b t buf g o x far in (
+        λ z. let r = e .0 z in record { records = r .records; accepted = r .accepted; there = r .there; holds = f (r .records) (r .accepted) .0 (r .holds) },
+        λ r. e .1 (record { records = r .records; accepted = r .accepted; there = r .there; holds = f (r .records) (r .accepted) .1 (r .holds) }),
+      )
 
--- Demand 1. Which answer is given when, from the octets alone: one equivalence a stage, in the order of the stages. All other answers are none
--- of `read` (of the value stage) and none of `write` (of the message stage).
+  read-later : (t : ℕ) (m buf : List ℕ) (x : Outcome) {P : Table → Type 0} → Beyond x → ((rs : List Record) → Accepted b rs → (reading (table rs) t m buf ≡ x) ↔ P (table rs))
+      → (wholeRead b t m buf ≡ x) ↔ OfType b t P
+  read-later t m buf x far f = along (read-call b t m buf) (later t buf (λ T. reading T t m buf) x far f)
+
+  write-later : (t : ℕ) (v buf : List ℕ) (x : Outcome) {P : Table → Type 0} → Beyond x → ((rs : List Record) → Accepted b rs → (writing (table rs) t v buf ≡ x) ↔ P (table rs))
+      → (wholeWrite b t v buf ≡ x) ↔ OfType b t P
+  write-later t v buf x far f = along (write-call b t v buf) (later t buf (λ T. writing T t v buf) x far f)
+
+-- Demand 1. Which answer is given when, from the octets alone: one equivalence a stage, in the order of the stages. There are no other answers:
+-- `read` gives no refusal of the value stage, `write` none of the message stage.
 
 module _ (b : List ℕ) (o : Octets b) where
   -- check, 1 to 6: the first cause is named
@@ -107,27 +118,24 @@ module _ (b : List ℕ) (o : Octets b) where
 
     -- 21
     pub read-refuses-length : (wholeRead b t m buf ≡ refuse (of-message TooLong) buf) ↔ OfType b t (λ T. longestMessage < length m)
-    read-refuses-length =
-        along (read-call b t m buf)
-        (later o (λ rs a. long-exactly (table rs) t m buf p) (found-exactly b t buf (λ T. reading T t m buf) o (refuse (of-message TooLong) buf) (message-beyond TooLong buf)))
+    read-refuses-length = read-later o t m buf (refuse (of-message TooLong) buf) (message-beyond TooLong buf) λ rs a. long-exactly (table rs) t m buf p
 
     -- 22 to 26, 28
     pub read-refuses-message : (k : MessageCause) → OfMessage (messageNumber k) → (wholeRead b t m buf ≡ refuse (of-message k) buf) ↔ OfType b t (λ T. MessageRefused T t m k)
-    read-refuses-message k i =
-        along (read-call b t m buf)
-        (later o (λ rs a. refused-exactly (table rs) t m buf p k i) (found-exactly b t buf (λ T. reading T t m buf) o (refuse (of-message k) buf) (message-beyond k buf)))
+    read-refuses-message k i = read-later o t m buf (refuse (of-message k) buf) (message-beyond k buf) λ rs a. refused-exactly (table rs) t m buf p k i
 
     -- 27
     pub read-refuses-room : (wholeRead b t m buf ≡ refuse (of-message Room) buf) ↔ OfType b t (λ T. NoRoomForValue T t m buf)
-    read-refuses-room =
-        along (read-call b t m buf)
-        (later o (λ rs a. lacks-exactly (table rs) t m buf p (good-of o a)) (found-exactly b t buf (λ T. reading T t m buf) o (refuse (of-message Room) buf) (message-beyond Room buf)))
+    read-refuses-room = read-later o t m buf (refuse (of-message Room) buf) (message-beyond Room buf) λ rs a. lacks-exactly (table rs) t m buf p (good-of o a)
 
     -- done
     pub read-is-done : (k : ℕ) (after : List ℕ) → (wholeRead b t m buf ≡ record { answer = done k; buffer = after }) ↔ OfType b t (λ T. Read T t m buf k after)
-    read-is-done k after =
-        along (read-call b t m buf)
-        (later o (λ rs a. read-exactly (table rs) t m buf p (good-of o a) k after) (found-exactly b t buf (λ T. reading T t m buf) o (record { answer = done k; buffer = after }) (done-beyond k after)))
+    read-is-done k after = read-later o t m buf (record { answer = done k; buffer = after }) (done-beyond k after) λ rs a. read-exactly (table rs) t m buf p (good-of o a) k after
+
+    pub read-refuses-no-value : (k : ValueCause) → wholeRead b t m buf .answer ≡ refusal (of-value k) → ⊥
+    unfolding wholeRead readOutcome
+    read-refuses-no-value k =
+        never b t buf (λ T. reading T t m buf) o (refusal (of-value k)) (value-beyond k buf) (λ T e. read-never-value T t m buf k (read-stage T t m buf p) e)
 
   module _ (t : ℕ) (v buf : List ℕ) (p : Octets v) where
     -- write, 1 to 6
@@ -140,21 +148,20 @@ module _ (b : List ℕ) (o : Octets b) where
 
     -- 11 to 13
     pub write-refuses-value : (k : ValueCause) → OfValue (valueNumber k) → (wholeWrite b t v buf ≡ refuse (of-value k) buf) ↔ OfType b t (λ T. ValueRefused T t v k)
-    write-refuses-value k i =
-        along (write-call b t v buf)
-        (later o (λ rs a. judged-exactly (table rs) t v buf p k i) (found-exactly b t buf (λ T. writing T t v buf) o (refuse (of-value k) buf) (value-beyond k buf)))
+    write-refuses-value k i = write-later o t v buf (refuse (of-value k) buf) (value-beyond k buf) λ rs a. judged-exactly (table rs) t v buf p k i
 
     -- 14
     pub write-refuses-room : (wholeWrite b t v buf ≡ refuse (of-value RoomV) buf) ↔ OfType b t (λ T. NoRoomForMessage T t v buf)
-    write-refuses-room =
-        along (write-call b t v buf)
-        (later o (λ rs a. full-exactly (table rs) t v buf p) (found-exactly b t buf (λ T. writing T t v buf) o (refuse (of-value RoomV) buf) (value-beyond RoomV buf)))
+    write-refuses-room = write-later o t v buf (refuse (of-value RoomV) buf) (value-beyond RoomV buf) λ rs a. full-exactly (table rs) t v buf p
 
     -- done
     pub write-is-done : (k : ℕ) (after : List ℕ) → (wholeWrite b t v buf ≡ record { answer = done k; buffer = after }) ↔ OfType b t (λ T. Wrote T t v buf k after)
-    write-is-done k after =
-        along (write-call b t v buf)
-        (later o (λ rs a. written-exactly (table rs) t v buf p k after) (found-exactly b t buf (λ T. writing T t v buf) o (record { answer = done k; buffer = after }) (done-beyond k after)))
+    write-is-done k after = write-later o t v buf (record { answer = done k; buffer = after }) (done-beyond k after) λ rs a. written-exactly (table rs) t v buf p k after
+
+    pub write-refuses-no-message : (k : MessageCause) → wholeWrite b t v buf .answer ≡ refusal (of-message k) → ⊥
+    unfolding wholeWrite writeOutcome
+    write-refuses-no-message k =
+        never b t buf (λ T. writing T t v buf) o (refusal (of-message k)) (message-beyond k buf) (λ T e. write-never-message T t v buf k (write-stage T t v buf p) e)
 
 -- a refusal leaves the buffer as it was
 

@@ -57,35 +57,29 @@ Beyond x = (c : TableCause) → x .answer ≡ refusal (of-table c) → ⊥
 abbrev pub Unchanged : List ℕ → Outcome → Type 0
 Unchanged buf x = (r : Refusal) → x .answer ≡ refusal r → x .buffer ≡ buf
 
-unfoldable OfTable : Told → Type 0
-OfTable (done k) = ⊥
-OfTable (refusal (of-table c)) = Unit {0}
-OfTable (refusal (of-value c)) = ⊥
-OfTable (refusal (of-message c)) = ⊥
-
-not-of-table : {x : Told} {C : Type 0} → (OfTable x → ⊥) → (c : TableCause) → x ≡ refusal (of-table c) → C
-unfolding OfTable
-not-of-table f c e = absurd (f (subst OfTable (sym e) tt))
+-- the stage of an answer: done, of the table, of the value, of the message
+abbrev stageOf : Told → ℕ
+stageOf (done k) = 0
+stageOf (refusal (of-table c)) = 1
+stageOf (refusal (of-value c)) = 2
+stageOf (refusal (of-message c)) = 3
 
 pub message-beyond : (k : MessageCause) (buf : List ℕ) → Beyond (refuse (of-message k) buf)
-unfolding OfTable
-message-beyond k buf = not-of-table (λ z. z)
+message-beyond k buf c e = let h : _≡_ {A = ℕ} 3 1 = ap stageOf e in omega arith
 
 pub value-beyond : (k : ValueCause) (buf : List ℕ) → Beyond (refuse (of-value k) buf)
-unfolding OfTable
-value-beyond k buf = not-of-table (λ z. z)
+value-beyond k buf c e = let h : _≡_ {A = ℕ} 2 1 = ap stageOf e in omega arith
 
 pub done-beyond : (k : ℕ) (after : List ℕ) → Beyond (record { answer = done k; buffer = after })
-unfolding OfTable
-done-beyond k after = not-of-table (λ z. z)
-
-unfoldable IsRefusal : Told → Type 0
-IsRefusal (done k) = ⊥
-IsRefusal (refusal r) = Unit {0}
+done-beyond k after c e = let h : _≡_ {A = ℕ} 0 1 = ap stageOf e in omega arith
 
 pub done≢refusal : {C : Type 0} {r : Refusal} {k : ℕ} → done k ≡ refusal r → C
-unfolding IsRefusal
-done≢refusal e = absurd (subst IsRefusal (sym e) tt)
+done≢refusal {r = r} e = by r e
+  where
+    by : {C : Type 0} {k : ℕ} (r : Refusal) → done k ≡ refusal r → C
+    by (of-table c) e = let h : _≡_ {A = ℕ} 0 1 = ap stageOf e in absurd (omega arith)
+    by (of-value c) e = let h : _≡_ {A = ℕ} 0 2 = ap stageOf e in absurd (omega arith)
+    by (of-message c) e = let h : _≡_ {A = ℕ} 0 3 = ap stageOf e in absurd (omega arith)
 
 same-message : {j k : MessageCause} {b c : List ℕ} → refuse (of-message j) b ≡ refuse (of-message k) c → j ≡ k
 same-message e = let z : refusal (of-message _) ≡ refusal (of-message _) = ap (λ (o : Outcome). o .answer) e in cc
@@ -173,6 +167,13 @@ module _ (T : Table) (t : ℕ) (m buf : List ℕ) where
       if-cases (ReadStage T t m buf) (not (leb (length m) longestMessage)) _ _
       (λ f. too-long (leb-false (length m) longestMessage (not-true _ f)) refl)
       λ f. after-read o (leb-true (length m) longestMessage (not-false _ f)) (readMessage T levels t m) refl (message-says T levels t m)
+
+  -- no refusal of the value stage
+  pub read-never-value : (k : ValueCause) {x : Outcome} → ReadStage T t m buf x → x .answer ≡ refusal (of-value k) → ⊥
+  read-never-value k (too-long h z) e = let q : _≡_ {A = ℕ} 3 2 = ap stageOf (sym (ap (λ (o : Outcome). o .answer) z) ∙ e) in omega arith
+  read-never-value k (refused-at j i x z) e = let q : _≡_ {A = ℕ} 3 2 = ap stageOf (sym (ap (λ (o : Outcome). o .answer) z) ∙ e) in omega arith
+  read-never-value k (no-room x z) e = let q : _≡_ {A = ℕ} 3 2 = ap stageOf (sym (ap (λ (o : Outcome). o .answer) z) ∙ e) in omega arith
+  read-never-value k (is-read j after x z) e = let q : _≡_ {A = ℕ} 0 2 = ap stageOf (sym (ap (λ (o : Outcome). o .answer) z) ∙ e) in omega arith
 
   pub read-within : length m ≤ longestMessage → (x : Answer Value) → readMessage T levels t m ≡ x → reading T t m buf ≡ afterReading m buf x
   read-within h x e = simp (run, le-leb (length m) longestMessage h, e)
@@ -324,6 +325,12 @@ module _ (T : Table) (t : ℕ) (v buf : List ℕ) where
       if-cases (WriteStage T t v buf) (not (leb (length v) longestValue)) _ _
       (λ f. WriteStage.refused-at (Shape 0) is-11 (over-long (leb-false (length v) longestValue (not-true _ f)) refl) refl)
       λ f. after-judged o (leb-true (length v) longestValue (not-false _ f)) (judgeWhole T levels t v) refl (whole-says T levels t v (all-octets v o))
+
+  -- no refusal of the message stage
+  pub write-never-message : (k : MessageCause) {x : Outcome} → WriteStage T t v buf x → x .answer ≡ refusal (of-message k) → ⊥
+  write-never-message k (WriteStage.refused-at j i x z) e = let q : _≡_ {A = ℕ} 2 3 = ap stageOf (sym (ap (λ (o : Outcome). o .answer) z) ∙ e) in omega arith
+  write-never-message k (WriteStage.no-room x z) e = let q : _≡_ {A = ℕ} 2 3 = ap stageOf (sym (ap (λ (o : Outcome). o .answer) z) ∙ e) in omega arith
+  write-never-message k (is-written j after x z) e = let q : _≡_ {A = ℕ} 0 3 = ap stageOf (sym (ap (λ (o : Outcome). o .answer) z) ∙ e) in omega arith
 
   write-within : length v ≤ longestValue → (x : Answer Value) → judgeWhole T levels t v ≡ x → writing T t v buf ≡ afterJudging (formAt T levels t) v buf x
   write-within h x e = simp (run, le-leb (length v) longestValue h, e)

@@ -22,7 +22,7 @@ use Rattle.table.specs.declared.TableCause.the-variants.{NoType}
 use Rattle.table.specs.declared.Verdict.{Verdict}
 use Rattle.table.specs.declared.Verdict.the-variants.{Passed, Refused}
 use Rattle.table.proofs.Theorems.{records-found, named-first, first-named, passed-none, none-passed, passed-records}
-use Rattle.coding.specs.Outcome.{of-table, refusal, Outcome, refuse}
+use Rattle.coding.specs.Outcome.{of-table, refusal, Outcome, refuse, Told}
 use Rattle.coding.specs.Calls.{afterCheck}
 use Rattle.coding.specs.Demands.{Accepted, NoSuchType, OfType}
 use Rattle.coding.proofs.Outcomes.{Beyond, Unchanged}
@@ -80,6 +80,16 @@ module _ (b : List ℕ) (t : ℕ) (buf : List ℕ) (g : Table → Outcome) where
         from (at-table c f) e = absurd (far c (ap (λ (o : Outcome). o .answer) (sym e ∙ call-refused c f)))
         from (at-type f) e = absurd (far NoType (ap (λ (o : Outcome). o .answer) (sym e ∙ call-unknown (f .accepted) (f .beyond))))
         from (at-records rs a h) e = record { records = rs; accepted = a; there = h; holds = sym (call-found a h) ∙ e }
+
+    -- an answer that none of the stages gives
+    pub never : (a : Told) → Beyond (record { answer = a; buffer = call .buffer }) → ((T : Table) → g T .answer ≡ a → ⊥) → call .answer ≡ a → ⊥
+    never a far f e =
+        let q : call ≡ record { answer = a; buffer = call .buffer } = outcome call e in
+        let r = found-exactly (record { answer = a; buffer = call .buffer }) far .0 q in
+        f (table (r .records)) (ap (λ (o : Outcome). o .answer) (r .holds))
+      where
+        outcome : (x : Outcome) → x .answer ≡ a → x ≡ record { answer = a; buffer = x .buffer }
+        outcome x z = λ i. record { answer = z i; buffer = x .buffer }
 
     module _ (far : (T : Table) → Beyond (g T)) where
       -- 1 to 6

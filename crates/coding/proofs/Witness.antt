@@ -217,6 +217,12 @@ writing = (
   page.write-is-done S table-octets 2 valueOctets (room 9) value-octets 8 (form ++ room 1) .0 (outcomes .11),
 )
 
+pub never : (wholeRead S 2 message (room 3) .answer ≡ refusal (of-value RoomV) → ⊥) × (wholeWrite S 2 valueOctets (room 7) .answer ≡ refusal (of-message Room) → ⊥)
+never = (
+  page.read-refuses-no-value S table-octets 2 message (room 3) message-octets RoomV,
+  page.write-refuses-no-message S table-octets 2 valueOctets (room 7) value-octets Room,
+)
+
 pub left : (wholeRead S 2 message (room 3) .buffer ≡ room 3) × (wholeWrite S 2 valueOctets (room 7) .buffer ≡ room 7)
 left = (
   page.read-leaves S 2 message (room 3) (of-message Room) (ap (λ (x : Outcome). x .answer) (outcomes .5)),
