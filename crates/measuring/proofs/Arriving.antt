@@ -15,7 +15,7 @@ use Rattle.octets.specs.Numbers.{Octets}
 use Rattle.ber.specs.Reading.{readIdentifier, Mode}
 use Rattle.table.specs.Syntax.{Member, Table}
 use Rattle.table.specs.Reading.{look, membersAt}
-use Rattle.table.proofs.Pieces.{length-members}
+use Rattle.table.proofs.Promises.{length-members}
 use Rattle.coding.specs.Value.{Value, slots, octets, parts}
 use Rattle.coding.specs.Encodes.{allowed}
 use Rattle.coding.specs.Reading.{begun, notAwaited, nothing, full, place, readSet, readValue}

@@ -13,7 +13,7 @@ use lib.ListN.{length, getD, take, drop, length-append, length-drop}
 use lib.Seq.{length-take-le}
 use Rattle.octets.specs.Answer.{Answer, got, refused, then, if, none-left, behind}
 use Rattle.octets.proofs.Answer.{if-cases, got-holds, got-value}
-use Rattle.octets.proofs.Tests.{test}
+use Rattle.octets.proofs.Tests.{test, at as at-kind}
 use Rattle.octets.specs.Numbers.{Octets}
 use Rattle.octets.specs.Permutations.{as-given}
 use Rattle.octets.proofs.Lists.{behind as behind-part, length-behind}
@@ -24,8 +24,7 @@ use Rattle.table.specs.Reading.{look, recordAt, bodyAt, ownAt, numbersAt, membe
 use Rattle.table.specs.Fields.{formOf}
 use Rattle.table.specs.declared.kind.Form.{Form}
 use Rattle.table.specs.declared.kind.Form.the-variants.{Simple as FSimple, Members as FMembers, Of as FOf, Choice as FChoice}
-use Rattle.table.proofs.Own.{at as at-kind}
-use Rattle.table.proofs.Pieces.{length-members}
+use Rattle.table.proofs.Promises.{length-members}
 use Rattle.coding.specs.Value.{Leaf, boolean, integer, bits, string, null, enumerated, Value, sequence, set, sequenceOf, setOf, slots, bag, octets, leafOctets, count, presence, Slots, end, missing, present}
 use Rattle.coding.specs.Value as Value-of
 use Rattle.coding.specs.Reading.{decode, begun, notAwaited, nothing, readSequence, readSet, readMany, readBody, readKind, readValue, readMessage}

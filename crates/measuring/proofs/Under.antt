@@ -75,7 +75,7 @@ nested-more T (suc k) (suc j) t h d = λ a m. nested-more T k j a (omega arith) 
 nested-all : {tb offs fs : List ℕ} → Ready tb offs fs → (t : ℕ) → Nested (look tb offs) 128 t
 unfolding tagsBelow bodyBelow
 nested-all {tb} {offs} R t =
-    nested-more (look tb offs) (length offs) 128 t (R .few)
+    nested-more (look tb offs) (length offs) 128 t (R .passes .few)
     (test (ltb t (length offs))
     (λ e. R .passes .ends t (ltb-true t (length offs) e))
     λ e. nested-none (look tb offs) (length offs) t (ap (λ (r : Record). tagsBelow (r .tags) (r .body)) (R .passes .no-more t (ltb-false t (length offs) e))))

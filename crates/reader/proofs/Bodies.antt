@@ -10,12 +10,12 @@ use lib.ListN.{length, getD, drop, length-append}
 use lib.Seq.{sets}
 use Rattle.octets.specs.Answer.{Answer, got, refused, then, if}
 use Rattle.octets.specs.Numbers.{Octets}
+use Rattle.octets.proofs.Tests.{at as at-kind}
 use Rattle.ber.specs.Reading.{readIdentifier, Mode}
 use Rattle.table.specs.Syntax.{Member, Table}
 use Rattle.table.specs.Reading.{look, recordAt, membersAt, bodyAt, ownAt}
 use Rattle.table.specs.Fields.{formOf}
 use Rattle.table.specs.declared.kind.Form.the-variants.{Members as FMembers, Of as FOf}
-use Rattle.table.proofs.Own.{at as at-kind}
 use Rattle.coding.specs.Value.{Value, set, slots}
 use Rattle.coding.specs.Reading.{begun, nothing, readSet, readBody, readValue}
 use Rattle.message.specs.Answers.{cap, told, sizesIn}

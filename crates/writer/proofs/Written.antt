@@ -41,9 +41,9 @@ shaped-classes : (r : Record) → recordShaped r ≡ true → all (λ g. leb (g 
 unfolding recordShaped
 shaped-classes r e = both (leb (length (r .tags)) 4) _ (both _ (bodyShaped (r .body)) e .0) .1
 
-pub passes-tagged : (T : Table) (n : ℕ) → Passes T n → Tagged T
+pub passes-tagged : (b : List ℕ) (T : Table) (n : ℕ) → Passes b T n → Tagged T
 unfolding isChoice all
-passes-tagged T n p = record { some-tag = λ t e. by t e (isChoice (T t .body)) refl; classes = cls }
+passes-tagged b T n p = record { some-tag = λ t e. by t e (isChoice (T t .body)) refl; classes = cls }
   where
     by : (t : ℕ) → T t .tags ≡ [] → (c : Bool) → isChoice (T t .body) ≡ c → isChoice (T t .body) ≡ true
     by t e true f = f

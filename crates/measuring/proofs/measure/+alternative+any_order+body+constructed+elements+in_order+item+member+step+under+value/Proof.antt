@@ -13,7 +13,7 @@ use Rattle.measuring.proofs.Turns.{step-done, value-done}
 use Rattle.measuring.proofs.Under.{alternative-found, alternative-none, found-deep, found-depth, found-lifted, step-found, step-none, told-small, under-deep, under-done, under-none, under-refused}
 use Rattle.message.specs.Answers.{mode, sizes, sizesIn}
 use Rattle.message.specs.Codes.{peeked}
-use Rattle.table.proofs.Pieces.{length-members}
+use Rattle.table.proofs.Promises.{length-members}
 use Rattle.table.specs.Fields.{formOf}
 use Rattle.table.specs.Reading.{look, membersAt, recordAt}
 use denote.Ref.{now}

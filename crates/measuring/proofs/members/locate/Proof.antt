@@ -4,7 +4,7 @@ use native.Mathlib.Omega.{arith}
 use denote.Ref.{now}
 use lib.ListN.{length, length-set}
 use Rattle.table.specs.Reading.{look, membersAt}
-use Rattle.table.proofs.Pieces.{length-members}
+use Rattle.table.proofs.Promises.{length-members}
 use Rattle.message.specs.Answers.{mode}
 use Rattle.measuring.proofs.Arriving.{begins}
 use Rattle.measuring.proofs.Past.{more-left}
