@@ -1,6 +1,6 @@
 -- The verdict is the first cause that holds.
 -- Assumes nothing.
-use mathlib.Core.Bool.{Bool, true, false, true≢false, false≢true}
+use mathlib.Core.Bool.{Bool, true, true≢false, false≢true}
 use mathlib.Core.List.{List, [], _∷_}
 use mathlib.Core.Path.{_≡_, refl, sym, _∙_, subst, fun-ext}
 use Prim.Native.Nat.{ℕ, suc, _≤_, _<_}
