@@ -1,4 +1,4 @@
--- Contents of a BIT STRING: the number of unused bits, then the octets of the bits (X.690, 8.6; document 01, "Messages").
+-- Contents of a BIT STRING: the number of unused bits, then the octets of the bits (X.690, 8.6; FORMATS, "Messages").
 -- Assumes nothing.
 use mathlib.Core.Bool.{Bool}
 use mathlib.Core.List.{List, [], _∷_}
@@ -10,7 +10,7 @@ unfoldable pub unused : ℕ → List ℕ → Bool
 unused n [] = eqb n 0
 unused n (x ∷ c) = ltb n 8
 
--- "unused bits may have any setting and are read as 0": the last n bits cleared
+-- the last n bits cleared: a sender may set unused bits as it likes, a reader takes them as 0
 unfoldable pub masked : ℕ → List ℕ → List ℕ
 masked n [] = []
 masked n (x ∷ []) = x / 2 ^ n * 2 ^ n ∷ []

@@ -1,4 +1,4 @@
--- Identifier octets (X.690, 8.1.2; document 01, "Messages" and "Refused" 22 to 24).
+-- Identifier octets (X.690, 8.1.2; FORMATS, "Messages").
 -- Assumes nothing.
 use mathlib.Core.Bool.{Bool, true, false}
 use mathlib.Core.List.{List, [], _∷_}
@@ -22,7 +22,7 @@ following n =
     if (ltb n 16384) ((128 + n / 128) ∷ n % 128 ∷ []) λ _.
     (128 + n / 16384) ∷ (128 + n / 128 % 128) ∷ n % 128 ∷ []
 
--- "Tag numbers to 30 use one octet, larger ones the long form in its fewest octets."
+-- a number up to 30 stands in the first octet; a larger one follows it, in the fewest octets
 unfoldable pub identifier : ℕ → Bool → ℕ → List ℕ
 identifier class constructed number =
     if (ltb number 31) (leading class constructed number ∷ []) λ _.

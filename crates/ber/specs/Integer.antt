@@ -1,4 +1,4 @@
--- Two's complement integers as octets (X.690, 8.3; document 01, "Messages" and "Values").
+-- Two's complement integers as octets (X.690, 8.3; FORMATS, "Messages" and "Values").
 -- Assumes nothing.
 use mathlib.Core.Bool.{Bool, true, false, not, _&&_, _||_}
 use mathlib.Core.List.{List, [], _∷_}
@@ -55,7 +55,7 @@ eight u =
     ∷ u % 256
     ∷ []
 
--- "INTEGER: eight octets, two's complement"
+-- the octets of an INTEGER node, for integers of 64 bits
 abbrev pub eightOf : ℤ → List ℕ
 eightOf z = eight (ofZ w64 z)
 
@@ -64,6 +64,6 @@ unfoldable pub fewest : List ℕ → List ℕ
 fewest [] = []
 fewest (a ∷ s) = if (minimal (a ∷ s)) (a ∷ s) λ _. fewest s
 
--- "two's complement in the fewest octets"
+-- 8.3.2: the contents of an INTEGER
 abbrev pub fewestOf : ℤ → List ℕ
 fewestOf z = fewest (eightOf z)

@@ -1,4 +1,4 @@
--- Items: identifier octets, length octets, contents and, where the length is indefinite, an end (X.690, 8.1; document 01, "Messages").
+-- Items: identifier octets, length octets, contents and, where the length is indefinite, an end (X.690, 8.1; FORMATS, "Messages").
 -- Assumes nothing.
 use mathlib.Core.List.{List, [], _∷_, _++_}
 use mathlib.Core.Path.{_≡_}

@@ -1,4 +1,4 @@
--- Length octets (X.690, 8.1.3; document 01, "Messages" and "Refused" 22 and 23).
+-- Length octets (X.690, 8.1.3; FORMATS, "Messages").
 -- Assumes nothing.
 use mathlib.Core.List.{List, [], _∷_}
 use mathlib.Core.Path.{_≡_}
@@ -12,7 +12,7 @@ unfoldable pub number : ℕ → List ℕ → ℕ
 number n [] = n
 number n (d ∷ ds) = number (n * 256 + d) ds
 
--- 8.1.3.4, 8.1.3.5: m is a definite form of the length n; "long lengths with up to 126 following octets, leading zeros allowed"
+-- 8.1.3.4, 8.1.3.5: m is a definite form of the length n; the long form has 1 to 126 octets behind the first, zeros in front included
 pub data Length (n : ℕ) (m : List ℕ) : Type 0 where
   short : n < 128 → m ≡ n ∷ [] → Length n m
   long : (ds : List ℕ) → 1 ≤ length ds → length ds ≤ 126 → number 0 ds ≡ n → m ≡ (128 + length ds) ∷ ds → Length n m
@@ -22,6 +22,6 @@ unfoldable pub digits : ℕ → ℕ → List ℕ → List ℕ
 digits zero n l = l
 digits (suc k) n l = if (eqb n 0) l λ _. digits k (n / 256) (n % 256 ∷ l)
 
--- "The writer uses definite shortest lengths"
+-- the shortest definite form, which the writer sends
 unfoldable pub lengthOctets : ℕ → List ℕ
 lengthOctets n = if (ltb n 128) (n ∷ []) λ _. (128 + length (digits 8 n [])) ∷ digits 8 n []

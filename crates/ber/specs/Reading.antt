@@ -1,4 +1,5 @@
--- The reading of items: identifier octets, length octets, contents and their end, with the refusals 22, 23 and 24 and their places.
+-- The reading of items: identifier octets, length octets, contents and their end, with the refusals 22, 23 and 24 and their places
+-- (X.690, 8.1; FORMATS, "Order of refusals").
 -- Assumes nothing.
 use mathlib.Core.List.{List, [], _∷_, _++_}
 use mathlib.Core.Bool.{not}
@@ -14,7 +15,7 @@ unfoldable pub readFollowing : ℕ → List ℕ → List ℕ → Answer (List �
 readFollowing l ds [] = refused 22 l
 readFollowing l ds (d ∷ s) = if (ltb d 128) (got (ds ++ (d ∷ [])) s) λ _. readFollowing l (ds ++ (d ∷ [])) s
 
--- "identifier octets present (22), form (23)": a long form begins with no 80, and its number is over 30
+-- whole (22), then in a form that X.690 has (23): the long form begins with no 80, and its number is over 30
 unfoldable pub readIdentifier : List ℕ → Answer (List ℕ)
 readIdentifier [] = refused 22 0
 readIdentifier (b ∷ s) =
@@ -28,14 +29,14 @@ pub data Size : Type 0 where
   definite : ℕ → Size
   indefinite : Size
 
--- "fits (22)"; l octets are left where the item begins
+-- no longer than what is left around it (22); l octets are left where the item begins
 unfoldable pub fit : ℕ → ℕ → List ℕ → Answer Size
 fit l n s = if (leb n (length s)) (got (definite n) s) λ _. refused 22 l
 
 unfoldable pub readLong : ℕ → ℕ → List ℕ → Answer Size
 readLong l k s = if (leb k (length s)) (fit l (number 0 (take k s)) (drop k s)) λ _. refused 22 l
 
--- "length octets present (22; FF is 23 once seen)"
+-- the length octets are there (22); a first octet FF is refused as soon as it is read (23)
 unfoldable pub readLength : ℕ → List ℕ → Answer Size
 readLength l [] = refused 22 l
 readLength l (b ∷ s) =
@@ -49,7 +50,7 @@ pub data Mode : Type 0 where
   closed open-ended : Mode
 
 -- Go on with f behind the end of the contents, with x where they go on.
--- "In an indefinite item, 00 begins the end: a missing second octet is 22, one other than 00 is 23; .. no octet is 22".
+-- Contents of indefinite length end with 00 00: with no octet left, or none behind the first 00, it is 22; 00 with another octet behind it is 23.
 unfoldable pub atEnd : {A : Type 0} → Mode → List ℕ → (List ℕ → Answer A) → (Unit {0} → Answer A) → Answer A
 atEnd closed s f x = if (none-left s) (f []) x
 atEnd open-ended s f x =
@@ -66,7 +67,7 @@ readHeader i s =
     if (not (same i j)) (refused 24 (length s)) λ _.
     readLength (length s) s₁
 
--- "The contents of an item are that part of the message only."
+-- contents of definite length are read as a part of their own; a place inside counts what stands behind that part
 unfoldable pub inside : {A : Type 0} → (Mode → List ℕ → Answer A) → Size → List ℕ → Answer A
 inside body (definite n) s = then (behind (length s - n) (body closed (take n s))) λ v r. got v (drop n s)
 inside body indefinite s = body open-ended s
@@ -74,7 +75,7 @@ inside body indefinite s = body open-ended s
 unfoldable pub readConstructed : {A : Type 0} → List ℕ → (Mode → List ℕ → Answer A) → List ℕ → Answer A
 readConstructed i body s = then (readHeader i s) (inside body)
 
--- "form (23; indefinite on a primitive)"; l octets are left where the item begins
+-- a primitive item has no indefinite form (23); l octets are left where the item begins
 unfoldable pub contents : ℕ → Size → List ℕ → Answer (List ℕ)
 contents l (definite n) s = got (take n s) (drop n s)
 contents l indefinite s = refused 23 l

@@ -1,4 +1,5 @@
--- What is awaited (document 01, "Messages"), and that an item which begins none of it is refused: 24 as long as anything is awaited, else 26.
+-- An item that begins nothing awaited is refused: with 24 as long as anything is awaited, else with 26; in a SEQUENCE, a SET, a list, under an
+-- explicit tag, and in the message.
 -- Assumes nothing.
 use borrow.Author.Tests.{ne-eqb}
 use mathlib.Core.Bool.{Bool, true, false, not, _||_, true≢false}

@@ -1,500 +1,210 @@
--- The examples of document 01, of the readings of it that the project takes, and of X.690, clause 8, against the definitions: one fact covers them.
+-- Document 01's examples in one table that one fact covers: what the definitions answer to octets, and what the lent buffer then holds.
+-- The rows that the paper marks come first, then a row or more for each refusal. Quoted words are sections of docs/FORMATS.md.
 -- Assumes nothing.
 use mathlib.Core.Bool.{Bool, true, false}
 use mathlib.Core.List.{List, [], _∷_, _++_}
 use mathlib.Core.Path.{_≡_, refl}
-use Prim.Native.Nat.{ℕ, zero, suc}
-use lib.ListN.{length, take}
+use Prim.Native.Nat.{ℕ, suc}
+use lib.ListN.{length, drop, replicate}
 use Rattle.octets.specs.Answer.{if, then, behind, none-left}
-use Rattle.octets.specs.Lists.{any, all, joined, same}
+use Rattle.octets.specs.Lists.{any, all, joined, tabulate, lowestFrom, same}
 use Rattle.ber.specs.Identifier.{leading, following, identifier}
-use Rattle.ber.specs.Reading.{readFollowing, readIdentifier, fit, readLong, readLength, atEnd, readHeader, inside, readConstructed, contents, readPrimitive}
 use Rattle.ber.specs.Length.{number, digits, lengthOctets}
 use Rattle.ber.specs.Item.{item}
 use Rattle.ber.specs.Integer.{negative, pile, integerOf, spare, minimal, eight, fewest}
 use Rattle.ber.specs.BitString.{unused, masked}
-use Rattle.table.specs.Syntax.{Tag, Member, Simple, Boolean, Integer, BitString, OctetString, Null, Enumerated, Plain, Sequence, Set, SequenceOf, SetOf, Choice, Record, table, universal, constructed}
-use Rattle.table.specs.Octets.{kind}
-use Rattle.table.specs.Rules.{members}
+use Rattle.ber.specs.Reading.{readFollowing, readIdentifier, fit, readLong, readLength, atEnd, readHeader, inside, readConstructed, contents, readPrimitive}
+use Rattle.table.specs.Syntax.{references, isChoice, universal, constructed}
+use Rattle.table.specs.Octets.{kind, rising}
+use Rattle.table.specs.Rules.{bodyBelow, tagsBelow, parts, members}
+use Rattle.table.specs.Reading.{tagsAt, numbersAt, membersAt, everyAt, bodyAt, recordAt, countedEnd, enumeratedEnd, membersEnd, ownEnd, recordEnd, scanFrom, scan, look}
+use Rattle.table.specs.Decide.{round, rounds, found, dangling, wrongTags, reachStep, circular, sameTag, begins as tagBegins, firstStep, firstOfBoth, share, pair, sharing, finiteBody, finiteStep, infinite}
+use Rattle.table.specs.Verdict.{judgeChoices, judge, verdict}
 use Rattle.coding.specs.Value.{slots, bag, leafOctets, count, presence, octets}
 use Rattle.coding.specs.Content.{listed}
-use Rattle.coding.specs.Form.{encode, element, alternatives, formMembers, formElements, formBody, wrap, formAt}
-use Rattle.coding.specs.Reading.{isListed, decode, passes, begun, notAwaited, nothing, full, unwanted, readWrapped, readSequence, place, readSet, readMany, choose, readBody, readKind, readValue, readMessage}
 use Rattle.coding.specs.Tags.{identifierOf, last, before, explicitTags, own, explicit}
 use Rattle.coding.specs.Encodes.{allowed}
+use Rattle.coding.specs.Form.{encode, element, alternatives, formMembers, formElements, formBody, wrap, formAt}
 use Rattle.coding.specs.Judging.{need, flags, ownMembers, ownCount, ownBoolean, ownInteger, ownString, ownBits, ownEnumerated, ownChoice, readOwn, readNode, leafKind, nodeKind, numbers, leafAgrees, agreeing, counts, agrees, judgeMembers, judgeElements, judgeBelow, judgeValue, judgeWhole}
-use Rattle.coding.specs.Calls.{valueCause, messageCause, afterReading, readOutcome, afterJudging, writeOutcome}
-use Rattle.coding.specs.Outcome.{Outcome, Told, done, refusal, numberOf, placeOf}
 use Rattle.coding.specs.Awaited.{beginsBody, beginsItem, beginsIn, begins}
+use Rattle.coding.specs.Reading.{isListed, decode, passes, begun, notAwaited, nothing, full, unwanted, readWrapped, readSequence, place, readSet, readMany, choose, readBody, readKind, readValue, readMessage}
+use Rattle.coding.specs.Calls.{valueCause, messageCause, afterReading, readOutcome, afterJudging, writeOutcome, afterCheck, wholeWrite, wholeRead, checkAnswer}
+use Rattle.coding.specs.Outcome.{Outcome, Told, done, refusal, numberOf, placeOf}
 
--- n octets b, and then those of l
-abbrev fill : ℕ → ℕ → List ℕ → List ℕ
-fill zero b l = l
-fill (suc n) b l = b ∷ fill n b l
+-- at most 64 octets as one hexadecimal number; the first is not 00
+abbrev hex : ℕ → List ℕ
+hex n = digits 64 n []
 
--- n times the octets of w, and then those of l
-abbrev again : ℕ → List ℕ → List ℕ → List ℕ
-again zero w l = l
-again (suc n) w l = w ++ again n w l
+abbrev times : ℕ → List ℕ → List ℕ
+times n w = joined (replicate n w)
 
-abbrev universalTag : ℕ → Tag
-universalTag n = record { class = 0; number = n }
+-- B, I, L, S of document 01; a BIT STRING and an OCTET STRING
+abbrev B : List ℕ
+B = hex 0x54_59_01_01_00_00_01
 
-abbrev application : ℕ → Tag
-application n = record { class = 1; number = n }
+abbrev I : List ℕ
+I = hex 0x54_59_02_01_00_00_02
 
-abbrev context : ℕ → Tag
-context n = record { class = 2; number = n }
+abbrev L : List ℕ
+L = hex 0x54_59_30_01_00_00_10_00
 
-abbrev plain : ℕ → Simple → Record
-plain n k = record { tags = universalTag n ∷ []; body = Plain k }
+abbrev S : List ℕ
+S = hex 0x54_59_02_01_02_00_00 ++ B ++ hex 0x54_59_11_01_00_00_11_02_00_00_01_01
 
-abbrev must : ℕ → Member
-must t = record { type = t; optional = false }
+abbrev T : List ℕ
+T = hex 0x54_59_03_01_00_00_03
 
-abbrev may : ℕ → Member
-may t = record { type = t; optional = true }
+abbrev O : List ℕ
+O = hex 0x54_59_04_01_00_00_04
 
--- B, I, L, S of document 01
-abbrev B : List Record
-B = plain 1 Boolean ∷ []
+-- the nodes of true and of 5; a list in n others, each the only element of the next
+abbrev yea : List ℕ
+yea = hex 0x56_41_01_01
 
-abbrev I : List Record
-I = plain 2 Integer ∷ []
+abbrev five : List ℕ
+five = hex 0x56_41_02_00_00_00_00_00_00_00_05
 
-abbrev L : List Record
-L = record { tags = universalTag 16 ∷ []; body = SequenceOf 0 } ∷ []
+abbrev nested : ℕ → List ℕ
+nested n = times n (hex 0x56_41_30_00_01) ++ hex 0x56_41_30_00_00
 
-abbrev S : List Record
-S = record { tags = context 0 ∷ []; body = Plain Integer } ∷ plain 1 Boolean ∷ record { tags = universalTag 17 ∷ []; body = Set (must 0 ∷ may 1 ∷ []) } ∷ []
-
--- an empty SEQUENCE; OCTET STRING, BIT STRING, NULL, ENUMERATED
-abbrev E : List Record
-E = record { tags = universalTag 16 ∷ []; body = Sequence [] } ∷ []
-
-abbrev O : List Record
-O = plain 4 OctetString ∷ []
-
-abbrev T : List Record
-T = plain 3 BitString ∷ []
-
-abbrev N : List Record
-N = plain 5 Null ∷ []
-
-abbrev U : List Record
-U = plain 10 (Enumerated (0 ∷ 5 ∷ 128 ∷ 300 ∷ 65535 ∷ [])) ∷ []
-
--- a BOOLEAN under an explicit [0]
-abbrev X : List Record
-X = record { tags = context 0 ∷ universalTag 1 ∷ []; body = Plain Boolean } ∷ []
-
--- lists of an untagged CHOICE of the list and NULL; the same with the CHOICE tagged [0]
-abbrev C : List Record
-C = record { tags = universalTag 16 ∷ []; body = SequenceOf 1 } ∷ record { tags = []; body = Choice (0 ∷ 2 ∷ []) } ∷ plain 5 Null ∷ []
-
-abbrev D : List Record
-D = record { tags = universalTag 16 ∷ []; body = SequenceOf 1 } ∷ record { tags = context 0 ∷ []; body = Choice (0 ∷ 2 ∷ []) } ∷ plain 5 Null ∷ []
-
--- lists of O, of I, of lists of I, of X; a SET OF I
-abbrev LO : List Record
-LO = record { tags = universalTag 16 ∷ []; body = SequenceOf 1 } ∷ plain 4 OctetString ∷ []
-
-abbrev LI : List Record
-LI = record { tags = universalTag 16 ∷ []; body = SequenceOf 1 } ∷ plain 2 Integer ∷ []
-
-abbrev LLI : List Record
-LLI = record { tags = universalTag 16 ∷ []; body = SequenceOf 1 } ∷ record { tags = universalTag 16 ∷ []; body = SequenceOf 2 } ∷ plain 2 Integer ∷ []
-
-abbrev LX : List Record
-LX = record { tags = universalTag 16 ∷ []; body = SequenceOf 1 } ∷ record { tags = context 0 ∷ universalTag 1 ∷ []; body = Plain Boolean } ∷ []
-
-abbrev W : List Record
-W = record { tags = universalTag 17 ∷ []; body = SetOf 1 } ∷ plain 2 Integer ∷ []
-
--- a SEQUENCE of [0] INTEGER OPTIONAL, [1] BOOLEAN, [2] NULL OPTIONAL
-abbrev Q : List Record
-Q =
-    record { tags = universalTag 16 ∷ []; body = Sequence (may 1 ∷ must 2 ∷ may 3 ∷ []) }
-    ∷ record { tags = context 0 ∷ []; body = Plain Integer }
-    ∷ record { tags = context 1 ∷ []; body = Plain Boolean }
-    ∷ record { tags = context 2 ∷ []; body = Plain Null }
-    ∷ []
-
--- context numbers 30, 31, 128, 65,535
-abbrev K : List Record
-K =
-    record { tags = context 30 ∷ []; body = Plain Null }
-    ∷ record { tags = context 31 ∷ []; body = Plain Null }
-    ∷ record { tags = context 128 ∷ []; body = Plain Null }
-    ∷ record { tags = context 65535 ∷ []; body = Plain Null }
-    ∷ []
-
--- X.690, 8.14: Type2 to Type5, with OCTET STRING in the place of VisibleString
-abbrev J : List Record
-J =
-    record { tags = application 3 ∷ []; body = Plain OctetString }
-    ∷ record { tags = context 2 ∷ application 3 ∷ []; body = Plain OctetString }
-    ∷ record { tags = application 7 ∷ application 3 ∷ []; body = Plain OctetString }
-    ∷ record { tags = context 2 ∷ []; body = Plain OctetString }
-    ∷ []
-
+-- the octets that are written; or the number and the place of a refusal
 pub data Said : Type 0 where
   ok : List ℕ → Said
   no : ℕ → ℕ → Said
 
--- a table, a type, a message or a value, the length of the lent buffer, and what is said
+-- a table, a type, a value or a message, what is said; 200 octets are lent, or so many
 pub data Example : Type 0 where
-  reads : List Record → ℕ → List ℕ → ℕ → Said → Example
-  writes : List Record → ℕ → List ℕ → ℕ → Said → Example
+  checks : List ℕ → Said → Example
+  writes reads : List ℕ → ℕ → List ℕ → Said → Example
+  into : ℕ → Example → Example
 
-abbrev saidBy : Told → List ℕ → List ℕ
-saidBy (done n) buf = 0 ∷ n ∷ take n buf
-saidBy (refusal r) buf = 1 ∷ numberOf r ∷ placeOf r ∷ []
+-- the answer and behind it the buffer: as they should be, and as they are
+abbrev said : Said → List ℕ → List ℕ
+said (ok w) buf = 0 ∷ length w ∷ (w ++ drop (length w) buf)
+said (Said.no n p) buf = 1 ∷ n ∷ p ∷ buf
 
-abbrev said : Said → List ℕ
-said (ok w) = 0 ∷ length w ∷ w
-said (Said.no n p) = 1 ∷ n ∷ p ∷ []
+abbrev told : Told → List ℕ → List ℕ
+told (done n) buf = 0 ∷ n ∷ buf
+told (refusal r) buf = 1 ∷ numberOf r ∷ placeOf r ∷ buf
 
-abbrev outcome : Outcome → List ℕ
-outcome o = saidBy (o .answer) (o .buffer)
+abbrev agree : Outcome → Said → List ℕ → Bool
+agree o x buf = same (told (o .answer) (o .buffer)) (said x buf)
 
-abbrev right : Example → Bool
-right (reads rs t m n x) = same (outcome (readOutcome (table rs) (length rs) t m (fill n 0 []))) (said x)
-right (writes rs t b n x) = same (outcome (writeOutcome (table rs) (length rs) t b (fill n 0 []))) (said x)
+abbrev right : List ℕ → Example → Bool
+right buf (checks b x) = same (told (checkAnswer (verdict b)) []) (said x [])
+right buf (writes b t v x) = agree (wholeWrite b t v buf) x buf
+right buf (reads b t m x) = agree (wholeRead b t m buf) x buf
+right buf (into n e) = right (replicate n 0xEE) e
 
-abbrev note : Bool → ℕ → List ℕ → List ℕ
-note true k l = l
-note false k l = k ∷ l
-
--- the places of the examples that come out otherwise, counted from k
+-- the places of the rows that come out otherwise, counted from k
 abbrev wrong : ℕ → List Example → List ℕ
 wrong k [] = []
-wrong k (e ∷ es) = note (right e) k (wrong (suc k) es)
+wrong k (e ∷ es) = if (right (replicate 200 0xEE) e) (wrong (suc k) es) λ _. k ∷ wrong (suc k) es
 
--- reading: every refusal of the message stage, and what is accepted
-abbrev pub readings : List Example
-readings =
-    -- the program's case
-    reads B 0 (0x01 ∷ 0x01 ∷ 0xFF ∷ []) 600 (ok (0x56 ∷ 0x41 ∷ 0x01 ∷ 0x01 ∷ []))
-    -- 22
-    ∷ reads B 0 (0x01 ∷ 0x01 ∷ []) 600 (no 22 0)
-    -- 23
-    ∷ reads B 0 (0x1F ∷ 0x01 ∷ []) 600 (no 23 0)
-    -- 24
-    ∷ reads B 0 (0x02 ∷ 0x01 ∷ 0x05 ∷ []) 600 (no 24 0)
-    -- 25
-    ∷ reads I 0 (0x02 ∷ 0x02 ∷ 0x00 ∷ 0x7F ∷ []) 600 (no 25 0)
-    -- 26
-    ∷ reads B 0 (0x01 ∷ 0x01 ∷ 0xFF ∷ 0x00 ∷ []) 600 (no 26 3)
-    -- 27
-    ∷ reads B 0 (0x01 ∷ 0x01 ∷ 0xFF ∷ []) 3 (no 27 0)
-    ∷ reads B 0 (0x01 ∷ 0x01 ∷ 0xFF ∷ []) 4 (ok (0x56 ∷ 0x41 ∷ 0x01 ∷ 0x01 ∷ []))
-    ∷ reads B 0 (0x01 ∷ 0x01 ∷ 0xFF ∷ []) 0 (no 27 0)
-    -- 7
-    ∷ reads B 1 (0x01 ∷ 0x01 ∷ 0xFF ∷ []) 600 (no 7 0)
-    -- 21
-    ∷ reads B 0 (fill 8193 0x00 ([])) 600 (no 21 0)
-    ∷ reads B 0 (fill 8192 0x00 ([])) 600 (no 24 0)
-    -- 7 before 21
-    ∷ reads B 1 (fill 8193 0x00 ([])) 600 (no 7 0)
-    -- 28
-    ∷ reads L 0 (0x30 ∷ 0x30 ∷ 0x30 ∷ 0x2E ∷ 0x30 ∷ 0x2C ∷ 0x30 ∷ 0x2A ∷ 0x30 ∷ 0x28 ∷ 0x30 ∷ 0x26 ∷ 0x30 ∷ 0x24 ∷ 0x30 ∷ 0x22 ∷ 0x30 ∷ 0x20 ∷ 0x30 ∷ 0x1E ∷ 0x30 ∷ 0x1C ∷ 0x30 ∷ 0x1A ∷ 0x30 ∷ 0x18 ∷ 0x30 ∷ 0x16 ∷ 0x30 ∷ 0x14 ∷ 0x30 ∷ 0x12 ∷ 0x30 ∷ 0x10 ∷ 0x30 ∷ 0x0E ∷ 0x30 ∷ 0x0C ∷ 0x30 ∷ 0x0A ∷ 0x30 ∷ 0x08 ∷ 0x30 ∷ 0x06 ∷ 0x30 ∷ 0x04 ∷ 0x30 ∷ 0x02 ∷ 0x30 ∷ 0x00 ∷ []) 600 (no 28 48)
-    -- 24 deep*
-    ∷ reads L 0 (0x30 ∷ 0x2E ∷ 0x30 ∷ 0x2C ∷ 0x30 ∷ 0x2A ∷ 0x30 ∷ 0x28 ∷ 0x30 ∷ 0x26 ∷ 0x30 ∷ 0x24 ∷ 0x30 ∷ 0x22 ∷ 0x30 ∷ 0x20 ∷ 0x30 ∷ 0x1E ∷ 0x30 ∷ 0x1C ∷ 0x30 ∷ 0x1A ∷ 0x30 ∷ 0x18 ∷ 0x30 ∷ 0x16 ∷ 0x30 ∷ 0x14 ∷ 0x30 ∷ 0x12 ∷ 0x30 ∷ 0x10 ∷ 0x30 ∷ 0x0E ∷ 0x30 ∷ 0x0C ∷ 0x30 ∷ 0x0A ∷ 0x30 ∷ 0x08 ∷ 0x30 ∷ 0x06 ∷ 0x30 ∷ 0x04 ∷ 0x30 ∷ 0x02 ∷ 0x30 ∷ 0x00 ∷ []) 600 (ok (again 23 (0x56 ∷ 0x41 ∷ 0x30 ∷ 0x00 ∷ 0x01 ∷ []) (0x56 ∷ 0x41 ∷ 0x30 ∷ 0x00 ∷ 0x00 ∷ [])))
-    ∷ reads L 0 (again 24 (0x30 ∷ 0x80 ∷ []) (fill 48 0x00 ([]))) 600 (ok (again 23 (0x56 ∷ 0x41 ∷ 0x30 ∷ 0x00 ∷ 0x01 ∷ []) (0x56 ∷ 0x41 ∷ 0x30 ∷ 0x00 ∷ 0x00 ∷ [])))
-    ∷ reads L 0 (again 25 (0x30 ∷ 0x80 ∷ []) ([])) 600 (no 28 48)
-    -- an empty message
-    ∷ reads B 0 ([]) 600 (no 22 0)
-    ∷ reads B 0 (0x1F ∷ 0x80 ∷ []) 600 (no 22 0)
-    ∷ reads B 0 (0x1F ∷ 0x80 ∷ 0x01 ∷ []) 600 (no 23 0)
-    ∷ reads B 0 (0xDF ∷ 0x00 ∷ []) 600 (no 23 0)
-    ∷ reads B 0 (0x1F ∷ []) 600 (no 22 0)
-    -- number 65,535
-    ∷ reads B 0 (0x1F ∷ 0x83 ∷ 0xFF ∷ 0x7F ∷ 0x01 ∷ 0x00 ∷ []) 600 (no 24 0)
-    -- number over 65,535
-    ∷ reads B 0 (0x1F ∷ 0x84 ∷ 0x80 ∷ 0x80 ∷ 0x01 ∷ 0x01 ∷ 0xFF ∷ []) 600 (no 24 0)
-    -- never wrapped: 2^70 + 1
-    ∷ reads B 0 (0x1F ∷ 0x81 ∷ 0x80 ∷ 0x80 ∷ 0x80 ∷ 0x80 ∷ 0x80 ∷ 0x80 ∷ 0x80 ∷ 0x80 ∷ 0x80 ∷ 0x01 ∷ 0x01 ∷ 0xFF ∷ []) 600 (no 24 0)
-    ∷ reads B 0 (0x1F ∷ 0x81 ∷ 0x80 ∷ 0x80 ∷ []) 600 (no 22 0)
-    ∷ reads B 0 (0x21 ∷ 0x01 ∷ 0xFF ∷ []) 600 (no 24 0)
-    -- the constructed bit
-    ∷ reads O 0 (0x24 ∷ 0x00 ∷ []) 600 (no 24 0)
-    -- 24 before the length
-    ∷ reads O 0 (0x24 ∷ []) 600 (no 24 0)
-    ∷ reads B 0 (0x01 ∷ []) 600 (no 22 0)
-    -- FF once seen
-    ∷ reads B 0 (0x01 ∷ 0xFF ∷ []) 600 (no 23 0)
-    -- indefinite on a primitive
-    ∷ reads B 0 (0x01 ∷ 0x80 ∷ 0xFF ∷ 0x00 ∷ 0x00 ∷ []) 600 (no 23 0)
-    ∷ reads B 0 (0x01 ∷ 0x81 ∷ 0x01 ∷ 0x7F ∷ []) 600 (ok (0x56 ∷ 0x41 ∷ 0x01 ∷ 0x01 ∷ []))
-    ∷ reads B 0 (0x01 ∷ 0x82 ∷ 0x00 ∷ 0x01 ∷ 0x00 ∷ []) 600 (ok (0x56 ∷ 0x41 ∷ 0x01 ∷ 0x00 ∷ []))
-    ∷ reads B 0 (0x01 ∷ 0x83 ∷ 0x01 ∷ []) 600 (no 22 0)
-    -- 2^64 + 1 is not 1
-    ∷ reads B 0 (0x01 ∷ 0x89 ∷ 0x01 ∷ 0x00 ∷ 0x00 ∷ 0x00 ∷ 0x00 ∷ 0x00 ∷ 0x00 ∷ 0x00 ∷ 0x01 ∷ 0xFF ∷ []) 600 (no 22 0)
-    -- 126 length octets
-    ∷ reads B 0 (0x01 ∷ 0xFE ∷ fill 125 0x00 (0x01 ∷ 0xFF ∷ [])) 600 (ok (0x56 ∷ 0x41 ∷ 0x01 ∷ 0x01 ∷ []))
-    -- 127 length octets
-    ∷ reads B 0 (0x01 ∷ 0xFF ∷ fill 126 0x00 (0x01 ∷ 0xFF ∷ [])) 600 (no 23 0)
-    ∷ reads B 0 (0x01 ∷ 0x00 ∷ []) 600 (no 25 0)
-    ∷ reads B 0 (0x01 ∷ 0x02 ∷ 0x00 ∷ 0x00 ∷ []) 600 (no 25 0)
-    ∷ reads B 0 (0x01 ∷ 0x02 ∷ 0x00 ∷ []) 600 (no 22 0)
-    -- 00 00 in a definite item
-    ∷ reads L 0 (0x30 ∷ 0x02 ∷ 0x00 ∷ 0x00 ∷ []) 600 (no 24 2)
-    ∷ reads L 0 (0x30 ∷ 0x80 ∷ []) 600 (no 22 2)
-    ∷ reads L 0 (0x30 ∷ 0x80 ∷ 0x00 ∷ []) 600 (no 22 2)
-    ∷ reads L 0 (0x30 ∷ 0x80 ∷ 0x00 ∷ 0x05 ∷ []) 600 (no 23 2)
-    ∷ reads L 0 (0x30 ∷ 0x80 ∷ 0x00 ∷ 0x00 ∷ []) 600 (ok (0x56 ∷ 0x41 ∷ 0x30 ∷ 0x00 ∷ 0x00 ∷ []))
-    ∷ reads L 0 (0x30 ∷ 0x80 ∷ 0x00 ∷ 0x00 ∷ 0x00 ∷ []) 600 (no 26 4)
-    -- 20 is an identifier
-    ∷ reads L 0 (0x30 ∷ 0x80 ∷ 0x20 ∷ 0x00 ∷ []) 600 (no 24 2)
-    ∷ reads L 0 (0x30 ∷ 0x00 ∷ []) 600 (ok (0x56 ∷ 0x41 ∷ 0x30 ∷ 0x00 ∷ 0x00 ∷ []))
-    ∷ reads E 0 (0x30 ∷ 0x80 ∷ 0x05 ∷ []) 600 (no 26 2)
-    ∷ reads E 0 (0x30 ∷ 0x80 ∷ 0x00 ∷ 0x05 ∷ []) 600 (no 23 2)
-    ∷ reads E 0 (0x30 ∷ 0x80 ∷ 0x00 ∷ []) 600 (no 22 2)
-    ∷ reads E 0 (0x30 ∷ 0x80 ∷ []) 600 (no 22 2)
-    ∷ reads E 0 (0x30 ∷ 0x00 ∷ []) 600 (ok (0x56 ∷ 0x41 ∷ 0x10 ∷ 0x00 ∷ []))
-    ∷ reads E 0 (0x30 ∷ 0x02 ∷ 0x00 ∷ 0x00 ∷ []) 600 (no 26 2)
-    -- before any look
-    ∷ reads E 0 (0x30 ∷ 0x01 ∷ 0x1F ∷ []) 600 (no 26 2)
-    ∷ reads LO 0 (0x30 ∷ 0x80 ∷ 0x04 ∷ 0x02 ∷ 0x00 ∷ 0x00 ∷ []) 600 (no 22 6)
-    ∷ reads LO 0 (0x30 ∷ 0x80 ∷ 0x04 ∷ 0x02 ∷ 0x00 ∷ 0x00 ∷ 0x00 ∷ 0x00 ∷ []) 600 (ok (0x56 ∷ 0x41 ∷ 0x30 ∷ 0x00 ∷ 0x01 ∷ 0x56 ∷ 0x41 ∷ 0x04 ∷ 0x00 ∷ 0x02 ∷ 0x00 ∷ 0x00 ∷ []))
-    -- beyond what encloses it
-    ∷ reads LO 0 (0x30 ∷ 0x04 ∷ 0x04 ∷ 0x03 ∷ 0x00 ∷ 0x00 ∷ 0x00 ∷ []) 600 (no 22 2)
-    ∷ reads LO 0 (0x30 ∷ 0x03 ∷ 0x04 ∷ 0x01 ∷ 0x07 ∷ 0x00 ∷ []) 600 (no 26 5)
-    -- S*
-    ∷ reads S 2 (0x31 ∷ 0x06 ∷ 0x80 ∷ 0x01 ∷ 0x05 ∷ 0x01 ∷ 0x01 ∷ 0xFF ∷ []) 600 (ok (0x56 ∷ 0x41 ∷ 0x11 ∷ 0x02 ∷ 0x01 ∷ 0x01 ∷ 0x56 ∷ 0x41 ∷ 0x02 ∷ 0x00 ∷ 0x00 ∷ 0x00 ∷ 0x00 ∷ 0x00 ∷ 0x00 ∷ 0x00 ∷ 0x05 ∷ 0x56 ∷ 0x41 ∷ 0x01 ∷ 0x01 ∷ []))
-    -- S in the other order*
-    ∷ reads S 2 (0x31 ∷ 0x80 ∷ 0x01 ∷ 0x01 ∷ 0x7F ∷ 0x80 ∷ 0x01 ∷ 0x05 ∷ 0x00 ∷ 0x00 ∷ []) 600 (ok (0x56 ∷ 0x41 ∷ 0x11 ∷ 0x02 ∷ 0x01 ∷ 0x01 ∷ 0x56 ∷ 0x41 ∷ 0x02 ∷ 0x00 ∷ 0x00 ∷ 0x00 ∷ 0x00 ∷ 0x00 ∷ 0x00 ∷ 0x00 ∷ 0x05 ∷ 0x56 ∷ 0x41 ∷ 0x01 ∷ 0x01 ∷ []))
-    ∷ reads S 2 (0x31 ∷ 0x00 ∷ []) 600 (no 24 2)
-    -- a member twice
-    ∷ reads S 2 (0x31 ∷ 0x06 ∷ 0x01 ∷ 0x01 ∷ 0xFF ∷ 0x01 ∷ 0x01 ∷ 0xFF ∷ []) 600 (no 24 5)
-    ∷ reads S 2 (0x31 ∷ 0x03 ∷ 0x80 ∷ 0x01 ∷ 0x05 ∷ []) 600 (ok (0x56 ∷ 0x41 ∷ 0x11 ∷ 0x02 ∷ 0x01 ∷ 0x00 ∷ 0x56 ∷ 0x41 ∷ 0x02 ∷ 0x00 ∷ 0x00 ∷ 0x00 ∷ 0x00 ∷ 0x00 ∷ 0x00 ∷ 0x00 ∷ 0x05 ∷ []))
-    ∷ reads S 2 (0x31 ∷ 0x80 ∷ 0x01 ∷ 0x01 ∷ 0xFF ∷ 0x00 ∷ 0x00 ∷ []) 600 (no 24 5)
-    ∷ reads S 2 (0x31 ∷ 0x03 ∷ 0x01 ∷ 0x01 ∷ 0xFF ∷ []) 600 (no 24 5)
-    ∷ reads S 2 (0x31 ∷ 0x09 ∷ 0x80 ∷ 0x01 ∷ 0x05 ∷ 0x01 ∷ 0x01 ∷ 0xFF ∷ 0x80 ∷ 0x01 ∷ 0x05 ∷ []) 600 (no 26 8)
-    ∷ reads S 2 (0x31 ∷ 0x05 ∷ 0x80 ∷ 0x01 ∷ 0x05 ∷ 0x00 ∷ 0x00 ∷ []) 600 (no 24 5)
-    ∷ reads S 2 (0x31 ∷ 0x80 ∷ 0x80 ∷ 0x01 ∷ 0x05 ∷ 0x01 ∷ 0x01 ∷ 0xFF ∷ 0x80 ∷ []) 600 (no 26 8)
-    ∷ reads S 2 (0x31 ∷ 0x80 ∷ 0x80 ∷ 0x01 ∷ 0x05 ∷ 0x01 ∷ 0x01 ∷ 0xFF ∷ 0x00 ∷ 0x00 ∷ []) 600 (ok (0x56 ∷ 0x41 ∷ 0x11 ∷ 0x02 ∷ 0x01 ∷ 0x01 ∷ 0x56 ∷ 0x41 ∷ 0x02 ∷ 0x00 ∷ 0x00 ∷ 0x00 ∷ 0x00 ∷ 0x00 ∷ 0x00 ∷ 0x00 ∷ 0x05 ∷ 0x56 ∷ 0x41 ∷ 0x01 ∷ 0x01 ∷ []))
-    ∷ reads S 2 (0x31 ∷ 0x05 ∷ 0x80 ∷ 0x01 ∷ 0x05 ∷ 0x1F ∷ 0x80 ∷ []) 600 (no 22 5)
-    ∷ reads S 2 (0x31 ∷ 0x06 ∷ 0x80 ∷ 0x01 ∷ 0x05 ∷ 0x1F ∷ 0x80 ∷ 0x01 ∷ []) 600 (no 23 5)
-    -- a tagged CHOICE: its value at the inner item
-    ∷ reads D 0 (again 12 (0x30 ∷ 0x80 ∷ 0xA0 ∷ 0x80 ∷ []) (0x05 ∷ [])) 600 (no 28 48)
-    -- 24 before 28
-    ∷ reads D 0 (again 12 (0x30 ∷ 0x80 ∷ 0xA0 ∷ 0x80 ∷ []) (0x06 ∷ [])) 600 (no 24 48)
-    -- an untagged CHOICE and its value at one item
-    ∷ reads C 0 (again 12 (0x30 ∷ 0x80 ∷ []) (0x05 ∷ [])) 600 (no 28 24)
-    ∷ reads C 0 (again 12 (0x30 ∷ 0x80 ∷ []) (0x06 ∷ [])) 600 (no 24 24)
-    ∷ reads C 0 (again 11 (0x30 ∷ 0x80 ∷ []) (0x05 ∷ fill 23 0x00 ([]))) 600 (ok (0x56 ∷ 0x41 ∷ 0x30 ∷ 0x00 ∷ 0x01 ∷ 0x56 ∷ 0x41 ∷ 0x32 ∷ 0x00 ∷ 0x56 ∷ 0x41 ∷ 0x30 ∷ 0x00 ∷ 0x01 ∷ 0x56 ∷ 0x41 ∷ 0x32 ∷ 0x00 ∷ 0x56 ∷ 0x41 ∷ 0x30 ∷ 0x00 ∷ 0x01 ∷ 0x56 ∷ 0x41 ∷ 0x32 ∷ 0x00 ∷ 0x56 ∷ 0x41 ∷ 0x30 ∷ 0x00 ∷ 0x01 ∷ 0x56 ∷ 0x41 ∷ 0x32 ∷ 0x00 ∷ 0x56 ∷ 0x41 ∷ 0x30 ∷ 0x00 ∷ 0x01 ∷ 0x56 ∷ 0x41 ∷ 0x32 ∷ 0x00 ∷ 0x56 ∷ 0x41 ∷ 0x30 ∷ 0x00 ∷ 0x01 ∷ 0x56 ∷ 0x41 ∷ 0x32 ∷ 0x00 ∷ 0x56 ∷ 0x41 ∷ 0x30 ∷ 0x00 ∷ 0x01 ∷ 0x56 ∷ 0x41 ∷ 0x32 ∷ 0x00 ∷ 0x56 ∷ 0x41 ∷ 0x30 ∷ 0x00 ∷ 0x01 ∷ 0x56 ∷ 0x41 ∷ 0x32 ∷ 0x00 ∷ 0x56 ∷ 0x41 ∷ 0x30 ∷ 0x00 ∷ 0x01 ∷ 0x56 ∷ 0x41 ∷ 0x32 ∷ 0x00 ∷ 0x56 ∷ 0x41 ∷ 0x30 ∷ 0x00 ∷ 0x01 ∷ 0x56 ∷ 0x41 ∷ 0x32 ∷ 0x00 ∷ 0x56 ∷ 0x41 ∷ 0x30 ∷ 0x00 ∷ 0x01 ∷ 0x56 ∷ 0x41 ∷ 0x32 ∷ 0x01 ∷ 0x56 ∷ 0x41 ∷ 0x05 ∷ []))
-    ∷ reads C 0 (0x30 ∷ 0x02 ∷ 0x05 ∷ 0x00 ∷ []) 600 (ok (0x56 ∷ 0x41 ∷ 0x30 ∷ 0x00 ∷ 0x01 ∷ 0x56 ∷ 0x41 ∷ 0x32 ∷ 0x01 ∷ 0x56 ∷ 0x41 ∷ 0x05 ∷ []))
-    ∷ reads C 1 (0x05 ∷ 0x00 ∷ []) 600 (ok (0x56 ∷ 0x41 ∷ 0x32 ∷ 0x01 ∷ 0x56 ∷ 0x41 ∷ 0x05 ∷ []))
-    ∷ reads X 0 (0xA0 ∷ 0x04 ∷ 0x01 ∷ 0x02 ∷ 0xFF ∷ 0xFF ∷ []) 600 (no 25 2)
-    ∷ reads X 0 (0xA0 ∷ 0x00 ∷ []) 600 (no 24 2)
-    ∷ reads X 0 (0xA0 ∷ 0x80 ∷ 0x00 ∷ 0x00 ∷ []) 600 (no 24 2)
-    ∷ reads X 0 (0xA0 ∷ 0x80 ∷ []) 600 (no 22 2)
-    ∷ reads X 0 (0xA0 ∷ 0x80 ∷ 0x00 ∷ []) 600 (no 22 2)
-    ∷ reads X 0 (0xA0 ∷ 0x03 ∷ 0x01 ∷ 0x01 ∷ 0xFF ∷ []) 600 (ok (0x56 ∷ 0x41 ∷ 0x01 ∷ 0x01 ∷ []))
-    ∷ reads X 0 (0xA0 ∷ 0x80 ∷ 0x01 ∷ 0x01 ∷ 0xFF ∷ 0x00 ∷ 0x00 ∷ []) 600 (ok (0x56 ∷ 0x41 ∷ 0x01 ∷ 0x01 ∷ []))
-    ∷ reads X 0 (0xA0 ∷ 0x05 ∷ 0x01 ∷ 0x01 ∷ 0xFF ∷ 0x00 ∷ 0x00 ∷ []) 600 (no 26 5)
-    ∷ reads X 0 (0xA0 ∷ 0x80 ∷ 0x01 ∷ 0x01 ∷ 0xFF ∷ 0x05 ∷ 0x00 ∷ []) 600 (no 26 5)
-    ∷ reads X 0 (0xA0 ∷ 0x80 ∷ 0x01 ∷ 0x01 ∷ 0xFF ∷ []) 600 (no 22 5)
-    ∷ reads X 0 (0xA0 ∷ 0x03 ∷ 0x02 ∷ 0x01 ∷ 0x05 ∷ []) 600 (no 24 2)
-    ∷ reads X 0 (0x80 ∷ 0x01 ∷ 0xFF ∷ []) 600 (no 24 0)
-    ∷ reads X 0 (0x01 ∷ 0x01 ∷ 0xFF ∷ []) 600 (no 24 0)
-    ∷ reads X 0 (0xA0 ∷ 0x02 ∷ 0x1F ∷ 0x80 ∷ []) 600 (no 22 2)
-    ∷ reads X 0 (0xA0 ∷ 0x04 ∷ 0x01 ∷ 0x01 ∷ 0xFF ∷ []) 600 (no 22 0)
-    ∷ reads LI 0 (0x30 ∷ 0x08 ∷ 0x02 ∷ 0x02 ∷ 0x00 ∷ 0x7F ∷ 0x02 ∷ 0x02 ∷ 0x01 ∷ 0x00 ∷ []) 600 (no 25 2)
-    ∷ reads LI 0 (0x30 ∷ 0x08 ∷ 0x02 ∷ 0x02 ∷ 0x01 ∷ 0x00 ∷ 0x02 ∷ 0x02 ∷ 0x00 ∷ 0x7F ∷ []) 600 (no 25 6)
-    ∷ reads LLI 0 (0x30 ∷ 0x0B ∷ 0x30 ∷ 0x02 ∷ 0x02 ∷ 0x01 ∷ 0x30 ∷ 0x05 ∷ 0x02 ∷ 0x01 ∷ 0x05 ∷ 0x02 ∷ 0x00 ∷ []) 600 (no 22 4)
-    ∷ reads LLI 0 (0x30 ∷ 0x09 ∷ 0x30 ∷ 0x04 ∷ 0x02 ∷ 0x02 ∷ 0x00 ∷ 0x7F ∷ 0x30 ∷ 0x01 ∷ 0x02 ∷ []) 600 (no 25 4)
-    ∷ reads LLI 0 (0x30 ∷ 0x80 ∷ 0x30 ∷ 0x04 ∷ 0x02 ∷ 0x02 ∷ 0x00 ∷ 0x7F ∷ 0x30 ∷ 0x01 ∷ 0x02 ∷ []) 600 (no 25 4)
-    ∷ reads LLI 0 (0x30 ∷ 0x06 ∷ 0x30 ∷ 0x01 ∷ 0x1F ∷ 0x30 ∷ 0x01 ∷ 0x02 ∷ []) 600 (no 22 4)
-    ∷ reads LLI 0 (0x30 ∷ 0x80 ∷ 0x30 ∷ 0x02 ∷ 0x05 ∷ 0x00 ∷ 0x00 ∷ 0x00 ∷ []) 600 (no 24 4)
-    ∷ reads LX 0 (0x30 ∷ 0x0B ∷ 0xA0 ∷ 0x04 ∷ 0x01 ∷ 0x02 ∷ 0xFF ∷ 0xFF ∷ 0xA0 ∷ 0x03 ∷ 0x01 ∷ 0x01 ∷ 0xFF ∷ []) 600 (no 25 4)
-    ∷ reads LX 0 (0x30 ∷ 0x09 ∷ 0xA0 ∷ 0x02 ∷ 0x01 ∷ 0x01 ∷ 0xA0 ∷ 0x03 ∷ 0x01 ∷ 0x01 ∷ 0xFF ∷ []) 600 (no 22 4)
-    ∷ reads LX 0 (0x30 ∷ 0x09 ∷ 0xA0 ∷ 0x00 ∷ 0xA0 ∷ 0x05 ∷ 0x01 ∷ 0x01 ∷ 0xFF ∷ 0x00 ∷ 0x00 ∷ []) 600 (no 24 4)
-    ∷ reads Q 0 (0x30 ∷ 0x03 ∷ 0x81 ∷ 0x01 ∷ 0xFF ∷ []) 600 (ok (0x56 ∷ 0x41 ∷ 0x10 ∷ 0x03 ∷ 0x00 ∷ 0x01 ∷ 0x00 ∷ 0x56 ∷ 0x41 ∷ 0x01 ∷ 0x01 ∷ []))
-    ∷ reads Q 0 (0x30 ∷ 0x08 ∷ 0x80 ∷ 0x01 ∷ 0x05 ∷ 0x81 ∷ 0x01 ∷ 0x00 ∷ 0x82 ∷ 0x00 ∷ []) 600 (ok (0x56 ∷ 0x41 ∷ 0x10 ∷ 0x03 ∷ 0x01 ∷ 0x01 ∷ 0x01 ∷ 0x56 ∷ 0x41 ∷ 0x02 ∷ 0x00 ∷ 0x00 ∷ 0x00 ∷ 0x00 ∷ 0x00 ∷ 0x00 ∷ 0x00 ∷ 0x05 ∷ 0x56 ∷ 0x41 ∷ 0x01 ∷ 0x00 ∷ 0x56 ∷ 0x41 ∷ 0x05 ∷ []))
-    ∷ reads Q 0 (0x30 ∷ 0x03 ∷ 0x80 ∷ 0x01 ∷ 0x05 ∷ []) 600 (no 24 5)
-    ∷ reads Q 0 (0x30 ∷ 0x80 ∷ 0x80 ∷ 0x01 ∷ 0x05 ∷ 0x00 ∷ 0x00 ∷ []) 600 (no 24 5)
-    ∷ reads Q 0 (0x30 ∷ 0x80 ∷ 0x80 ∷ 0x01 ∷ 0x05 ∷ 0x00 ∷ []) 600 (no 22 5)
-    ∷ reads Q 0 (0x30 ∷ 0x80 ∷ 0x80 ∷ 0x01 ∷ 0x05 ∷ 0x00 ∷ 0x07 ∷ []) 600 (no 23 5)
-    ∷ reads Q 0 (0x30 ∷ 0x80 ∷ 0x80 ∷ 0x01 ∷ 0x05 ∷ []) 600 (no 22 5)
-    ∷ reads Q 0 (0x30 ∷ 0x05 ∷ 0x81 ∷ 0x01 ∷ 0xFF ∷ 0x80 ∷ 0x00 ∷ []) 600 (no 24 5)
-    ∷ reads Q 0 (0x30 ∷ 0x07 ∷ 0x81 ∷ 0x01 ∷ 0xFF ∷ 0x82 ∷ 0x00 ∷ 0x05 ∷ 0x00 ∷ []) 600 (no 26 7)
-    ∷ reads Q 0 (0x30 ∷ 0x04 ∷ 0x81 ∷ 0x01 ∷ 0xFF ∷ 0x1F ∷ []) 600 (no 22 5)
-    ∷ reads Q 0 (0x30 ∷ 0x06 ∷ 0x81 ∷ 0x01 ∷ 0xFF ∷ 0x82 ∷ 0x00 ∷ 0x1F ∷ []) 600 (no 26 7)
-    ∷ reads Q 0 (0x30 ∷ 0x06 ∷ 0x81 ∷ 0x01 ∷ 0xFF ∷ 0x1F ∷ 0x80 ∷ 0x01 ∷ []) 600 (no 23 5)
-    ∷ reads Q 0 (0x30 ∷ 0x05 ∷ 0x82 ∷ 0x00 ∷ 0x81 ∷ 0x01 ∷ 0xFF ∷ []) 600 (no 24 2)
-    ∷ reads Q 0 (0x30 ∷ 0x80 ∷ 0x81 ∷ 0x01 ∷ 0xFF ∷ 0x00 ∷ 0x00 ∷ []) 600 (ok (0x56 ∷ 0x41 ∷ 0x10 ∷ 0x03 ∷ 0x00 ∷ 0x01 ∷ 0x00 ∷ 0x56 ∷ 0x41 ∷ 0x01 ∷ 0x01 ∷ []))
-    ∷ reads Q 0 (0x30 ∷ 0x80 ∷ 0x81 ∷ 0x01 ∷ 0xFF ∷ []) 600 (no 22 5)
-    ∷ reads Q 0 (0x30 ∷ 0x80 ∷ 0x81 ∷ 0x01 ∷ 0xFF ∷ 0x00 ∷ 0x05 ∷ []) 600 (no 23 5)
-    ∷ reads Q 0 (0x30 ∷ 0x00 ∷ []) 600 (no 24 2)
-    -- 127*
-    ∷ reads I 0 (0x02 ∷ 0x01 ∷ 0x7F ∷ []) 600 (ok (0x56 ∷ 0x41 ∷ 0x02 ∷ 0x00 ∷ 0x00 ∷ 0x00 ∷ 0x00 ∷ 0x00 ∷ 0x00 ∷ 0x00 ∷ 0x7F ∷ []))
-    -- 128*
-    ∷ reads I 0 (0x02 ∷ 0x02 ∷ 0x00 ∷ 0x80 ∷ []) 600 (ok (0x56 ∷ 0x41 ∷ 0x02 ∷ 0x00 ∷ 0x00 ∷ 0x00 ∷ 0x00 ∷ 0x00 ∷ 0x00 ∷ 0x00 ∷ 0x80 ∷ []))
-    -- -128*
-    ∷ reads I 0 (0x02 ∷ 0x01 ∷ 0x80 ∷ []) 600 (ok (0x56 ∷ 0x41 ∷ 0x02 ∷ 0xFF ∷ 0xFF ∷ 0xFF ∷ 0xFF ∷ 0xFF ∷ 0xFF ∷ 0xFF ∷ 0x80 ∷ []))
-    -- -129*
-    ∷ reads I 0 (0x02 ∷ 0x02 ∷ 0xFF ∷ 0x7F ∷ []) 600 (ok (0x56 ∷ 0x41 ∷ 0x02 ∷ 0xFF ∷ 0xFF ∷ 0xFF ∷ 0xFF ∷ 0xFF ∷ 0xFF ∷ 0xFF ∷ 0x7F ∷ []))
-    ∷ reads I 0 (0x02 ∷ 0x01 ∷ 0x00 ∷ []) 600 (ok (0x56 ∷ 0x41 ∷ 0x02 ∷ 0x00 ∷ 0x00 ∷ 0x00 ∷ 0x00 ∷ 0x00 ∷ 0x00 ∷ 0x00 ∷ 0x00 ∷ []))
-    ∷ reads I 0 (0x02 ∷ 0x01 ∷ 0xFF ∷ []) 600 (ok (0x56 ∷ 0x41 ∷ 0x02 ∷ 0xFF ∷ 0xFF ∷ 0xFF ∷ 0xFF ∷ 0xFF ∷ 0xFF ∷ 0xFF ∷ 0xFF ∷ []))
-    ∷ reads I 0 (0x02 ∷ 0x08 ∷ 0x80 ∷ 0x00 ∷ 0x00 ∷ 0x00 ∷ 0x00 ∷ 0x00 ∷ 0x00 ∷ 0x00 ∷ []) 600 (ok (0x56 ∷ 0x41 ∷ 0x02 ∷ 0x80 ∷ 0x00 ∷ 0x00 ∷ 0x00 ∷ 0x00 ∷ 0x00 ∷ 0x00 ∷ 0x00 ∷ []))
-    ∷ reads I 0 (0x02 ∷ 0x08 ∷ 0x7F ∷ 0xFF ∷ 0xFF ∷ 0xFF ∷ 0xFF ∷ 0xFF ∷ 0xFF ∷ 0xFF ∷ []) 600 (ok (0x56 ∷ 0x41 ∷ 0x02 ∷ 0x7F ∷ 0xFF ∷ 0xFF ∷ 0xFF ∷ 0xFF ∷ 0xFF ∷ 0xFF ∷ 0xFF ∷ []))
-    -- nine octets
-    ∷ reads I 0 (0x02 ∷ 0x09 ∷ 0x00 ∷ 0x80 ∷ 0x00 ∷ 0x00 ∷ 0x00 ∷ 0x00 ∷ 0x00 ∷ 0x00 ∷ 0x00 ∷ []) 600 (no 25 0)
-    ∷ reads I 0 (0x02 ∷ 0x00 ∷ []) 600 (no 25 0)
-    ∷ reads I 0 (0x02 ∷ 0x02 ∷ 0xFF ∷ 0x80 ∷ []) 600 (no 25 0)
-    -- BIT STRING 101*
-    ∷ reads T 0 (0x03 ∷ 0x02 ∷ 0x05 ∷ 0xA0 ∷ []) 600 (ok (0x56 ∷ 0x41 ∷ 0x03 ∷ 0x00 ∷ 0x03 ∷ 0xA0 ∷ []))
-    -- reads the same*
-    ∷ reads T 0 (0x03 ∷ 0x02 ∷ 0x05 ∷ 0xBF ∷ []) 600 (ok (0x56 ∷ 0x41 ∷ 0x03 ∷ 0x00 ∷ 0x03 ∷ 0xA0 ∷ []))
-    -- empty*
-    ∷ reads T 0 (0x03 ∷ 0x01 ∷ 0x00 ∷ []) 600 (ok (0x56 ∷ 0x41 ∷ 0x03 ∷ 0x00 ∷ 0x00 ∷ []))
-    ∷ reads T 0 (0x03 ∷ 0x00 ∷ []) 600 (no 25 0)
-    ∷ reads T 0 (0x03 ∷ 0x01 ∷ 0x01 ∷ []) 600 (no 25 0)
-    ∷ reads T 0 (0x03 ∷ 0x02 ∷ 0x08 ∷ 0x00 ∷ []) 600 (no 25 0)
-    ∷ reads T 0 (0x23 ∷ 0x00 ∷ []) 600 (no 24 0)
-    -- X.690, 8.6.4.2
-    ∷ reads T 0 (0x03 ∷ 0x07 ∷ 0x04 ∷ 0x0A ∷ 0x3B ∷ 0x5F ∷ 0x29 ∷ 0x1C ∷ 0xD0 ∷ []) 600 (ok (0x56 ∷ 0x41 ∷ 0x03 ∷ 0x00 ∷ 0x2C ∷ 0x0A ∷ 0x3B ∷ 0x5F ∷ 0x29 ∷ 0x1C ∷ 0xD0 ∷ []))
-    -- X.690, 8.8.2
-    ∷ reads N 0 (0x05 ∷ 0x00 ∷ []) 600 (ok (0x56 ∷ 0x41 ∷ 0x05 ∷ []))
-    ∷ reads N 0 (0x05 ∷ 0x01 ∷ 0x00 ∷ []) 600 (no 25 0)
-    ∷ reads O 0 (0x04 ∷ 0x00 ∷ []) 600 (ok (0x56 ∷ 0x41 ∷ 0x04 ∷ 0x00 ∷ 0x00 ∷ []))
-    ∷ reads O 0 (0x04 ∷ 0x02 ∷ 0x4A ∷ 0x6F ∷ []) 600 (ok (0x56 ∷ 0x41 ∷ 0x04 ∷ 0x00 ∷ 0x02 ∷ 0x4A ∷ 0x6F ∷ []))
-    ∷ reads U 0 (0x0A ∷ 0x01 ∷ 0x05 ∷ []) 600 (ok (0x56 ∷ 0x41 ∷ 0x0A ∷ 0x00 ∷ 0x05 ∷ []))
-    -- signed
-    ∷ reads U 0 (0x0A ∷ 0x01 ∷ 0x80 ∷ []) 600 (no 25 0)
-    ∷ reads U 0 (0x0A ∷ 0x02 ∷ 0x00 ∷ 0x80 ∷ []) 600 (ok (0x56 ∷ 0x41 ∷ 0x0A ∷ 0x00 ∷ 0x80 ∷ []))
-    ∷ reads U 0 (0x0A ∷ 0x02 ∷ 0x01 ∷ 0x2C ∷ []) 600 (ok (0x56 ∷ 0x41 ∷ 0x0A ∷ 0x01 ∷ 0x2C ∷ []))
-    ∷ reads U 0 (0x0A ∷ 0x01 ∷ 0x06 ∷ []) 600 (no 25 0)
-    ∷ reads U 0 (0x0A ∷ 0x02 ∷ 0x00 ∷ 0x05 ∷ []) 600 (no 25 0)
-    ∷ reads U 0 (0x0A ∷ 0x03 ∷ 0x00 ∷ 0xFF ∷ 0xFF ∷ []) 600 (ok (0x56 ∷ 0x41 ∷ 0x0A ∷ 0xFF ∷ 0xFF ∷ []))
-    ∷ reads U 0 (0x0A ∷ 0x08 ∷ 0x00 ∷ 0x00 ∷ 0x00 ∷ 0x00 ∷ 0x00 ∷ 0x00 ∷ 0x00 ∷ 0x05 ∷ []) 600 (no 25 0)
-    ∷ reads K 0 (0x9E ∷ 0x00 ∷ []) 600 (ok (0x56 ∷ 0x41 ∷ 0x05 ∷ []))
-    ∷ reads K 1 (0x9F ∷ 0x1F ∷ 0x00 ∷ []) 600 (ok (0x56 ∷ 0x41 ∷ 0x05 ∷ []))
-    ∷ reads K 2 (0x9F ∷ 0x81 ∷ 0x00 ∷ 0x00 ∷ []) 600 (ok (0x56 ∷ 0x41 ∷ 0x05 ∷ []))
-    ∷ reads K 3 (0x9F ∷ 0x83 ∷ 0xFF ∷ 0x7F ∷ 0x00 ∷ []) 600 (ok (0x56 ∷ 0x41 ∷ 0x05 ∷ []))
-    ∷ reads K 0 (0x9F ∷ 0x1E ∷ 0x00 ∷ []) 600 (no 23 0)
-    ∷ reads K 1 (0x9F ∷ 0x80 ∷ 0x1F ∷ 0x00 ∷ []) 600 (no 23 0)
-    ∷ reads K 1 (0x9F ∷ 0x84 ∷ 0x80 ∷ 0x1F ∷ 0x00 ∷ []) 600 (no 24 0)
-    -- X.690, 8.14, Type2, with an OCTET STRING
-    ∷ reads J 0 (0x43 ∷ 0x05 ∷ 0x4A ∷ 0x6F ∷ 0x6E ∷ 0x65 ∷ 0x73 ∷ []) 600 (ok (0x56 ∷ 0x41 ∷ 0x04 ∷ 0x00 ∷ 0x05 ∷ 0x4A ∷ 0x6F ∷ 0x6E ∷ 0x65 ∷ 0x73 ∷ []))
-    -- Type3
-    ∷ reads J 1 (0xA2 ∷ 0x07 ∷ 0x43 ∷ 0x05 ∷ 0x4A ∷ 0x6F ∷ 0x6E ∷ 0x65 ∷ 0x73 ∷ []) 600 (ok (0x56 ∷ 0x41 ∷ 0x04 ∷ 0x00 ∷ 0x05 ∷ 0x4A ∷ 0x6F ∷ 0x6E ∷ 0x65 ∷ 0x73 ∷ []))
-    -- Type4
-    ∷ reads J 2 (0x67 ∷ 0x07 ∷ 0x43 ∷ 0x05 ∷ 0x4A ∷ 0x6F ∷ 0x6E ∷ 0x65 ∷ 0x73 ∷ []) 600 (ok (0x56 ∷ 0x41 ∷ 0x04 ∷ 0x00 ∷ 0x05 ∷ 0x4A ∷ 0x6F ∷ 0x6E ∷ 0x65 ∷ 0x73 ∷ []))
-    -- Type5
-    ∷ reads J 3 (0x82 ∷ 0x05 ∷ 0x4A ∷ 0x6F ∷ 0x6E ∷ 0x65 ∷ 0x73 ∷ []) 600 (ok (0x56 ∷ 0x41 ∷ 0x04 ∷ 0x00 ∷ 0x05 ∷ 0x4A ∷ 0x6F ∷ 0x6E ∷ 0x65 ∷ 0x73 ∷ []))
-    -- elements in arrival order
-    ∷ reads W 0 (0x31 ∷ 0x06 ∷ 0x02 ∷ 0x01 ∷ 0x02 ∷ 0x02 ∷ 0x01 ∷ 0x01 ∷ []) 600 (ok (0x56 ∷ 0x41 ∷ 0x31 ∷ 0x00 ∷ 0x02 ∷ 0x56 ∷ 0x41 ∷ 0x02 ∷ 0x00 ∷ 0x00 ∷ 0x00 ∷ 0x00 ∷ 0x00 ∷ 0x00 ∷ 0x00 ∷ 0x02 ∷ 0x56 ∷ 0x41 ∷ 0x02 ∷ 0x00 ∷ 0x00 ∷ 0x00 ∷ 0x00 ∷ 0x00 ∷ 0x00 ∷ 0x00 ∷ 0x01 ∷ []))
+abbrev pub examples : List Example
+examples =
+    -- MARKED BY DOCUMENT 01. "Messages": INTEGER 127, 128, -128 and -129 in the fewest octets
+    writes I 0 (hex 0x56_41_02_00_00_00_00_00_00_00_7F) (ok (hex 0x02_01_7F))
+    ∷ writes I 0 (hex 0x56_41_02_00_00_00_00_00_00_00_80) (ok (hex 0x02_02_00_80))
+    ∷ writes I 0 (hex 0x56_41_02_FF_FF_FF_FF_FF_FF_FF_80) (ok (hex 0x02_01_80))
+    ∷ writes I 0 (hex 0x56_41_02_FF_FF_FF_FF_FF_FF_FF_7F) (ok (hex 0x02_02_FF_7F))
+    ∷ reads I 0 (hex 0x02_01_7F) (ok (hex 0x56_41_02_00_00_00_00_00_00_00_7F))
+    ∷ reads I 0 (hex 0x02_02_00_80) (ok (hex 0x56_41_02_00_00_00_00_00_00_00_80))
+    ∷ reads I 0 (hex 0x02_01_80) (ok (hex 0x56_41_02_FF_FF_FF_FF_FF_FF_FF_80))
+    ∷ reads I 0 (hex 0x02_02_FF_7F) (ok (hex 0x56_41_02_FF_FF_FF_FF_FF_FF_FF_7F))
+    -- "Messages": NULL with the context number 30, then 31
+    ∷ writes (hex 0x54_59_05_01_02_00_1E) 0 (hex 0x56_41_05) (ok (hex 0x9E_00))
+    ∷ writes (hex 0x54_59_05_01_02_00_1F) 0 (hex 0x56_41_05) (ok (hex 0x9F_1F_00))
+    ∷ reads (hex 0x54_59_05_01_02_00_1E) 0 (hex 0x9E_00) (ok (hex 0x56_41_05))
+    ∷ reads (hex 0x54_59_05_01_02_00_1F) 0 (hex 0x9F_1F_00) (ok (hex 0x56_41_05))
+    -- "Messages": the lengths 127 and 128
+    ∷ writes O 0 (hex 0x56_41_04_00_7F ++ replicate 127 7) (ok (hex 0x04_7F ++ replicate 127 7))
+    ∷ writes O 0 (hex 0x56_41_04_00_80 ++ replicate 128 7) (ok (hex 0x04_81_80 ++ replicate 128 7))
+    ∷ reads O 0 (hex 0x04_7F ++ replicate 127 7) (ok (hex 0x56_41_04_00_7F ++ replicate 127 7))
+    ∷ reads O 0 (hex 0x04_81_80 ++ replicate 128 7) (ok (hex 0x56_41_04_00_80 ++ replicate 128 7))
+    -- "Messages": the bits 101, also where the unused ones are set; no bits
+    ∷ writes T 0 (hex 0x56_41_03_00_03_A0) (ok (hex 0x03_02_05_A0))
+    ∷ reads T 0 (hex 0x03_02_05_A0) (ok (hex 0x56_41_03_00_03_A0))
+    ∷ reads T 0 (hex 0x03_02_05_BF) (ok (hex 0x56_41_03_00_03_A0))
+    ∷ writes T 0 (hex 0x56_41_03_00_00) (ok (hex 0x03_01_00))
+    ∷ reads T 0 (hex 0x03_01_00) (ok (hex 0x56_41_03_00_00))
+    -- "Messages": the SET of S in the table's order, and in the other
+    ∷ writes S 2 (hex 0x56_41_11_02_01_01 ++ five ++ yea) (ok (hex 0x31_06_80_01_05_01_01_FF))
+    ∷ reads S 2 (hex 0x31_06_80_01_05_01_01_FF) (ok (hex 0x56_41_11_02_01_01 ++ five ++ yea))
+    ∷ reads S 2 (hex 0x31_80_01_01_7F_80_01_05_00_00) (ok (hex 0x56_41_11_02_01_01 ++ five ++ yea))
+    -- "Tables": lists of themselves
+    ∷ checks L (ok [])
+    -- EACH REFUSAL, the paper's example of it first. "Tables", 1: a record that is cut; over 8,192 octets; over 128 records
+    ∷ checks [] (no 1 0)
+    ∷ checks (B ++ hex 0x54) (no 1 1)
+    ∷ checks (B ++ replicate 8186 0) (no 1 0)
+    ∷ checks (times 129 B) (no 1 128)
+    -- 2, of the whole table before 3 of any record
+    ∷ checks (hex 0x54_59_30_01_00_00_10_05) (no 2 0)
+    ∷ checks (hex 0x54_59_02_00_54_59_30_01_00_00_10_05) (no 2 1)
+    -- 3: a UNIVERSAL tag on a CHOICE; write and read check the table too, before the type
+    ∷ checks (hex 0x54_59_02_00) (no 3 0)
+    ∷ checks (B ++ hex 0x54_59_32_01_00_00_00_01_00) (no 3 1)
+    ∷ writes (hex 0x54_59_02_00) 1 [] (no 3 0)
+    ∷ reads (hex 0x54_59_02_00) 1 [] (no 3 0)
+    -- 4, of a CHOICE on the circle and not of the one that leads there
+    ∷ checks (hex 0x54_59_32_00_01_00) (no 4 0)
+    ∷ checks (hex 0x54_59_32_00_01_01_54_59_32_00_01_01) (no 4 1)
+    -- 5: with an alternative of an alternative
+    ∷ checks (B ++ hex 0x54_59_11_01_00_00_11_02_00_00_00_00) (no 5 1)
+    ∷ checks (B ++ hex 0x54_59_32_00_02_00_02_54_59_32_00_01_00) (no 5 1)
+    -- 6, of a record behind a sound one
+    ∷ checks (hex 0x54_59_10_01_00_00_10_01_00_00) (no 6 0)
+    ∷ checks (B ++ hex 0x54_59_10_01_00_00_10_01_01_00) (no 6 1)
+    -- "Order of refusals", 7: before any look at the value
+    ∷ reads B 1 (hex 0x01_01_FF) (no 7 0)
+    ∷ writes B 1 [] (no 7 0)
+    -- "Values", 11: octets left; an element that is not there
+    ∷ writes B 0 (hex 0x56_41_01_02) (no 11 0)
+    ∷ writes B 0 (hex 0x56_41_01_01_00) (no 11 4)
+    ∷ writes L 0 (hex 0x56_41_30_00_01) (no 11 5)
+    -- 12: members in the other order
+    ∷ writes I 0 yea (no 12 0)
+    ∷ writes S 2 (hex 0x56_41_11_02_01_01 ++ yea ++ five) (no 12 6)
+    -- 13: what is cut on level 25 is 11; level 24 is written
+    ∷ writes L 0 (nested 24) (no 13 120)
+    ∷ writes L 0 (times 24 (hex 0x56_41_30_00_01) ++ hex 0x56_41_30) (no 11 120)
+    ∷ writes L 0 (nested 23) (ok (hex 0x30_2E_30_2C_30_2A_30_28_30_26_30_24_30_22_30_20_30_1E_30_1C_30_1A_30_18_30_16_30_14_30_12_30_10_30_0E_30_0C_30_0A_30_08_30_06_30_04_30_02_30_00))
+    -- "Limits", 14: a buffer of 2, and of 3
+    ∷ into 2 (writes B 0 yea (no 14 0))
+    ∷ into 3 (writes B 0 yea (ok (hex 0x01_01_FF)))
+    -- "Limits", 21
+    ∷ reads B 0 (replicate 8193 0) (no 21 0)
+    -- "Messages", 22: no end
+    ∷ reads B 0 (hex 0x01_01) (no 22 0)
+    ∷ reads L 0 (hex 0x30_80) (no 22 2)
+    -- 23: an end of one 00; an identifier in the long form with a 0 in front
+    ∷ reads B 0 (hex 0x1F_01) (no 23 0)
+    ∷ reads L 0 (hex 0x30_80_00_05) (no 23 2)
+    ∷ reads S 2 (hex 0x31_06_80_01_05_1F_80_01) (no 23 5)
+    -- 24: 00 00 in a definite item; a member that came already; a member that did not come
+    ∷ reads B 0 (hex 0x02_01_05) (no 24 0)
+    ∷ reads L 0 (hex 0x30_02_00_00) (no 24 2)
+    ∷ reads S 2 (hex 0x31_06_01_01_FF_01_01_FF) (no 24 5)
+    ∷ reads S 2 (hex 0x31_80_01_01_FF_00_00) (no 24 5)
+    -- 25: under an explicit tag; in the second element of a list
+    ∷ reads I 0 (hex 0x02_02_00_7F) (no 25 0)
+    ∷ reads (hex 0x54_59_01_02_02_00_00_00_00_01) 0 (hex 0xA0_04_01_02_FF_FF) (no 25 2)
+    ∷ reads (hex 0x54_59_30_01_00_00_10_01 ++ I) 0 (hex 0x30_08_02_02_01_00_02_02_00_7F) (no 25 6)
+    -- 26: behind the last member
+    ∷ reads B 0 (hex 0x01_01_FF_00) (no 26 3)
+    ∷ reads S 2 (hex 0x31_09_80_01_05_01_01_FF_80_01_05) (no 26 8)
+    -- "Limits", 27: a buffer of 3, of 0 and of 4
+    ∷ into 3 (reads B 0 (hex 0x01_01_FF) (no 27 0))
+    ∷ into 0 (reads B 0 (hex 0x01_01_FF) (no 27 0))
+    ∷ into 4 (reads B 0 (hex 0x01_01_FF) (ok yea))
+    -- "Octets and levels", 28: a CHOICE without tags and the NULL in it are two levels that begin at one octet; level 24 is read
+    ∷ reads L 0 (times 25 (hex 0x30_80)) (no 28 48)
+    ∷ reads (hex 0x54_59_30_01_00_00_10_01_54_59_32_00_02_00_02_54_59_05_01_00_00_05) 0 (times 12 (hex 0x30_80) ++ hex 0x05) (no 28 24)
+    ∷ reads L 0 (times 24 (hex 0x30_80) ++ replicate 48 0) (ok (nested 23))
     ∷ []
 
--- writing: every refusal of the value stage, and what is accepted
-abbrev pub writings : List Example
-writings =
-    writes B 0 (0x56 ∷ 0x41 ∷ 0x01 ∷ 0x01 ∷ []) 600 (ok (0x01 ∷ 0x01 ∷ 0xFF ∷ []))
-    ∷ writes B 0 (0x56 ∷ 0x41 ∷ 0x01 ∷ 0x00 ∷ []) 600 (ok (0x01 ∷ 0x01 ∷ 0x00 ∷ []))
-    -- 11
-    ∷ writes B 0 (0x56 ∷ 0x41 ∷ 0x01 ∷ 0x02 ∷ []) 600 (no 11 0)
-    -- 12
-    ∷ writes I 0 (0x56 ∷ 0x41 ∷ 0x01 ∷ 0x01 ∷ []) 600 (no 12 0)
-    -- 13
-    ∷ writes L 0 (again 24 (0x56 ∷ 0x41 ∷ 0x30 ∷ 0x00 ∷ 0x01 ∷ []) (0x56 ∷ 0x41 ∷ 0x30 ∷ 0x00 ∷ 0x00 ∷ [])) 600 (no 13 120)
-    ∷ writes L 0 (again 23 (0x56 ∷ 0x41 ∷ 0x30 ∷ 0x00 ∷ 0x01 ∷ []) (0x56 ∷ 0x41 ∷ 0x30 ∷ 0x00 ∷ 0x00 ∷ [])) 600 (ok (0x30 ∷ 0x2E ∷ 0x30 ∷ 0x2C ∷ 0x30 ∷ 0x2A ∷ 0x30 ∷ 0x28 ∷ 0x30 ∷ 0x26 ∷ 0x30 ∷ 0x24 ∷ 0x30 ∷ 0x22 ∷ 0x30 ∷ 0x20 ∷ 0x30 ∷ 0x1E ∷ 0x30 ∷ 0x1C ∷ 0x30 ∷ 0x1A ∷ 0x30 ∷ 0x18 ∷ 0x30 ∷ 0x16 ∷ 0x30 ∷ 0x14 ∷ 0x30 ∷ 0x12 ∷ 0x30 ∷ 0x10 ∷ 0x30 ∷ 0x0E ∷ 0x30 ∷ 0x0C ∷ 0x30 ∷ 0x0A ∷ 0x30 ∷ 0x08 ∷ 0x30 ∷ 0x06 ∷ 0x30 ∷ 0x04 ∷ 0x30 ∷ 0x02 ∷ 0x30 ∷ 0x00 ∷ []))
-    ∷ writes L 0 (again 24 (0x56 ∷ 0x41 ∷ 0x30 ∷ 0x00 ∷ 0x01 ∷ []) (0x56 ∷ 0x41 ∷ 0x30 ∷ [])) 600 (no 11 120)
-    ∷ writes L 0 (again 24 (0x56 ∷ 0x41 ∷ 0x30 ∷ 0x00 ∷ 0x01 ∷ []) (0x56 ∷ 0x41 ∷ 0x05 ∷ [])) 600 (no 13 120)
-    ∷ writes L 0 (again 24 (0x56 ∷ 0x41 ∷ 0x30 ∷ 0x00 ∷ 0x01 ∷ []) ([])) 600 (no 11 120)
-    -- 14
-    ∷ writes B 0 (0x56 ∷ 0x41 ∷ 0x01 ∷ 0x01 ∷ []) 2 (no 14 0)
-    ∷ writes B 0 (0x56 ∷ 0x41 ∷ 0x01 ∷ 0x01 ∷ []) 3 (ok (0x01 ∷ 0x01 ∷ 0xFF ∷ []))
-    -- 7
-    ∷ writes B 1 (0x56 ∷ 0x41 ∷ 0x01 ∷ 0x01 ∷ []) 600 (no 7 0)
-    ∷ writes B 1 ([]) 600 (no 7 0)
-    ∷ writes B 0 ([]) 600 (no 11 0)
-    -- octets left
-    ∷ writes B 0 (0x56 ∷ 0x41 ∷ 0x01 ∷ 0x01 ∷ 0x00 ∷ []) 600 (no 11 4)
-    -- over-long
-    ∷ writes B 0 (fill 16385 0x00 ([])) 600 (no 11 0)
-    ∷ writes I 0 (0x56 ∷ 0x41 ∷ 0x30 ∷ 0x00 ∷ 0x05 ∷ []) 600 (no 12 0)
-    ∷ writes L 0 (0x56 ∷ 0x41 ∷ 0x30 ∷ 0x00 ∷ 0x01 ∷ []) 600 (no 11 5)
-    ∷ writes I 0 (0x56 ∷ 0x41 ∷ 0x01 ∷ 0x02 ∷ []) 600 (no 11 0)
-    ∷ writes E 0 (0x56 ∷ 0x41 ∷ 0x10 ∷ 0x01 ∷ 0x00 ∷ []) 600 (no 12 0)
-    ∷ writes E 0 (0x56 ∷ 0x41 ∷ 0x10 ∷ 0x01 ∷ []) 600 (no 11 0)
-    ∷ writes E 0 (0x56 ∷ 0x41 ∷ 0x10 ∷ 0x00 ∷ []) 600 (ok (0x30 ∷ 0x00 ∷ []))
-    ∷ writes E 0 (0x56 ∷ 0x41 ∷ 0x10 ∷ 0x01 ∷ 0x02 ∷ []) 600 (no 11 0)
-    ∷ writes B 0 (0x56 ∷ []) 600 (no 11 0)
-    ∷ writes B 0 (0x56 ∷ 0x42 ∷ 0x01 ∷ 0x01 ∷ []) 600 (no 11 0)
-    ∷ writes B 0 (0x56 ∷ 0x41 ∷ 0x06 ∷ []) 600 (no 11 0)
-    -- S*
-    ∷ writes S 2 (0x56 ∷ 0x41 ∷ 0x11 ∷ 0x02 ∷ 0x01 ∷ 0x01 ∷ 0x56 ∷ 0x41 ∷ 0x02 ∷ 0x00 ∷ 0x00 ∷ 0x00 ∷ 0x00 ∷ 0x00 ∷ 0x00 ∷ 0x00 ∷ 0x05 ∷ 0x56 ∷ 0x41 ∷ 0x01 ∷ 0x01 ∷ []) 600 (ok (0x31 ∷ 0x06 ∷ 0x80 ∷ 0x01 ∷ 0x05 ∷ 0x01 ∷ 0x01 ∷ 0xFF ∷ []))
-    ∷ writes S 2 (0x56 ∷ 0x41 ∷ 0x11 ∷ 0x02 ∷ 0x00 ∷ 0x01 ∷ 0x56 ∷ 0x41 ∷ 0x01 ∷ 0x01 ∷ []) 600 (no 12 0)
-    ∷ writes S 2 (0x56 ∷ 0x41 ∷ 0x11 ∷ 0x02 ∷ 0x01 ∷ 0x00 ∷ 0x56 ∷ 0x41 ∷ 0x02 ∷ 0x00 ∷ 0x00 ∷ 0x00 ∷ 0x00 ∷ 0x00 ∷ 0x00 ∷ 0x00 ∷ 0x05 ∷ []) 600 (ok (0x31 ∷ 0x03 ∷ 0x80 ∷ 0x01 ∷ 0x05 ∷ []))
-    ∷ writes S 2 (0x56 ∷ 0x41 ∷ 0x11 ∷ 0x02 ∷ 0x01 ∷ 0x01 ∷ 0x56 ∷ 0x41 ∷ 0x02 ∷ 0x00 ∷ 0x00 ∷ 0x00 ∷ 0x00 ∷ 0x00 ∷ 0x00 ∷ 0x00 ∷ 0x05 ∷ 0x56 ∷ 0x41 ∷ 0x01 ∷ 0x02 ∷ []) 600 (no 11 17)
-    ∷ writes S 2 (0x56 ∷ 0x41 ∷ 0x11 ∷ 0x02 ∷ 0x01 ∷ 0x01 ∷ 0x56 ∷ 0x41 ∷ 0x02 ∷ 0x00 ∷ 0x00 ∷ 0x00 ∷ 0x00 ∷ 0x00 ∷ 0x00 ∷ 0x00 ∷ 0x05 ∷ 0x56 ∷ 0x41 ∷ 0x05 ∷ []) 600 (no 12 17)
-    ∷ writes S 2 (0x56 ∷ 0x41 ∷ 0x11 ∷ 0x02 ∷ 0x01 ∷ 0x01 ∷ 0x56 ∷ 0x41 ∷ 0x01 ∷ 0x01 ∷ 0x56 ∷ 0x41 ∷ 0x02 ∷ 0x00 ∷ 0x00 ∷ 0x00 ∷ 0x00 ∷ 0x00 ∷ 0x00 ∷ 0x00 ∷ 0x05 ∷ []) 600 (no 12 6)
-    ∷ writes C 1 (0x56 ∷ 0x41 ∷ 0x32 ∷ 0x02 ∷ []) 600 (no 12 0)
-    ∷ writes C 1 (0x56 ∷ 0x41 ∷ 0x32 ∷ 0x01 ∷ 0x56 ∷ 0x41 ∷ 0x05 ∷ []) 600 (ok (0x05 ∷ 0x00 ∷ []))
-    ∷ writes C 0 (0x56 ∷ 0x41 ∷ 0x30 ∷ 0x00 ∷ 0x01 ∷ 0x56 ∷ 0x41 ∷ 0x32 ∷ 0x01 ∷ 0x56 ∷ 0x41 ∷ 0x05 ∷ []) 600 (ok (0x30 ∷ 0x02 ∷ 0x05 ∷ 0x00 ∷ []))
-    ∷ writes C 1 (0x56 ∷ 0x41 ∷ 0x32 ∷ 0x01 ∷ []) 600 (no 11 4)
-    ∷ writes C 1 (0x56 ∷ 0x41 ∷ 0x32 ∷ []) 600 (no 11 0)
-    ∷ writes D 0 (0x56 ∷ 0x41 ∷ 0x30 ∷ 0x00 ∷ 0x01 ∷ 0x56 ∷ 0x41 ∷ 0x32 ∷ 0x01 ∷ 0x56 ∷ 0x41 ∷ 0x05 ∷ []) 600 (ok (0x30 ∷ 0x04 ∷ 0xA0 ∷ 0x02 ∷ 0x05 ∷ 0x00 ∷ []))
-    ∷ writes X 0 (0x56 ∷ 0x41 ∷ 0x01 ∷ 0x01 ∷ []) 600 (ok (0xA0 ∷ 0x03 ∷ 0x01 ∷ 0x01 ∷ 0xFF ∷ []))
-    -- 127*
-    ∷ writes I 0 (0x56 ∷ 0x41 ∷ 0x02 ∷ 0x00 ∷ 0x00 ∷ 0x00 ∷ 0x00 ∷ 0x00 ∷ 0x00 ∷ 0x00 ∷ 0x7F ∷ []) 600 (ok (0x02 ∷ 0x01 ∷ 0x7F ∷ []))
-    -- 128*
-    ∷ writes I 0 (0x56 ∷ 0x41 ∷ 0x02 ∷ 0x00 ∷ 0x00 ∷ 0x00 ∷ 0x00 ∷ 0x00 ∷ 0x00 ∷ 0x00 ∷ 0x80 ∷ []) 600 (ok (0x02 ∷ 0x02 ∷ 0x00 ∷ 0x80 ∷ []))
-    -- -128*
-    ∷ writes I 0 (0x56 ∷ 0x41 ∷ 0x02 ∷ 0xFF ∷ 0xFF ∷ 0xFF ∷ 0xFF ∷ 0xFF ∷ 0xFF ∷ 0xFF ∷ 0x80 ∷ []) 600 (ok (0x02 ∷ 0x01 ∷ 0x80 ∷ []))
-    -- -129*
-    ∷ writes I 0 (0x56 ∷ 0x41 ∷ 0x02 ∷ 0xFF ∷ 0xFF ∷ 0xFF ∷ 0xFF ∷ 0xFF ∷ 0xFF ∷ 0xFF ∷ 0x7F ∷ []) 600 (ok (0x02 ∷ 0x02 ∷ 0xFF ∷ 0x7F ∷ []))
-    ∷ writes I 0 (0x56 ∷ 0x41 ∷ 0x02 ∷ 0x00 ∷ 0x00 ∷ 0x00 ∷ 0x00 ∷ 0x00 ∷ 0x00 ∷ 0x00 ∷ 0x00 ∷ []) 600 (ok (0x02 ∷ 0x01 ∷ 0x00 ∷ []))
-    ∷ writes I 0 (0x56 ∷ 0x41 ∷ 0x02 ∷ 0xFF ∷ 0xFF ∷ 0xFF ∷ 0xFF ∷ 0xFF ∷ 0xFF ∷ 0xFF ∷ 0xFF ∷ []) 600 (ok (0x02 ∷ 0x01 ∷ 0xFF ∷ []))
-    ∷ writes I 0 (0x56 ∷ 0x41 ∷ 0x02 ∷ 0x80 ∷ 0x00 ∷ 0x00 ∷ 0x00 ∷ 0x00 ∷ 0x00 ∷ 0x00 ∷ 0x00 ∷ []) 600 (ok (0x02 ∷ 0x08 ∷ 0x80 ∷ 0x00 ∷ 0x00 ∷ 0x00 ∷ 0x00 ∷ 0x00 ∷ 0x00 ∷ 0x00 ∷ []))
-    ∷ writes I 0 (0x56 ∷ 0x41 ∷ 0x02 ∷ 0x7F ∷ 0xFF ∷ 0xFF ∷ 0xFF ∷ 0xFF ∷ 0xFF ∷ 0xFF ∷ 0xFF ∷ []) 600 (ok (0x02 ∷ 0x08 ∷ 0x7F ∷ 0xFF ∷ 0xFF ∷ 0xFF ∷ 0xFF ∷ 0xFF ∷ 0xFF ∷ 0xFF ∷ []))
-    ∷ writes I 0 (0x56 ∷ 0x41 ∷ 0x02 ∷ 0x00 ∷ 0x00 ∷ 0x00 ∷ 0x00 ∷ 0x00 ∷ 0x00 ∷ 0x00 ∷ []) 600 (no 11 0)
-    -- BIT STRING 101*
-    ∷ writes T 0 (0x56 ∷ 0x41 ∷ 0x03 ∷ 0x00 ∷ 0x03 ∷ 0xA0 ∷ []) 600 (ok (0x03 ∷ 0x02 ∷ 0x05 ∷ 0xA0 ∷ []))
-    -- spare bits
-    ∷ writes T 0 (0x56 ∷ 0x41 ∷ 0x03 ∷ 0x00 ∷ 0x03 ∷ 0xBF ∷ []) 600 (no 11 0)
-    -- empty*
-    ∷ writes T 0 (0x56 ∷ 0x41 ∷ 0x03 ∷ 0x00 ∷ 0x00 ∷ []) 600 (ok (0x03 ∷ 0x01 ∷ 0x00 ∷ []))
-    ∷ writes T 0 (0x56 ∷ 0x41 ∷ 0x03 ∷ 0x00 ∷ 0x03 ∷ []) 600 (no 11 0)
-    ∷ writes T 0 (0x56 ∷ 0x41 ∷ 0x03 ∷ 0x00 ∷ 0x2C ∷ 0x0A ∷ 0x3B ∷ 0x5F ∷ 0x29 ∷ 0x1C ∷ 0xD0 ∷ []) 600 (ok (0x03 ∷ 0x07 ∷ 0x04 ∷ 0x0A ∷ 0x3B ∷ 0x5F ∷ 0x29 ∷ 0x1C ∷ 0xD0 ∷ []))
-    ∷ writes T 0 (0x56 ∷ 0x41 ∷ 0x03 ∷ 0x00 ∷ 0x08 ∷ 0xFF ∷ []) 600 (ok (0x03 ∷ 0x02 ∷ 0x00 ∷ 0xFF ∷ []))
-    ∷ writes O 0 (0x56 ∷ 0x41 ∷ 0x04 ∷ 0x00 ∷ 0x02 ∷ 0x4A ∷ []) 600 (no 11 0)
-    -- length 127*
-    ∷ writes O 0 (0x56 ∷ 0x41 ∷ 0x04 ∷ 0x00 ∷ 0x7F ∷ fill 127 0x07 ([])) 600 (ok (0x04 ∷ 0x7F ∷ fill 127 0x07 ([])))
-    -- length 128*
-    ∷ writes O 0 (0x56 ∷ 0x41 ∷ 0x04 ∷ 0x00 ∷ 0x80 ∷ fill 128 0x07 ([])) 600 (ok (0x04 ∷ 0x81 ∷ 0x80 ∷ fill 128 0x07 ([])))
-    ∷ writes O 0 (0x56 ∷ 0x41 ∷ 0x04 ∷ 0x01 ∷ 0x00 ∷ fill 256 0x07 ([])) 600 (ok (0x04 ∷ 0x82 ∷ 0x01 ∷ 0x00 ∷ fill 256 0x07 ([])))
-    -- 8,193 octets
-    ∷ writes O 0 (0x56 ∷ 0x41 ∷ 0x04 ∷ 0x1F ∷ 0xFD ∷ fill 8189 0x07 ([])) 9000 (no 14 0)
-    ∷ writes U 0 (0x56 ∷ 0x41 ∷ 0x0A ∷ 0x00 ∷ 0x80 ∷ []) 600 (ok (0x0A ∷ 0x02 ∷ 0x00 ∷ 0x80 ∷ []))
-    ∷ writes U 0 (0x56 ∷ 0x41 ∷ 0x0A ∷ 0x00 ∷ 0x06 ∷ []) 600 (no 12 0)
-    ∷ writes U 0 (0x56 ∷ 0x41 ∷ 0x0A ∷ 0xFF ∷ 0xFF ∷ []) 600 (ok (0x0A ∷ 0x03 ∷ 0x00 ∷ 0xFF ∷ 0xFF ∷ []))
-    ∷ writes U 0 (0x56 ∷ 0x41 ∷ 0x0A ∷ 0x00 ∷ []) 600 (no 11 0)
-    ∷ writes N 0 (0x56 ∷ 0x41 ∷ 0x05 ∷ []) 600 (ok (0x05 ∷ 0x00 ∷ []))
-    -- context 30*
-    ∷ writes K 0 (0x56 ∷ 0x41 ∷ 0x05 ∷ []) 600 (ok (0x9E ∷ 0x00 ∷ []))
-    -- context 31*
-    ∷ writes K 1 (0x56 ∷ 0x41 ∷ 0x05 ∷ []) 600 (ok (0x9F ∷ 0x1F ∷ 0x00 ∷ []))
-    ∷ writes K 2 (0x56 ∷ 0x41 ∷ 0x05 ∷ []) 600 (ok (0x9F ∷ 0x81 ∷ 0x00 ∷ 0x00 ∷ []))
-    ∷ writes K 3 (0x56 ∷ 0x41 ∷ 0x05 ∷ []) 600 (ok (0x9F ∷ 0x83 ∷ 0xFF ∷ 0x7F ∷ 0x00 ∷ []))
-    ∷ writes J 1 (0x56 ∷ 0x41 ∷ 0x04 ∷ 0x00 ∷ 0x05 ∷ 0x4A ∷ 0x6F ∷ 0x6E ∷ 0x65 ∷ 0x73 ∷ []) 600 (ok (0xA2 ∷ 0x07 ∷ 0x43 ∷ 0x05 ∷ 0x4A ∷ 0x6F ∷ 0x6E ∷ 0x65 ∷ 0x73 ∷ []))
-    ∷ writes J 2 (0x56 ∷ 0x41 ∷ 0x04 ∷ 0x00 ∷ 0x05 ∷ 0x4A ∷ 0x6F ∷ 0x6E ∷ 0x65 ∷ 0x73 ∷ []) 600 (ok (0x67 ∷ 0x07 ∷ 0x43 ∷ 0x05 ∷ 0x4A ∷ 0x6F ∷ 0x6E ∷ 0x65 ∷ 0x73 ∷ []))
-    ∷ writes LO 0 (0x56 ∷ 0x41 ∷ 0x30 ∷ 0x00 ∷ 0x02 ∷ 0x56 ∷ 0x41 ∷ 0x04 ∷ 0x00 ∷ 0x01 ∷ 0x07 ∷ 0x56 ∷ 0x41 ∷ 0x04 ∷ 0x00 ∷ 0x00 ∷ []) 600 (ok (0x30 ∷ 0x05 ∷ 0x04 ∷ 0x01 ∷ 0x07 ∷ 0x04 ∷ 0x00 ∷ []))
-    ∷ writes Q 0 (0x56 ∷ 0x41 ∷ 0x10 ∷ 0x03 ∷ 0x00 ∷ 0x01 ∷ 0x00 ∷ 0x56 ∷ 0x41 ∷ 0x01 ∷ 0x01 ∷ []) 600 (ok (0x30 ∷ 0x03 ∷ 0x81 ∷ 0x01 ∷ 0xFF ∷ []))
-    ∷ writes Q 0 (0x56 ∷ 0x41 ∷ 0x10 ∷ 0x03 ∷ 0x01 ∷ 0x00 ∷ 0x01 ∷ 0x56 ∷ 0x41 ∷ 0x02 ∷ 0x00 ∷ 0x00 ∷ 0x00 ∷ 0x00 ∷ 0x00 ∷ 0x00 ∷ 0x00 ∷ 0x05 ∷ 0x56 ∷ 0x41 ∷ 0x05 ∷ []) 600 (no 12 0)
-    ∷ writes S 2 (0x56 ∷ 0x41 ∷ 0x31 ∷ 0x00 ∷ 0x00 ∷ []) 600 (no 12 0)
-    ∷ writes W 0 (0x56 ∷ 0x41 ∷ 0x31 ∷ 0x00 ∷ 0x02 ∷ 0x56 ∷ 0x41 ∷ 0x02 ∷ 0x00 ∷ 0x00 ∷ 0x00 ∷ 0x00 ∷ 0x00 ∷ 0x00 ∷ 0x00 ∷ 0x02 ∷ 0x56 ∷ 0x41 ∷ 0x02 ∷ 0x00 ∷ 0x00 ∷ 0x00 ∷ 0x00 ∷ 0x00 ∷ 0x00 ∷ 0x00 ∷ 0x01 ∷ []) 600 (ok (0x31 ∷ 0x06 ∷ 0x02 ∷ 0x01 ∷ 0x02 ∷ 0x02 ∷ 0x01 ∷ 0x01 ∷ []))
-    ∷ []
-
--- every example comes out as it is said
-pub readings-right : wrong 0 readings ≡ []
-unfolding if then behind none-left any all joined leading following identifier readFollowing readIdentifier same number digits lengthOctets fit readLong readLength item atEnd readHeader inside readConstructed contents readPrimitive negative pile integerOf spare minimal eight fewest unused masked table universal constructed kind members slots bag leafOctets count presence octets listed encode isListed decode identifierOf last before explicitTags own explicit beginsBody beginsItem beginsIn begins allowed element alternatives formMembers formElements formBody wrap formAt passes begun notAwaited nothing full unwanted readWrapped readSequence place readSet readMany choose readBody readKind readValue readMessage need flags ownMembers ownCount ownBoolean ownInteger ownString ownBits ownEnumerated ownChoice readOwn readNode leafKind nodeKind numbers leafAgrees agreeing counts agrees judgeMembers judgeElements judgeBelow judgeValue judgeWhole valueCause messageCause afterReading readOutcome afterJudging writeOutcome
-readings-right = refl
-
-pub writings-right : wrong 0 writings ≡ []
-unfolding if then behind none-left any all joined leading following identifier readFollowing readIdentifier same number digits lengthOctets fit readLong readLength item atEnd readHeader inside readConstructed contents readPrimitive negative pile integerOf spare minimal eight fewest unused masked table universal constructed kind members slots bag leafOctets count presence octets listed encode isListed decode identifierOf last before explicitTags own explicit beginsBody beginsItem beginsIn begins allowed element alternatives formMembers formElements formBody wrap formAt passes begun notAwaited nothing full unwanted readWrapped readSequence place readSet readMany choose readBody readKind readValue readMessage need flags ownMembers ownCount ownBoolean ownInteger ownString ownBits ownEnumerated ownChoice readOwn readNode leafKind nodeKind numbers leafAgrees agreeing counts agrees judgeMembers judgeElements judgeBelow judgeValue judgeWhole valueCause messageCause afterReading readOutcome afterJudging writeOutcome
-writings-right = refl
+-- every row comes out as it is said
+pub examples-right : wrong 0 examples ≡ []
+unfolding if then behind none-left any all joined tabulate lowestFrom same leading following identifier number digits lengthOctets item negative pile integerOf spare minimal eight fewest unused masked readFollowing readIdentifier fit readLong readLength atEnd readHeader inside readConstructed contents readPrimitive references isChoice universal constructed kind rising bodyBelow tagsBelow parts members tagsAt numbersAt membersAt everyAt bodyAt recordAt countedEnd enumeratedEnd membersEnd ownEnd recordEnd scanFrom scan look round rounds found dangling wrongTags reachStep circular sameTag tagBegins firstStep firstOfBoth share pair sharing finiteBody finiteStep infinite judgeChoices judge verdict slots bag leafOctets count presence octets listed identifierOf last before explicitTags own explicit allowed encode element alternatives formMembers formElements formBody wrap formAt need flags ownMembers ownCount ownBoolean ownInteger ownString ownBits ownEnumerated ownChoice readOwn readNode leafKind nodeKind numbers leafAgrees agreeing counts agrees judgeMembers judgeElements judgeBelow judgeValue judgeWhole beginsBody beginsItem beginsIn begins isListed decode passes begun notAwaited nothing full unwanted readWrapped readSequence place readSet readMany choose readBody readKind readValue readMessage valueCause messageCause afterReading readOutcome afterJudging writeOutcome afterCheck wholeWrite wholeRead checkAnswer
+examples-right = refl

@@ -292,7 +292,7 @@ module _ (T : Table) (r : ℕ → List ℕ → Answer Value) (says : (t : ℕ) (
   kind-says i (SetOf t) s = constructed-says i _ (λ mode u. then-speaks (many-says (length u) (suc (length u)) t mode [] u (omega arith) (omega arith)) λ vs s₁ e. answers) s
   kind-says i (Choice ts) s = choose-says ts 0 s
 
--- every refusal in the reading of a value is one of document 01's, at a place within the octets
+-- every refusal in the reading of a value is one of its stage's, at a place within the octets
 pub value-says : (T : Table) (n t : ℕ) (s : List ℕ) → Says (length s) (readValue T n t s)
 unfolding readValue
 value-says T zero t s = here is-28
@@ -372,7 +372,7 @@ module _ (r : ℕ → List ℕ → Answer Value) (says : (t : ℕ) (s : List ℕ
   judge-below-says n b (a-set-of k) s o h = then-speaks (judge-elements-says n k _ [] s o h) λ os u e. answers
   judge-below-says n b (a-choice i) s o h = then-speaks (wider (says _ s o) h) λ v u e. answers
 
--- every refusal in the judging of a value is one of document 01's, at a place within the octets
+-- every refusal in the judging of a value is one of its stage's, at a place within the octets
 pub judge-says : (T : Table) (n t : ℕ) (s : List ℕ) → AllOctets s → Speaks OfValue (length s) (judgeValue T n t s)
 unfolding judgeValue
 judge-says T zero t s o = then-speaks (node-says s) λ x s₁ e. here is-13

@@ -59,7 +59,7 @@ unfoldable pub shapeValue : ℕ → List ℕ → Answer Value
 shapeValue zero s = refused 11 (length s)
 shapeValue (suc n) s = then (readNode s) λ x s₁. judgeBelow (λ u w. shapeValue n w) (anyBody x) x s₁
 
--- "value not shaped as above, empty, .. octets left": a tree has no more levels than octets
+-- the whole, with nothing left behind it; a tree has no more levels than octets
 unfoldable pub shapeWhole : List ℕ → Answer Value
 shapeWhole s =
     then (shapeValue (length s) s) λ v r.

@@ -1,4 +1,4 @@
--- Which identifier octets begin a value of a type, and what is awaited where.
+-- Which identifier octets begin a value of a type, and what is awaited where (FORMATS, "Tables" and "Messages").
 -- Assumes nothing.
 use mathlib.Core.Bool.{Bool, true, false}
 use mathlib.Core.List.{List, [], _∷_, map}
@@ -10,7 +10,7 @@ use Rattle.table.specs.Syntax.{Body, Plain, Sequence, Set, SequenceOf, SetOf, C
 use Rattle.coding.specs.Tags.{own, explicit}
 use Rattle.coding.specs.Value.{Value}
 
--- "First tags", with the primitive or constructed bit: i is the outermost identifier, or begins an alternative of a CHOICE without tags; f says which
+-- the first tags as identifier octets i, the constructed bit included: the outermost one, or what begins an alternative of a CHOICE without tags, as f says
 unfoldable pub beginsBody : (ℕ → Bool) → List ℕ → List ℕ → Body → Bool
 beginsBody f i o (Plain k) = same i o
 beginsBody f i o (Sequence ms) = same i o
@@ -40,12 +40,12 @@ abbrev pub further : Bool → List ℕ → List ℕ
 further true ts = ts
 further false ts = []
 
--- "in a SEQUENCE, the members after the last one read, up to and with the next mandatory one"
+-- in a SEQUENCE: of the members that are left, the optional ones in front and the first mandatory one
 unfoldable pub awaited : List Member → List ℕ
 awaited [] = []
 awaited (m ∷ ms) = m .type ∷ further (m .optional) (awaited ms)
 
--- "in a SET, those not yet read"
+-- in a SET: the members that have not come
 unfoldable pub notYetRead : List Member → List (Option Value) → List ℕ
 notYetRead [] os = []
 notYetRead (m ∷ ms) [] = m .type ∷ notYetRead ms []

@@ -39,7 +39,7 @@ messageCause c p =
     if (eqb c 26) (Trailing p) λ _.
     Level p
 
--- "value longer than buffer or 16,384", "only for input otherwise accepted"; the place counts from the start of the message m
+-- 27 only for a message that is accepted; the place of a refusal counts from the start of the message m
 unfoldable pub afterReading : List ℕ → List ℕ → Answer Value → Outcome
 afterReading m buf (got v r) =
     if (not (leb (length (octets v)) (min longestValue (length buf)))) (refuse (of-message Room) buf) λ _.
@@ -53,21 +53,21 @@ readOutcome T n t m buf =
     if (not (leb (length m) longestMessage)) (refuse (of-message TooLong) buf) λ _.
     afterReading m buf (readMessage T levels t m)
 
--- "message longer than buffer or 8,192"; f is the form of the values
+-- 14 only for a value that is accepted; f is the form of the values
 unfoldable pub afterJudging : (Value → List ℕ) → List ℕ → List ℕ → Answer Value → Outcome
 afterJudging f b buf (got v r) =
     if (not (leb (length (f v)) (min longestMessage (length buf)))) (refuse (of-value RoomV) buf) λ _.
     write-at-start (f v) buf
 afterJudging f b buf (refused c l) = refuse (of-value (valueCause c (length b - l))) buf
 
--- write: 7, "an over-long value is 11 before any node, place 0", then from the left, then 14
+-- write: 7; 11 at 0 for over-long octets, with no look at a node; then from the left; then 14
 unfoldable pub writeOutcome : Table → ℕ → ℕ → List ℕ → List ℕ → Outcome
 writeOutcome T n t b buf =
     if (not (ltb t n)) (refuse (of-table NoType) buf) λ _.
     if (not (leb (length b) longestValue)) (refuse (of-value (Shape 0)) buf) λ _.
     afterJudging (formAt T levels t) b buf (judgeWhole T levels t b)
 
--- "Each call checks its table again": 1 to 6 first; x is what follows for the records by number and their count
+-- 1 to 6 first, in every call; x is what follows for the records by number and their count
 unfoldable pub afterCheck : List ℕ → List ℕ → (Table → ℕ → Outcome) → Verdict → Outcome
 afterCheck b buf x Passed = x (look b (scan b .offsets)) (length (scan b .offsets))
 afterCheck b buf x (Refused c) = refuse (of-table c) buf
@@ -80,7 +80,7 @@ wholeWrite b t v buf = afterCheck b buf (λ T n. writeOutcome T n t v buf) (verd
 unfoldable pub wholeRead : List ℕ → ℕ → List ℕ → List ℕ → Outcome
 wholeRead b t m buf = afterCheck b buf (λ T n. readOutcome T n t m buf) (verdict b)
 
--- check: "A check prints ok", with nothing written
+-- check: nothing is written
 unfoldable pub checkAnswer : Verdict → Told
 checkAnswer Passed = done 0
 checkAnswer (Refused c) = refusal (of-table c)

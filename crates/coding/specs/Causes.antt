@@ -1,4 +1,4 @@
--- The refusals of the value stage and of the message stage: their numbers and places (document 01, "Refused").
+-- The refusals of the value stage and of the message stage: their numbers and places (FORMATS, "Refusals").
 -- Assumes nothing.
 use Prim.Native.Nat.{ℕ}
 use Rattle.coding.specs.declared.ValueCause.{ValueCause}
@@ -6,7 +6,7 @@ use Rattle.coding.specs.declared.ValueCause.the-variants.{Shape, IllType
 use Rattle.coding.specs.declared.MessageCause.{MessageCause}
 use Rattle.coding.specs.declared.MessageCause.the-variants.{TooLong, Cut, Form, NotAwaited, Contents, Trailing, Room, Level}
 
--- "11 to 14 of the value"
+-- the value stage has 11 to 14
 abbrev pub valueNumber : ValueCause → ℕ
 valueNumber (Shape p) = 11
 valueNumber (IllTyped p) = 12
@@ -19,7 +19,7 @@ valuePlace (IllTyped p) = p
 valuePlace (LevelV p) = p
 valuePlace RoomV = 0
 
--- "all others of the message"; "7, 14, 21, 27 have place 0"
+-- the message stage has 21 to 28; 21 and 27 are of the whole, so their place is 0
 abbrev pub messageNumber : MessageCause → ℕ
 messageNumber TooLong = 21
 messageNumber (Cut p) = 22

@@ -1,4 +1,4 @@
--- Contents of the simple kinds: what a sender may send, what the writer sends, and the reading of them (X.690, 8.2 to 8.8; document 01, "Messages").
+-- Contents of the simple kinds that a sender may send (X.690, 8.2 to 8.8; FORMATS, "Messages").
 -- Assumes nothing.
 use mathlib.Core.Bool.{Bool, true, not}
 use mathlib.Core.List.{List, [], _∷_}
@@ -13,12 +13,12 @@ use Rattle.ber.specs.BitString.{unused, masked}
 use Rattle.table.specs.Syntax.{Simple, Boolean, Integer, BitString, OctetString, Null, Enumerated}
 use Rattle.coding.specs.Value.{Leaf, boolean, integer, bits, string, null, enumerated}
 
--- "an ENUMERATED number is listed"
+-- the number is one of the list
 unfoldable pub listed : List ℕ → ℕ → Bool
 listed ns k = any (λ n. eqb n k) ns
 
--- The contents that X.690 permits for a leaf. 8.2: "BOOLEAN: 00 false, all others true". 8.3, 8.4: "INTEGER and ENUMERATED contents:
--- two's complement in the fewest octets, at most 8; an ENUMERATED number must be listed". 8.6: "unused bits may have any setting and are read as 0".
+-- The contents that may be sent for a leaf. 8.2: false is 00, true any other octet. 8.3, 8.4: INTEGER and ENUMERATED in two's complement, in the
+-- fewest octets and at most 8; an ENUMERATED number is one of the list. 8.6: bits that are not used may be set.
 -- 8.7: the octets of an OCTET STRING. 8.8: a NULL has none.
 pub data Content : Simple → Leaf → List ℕ → Type 0 where
   c-boolean : {x : ℕ} → Content Boolean (boolean (not (eqb x 0))) (x ∷ [])

@@ -1,4 +1,4 @@
--- What X.690 permits for a value of a type, from the sender's side (document 01, "Messages"; X.690, 8).
+-- What X.690 permits for a value of a type, from the sender's side (X.690, 8; FORMATS, "Messages").
 -- Assumes nothing.
 use mathlib.Core.Bool.{Bool, true, false, _&&_}
 use mathlib.Core.List.{List, [], _∷_}
@@ -25,7 +25,7 @@ allowed (m ∷ ms) [] = false
 allowed (m ∷ ms) (none ∷ os) = m .optional && allowed ms os
 allowed (m ∷ ms) (some v ∷ os) = allowed ms os
 
--- encodings of the members that are there, in the table's order: "a present member is always sent"
+-- encodings of the members that are there, in the table's order: each of them is sent
 pub data Pieces (E : Coding) : List Member → List (Option Value) → List (List ℕ) → Type 0 where
   done : Pieces E [] [] []
   left : {m : Member} {ms : List Member} {os : List (Option Value)} {ps : List (List ℕ)} → Pieces E ms os ps → Pieces E (m ∷ ms) (none ∷ os) ps

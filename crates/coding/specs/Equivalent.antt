@@ -1,4 +1,4 @@
--- Equivalent values (document 01, "Values").
+-- Equivalent values (FORMATS, "Values").
 -- Assumes nothing.
 use mathlib.Core.List.{List}
 use mathlib.Core.Option.{Option, some, none}
@@ -13,7 +13,7 @@ Slot Q none (some w) = ⊥
 Slot Q (some v) none = ⊥
 Slot Q (some v) (some w) = Q v w
 
--- "Equivalent: equal, except that SET OF elements may be permuted, each against an equivalent one, at all levels."
+-- the same, part by part, but that the elements of a SET OF may stand in another order, on every level
 pub data Alike (o : Order) (Q : Value → Value → Type 0) : Value → Value → Type 0 where
   same-leaf : {x : Leaf} → Alike o Q (leaf x) (leaf x)
   same-sequence : {os ps : List (Option Value)} → Each (Slot Q) os ps → Alike o Q (sequence (slots os)) (sequence (slots ps))

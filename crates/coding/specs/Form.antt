@@ -1,4 +1,4 @@
--- The writer's form of a value: "definite shortest lengths, FF for true, unused bits 0, members in table order, elements in value order".
+-- The writer's form of a value: shortest definite lengths, members in the table's order, elements in the value's (FORMATS, "Messages").
 -- Assumes nothing.
 use mathlib.Core.List.{List, [], _∷_}
 use mathlib.Core.Bool.{Bool, true, false}
@@ -13,7 +13,7 @@ use Rattle.table.specs.Rules.{members}
 use Rattle.coding.specs.Value.{Value, leaf, sequence, set, sequenceOf, setOf, choice, Slots, end, missing, present, Leaf, boolean, integer, bits, string, null, enumerated}
 use Rattle.coding.specs.Tags.{own, explicit}
 
--- "FF for true, unused bits 0"
+-- true is FF, unused bits are 0
 abbrev pub truth : Bool → ℕ
 truth true = 0xFF
 truth false = 0

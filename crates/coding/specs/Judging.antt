@@ -1,4 +1,4 @@
--- The judging of a value's octets, with 11, 13 and 12 and their places (document 01, "Values" and "Refused").
+-- The judging of a value's octets, with 11, 13 and 12 and their places (FORMATS, "Values" and "Order of refusals").
 -- A refusal carries the number of octets that are left from its place to the end of what was given.
 -- Assumes nothing.
 use mathlib.Core.Bool.{Bool, true, false, not, _&&_, _||_}
@@ -32,7 +32,7 @@ pub data Node : Type 0 where
 unfoldable pub need : {A : Type 0} → ℕ → ℕ → List ℕ → (Unit {0} → Answer A) → Answer A
 need l k s x = if (not (leb k (length s))) (refused 11 l) x
 
--- "a 0 or 1 for each member's presence"
+-- presence octets: 1 for a member that is there, 0 for one that is missing
 unfoldable pub flags : List ℕ → List Bool
 flags [] = []
 flags (b ∷ s) = eqb b 1 ∷ flags s
@@ -69,7 +69,7 @@ octetsFor n = (n + 7) / 8
 abbrev pub spareIn : ℕ → ℕ
 spareIn n = 8 * octetsFor n - n
 
--- "spare bits 0"
+-- the bits behind the last one counted are 0
 unfoldable pub ownBits : ℕ → List ℕ → Answer Node
 ownBits l s =
     need l 2 s λ _.
@@ -99,7 +99,7 @@ readOwn l k s =
     if (eqb k 50) (ownChoice l s) λ _.
     refused 11 l
 
--- "A node is the mark 56 41, the kind, and .."
+-- the mark 56 41, the kind, and the own part of that kind
 unfoldable pub readNode : List ℕ → Answer Node
 readNode s =
     need (length s) 3 s λ _.
@@ -160,7 +160,7 @@ counts b (a-sequence-of n) = true
 counts b (a-set-of n) = true
 counts b (a-choice i) = ltb i (length (alternatives b))
 
--- "each node's kind is its record's; counts and alternatives agree; mandatory members are present; an ENUMERATED number is listed"
+-- a node agrees with its record: the same kind, as many members, no mandatory one missing, an alternative and a number that the record has
 unfoldable pub agrees : Body → Node → Bool
 agrees b x = eqb (nodeKind x) (kind b) && counts b x
 
@@ -186,7 +186,7 @@ module _ (r : ℕ → List ℕ → Answer Value) where
   judgeBelow b (a-set-of n) s = then (judgeElements n (element b) [] s) λ vs s₁. got (setOf (bag vs)) s₁
   judgeBelow b (a-choice i) s = then (r (getD (alternatives b) i 0) s) λ v s₁. got (choice i v) s₁
 
--- "at a node 11, 13, 12", where n levels are left
+-- the node's own octets first (11), then its level (13), then its type (12); n levels are left
 unfoldable pub judgeValue : Table → ℕ → ℕ → List ℕ → Answer Value
 judgeValue T zero t s = then (readNode s) λ x s₁. refused 13 (length s)
 judgeValue T (suc n) t s =
@@ -194,7 +194,7 @@ judgeValue T (suc n) t s =
     if (not (agrees (T t .body) x)) (refused 12 (length s)) λ _.
     judgeBelow (λ u w. judgeValue T n u w) (T t .body) x s₁
 
--- the whole: "octets left have the place of the first of them"
+-- the whole: octets behind the tree are 11 at the first of them
 unfoldable pub judgeWhole : Table → ℕ → ℕ → List ℕ → Answer Value
 judgeWhole T n t s =
     then (judgeValue T n t s) λ v r.

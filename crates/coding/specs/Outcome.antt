@@ -1,4 +1,4 @@
--- The outcomes of check, write and read: the answer, and what the lent buffer then holds (document 01, "Refused").
+-- The outcomes of check, write and read: the answer, and what the lent buffer then holds (FORMATS, "Refusals" and "Limits").
 -- Assumes nothing.
 use mathlib.Core.List.{List, _++_}
 use Prim.Native.Nat.{ℕ, _-_}
@@ -10,7 +10,7 @@ pub use Rattle.coding.specs.declared.Refusal.the-variants.{Table as of-t
 pub use Rattle.coding.specs.declared.Answer.{Answer as Told}
 pub use Rattle.coding.specs.declared.Answer.the-variants.{Done as done, Refused as refusal}
 
--- "down to level 24"; "A value is a tree in at most 16,384 octets"; "message over 8,192 octets"
+-- the limits of a value and of a message
 abbrev pub levels : ℕ
 levels = 24
 
@@ -30,15 +30,15 @@ placeOf (of-table c) = tablePlace c
 placeOf (of-value c) = valuePlace c
 placeOf (of-message c) = messagePlace c
 
--- "A done answer gives the length written".
+-- what is told, and what the lent buffer then holds; done tells the length written
 pub record Outcome : Type 0 where
   pub answer : Told
   pub buffer : List ℕ
 
--- "On a refusal the buffer is unchanged."
+-- a refusal leaves the buffer as it was
 abbrev pub refuse : Refusal → List ℕ → Outcome
 refuse r buf = record { answer = refusal r; buffer = buf }
 
--- "octets beyond it are unchanged"
+-- what is written stands at the start, and the rest is as it was
 abbrev pub write-at-start : List ℕ → List ℕ → Outcome
 write-at-start w buf = record { answer = done (length w); buffer = w ++ drop (length w) buf }

@@ -1,4 +1,4 @@
--- The reading of a message, with every refusal of the message stage from 22 on and its place (document 01, "Messages" and "Refused").
+-- The reading of a message, with every refusal of the message stage from 22 on and its place (FORMATS, "Messages" and "Order of refusals").
 -- A refusal carries the number of octets that are left from its place to the end of what was given.
 -- Assumes nothing.
 use mathlib.Core.Bool.{Bool, true, false, not}
@@ -27,7 +27,7 @@ abbrev pub natural : ℤ → ℕ
 natural (pos k) = k
 natural (negsuc k) = 0
 
--- "contents (25)": the leaf, with what stands behind the contents; l octets are left where the item begins
+-- the leaf that contents carry, else 25; s stands behind the contents, and l octets are left where the item begins
 unfoldable pub decode : Simple → ℕ → List ℕ → List ℕ → Answer Leaf
 decode Boolean l c s = if (not (eqb (length c) 1)) (refused 25 l) λ _. got (boolean (not (eqb (getD c 0 0) 0))) s
 decode Integer l c s =
@@ -55,7 +55,7 @@ passes f (refused c l) = false
 unfoldable pub begun : Table → ℕ → List ℕ → Bool
 begun T t s = passes (begins T t) (readIdentifier s)
 
--- "identifier octets present (22), form (23), awaited with its primitive or constructed bit (24)": an item that is not awaited
+-- an item that is not awaited: 24, once its identifier octets are whole (22) and in form (23)
 unfoldable pub notAwaited : {A : Type 0} → List ℕ → Answer A
 notAwaited s = then (readIdentifier s) λ i s₁. refused 24 (length s)
 
@@ -75,7 +75,7 @@ unfoldable pub unwanted : {A : Type 0} → Bool → List ℕ → Answer A
 unwanted true s = notAwaited s
 unwanted false s = refused 26 (length s)
 
--- "under an explicit tag, its one item"
+-- under an explicit tag stands one item, and nothing behind it
 unfoldable pub readWrapped : {A : Type 0} → List (List ℕ) → (List ℕ → Answer A) → List ℕ → Answer A
 readWrapped [] r s = r s
 readWrapped (i ∷ is) r s =
@@ -85,7 +85,7 @@ readWrapped (i ∷ is) r s =
     atEnd mode w (λ y. got v y) λ _. refused 26 (length w)) s
 
 module _ (T : Table) (r : ℕ → List ℕ → Answer Value) where
-  -- "in a SEQUENCE, the members after the last one read, up to and with the next mandatory one"; w: some of them were passed over
+  -- the members in the table's order; what comes may pass over optional ones, up to the next mandatory one. w: some were passed over
   unfoldable pub readSequence : List Member → List (Option Value) → Bool → Mode → List ℕ → Answer (List (Option Value))
   readSequence [] os w mode s = atEnd mode s (λ u. got os u) λ _. unwanted w s
   readSequence (m ∷ ms) os w mode s =
@@ -102,7 +102,7 @@ module _ (T : Table) (r : ℕ → List ℕ → Answer Value) where
       then (place ms os s) λ us s₁. got (none ∷ us) s₁
   place (m ∷ ms) (some v ∷ os) s = then (place ms os s) λ us s₁. got (some v ∷ us) s₁
 
-  -- "in a SET, those not yet read": the members in the order in which they come, with those in hand
+  -- the members in the order in which they come, each one once; os are those in hand
   unfoldable pub readSet : ℕ → List Member → List (Option Value) → Mode → List ℕ → Answer (List (Option Value))
   readSet zero ms os mode s = refused 0 0
   readSet (suc k) ms os mode s =
@@ -110,7 +110,7 @@ module _ (T : Table) (r : ℕ → List ℕ → Answer Value) where
       if (full os) (refused 26 (length s)) λ _.
       then (place ms os s) λ us s₁. readSet k ms us mode s₁
 
-  -- "in a list, always an element": the elements after those in hand
+  -- the elements after those in hand: in a list one more is always awaited
   unfoldable pub readMany : ℕ → ℕ → Mode → List Value → List ℕ → Answer (List Value)
   readMany zero t mode vs s = refused 0 0
   readMany (suc k) t mode vs s =
@@ -143,12 +143,12 @@ module _ (T : Table) (r : ℕ → List ℕ → Answer Value) where
   readKind i (SetOf t) s = readConstructed i (readBody (SetOf t)) s
   readKind i (Choice ts) s = choose ts 0 s
 
--- A value of a type where n levels are left. Its item has begun as its type does, so "level (28)" comes after 24 and before the length.
+-- A value of a type where n levels are left. Its item has begun as its type does, so 28 comes after 24 and before the length.
 unfoldable pub readValue : Table → ℕ → ℕ → List ℕ → Answer Value
 readValue T zero t s = refused 28 (length s)
 readValue T (suc n) t s = readWrapped (explicit (T t)) (readKind T (λ u w. readValue T n u w) (own (T t)) (T t .body)) s
 
--- "in the message, the root"; "an empty message 22"; octets behind it 26
+-- the message is one value: 22 if it is empty, 26 for octets behind the value
 unfoldable pub readMessage : Table → ℕ → ℕ → List ℕ → Answer Value
 readMessage T n t s =
     if (none-left s) (refused 22 0) λ _.

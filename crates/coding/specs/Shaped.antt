@@ -1,4 +1,4 @@
--- The trees that have octets: integers of 64 bits, spare bits 0, and counts that fit their fields (document 01, "Values").
+-- The trees that have octets: integers of 64 bits, spare bits 0, and counts that fit their fields (FORMATS, "Values").
 -- Assumes nothing.
 use mathlib.Core.Bool.{true}
 use mathlib.Core.Path.{_≡_}
@@ -10,7 +10,7 @@ use Rattle.octets.specs.Permutations.{AllOctets}
 use Rattle.ber.specs.BitString.{unused, masked}
 use Rattle.coding.specs.Value.{Leaf, boolean, integer, bits, string, null, enumerated, Value, leaf, sequence, set, sequenceOf, setOf, choice, Slots, end, missing, present, count, bitCount}
 
--- "ENUMERATED: two octets"; "two-octet length"; "two-octet count of bits"
+-- an ENUMERATED number, a count of octets and a count of bits have two octets each
 unfoldable pub LeafShaped : Leaf → Type 0
 LeafShaped (boolean b) = Unit {0}
 LeafShaped (integer z) = SFits w64 z

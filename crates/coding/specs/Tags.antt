@@ -1,4 +1,4 @@
--- The tags of a record, and the identifier octets that they give (document 01, "Tables").
+-- The tags of a record, and the identifier octets that they give (FORMATS, "Tables").
 -- Assumes nothing.
 use mathlib.Core.Bool.{Bool, true}
 use mathlib.Core.List.{List, [], _∷_, map}
@@ -9,19 +9,19 @@ use Rattle.table.specs.Syntax.{Tag, Body, Plain, Sequence, Set, SequenceOf, Set
 unfoldable pub identifierOf : Bool → Tag → List ℕ
 identifierOf b g = identifier (g .class) b (g .number)
 
--- "The last replaces the type's own tag": what is left without one is the kind's own UNIVERSAL tag
+-- the last tag stands in place of the kind's own UNIVERSAL one; with no tag it is that one
 unfoldable pub last : Body → List Tag → Tag
 last b [] = record { class = 0; number = universal b }
 last b (g ∷ []) = g
 last b (g ∷ h ∷ gs) = last b (h ∷ gs)
 
--- "all before it are explicit"
+-- the tags in front of the last one are explicit
 unfoldable pub before : List Tag → List Tag
 before [] = []
 before (g ∷ []) = []
 before (g ∷ h ∷ gs) = g ∷ before (h ∷ gs)
 
--- "In a CHOICE all are explicit."
+-- a CHOICE has no tag of its own to replace, so all of its tags are explicit
 unfoldable pub explicitTags : Body → List Tag → List Tag
 explicitTags (Plain k) gs = before gs
 explicitTags (Sequence ms) gs = before gs

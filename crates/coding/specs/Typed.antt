@@ -1,4 +1,4 @@
--- Well-typed values (document 01, "Values").
+-- Well-typed values (FORMATS, "Values").
 -- Assumes nothing.
 use mathlib.Core.Bool.{true, Bool}
 use mathlib.Core.List.{List, [], _∷_}
@@ -30,7 +30,7 @@ pub data Fits (W : ℕ → Value → Type 0) : List Member → List (Option Valu
   f-left : {m : Member} {ms : List Member} {os : List (Option Value)} → Fits W ms os → Fits W (m ∷ ms) (none ∷ os)
   f-sent : {m : Member} {ms : List Member} {os : List (Option Value)} {v : Value} → W (m .type) v → Fits W ms os → Fits W (m ∷ ms) (some v ∷ os)
 
--- "each node's kind is its record's; counts and alternatives agree; mandatory members are present; an ENUMERATED number is listed"
+-- a value of a kind: a slot for each member and no mandatory one empty, elements of the one type, an alternative that the record has
 pub data Typed (W : ℕ → Value → Type 0) : Body → Value → Type 0 where
   t-plain : {k : Simple} {x : Leaf} → TypedLeaf k x → Typed W (Plain k) (leaf x)
   t-sequence : {ms : List Member} {os : List (Option Value)} → Fits W ms os → allowed ms os ≡ true → Typed W (Sequence ms) (sequence (slots os))

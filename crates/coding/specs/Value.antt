@@ -1,4 +1,4 @@
--- Values: trees by kind, their octets, their levels (document 01, "Values").
+-- Values: trees by kind, their octets, their levels (FORMATS, "Values" and "Octets and levels").
 -- Assumes nothing.
 use mathlib.Core.Bool.{Bool, true, false}
 use mathlib.Core.List.{List, [], _∷_, _++_}
@@ -50,8 +50,8 @@ flag false = 0
 abbrev pub bitCount : ℕ → List ℕ → ℕ
 bitCount n c = 8 * length c - n
 
--- "A node is the mark 56 41, the kind, and: BOOLEAN: 00 or 01. NULL: nothing. ENUMERATED: two octets. INTEGER: eight octets, two's complement.
--- OCTET STRING: two-octet length, octets. BIT STRING: two-octet count of bits, then the octets, spare bits 0."
+-- the node of a leaf: the mark 56 41, the kind, and what the kind has: 00 or 01, eight octets, a count of bits or octets and then these, nothing,
+-- a number of two octets
 unfoldable pub leafOctets : Leaf → List ℕ
 leafOctets (boolean b) = 0x56 ∷ 0x41 ∷ 1 ∷ flag b ∷ []
 leafOctets (integer z) = 0x56 ∷ 0x41 ∷ 2 ∷ eightOf z
@@ -71,8 +71,8 @@ presence end = []
 presence (missing s) = 0 ∷ presence s
 presence (present v s) = 1 ∷ presence s
 
--- "SEQUENCE, SET: member count, a 0 or 1 for each member's presence, then the present ones in table order.
--- SEQUENCE OF, SET OF: two-octet count, elements. CHOICE: alternative from 0, then its value."
+-- a node with nodes below it: members have a count and a presence octet each, in the table's order, and those that are there follow;
+-- elements have a count of two octets; a CHOICE has the number of its alternative
 unfoldable mutual
   pub octets : Value → List ℕ
   octets (leaf x) = leafOctets x
@@ -87,7 +87,7 @@ unfoldable mutual
   parts (missing s) = parts s
   parts (present v s) = octets v ++ parts s
 
--- "Level counts values from the root, which is level 1; a CHOICE and its chosen value are two levels."
+-- how many levels: the root is one; a CHOICE is one, and its chosen value the next
 unfoldable mutual
   pub depth : Value → ℕ
   depth (leaf x) = 1

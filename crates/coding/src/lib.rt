@@ -1,4 +1,4 @@
-// The refusals of the value stage and of the message stage (document 01, "Refused").
+// The refusals of the value stage and of the message stage (FORMATS, "Refusals").
 
 use table::TableCause;
 
@@ -22,7 +22,7 @@ pub enum MessageCause {
     Level(usize),
 }
 
-// "A refusal says its stage (table, value or message) and, within the stage, its cause and place."
+// A refusal is of the table, of the value or of the message, and has its cause and place within that stage.
 pub enum Refusal {
     Table(TableCause),
     Value(ValueCause),

@@ -1,4 +1,4 @@
-// Document 01's number and place of a refusal.
+// The number and the place of a refusal (FORMATS, "Refusals").
 ghost use mathlib.Core.Path.{_≡_};
 ghost use Prim.Native.Nat.{_<_};
 ghost use Rattle.table.specs.Cause.{number as tableNumber, place as tablePlace};

@@ -7,10 +7,11 @@ use Prim.Native.Nat.{ℕ, _/_, _%_, _<_}
 use native.Mathlib.Omega.{arith}
 use Rattle.octets.specs.Numbers.{Octets}
 use Rattle.table.specs.Verdict.{verdict}
-use Rattle.coding.specs.Outcome.{Told, Outcome}
+use Rattle.coding.specs.Outcome.{Outcome}
+use Rattle.coding.specs.declared.Answer.{Answer as Told}
 use Rattle.coding.specs.Calls.{checkAnswer, wholeRead, wholeWrite}
 use Rattle.link.specs.Pack.{number, place, packed, unpacked}
-use Rattle.link.proofs.Pack.{back}
+use Rattle.link.proofs.Back.{back}
 use Rattle.link.proofs.Small.{check-within, read-small, write-small}
 
 -- the high part is the number, 0 for done; the low part is the place or the length

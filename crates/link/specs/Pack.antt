@@ -1,8 +1,6 @@
--- An answer as one number for C: document 01's number of the refusal, or 0 for done, times 65,536, and its place, or the length written.
+-- An answer as one number for C (FORMATS, "Answers for C"): the number of the refusal, or 0 for done, times 65,536, and its place, or the length written.
 -- Assumes nothing.
-use mathlib.Core.Path.{_≡_, refl, _∙_}
-use Prim.Native.Nat.{ℕ, _+_, _*_, _/_, _%_, _<_}
-use native.Mathlib.Omega.{arith}
+use Prim.Native.Nat.{ℕ, _+_, _*_, _/_, _%_}
 use lib.Dec.{eqb}
 use Rattle.octets.specs.Tests.{if}
 use Rattle.table.specs.declared.TableCause.the-variants.{Shape, NoRecord, WrongTag, ChoiceLoop, SharedTag, NoValue, NoType}

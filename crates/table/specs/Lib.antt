@@ -7,7 +7,6 @@ pub mod Reading
 pub mod Decide
 pub mod Verdict
 pub mod Cause
-pub mod Examples
 pub mod Passes
 pub mod Fields
 pub mod Index

@@ -3,10 +3,7 @@
 use mathlib.Core.Path.{_≡_, refl, _∙_}
 use Prim.Native.Nat.{ℕ, _+_, _*_, _/_, _%_, _<_}
 use native.Mathlib.Omega.{arith}
-use lib.Dec.{eqb}
-use Rattle.octets.specs.Tests.{if}
 use Rattle.table.specs.declared.TableCause.the-variants.{Shape, NoRecord, WrongTag, ChoiceLoop, SharedTag, NoValue, NoType}
-use Rattle.coding.specs.Outcome.{numberOf, placeOf}
 use Rattle.coding.specs.declared.ValueCause.the-variants.{Shape as ShapeV, IllTyped, Level as LevelV, Room as RoomV}
 use Rattle.coding.specs.declared.MessageCause.the-variants.{TooLong, Cut, Form, NotAwaited, Contents, Trailing, Room, Level}
 use Rattle.coding.specs.declared.Refusal.the-variants.{Table, Value, Message}
