@@ -1,37 +1,27 @@
 -- From the check of a table to the outcome of a call that is given the table.
 -- Assumes nothing.
-use borrow.Author.Tests.{ltb-false}
 use mathlib.Core.List.{List}
 use mathlib.Core.Path.{_≡_, sym, ap, _∙_}
 use native.Mathlib.Omega.{arith}
 use Prim.Native.Nat.{ℕ, _≤_}
-use lib.Dec.{ltb}
 use lib.ListN.{length, take}
 use Rattle.octets.specs.Numbers.{Octets}
-use Rattle.octets.proofs.Tests.{test}
 use Rattle.table.specs.Syntax.{Table}
 use Rattle.table.specs.Reading.{look}
 use Rattle.table.specs.Passes.{Passes}
 use Rattle.table.specs.Verdict.{verdict}
 use Rattle.table.specs.Index.{Indexed, CheckedTable}
 use Rattle.table.specs.declared.TableCause.{TableCause}
-use Rattle.table.specs.declared.TableCause.the-variants.{Shape}
 use Rattle.table.specs.declared.Verdict.the-variants.{Passed, Refused}
 use Rattle.table.specs.declared.Checked.{Checked}
 use Rattle.table.proofs.Theorems.{checked-passes}
+use Rattle.table.proofs.Promises.{passed-short, index-size, index-places}
 use Rattle.coding.specs.Outcome.{Outcome, Told, refusal, of-table}
 use Rattle.coding.specs.Calls.{afterCheck}
 
 -- an outcome is what was answered and what the buffer holds
 abbrev pub Says : Outcome → Told → List ℕ → Type 0
 Says x r buf = (r ≡ x .answer) × (buf ≡ x .buffer)
-
-passed-short : (b : List ℕ) → verdict b ≡ Passed → length b ≤ 8192
-unfolding verdict
-passed-short b e = test (ltb 8192 (length b)) (λ f. absurd (refused (rw f at e))) λ f. ltb-false 8192 (length b) f
-  where
-    refused : Refused (Shape 0) ≡ Passed → ⊥
-    refused z = let o : _≡_ {A = ℕ} 0 1 = cc in omega arith
 
 module _ (b : List ℕ) (c : Checked) (x : CheckedTable b c) where
   pub out-table : (buf : List ℕ) (f : Table → ℕ → Outcome) (k : TableCause) → c .verdict ≡ Refused k → Says (afterCheck b buf f (verdict b)) (refusal (of-table k)) buf
@@ -40,29 +30,23 @@ module _ (b : List ℕ) (c : Checked) (x : CheckedTable b c) where
 
   module _ (e : c .verdict ≡ Passed) where
     indexed : Indexed b (c .index)
-    indexed = x .index (sym (x .is) ∙ e)
+    indexed = x .index (passed-short b (sym (x .is) ∙ e))
 
     abbrev places : List ℕ
     places = take (c .index .count) (c .index .offsets)
 
     pub count-within : c .index .count ≤ length (c .index .offsets)
-    count-within = omega (arith, indexed .few, indexed .size)
+    count-within = omega (arith, indexed .few, index-size indexed)
 
     pub count-is : c .index .count ≡ length places
-    count-is = indexed .count ∙ ap length (sym (indexed .offsets))
+    count-is = indexed .count ∙ ap length (sym (index-places indexed))
 
-    pub few-records : length places ≤ 128
-    few-records = rw (← count-is) (indexed .few)
-
-    pub short-table : length b ≤ 8192
-    short-table = passed-short b (sym (x .is) ∙ e)
-
-    pub passed : Octets b → Passes (look b places) (length places)
+    pub passed : Octets b → Passes b (look b places) (length places)
     passed o = rw (← count-is) (checked-passes b o c x e)
 
     pub out-passed : (buf : List ℕ) (f : Table → ℕ → Outcome) (r : Told) (w : List ℕ) → Says (f (look b places) (length places)) r w → Says (afterCheck b buf f (verdict b)) r w
     unfolding afterCheck
     out-passed buf f r w s =
         let q : verdict b ≡ Passed = sym (x .is) ∙ e in
-        let y = rw (indexed .offsets) at s in
+        let y = rw (index-places indexed) at s in
         (rw q (y .0), rw q (y .1))

@@ -18,7 +18,7 @@ use Rattle.table.specs.declared.TableCause.{TableCause}
 use Rattle.table.specs.declared.TableCause.the-variants.{NoType}
 use Rattle.table.specs.declared.Verdict.{Verdict}
 use Rattle.table.specs.declared.Verdict.the-variants.{Passed, Refused}
-use Rattle.table.proofs.Theorems.{passes, records-found, named-first, first-named, passed-none, none-passed}
+use Rattle.table.proofs.Theorems.{rules-kept, named-first, first-named, passed-none, none-passed}
 use Rattle.coding.specs.Value.{Value, octets, depth}
 use Rattle.coding.specs.Encodes.{Encodes}
 use Rattle.coding.specs.Typed.{WellTyped}
@@ -38,7 +38,6 @@ use Rattle.coding.proofs.Judging.{judge-octets}
 use Rattle.coding.proofs.Shaped.{Limited, limited, encodes-shaped}
 use Rattle.coding.proofs.Outcomes.{Beyond, reading, writing, long-exactly, refused-exactly, lacks-exactly, read-exactly, received, read-beyond, read-unchanged, read-stage, read-never-value, write-stage, write-never-message, judged-exactly, full-exactly, written-exactly, sent, write-beyond, write-unchanged, done≢refusal, message-beyond, value-beyond, done-beyond}
 use Rattle.coding.proofs.Stages.{never, call, call-found, found-exactly, table-exactly, type-exactly, call-unchanged}
-use Rattle.coding.proofs.Limits.{numbers}
 
 -- both outcomes are those of a call: the table is judged, the type is looked for, then it is read or written
 
@@ -54,16 +53,14 @@ along : {x y z : Outcome} {Q : Type 0} → x ≡ y → (y ≡ z) ↔ Q → (x �
 along q e = (λ z. e .0 (sym q ∙ z), λ r. q ∙ e .1 r)
 
 module _ {b : List ℕ} (o : Octets b) where
-  kept : {rs : List Record} → Accepted b rs → Passes (table rs) (length rs)
-  kept a = let f = records-found o (a .spells) in rw (f .2, f .1) at (passes b o (none-passed b o (a .no-cause)))
+  kept : {rs : List Record} → Accepted b rs → Passes b (table rs) (length rs)
+  kept a = rules-kept b o (a .spells) (a .no-cause)
 
   good-of : {rs : List Record} → Accepted b rs → Good (table rs)
-  good-of {rs} a = good (table rs) (length rs) (kept a) (a .spells .few)
+  good-of {rs} a = good b (table rs) (length rs) (kept a)
 
   limits-of : {rs : List Record} → Accepted b rs → (u : ℕ) → Limited (table rs u .body)
-  limits-of {rs} a =
-      let f = records-found o (a .spells) in
-      limited (table rs) (length rs) (kept a) (rw (f .2) at (numbers b o (none-passed b o (a .no-cause))))
+  limits-of {rs} a = limited b (table rs) (length rs) (kept a)
 
   -- an answer behind the table's: what it says of the records for g, it says of the call
   later : (t : ℕ) (buf : List ℕ) (g : Table → Outcome) (x : Outcome) {P : Table → Type 0} → Beyond x → ((rs : List Record) → Accepted b rs → (g (table rs) ≡ x) ↔ P (table rs))

@@ -282,7 +282,7 @@ one-tag : (a b : Bool) (g h : Tag) → identifierOf a g ≡ identifierOf b h →
 unfolding identifierOf
 one-tag a b g h e = same-tag g h (identifier-tag (g .class) a (g .number) (h .class) b (h .number) e)
 
-module _ (T : Table) (n : ℕ) (p : Passes T n) (few : n ≤ 128) where
+module _ (b : List ℕ) (T : Table) (n : ℕ) (p : Passes b T n) where
   no-body : (t : ℕ) → n ≤ t → T t ≡ absent
   no-body t h = p .no-more t h
 
@@ -342,9 +342,9 @@ module _ (T : Table) (n : ℕ) (p : Passes T n) (few : n ≤ 128) where
 
   begin-all : (t : ℕ) (i : List ℕ) → Begins T (explicit (T t)) (own (T t)) (T t .body) i → begins T t i ≡ true
   unfolding begins beginsIn
-  begin-all t i b =
+  begin-all t i s =
       item-begins T (λ a. beginsIn T 128 a i) i (explicit (T t)) (own (T t)) (T t .body)
-      (λ ts x q u m f. let (l, h, y) = next-below n t u ts (ends-all t) x q m in more (suc l) 128 u i (omega arith) (bounded l 129 u i y f)) b
+      (λ ts x q u m f. let (l, h, y) = next-below n t u ts (ends-all t) x q m in more (suc l) 128 u i (omega (arith, p .few)) (bounded l 129 u i y f)) s
 
   -- two parts of one record do not begin alike: the one use of the rule that no two share a first tag
   part-distinct : (t i j : ℕ) → i < j → j < length (parts (T t .body)) → (x : List ℕ) → begins T (getD (parts (T t .body)) i 0) x ≡ true → begins T (getD (parts (T t .body)) j 0) x ≡ true → ⊥

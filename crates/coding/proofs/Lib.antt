@@ -20,4 +20,3 @@ pub mod Judging
 pub mod Shape
 pub mod Shaped
 pub mod Awaited
-pub mod Limits

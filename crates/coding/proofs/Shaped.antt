@@ -1,17 +1,18 @@
 -- A value equivalent to one that has octets has octets; so does every value that is read from a message of at most 8,192 octets.
 -- Assumes nothing.
-use borrow.Author.Tests.{leb-true, ltb-true, ltb-false}
-use mathlib.Core.Bool.{true, _&&_}
-use mathlib.Core.List.{List, [], _∷_}
+use borrow.Author.Tests.{leb-true, ltb-true, ltb-false, eqb-true}
+use mathlib.Core.Bool.{true}
+use mathlib.Core.List.{List, [], _∷_, List·Memᴰ as In}
 use mathlib.Core.Option.{Option, some, none}
 use mathlib.Core.Path.{_≡_, refl, ap, _∙_}
 use native.Mathlib.Omega.{arith}
 use Prim.Native.Nat.{ℕ, zero, suc, _≤_, _<_}
-use lib.Dec.{leb, ltb}
+use lib.Dec.{leb, ltb, eqb}
 use lib.ListN.{length, length-append}
-use Rattle.octets.specs.Lists.{joined, all}
+use Rattle.octets.specs.Lists.{joined}
 use Rattle.octets.specs.Permutations.{Perm, Sel, Sel.here, Sel.there, Perm.none as none-p, Perm.next, Each, nil, cons, Every, every-nil, every-cons, AllOctets, Order}
 use Rattle.octets.proofs.Tests.{test, and-right}
+use Rattle.octets.proofs.Members.{any-some}
 use Rattle.octets.proofs.Permutations.{Perm·sym, every-perm, joined-octets, arranged-perm}
 use Rattle.ber.specs.BitString.{masked}
 use Rattle.ber.specs.Length.{short, long}
@@ -22,6 +23,7 @@ use Rattle.ber.proofs.Item.{definite-octets, constructed-octets}
 use Rattle.table.specs.Syntax.{Member, Simple, Boolean, Integer, BitString, OctetString, Null, Enumerated, Body, Plain, Sequence, Set, SequenceOf, SetOf, Choice, Record, Table, absent}
 use Rattle.table.specs.Octets.{bodyShaped, recordShaped}
 use Rattle.table.specs.Passes.{Passes}
+use Rattle.table.proofs.Promises.{shaped-body}
 use Rattle.coding.specs.Value.{Leaf, Value, slots, bag, count}
 use Rattle.coding.specs.Content.{listed, Content, c-boolean, c-integer, c-bits, c-string, c-null, c-enumerated}
 use Rattle.coding.specs.Encodes.{Coding, Pieces, done, left, sent, At, first, later, Codes, is-plain, is-sequence, is-set, is-sequence-of, is-set-of, is-choice, Wrapped, bare, tagged, EncodesAt}
@@ -236,13 +238,20 @@ shaped-limited (SetOf t) e f = tt
 shaped-limited (Choice ts) e f = let h = leb-true (length ts) 16 (and-right (leb 1 (length ts)) _ e) in omega arith
 
 record-limited : (r : Record) → recordShaped r ≡ true → ((ns : List ℕ) → r .body ≡ Plain (Enumerated ns) → (k : ℕ) → listed ns k ≡ true → k < 65536) → Limited (r .body)
-unfolding recordShaped
-record-limited r e f = shaped-limited (r .body) (and-right (leb (length (r .tags)) 4 && all (λ g. leb (g .class) 3) (r .tags)) (bodyShaped (r .body)) e) f
+record-limited r e f = shaped-limited (r .body) (shaped-body r e) f
 
 absent-limited : (r : Record) → r ≡ absent → Limited (r .body)
 unfolding Limited
 absent-limited r e = rw e (omega arith)
 
--- the limits of a table that passes; that its ENUMERATED numbers have two octets, its octet form says
-pub limited : (T : Table) (n : ℕ) → Passes T n → ((t : ℕ) (ns : List ℕ) → T t .body ≡ Plain (Enumerated ns) → (k : ℕ) → listed ns k ≡ true → k < 65536) → (t : ℕ) → Limited (T t .body)
-limited T n p f t = test (ltb t n) (λ e. record-limited (T t) (p .shaped t (ltb-true t n e)) (f t)) (λ e. absent-limited (T t) (p .no-more t (ltb-false t n e)))
+-- a number that is listed is one of the list
+listed-in : (ns : List ℕ) (k : ℕ) → listed ns k ≡ true → In k ns
+unfolding listed
+listed-in ns k e = let s = any-some (λ n. eqb n k) ns e in rw (← eqb-true (s .element) k (s .has)) (s .among)
+
+-- the limits of a table that passes
+pub limited : (b : List ℕ) (T : Table) (n : ℕ) → Passes b T n → (t : ℕ) → Limited (T t .body)
+limited b T n p t =
+    test (ltb t n)
+    (λ e. let l = ltb-true t n e in record-limited (T t) (p .shaped t l) (λ ns q k f. p .listed-numbers t l ns q k (listed-in ns k f)))
+    λ e. absent-limited (T t) (p .no-more t (ltb-false t n e))

@@ -15,7 +15,7 @@ use Rattle.octets.specs.Numbers.{Octets}
 use Rattle.ber.specs.Reading.{readIdentifier, Mode}
 use Rattle.table.specs.Syntax.{Member, Table}
 use Rattle.table.specs.Reading.{look, membersAt}
-use Rattle.table.proofs.Pieces.{length-members}
+use Rattle.table.proofs.Promises.{length-members}
 use Rattle.coding.specs.Value.{Value, slots, octets, parts}
 use Rattle.coding.specs.Encodes.{allowed}
 use Rattle.coding.specs.Reading.{begun, notAwaited, nothing, full, place, readSet, readValue}
@@ -110,12 +110,12 @@ pub record Begins (T : Table) (m : List ℕ) (at code : ℕ) : Type 0 where
   no : (t : ℕ) → searchIn T 129 t code ≡ Nothing → begun T t (drop at m) ≡ false
   lifts : (n t u d : ℕ) → searchIn T 129 t code ≡ At u d → told m size (readValue T n t (drop at m)) ≡ lifted T m n u d (drop at m)
 
-pub begins : {tb offs fs : List ℕ} → Ready tb offs fs → Octets tb → (m : List ℕ) → Octets m → (at code : ℕ) → code ≡ peeked (readIdentifier (drop at m)) → Begins (look tb offs) m at code
-begins R ob m om at code e =
+pub begins : {tb offs fs : List ℕ} → Ready tb offs fs → (m : List ℕ) → Octets m → (at code : ℕ) → code ≡ peeked (readIdentifier (drop at m)) → Begins (look tb offs) m at code
+begins R m om at code e =
     record {
-      yes = λ t u d h. is-begun R ob m om at t code e (At u d) (sym h) u d refl;
-      no = λ t h. not-begun R ob m om at t code e Nothing (sym h) refl;
-      lifts = λ n t u d h. found-lifted R ob m om at n code e (At u d) t (sym h) u d refl;
+      yes = λ t u d h. is-begun R m om at t code e (At u d) (sym h) u d refl;
+      no = λ t h. not-begun R m om at t code e Nothing (sym h) refl;
+      lifts = λ n t u d h. found-lifted R m om at n code e (At u d) t (sym h) u d refl;
     }
 
 module _ (T : Table) (n : ℕ) (m : List ℕ) (at code : ℕ) (B : Begins T m at code) where

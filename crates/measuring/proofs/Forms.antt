@@ -11,7 +11,7 @@ use lib.Dec.{eqb, leb}
 use lib.IntN.{ℤ, pos, negsuc}
 use lib.ListN.{length, getD, drop}
 use Rattle.octets.specs.Answer.{Answer, got, refused, then, if, none-left}
-use Rattle.octets.proofs.Tests.{test}
+use Rattle.octets.proofs.Tests.{test, at}
 use Rattle.octets.specs.Lists.{any}
 use Rattle.octets.specs.Numbers.{Octets, two, octetsOf}
 use Rattle.ber.specs.Integer.{integerOf, minimal}
@@ -23,7 +23,6 @@ use Rattle.table.specs.Reading.{look, recordAt, bodyAt, ownAt, numbersAt, membe
 use Rattle.table.specs.Fields.{formOf}
 use Rattle.table.specs.declared.kind.Form.{Form}
 use Rattle.table.specs.declared.kind.Form.the-variants.{Simple as FSimple, Members as FMembers, Of as FOf, Choice as FChoice}
-use Rattle.table.proofs.Own.{at}
 use Rattle.coding.specs.Value.{Value, leaf, sequence, set, sequenceOf, setOf, slots, bag, octets, leafOctets, count, presence}
 use Rattle.coding.specs.Value as Value-of
 use Rattle.coding.specs.Reading.{decode, isListed, readKind, readBody, readMany, choose, readValue}

@@ -36,7 +36,7 @@ use Rattle.measuring.proofs.Skipped.{value-skips}
 
 -- a table that passed
 pub ready-good : {tb offs fs : List ℕ} → Ready tb offs fs → Good (look tb offs)
-ready-good {tb} {offs} R = good (look tb offs) (length offs) (R .passes) (R .few)
+ready-good {tb} {offs} R = good tb (look tb offs) (length offs) (R .passes)
 
 -- the place of a member that is found
 abbrev Below : ℕ → Next → Type 0

@@ -13,7 +13,7 @@ use lib.ListN.{length, getD, take, drop, length-append, length-drop}
 use lib.Seq.{length-take-le}
 use Rattle.octets.specs.Answer.{Answer, got, refused, then, if, none-left, behind}
 use Rattle.octets.proofs.Answer.{if-cases, got-holds, got-value}
-use Rattle.octets.proofs.Tests.{test}
+use Rattle.octets.proofs.Tests.{test, at as at-kind}
 use Rattle.octets.specs.Numbers.{Octets}
 use Rattle.octets.specs.Permutations.{as-given}
 use Rattle.octets.proofs.Lists.{behind as behind-part, length-behind}
@@ -24,8 +24,7 @@ use Rattle.table.specs.Reading.{look, recordAt, bodyAt, ownAt, numbersAt, membe
 use Rattle.table.specs.Fields.{formOf}
 use Rattle.table.specs.declared.kind.Form.{Form}
 use Rattle.table.specs.declared.kind.Form.the-variants.{Simple as FSimple, Members as FMembers, Of as FOf, Choice as FChoice}
-use Rattle.table.proofs.Own.{at as at-kind}
-use Rattle.table.proofs.Pieces.{length-members}
+use Rattle.table.proofs.Promises.{length-members}
 use Rattle.coding.specs.Value.{Leaf, boolean, integer, bits, string, null, enumerated, Value, sequence, set, sequenceOf, setOf, slots, bag, octets, leafOctets, count, presence, Slots, end, missing, present}
 use Rattle.coding.specs.Value as Value-of
 use Rattle.coding.specs.Reading.{decode, begun, notAwaited, nothing, readSequence, readSet, readMany, readBody, readKind, readValue, readMessage}
@@ -217,13 +216,13 @@ bare-first : (r : Record) (q : Simple) → r .body ≡ Plain q → length (expli
 unfolding firstOf outermost bodyFirst
 bare-first r q b h = rw (nil-of (explicit r) h, b) refl
 
-pub plain-value : {tb offs fs : List ℕ} → Ready tb offs fs → Octets tb → (m : List ℕ) → Octets m → (at level t o code : ℕ) → o ≡ getD offs t 65535 → 0 < level → length (explicit (recordAt tb o)) ≡ 0
+pub plain-value : {tb offs fs : List ℕ} → Ready tb offs fs → (m : List ℕ) → Octets m → (at level t o code : ℕ) → o ≡ getD offs t 65535 → 0 < level → length (explicit (recordAt tb o)) ≡ 0
     → formOf (getD tb (o + 2) 0) ≡ FSimple → code ≡ getD fs t untagged → readValue (look tb offs) level t (drop at m) ≡ plainBy code (recordAt tb o .body) (drop at m)
 unfolding look
-plain-value {tb} {offs} {fs} R ob m om at level t o code eo some bare simple ec =
+plain-value {tb} {offs} {fs} R m om at level t o code eo some bare simple ec =
     let (q, b) = plain-of tb o simple in
     let g : code ≡ codeOf (own (recordAt tb o)) = ec ∙ R .firsts t ∙ rw (← eo) (bare-first (recordAt tb o) q b bare) in
-    bare-is tb offs level t o (drop at m) eo some bare ∙ item-plain tb offs (level - 1) t o (getD tb (o + 2) 0) code (drop at m) (formOf (getD tb (o + 2) 0)) eo refl refl simple (headed R ob m om at t o code eo g)
+    bare-is tb offs level t o (drop at m) eo some bare ∙ item-plain tb offs (level - 1) t o (getD tb (o + 2) 0) code (drop at m) (formOf (getD tb (o + 2) 0)) eo refl refl simple (headed R m om at t o code eo g)
 
 -- an item with contents that a reader reads
 module _ (code : ℕ) (body : Mode → List ℕ → Answer Value) (m : List ℕ) (at : ℕ) (low : at ≤ length m) (r : Length) (er : r ≡ asLength (length m) (headerBy code (drop at m))) where

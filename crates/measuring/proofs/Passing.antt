@@ -16,7 +16,7 @@ use Rattle.octets.proofs.Answer.{then-refused}
 use Rattle.ber.specs.Reading.{readIdentifier, Mode, atEnd}
 use Rattle.table.specs.Syntax.{Member, Table}
 use Rattle.table.specs.Reading.{membersAt}
-use Rattle.table.proofs.Pieces.{length-members}
+use Rattle.table.proofs.Promises.{length-members}
 use Rattle.coding.specs.Value.{Value, slots, bag, octets}
 use Rattle.coding.specs.Value as Value-of
 use Rattle.coding.specs.Reading.{begun, notAwaited, unwanted, readMany, readSequence, readValue}

@@ -25,8 +25,7 @@ use Rattle.table.specs.Reading.{look, recordAt, membersAt, everyAt, bodyAt, own
 use Rattle.table.specs.Fields.{formOf}
 use Rattle.table.specs.declared.kind.Form.{Form}
 use Rattle.table.specs.declared.kind.Form.the-variants.{Simple as FSimple, Members as FMembers, Of as FOf, Choice as FChoice}
-use Rattle.table.proofs.Loops.{every-step}
-use Rattle.table.proofs.Pieces.{length-members}
+use Rattle.table.proofs.Promises.{every-step, length-members}
 use Rattle.coding.specs.Value.{Value, choice, slots, count, presence}
 use Rattle.coding.specs.Value as Value-of
 use Rattle.coding.proofs.Sound.{value-sound}

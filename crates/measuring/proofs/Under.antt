@@ -75,7 +75,7 @@ nested-more T (suc k) (suc j) t h d = λ a m. nested-more T k j a (omega arith) 
 nested-all : {tb offs fs : List ℕ} → Ready tb offs fs → (t : ℕ) → Nested (look tb offs) 128 t
 unfolding tagsBelow bodyBelow
 nested-all {tb} {offs} R t =
-    nested-more (look tb offs) (length offs) 128 t (R .few)
+    nested-more (look tb offs) (length offs) 128 t (R .passes .few)
     (test (ltb t (length offs))
     (λ e. R .passes .ends t (ltb-true t (length offs) e))
     λ e. nested-none (look tb offs) (length offs) t (ap (λ (r : Record). tagsBelow (r .tags) (r .body)) (R .passes .no-more t (ltb-false t (length offs) e))))
@@ -199,19 +199,19 @@ module _ (T : Table) (F : (t : ℕ) → AllFine (T t .tags)) (N : (t : ℕ) → 
       rw (e, k, bare-chooses n t b) (chooses-tells T m s (choose T (readValue T n) (parts (T t .body)) 0 s) (suc n) (among search-for (parts (T t .body))) (choose-tells n (value-tells n) (parts (T t .body)) 0)))
 
 -- the ways out of what stands on the search; n levels are left
-module _ {tb offs fs : List ℕ} (R : Ready tb offs fs) (ob : Octets tb) (m : List ℕ) (om : Octets m) (at n code : ℕ) (ec : code ≡ peeked (readIdentifier (drop at m))) (r : Found) where
+module _ {tb offs fs : List ℕ} (R : Ready tb offs fs) (m : List ℕ) (om : Octets m) (at n code : ℕ) (ec : code ≡ peeked (readIdentifier (drop at m))) (r : Found) where
   module _ (t : ℕ) (er : r ≡ searchIn (look tb offs) 129 t code) where
     pub found-lifted : (u d : ℕ) → r ≡ At u d → told m size (readValue (look tb offs) n t (drop at m)) ≡ lifted (look tb offs) m n u d (drop at m)
     found-lifted u d e =
-        rw (sym er ∙ e) at (rw (← ec) at (value-tells (look tb offs) (fine R ob) (nested-all R) m (drop at m) (octets-drop m om at) n t))
+        rw (sym er ∙ e) at (rw (← ec) at (value-tells (look tb offs) (fine R) (nested-all R) m (drop at m) (octets-drop m om at) n t))
 
     pub step-found : (u d : ℕ) → r ≡ At u d → {x : Measured} → x ≡ lifted (look tb offs) m n u d (drop at m) → x ≡ told m size (awaitedValue (look tb offs) n t (drop at m))
     unfolding awaitedValue if
-    step-found u d e h = rw (is-begun R ob m om at t code ec r er u d e) (h ∙ sym (found-lifted u d e))
+    step-found u d e h = rw (is-begun R m om at t code ec r er u d e) (h ∙ sym (found-lifted u d e))
 
     pub step-none : r ≡ Nothing → {x : Measured} → x ≡ told m size (notAwaited (drop at m)) → x ≡ told m size (awaitedValue (look tb offs) n t (drop at m))
     unfolding awaitedValue if
-    step-none e h = rw (not-begun R ob m om at t code ec r er e) h
+    step-none e h = rw (not-begun R m om at t code ec r er e) h
 
   module _ (ts : List ℕ) (er : r ≡ among (λ a. searchIn (look tb offs) 129 a code) ts) where
     chosen : Chooses (look tb offs) m (drop at m) (choose (look tb offs) (readValue (look tb offs) n) ts 0 (drop at m)) (suc n) r
@@ -219,7 +219,7 @@ module _ {tb offs fs : List ℕ} (R : Ready tb offs fs) (ob : Octets tb) (m : Li
         let N = nested-all R in
         let o = octets-drop m om at in
         let e = er ∙ ap (λ (c : ℕ). among (λ a. searchIn (look tb offs) 129 a c) ts) ec in
-        rw e (choose-tells (look tb offs) (fine R ob) N m (drop at m) o n (value-tells (look tb offs) (fine R ob) N m (drop at m) o n) ts 0)
+        rw e (choose-tells (look tb offs) (fine R) N m (drop at m) o n (value-tells (look tb offs) (fine R) N m (drop at m) o n) ts 0)
 
     pub chosen-lifted : (u d : ℕ) → r ≡ At u d → told m size (choose (look tb offs) (readValue (look tb offs) n) ts 0 (drop at m)) ≡ lifted (look tb offs) m (n + 1) u d (drop at m)
     chosen-lifted u d e = let q : n + 1 ≡ suc n = omega arith in rw q (rw e at chosen)

@@ -1,7 +1,7 @@
 -- The code of an identifier stands for it: headers by their codes, and the search for what an item begins.
 -- Assumes nothing.
-use mathlib.Core.Bool.{Bool, true, false, not, _&&_, _||_}
-use mathlib.Core.List.{List, [], _∷_, _++_, map}
+use mathlib.Core.Bool.{Bool, true, false, not, _||_}
+use mathlib.Core.List.{List, [], _∷_, _++_, map, List·Memᴰ as In, List·Memᴰ·head, List·Memᴰ·tail}
 use mathlib.Core.Path.{_≡_, refl, sym, ap, _∙_}
 use Prim.Native.Nat.{ℕ, zero, suc, _+_, _*_, _/_, _%_, _≤_, _<_, min}
 use native.Mathlib.Omega.{arith}
@@ -20,8 +20,8 @@ use Rattle.ber.specs.Reading.{readFollowing, readIdentifier, readHeader}
 use Rattle.octets.proofs.Lists.{same-refl, same-true}
 use Rattle.table.specs.Syntax.{Tag, Body, Plain, Sequence, Set, SequenceOf, SetOf, Choice, Record, Table, constructed}
 use Rattle.table.specs.Rules.{parts}
-use Rattle.table.specs.Octets.{recordShaped, bodyShaped}
-use Rattle.table.specs.Reading.{tagsAt, look, recordAt}
+use Rattle.table.specs.Reading.{look, recordAt}
+use Rattle.table.proofs.Promises.{shaped-classes}
 use Rattle.coding.specs.Tags.{identifierOf, last, before, explicitTags, own, explicit}
 use Rattle.coding.specs.Awaited.{beginsBody, beginsItem, beginsIn, begins}
 use Rattle.coding.proofs.Complete.{never}
@@ -204,12 +204,12 @@ abbrev pub AllSmall : List (List ℕ) → Type 0
 AllSmall [] = Unit {0}
 AllSmall (i ∷ is) = Small i × AllSmall is
 
-tags-fine : (b : List ℕ) → Octets b → (p n : ℕ) → all (λ g. leb (g .class) 3) (tagsAt b p n) ≡ true → AllFine (tagsAt b p n)
-unfolding tagsAt all
-tags-fine b o p zero e = tt
-tags-fine b o p (suc n) e =
-    let s = both (leb (getD b p 0) 3) (all (λ g. leb (g .class) 3) (tagsAt b (p + 3) n)) e in
-    ((leb-true (getD b p 0) 3 (s .0), omega (arith, o (p + 1), o (p + 1 + 1))), tags-fine b o (p + 3) n (s .1))
+tags-fine : (gs : List Tag) → all (λ g. leb (g .class) 3) gs ≡ true → ((g : Tag) → In g gs → g .number < 65536) → AllFine gs
+unfolding all
+tags-fine [] e f = tt
+tags-fine (g ∷ gs) e f =
+    let s = both (leb (g .class) 3) (all (λ g. leb (g .class) 3) gs) e in
+    ((leb-true (g .class) 3 (s .0), f g (List·Memᴰ·head refl)), tags-fine gs (s .1) (λ h i. f h (List·Memᴰ·tail i)))
 
 tag-small : (b : Bool) (g : Tag) → Fine g → Small (identifierOf b g)
 unfolding identifierOf
@@ -248,19 +248,14 @@ pub explicit-small : (r : Record) → AllFine (r .tags) → AllSmall (explicit r
 unfolding explicit
 explicit-small r f = all-small (explicitTags (r .body) (r .tags)) (explicit-fine (r .body) (r .tags) f)
 
-module _ {tb offs fs : List ℕ} (R : Ready tb offs fs) (ob : Octets tb) where
-  classes : (t : ℕ) → all (λ g. leb (g .class) 3) (look tb offs t .tags) ≡ true
-  unfolding recordShaped all
-  classes t =
+module _ {tb offs fs : List ℕ} (R : Ready tb offs fs) where
+  pub fine : (t : ℕ) → AllFine (look tb offs t .tags)
+  fine t =
       test (ltb t (length offs))
       (λ e.
-      let s = both (leb (length (look tb offs t .tags)) 4 && all (λ g. leb (g .class) 3) (look tb offs t .tags)) (bodyShaped (look tb offs t .body)) (R .passes .shaped t (ltb-true t (length offs) e)) in
-      both (leb (length (look tb offs t .tags)) 4) (all (λ g. leb (g .class) 3) (look tb offs t .tags)) (s .0) .1)
-      λ e. rw (R .passes .no-more t (ltb-false t (length offs) e)) refl
-
-  pub fine : (t : ℕ) → AllFine (look tb offs t .tags)
-  unfolding look recordAt
-  fine t = tags-fine tb ob (getD offs t 65535 + 4) (getD tb (getD offs t 65535 + 3) 0) (classes t)
+      let l = ltb-true t (length offs) e in
+      tags-fine (look tb offs t .tags) (shaped-classes (look tb offs t) (R .passes .shaped t l)) (R .passes .tag-numbers t l))
+      λ e. rw (R .passes .no-more t (ltb-false t (length offs) e)) tt
 
   small-at : (t o : ℕ) → o ≡ getD offs t 65535 → Small (own (recordAt tb o))
   unfolding look
@@ -358,13 +353,13 @@ module _ (T : Table) (F : (t : ℕ) → AllFine (T t .tags)) where
       go (got i w) e = rw e (search-read 129 t (got-holds (identifier-form s o) e))
       go (refused c l) e = rw e (sym (search-nothing 129 t))
 
-module _ {tb offs fs : List ℕ} (R : Ready tb offs fs) (ob : Octets tb) (m : List ℕ) (om : Octets m) (at : ℕ) where
+module _ {tb offs fs : List ℕ} (R : Ready tb offs fs) (m : List ℕ) (om : Octets m) (at : ℕ) where
   pub headed : (t o code : ℕ) → o ≡ getD offs t 65535 → code ≡ codeOf (own (recordAt tb o)) → headerBy code (drop at m) ≡ readHeader (own (recordAt tb o)) (drop at m)
-  headed t o code eo ec = rw ec (header-code (drop at m) (octets-drop m om at) (own (recordAt tb o)) (small-at R ob t o eo))
+  headed t o code eo ec = rw ec (header-code (drop at m) (octets-drop m om at) (own (recordAt tb o)) (small-at R t o eo))
 
   module _ (t code : ℕ) (ec : code ≡ peeked (readIdentifier (drop at m))) (r : Found) (er : r ≡ searchIn (look tb offs) 129 t code) where
     begun-is : begun (look tb offs) t (drop at m) ≡ hit r
-    begun-is = rw (er, ec) (begun-hit (look tb offs) (fine R ob) t (drop at m) (octets-drop m om at))
+    begun-is = rw (er, ec) (begun-hit (look tb offs) (fine R) t (drop at m) (octets-drop m om at))
 
     pub not-begun : r ≡ Nothing → begun (look tb offs) t (drop at m) ≡ false
     not-begun d = begun-is ∙ ap hit d

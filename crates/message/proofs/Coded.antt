@@ -15,7 +15,7 @@ use Rattle.ber.specs.Identifier.{bit, leading, following, identifier}
 use Rattle.table.specs.Syntax.{Tag, Boolean, Integer, BitString, OctetString, Null, Enumerated, Body, Plain, Sequence, Set, SequenceOf, SetOf, Choice, isChoice, universal}
 use Rattle.table.specs.Reading.{tagsAt, bodyAt, ownAt, recordAt, look}
 use Rattle.table.specs.Fields.{universalOf, constructedOf, choiceOf}
-use Rattle.table.proofs.Fields.{universal-of, constructed-of, choice-of}
+use Rattle.table.proofs.Promises.{universal-of, constructed-of, choice-of}
 use Rattle.coding.specs.Tags.{identifierOf, last, before, explicitTags, own, explicit}
 use Rattle.message.specs.Codes.{spelled, codeOf, untagged, bodyFirst, outermost, firstOf}
 

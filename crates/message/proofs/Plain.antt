@@ -5,12 +5,12 @@ use mathlib.Core.Path.{_≡_, refl, sym, _∙_}
 use Prim.Native.Nat.{ℕ, _+_, _<_}
 use native.Mathlib.Omega.{arith}
 use lib.ListN.{length, getD}
+use Rattle.octets.proofs.Tests.{at as at-kind}
 use Rattle.table.specs.Syntax.{Simple, Plain, isChoice}
 use Rattle.table.specs.Reading.{recordAt, bodyAt}
 use Rattle.table.specs.Fields.{formOf, choiceOf}
 use Rattle.table.specs.declared.kind.Form.{Form}
 use Rattle.table.specs.declared.kind.Form.the-variants.{Simple as FSimple, Members as FMembers, Of as FOf, Choice as FChoice}
-use Rattle.table.proofs.Own.{at as at-kind}
 use Rattle.coding.specs.Tags.{explicit}
 use Rattle.message.proofs.Coded.{count-other}
 

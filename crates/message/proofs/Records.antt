@@ -1,20 +1,19 @@
 -- The limits of the records of a table that passed.
 -- Assumes nothing.
-use mathlib.Core.Bool.{true, _&&_}
+use mathlib.Core.Bool.{true}
 use mathlib.Core.List.{List, [], _∷_, map}
 use mathlib.Core.Path.{_≡_, refl, sym, ap}
 use Prim.Native.Nat.{ℕ, suc, _≤_}
 use native.Mathlib.Omega.{arith}
 use borrow.Author.Tests.{leb-true, ltb-true, ltb-false}
-use lib.Dec.{leb, ltb}
+use lib.Dec.{ltb}
 use lib.ListN.{length, getD}
-use Rattle.octets.specs.Lists.{all}
 use Rattle.octets.proofs.Tests.{test}
-use Rattle.octets.proofs.Lists.{both}
 use Rattle.table.specs.Syntax.{Tag, Body, Plain, Sequence, Set, SequenceOf, SetOf, Choice, Record, absent}
 use Rattle.table.specs.Rules.{members}
 use Rattle.table.specs.Octets.{recordShaped, bodyShaped}
 use Rattle.table.specs.Reading.{look, recordAt}
+use Rattle.table.proofs.Promises.{shaped-few, shaped-body}
 use Rattle.coding.specs.Tags.{identifierOf, before, explicitTags, explicit}
 use Rattle.message.specs.Codes.{Ready, Shaped}
 
@@ -52,13 +51,12 @@ record Within (r : Record) : Type 0 where
   members : length (members (r .body)) ≤ 16
 
 shaped-within : (r : Record) → recordShaped r ≡ true → Within r
-unfolding recordShaped explicit
+unfolding explicit
 shaped-within r e =
-    let s = both (leb (length (r .tags)) 4 && all (λ g. leb (g .class) 3) (r .tags)) (bodyShaped (r .body)) e in
-    let t = leb-true (length (r .tags)) 4 (both (leb (length (r .tags)) 4) (all (λ g. leb (g .class) 3) (r .tags)) (s .0) .0) in
+    let t = shaped-few r e in
     let f = explicit-fewer (r .body) (r .tags) in
     let l = length-identifiers (explicitTags (r .body) (r .tags)) in
-    record { tags = omega arith; members = shaped-members (r .body) (s .1) }
+    record { tags = omega arith; members = shaped-members (r .body) (shaped-body r e) }
 
 absent-within : (r : Record) → r ≡ absent → Within r
 unfolding explicit explicitTags members

@@ -91,9 +91,7 @@ Firsts T fs = (t : ℕ) → getD fs t untagged ≡ firstOf (T t)
 
 -- what the reader relies on: a table that passed, where its records begin, and their first codes
 pub record Ready (b offs fs : List ℕ) : Type 0 where
-  pub passes : Passes (look b offs) (length offs)
-  pub few : length offs ≤ 128
-  pub short : length b ≤ 8192
+  pub passes : Passes b (look b offs) (length offs)
   pub firsts : Firsts (look b offs) fs
 
 -- the record at o has at most 16 members

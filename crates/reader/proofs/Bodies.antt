@@ -10,12 +10,12 @@ use lib.ListN.{length, getD, drop, length-append}
 use lib.Seq.{sets}
 use Rattle.octets.specs.Answer.{Answer, got, refused, then, if}
 use Rattle.octets.specs.Numbers.{Octets}
+use Rattle.octets.proofs.Tests.{at as at-kind}
 use Rattle.ber.specs.Reading.{readIdentifier, Mode}
 use Rattle.table.specs.Syntax.{Member, Table}
 use Rattle.table.specs.Reading.{look, recordAt, membersAt, bodyAt, ownAt}
 use Rattle.table.specs.Fields.{formOf}
 use Rattle.table.specs.declared.kind.Form.the-variants.{Members as FMembers, Of as FOf}
-use Rattle.table.proofs.Own.{at as at-kind}
 use Rattle.coding.specs.Value.{Value, set, slots}
 use Rattle.coding.specs.Reading.{begun, nothing, readSet, readBody, readValue}
 use Rattle.message.specs.Answers.{cap, told, sizesIn}
@@ -126,11 +126,11 @@ is-list tb offs n o k at to md m buf F ek a c =
     lists (look tb offs) (readValue (look tb offs) n) md (drop at m) tb (ownAt tb o) (getD tb (o + 2) 0) (F .done) (λ e. a (ek ∙ e)) (λ e. c (ek ∙ e))
 
 -- whether an item begins a value of a type
-module _ {tb offs fs : List ℕ} (R : Ready tb offs fs) (ob : Octets tb) (m : List ℕ) (om : Octets m) (at t code : ℕ) (ec : code ≡ peeked (readIdentifier (drop at m)))
+module _ {tb offs fs : List ℕ} (R : Ready tb offs fs) (m : List ℕ) (om : Octets m) (at t code : ℕ) (ec : code ≡ peeked (readIdentifier (drop at m)))
     (b : Bool) (eb : b ≡ found (searchIn (look tb offs) 129 t code)) where
   pub starts-begun : begun (look tb offs) t (drop at m) ≡ b
   starts-begun = go (searchIn (look tb offs) 129 t code) refl
     where
       go : (x : Found) → searchIn (look tb offs) 129 t code ≡ x → begun (look tb offs) t (drop at m) ≡ b
-      go Nothing e = not-begun R ob m om at t code ec Nothing (sym e) refl ∙ sym (eb ∙ ap found e)
-      go (At u d) e = is-begun R ob m om at t code ec (At u d) (sym e) u d refl ∙ sym (eb ∙ ap found e)
+      go Nothing e = not-begun R m om at t code ec Nothing (sym e) refl ∙ sym (eb ∙ ap found e)
+      go (At u d) e = is-begun R m om at t code ec (At u d) (sym e) u d refl ∙ sym (eb ∙ ap found e)

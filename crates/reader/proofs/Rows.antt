@@ -16,7 +16,7 @@ use Rattle.ber.specs.Reading.{Mode}
 use Rattle.ber.proofs.Item.{Ends, no-more, mark, atEnd-holds}
 use Rattle.table.specs.Syntax.{Member, Table}
 use Rattle.table.specs.Reading.{look, recordAt, membersAt, bodyAt, ownAt}
-use Rattle.table.proofs.Pieces.{length-members}
+use Rattle.table.proofs.Promises.{length-members}
 use Rattle.coding.specs.Value.{Value, sequence, slots, octets, count, presence, parts}
 use Rattle.coding.proofs.Sound.{not-awaited}
 use Rattle.coding.specs.Reading.{begun, unwanted, readSequence, readBody, readValue}

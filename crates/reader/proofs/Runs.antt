@@ -9,7 +9,7 @@ use lib.ListN.{length, getD, drop, length-append, length-drop}
 use lib.Seq.{append-snoc, sets, length-sets}
 use Rattle.octets.specs.Answer.{Answer, got, refused, then, if}
 use Rattle.octets.proofs.Answer.{Holds, yields, refuses, then-holds, if-holds, map-holds, got-holds, refused≢got}
-use Rattle.octets.proofs.Tests.{test}
+use Rattle.octets.proofs.Tests.{test, at as at-kind}
 use Rattle.octets.specs.Numbers.{octetsOf}
 use Rattle.ber.specs.Reading.{Mode}
 use Rattle.ber.proofs.Item.{atEnd-holds}
@@ -18,7 +18,6 @@ use Rattle.table.specs.Reading.{look, recordAt, bodyAt, ownAt}
 use Rattle.table.specs.Fields.{formOf}
 use Rattle.table.specs.declared.kind.Form.{Form}
 use Rattle.table.specs.declared.kind.Form.the-variants.{Simple as FSimple, Members as FMembers, Of as FOf, Choice as FChoice}
-use Rattle.table.proofs.Own.{at as at-kind}
 use Rattle.coding.specs.Value.{Value, Slots, sequenceOf, setOf, bag, octets, count, parts}
 use Rattle.coding.proofs.Sound.{not-awaited}
 use Rattle.coding.proofs.Refusals.{value-shorter}

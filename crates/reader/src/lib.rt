@@ -76,7 +76,7 @@ fn read_by(
 
 // Reads a message of type t, by a table that passed.
 fn read_passed(table: &[u8], offsets: &[u16], t: usize, message: &[u8], buf: &mut [u8]) -> Answer
-    requires { ⌜ Passes (look (now table) (now offsets)) (length (now offsets)) × (length (now offsets) ≤ 128) × (length (now table) ≤ 8192) ⌝ }
+    requires { ⌜ Passes (now table) (look (now table) (now offsets)) (length (now offsets)) ⌝ }
     ensures { λ r. ⌜ (r ≡ readOutcome (look (now (table .entry)) (now (offsets .entry))) (length (now (offsets .entry))) t (now (message .entry)) (now (buf .entry)) .answer) × (now (buf .exit) ≡ readOutcome (look (now (table .entry)) (now (offsets .entry))) (length (now (offsets .entry))) t (now (message .entry)) (now (buf .entry)) .buffer) ⌝ }
 {
     let mut space = [0u32; 128];

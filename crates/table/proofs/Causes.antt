@@ -1,7 +1,7 @@
 -- The verdict is the first cause that holds.
 -- Assumes nothing.
-use mathlib.Core.Bool.{Bool, true, true≢false}
-use mathlib.Core.List.{List}
+use mathlib.Core.Bool.{Bool, true, true≢false, false≢true}
+use mathlib.Core.List.{List, [], _∷_}
 use mathlib.Core.Path.{_≡_, refl, sym, _∙_, subst, fun-ext}
 use Prim.Native.Nat.{ℕ, suc, _≤_, _<_}
 use native.Mathlib.Omega.{arith}
@@ -14,21 +14,22 @@ use Rattle.octets.specs.Lists.{lowest}
 use Rattle.octets.specs.Numbers.{Octets}
 use Rattle.octets.proofs.Search.{lowest-passes, before-lowest}
 use Rattle.table.specs.Syntax.{Record, Table, absent, table}
-use Rattle.table.specs.Octets.{Spells, over-long}
+use Rattle.table.specs.Octets.{recordShaped, Spells, over-long}
 use Rattle.table.specs.Rules.{Dangling, Mistagged, Circular, Sharing, Infinite}
 use Rattle.table.specs.Reading.{scan, look}
-use Rattle.table.specs.Decide.{dangling, mistagged, circular, sharing, infinite}
+use Rattle.table.specs.Decide.{infinite}
 use Rattle.table.specs.Cause.{number, place, Holds, Cause, FirstCause}
-use Rattle.table.specs.Verdict.{unless, judgeChoices, judge, verdict}
+use Rattle.table.specs.Verdict.{breaks, inTurn, recordCauses, judge, verdict}
 use Rattle.table.specs.Passes.{Passes}
 use Rattle.table.specs.Walk.{Named}
 use Rattle.table.specs.declared.TableCause.{TableCause}
 use Rattle.table.specs.declared.TableCause.the-variants.{Shape, NoRecord, WrongTag, ChoiceLoop, SharedTag, NoValue, NoType}
 use Rattle.table.specs.declared.Verdict.{Verdict}
 use Rattle.table.specs.declared.Verdict.the-variants.{Passed, Refused}
-use Rattle.table.proofs.Scan.{Found, scan-spells, scan-misshapen}
+use Rattle.table.proofs.Scan.{Found, all-table, table-beyond, scan-spells, scan-misshapen}
 use Rattle.table.proofs.Spelled.{spells-scan, spells-looks, spells-not-misshapen, misshapen-unique}
 use Rattle.table.proofs.Straight.{ends, below-there}
+use Rattle.table.proofs.Limits.{tag-numbers, listed-numbers}
 use Rattle.table.proofs.Decided.{dangling-sound, dangling-complete, mistagged-sound, mistagged-complete, circular-sound, circular-complete, sharing-sound, sharing-complete, infinite-true, infinite-false}
 
 -- a cause from its number and its place
@@ -76,31 +77,6 @@ abbrev pub Right : List ℕ → Verdict → Type 0
 Right b Passed = (c : TableCause) → Cause b c → ⊥
 Right b (Refused c) = FirstCause b c
 
--- a cause's test over n records, after all earlier ones
-step : (b : List ℕ) (k n : ℕ) (fails : ℕ → Bool) (next : Unit {0} → Verdict)
-    → ((p : ℕ) → number (made k p) ≡ k) → ((p : ℕ) → place (made k p) ≡ p)
-    → ((p : ℕ) → p < n → fails p ≡ true → Cause b (made k p))
-    → ((p : ℕ) → Cause b (made k p) → (p < n) × (fails p ≡ true))
-    → Before b k → (Before b (suc k) → Right b (next tt)) → Right b (unless n (made k) fails next)
-step b k n fails next num pla sound complete before after =
-    test (ltb (lowest fails n) n)
-    (λ e.
-    let l = ltb-true (lowest fails n) n e in
-    rw e (record {
-      holds = sound (lowest fails n) l (lowest-passes fails n l);
-      earlier = λ d h. before d (rw num at h);
-      lower = λ d s h x.
-          let y = complete (place d) (subst (Cause b) (sym (numbered k d (s ∙ num _))) x) in
-          true≢false (sym (y .1) ∙ before-lowest fails n (place d) (rw pla at h));
-    }))
-    λ e.
-    let l = ltb-false (lowest fails n) n e in
-    rw e (after (λ d h x. test (eqb (number d) k)
-    (λ q.
-    let y = complete (place d) (subst (Cause b) (sym (numbered k d (eqb-true _ _ q))) x) in
-    true≢false (sym (y .1) ∙ before-lowest fails n (place d) (omega (arith, y .0))))
-    λ q. before d (omega (arith, eqb-false (number d) k q)) x))
-
 all-before : (b : List ℕ) → Before b 7 → (c : TableCause) → Cause b c → ⊥
 all-before b h (Shape p) x = h (Shape p) (omega arith) x
 all-before b h (NoRecord p) x = h (NoRecord p) (omega arith) x
@@ -110,37 +86,74 @@ all-before b h (SharedTag p) x = h (SharedTag p) (omega arith) x
 all-before b h (NoValue p) x = h (NoValue p) (omega arith) x
 all-before b h NoType x = x
 
--- the rules 2 to 6, on a table whose causes are those of the octets
+-- the causes of these constructors have the numbers from k to 6, in this order
+abbrev pub InOrder : ℕ → List (ℕ → TableCause) → Type 0
+InOrder k [] = k ≡ 7
+InOrder k (c ∷ cs) = ((p : ℕ) → (number (c p) ≡ k) × (place (c p) ≡ p)) × InOrder (suc k) cs
+
+-- 2 to 6 are judged in the order of their numbers
+pub in-order : InOrder 2 recordCauses
+in-order = (λ p. (refl, refl), (λ p. (refl, refl), (λ p. (refl, refl), (λ p. (refl, refl), (λ p. (refl, refl), refl)))))
+
+-- a table whose causes are those of the octets
 module _ (b : List ℕ) (T : Table) (n : ℕ) (beyond : (t : ℕ) → n ≤ t → T t ≡ absent)
     (to : (p : ℕ) (rule : Table → ℕ → Type 0) → p < n → rule T n → Holds b p rule)
     (from : (p : ℕ) (rule : Table → ℕ → Type 0) → Holds b p rule → (p < n) × rule T n) where
   infinite-complete : (t : ℕ) → Infinite T t → infinite T n t ≡ true
   infinite-complete t h = test (infinite T n t) (λ e. e) λ e. absurd (h (infinite-false T n t e))
 
-  judged-choices : Before b 4 → Right b (judgeChoices T n)
-  unfolding judgeChoices
-  judged-choices before =
-      step b 4 n (circular T n) _ (λ p. refl) (λ p. refl)
-      (λ p h e. to p (λ T n. Circular T p) h (circular-sound T n p e))
-      (λ p x. let y = from p (λ T n. Circular T p) x in (y .0, circular-complete T n beyond p (y .0) (y .1))) before λ before.
-      step b 5 n (sharing T n) _ (λ p. refl) (λ p. refl)
-      (λ p h e. to p (λ T n. Sharing T p) h (sharing-sound T n p e))
-      (λ p x. let y = from p (λ T n. Sharing T p) x in (y .0, sharing-complete T n beyond p (y .1))) before λ before.
-      step b 6 n (infinite T n) _ (λ p. refl) (λ p. refl)
-      (λ p h e. to p (λ T n. Infinite T p) h (infinite-true T n beyond p e))
-      (λ p x. let y = from p (λ T n. Infinite T p) x in (y .0, infinite-complete p (y .1))) before λ before.
-      all-before b before
+  -- the test of a cause agrees with its rule
 
-  judged : Before b 2 → Right b (judge T n)
-  unfolding judge
-  judged before =
-      step b 2 n (dangling T n) _ (λ p. refl) (λ p. refl)
-      (λ p h e. to p (λ T n. Dangling T n p) h (dangling-sound T n p e))
-      (λ p x. let y = from p (λ T n. Dangling T n p) x in (y .0, dangling-complete T n p (y .1))) before λ before.
-      step b 3 n (mistagged T) _ (λ p. refl) (λ p. refl)
-      (λ p h e. to p (λ T n. Mistagged (T p)) h (mistagged-sound T p e))
-      (λ p x. let y = from p (λ T n. Mistagged (T p)) x in (y .0, mistagged-complete T p (y .1))) before λ before.
-      judged-choices before
+  found-holds : (c : TableCause) → place c < n → breaks T n c ≡ true → Cause b c
+  found-holds (Shape p) h e = absurd (false≢true e)
+  found-holds (NoRecord p) h e = to p (λ T n. Dangling T n p) h (dangling-sound T n p e)
+  found-holds (WrongTag p) h e = to p (λ T n. Mistagged (T p)) h (mistagged-sound T p e)
+  found-holds (ChoiceLoop p) h e = to p (λ T n. Circular T p) h (circular-sound T n p e)
+  found-holds (SharedTag p) h e = to p (λ T n. Sharing T p) h (sharing-sound T n p e)
+  found-holds (NoValue p) h e = to p (λ T n. Infinite T p) h (infinite-true T n beyond p e)
+  found-holds NoType h e = absurd (false≢true e)
+
+  holds-found : (c : TableCause) → 1 < number c → Cause b c → (place c < n) × (breaks T n c ≡ true)
+  holds-found (Shape p) h x = absurd (omega arith)
+  holds-found (NoRecord p) h x = let y = from p (λ T n. Dangling T n p) x in (y .0, dangling-complete T n p (y .1))
+  holds-found (WrongTag p) h x = let y = from p (λ T n. Mistagged (T p)) x in (y .0, mistagged-complete T p (y .1))
+  holds-found (ChoiceLoop p) h x = let y = from p (λ T n. Circular T p) x in (y .0, circular-complete T n beyond p (y .0) (y .1))
+  holds-found (SharedTag p) h x = let y = from p (λ T n. Sharing T p) x in (y .0, sharing-complete T n beyond p (y .1))
+  holds-found (NoValue p) h x = let y = from p (λ T n. Infinite T p) x in (y .0, infinite-complete p (y .1))
+  holds-found NoType h x = absurd x
+
+  -- one cause in turn, after all with a lower number
+  module _ (k : ℕ) (later : 1 < k) (c : ℕ → TableCause) (its : (p : ℕ) → (number (c p) ≡ k) × (place (c p) ≡ p)) where
+    abbrev fails : ℕ → Bool
+    fails p = breaks T n (c p)
+
+    -- none of its number holds below the lowest record that is found
+    none-lower : (d : TableCause) → number d ≡ k → Cause b d → (place d < n) × (place d < lowest fails n → ⊥)
+    none-lower d q x =
+        let y = holds-found d (omega arith) x in
+        let s : d ≡ c (place d) = same-cause d (c (place d)) (q ∙ sym (its (place d) .0)) (sym (its (place d) .1)) in
+        (y .0, λ h. true≢false (sym (subst (λ e. breaks T n e ≡ true) s (y .1)) ∙ before-lowest fails n (place d) h))
+
+    step : (cs : List (ℕ → TableCause)) → Before b k → (Before b (suc k) → Right b (inTurn T n cs)) → Right b (inTurn T n (c ∷ cs))
+    step cs before after =
+        test (ltb (lowest fails n) n)
+        (λ e.
+        let h = ltb-true (lowest fails n) n e in
+        let q = its (lowest fails n) in
+        rw e (record {
+          holds = found-holds (c (lowest fails n)) (rw (q .1) h) (lowest-passes fails n h);
+          earlier = λ d i. before d (rw (q .0) at i);
+          lower = λ d s i x. none-lower d (s ∙ q .0) x .1 (rw (q .1) at i);
+        }))
+        λ e.
+        let h = ltb-false (lowest fails n) n e in
+        rw e (after λ d i x. test (eqb (number d) k)
+        (λ q. let y = none-lower d (eqb-true (number d) k q) x in y .1 (omega arith))
+        λ q. before d (omega (arith, eqb-false (number d) k q)) x)
+
+  judged : (k : ℕ) (cs : List (ℕ → TableCause)) → 1 < k → InOrder k cs → Before b k → Right b (inTurn T n cs)
+  judged k [] l o before = all-before b (rw o at before)
+  judged k (c ∷ cs) l o before = step k l c (o .0) cs before (judged (suc k) cs (omega arith) (o .1))
 
 module _ (b : List ℕ) (octets : Octets b) where
   -- the table that the scan reads is that of the records
@@ -161,7 +174,7 @@ module _ (b : List ℕ) (octets : Octets b) where
   shape-of d e x = subst (Cause b) (sym (numbered 1 d e)) x
 
   pub right : Right b (verdict b)
-  unfolding verdict
+  unfolding verdict judge
   right =
       test (ltb 8192 (length b))
       (λ e. rw e (record {
@@ -174,7 +187,7 @@ module _ (b : List ℕ) (octets : Octets b) where
       test (scan b .whole)
       (λ w.
       let f = scan-spells b octets short w in
-      rw (e, w) (judged b _ _ (f .beyond) (to-rule f) from-rule
+      rw (e, w) (judged b _ _ (f .beyond) (to-rule f) from-rule 2 recordCauses (omega arith) in-order
       (λ d h x. spells-not-misshapen octets (f .spells) (shape-of d (omega (arith, number-some d)) x))))
       λ w. rw (e, w) (record {
         holds = scan-misshapen b octets short w;
@@ -190,23 +203,31 @@ module _ (b : List ℕ) (octets : Octets b) where
         let short = ltb-false 8192 (length b) e in
         test (scan b .whole) (scan-spells b octets short) λ w. absurd (none (Shape _) (scan-misshapen b octets short w))
 
-    pub keeps : Passes (look b (scan b .offsets)) (length (scan b .offsets))
-    keeps =
-        let f = sound in
-        let T = look b (scan b .offsets) in
-        let n = length (scan b .offsets) in
+    -- by the rules alone, for the records that the octets spell
+    pub keeps : {rs : List Record} → Spells b rs → Passes b (table rs) (length rs)
+    keeps {rs} x =
+        let T = table rs in
+        let n = length rs in
+        let beyond = table-beyond rs in
+        let held : (p : ℕ) (rule : Table → ℕ → Type 0) → p < n → rule T n → Holds b p rule =
+        λ p rule h y. record { records = rs; spells = x; there = h; holds = y } in
         let named : Named T n = record {
-          shaped = f .shaped;
-          there = λ t h x. none (NoRecord t) (to-rule f t (λ T n. Dangling T n t) h x);
-          tagged = λ t h x. none (WrongTag t) (to-rule f t (λ T n. Mistagged (T t)) h x);
+          shaped = all-table recordShaped rs (x .shaped);
+          there = λ t h y. none (NoRecord t) (held t (λ T n. Dangling T n t) h y);
+          tagged = λ t h y. none (WrongTag t) (held t (λ T n. Mistagged (T t)) h y);
         } in
         record {
+          some = x .some;
+          few = x .few;
+          short = x .short;
           shaped = named .shaped;
           there = named .there;
           tagged = named .tagged;
-          ends = ends T n (below-there T n named) (λ t h x. none (ChoiceLoop t) (to-rule f t (λ T n. Circular T t) h x));
-          distinct = λ t h x. none (SharedTag t) (to-rule f t (λ T n. Sharing T t) h x);
+          ends = ends T n (below-there T n named) (λ t h y. none (ChoiceLoop t) (held t (λ T n. Circular T t) h y));
+          distinct = λ t h y. none (SharedTag t) (held t (λ T n. Sharing T t) h y);
           finite = λ t h. test (infinite T n t)
-              (λ e. absurd (none (NoValue t) (to-rule f t (λ T n. Infinite T t) h (infinite-true T n (f .beyond) t e)))) λ e. infinite-false T n t e;
-          no-more = f .beyond;
+              (λ e. absurd (none (NoValue t) (held t (λ T n. Infinite T t) h (infinite-true T n beyond t e)))) λ e. infinite-false T n t e;
+          tag-numbers = tag-numbers octets x;
+          listed-numbers = listed-numbers octets x;
+          no-more = beyond;
         }

@@ -9,24 +9,15 @@ use lib.Dec.{eqb}
 use lib.ListN.{getD}
 use borrow.Author.Tests.{ne-eqb, eqb-true, not-true, not-false}
 use Rattle.octets.specs.Lists.{any, all, lowestFrom}
+use Rattle.octets.proofs.Tests.{at}
 use Rattle.octets.proofs.Search.{upto}
-use Rattle.table.specs.Syntax.{Tag, Member, Simple, Boolean, Integer, BitString, OctetString, Null, Enumerated, Body, Plain, Sequence, Set, SequenceOf, SetOf, Choice, references, isChoice, universal, constructed}
+use Rattle.table.specs.Syntax.{Tag, Member, Boolean, Integer, BitString, OctetString, Null, Enumerated, Body, Plain, Sequence, Set, SequenceOf, SetOf, Choice, references, isChoice, universal, constructed}
 use Rattle.table.specs.Rules.{bodyBelow, tagsBelow, parts}
 use Rattle.table.specs.Reading.{tagsAt, numbersAt, membersAt, everyAt, bodyAt, ownAt, recordAt}
 use Rattle.table.specs.Decide.{wrongTags, finiteBody}
-use Rattle.table.specs.Fields.{formOf, universalOf, constructedOf, choiceOf}
+use Rattle.table.specs.Fields.{formOf, universalOf, constructedOf, choiceOf, choiceBy, Viewed, plain, sequence, set, sequence-of, set-of, choice}
 use Rattle.table.specs.declared.kind.Form.{Form}
 use Rattle.table.specs.declared.kind.Form.the-variants.{Simple as FSimple, Members as FMembers, Of as FOf, Choice as FChoice}
-use Rattle.table.proofs.Own.{at}
-
--- a body by the form of its kind
-pub data Viewed (b : List ℕ) (p : ℕ) : Form → Body → Type 0 where
-  plain : (s : Simple) → Viewed b p FSimple (Plain s)
-  sequence : Viewed b p FMembers (Sequence (membersAt b (p + 1) (getD b p 0)))
-  set : Viewed b p FMembers (Set (membersAt b (p + 1) (getD b p 0)))
-  sequence-of : Viewed b p FOf (SequenceOf (getD b p 0))
-  set-of : Viewed b p FOf (SetOf (getD b p 0))
-  choice : Viewed b p FChoice (Choice (everyAt 1 b (p + 1) (getD b p 0)))
 
 abbrev ViewedAt : List ℕ → ℕ → ℕ → Type 0
 ViewedAt b p k = Viewed b p (formOf k) (bodyAt b k p)
@@ -76,12 +67,6 @@ finiteBy m b p FSimple = true
 finiteBy m b p FMembers = all (λ x. x .optional || m (x .type)) (membersAt b (p + 1) (getD b p 0))
 finiteBy m b p FOf = true
 finiteBy m b p FChoice = any m (everyAt 1 b (p + 1) (getD b p 0))
-
-abbrev pub choiceBy : Form → Bool
-choiceBy FSimple = false
-choiceBy FMembers = false
-choiceBy FOf = false
-choiceBy FChoice = true
 
 module _ {b : List ℕ} {p : ℕ} where
   references-view : {f : Form} {x : Body} → Viewed b p f x → references x ≡ referencesBy b p f

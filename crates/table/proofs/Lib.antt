@@ -1,22 +1,26 @@
 -- Reading a table's octets is the inverse of the octet form, the tests of the rules agree with the rules, and laws for the code that reads a table.
+-- The crates above see the first two alone.
 -- Assumes nothing.
+pub mod Promises
 pub mod Theorems
-pub mod Causes
-pub mod Pieces
-pub mod Own
-pub mod Walk
-pub mod Nodes
-pub mod Straight
-pub mod Outermost
-pub mod Gather
-pub mod Shared
-pub mod Judged
-pub mod Reading
-pub mod Scan
-pub mod Spelled
-pub mod Rounds
-pub mod Decided
-pub mod Fields
-pub mod Loops
-pub mod Filling
-pub mod Marks
+mod Causes
+mod Places
+mod Limits
+mod Pieces
+mod Own
+mod Walk
+mod Nodes
+mod Straight
+mod Outermost
+mod Gather
+mod Shared
+mod Judged
+mod Reading
+mod Scan
+mod Spelled
+mod Rounds
+mod Decided
+mod Fields
+mod Loops
+mod Filling
+mod Marks

@@ -2,14 +2,14 @@
 -- Assumes nothing.
 use mathlib.Core.Bool.{true, false}
 use mathlib.Core.List.{List, [], _∷_, _++_, map}
-use mathlib.Core.Path.{_≡_, refl, sym, ap, subst, _∙_}
+use mathlib.Core.Path.{_≡_, refl, ap, _∙_}
 use Prim.Native.Nat.{ℕ, _+_, _*_, _≤_}
 use native.Mathlib.Omega.{arith}
 use lib.Dec.{leb, eqb}
 use lib.ListN.{length, drop, getD}
-use borrow.Author.Tests.{leb-true, leb-false, le-leb, lt-leb, eqb-true, eqb-false, ne-eqb}
+use borrow.Author.Tests.{leb-true, leb-false, le-leb, lt-leb, eqb-false, ne-eqb}
 use Rattle.octets.specs.Tests.{if}
-use Rattle.octets.proofs.Tests.{test}
+use Rattle.octets.proofs.Tests.{test, at}
 use Rattle.octets.specs.Lists.{all, joined}
 use Rattle.octets.specs.Numbers.{Octets, octetsOf}
 use Rattle.octets.proofs.Lists.{both, behind, length-behind, at-first, drop-one}
@@ -92,9 +92,6 @@ one-own b x k p o n s h =
 
 plain-own : (b : List ℕ) (x : Body) (k p : ℕ) → p ≤ length b → own x ≡ [] → kind x ≡ k → bodyShaped x ≡ true → Own b k p p x
 plain-own b x k p l o n s = record { is = rw o; named = n; shaped = s; more = omega arith; within = l }
-
-pub at : (k i : ℕ) (P : ℕ → Type 0) → P i → (eqb k i ≡ false → P k) → P k
-at k i P x f = test (eqb k i) (λ e. subst P (sym (eqb-true k i e)) x) f
 
 abbrev OwnAt : List ℕ → ℕ → ℕ → Type 0
 OwnAt b p k = (ownEnd b k p ≡ 0 → ⊥) → Own b k p (ownEnd b k p) (bodyAt b k p)

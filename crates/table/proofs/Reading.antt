@@ -93,12 +93,13 @@ record-back b o s h =
       size = size-of b o (recordEnd b o) (recordOctets (recordAt b o)) (omega arith) (w .within) i;
     }
 
-record Limits (r : Record) : Type 0 where
-  few : length (r .tags) ≤ 4
-  classed : all (λ g. leb (g .class) 3) (r .tags) ≡ true
-  shaped : bodyShaped (r .body) ≡ true
+-- the limits that a shaped record keeps
+pub record Limits (r : Record) : Type 0 where
+  pub few : length (r .tags) ≤ 4
+  pub classed : all (λ g. leb (g .class) 3) (r .tags) ≡ true
+  pub shaped : bodyShaped (r .body) ≡ true
 
-limits : (r : Record) → recordShaped r ≡ true → Limits r
+pub limits : (r : Record) → recordShaped r ≡ true → Limits r
 unfolding recordShaped
 limits r e =
     let s = both (leb (length (r .tags)) 4 && all (λ g. leb (g .class) 3) (r .tags)) (bodyShaped (r .body)) e in

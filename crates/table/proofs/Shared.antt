@@ -22,7 +22,8 @@ use Rattle.table.specs.Walk.{like, Hits, Walks, Met, Gathered, Straight}
 use Rattle.table.proofs.Nodes.{hits-reaches, reaches-hits, first-record, first-hits}
 use Rattle.table.proofs.Walk.{Kept, kept, newly, keeps, complete}
 use Rattle.table.proofs.Pieces.{length-every}
-use Rattle.table.proofs.Straight.{share-tag, shaped-body, parts-there}
+use Rattle.table.proofs.Reading.{limits}
+use Rattle.table.proofs.Straight.{share-tag, parts-there}
 use Rattle.table.proofs.Gather.{Going, going-done, every-none}
 use Rattle.table.proofs.Loops.{every-step}
 
@@ -177,4 +178,4 @@ few-parts (Choice ts) e = leb-true (length ts) 16 (both (leb 1 (length ts)) (leb
 
 pub parts-few : (b os : List ℕ) (t o : ℕ) (s : Span) → o ≡ getD os t 65535 → Spans b s (parts (recordAt b o .body)) → recordShaped (look b os t) ≡ true → s .count ≤ 16
 parts-few b os t o s e x f =
-    omega (arith, few-parts (look b os t .body) (shaped-body (look b os t) f), ap length (parts-span b os t o s e x), length-every (s .step) b (s .first) (s .count))
+    omega (arith, few-parts (look b os t .body) (limits (look b os t) f .shaped), ap length (parts-span b os t o s e x), length-every (s .step) b (s .first) (s .count))

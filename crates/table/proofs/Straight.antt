@@ -1,6 +1,6 @@
 -- CHOICEs without tags that do not reach themselves end; every record then has a first tag; members that hit one node share one.
 -- Assumes nothing.
-use mathlib.Core.Bool.{true, _&&_}
+use mathlib.Core.Bool.{true}
 use mathlib.Core.List.{List, [], _∷_, List·Memᴰ as In, List·Memᴰ·head as first-of, List·Memᴰ·not-nil as not-in-nil}
 use mathlib.Core.Path.{_≡_, refl, ap, _∙_}
 use Prim.Native.Nat.{ℕ, zero, suc, _≤_, _<_}
@@ -11,7 +11,6 @@ use lib.ListN.{length, getD, set, length-set, replicate, length-replicate}
 use lib.Seq.{getD-set-other}
 use borrow.Author.Tests.{eqb-true, eqb-false, leb-true, leb-false}
 use Rattle.octets.proofs.Tests.{test}
-use Rattle.octets.specs.Lists.{all}
 use Rattle.octets.proofs.Lists.{both}
 use Rattle.table.specs.Syntax.{Tag, Table, Body, Plain, Sequence, Set, SequenceOf, SetOf, Choice, Record, isChoice, references}
 use Rattle.table.specs.Octets.{recordShaped, bodyShaped}
@@ -20,6 +19,7 @@ use Rattle.table.specs.Passes.{Nested}
 use Rattle.table.specs.Walk.{like, free, Hits, Named, Straight}
 use Rattle.table.proofs.Nodes.{hits-record, hits-first, hits-reaches, reaches-first, like-untagged}
 use Rattle.table.proofs.Walk.{marked}
+use Rattle.table.proofs.Reading.{limits}
 
 -- j reaches t by one step or more
 pub record Leads (T : Table) (j t : ℕ) : Type 0 where
@@ -71,13 +71,9 @@ module _ (T : Table) (n : ℕ) (there : (t a : ℕ) → t < n → In a (below T 
   pub ends : (t : ℕ) → t < n → Nested T n t
   ends t h = nested n (replicate n 0) t (omega (arith, free-zeros n)) (length-replicate n 0) (λ j u. absurd (u (zeros n j))) h
 
-pub shaped-body : (r : Record) → recordShaped r ≡ true → bodyShaped (r .body) ≡ true
-unfolding recordShaped
-shaped-body r s = both (leb (length (r .tags)) 4 && all (λ g. leb (g .class) 3) (r .tags)) (bodyShaped (r .body)) s .1
-
 -- an untagged record that keeps the rules is a CHOICE with an alternative
 some-below : (r : Record) → r .tags ≡ [] → recordShaped r ≡ true → (Mistagged r → ⊥) → tagsBelow (r .tags) (r .body) ≡ [] → ⊥
-unfolding tagsBelow bodyBelow recordShaped bodyShaped isChoice
+unfolding tagsBelow bodyBelow bodyShaped isChoice
 some-below r e s t b = by (r .body) refl
   where
     nil : {A : Type 0} (l : List A) → l ≡ [] → length l ≡ 0
@@ -90,7 +86,7 @@ some-below r e s t b = by (r .body) refl
     by (SequenceOf u) p = t (missing e (rw p refl))
     by (SetOf u) p = t (missing e (rw p refl))
     by (Choice ts) p =
-        let q = both (leb 1 (length ts)) (leb (length ts) 16) (rw p at (shaped-body r s)) .0 in
+        let q = both (leb 1 (length ts)) (leb (length ts) 16) (rw p at (limits r s .shaped)) .0 in
         let l : ts ≡ [] = rw (e, p) at b in
         omega (arith, leb-true 1 (length ts) q, nil ts l)
 

@@ -1,4 +1,4 @@
--- What is proved of tables, in the order of document 01: what octets stand for, which cause is named, what holds of a table that passes.
+-- What is proved of tables: what octets stand for (FORMATS, "Tables"), which cause is named ("Refusals", "Order of refusals"), what holds of a table that passes.
 -- That the code's answer is this verdict is the contract of `check`, in `src/lib.rt`.
 -- Assumes nothing.
 use mathlib.Core.Bool.{true}
@@ -26,8 +26,9 @@ use Rattle.table.specs.declared.Verdict.the-variants.{Passed, Refused}
 use Rattle.table.proofs.Scan.{scan-spells}
 use Rattle.table.proofs.Spelled.{unique, spells-scan, spells-not-misshapen, misshapen-unique}
 use Rattle.table.proofs.Causes.{same-cause, Right, looks, right, sound, keeps}
+use Rattle.table.proofs.Filling.{index-places}
 
--- "A table is 1 to 128 type records": octets are those of one list of records at most.
+-- Octets are those of one list of records at most.
 pub records-unique : {b : List ℕ} {rs rs′ : List Record} → Spells b rs → Spells b rs′ → rs ≡ rs′
 records-unique = unique
 
@@ -40,7 +41,7 @@ pub records-found : {b : List ℕ} {rs : List Record} → Octets b → Spells b 
     → (scan b .whole ≡ true) × (length (scan b .offsets) ≡ length rs) × (look b (scan b .offsets) ≡ table rs)
 records-found {b} o x = let s = spells-scan x in (s .0, s .1, looks b o x)
 
--- "table not shaped as above": octets that are not those of records are misshapen at one place, and no others are.
+-- 1: octets that are not those of records are misshapen at one place, and no others are.
 pub misshapen-once : {b : List ℕ} {p q : ℕ} → Octets b → Misshapen b p → Misshapen b q → p ≡ q
 misshapen-once = misshapen-unique
 
@@ -51,7 +52,7 @@ told : (b : List ℕ) → Octets b → (v : Verdict) → verdict b ≡ v → Rig
 told b o v e = subst (Right b) e (right b o)
 
 module _ (b : List ℕ) (o : Octets b) where
-  -- "Order: 1 to 6, each over the whole table, place the lowest such record": the cause that the verdict names is the first.
+  -- The cause that the verdict names is the first: none with a lower number holds, nor the same at a lower record.
   pub named-first : (c : TableCause) → verdict b ≡ Refused c → FirstCause b c
   named-first c e = told b o (Refused c) e
 
@@ -83,25 +84,26 @@ module _ (b : List ℕ) (o : Octets b) where
   first-named c x =
       by-verdict (λ e. absurd (passed-none e c (x .holds))) λ d e. subst (λ k. verdict b ≡ Refused k) (one-first d c (named-first d e) x) e
 
-  -- "Then 7", which is no verdict on the table alone.
+  -- 7 is no verdict on a table alone.
   pub never-no-type : verdict b ≡ Refused NoType → ⊥
   never-no-type e = named-first NoType e .holds
 
-  -- A table that passes: every reference is in the table, CHOICEs without tags end, first tags are distinct, every record has a finite value.
-  pub passes : verdict b ≡ Passed → Passes (look b (scan b .offsets)) (length (scan b .offsets))
-  passes e = keeps b o (passed-none e)
+  -- Of the octets of records of which no cause holds, all that the crates above rely on: by the rules alone.
+  pub rules-kept : {rs : List Record} → Spells b rs → ((c : TableCause) → Cause b c → ⊥) → Passes b (table rs) (length rs)
+  rules-kept x h = keeps b o h x
 
-  -- It has 1 to 128 records, and the octets are theirs.
-  pub passed-count : verdict b ≡ Passed → (1 ≤ length (scan b .offsets)) × (length (scan b .offsets) ≤ 128)
-  passed-count e = let f = sound b o (passed-none e) in (f .some, f .few)
+  -- A table that passes is the octets of records, and reading finds them.
+  pub passed-records : verdict b ≡ Passed → (rs : List Record) × Spells b rs × (look b (scan b .offsets) ≡ table rs) × (length (scan b .offsets) ≡ length rs)
+  passed-records e = let f = sound b o (passed-none e) in (f .records, f .spells, looks b o (f .spells), sym (f .count))
 
-  pub passed-records : verdict b ≡ Passed → (rs : List Record) × Spells b rs × (look b (scan b .offsets) ≡ table rs)
-  passed-records e = let f = sound b o (passed-none e) in (f .records, f .spells, looks b o (f .spells))
+  -- Of what is read of it, all that the crates above rely on.
+  pub passes : verdict b ≡ Passed → Passes b (look b (scan b .offsets)) (length (scan b .offsets))
+  passes e = let (rs, x, l, n) = passed-records e in rw (l, n) (rules-kept x (passed-none e))
 
   -- What a check that passes answers: an index through which the octets read as such a table.
   pub checked-passes : (c : Checked) → CheckedTable b c → c .verdict ≡ Passed
-      → Passes (look b (take (c .index .count) (c .index .offsets))) (c .index .count)
+      → Passes b (look b (take (c .index .count) (c .index .offsets))) (c .index .count)
   checked-passes c x e =
-      let p = sym (x .is) ∙ e in
-      let i = x .index p in
-      rw (i .offsets, i .count) (passes p)
+      let p = passes (sym (x .is) ∙ e) in
+      let i = x .index (p .short) in
+      rw (index-places i, i .count) p

@@ -1,4 +1,4 @@
--- The rule of each cause of refusal on a table's octets, and which cause is the first (document 01, "Refused" 1 to 6).
+-- The rule of each cause of refusal on a table's octets, and which cause is the first (FORMATS, "Refusals" 1 to 7 and "Order of refusals").
 -- Assumes nothing.
 use mathlib.Core.List.{List}
 use mathlib.Core.Path.{_≡_}
@@ -10,7 +10,7 @@ use Rattle.table.specs.Rules.{Dangling, Mistagged, Circular, Sharing, In
 use Rattle.table.specs.declared.TableCause.{TableCause}
 use Rattle.table.specs.declared.TableCause.the-variants.{Shape, NoRecord, WrongTag, ChoiceLoop, SharedTag, NoValue, NoType}
 
--- document 01's number of a cause
+-- the number of a cause (FORMATS, "Refusals")
 abbrev pub number : TableCause → ℕ
 number (Shape p) = 1
 number (NoRecord p) = 2
@@ -20,7 +20,7 @@ number (SharedTag p) = 5
 number (NoValue p) = 6
 number NoType = 7
 
--- its place: a record number; 7 has place 0
+-- its place: a record number; 0 for 7 (FORMATS, "Refusals")
 abbrev pub place : TableCause → ℕ
 place (Shape p) = p
 place (NoRecord p) = p
@@ -47,7 +47,7 @@ Cause b (SharedTag p) = Holds b p (λ T n. Sharing T p)
 Cause b (NoValue p) = Holds b p (λ T n. Infinite T p)
 Cause b NoType = ⊥
 
--- "Order: 1 to 6, each over the whole table, place the lowest such record"
+-- Each cause is sought in the whole table before the next, and named at the lowest record that has it (FORMATS, "Order of refusals").
 pub record FirstCause (b : List ℕ) (c : TableCause) : Type 0 where
   pub holds : Cause b c
   pub earlier : (d : TableCause) → number d < number c → Cause b d → ⊥

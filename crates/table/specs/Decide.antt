@@ -1,4 +1,4 @@
--- The rules 2 to 6 as tests that compute, over n records. That each agrees with its rule is proved in `proofs/`.
+-- The rules 2 to 6 (FORMATS, "Refusals") as tests that compute, over n records. That each agrees with its rule is proved in `proofs/`.
 -- Assumes nothing.
 use mathlib.Core.Bool.{Bool, true, false, not, _&&_, _||_}
 use mathlib.Core.List.{List, [], _∷_}
@@ -25,11 +25,11 @@ rounds step n (suc k) = round step n (rounds step n k)
 unfoldable pub found : Step → ℕ → ℕ → Bool
 found step n t = getD (rounds step n n) t false
 
--- 2
+-- 2: some number that the body names is not below n
 unfoldable pub dangling : Table → ℕ → ℕ → Bool
 dangling T n t = any (λ r. leb n r) (references (T t .body))
 
--- 3, of the tags that are left
+-- 3: of the tags that are left, the last is to be right and the others not UNIVERSAL
 unfoldable pub wrongTags : Body → List Tag → Bool
 wrongTags b [] = not (isChoice b)
 wrongTags b (g ∷ []) = eqb (g .class) 0 && (isChoice b || not (eqb (g .number) (universal b)))
@@ -38,14 +38,14 @@ wrongTags b (g ∷ h ∷ gs) = eqb (g .class) 0 || wrongTags b (h ∷ gs)
 abbrev pub mistagged : Table → ℕ → Bool
 mistagged T t = wrongTags (T t .body) (T t .tags)
 
--- 4
+-- 4: what reaches u is u, and what has an alternative that reaches it
 unfoldable pub reachStep : Table → ℕ → Step
 reachStep T u m t = eqb t u || any m (below T t)
 
 unfoldable pub circular : Table → ℕ → ℕ → Bool
 circular T n t = any (found (reachStep T t) n) (below T t)
 
--- 5
+-- 5: two parts that begin with the outermost tag of some record
 unfoldable pub sameTag : Tag → Tag → Bool
 sameTag g h = eqb (g .class) (h .class) && eqb (g .number) (h .number)
 
@@ -73,7 +73,7 @@ pair f (a ∷ l) = any (f a) l || pair f l
 unfoldable pub sharing : Table → ℕ → ℕ → Bool
 sharing T n t = pair (share T n) (parts (T t .body))
 
--- 6
+-- 6: whether a body has a finite value, if the marked records have
 unfoldable pub finiteBody : (ℕ → Bool) → Body → Bool
 finiteBody m (Plain k) = true
 finiteBody m (Sequence ms) = all (λ x. x .optional || m (x .type)) ms

@@ -1,4 +1,4 @@
--- Type tables: what they are, what their octets are, when they pass (document 01, "Tables" and "Refused" 1 to 6).
+-- Type tables: what they are, what their octets are, when they pass (FORMATS, "Tables", "Limits", "Refusals" 1 to 6, "Order of refusals").
 -- Assumes nothing.
 pub mod Syntax
 pub mod Octets

@@ -1,4 +1,4 @@
--- The marking of records that have a finite value, for the contracts of the code alone: no definition of the verdict rests on this file.
+-- The marking of records that have a finite value (FORMATS, "Tables"), for the contracts of the code alone: no definition of the verdict rests on this file.
 -- Assumes nothing.
 use mathlib.Core.Bool.{Bool, true, false, not}
 use mathlib.Core.List.{List}

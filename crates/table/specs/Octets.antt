@@ -1,4 +1,4 @@
--- The octet form of a table, and which tables have one (document 01, "Tables").
+-- The octet form of a table, and which tables have one (FORMATS, "Tables" and "Limits").
 -- Assumes nothing.
 use mathlib.Core.Bool.{Bool, true, false, _&&_}
 use mathlib.Core.List.{List, [], _∷_, _++_, map}
@@ -10,6 +10,7 @@ use Rattle.octets.specs.Lists.{all, joined}
 use Rattle.octets.specs.Numbers.{octetsOf}
 use Rattle.table.specs.Syntax.{Tag, Member, Boolean, Integer, BitString, OctetString, Null, Enumerated, Body, Plain, Sequence, Set, SequenceOf, SetOf, Choice, Record}
 
+-- the octet of a kind (FORMATS, "Tables")
 unfoldable pub kind : Body → ℕ
 kind (Plain Boolean) = 1
 kind (Plain Integer) = 2
@@ -23,6 +24,7 @@ kind (SequenceOf t) = 48
 kind (SetOf t) = 49
 kind (Choice ts) = 50
 
+-- the class, then the number in two octets (FORMATS, "Tables")
 unfoldable pub tagOctets : Tag → List ℕ
 tagOctets g = g .class ∷ octetsOf (g .number)
 
@@ -30,10 +32,11 @@ abbrev pub flag : Bool → ℕ
 flag true = 1
 flag false = 0
 
+-- the record number, then the flag (FORMATS, "Tables")
 unfoldable pub memberOctets : Member → List ℕ
 memberOctets m = m .type ∷ flag (m .optional) ∷ []
 
--- "the kind's own part"
+-- the own part: where there are several, their count comes first (FORMATS, "Tables")
 unfoldable pub own : Body → List ℕ
 own (Plain Boolean) = []
 own (Plain Integer) = []
@@ -47,17 +50,17 @@ own (SequenceOf t) = t ∷ []
 own (SetOf t) = t ∷ []
 own (Choice ts) = length ts ∷ ts
 
--- "A record is the mark 54 59, the kind (one octet), a count of tags (0 to 4), the tags, and the kind's own part."
+-- the mark 54 59, the kind, how many tags, the tags, the own part (FORMATS, "Tables")
 unfoldable pub recordOctets : Record → List ℕ
 recordOctets r =
     0x54 ∷ 0x59 ∷ kind (r .body) ∷ length (r .tags) ∷ (joined (map tagOctets (r .tags)) ++ own (r .body))
 
--- "strictly rising"; none is below low
+-- each is above the one before; none is below low (FORMATS, "Tables")
 unfoldable pub rising : ℕ → List ℕ → Bool
 rising low [] = true
 rising low (n ∷ ns) = leb low n && rising (n + 1) ns
 
--- the counts of the own part
+-- the counts of the own part are within the limits, and the numbers of an ENUMERATED rise (FORMATS, "Limits")
 unfoldable pub bodyShaped : Body → Bool
 bodyShaped (Plain Boolean) = true
 bodyShaped (Plain Integer) = true
@@ -71,11 +74,11 @@ bodyShaped (SequenceOf t) = true
 bodyShaped (SetOf t) = true
 bodyShaped (Choice ts) = leb 1 (length ts) && leb (length ts) 16
 
--- a record within the limits
+-- and so are the count of tags and their classes (FORMATS, "Limits")
 unfoldable pub recordShaped : Record → Bool
 recordShaped r = leb (length (r .tags)) 4 && all (λ g. leb (g .class) 3) (r .tags) && bodyShaped (r .body)
 
--- "A table is 1 to 128 type records, numbered from 0, in at most 8,192 octets." These octets are those of these records.
+-- the octets are those of these records one behind the other, and all is within the limits (FORMATS, "Tables", "Limits")
 pub record Spells (b : List ℕ) (rs : List Record) : Type 0 where
   pub is : b ≡ joined (map recordOctets rs)
   pub shaped : all recordShaped rs ≡ true
@@ -90,7 +93,7 @@ pub record Begins (b : List ℕ) (k : ℕ) (rest : List ℕ) : Type 0 where
   pub shaped : all recordShaped records ≡ true
   pub count : length records ≡ k
 
--- 1: "table not shaped as above"; the place is "the record being read; 128 if too many; an over-long table is judged before any record, place 0"
+-- 1: the octets are those of no records within the limits. The place is the first record that is not there or not shaped, 128 where there are more, and 0 of too many octets (FORMATS, "Refusals").
 pub data Misshapen (b : List ℕ) : ℕ → Type 0 where
   over-long : 8192 < length b → Misshapen b 0
   no-record : {k : ℕ} (rest : List ℕ) → length b ≤ 8192 → Begins b k rest → k < 128 → (rest ≡ [] → k ≡ 0)

@@ -1,4 +1,4 @@
--- What octets stand for as records: the record at a place, where a well-formed one ends, and where all records begin.
+-- What octets stand for as records: the record at a place, where a shaped one ends, and where all records begin (FORMATS, "Tables" and "Limits").
 -- Reads are total: what lies behind the last octet counts as 0.
 -- Assumes nothing.
 use mathlib.Core.Bool.{Bool, true, false, not}

@@ -1,4 +1,4 @@
--- The rules that a table of well-formed records must keep, each for a record number t, and n records (document 01, "Tables" and "Refused" 2 to 6).
+-- The rules that a table of shaped records must keep, each for a record number t, and n records (FORMATS, "Tables" and "Refusals" 2 to 6).
 -- Assumes nothing.
 use mathlib.Core.Bool.{true, false}
 use mathlib.Core.List.{List, [], _∷_, _++_, List·Memᴰ as In}
@@ -7,13 +7,13 @@ use Prim.Native.Nat.{ℕ, _≤_, _<_}
 use lib.ListN.{length, getD}
 use Rattle.table.specs.Syntax.{Tag, Member, Body, Plain, Sequence, Set, SequenceOf, SetOf, Choice, Record, Table, references, isChoice, universal}
 
--- 2: "record number not there"
+-- 2: a body names a number that no record has (FORMATS, "Refusals")
 pub record Dangling (T : Table) (n t : ℕ) : Type 0 where
   pub number : ℕ
   pub named : In number (references (T t .body))
   pub beyond : n ≤ number
 
--- 3: "tag missing on a kind other than CHOICE, or UNIVERSAL tag that is not last, not the kind's number, or on a CHOICE"
+-- 3: a kind other than CHOICE has no tag; or a UNIVERSAL tag stands before another, has not the number of its kind, or stands on a CHOICE (FORMATS, "Refusals")
 pub data Mistagged (r : Record) : Type 0 where
   missing : r .tags ≡ [] → isChoice (r .body) ≡ false → Mistagged r
   not-last : (before after : List Tag) (g h : Tag) → r .tags ≡ before ++ (g ∷ h ∷ after) → g .class ≡ 0 → Mistagged r
@@ -41,18 +41,18 @@ pub data Reaches (T : Table) (u : ℕ) : ℕ → Type 0 where
   here : Reaches T u u
   through : {t : ℕ} (a : ℕ) → In a (below T t) → Reaches T u a → Reaches T u t
 
--- 4: "CHOICE without tags reaches itself through such CHOICEs alone"
+-- 4: a CHOICE without tags comes back to itself through CHOICEs without tags alone (FORMATS, "Refusals")
 pub record Circular (T : Table) (t : ℕ) : Type 0 where
   pub alternative : ℕ
   pub of : In alternative (below T t)
   pub back : Reaches T t alternative
 
--- "First tags: those of a record with tags are its outermost tag. The first tags of a CHOICE without tags are those of all its alternatives."
+-- g is a first tag of a record: its outermost tag or, of a CHOICE without tags, a first tag of an alternative (FORMATS, "Tables")
 pub data First (T : Table) (g : Tag) : ℕ → Type 0 where
   outermost : {t : ℕ} (gs : List Tag) → T t .tags ≡ g ∷ gs → First T g t
   inside : {t : ℕ} (a : ℕ) → In a (below T t) → First T g a → First T g t
 
--- what "no two members (in a CHOICE, alternatives)" speaks of
+-- members of a SEQUENCE or SET, alternatives of a CHOICE (FORMATS, "Tables")
 unfoldable pub parts : Body → List ℕ
 parts (Plain k) = []
 parts (Sequence ms) = references (Sequence ms)
@@ -61,7 +61,7 @@ parts (SequenceOf t) = []
 parts (SetOf t) = []
 parts (Choice ts) = ts
 
--- 5: "In a SEQUENCE, a SET or a CHOICE, no two members (in a CHOICE, alternatives) may share a first tag."
+-- 5: two parts of one record have a first tag in common (FORMATS, "Refusals")
 pub record Sharing (T : Table) (t : ℕ) : Type 0 where
   pub i : ℕ
   pub j : ℕ
@@ -71,6 +71,7 @@ pub record Sharing (T : Table) (t : ℕ) : Type 0 where
   pub first : First T tag (getD (parts (T t .body)) i 0)
   pub second : First T tag (getD (parts (T t .body)) j 0)
 
+-- members with their flags
 unfoldable pub members : Body → List Member
 members (Plain k) = []
 members (Sequence ms) = ms
@@ -79,13 +80,12 @@ members (SequenceOf t) = []
 members (SetOf t) = []
 members (Choice ts) = []
 
--- "Each record must have a finite value (document 000, section 3): an optional member may be missing, an OF list may be empty,
--- a CHOICE needs one alternative that has a finite value."
+-- A record has a finite value: a SEQUENCE or SET if each mandatory member has one, a CHOICE if one alternative has. A list may be empty (FORMATS, "Tables").
 pub data Finite (T : Table) : ℕ → Type 0 where
   all-mandatory : {t : ℕ} → isChoice (T t .body) ≡ false
       → ((m : Member) → In m (members (T t .body)) → m .optional ≡ false → Finite T (m .type)) → Finite T t
   one-alternative : {t : ℕ} (ts : List ℕ) (a : ℕ) → T t .body ≡ Choice ts → In a ts → Finite T a → Finite T t
 
--- 6: "no finite value"
+-- 6: it has none (FORMATS, "Refusals")
 abbrev pub Infinite : Table → ℕ → Type 0
 Infinite T t = Finite T t → ⊥

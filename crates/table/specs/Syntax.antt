@@ -1,15 +1,15 @@
--- A type table as abstract syntax (document 01, "Tables").
+-- A type table as abstract syntax (FORMATS, "Tables").
 -- Assumes nothing.
 use mathlib.Core.Bool.{Bool, true, false}
 use mathlib.Core.List.{List, [], _∷_, map}
 use Prim.Native.Nat.{ℕ, zero, suc}
 
--- "A tag is a class octet (0 UNIVERSAL, 1 APPLICATION, 2 context, 3 PRIVATE) and a two-octet number."
+-- the class is 0 UNIVERSAL, 1 APPLICATION, 2 context-specific, 3 PRIVATE (FORMATS, "Tables")
 pub record Tag : Type 0 where
   pub class : ℕ
   pub number : ℕ
 
--- "for each member a record number and 1 if optional, else 0"
+-- the number of the member's record, and whether the member may be missing (FORMATS, "Tables")
 pub record Member : Type 0 where
   pub type : ℕ
   pub optional : Bool
@@ -32,7 +32,7 @@ pub data Body : Type 0 where
   SetOf : ℕ → Body
   Choice : List ℕ → Body
 
--- "The tags stand outermost first."
+-- the outermost tag stands first (FORMATS, "Tables")
 pub record Record : Type 0 where
   pub tags : List Tag
   pub body : Body
@@ -67,7 +67,7 @@ isChoice (SequenceOf t) = false
 isChoice (SetOf t) = false
 isChoice (Choice ts) = true
 
--- "The kinds, each with its own UNIVERSAL number"; a CHOICE has none, and 0 is no kind's
+-- the UNIVERSAL number of a kind; a CHOICE has none, and 0 is no kind's (FORMATS, "Tables")
 unfoldable pub universal : Body → ℕ
 universal (Plain Boolean) = 1
 universal (Plain Integer) = 2

@@ -1,7 +1,7 @@
--- The verdict on a table's octets, and the number and place of each refusal (document 01, "Refused").
+-- The verdict on a table's octets, as it is computed (FORMATS, "Order of refusals"). That it names the first cause is proved in `proofs/`.
 -- Assumes nothing.
-use mathlib.Core.Bool.{Bool, not}
-use mathlib.Core.List.{List}
+use mathlib.Core.Bool.{Bool, false, not}
+use mathlib.Core.List.{List, [], _∷_}
 use Prim.Native.Nat.{ℕ}
 use lib.Dec.{ltb}
 use lib.ListN.{length}
@@ -11,30 +11,40 @@ use Rattle.table.specs.Syntax.{Table}
 use Rattle.table.specs.Reading.{scan, look}
 use Rattle.table.specs.Decide.{dangling, mistagged, circular, sharing, infinite}
 use Rattle.table.specs.declared.TableCause.{TableCause}
-use Rattle.table.specs.declared.TableCause.the-variants.{Shape, NoRecord, WrongTag, ChoiceLoop, SharedTag, NoValue}
+use Rattle.table.specs.declared.TableCause.the-variants.{Shape, NoRecord, WrongTag, ChoiceLoop, SharedTag, NoValue, NoType}
 use Rattle.table.specs.declared.Verdict.{Verdict}
 use Rattle.table.specs.declared.Verdict.the-variants.{Passed, Refused}
 
--- refused at the lowest of the n records that fail a test, if any does
-abbrev pub unless : ℕ → (ℕ → TableCause) → (ℕ → Bool) → (Unit {0} → Verdict) → Verdict
-unless n cause fails next = if (ltb (lowest fails n) n) (Refused (cause (lowest fails n))) next
+-- the test of a cause at its place, of n records; 1 and 7 are no causes of records
+abbrev pub breaks : Table → ℕ → TableCause → Bool
+breaks T n (Shape p) = false
+breaks T n (NoRecord p) = dangling T n p
+breaks T n (WrongTag p) = mistagged T p
+breaks T n (ChoiceLoop p) = circular T n p
+breaks T n (SharedTag p) = sharing T n p
+breaks T n (NoValue p) = infinite T n p
+breaks T n NoType = false
 
--- "Order: 1 to 6, each over the whole table, place the lowest such record": 4 to 6
+-- the causes in turn, each sought in all n records: refused by the first that is found, at the lowest record that has it (FORMATS, "Order of refusals")
+abbrev pub inTurn : Table → ℕ → List (ℕ → TableCause) → Verdict
+inTurn T n [] = Passed
+inTurn T n (c ∷ cs) = if (ltb (lowest (λ p. breaks T n (c p)) n) n) (Refused (c (lowest (λ p. breaks T n (c p)) n))) λ _. inTurn T n cs
+
+-- 4 to 6
+abbrev pub choiceCauses : List (ℕ → TableCause)
+choiceCauses = ChoiceLoop ∷ SharedTag ∷ NoValue ∷ []
+
+-- 2 to 6
+abbrev pub recordCauses : List (ℕ → TableCause)
+recordCauses = NoRecord ∷ WrongTag ∷ choiceCauses
+
 unfoldable pub judgeChoices : Table → ℕ → Verdict
-judgeChoices T n =
-    unless n ChoiceLoop (circular T n) λ _.
-    unless n SharedTag (sharing T n) λ _.
-    unless n NoValue (infinite T n) λ _.
-    Passed
+judgeChoices T n = inTurn T n choiceCauses
 
--- and 2 to 6
 unfoldable pub judge : Table → ℕ → Verdict
-judge T n =
-    unless n NoRecord (dangling T n) λ _.
-    unless n WrongTag (mistagged T) λ _.
-    judgeChoices T n
+judge T n = inTurn T n recordCauses
 
--- "an over-long table is judged before any record, place 0"; then 1 at the record that is not shaped
+-- Too many octets are refused by 1 at 0, whatever they are; then 1 at the first record that is not shaped; then the causes of records (FORMATS, "Order of refusals").
 unfoldable pub verdict : List ℕ → Verdict
 verdict b =
     if (ltb 8192 (length b)) (Refused (Shape 0)) λ _.

@@ -1,4 +1,4 @@
--- The walk that gathers first tags, for the contracts of the code alone: no definition of the verdict rests on this file.
+-- The walk that gathers first tags (FORMATS, "Tables"), for the contracts of the code alone: no definition of the verdict rests on this file.
 -- Records with one outermost tag are one node, which the lowest of them stands for; a CHOICE without tags is a node of its own.
 -- Assumes nothing.
 use mathlib.Core.Bool.{Bool, true, false}

@@ -1,4 +1,4 @@
-// Refusal 6: a record with no finite value.
+// 6: a record with no finite value (FORMATS, "Tables" and "Refusals").
 ghost use mathlib.Core.Path.{_≡_};
 ghost use mathlib.Core.Bool.{_||_};
 ghost use Prim.Native.Nat.{_≤_, _<_};

@@ -1,4 +1,4 @@
-// Refusals 4 and 5: a CHOICE without tags that reaches itself, and first tags that two members share.
+// 4 and 5: a CHOICE without tags that comes back to itself, and first tags that two parts share (FORMATS, "Tables" and "Refusals").
 ghost use mathlib.Core.Path.{_≡_};
 ghost use mathlib.Core.Bool.{true, false};
 ghost use Prim.Native.Nat.{ℕ, _≤_, _<_};

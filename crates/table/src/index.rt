@@ -1,10 +1,10 @@
-// Where the records of a table begin.
+// Where the records of a table begin (FORMATS, "Tables").
 ghost use Prim.Native.Nat.{_≤_};
 ghost use lib.ListN.{length};
 ghost use Rattle.table.specs.Index.{Indexed};
 use crate::shape::record_end;
 
-// The places of the first `count` records. Whole if nothing is left behind them.
+// The places of the first `count` records, and 0 behind them. Whole if nothing is left behind the last record.
 pub struct Index {
     pub offsets: [u16; 128],
     pub count: usize,

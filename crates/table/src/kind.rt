@@ -1,4 +1,4 @@
-// The kinds of types by their octets.
+// The kinds of types by their octets (FORMATS, "Tables").
 ghost use mathlib.Core.Path.{_≡_};
 ghost use Rattle.table.specs.Fields.{formOf, universalOf, constructedOf};
 

@@ -1,4 +1,4 @@
-// Reads of a record's fields. The record begins at o; every read is total.
+// Reads of a record's fields (FORMATS, "Tables"). The record begins at o; every read is total.
 ghost use mathlib.Core.Path.{_≡_};
 ghost use Prim.Native.Nat.{_<_, _+_};
 ghost use lib.ListN.{getD};

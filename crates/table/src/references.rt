@@ -1,4 +1,4 @@
-// Refusal 2: a record number that is not there.
+// 2: a record number that is not there (FORMATS, "Refusals").
 ghost use mathlib.Core.Path.{_≡_};
 ghost use lib.Dec.{leb};
 ghost use lib.ListN.{length};

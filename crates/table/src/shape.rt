@@ -1,4 +1,4 @@
-// Where well-formed records end. 0 is no end.
+// 1: where shaped records end; 0 is no end (FORMATS, "Tables" and "Limits").
 ghost use mathlib.Core.Path.{_≡_};
 ghost use Prim.Native.Nat.{_<_};
 ghost use lib.Dec.{leb};

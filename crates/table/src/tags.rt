@@ -1,4 +1,4 @@
-// Refusal 3: a tag that is missing, or a UNIVERSAL tag out of place.
+// 3: a tag that is missing, or a UNIVERSAL tag out of place (FORMATS, "Tables" and "Refusals").
 ghost use mathlib.Core.Path.{_≡_};
 ghost use Prim.Native.Nat.{_<_};
 ghost use mathlib.Core.List.{[]};

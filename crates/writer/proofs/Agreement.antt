@@ -9,17 +9,16 @@ use native.Mathlib.Omega.{arith}
 use borrow.Author.Tests.{ne-eqb}
 use lib.Dec.{ltb, eqb}
 use lib.ListN.{length, getD}
-use Rattle.octets.proofs.Tests.{test}
+use Rattle.octets.proofs.Tests.{test, at}
 use Rattle.octets.specs.Numbers.{two}
 use Rattle.table.specs.Syntax.{Boolean, Integer, BitString, OctetString, Null, Enumerated, Body}
 use Rattle.table.specs.Octets.{kind}
 use Rattle.table.specs.Rules.{members}
 use Rattle.table.specs.Reading.{numbersAt, membersAt, everyAt, bodyAt, ownAt, recordAt}
-use Rattle.table.specs.Fields.{formOf}
+use Rattle.table.specs.Fields.{formOf, Viewed, plain, sequence, set, sequence-of, set-of, choice}
 use Rattle.table.specs.declared.kind.Form.{Form}
 use Rattle.table.specs.declared.kind.Form.the-variants.{Simple as FSimple, Members as FMembers, Of as FOf, Choice as FChoice}
-use Rattle.table.proofs.Own.{at}
-use Rattle.table.proofs.Fields.{Viewed, viewed, plain, sequence, set, sequence-of, set-of, choice}
+use Rattle.table.proofs.Promises.{viewed}
 use Rattle.coding.specs.Form.{alternatives}
 use Rattle.coding.specs.Content.{listed}
 use Rattle.coding.specs.Judging.{a-choice, flags, leafKind, nodeKind, numbers, leafAgrees, agreeing, counts, agrees}

@@ -13,13 +13,12 @@ use lib.ListN.{length, getD, drop, length-drop}
 use Rattle.octets.specs.Answer.{Answer, got, refused, then, if}
 use Rattle.octets.proofs.Answer.{got-value, refused≢got}
 use Rattle.octets.specs.Numbers.{two}
-use Rattle.octets.proofs.Tests.{test}
+use Rattle.octets.proofs.Tests.{test, at}
 use Rattle.octets.proofs.Lists.{both}
 use Rattle.table.specs.Syntax.{Boolean, Integer, BitString, OctetString, Null, Enumerated, Body, Plain, Sequence, Set, SequenceOf, SetOf, Choice, Record, Table, isChoice, constructed}
 use Rattle.table.specs.Octets.{kind}
 use Rattle.table.specs.Rules.{members}
 use Rattle.table.specs.Reading.{everyAt, membersAt, tagsAt, bodyAt, ownAt, recordAt, look}
-use Rattle.table.proofs.Own.{at}
 use Rattle.coding.specs.Value.{Leaf, boolean, integer, bits, string, null, enumerated, Value, sequence, set, sequenceOf, setOf, choice, slots, bag}
 use Rattle.coding.specs.Form.{encode, element, alternatives, formBody, wrap, formAt}
 use Rattle.ber.specs.Item.{item}

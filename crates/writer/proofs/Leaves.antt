@@ -10,10 +10,9 @@ use lib.Dec.{ltb, leb, eqb}
 use lib.IntN.{ℤ, pos}
 use lib.ListN.{length, getD, take, drop, set, length-drop}
 use lib.Seq.{sets, length-take-le}
-use Rattle.octets.proofs.Tests.{test}
+use Rattle.octets.proofs.Tests.{test, at}
 use Rattle.octets.specs.Numbers.{two}
 use Rattle.ber.specs.Integer.{integerOf, fewestOf}
-use Rattle.table.proofs.Own.{at}
 use Rattle.coding.specs.Form.{encode, truth}
 use Rattle.coding.specs.Judging.{octetsFor, spareIn}
 use Rattle.writer.specs.Nodes.{fixedEnd, booleanEnd, stringEnd, bitsEnd, clearAt, ownEnd, leafOf}

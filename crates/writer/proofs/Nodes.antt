@@ -8,11 +8,10 @@ use native.Mathlib.Omega.{arith}
 use borrow.Author.Tests.{lt-ltb, le-ltb, eq-eqb, ne-eqb, ltb-false}
 use lib.Dec.{ltb, eqb}
 use lib.ListN.{length, getD}
-use Rattle.octets.proofs.Tests.{test}
+use Rattle.octets.proofs.Tests.{test, at}
 use Rattle.octets.specs.Lists.{any, all}
 use Rattle.octets.specs.Numbers.{two}
 use Rattle.table.specs.Reading.{numbersAt, membersAt, everyAt}
-use Rattle.table.proofs.Own.{at}
 use Rattle.coding.specs.Content.{listed}
 use Rattle.coding.specs.Judging.{flags, agreeing}
 use Rattle.writer.specs.Nodes.{fixedEnd, membersEnd, ownEnd, endAt, Marked}

@@ -15,13 +15,12 @@ use Rattle.octets.specs.Answer.{Answer, got, refused, then, if}
 use Rattle.octets.proofs.Answer.{Holds, yields, refuses, got-holds}
 use Rattle.octets.specs.Lists.{all, joined}
 use Rattle.octets.specs.Numbers.{two}
-use Rattle.octets.proofs.Tests.{test}
+use Rattle.octets.proofs.Tests.{test, at}
 use Rattle.octets.proofs.Lists.{both}
 use Rattle.table.specs.Syntax.{Member, Boolean, Integer, BitString, OctetString, Null, Enumerated, Body, Plain, Sequence, Set, SequenceOf, SetOf, Choice, Table, isChoice, constructed}
 use Rattle.table.specs.Octets.{kind}
 use Rattle.table.specs.Rules.{members}
 use Rattle.table.specs.Reading.{everyAt, membersAt, bodyAt, ownAt, recordAt, look}
-use Rattle.table.proofs.Own.{at}
 use Rattle.coding.specs.Value.{Value, leaf, sequence, set, sequenceOf, setOf, choice, slots, bag, boolean, integer, bits, string, null, enumerated}
 use Rattle.coding.specs.Form.{encode, element, alternatives, formMembers, formElements, formBody, wrap, formAt}
 use Rattle.coding.specs.Tags.{own, explicit}

@@ -12,13 +12,12 @@ use lib.ListN.{length, getD, take, drop, length-drop}
 use lib.Seq.{drop-cons, drop-drop, getD-drop}
 use Rattle.octets.specs.Answer.{Answer, got, refused, if}
 use Rattle.octets.proofs.Answer.{run}
-use Rattle.octets.proofs.Tests.{test}
+use Rattle.octets.proofs.Tests.{test, at}
 use Rattle.octets.specs.Lists.{all, same}
 use Rattle.octets.specs.Numbers.{two}
 use Rattle.ber.specs.BitString.{masked}
 use Rattle.ber.specs.Integer.{integerOf}
 use Rattle.table.specs.Reading.{everyAt}
-use Rattle.table.proofs.Own.{at}
 use Rattle.coding.specs.Value.{boolean, integer, bits, string, enumerated}
 use Rattle.coding.specs.Judging.{Node, a-leaf, a-sequence, a-set, a-sequence-of, a-set-of, a-choice, need, flags, ownMembers, ownCount, ownBoolean, ownInteger, ownString, octetsFor, spareIn, ownBits, ownEnumerated, ownChoice, readOwn, readNode}
 use Rattle.writer.specs.Nodes.{fixedEnd, booleanEnd, stringEnd, clearAt, bitsEnd, membersEnd, ownEnd, endAt, leafOf, nodeOf, nodeAt}

@@ -14,11 +14,10 @@ use Rattle.octets.proofs.Tests.{test}
 use Rattle.octets.specs.Lists.{all}
 use Rattle.octets.specs.Answer.{Answer, got, refused, then, if, none-left}
 use Rattle.octets.proofs.Answer.{run, refused≢got, then-refused}
-use Rattle.octets.proofs.Lists.{both}
 use Rattle.table.specs.Syntax.{Table, Record, isChoice}
-use Rattle.table.specs.Octets.{recordShaped, bodyShaped}
 use Rattle.table.specs.Rules.{missing}
 use Rattle.table.specs.Passes.{Passes}
+use Rattle.table.proofs.Promises.{shaped-classes}
 use Rattle.table.specs.declared.TableCause.the-variants.{NoType}
 use Rattle.coding.specs.Value.{Value}
 use Rattle.coding.specs.Form.{formAt}
@@ -37,13 +36,9 @@ use Rattle.writer.specs.declared.judge.Judged.the-variants.{Done, Refuse
 use Rattle.writer.specs.declared.put.Placed.{Placed}
 
 -- what the check of a table promises of tags
-shaped-classes : (r : Record) → recordShaped r ≡ true → all (λ g. leb (g .class) 3) (r .tags) ≡ true
-unfolding recordShaped
-shaped-classes r e = both (leb (length (r .tags)) 4) _ (both _ (bodyShaped (r .body)) e .0) .1
-
-pub passes-tagged : (T : Table) (n : ℕ) → Passes T n → Tagged T
+pub passes-tagged : (b : List ℕ) (T : Table) (n : ℕ) → Passes b T n → Tagged T
 unfolding isChoice all
-passes-tagged T n p = record { some-tag = λ t e. by t e (isChoice (T t .body)) refl; classes = cls }
+passes-tagged b T n p = record { some-tag = λ t e. by t e (isChoice (T t .body)) refl; classes = cls }
   where
     by : (t : ℕ) → T t .tags ≡ [] → (c : Bool) → isChoice (T t .body) ≡ c → isChoice (T t .body) ≡ true
     by t e true f = f

@@ -43,7 +43,7 @@ fn write_noted(
     lens: &mut [u16],
     buf: &mut [u8],
 ) -> Answer
-    requires { ⌜ Passes (look (now table) (now offsets)) (length (now offsets)) × (t < length (now offsets)) × (length (now value) ≤ 16384) × (length (now value) ≤ 3 * length (now lens)) ⌝ }
+    requires { ⌜ Passes (now table) (look (now table) (now offsets)) (length (now offsets)) × (t < length (now offsets)) × (length (now value) ≤ 16384) × (length (now value) ≤ 3 * length (now lens)) ⌝ }
     ensures { λ r. ⌜ (r ≡ writeOutcome (look (now (table .entry)) (now (offsets .entry))) (length (now (offsets .entry))) t (now (value .entry)) (now (buf .entry)) .answer) × (now (buf .exit) ≡ writeOutcome (look (now (table .entry)) (now (offsets .entry))) (length (now (offsets .entry))) t (now (value .entry)) (now (buf .entry)) .buffer) ⌝ }
 {
     match judge::whole(table, offsets, t, value, lens) {
@@ -66,7 +66,7 @@ fn write_noted(
 
 // Writes a value of type t, by a table that passed. A short value gets few notes, since an array is cleared when it is made.
 fn write_passed(table: &[u8], offsets: &[u16], t: usize, value: &[u8], buf: &mut [u8]) -> Answer
-    requires { ⌜ Passes (look (now table) (now offsets)) (length (now offsets)) ⌝ }
+    requires { ⌜ Passes (now table) (look (now table) (now offsets)) (length (now offsets)) ⌝ }
     ensures { λ r. ⌜ (r ≡ writeOutcome (look (now (table .entry)) (now (offsets .entry))) (length (now (offsets .entry))) t (now (value .entry)) (now (buf .entry)) .answer) × (now (buf .exit) ≡ writeOutcome (look (now (table .entry)) (now (offsets .entry))) (length (now (offsets .entry))) t (now (value .entry)) (now (buf .entry)) .buffer) ⌝ }
 {
     if offsets.len() <= t {

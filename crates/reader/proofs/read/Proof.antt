@@ -3,7 +3,7 @@
 use borrow.Author.Needs.{needs}
 use native.Mathlib.Omega.{arith}
 use Rattle.coding.specs.Calls.{readOutcome, wholeRead}
-use Rattle.coding.proofs.Checked.{out-table, count-within, count-is, few-records, short-table, passed, out-passed}
+use Rattle.coding.proofs.Checked.{out-table, count-within, count-is, passed, out-passed}
 use Rattle.reader.proofs.read.Statement.{statement}
 use Rattle.reader.proofs.read.Tie as tie
 use Rattle.reader.proofs.read.Reads as reads
@@ -21,7 +21,7 @@ read-spec =
     (λ c. search needs)  -- enum-told
     (λ c. let a = c .before .before .before .before .before .before .before .before .args in let b = a .table .now in let k = c .before .before .before .before .check-and-index .result in let x = c .before .before .before .before .check-and-index .ensures in count-within b k x (c .before .enum-told .given .1))  -- array-share-prefix-offsets
     (λ c. let a = c .before .before .before .before .before .before .before .before .before .args in let b = a .table .now in let k = c .before .before .before .before .before .check-and-index .result in let x = c .before .before .before .before .before .check-and-index .ensures in count-is b k x (c .before .before .enum-told .given .1))  -- slice-aggregate-read-passed
-    (λ c κs. let a = c .before .before .before .before .before .before .before .before .before .before .args in let b = a .table .now in let k = c .before .before .before .before .before .before .check-and-index .result in let x = c .before .before .before .before .before .before .check-and-index .ensures in let e = c .before .before .before .enum-told .given .1 in (passed b k x e (λ i. omega (arith, c .before .before .before .before .before .before .before .before .before .shared-slice-known .given i)), few-records b k x e, short-table b k x e))  -- read-passed-requires
+    (λ c κs. let a = c .before .before .before .before .before .before .before .before .before .before .args in let b = a .table .now in let k = c .before .before .before .before .before .before .check-and-index .result in let x = c .before .before .before .before .before .before .check-and-index .ensures in passed b k x (c .before .before .before .enum-told .given .1) (λ i. omega (arith, c .before .before .before .before .before .before .before .before .before .shared-slice-known .given i)))  -- read-passed-requires
     (λ c. let a = c .before .before .before .before .before .before .before .before .args in let b = a .table .now in let k = c .before .before .before .before .check-and-index .result in let x = c .before .before .before .before .check-and-index .ensures in out-table b k x (a .buf .now) (λ T n. readOutcome T n (a .t) (a .message .now) (a .buf .now)) _ (c .before .verdict .given .1))  -- returns
     (λ c. c .before .before .read-passed .kept .1 .1 .1 .1 .0)  -- same-length
     (λ c. let a = c .before .before .before .before .before .before .before .before .before .before .before .before .before .args in let b = a .table .now in let k = c .before .before .before .before .before .before .before .before .before .check-and-index .result in let x = c .before .before .before .before .before .before .before .before .before .check-and-index .ensures in out-passed b k x (c .before .before .before .before .before .before .enum-told .given .1) (a .buf .now) (λ T n. readOutcome T n (a .t) (a .message .now) (a .buf .now)) _ _ (c .before .before .read-passed .ensures)))  -- returns-2

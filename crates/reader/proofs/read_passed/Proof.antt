@@ -14,9 +14,9 @@ pub read-passed-spec : {M : Type 1} → statement M
 read-passed-spec =
     tie.close
     (tie.spec
-    (λ c. c .before .before .before .before .pre .1)  -- array-borrow-prefix-space
-    (λ c. sym (length-take-le (length (c .before .before .before .before .before .args .offsets .now)) (replicate 128 0) (c .before .before .before .before .before .pre .1)))  -- slice-aggregate-firsts
-    (λ c κs. (c .before .before .before .before .before .before .pre .2, length-take-le (length (c .before .before .before .before .before .before .args .offsets .now)) (replicate 128 0) (c .before .before .before .before .before .before .pre .1)))  -- fill-firsts-requires
-    (λ c κs. record { passes = c .before .before .before .before .before .before .before .before .before .before .before .pre .0; few = c .before .before .before .before .before .before .before .before .before .before .before .pre .1; short = c .before .before .before .before .before .before .before .before .before .before .before .pre .2; firsts = c .before .before .before .before .fill-firsts .ensures })  -- read-by-requires
+    (λ c. c .before .before .before .before .pre .few)  -- array-borrow-prefix-space
+    (λ c. sym (length-take-le (length (c .before .before .before .before .before .args .offsets .now)) (replicate 128 0) (c .before .before .before .before .before .pre .few)))  -- slice-aggregate-firsts
+    (λ c κs. (c .before .before .before .before .before .before .pre .short, length-take-le (length (c .before .before .before .before .before .before .args .offsets .now)) (replicate 128 0) (c .before .before .before .before .before .before .pre .few)))  -- fill-firsts-requires
+    (λ c κs. record { passes = c .before .before .before .before .before .before .before .before .before .before .before .pre; firsts = c .before .before .before .before .fill-firsts .ensures })  -- read-by-requires
     (λ c. c .before .before .before .read-by .kept .1 .1 .1 .1 .1 .0)  -- same-length
     (λ c. c .before .before .before .read-by .ensures))  -- returns

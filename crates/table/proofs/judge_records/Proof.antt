@@ -4,7 +4,7 @@ use borrow.Author.Needs.{needs}
 use borrow.Author.Tests.{lt-ltb, le-ltb}
 use lib.ListN.{length}
 use Rattle.table.specs.Reading.{look}
-use Rattle.table.specs.Verdict.{judge}
+use Rattle.table.specs.Verdict.{judgeChoices, judge}
 use Rattle.table.proofs.Judged.{named}
 use Rattle.table.proofs.judge_records.Statement.{statement}
 use Rattle.table.proofs.judge_records.Tie as tie
@@ -15,7 +15,7 @@ use Rattle.table.proofs.references.lowest.Reads as references-lowest-re
 use Rattle.table.proofs.tags.lowest.Reads as tags-lowest-reads
 
 pub judge-records-spec : {M : Type 1} → statement M
-unfolding judge
+unfolding judgeChoices judge
 judge-records-spec =
     tie.close
     (tie.spec

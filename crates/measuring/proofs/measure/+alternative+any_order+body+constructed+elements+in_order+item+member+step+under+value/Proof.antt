@@ -13,7 +13,7 @@ use Rattle.measuring.proofs.Turns.{step-done, value-done}
 use Rattle.measuring.proofs.Under.{alternative-found, alternative-none, found-deep, found-depth, found-lifted, step-found, step-none, told-small, under-deep, under-done, under-none, under-refused}
 use Rattle.message.specs.Answers.{mode, sizes, sizesIn}
 use Rattle.message.specs.Codes.{peeked}
-use Rattle.table.proofs.Pieces.{length-members}
+use Rattle.table.proofs.Promises.{length-members}
 use Rattle.table.specs.Fields.{formOf}
 use Rattle.table.specs.Reading.{look, membersAt, recordAt}
 use denote.Ref.{now}
@@ -250,8 +250,8 @@ pub +alternative+any-order+body+constructed+elements+in-order+item+member+step+u
     (λ c. search needs)  -- alternative-enum-known-record
     (λ c. search needs)  -- alternative-add-under
     (λ c κs. (omega (arith, c .before .before .before .before .before .before .before .before .before .pre .0, found-deep _ _ _ _ _ (c .before .before .before .among .ensures) (c .before .«record» .given .1)), (c .before .before .before .before .before .before .before .before .before .pre .1 .0, c .before .before .before .before .before .before .before .before .before .pre .1 .1, c .before .before .before .before .before .before .before .before .before .pre .1 .2, omega (arith, found-depth _ _ _ _ _ _ _ (c .before .before .before .among .ensures) (c .before .«record» .given .1)), omega (arith, c .before .before .before .before .before .before .before .before .before .pre .1 .3))))  -- alternative-under-requires
-    (λ c. alternative-none (c .before .before .before .before .before .before .before .before .before .pre .1 .0) (λ i. omega (arith, c .before .before .before .before .before .before .before .before .shared-slice-known .given i)) _ (λ i. omega (arith, c .before .before .before .before .before .shared-slice-known4 .given i)) (c .before .before .before .before .before .before .before .before .before .args .at) (c .before .before .before .before .before .before .before .before .before .args .level) _ (c .before .before .before .before .peek .ensures) _ _ (c .before .before .before .among .ensures) (c .before .enum-told .given .1) (c .unawaited .ensures))  -- alternative-returns
-    (λ c. alternative-found (c .before .before .before .before .before .before .before .before .before .before .pre .1 .0) (λ i. omega (arith, c .before .before .before .before .before .before .before .before .before .shared-slice-known .given i)) _ (λ i. omega (arith, c .before .before .before .before .before .before .shared-slice-known4 .given i)) (c .before .before .before .before .before .before .before .before .before .before .args .at) (c .before .before .before .before .before .before .before .before .before .before .args .level) _ (c .before .before .before .before .before .peek .ensures) _ _ (c .before .before .before .before .among .ensures) _ _ (c .before .before .«record» .given .1) (c .under .ensures)))  -- alternative-returns-2
+    (λ c. alternative-none (c .before .before .before .before .before .before .before .before .before .pre .1 .0) _ (λ i. omega (arith, c .before .before .before .before .before .shared-slice-known4 .given i)) (c .before .before .before .before .before .before .before .before .before .args .at) (c .before .before .before .before .before .before .before .before .before .args .level) _ (c .before .before .before .before .peek .ensures) _ _ (c .before .before .before .among .ensures) (c .before .enum-told .given .1) (c .unawaited .ensures))  -- alternative-returns
+    (λ c. alternative-found (c .before .before .before .before .before .before .before .before .before .before .pre .1 .0) _ (λ i. omega (arith, c .before .before .before .before .before .before .shared-slice-known4 .given i)) (c .before .before .before .before .before .before .before .before .before .before .args .at) (c .before .before .before .before .before .before .before .before .before .before .args .level) _ (c .before .before .before .before .before .peek .ensures) _ _ (c .before .before .before .before .among .ensures) _ _ (c .before .before .«record» .given .1) (c .under .ensures)))  -- alternative-returns-2
     (λ t. any-order-lts.spec (
       ending-reads.Asked,
       ending-reads.Learnt,
@@ -290,22 +290,22 @@ pub +alternative+any-order+body+constructed+elements+in-order+item+member+step+u
     (λ c κs. (c .before .before .before .before .before .before .before .before .before .before .before .before .before .before .before .pre .1 .1, omega (arith, c .before .before .before .before .before .before .before .before .before .before .before .before .before .before .before .pre .1 .2, c .before .before .before .before .before .before .before .before .before .loop .inv .2), omega (arith, c .before .before .before .before .before .before .before .before .before .before .before .before .before .before .before .pre .1 .2)))  -- any-order-lacking-requires-2
     (λ c κs. (c .before .before .before .before .before .before .before .before .before .before .before .loop .inv .0, c .before .before .before .before .before .before .before .before .before .before .before .before .before .before .before .before .before .pre .1 .4))  -- any-order-unawaited-requires
     (λ c. c .before .before .before .before .before .before .before .before .before .before .before .before .loop .inv .2 ∙ sym (ap length (c .before .before .before .before .before .before .before .before .before .before .before .before .before .before .before .before .before .before .pre .1 .6)))  -- any-order-same-length-4
-    (λ c. set-unawaited _ _ _ (c .before .before .before .before .before .before .before .before .before .before .before .before .before .before .before .before .before .before .args .marked) _ _ _ _ _ (c .before .before .before .before .before .before .before .before .before .before .before .before .loop .inv .0) (c .before .before .before .before .before .before .before .before .before .before .before .before .loop .inv .3) _ (c .before .before .before .before .before .before .before .before .before .before .before .ending .ensures) _ (begins (c .before .before .before .before .before .before .before .before .before .before .before .before .before .before .before .before .before .before .pre .1 .0) (λ i. c .before .before .before .before .before .before .before .before .before .before .before .before .before .before .before .before .before .shared-slice-known .given i .fits) (now (c .before .before .before .before .before .before .before .before .before .before .before .before .before .before .before .before .before .before .args .m)) (λ i. c .before .before .before .before .before .before .before .before .before .before .before .before .before .before .shared-slice-known4 .given i .fits) (c .before .before .before .before .before .before .before .before .before .before .before .before .loop .at) _ (c .before .before .before .before .before .before .before .before .peek .ensures)) _ (c .before .before .before .before .before .before .awaited .ensures) (c .before .before .before .before .before .before .before .before .before .enum-told .given .1) (c .before .before .before .before .enum-told2 .given .1) (c .before .before .lacking2 .ensures) (c .before .if2 .taken) (c .unawaited .ensures))  -- any-order-returns-4
+    (λ c. set-unawaited _ _ _ (c .before .before .before .before .before .before .before .before .before .before .before .before .before .before .before .before .before .before .args .marked) _ _ _ _ _ (c .before .before .before .before .before .before .before .before .before .before .before .before .loop .inv .0) (c .before .before .before .before .before .before .before .before .before .before .before .before .loop .inv .3) _ (c .before .before .before .before .before .before .before .before .before .before .before .ending .ensures) _ (begins (c .before .before .before .before .before .before .before .before .before .before .before .before .before .before .before .before .before .before .pre .1 .0) (now (c .before .before .before .before .before .before .before .before .before .before .before .before .before .before .before .before .before .before .args .m)) (λ i. c .before .before .before .before .before .before .before .before .before .before .before .before .before .before .shared-slice-known4 .given i .fits) (c .before .before .before .before .before .before .before .before .before .before .before .before .loop .at) _ (c .before .before .before .before .before .before .before .before .peek .ensures)) _ (c .before .before .before .before .before .before .awaited .ensures) (c .before .before .before .before .before .before .before .before .before .enum-told .given .1) (c .before .before .before .before .enum-told2 .given .1) (c .before .before .lacking2 .ensures) (c .before .if2 .taken) (c .unawaited .ensures))  -- any-order-returns-4
     (λ c. c .before .before .before .before .before .before .before .before .before .before .before .loop .inv .2 ∙ sym (ap length (c .before .before .before .before .before .before .before .before .before .before .before .before .before .before .before .before .before .pre .1 .6)))  -- any-order-same-length-5
     (λ c. set-full _ _ _ (c .before .before .before .before .before .before .before .before .before .before .before .before .before .before .before .before .before .args .marked) _ _ _ _ _ (c .before .before .before .before .before .before .before .before .before .before .before .loop .inv .0) (c .before .before .before .before .before .before .before .before .before .before .before .loop .inv .3) _ (c .before .before .before .before .before .before .before .before .before .before .ending .ensures) (c .before .before .before .before .before .before .before .before .enum-told .given .1) (c .before .lacking2 .ensures) (c .if2 .left))  -- any-order-returns-5
     (λ c. search needs)  -- any-order-enum-known-index
-    (λ c κs. (omega (arith, c .before .before .before .before .before .before .before .before .before .before .before .before .before .before .before .pre .0), (c .before .before .before .before .before .before .before .before .before .before .before .before .before .before .before .pre .1 .0, c .before .before .before .before .before .before .before .before .before .loop .inv .0, c .before .before .before .before .before .before .before .before .before .before .before .before .before .before .before .pre .1 .4, omega (arith, set-member _ _ _ (c .before .before .before .before .before .before .before .before .before .before .before .before .before .before .before .args .marked) _ _ _ _ _ (c .before .before .before .before .before .before .before .before .before .loop .inv .0) (c .before .before .before .before .before .before .before .before .before .loop .inv .3) _ (c .before .before .before .before .before .before .before .before .ending .ensures) _ (begins (c .before .before .before .before .before .before .before .before .before .before .before .before .before .before .before .pre .1 .0) (λ i. c .before .before .before .before .before .before .before .before .before .before .before .before .before .before .shared-slice-known .given i .fits) (now (c .before .before .before .before .before .before .before .before .before .before .before .before .before .before .before .args .m)) (λ i. c .before .before .before .before .before .before .before .before .before .before .before .shared-slice-known4 .given i .fits) (c .before .before .before .before .before .before .before .before .before .loop .at) _ (c .before .before .before .before .before .peek .ensures)) _ (c .before .before .before .awaited .ensures) (c .before .before .before .before .before .before .enum-told .given .1) _ _ _ (c .before .index .given .1)), omega (arith, c .before .before .before .before .before .before .before .before .before .before .before .before .before .before .before .pre .1 .5))))  -- any-order-under-requires
+    (λ c κs. (omega (arith, c .before .before .before .before .before .before .before .before .before .before .before .before .before .before .before .pre .0), (c .before .before .before .before .before .before .before .before .before .before .before .before .before .before .before .pre .1 .0, c .before .before .before .before .before .before .before .before .before .loop .inv .0, c .before .before .before .before .before .before .before .before .before .before .before .before .before .before .before .pre .1 .4, omega (arith, set-member _ _ _ (c .before .before .before .before .before .before .before .before .before .before .before .before .before .before .before .args .marked) _ _ _ _ _ (c .before .before .before .before .before .before .before .before .before .loop .inv .0) (c .before .before .before .before .before .before .before .before .before .loop .inv .3) _ (c .before .before .before .before .before .before .before .before .ending .ensures) _ (begins (c .before .before .before .before .before .before .before .before .before .before .before .before .before .before .before .pre .1 .0) (now (c .before .before .before .before .before .before .before .before .before .before .before .before .before .before .before .args .m)) (λ i. c .before .before .before .before .before .before .before .before .before .before .before .shared-slice-known4 .given i .fits) (c .before .before .before .before .before .before .before .before .before .loop .at) _ (c .before .before .before .before .before .peek .ensures)) _ (c .before .before .before .awaited .ensures) (c .before .before .before .before .before .before .enum-told .given .1) _ _ _ (c .before .index .given .1)), omega (arith, c .before .before .before .before .before .before .before .before .before .before .before .before .before .before .before .pre .1 .5))))  -- any-order-under-requires
     (λ c. search needs)  -- any-order-enum-known-cause-2
     (λ c. c .before .before .before .before .before .before .before .before .before .before .before .before .before .loop .inv .2 ∙ sym (ap length (c .before .before .before .before .before .before .before .before .before .before .before .before .before .before .before .before .before .before .before .pre .1 .6)))  -- any-order-same-length-6
-    (λ c. set-refused _ _ _ (c .before .before .before .before .before .before .before .before .before .before .before .before .before .before .before .before .before .before .before .args .marked) _ _ _ _ _ (c .before .before .before .before .before .before .before .before .before .before .before .before .before .loop .inv .0) (c .before .before .before .before .before .before .before .before .before .before .before .before .before .loop .inv .3) _ (c .before .before .before .before .before .before .before .before .before .before .before .before .ending .ensures) _ (begins (c .before .before .before .before .before .before .before .before .before .before .before .before .before .before .before .before .before .before .before .pre .1 .0) (λ i. c .before .before .before .before .before .before .before .before .before .before .before .before .before .before .before .before .before .before .shared-slice-known .given i .fits) (now (c .before .before .before .before .before .before .before .before .before .before .before .before .before .before .before .before .before .before .before .args .m)) (λ i. c .before .before .before .before .before .before .before .before .before .before .before .before .before .before .before .shared-slice-known4 .given i .fits) (c .before .before .before .before .before .before .before .before .before .before .before .before .before .loop .at) _ (c .before .before .before .before .before .before .before .before .before .peek .ensures)) _ (c .before .before .before .before .before .before .before .awaited .ensures) (c .before .before .before .before .before .before .before .before .before .before .enum-told .given .1) _ _ _ (c .before .before .before .before .before .index .given .1) _ (c .before .before .before .under .ensures) _ _ (c .before .cause2 .given .1))  -- any-order-returns-6
+    (λ c. set-refused _ _ _ (c .before .before .before .before .before .before .before .before .before .before .before .before .before .before .before .before .before .before .before .args .marked) _ _ _ _ _ (c .before .before .before .before .before .before .before .before .before .before .before .before .before .loop .inv .0) (c .before .before .before .before .before .before .before .before .before .before .before .before .before .loop .inv .3) _ (c .before .before .before .before .before .before .before .before .before .before .before .before .ending .ensures) _ (begins (c .before .before .before .before .before .before .before .before .before .before .before .before .before .before .before .before .before .before .before .pre .1 .0) (now (c .before .before .before .before .before .before .before .before .before .before .before .before .before .before .before .before .before .before .before .args .m)) (λ i. c .before .before .before .before .before .before .before .before .before .before .before .before .before .before .before .shared-slice-known4 .given i .fits) (c .before .before .before .before .before .before .before .before .before .before .before .before .before .loop .at) _ (c .before .before .before .before .before .before .before .before .before .peek .ensures)) _ (c .before .before .before .before .before .before .before .awaited .ensures) (c .before .before .before .before .before .before .before .before .before .before .enum-told .given .1) _ _ _ (c .before .before .before .before .before .index .given .1) _ (c .before .before .before .under .ensures) _ _ (c .before .cause2 .given .1))  -- any-order-returns-6
     (λ c. search needs)  -- any-order-enum-known-end-2
     (λ c. omega (arith, c .before .before .before .before .before .before .before .before .before .before .before .before .before .loop .inv .0, c .before .before .before .before .before .before .before .before .before .before .before .before .before .before .before .before .before .before .before .pre .1 .4))  -- any-order-add-mark
     (λ c. omega (arith, c .before .before .before .before .before .before .before .before .before .before .before .before .before .loop .inv .0, c .before .before .before .before .before .before .before .before .before .before .before .before .before .before .before .before .before .before .before .pre .1 .4))  -- any-order-cast-began
-    (λ c. omega (arith, rw length-members at (set-member _ _ _ (c .before .before .before .before .before .before .before .before .before .before .before .before .before .before .before .before .before .before .before .args .marked) _ _ _ _ _ (c .before .before .before .before .before .before .before .before .before .before .before .before .before .loop .inv .0) (c .before .before .before .before .before .before .before .before .before .before .before .before .before .loop .inv .3) _ (c .before .before .before .before .before .before .before .before .before .before .before .before .ending .ensures) _ (begins (c .before .before .before .before .before .before .before .before .before .before .before .before .before .before .before .before .before .before .before .pre .1 .0) (λ i. c .before .before .before .before .before .before .before .before .before .before .before .before .before .before .before .before .before .before .shared-slice-known .given i .fits) (now (c .before .before .before .before .before .before .before .before .before .before .before .before .before .before .before .before .before .before .before .args .m)) (λ i. c .before .before .before .before .before .before .before .before .before .before .before .before .before .before .before .shared-slice-known4 .given i .fits) (c .before .before .before .before .before .before .before .before .before .before .before .before .before .loop .at) _ (c .before .before .before .before .before .before .before .before .before .peek .ensures)) _ (c .before .before .before .before .before .before .before .awaited .ensures) (c .before .before .before .before .before .before .before .before .before .before .enum-told .given .1) _ _ _ (c .before .before .before .before .before .index .given .1) .0), c .before .before .before .before .before .before .before .before .before .before .before .before .before .before .before .before .before .before .before .pre .1 .2))  -- any-order-mul-began
-    (λ c. omega (arith, rw length-members at (set-member _ _ _ (c .before .before .before .before .before .before .before .before .before .before .before .before .before .before .before .before .before .before .before .args .marked) _ _ _ _ _ (c .before .before .before .before .before .before .before .before .before .before .before .before .before .loop .inv .0) (c .before .before .before .before .before .before .before .before .before .before .before .before .before .loop .inv .3) _ (c .before .before .before .before .before .before .before .before .before .before .before .before .ending .ensures) _ (begins (c .before .before .before .before .before .before .before .before .before .before .before .before .before .before .before .before .before .before .before .pre .1 .0) (λ i. c .before .before .before .before .before .before .before .before .before .before .before .before .before .before .before .before .before .before .shared-slice-known .given i .fits) (now (c .before .before .before .before .before .before .before .before .before .before .before .before .before .before .before .before .before .before .before .args .m)) (λ i. c .before .before .before .before .before .before .before .before .before .before .before .before .before .before .before .shared-slice-known4 .given i .fits) (c .before .before .before .before .before .before .before .before .before .before .before .before .before .loop .at) _ (c .before .before .before .before .before .before .before .before .before .peek .ensures)) _ (c .before .before .before .before .before .before .before .awaited .ensures) (c .before .before .before .before .before .before .before .before .before .before .enum-told .given .1) _ _ _ (c .before .before .before .before .before .index .given .1) .0), c .before .before .before .before .before .before .before .before .before .before .before .before .before .before .before .before .before .before .before .pre .1 .2, c .before .before .before .before .before .before .before .before .before .before .before .before .before .loop .inv .2))  -- any-order-slice-write-began
-    (λ c κs. (c .before .before .before .before .before .before .before .before .before .before .before .before .before .loop .inv .1, set-further _ _ _ (c .before .before .before .before .before .before .before .before .before .before .before .before .before .before .before .before .before .before .before .args .marked) _ _ _ _ _ (c .before .before .before .before .before .before .before .before .before .before .before .before .before .loop .inv .0) (c .before .before .before .before .before .before .before .before .before .before .before .before .before .loop .inv .3) _ (c .before .before .before .before .before .before .before .before .before .before .before .before .ending .ensures) _ (begins (c .before .before .before .before .before .before .before .before .before .before .before .before .before .before .before .before .before .before .before .pre .1 .0) (λ i. c .before .before .before .before .before .before .before .before .before .before .before .before .before .before .before .before .before .before .shared-slice-known .given i .fits) (now (c .before .before .before .before .before .before .before .before .before .before .before .before .before .before .before .before .before .before .before .args .m)) (λ i. c .before .before .before .before .before .before .before .before .before .before .before .before .before .before .before .shared-slice-known4 .given i .fits) (c .before .before .before .before .before .before .before .before .before .before .before .before .before .loop .at) _ (c .before .before .before .before .before .before .before .before .before .peek .ensures)) _ (c .before .before .before .before .before .before .before .awaited .ensures) (c .before .before .before .before .before .before .before .before .before .before .enum-told .given .1) _ _ _ (c .before .before .before .before .before .index .given .1) _ (c .before .before .before .under .ensures) _ _ (c .before .end2 .given .1) .2))  -- any-order-grow-requires
-    (λ c. omega (arith, set-further _ _ _ (c .before .before .before .before .before .before .before .before .before .before .before .before .before .before .before .before .before .before .before .before .args .marked) _ _ _ _ _ (c .before .before .before .before .before .before .before .before .before .before .before .before .before .before .loop .inv .0) (c .before .before .before .before .before .before .before .before .before .before .before .before .before .before .loop .inv .3) _ (c .before .before .before .before .before .before .before .before .before .before .before .before .before .ending .ensures) _ (begins (c .before .before .before .before .before .before .before .before .before .before .before .before .before .before .before .before .before .before .before .before .pre .1 .0) (λ i. c .before .before .before .before .before .before .before .before .before .before .before .before .before .before .before .before .before .before .before .shared-slice-known .given i .fits) (now (c .before .before .before .before .before .before .before .before .before .before .before .before .before .before .before .before .before .before .before .before .args .m)) (λ i. c .before .before .before .before .before .before .before .before .before .before .before .before .before .before .before .before .shared-slice-known4 .given i .fits) (c .before .before .before .before .before .before .before .before .before .before .before .before .before .before .loop .at) _ (c .before .before .before .before .before .before .before .before .before .before .peek .ensures)) _ (c .before .before .before .before .before .before .before .before .awaited .ensures) (c .before .before .before .before .before .before .before .before .before .before .before .enum-told .given .1) _ _ _ (c .before .before .before .before .before .before .index .given .1) _ (c .before .before .before .before .under .ensures) _ _ (c .before .before .end2 .given .1)))  -- any-order-loop-less
-    (λ c. (set-further _ _ _ (c .before .before .before .before .before .before .before .before .before .before .before .before .before .before .before .before .before .before .before .before .args .marked) _ _ _ _ _ (c .before .before .before .before .before .before .before .before .before .before .before .before .before .before .loop .inv .0) (c .before .before .before .before .before .before .before .before .before .before .before .before .before .before .loop .inv .3) _ (c .before .before .before .before .before .before .before .before .before .before .before .before .before .ending .ensures) _ (begins (c .before .before .before .before .before .before .before .before .before .before .before .before .before .before .before .before .before .before .before .before .pre .1 .0) (λ i. c .before .before .before .before .before .before .before .before .before .before .before .before .before .before .before .before .before .before .before .shared-slice-known .given i .fits) (now (c .before .before .before .before .before .before .before .before .before .before .before .before .before .before .before .before .before .before .before .before .args .m)) (λ i. c .before .before .before .before .before .before .before .before .before .before .before .before .before .before .before .before .shared-slice-known4 .given i .fits) (c .before .before .before .before .before .before .before .before .before .before .before .before .before .before .loop .at) _ (c .before .before .before .before .before .before .before .before .before .before .peek .ensures)) _ (c .before .before .before .before .before .before .before .before .awaited .ensures) (c .before .before .before .before .before .before .before .before .before .before .before .enum-told .given .1) _ _ _ (c .before .before .before .before .before .before .index .given .1) _ (c .before .before .before .before .under .ensures) _ _ (c .before .before .end2 .given .1) .1, omega (arith, c .grow .ensures), rw length-set (c .before .before .before .before .before .before .before .before .before .before .before .before .before .before .loop .inv .2), rw (c .grow .ensures) (set-turn _ _ _ (c .before .before .before .before .before .before .before .before .before .before .before .before .before .before .before .before .before .before .before .before .args .marked) _ _ _ _ _ (c .before .before .before .before .before .before .before .before .before .before .before .before .before .before .loop .inv .0) (c .before .before .before .before .before .before .before .before .before .before .before .before .before .before .loop .inv .3) _ (c .before .before .before .before .before .before .before .before .before .before .before .before .before .ending .ensures) _ (begins (c .before .before .before .before .before .before .before .before .before .before .before .before .before .before .before .before .before .before .before .before .pre .1 .0) (λ i. c .before .before .before .before .before .before .before .before .before .before .before .before .before .before .before .before .before .before .before .shared-slice-known .given i .fits) (now (c .before .before .before .before .before .before .before .before .before .before .before .before .before .before .before .before .before .before .before .before .args .m)) (λ i. c .before .before .before .before .before .before .before .before .before .before .before .before .before .before .before .before .shared-slice-known4 .given i .fits) (c .before .before .before .before .before .before .before .before .before .before .before .before .before .before .loop .at) _ (c .before .before .before .before .before .before .before .before .before .before .peek .ensures)) _ (c .before .before .before .before .before .before .before .before .awaited .ensures) (c .before .before .before .before .before .before .before .before .before .before .before .enum-told .given .1) _ _ _ (c .before .before .before .before .before .before .index .given .1) _ (c .before .before .before .before .under .ensures) _ _ (c .before .before .end2 .given .1)))))  -- any-order-loop-again
+    (λ c. omega (arith, rw length-members at (set-member _ _ _ (c .before .before .before .before .before .before .before .before .before .before .before .before .before .before .before .before .before .before .before .args .marked) _ _ _ _ _ (c .before .before .before .before .before .before .before .before .before .before .before .before .before .loop .inv .0) (c .before .before .before .before .before .before .before .before .before .before .before .before .before .loop .inv .3) _ (c .before .before .before .before .before .before .before .before .before .before .before .before .ending .ensures) _ (begins (c .before .before .before .before .before .before .before .before .before .before .before .before .before .before .before .before .before .before .before .pre .1 .0) (now (c .before .before .before .before .before .before .before .before .before .before .before .before .before .before .before .before .before .before .before .args .m)) (λ i. c .before .before .before .before .before .before .before .before .before .before .before .before .before .before .before .shared-slice-known4 .given i .fits) (c .before .before .before .before .before .before .before .before .before .before .before .before .before .loop .at) _ (c .before .before .before .before .before .before .before .before .before .peek .ensures)) _ (c .before .before .before .before .before .before .before .awaited .ensures) (c .before .before .before .before .before .before .before .before .before .before .enum-told .given .1) _ _ _ (c .before .before .before .before .before .index .given .1) .0), c .before .before .before .before .before .before .before .before .before .before .before .before .before .before .before .before .before .before .before .pre .1 .2))  -- any-order-mul-began
+    (λ c. omega (arith, rw length-members at (set-member _ _ _ (c .before .before .before .before .before .before .before .before .before .before .before .before .before .before .before .before .before .before .before .args .marked) _ _ _ _ _ (c .before .before .before .before .before .before .before .before .before .before .before .before .before .loop .inv .0) (c .before .before .before .before .before .before .before .before .before .before .before .before .before .loop .inv .3) _ (c .before .before .before .before .before .before .before .before .before .before .before .before .ending .ensures) _ (begins (c .before .before .before .before .before .before .before .before .before .before .before .before .before .before .before .before .before .before .before .pre .1 .0) (now (c .before .before .before .before .before .before .before .before .before .before .before .before .before .before .before .before .before .before .before .args .m)) (λ i. c .before .before .before .before .before .before .before .before .before .before .before .before .before .before .before .shared-slice-known4 .given i .fits) (c .before .before .before .before .before .before .before .before .before .before .before .before .before .loop .at) _ (c .before .before .before .before .before .before .before .before .before .peek .ensures)) _ (c .before .before .before .before .before .before .before .awaited .ensures) (c .before .before .before .before .before .before .before .before .before .before .enum-told .given .1) _ _ _ (c .before .before .before .before .before .index .given .1) .0), c .before .before .before .before .before .before .before .before .before .before .before .before .before .before .before .before .before .before .before .pre .1 .2, c .before .before .before .before .before .before .before .before .before .before .before .before .before .loop .inv .2))  -- any-order-slice-write-began
+    (λ c κs. (c .before .before .before .before .before .before .before .before .before .before .before .before .before .loop .inv .1, set-further _ _ _ (c .before .before .before .before .before .before .before .before .before .before .before .before .before .before .before .before .before .before .before .args .marked) _ _ _ _ _ (c .before .before .before .before .before .before .before .before .before .before .before .before .before .loop .inv .0) (c .before .before .before .before .before .before .before .before .before .before .before .before .before .loop .inv .3) _ (c .before .before .before .before .before .before .before .before .before .before .before .before .ending .ensures) _ (begins (c .before .before .before .before .before .before .before .before .before .before .before .before .before .before .before .before .before .before .before .pre .1 .0) (now (c .before .before .before .before .before .before .before .before .before .before .before .before .before .before .before .before .before .before .before .args .m)) (λ i. c .before .before .before .before .before .before .before .before .before .before .before .before .before .before .before .shared-slice-known4 .given i .fits) (c .before .before .before .before .before .before .before .before .before .before .before .before .before .loop .at) _ (c .before .before .before .before .before .before .before .before .before .peek .ensures)) _ (c .before .before .before .before .before .before .before .awaited .ensures) (c .before .before .before .before .before .before .before .before .before .before .enum-told .given .1) _ _ _ (c .before .before .before .before .before .index .given .1) _ (c .before .before .before .under .ensures) _ _ (c .before .end2 .given .1) .2))  -- any-order-grow-requires
+    (λ c. omega (arith, set-further _ _ _ (c .before .before .before .before .before .before .before .before .before .before .before .before .before .before .before .before .before .before .before .before .args .marked) _ _ _ _ _ (c .before .before .before .before .before .before .before .before .before .before .before .before .before .before .loop .inv .0) (c .before .before .before .before .before .before .before .before .before .before .before .before .before .before .loop .inv .3) _ (c .before .before .before .before .before .before .before .before .before .before .before .before .before .ending .ensures) _ (begins (c .before .before .before .before .before .before .before .before .before .before .before .before .before .before .before .before .before .before .before .before .pre .1 .0) (now (c .before .before .before .before .before .before .before .before .before .before .before .before .before .before .before .before .before .before .before .before .args .m)) (λ i. c .before .before .before .before .before .before .before .before .before .before .before .before .before .before .before .before .shared-slice-known4 .given i .fits) (c .before .before .before .before .before .before .before .before .before .before .before .before .before .before .loop .at) _ (c .before .before .before .before .before .before .before .before .before .before .peek .ensures)) _ (c .before .before .before .before .before .before .before .before .awaited .ensures) (c .before .before .before .before .before .before .before .before .before .before .before .enum-told .given .1) _ _ _ (c .before .before .before .before .before .before .index .given .1) _ (c .before .before .before .before .under .ensures) _ _ (c .before .before .end2 .given .1)))  -- any-order-loop-less
+    (λ c. (set-further _ _ _ (c .before .before .before .before .before .before .before .before .before .before .before .before .before .before .before .before .before .before .before .before .args .marked) _ _ _ _ _ (c .before .before .before .before .before .before .before .before .before .before .before .before .before .before .loop .inv .0) (c .before .before .before .before .before .before .before .before .before .before .before .before .before .before .loop .inv .3) _ (c .before .before .before .before .before .before .before .before .before .before .before .before .before .ending .ensures) _ (begins (c .before .before .before .before .before .before .before .before .before .before .before .before .before .before .before .before .before .before .before .before .pre .1 .0) (now (c .before .before .before .before .before .before .before .before .before .before .before .before .before .before .before .before .before .before .before .before .args .m)) (λ i. c .before .before .before .before .before .before .before .before .before .before .before .before .before .before .before .before .shared-slice-known4 .given i .fits) (c .before .before .before .before .before .before .before .before .before .before .before .before .before .before .loop .at) _ (c .before .before .before .before .before .before .before .before .before .before .peek .ensures)) _ (c .before .before .before .before .before .before .before .before .awaited .ensures) (c .before .before .before .before .before .before .before .before .before .before .before .enum-told .given .1) _ _ _ (c .before .before .before .before .before .before .index .given .1) _ (c .before .before .before .before .under .ensures) _ _ (c .before .before .end2 .given .1) .1, omega (arith, c .grow .ensures), rw length-set (c .before .before .before .before .before .before .before .before .before .before .before .before .before .before .loop .inv .2), rw (c .grow .ensures) (set-turn _ _ _ (c .before .before .before .before .before .before .before .before .before .before .before .before .before .before .before .before .before .before .before .before .args .marked) _ _ _ _ _ (c .before .before .before .before .before .before .before .before .before .before .before .before .before .before .loop .inv .0) (c .before .before .before .before .before .before .before .before .before .before .before .before .before .before .loop .inv .3) _ (c .before .before .before .before .before .before .before .before .before .before .before .before .before .ending .ensures) _ (begins (c .before .before .before .before .before .before .before .before .before .before .before .before .before .before .before .before .before .before .before .before .pre .1 .0) (now (c .before .before .before .before .before .before .before .before .before .before .before .before .before .before .before .before .before .before .before .before .args .m)) (λ i. c .before .before .before .before .before .before .before .before .before .before .before .before .before .before .before .before .shared-slice-known4 .given i .fits) (c .before .before .before .before .before .before .before .before .before .before .before .before .before .before .loop .at) _ (c .before .before .before .before .before .before .before .before .before .before .peek .ensures)) _ (c .before .before .before .before .before .before .before .before .awaited .ensures) (c .before .before .before .before .before .before .before .before .before .before .before .enum-told .given .1) _ _ _ (c .before .before .before .before .before .before .index .given .1) _ (c .before .before .before .before .under .ensures) _ _ (c .before .before .end2 .given .1)))))  -- any-order-loop-again
     (λ t. body-lts.spec (
       own-reads.Asked,
       own-reads.Learnt,
@@ -428,26 +428,26 @@ pub +alternative+any-order+body+constructed+elements+in-order+item+member+step+u
     (λ c κs. let d = found-under _ _ _ _ _ _ _ (c .before .before .before .seek .ensures) (c .before .«record» .given .1) in (omega (arith, c .before .before .before .before .before .before .before .before .before .before .before .before .before .pre .0), (c .before .before .before .before .before .before .before .before .before .before .before .before .before .pre .1 .0, c .before .before .before .before .before .before .loop .inv .1, c .before .before .before .before .before .before .before .before .before .before .before .before .before .pre .1 .4, omega arith, omega (arith, c .before .before .before .before .before .before .before .before .before .before .before .before .before .pre .1 .5))))  -- in-order-member-requires
     (λ c. search needs)  -- in-order-enum-known-cause
     (λ c. c .before .before .before .before .before .before .before .before .before .before .loop .inv .3)  -- in-order-same-length
-    (λ c. pass-refused _ _ _ _ _ (c .before .before .before .before .before .before .before .before .before .before .before .before .before .before .before .before .before .args .marked) _ _ _ _ _ _ (c .before .before .before .before .before .before .before .before .before .before .loop .inv .1) (c .before .before .before .before .before .before .before .before .before .before .loop .inv .5) (c .before .before .before .before .before .before .before .before .before .loop-test .taken) _ (c .before .before .before .before .before .before .before .before .octet .ensures .0) _ _ _ (is-begun (c .before .before .before .before .before .before .before .before .before .before .before .before .before .before .before .before .before .pre .1 .0) (λ i. c .before .before .before .before .before .before .before .before .before .before .before .before .before .before .before .before .shared-slice-known .given i .fits) (now (c .before .before .before .before .before .before .before .before .before .before .before .before .before .before .before .before .before .args .m)) (λ i. c .before .before .before .before .before .before .before .before .before .before .before .before .before .shared-slice-known4 .given i .fits) (c .before .before .before .before .before .before .before .before .before .before .loop .at) (c .before .before .before .before .before .before .before .before .octet .result) (c .before .before .before .before .before .before .before .before .before .before .loop .code) (c .before .before .before .before .before .before .before .before .before .before .loop .inv .4) _ (c .before .before .before .before .before .before .before .seek .ensures) _ _ (c .before .before .before .before .before .«record» .given .1)) (c .before .before .before .member .ensures ∙ sym (found-lifted (c .before .before .before .before .before .before .before .before .before .before .before .before .before .before .before .before .before .pre .1 .0) (λ i. c .before .before .before .before .before .before .before .before .before .before .before .before .before .before .before .before .shared-slice-known .given i .fits) (now (c .before .before .before .before .before .before .before .before .before .before .before .before .before .before .before .before .before .args .m)) (λ i. c .before .before .before .before .before .before .before .before .before .before .before .before .before .shared-slice-known4 .given i .fits) (c .before .before .before .before .before .before .before .before .before .before .loop .at) (c .before .before .before .before .before .before .before .before .before .before .before .before .before .before .before .before .before .args .level) (c .before .before .before .before .before .before .before .before .before .before .loop .code) (c .before .before .before .before .before .before .before .before .before .before .loop .inv .4) _ (c .before .before .before .before .before .before .before .before .octet .result) (c .before .before .before .before .before .before .before .seek .ensures) _ _ (c .before .before .before .before .before .«record» .given .1))) (c .before .cause .given .1))  -- in-order-returns
+    (λ c. pass-refused _ _ _ _ _ (c .before .before .before .before .before .before .before .before .before .before .before .before .before .before .before .before .before .args .marked) _ _ _ _ _ _ (c .before .before .before .before .before .before .before .before .before .before .loop .inv .1) (c .before .before .before .before .before .before .before .before .before .before .loop .inv .5) (c .before .before .before .before .before .before .before .before .before .loop-test .taken) _ (c .before .before .before .before .before .before .before .before .octet .ensures .0) _ _ _ (is-begun (c .before .before .before .before .before .before .before .before .before .before .before .before .before .before .before .before .before .pre .1 .0) (now (c .before .before .before .before .before .before .before .before .before .before .before .before .before .before .before .before .before .args .m)) (λ i. c .before .before .before .before .before .before .before .before .before .before .before .before .before .shared-slice-known4 .given i .fits) (c .before .before .before .before .before .before .before .before .before .before .loop .at) (c .before .before .before .before .before .before .before .before .octet .result) (c .before .before .before .before .before .before .before .before .before .before .loop .code) (c .before .before .before .before .before .before .before .before .before .before .loop .inv .4) _ (c .before .before .before .before .before .before .before .seek .ensures) _ _ (c .before .before .before .before .before .«record» .given .1)) (c .before .before .before .member .ensures ∙ sym (found-lifted (c .before .before .before .before .before .before .before .before .before .before .before .before .before .before .before .before .before .pre .1 .0) (now (c .before .before .before .before .before .before .before .before .before .before .before .before .before .before .before .before .before .args .m)) (λ i. c .before .before .before .before .before .before .before .before .before .before .before .before .before .shared-slice-known4 .given i .fits) (c .before .before .before .before .before .before .before .before .before .before .loop .at) (c .before .before .before .before .before .before .before .before .before .before .before .before .before .before .before .before .before .args .level) (c .before .before .before .before .before .before .before .before .before .before .loop .code) (c .before .before .before .before .before .before .before .before .before .before .loop .inv .4) _ (c .before .before .before .before .before .before .before .before .octet .result) (c .before .before .before .before .before .before .before .seek .ensures) _ _ (c .before .before .before .before .before .«record» .given .1))) (c .before .cause .given .1))  -- in-order-returns
     (λ c. search needs)  -- in-order-enum-known-end
     (λ c. search needs)  -- in-order-add-mark
     (λ c. search needs)  -- in-order-cast-began
     (λ c. search needs)  -- in-order-mul-began
     (λ c. let l : length (now (c .before .before .before .before .before .before .before .before .before .before .before .before .before .before .before .before .before .args .began)) ≡ 16 = ap length (c .before .before .before .before .before .before .before .before .before .before .before .before .before .before .before .before .before .pre .1 .6) in omega (arith, c .before .before .before .before .before .before .before .before .before .before .loop .inv .3, c .before .before .before .before .before .before .before .before .before .loop-test .taken, c .before .before .before .before .before .before .before .before .before .before .before .before .before .before .before .before .before .pre .1 .2))  -- in-order-slice-write-began
-    (λ c κs. let v = value-done _ _ _ _ _ (c .before .before .before .before .before .before .before .before .before .before .loop .inv .1) _ _ _ (is-begun (c .before .before .before .before .before .before .before .before .before .before .before .before .before .before .before .before .before .pre .1 .0) (λ i. c .before .before .before .before .before .before .before .before .before .before .before .before .before .before .before .before .shared-slice-known .given i .fits) (now (c .before .before .before .before .before .before .before .before .before .before .before .before .before .before .before .before .before .args .m)) (λ i. c .before .before .before .before .before .before .before .before .before .before .before .before .before .shared-slice-known4 .given i .fits) (c .before .before .before .before .before .before .before .before .before .before .loop .at) (c .before .before .before .before .before .before .before .before .octet .result) (c .before .before .before .before .before .before .before .before .before .before .loop .code) (c .before .before .before .before .before .before .before .before .before .before .loop .inv .4) _ (c .before .before .before .before .before .before .before .seek .ensures) _ _ (c .before .before .before .before .before .«record» .given .1)) (c .before .before .before .member .ensures ∙ sym (found-lifted (c .before .before .before .before .before .before .before .before .before .before .before .before .before .before .before .before .before .pre .1 .0) (λ i. c .before .before .before .before .before .before .before .before .before .before .before .before .before .before .before .before .shared-slice-known .given i .fits) (now (c .before .before .before .before .before .before .before .before .before .before .before .before .before .before .before .before .before .args .m)) (λ i. c .before .before .before .before .before .before .before .before .before .before .before .before .before .shared-slice-known4 .given i .fits) (c .before .before .before .before .before .before .before .before .before .before .loop .at) (c .before .before .before .before .before .before .before .before .before .before .before .before .before .before .before .before .before .args .level) (c .before .before .before .before .before .before .before .before .before .before .loop .code) (c .before .before .before .before .before .before .before .before .before .before .loop .inv .4) _ (c .before .before .before .before .before .before .before .before .octet .result) (c .before .before .before .before .before .before .before .seek .ensures) _ _ (c .before .before .before .before .before .«record» .given .1))) (c .before .end .given .1) in (c .before .before .before .before .before .before .before .before .before .before .loop .inv .2, rw (v .sized) (cap-below _)))  -- in-order-grow-requires
-    (λ c κs. let v = value-done _ _ _ _ _ (c .before .before .before .before .before .before .before .before .before .before .before .loop .inv .1) _ _ _ (is-begun (c .before .before .before .before .before .before .before .before .before .before .before .before .before .before .before .before .before .before .pre .1 .0) (λ i. c .before .before .before .before .before .before .before .before .before .before .before .before .before .before .before .before .before .shared-slice-known .given i .fits) (now (c .before .before .before .before .before .before .before .before .before .before .before .before .before .before .before .before .before .before .args .m)) (λ i. c .before .before .before .before .before .before .before .before .before .before .before .before .before .before .shared-slice-known4 .given i .fits) (c .before .before .before .before .before .before .before .before .before .before .before .loop .at) (c .before .before .before .before .before .before .before .before .before .octet .result) (c .before .before .before .before .before .before .before .before .before .before .before .loop .code) (c .before .before .before .before .before .before .before .before .before .before .before .loop .inv .4) _ (c .before .before .before .before .before .before .before .before .seek .ensures) _ _ (c .before .before .before .before .before .before .«record» .given .1)) (c .before .before .before .before .member .ensures ∙ sym (found-lifted (c .before .before .before .before .before .before .before .before .before .before .before .before .before .before .before .before .before .before .pre .1 .0) (λ i. c .before .before .before .before .before .before .before .before .before .before .before .before .before .before .before .before .before .shared-slice-known .given i .fits) (now (c .before .before .before .before .before .before .before .before .before .before .before .before .before .before .before .before .before .before .args .m)) (λ i. c .before .before .before .before .before .before .before .before .before .before .before .before .before .before .shared-slice-known4 .given i .fits) (c .before .before .before .before .before .before .before .before .before .before .before .loop .at) (c .before .before .before .before .before .before .before .before .before .before .before .before .before .before .before .before .before .before .args .level) (c .before .before .before .before .before .before .before .before .before .before .before .loop .code) (c .before .before .before .before .before .before .before .before .before .before .before .loop .inv .4) _ (c .before .before .before .before .before .before .before .before .before .octet .result) (c .before .before .before .before .before .before .before .before .seek .ensures) _ _ (c .before .before .before .before .before .before .«record» .given .1))) (c .before .before .end .given .1) in (v .within, c .before .before .before .before .before .before .before .before .before .before .before .before .before .before .before .before .before .before .pre .1 .4))  -- in-order-peek-requires-2
+    (λ c κs. let v = value-done _ _ _ _ _ (c .before .before .before .before .before .before .before .before .before .before .loop .inv .1) _ _ _ (is-begun (c .before .before .before .before .before .before .before .before .before .before .before .before .before .before .before .before .before .pre .1 .0) (now (c .before .before .before .before .before .before .before .before .before .before .before .before .before .before .before .before .before .args .m)) (λ i. c .before .before .before .before .before .before .before .before .before .before .before .before .before .shared-slice-known4 .given i .fits) (c .before .before .before .before .before .before .before .before .before .before .loop .at) (c .before .before .before .before .before .before .before .before .octet .result) (c .before .before .before .before .before .before .before .before .before .before .loop .code) (c .before .before .before .before .before .before .before .before .before .before .loop .inv .4) _ (c .before .before .before .before .before .before .before .seek .ensures) _ _ (c .before .before .before .before .before .«record» .given .1)) (c .before .before .before .member .ensures ∙ sym (found-lifted (c .before .before .before .before .before .before .before .before .before .before .before .before .before .before .before .before .before .pre .1 .0) (now (c .before .before .before .before .before .before .before .before .before .before .before .before .before .before .before .before .before .args .m)) (λ i. c .before .before .before .before .before .before .before .before .before .before .before .before .before .shared-slice-known4 .given i .fits) (c .before .before .before .before .before .before .before .before .before .before .loop .at) (c .before .before .before .before .before .before .before .before .before .before .before .before .before .before .before .before .before .args .level) (c .before .before .before .before .before .before .before .before .before .before .loop .code) (c .before .before .before .before .before .before .before .before .before .before .loop .inv .4) _ (c .before .before .before .before .before .before .before .before .octet .result) (c .before .before .before .before .before .before .before .seek .ensures) _ _ (c .before .before .before .before .before .«record» .given .1))) (c .before .end .given .1) in (c .before .before .before .before .before .before .before .before .before .before .loop .inv .2, rw (v .sized) (cap-below _)))  -- in-order-grow-requires
+    (λ c κs. let v = value-done _ _ _ _ _ (c .before .before .before .before .before .before .before .before .before .before .before .loop .inv .1) _ _ _ (is-begun (c .before .before .before .before .before .before .before .before .before .before .before .before .before .before .before .before .before .before .pre .1 .0) (now (c .before .before .before .before .before .before .before .before .before .before .before .before .before .before .before .before .before .before .args .m)) (λ i. c .before .before .before .before .before .before .before .before .before .before .before .before .before .before .shared-slice-known4 .given i .fits) (c .before .before .before .before .before .before .before .before .before .before .before .loop .at) (c .before .before .before .before .before .before .before .before .before .octet .result) (c .before .before .before .before .before .before .before .before .before .before .before .loop .code) (c .before .before .before .before .before .before .before .before .before .before .before .loop .inv .4) _ (c .before .before .before .before .before .before .before .before .seek .ensures) _ _ (c .before .before .before .before .before .before .«record» .given .1)) (c .before .before .before .before .member .ensures ∙ sym (found-lifted (c .before .before .before .before .before .before .before .before .before .before .before .before .before .before .before .before .before .before .pre .1 .0) (now (c .before .before .before .before .before .before .before .before .before .before .before .before .before .before .before .before .before .before .args .m)) (λ i. c .before .before .before .before .before .before .before .before .before .before .before .before .before .before .shared-slice-known4 .given i .fits) (c .before .before .before .before .before .before .before .before .before .before .before .loop .at) (c .before .before .before .before .before .before .before .before .before .before .before .before .before .before .before .before .before .before .args .level) (c .before .before .before .before .before .before .before .before .before .before .before .loop .code) (c .before .before .before .before .before .before .before .before .before .before .before .loop .inv .4) _ (c .before .before .before .before .before .before .before .before .before .octet .result) (c .before .before .before .before .before .before .before .before .seek .ensures) _ _ (c .before .before .before .before .before .before .«record» .given .1))) (c .before .before .end .given .1) in (v .within, c .before .before .before .before .before .before .before .before .before .before .before .before .before .before .before .before .before .before .pre .1 .4))  -- in-order-peek-requires-2
     (λ c. omega (arith, c .before .before .before .before .before .before .before .before .before .before .before .loop-test .taken, c .before .before .before .before .before .before .before .before .before .before .before .before .before .before .before .before .before .before .before .pre .1 .2))  -- in-order-add-j
     (λ c. search needs)  -- in-order-loop-less
-    (λ c. let v = value-done _ _ _ _ _ (c .before .before .before .before .before .before .before .before .before .before .before .before .loop .inv .1) _ _ _ (is-begun (c .before .before .before .before .before .before .before .before .before .before .before .before .before .before .before .before .before .before .before .pre .1 .0) (λ i. c .before .before .before .before .before .before .before .before .before .before .before .before .before .before .before .before .before .before .shared-slice-known .given i .fits) (now (c .before .before .before .before .before .before .before .before .before .before .before .before .before .before .before .before .before .before .before .args .m)) (λ i. c .before .before .before .before .before .before .before .before .before .before .before .before .before .before .before .shared-slice-known4 .given i .fits) (c .before .before .before .before .before .before .before .before .before .before .before .before .loop .at) (c .before .before .before .before .before .before .before .before .before .before .octet .result) (c .before .before .before .before .before .before .before .before .before .before .before .before .loop .code) (c .before .before .before .before .before .before .before .before .before .before .before .before .loop .inv .4) _ (c .before .before .before .before .before .before .before .before .before .seek .ensures) _ _ (c .before .before .before .before .before .before .before .«record» .given .1)) (c .before .before .before .before .before .member .ensures ∙ sym (found-lifted (c .before .before .before .before .before .before .before .before .before .before .before .before .before .before .before .before .before .before .before .pre .1 .0) (λ i. c .before .before .before .before .before .before .before .before .before .before .before .before .before .before .before .before .before .before .shared-slice-known .given i .fits) (now (c .before .before .before .before .before .before .before .before .before .before .before .before .before .before .before .before .before .before .before .args .m)) (λ i. c .before .before .before .before .before .before .before .before .before .before .before .before .before .before .before .shared-slice-known4 .given i .fits) (c .before .before .before .before .before .before .before .before .before .before .before .before .loop .at) (c .before .before .before .before .before .before .before .before .before .before .before .before .before .before .before .before .before .before .before .args .level) (c .before .before .before .before .before .before .before .before .before .before .before .before .loop .code) (c .before .before .before .before .before .before .before .before .before .before .before .before .loop .inv .4) _ (c .before .before .before .before .before .before .before .before .before .before .octet .result) (c .before .before .before .before .before .before .before .before .before .seek .ensures) _ _ (c .before .before .before .before .before .before .before .«record» .given .1))) (c .before .before .before .end .given .1) in let l : length (now (c .before .before .before .before .before .before .before .before .before .before .before .before .before .before .before .before .before .before .before .args .began)) ≡ 16 = ap length (c .before .before .before .before .before .before .before .before .before .before .before .before .before .before .before .before .before .before .before .pre .1 .6) in (omega (arith, c .before .before .before .before .before .before .before .before .before .before .before .loop-test .taken), v .within, rw (c .before .grow .ensures) (cap-below _), rw length-set (c .before .before .before .before .before .before .before .before .before .before .before .before .loop .inv .3), c .peek2 .ensures, rw (c .before .grow .ensures) (pass-came _ _ _ _ _ (c .before .before .before .before .before .before .before .before .before .before .before .before .before .before .before .before .before .before .before .args .marked) _ _ _ _ _ _ (c .before .before .before .before .before .before .before .before .before .before .before .before .loop .inv .1) (c .before .before .before .before .before .before .before .before .before .before .before .before .loop .inv .5) (c .before .before .before .before .before .before .before .before .before .before .before .loop-test .taken) _ (c .before .before .before .before .before .before .before .before .before .before .octet .ensures .0) _ _ (omega (arith, c .before .before .before .before .before .before .before .before .before .before .before .before .loop .inv .3, c .before .before .before .before .before .before .before .before .before .before .before .loop-test .taken, c .before .before .before .before .before .before .before .before .before .before .before .before .before .before .before .before .before .before .before .pre .1 .2)) v)))  -- in-order-loop-again
+    (λ c. let v = value-done _ _ _ _ _ (c .before .before .before .before .before .before .before .before .before .before .before .before .loop .inv .1) _ _ _ (is-begun (c .before .before .before .before .before .before .before .before .before .before .before .before .before .before .before .before .before .before .before .pre .1 .0) (now (c .before .before .before .before .before .before .before .before .before .before .before .before .before .before .before .before .before .before .before .args .m)) (λ i. c .before .before .before .before .before .before .before .before .before .before .before .before .before .before .before .shared-slice-known4 .given i .fits) (c .before .before .before .before .before .before .before .before .before .before .before .before .loop .at) (c .before .before .before .before .before .before .before .before .before .before .octet .result) (c .before .before .before .before .before .before .before .before .before .before .before .before .loop .code) (c .before .before .before .before .before .before .before .before .before .before .before .before .loop .inv .4) _ (c .before .before .before .before .before .before .before .before .before .seek .ensures) _ _ (c .before .before .before .before .before .before .before .«record» .given .1)) (c .before .before .before .before .before .member .ensures ∙ sym (found-lifted (c .before .before .before .before .before .before .before .before .before .before .before .before .before .before .before .before .before .before .before .pre .1 .0) (now (c .before .before .before .before .before .before .before .before .before .before .before .before .before .before .before .before .before .before .before .args .m)) (λ i. c .before .before .before .before .before .before .before .before .before .before .before .before .before .before .before .shared-slice-known4 .given i .fits) (c .before .before .before .before .before .before .before .before .before .before .before .before .loop .at) (c .before .before .before .before .before .before .before .before .before .before .before .before .before .before .before .before .before .before .before .args .level) (c .before .before .before .before .before .before .before .before .before .before .before .before .loop .code) (c .before .before .before .before .before .before .before .before .before .before .before .before .loop .inv .4) _ (c .before .before .before .before .before .before .before .before .before .before .octet .result) (c .before .before .before .before .before .before .before .before .before .seek .ensures) _ _ (c .before .before .before .before .before .before .before .«record» .given .1))) (c .before .before .before .end .given .1) in let l : length (now (c .before .before .before .before .before .before .before .before .before .before .before .before .before .before .before .before .before .before .before .args .began)) ≡ 16 = ap length (c .before .before .before .before .before .before .before .before .before .before .before .before .before .before .before .before .before .before .before .pre .1 .6) in (omega (arith, c .before .before .before .before .before .before .before .before .before .before .before .loop-test .taken), v .within, rw (c .before .grow .ensures) (cap-below _), rw length-set (c .before .before .before .before .before .before .before .before .before .before .before .before .loop .inv .3), c .peek2 .ensures, rw (c .before .grow .ensures) (pass-came _ _ _ _ _ (c .before .before .before .before .before .before .before .before .before .before .before .before .before .before .before .before .before .before .before .args .marked) _ _ _ _ _ _ (c .before .before .before .before .before .before .before .before .before .before .before .before .loop .inv .1) (c .before .before .before .before .before .before .before .before .before .before .before .before .loop .inv .5) (c .before .before .before .before .before .before .before .before .before .before .before .loop-test .taken) _ (c .before .before .before .before .before .before .before .before .before .before .octet .ensures .0) _ _ (omega (arith, c .before .before .before .before .before .before .before .before .before .before .before .before .loop .inv .3, c .before .before .before .before .before .before .before .before .before .before .before .loop-test .taken, c .before .before .before .before .before .before .before .before .before .before .before .before .before .before .before .before .before .before .before .pre .1 .2)) v)))  -- in-order-loop-again
     (λ c. search needs)  -- in-order-enum-told
     (λ c. search needs)  -- in-order-add-f
     (λ c κs. search needs)  -- in-order-octet-requires-2
     (λ c κs. (c .before .before .before .before .before .before .before .loop .inv .1, c .before .before .before .before .before .before .before .before .before .before .before .before .before .before .pre .1 .4))  -- in-order-missing-requires
     (λ c. c .before .before .before .before .before .before .before .before .loop .inv .3)  -- in-order-same-length-2
-    (λ c. pass-missing _ _ _ _ _ (c .before .before .before .before .before .before .before .before .before .before .before .before .before .before .before .args .marked) _ _ _ _ _ _ (c .before .before .before .before .before .before .before .before .loop .inv .1) (c .before .before .before .before .before .before .before .before .loop .inv .5) (c .before .before .before .before .before .before .before .loop-test .taken) _ (c .before .before .before .before .before .before .octet .ensures .0) (not-begun (c .before .before .before .before .before .before .before .before .before .before .before .before .before .before .before .pre .1 .0) (λ i. c .before .before .before .before .before .before .before .before .before .before .before .before .before .before .shared-slice-known .given i .fits) (now (c .before .before .before .before .before .before .before .before .before .before .before .before .before .before .before .args .m)) (λ i. c .before .before .before .before .before .before .before .before .before .before .before .shared-slice-known4 .given i .fits) (c .before .before .before .before .before .before .before .before .loop .at) (c .before .before .before .before .before .before .octet .result) (c .before .before .before .before .before .before .before .before .loop .code) (c .before .before .before .before .before .before .before .before .loop .inv .4) _ (c .before .before .before .before .before .seek .ensures) (c .before .before .before .enum-told .given .1)) (λ e. c .before .if1 .taken (c .before .before .octet2 .ensures .0 ∙ e)) _ (c .missing .ensures))  -- in-order-returns-2
+    (λ c. pass-missing _ _ _ _ _ (c .before .before .before .before .before .before .before .before .before .before .before .before .before .before .before .args .marked) _ _ _ _ _ _ (c .before .before .before .before .before .before .before .before .loop .inv .1) (c .before .before .before .before .before .before .before .before .loop .inv .5) (c .before .before .before .before .before .before .before .loop-test .taken) _ (c .before .before .before .before .before .before .octet .ensures .0) (not-begun (c .before .before .before .before .before .before .before .before .before .before .before .before .before .before .before .pre .1 .0) (now (c .before .before .before .before .before .before .before .before .before .before .before .before .before .before .before .args .m)) (λ i. c .before .before .before .before .before .before .before .before .before .before .before .shared-slice-known4 .given i .fits) (c .before .before .before .before .before .before .before .before .loop .at) (c .before .before .before .before .before .before .octet .result) (c .before .before .before .before .before .before .before .before .loop .code) (c .before .before .before .before .before .before .before .before .loop .inv .4) _ (c .before .before .before .before .before .seek .ensures) (c .before .before .before .enum-told .given .1)) (λ e. c .before .if1 .taken (c .before .before .octet2 .ensures .0 ∙ e)) _ (c .missing .ensures))  -- in-order-returns-2
     (λ c. omega (arith, c .before .before .before .before .before .before .loop-test .taken, c .before .before .before .before .before .before .before .before .before .before .before .before .before .before .pre .1 .2))  -- in-order-add-j-2
     (λ c. search needs)  -- in-order-loop-less-2
-    (λ c. let l : length (now (c .before .before .before .before .before .before .before .before .before .before .before .before .before .before .args .began)) ≡ 16 = ap length (c .before .before .before .before .before .before .before .before .before .before .before .before .before .before .pre .1 .6) in (omega (arith, c .before .before .before .before .before .before .loop-test .taken), c .before .before .before .before .before .before .before .loop .inv .1, c .before .before .before .before .before .before .before .loop .inv .2, c .before .before .before .before .before .before .before .loop .inv .3, c .before .before .before .before .before .before .before .loop .inv .4, pass-over _ _ _ _ _ (c .before .before .before .before .before .before .before .before .before .before .before .before .before .before .args .marked) _ _ _ _ _ _ (c .before .before .before .before .before .before .before .loop .inv .1) (c .before .before .before .before .before .before .before .loop .inv .5) (c .before .before .before .before .before .before .loop-test .taken) _ (c .before .before .before .before .before .octet .ensures .0) (omega (arith, c .before .before .before .before .before .before .before .loop .inv .3, c .before .before .before .before .before .before .loop-test .taken, c .before .before .before .before .before .before .before .before .before .before .before .before .before .before .pre .1 .2)) (not-begun (c .before .before .before .before .before .before .before .before .before .before .before .before .before .before .pre .1 .0) (λ i. c .before .before .before .before .before .before .before .before .before .before .before .before .before .shared-slice-known .given i .fits) (now (c .before .before .before .before .before .before .before .before .before .before .before .before .before .before .args .m)) (λ i. c .before .before .before .before .before .before .before .before .before .before .shared-slice-known4 .given i .fits) (c .before .before .before .before .before .before .before .loop .at) (c .before .before .before .before .before .octet .result) (c .before .before .before .before .before .before .before .loop .code) (c .before .before .before .before .before .before .before .loop .inv .4) _ (c .before .before .before .before .seek .ensures) (c .before .before .enum-told .given .1)) (sym (c .before .octet2 .ensures .0) ∙ c .if1 .left)))  -- in-order-loop-again-2
+    (λ c. let l : length (now (c .before .before .before .before .before .before .before .before .before .before .before .before .before .before .args .began)) ≡ 16 = ap length (c .before .before .before .before .before .before .before .before .before .before .before .before .before .before .pre .1 .6) in (omega (arith, c .before .before .before .before .before .before .loop-test .taken), c .before .before .before .before .before .before .before .loop .inv .1, c .before .before .before .before .before .before .before .loop .inv .2, c .before .before .before .before .before .before .before .loop .inv .3, c .before .before .before .before .before .before .before .loop .inv .4, pass-over _ _ _ _ _ (c .before .before .before .before .before .before .before .before .before .before .before .before .before .before .args .marked) _ _ _ _ _ _ (c .before .before .before .before .before .before .before .loop .inv .1) (c .before .before .before .before .before .before .before .loop .inv .5) (c .before .before .before .before .before .before .loop-test .taken) _ (c .before .before .before .before .before .octet .ensures .0) (omega (arith, c .before .before .before .before .before .before .before .loop .inv .3, c .before .before .before .before .before .before .loop-test .taken, c .before .before .before .before .before .before .before .before .before .before .before .before .before .before .pre .1 .2)) (not-begun (c .before .before .before .before .before .before .before .before .before .before .before .before .before .before .pre .1 .0) (now (c .before .before .before .before .before .before .before .before .before .before .before .before .before .before .args .m)) (λ i. c .before .before .before .before .before .before .before .before .before .before .shared-slice-known4 .given i .fits) (c .before .before .before .before .before .before .before .loop .at) (c .before .before .before .before .before .octet .result) (c .before .before .before .before .before .before .before .loop .code) (c .before .before .before .before .before .before .before .loop .inv .4) _ (c .before .before .before .before .seek .ensures) (c .before .before .enum-told .given .1)) (sym (c .before .octet2 .ensures .0) ∙ c .if1 .left)))  -- in-order-loop-again-2
     (λ c κs. (c .before .loop .inv .1, c .before .before .before .before .before .before .before .before .pre .1 .4))  -- in-order-ending-requires
     (λ c. search needs)  -- in-order-enum-known-end-2
     (λ c. search needs)  -- in-order-enum-known-cause-2
@@ -488,12 +488,12 @@ pub +alternative+any-order+body+constructed+elements+in-order+item+member+step+u
     (λ c. search needs)  -- item-enum-told-2
     (λ c κs. (c .before .before .before .before .before .before .before .before .before .pre .1 .0, c .before .before .before .before .offset .ensures))  -- item-code-of-requires
     (λ c κs. (ap formOf (sym (c .before .before .before .before .kind .ensures .0)) ∙ sym (c .before .before .before .form-of .ensures) ∙ c .before .enum-told2 .given .1, c .before .before .before .before .before .before .before .before .before .before .pre .1 .1, c .before .before .before .before .before .before .before .before .before .before .pre .1 .2))  -- item-simple-requires
-    (λ c. rw (item-plain (now (c .before .before .before .before .before .before .before .before .before .before .before .args .table)) (now (c .before .before .before .before .before .before .before .before .before .before .before .args .offsets)) (c .before .before .before .before .before .before .before .before .before .before .before .args .level) (c .before .before .before .before .before .before .before .before .before .before .before .args .t) (c .before .before .before .before .before .before .offset .result) (c .before .before .before .before .before .kind .result) (c .before .code-of .result) (drop (c .before .before .before .before .before .before .before .before .before .before .before .args .at) (now (c .before .before .before .before .before .before .before .before .before .before .before .args .m))) (c .before .before .before .before .form-of .result) (c .before .before .before .before .before .before .offset .ensures) (c .before .before .before .before .before .kind .ensures .0) (c .before .before .before .before .form-of .ensures) (c .before .before .enum-told2 .given .1) (headed (c .before .before .before .before .before .before .before .before .before .before .before .pre .1 .0) (λ i. c .before .before .before .before .before .before .before .before .before .before .shared-slice-known .given i .fits) (now (c .before .before .before .before .before .before .before .before .before .before .before .args .m)) (λ i. c .before .before .before .before .before .before .before .shared-slice-known4 .given i .fits) (c .before .before .before .before .before .before .before .before .before .before .before .args .at) (c .before .before .before .before .before .before .before .before .before .before .before .args .t) (c .before .before .before .before .before .before .offset .result) (c .before .code-of .result) (c .before .before .before .before .before .before .offset .ensures) (c .before .code-of .ensures))) (c .simple .ensures))  -- item-returns-2
+    (λ c. rw (item-plain (now (c .before .before .before .before .before .before .before .before .before .before .before .args .table)) (now (c .before .before .before .before .before .before .before .before .before .before .before .args .offsets)) (c .before .before .before .before .before .before .before .before .before .before .before .args .level) (c .before .before .before .before .before .before .before .before .before .before .before .args .t) (c .before .before .before .before .before .before .offset .result) (c .before .before .before .before .before .kind .result) (c .before .code-of .result) (drop (c .before .before .before .before .before .before .before .before .before .before .before .args .at) (now (c .before .before .before .before .before .before .before .before .before .before .before .args .m))) (c .before .before .before .before .form-of .result) (c .before .before .before .before .before .before .offset .ensures) (c .before .before .before .before .before .kind .ensures .0) (c .before .before .before .before .form-of .ensures) (c .before .before .enum-told2 .given .1) (headed (c .before .before .before .before .before .before .before .before .before .before .before .pre .1 .0) (now (c .before .before .before .before .before .before .before .before .before .before .before .args .m)) (λ i. c .before .before .before .before .before .before .before .shared-slice-known4 .given i .fits) (c .before .before .before .before .before .before .before .before .before .before .before .args .at) (c .before .before .before .before .before .before .before .before .before .before .before .args .t) (c .before .before .before .before .before .before .offset .result) (c .before .code-of .result) (c .before .before .before .before .before .before .offset .ensures) (c .before .code-of .ensures))) (c .simple .ensures))  -- item-returns-2
     (λ c. search needs)  -- item-enum-told-3
     (λ c. search needs)  -- item-enum-told-4
     (λ c κs. (c .before .before .before .before .before .before .before .before .pre .1 .0, c .before .before .before .offset .ensures))  -- item-code-of-requires-2
     (λ c κs. (omega (arith, c .before .before .before .before .before .before .before .before .before .pre .0), (c .before .before .before .before .before .before .before .before .before .pre .1 .0, shaped-at (c .before .before .before .before .before .before .before .before .before .pre .1 .0) _ _ (c .before .before .before .before .offset .ensures), c .before .before .before .before .before .before .before .before .before .pre .1 .1, c .before .before .before .before .before .before .before .before .before .pre .1 .2, c .before .before .before .before .before .before .before .before .before .pre .1 .3)))  -- item-constructed-requires
-    (λ c. rw (⊎-elim (λ g. item-members (now (c .before .before .before .before .before .before .before .before .before .before .args .table)) (now (c .before .before .before .before .before .before .before .before .before .before .args .offsets)) (c .before .before .before .before .before .before .before .before .before .before .args .level) (c .before .before .before .before .before .before .before .before .before .before .args .t) (c .before .before .before .before .before .offset .result) (c .before .before .before .before .kind .result) (drop (c .before .before .before .before .before .before .before .before .before .before .args .at) (now (c .before .before .before .before .before .before .before .before .before .before .args .m))) (c .before .before .before .form-of .result) (c .before .before .before .before .before .offset .ensures) (c .before .before .before .before .kind .ensures .0) (c .before .before .before .form-of .ensures) (c .before .code-of2 .result) (headed (c .before .before .before .before .before .before .before .before .before .before .pre .1 .0) (λ i. c .before .before .before .before .before .before .before .before .before .shared-slice-known .given i .fits) (now (c .before .before .before .before .before .before .before .before .before .before .args .m)) (λ i. c .before .before .before .before .before .before .shared-slice-known4 .given i .fits) (c .before .before .before .before .before .before .before .before .before .before .args .at) (c .before .before .before .before .before .before .before .before .before .before .args .t) (c .before .before .before .before .before .offset .result) (c .before .code-of2 .result) (c .before .before .before .before .before .offset .ensures) (c .before .code-of2 .ensures)) (g .1 .given .1)) (λ g. item-of (now (c .before .before .before .before .before .before .before .before .before .before .args .table)) (now (c .before .before .before .before .before .before .before .before .before .before .args .offsets)) (c .before .before .before .before .before .before .before .before .before .before .args .level) (c .before .before .before .before .before .before .before .before .before .before .args .t) (c .before .before .before .before .before .offset .result) (c .before .before .before .before .kind .result) (drop (c .before .before .before .before .before .before .before .before .before .before .args .at) (now (c .before .before .before .before .before .before .before .before .before .before .args .m))) (c .before .before .before .form-of .result) (c .before .before .before .before .before .offset .ensures) (c .before .before .before .before .kind .ensures .0) (c .before .before .before .form-of .ensures) (c .before .code-of2 .result) (headed (c .before .before .before .before .before .before .before .before .before .before .pre .1 .0) (λ i. c .before .before .before .before .before .before .before .before .before .shared-slice-known .given i .fits) (now (c .before .before .before .before .before .before .before .before .before .before .args .m)) (λ i. c .before .before .before .before .before .before .shared-slice-known4 .given i .fits) (c .before .before .before .before .before .before .before .before .before .before .args .at) (c .before .before .before .before .before .before .before .before .before .before .args .t) (c .before .before .before .before .before .offset .result) (c .before .code-of2 .result) (c .before .before .before .before .before .offset .ensures) (c .before .code-of2 .ensures)) (g .1 .given .1)) (c .before .before .match .came)) (c .constructed .ensures)))  -- item-returns-3
+    (λ c. rw (⊎-elim (λ g. item-members (now (c .before .before .before .before .before .before .before .before .before .before .args .table)) (now (c .before .before .before .before .before .before .before .before .before .before .args .offsets)) (c .before .before .before .before .before .before .before .before .before .before .args .level) (c .before .before .before .before .before .before .before .before .before .before .args .t) (c .before .before .before .before .before .offset .result) (c .before .before .before .before .kind .result) (drop (c .before .before .before .before .before .before .before .before .before .before .args .at) (now (c .before .before .before .before .before .before .before .before .before .before .args .m))) (c .before .before .before .form-of .result) (c .before .before .before .before .before .offset .ensures) (c .before .before .before .before .kind .ensures .0) (c .before .before .before .form-of .ensures) (c .before .code-of2 .result) (headed (c .before .before .before .before .before .before .before .before .before .before .pre .1 .0) (now (c .before .before .before .before .before .before .before .before .before .before .args .m)) (λ i. c .before .before .before .before .before .before .shared-slice-known4 .given i .fits) (c .before .before .before .before .before .before .before .before .before .before .args .at) (c .before .before .before .before .before .before .before .before .before .before .args .t) (c .before .before .before .before .before .offset .result) (c .before .code-of2 .result) (c .before .before .before .before .before .offset .ensures) (c .before .code-of2 .ensures)) (g .1 .given .1)) (λ g. item-of (now (c .before .before .before .before .before .before .before .before .before .before .args .table)) (now (c .before .before .before .before .before .before .before .before .before .before .args .offsets)) (c .before .before .before .before .before .before .before .before .before .before .args .level) (c .before .before .before .before .before .before .before .before .before .before .args .t) (c .before .before .before .before .before .offset .result) (c .before .before .before .before .kind .result) (drop (c .before .before .before .before .before .before .before .before .before .before .args .at) (now (c .before .before .before .before .before .before .before .before .before .before .args .m))) (c .before .before .before .form-of .result) (c .before .before .before .before .before .offset .ensures) (c .before .before .before .before .kind .ensures .0) (c .before .before .before .form-of .ensures) (c .before .code-of2 .result) (headed (c .before .before .before .before .before .before .before .before .before .before .pre .1 .0) (now (c .before .before .before .before .before .before .before .before .before .before .args .m)) (λ i. c .before .before .before .before .before .before .shared-slice-known4 .given i .fits) (c .before .before .before .before .before .before .before .before .before .before .args .at) (c .before .before .before .before .before .before .before .before .before .before .args .t) (c .before .before .before .before .before .offset .result) (c .before .code-of2 .result) (c .before .before .before .before .before .offset .ensures) (c .before .code-of2 .ensures)) (g .1 .given .1)) (c .before .before .match .came)) (c .constructed .ensures)))  -- item-returns-3
     (λ t. member-lts.spec (
       offset-reads.Asked,
       offset-reads.Learnt,
@@ -512,7 +512,7 @@ pub +alternative+any-order+body+constructed+elements+in-order+item+member+step+u
     (λ c κs. search needs)  -- member-is-plain-requires
     (λ c κs. search needs)  -- member-first-requires
     (λ c κs. (c .before .before .is-plain .ensures (c .before .if3 .taken) .1, c .before .before .before .before .before .before .before .before .before .before .pre .1 .1, c .before .before .before .before .before .before .before .before .before .before .pre .1 .2))  -- member-simple-requires
-    (λ c. under-none (look (now (c .before .before .before .before .before .before .before .before .before .before .before .args .table)) (now (c .before .before .before .before .before .before .before .before .before .before .before .args .offsets))) (now (c .before .before .before .before .before .before .before .before .before .before .before .args .m)) (c .before .before .before .before .before .before .before .before .before .before .before .args .at) (c .before .before .before .before .before .before .before .before .before .before .before .args .level) (c .before .before .before .before .before .before .before .before .before .before .before .args .t) (c .before .before .before .before .before .before .before .before .before .before .before .args .depth) (c .before .before .before .before .before .before .if1 .taken) (c .before .before .before .before .before .if2 .taken) _ (rw (plain-value (c .before .before .before .before .before .before .before .before .before .before .before .pre .1 .0) (λ i. c .before .before .before .before .before .before .before .before .before .before .shared-slice-known .given i .fits) (now (c .before .before .before .before .before .before .before .before .before .before .before .args .m)) (λ i. c .before .before .before .before .before .before .before .shared-slice-known4 .given i .fits) (c .before .before .before .before .before .before .before .before .before .before .before .args .at) (c .before .before .before .before .before .before .before .before .before .before .before .args .level) (c .before .before .before .before .before .before .before .before .before .before .before .args .t) (c .before .before .before .before .offset .result) (c .before .first .result) (c .before .before .before .before .offset .ensures) (c .before .before .before .before .before .if2 .taken) (c .before .before .before .is-plain .ensures (c .before .before .if3 .taken) .0) (c .before .before .before .is-plain .ensures (c .before .before .if3 .taken) .1) (c .before .first .ensures .0)) (c .simple .ensures)))  -- member-returns
+    (λ c. under-none (look (now (c .before .before .before .before .before .before .before .before .before .before .before .args .table)) (now (c .before .before .before .before .before .before .before .before .before .before .before .args .offsets))) (now (c .before .before .before .before .before .before .before .before .before .before .before .args .m)) (c .before .before .before .before .before .before .before .before .before .before .before .args .at) (c .before .before .before .before .before .before .before .before .before .before .before .args .level) (c .before .before .before .before .before .before .before .before .before .before .before .args .t) (c .before .before .before .before .before .before .before .before .before .before .before .args .depth) (c .before .before .before .before .before .before .if1 .taken) (c .before .before .before .before .before .if2 .taken) _ (rw (plain-value (c .before .before .before .before .before .before .before .before .before .before .before .pre .1 .0) (now (c .before .before .before .before .before .before .before .before .before .before .before .args .m)) (λ i. c .before .before .before .before .before .before .before .shared-slice-known4 .given i .fits) (c .before .before .before .before .before .before .before .before .before .before .before .args .at) (c .before .before .before .before .before .before .before .before .before .before .before .args .level) (c .before .before .before .before .before .before .before .before .before .before .before .args .t) (c .before .before .before .before .offset .result) (c .before .first .result) (c .before .before .before .before .offset .ensures) (c .before .before .before .before .before .if2 .taken) (c .before .before .before .is-plain .ensures (c .before .before .if3 .taken) .0) (c .before .before .before .is-plain .ensures (c .before .before .if3 .taken) .1) (c .before .first .ensures .0)) (c .simple .ensures)))  -- member-returns
     (λ c κs. (omega (arith, c .before .before .before .before .before .pre .0), (c .before .before .before .before .before .pre .1 .0, c .before .before .before .before .before .pre .1 .1, c .before .before .before .before .before .pre .1 .2, c .before .before .before .before .before .pre .1 .3, c .before .before .before .before .before .pre .1 .4)))  -- member-under-requires
     (λ c. c .under .ensures))  -- member-returns-2
     (λ t. step-lts.spec (
@@ -533,8 +533,8 @@ pub +alternative+any-order+body+constructed+elements+in-order+item+member+step+u
     (λ c κs. search needs)  -- step-unawaited-requires
     (λ c. search needs)  -- step-enum-known-record
     (λ c κs. (omega (arith, c .before .before .before .before .before .before .before .before .before .pre .0), (c .before .before .before .before .before .before .before .before .before .pre .1 .0, c .before .before .before .before .before .before .before .before .before .pre .1 .1, c .before .before .before .before .before .before .before .before .before .pre .1 .2, omega (arith, found-under _ _ _ _ _ _ _ (c .before .before .before .seek .ensures) (c .before .«record» .given .1)), omega (arith, c .before .before .before .before .before .before .before .before .before .pre .1 .3))))  -- step-under-requires
-    (λ c. step-none (c .before .before .before .before .before .before .before .before .before .pre .1 .0) (λ i. omega (arith, c .before .before .before .before .before .before .before .before .shared-slice-known .given i)) _ (λ i. omega (arith, c .before .before .before .before .before .shared-slice-known4 .given i)) (c .before .before .before .before .before .before .before .before .before .args .at) (c .before .before .before .before .before .before .before .before .before .args .level) _ (c .before .before .before .before .peek .ensures) _ _ (c .before .before .before .seek .ensures) (c .before .enum-told .given .1) (c .unawaited .ensures))  -- step-returns
-    (λ c. step-found (c .before .before .before .before .before .before .before .before .before .before .pre .1 .0) (λ i. omega (arith, c .before .before .before .before .before .before .before .before .before .shared-slice-known .given i)) _ (λ i. omega (arith, c .before .before .before .before .before .before .shared-slice-known4 .given i)) (c .before .before .before .before .before .before .before .before .before .before .args .at) (c .before .before .before .before .before .before .before .before .before .before .args .level) _ (c .before .before .before .before .before .peek .ensures) _ _ (c .before .before .before .before .seek .ensures) _ _ (c .before .before .«record» .given .1) (c .under .ensures)))  -- step-returns-2
+    (λ c. step-none (c .before .before .before .before .before .before .before .before .before .pre .1 .0) _ (λ i. omega (arith, c .before .before .before .before .before .shared-slice-known4 .given i)) (c .before .before .before .before .before .before .before .before .before .args .at) (c .before .before .before .before .before .before .before .before .before .args .level) _ (c .before .before .before .before .peek .ensures) _ _ (c .before .before .before .seek .ensures) (c .before .enum-told .given .1) (c .unawaited .ensures))  -- step-returns
+    (λ c. step-found (c .before .before .before .before .before .before .before .before .before .before .pre .1 .0) _ (λ i. omega (arith, c .before .before .before .before .before .before .shared-slice-known4 .given i)) (c .before .before .before .before .before .before .before .before .before .before .args .at) (c .before .before .before .before .before .before .before .before .before .before .args .level) _ (c .before .before .before .before .before .peek .ensures) _ _ (c .before .before .before .before .seek .ensures) _ _ (c .before .before .«record» .given .1) (c .under .ensures)))  -- step-returns-2
     (λ t. under-lts.spec
     (value-below t, value.Post, grow-reads.Asked, grow-reads.Learnt)
     (under-at t)
@@ -572,7 +572,7 @@ pub +alternative+any-order+body+constructed+elements+in-order+item+member+step+u
     (λ c κs. search needs)  -- value-is-plain-requires
     (λ c κs. search needs)  -- value-first-requires
     (λ c κs. (c .before .before .is-plain .ensures (c .before .if1 .taken) .1, c .before .before .before .before .before .before .before .before .pre .1 .1, c .before .before .before .before .before .before .before .before .pre .1 .2))  -- value-simple-requires
-    (λ c. rw (plain-value (c .before .before .before .before .before .before .before .before .before .pre .1 .0) (λ i. c .before .before .before .before .before .before .before .before .shared-slice-known .given i .fits) (now (c .before .before .before .before .before .before .before .before .before .args .m)) (λ i. c .before .before .before .before .before .shared-slice-known4 .given i .fits) (c .before .before .before .before .before .before .before .before .before .args .at) (c .before .before .before .before .before .before .before .before .before .args .level) (c .before .before .before .before .before .before .before .before .before .args .t) (c .before .before .before .before .offset .result) (c .before .first .result) (c .before .before .before .before .offset .ensures) (c .before .before .before .before .before .before .before .before .before .pre .1 .3) (c .before .before .before .is-plain .ensures (c .before .before .if1 .taken) .0) (c .before .before .before .is-plain .ensures (c .before .before .if1 .taken) .1) (c .before .first .ensures .0)) (c .simple .ensures))  -- value-returns
+    (λ c. rw (plain-value (c .before .before .before .before .before .before .before .before .before .pre .1 .0) (now (c .before .before .before .before .before .before .before .before .before .args .m)) (λ i. c .before .before .before .before .before .shared-slice-known4 .given i .fits) (c .before .before .before .before .before .before .before .before .before .args .at) (c .before .before .before .before .before .before .before .before .before .args .level) (c .before .before .before .before .before .before .before .before .before .args .t) (c .before .before .before .before .offset .result) (c .before .first .result) (c .before .before .before .before .offset .ensures) (c .before .before .before .before .before .before .before .before .before .pre .1 .3) (c .before .before .before .is-plain .ensures (c .before .before .if1 .taken) .0) (c .before .before .before .is-plain .ensures (c .before .before .if1 .taken) .1) (c .before .first .ensures .0)) (c .simple .ensures))  -- value-returns
     (λ c κs. search needs)  -- value-explicit-count-requires
     (λ c. omega (arith, c .before .before .before .before .before .before .before .before .pre .1 .3))  -- value-sub-below
     (λ c. refl)  -- value-slice-aggregate-open

@@ -1,5 +1,5 @@
 use mathlib.Core.List.{[]}
-use Rattle.table.proofs.Fields.{choice-by}
+use Rattle.table.proofs.Promises.{choice-by}
 use borrow.Author.Needs.{needs}
 use Rattle.message.proofs.first.is_choice.Statement.{statement}
 use Rattle.message.proofs.first.is_choice.Tie as tie

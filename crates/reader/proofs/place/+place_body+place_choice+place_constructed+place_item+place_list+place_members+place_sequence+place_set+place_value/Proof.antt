@@ -288,23 +288,23 @@ pub +place-body+place-choice+place-constructed+place-item+place-list+place-membe
     (λ c. let parts′ = c .parts in let s = c .before .before .before .before .before .before .before in (omega arith, parts′ .ensures .few, parts′ .ensures .close, omega (arith, parts′ .ensures .near), refl, choose-first (look (now (s .args .table)) (now (s .args .offsets))) (readValue (look (now (s .args .table)) (now (s .args .offsets))) (s .args .level)) (drop (s .args .at) (now (s .args .m))) _ _ _ _ _ (parts′ .ensures .is)))  -- place-choice-loop-holds
     (λ c κs. search needs)  -- place-choice-octet-requires
     (λ c κs. (c .before .before .before .before .before .before .before .before .before .before .pre .1 .0) .firsts)  -- place-choice-starts-requires
-    (λ c κs. let l = c .before .before .before .before .before .loop in let s = c .before .before .before .before .before .before .before .before .before .before .before .before .before in let parts′ = c .before .before .before .before .before .before .parts in let octet′ = c .before .before .before .octet in rw (l .inv .4) (omega (arith, chosen-room (look (now (s .args .table)) (now (s .args .offsets))) (s .args .level) (drop (s .args .at) (now (s .args .m))) (now (s .args .table)) (parts′ .result .step) (l .p) (parts′ .result .count) (l .j) (octet′ .result) (s .args .to) (now (s .args .buf)) _ (s .pre .1 .4) (l .inv .5) (c .before .before .before .before .loop-test .taken) (octet′ .ensures .0) ((starts-begun (s .pre .1 .0) (λ i. c .before .before .before .before .before .before .before .before .before .before .before .before .shared-slice-known .given i .fits) (now (s .args .m)) (λ i. c .before .before .before .before .before .before .before .before .before .shared-slice-known4 .given i .fits) (s .args .at) _ _ (c .before .before .before .before .before .before .before .peek .ensures) _ (c .before .before .starts .ensures)) ∙ c .before .if1 .taken))))  -- place-choice-begin-node-requires
-    (λ c. let s = c .before .before .before .before .before .before .before .before .before .before .before .before .before .before .before .before in let parts′ = c .before .before .before .before .before .before .before .before .before .parts in let l = c .before .before .before .before .before .before .before .before .loop in let octet′ = c .before .before .before .before .before .before .octet in omega (arith, chosen-room (look (now (s .args .table)) (now (s .args .offsets))) (s .args .level) (drop (s .args .at) (now (s .args .m))) (now (s .args .table)) (parts′ .result .step) (l .p) (parts′ .result .count) (l .j) (octet′ .result) (s .args .to) (now (s .args .buf)) _ (s .pre .1 .4) (l .inv .5) (c .before .before .before .before .before .before .before .loop-test .taken) (octet′ .ensures .0) ((starts-begun (s .pre .1 .0) (λ i. c .before .before .before .before .before .before .before .before .before .before .before .before .before .before .before .shared-slice-known .given i .fits) (now (s .args .m)) (λ i. c .before .before .before .before .before .before .before .before .before .before .before .before .shared-slice-known4 .given i .fits) (s .args .at) _ _ (c .before .before .before .before .before .before .before .before .before .before .peek .ensures) _ (c .before .before .before .before .before .starts .ensures)) ∙ c .before .before .before .before .if1 .taken), (s .pre .1 .4) .small))  -- place-choice-add-q
+    (λ c κs. let l = c .before .before .before .before .before .loop in let s = c .before .before .before .before .before .before .before .before .before .before .before .before .before in let parts′ = c .before .before .before .before .before .before .parts in let octet′ = c .before .before .before .octet in rw (l .inv .4) (omega (arith, chosen-room (look (now (s .args .table)) (now (s .args .offsets))) (s .args .level) (drop (s .args .at) (now (s .args .m))) (now (s .args .table)) (parts′ .result .step) (l .p) (parts′ .result .count) (l .j) (octet′ .result) (s .args .to) (now (s .args .buf)) _ (s .pre .1 .4) (l .inv .5) (c .before .before .before .before .loop-test .taken) (octet′ .ensures .0) ((starts-begun (s .pre .1 .0) (now (s .args .m)) (λ i. c .before .before .before .before .before .before .before .before .before .shared-slice-known4 .given i .fits) (s .args .at) _ _ (c .before .before .before .before .before .before .before .peek .ensures) _ (c .before .before .starts .ensures)) ∙ c .before .if1 .taken))))  -- place-choice-begin-node-requires
+    (λ c. let s = c .before .before .before .before .before .before .before .before .before .before .before .before .before .before .before .before in let parts′ = c .before .before .before .before .before .before .before .before .before .parts in let l = c .before .before .before .before .before .before .before .before .loop in let octet′ = c .before .before .before .before .before .before .octet in omega (arith, chosen-room (look (now (s .args .table)) (now (s .args .offsets))) (s .args .level) (drop (s .args .at) (now (s .args .m))) (now (s .args .table)) (parts′ .result .step) (l .p) (parts′ .result .count) (l .j) (octet′ .result) (s .args .to) (now (s .args .buf)) _ (s .pre .1 .4) (l .inv .5) (c .before .before .before .before .before .before .before .loop-test .taken) (octet′ .ensures .0) ((starts-begun (s .pre .1 .0) (now (s .args .m)) (λ i. c .before .before .before .before .before .before .before .before .before .before .before .before .shared-slice-known4 .given i .fits) (s .args .at) _ _ (c .before .before .before .before .before .before .before .before .before .before .peek .ensures) _ (c .before .before .before .before .before .starts .ensures)) ∙ c .before .before .before .before .if1 .taken), (s .pre .1 .4) .small))  -- place-choice-add-q
     (λ c. omega (arith, c .before .before .before .before .before .before .before .loop-test .taken, c .before .before .before .before .before .before .before .before .loop .inv .1))  -- place-choice-cast-buf
-    (λ c. let l = c .before .before .before .before .before .before .before .before .loop in let s = c .before .before .before .before .before .before .before .before .before .before .before .before .before .before .before .before in let parts′ = c .before .before .before .before .before .before .before .before .before .parts in let octet′ = c .before .before .before .before .before .before .octet in let q = rw (l .inv .4) at (c .before .before .begin-node .kept .0) in omega (arith, chosen-room (look (now (s .args .table)) (now (s .args .offsets))) (s .args .level) (drop (s .args .at) (now (s .args .m))) (now (s .args .table)) (parts′ .result .step) (l .p) (parts′ .result .count) (l .j) (octet′ .result) (s .args .to) (now (s .args .buf)) _ (s .pre .1 .4) (l .inv .5) (c .before .before .before .before .before .before .before .loop-test .taken) (octet′ .ensures .0) ((starts-begun (s .pre .1 .0) (λ i. c .before .before .before .before .before .before .before .before .before .before .before .before .before .before .before .shared-slice-known .given i .fits) (now (s .args .m)) (λ i. c .before .before .before .before .before .before .before .before .before .before .before .before .shared-slice-known4 .given i .fits) (s .args .at) _ _ (c .before .before .before .before .before .before .before .before .before .before .peek .ensures) _ (c .before .before .before .before .before .starts .ensures)) ∙ c .before .before .before .before .if1 .taken)))  -- place-choice-slice-write-buf
-    (λ c. let s = c .before .before .before .before .before .before .before .before .before .before .before .before .before .before .before .before in let parts′ = c .before .before .before .before .before .before .before .before .before .parts in let l = c .before .before .before .before .before .before .before .before .loop in let octet′ = c .before .before .before .before .before .before .octet in omega (arith, chosen-room (look (now (s .args .table)) (now (s .args .offsets))) (s .args .level) (drop (s .args .at) (now (s .args .m))) (now (s .args .table)) (parts′ .result .step) (l .p) (parts′ .result .count) (l .j) (octet′ .result) (s .args .to) (now (s .args .buf)) _ (s .pre .1 .4) (l .inv .5) (c .before .before .before .before .before .before .before .loop-test .taken) (octet′ .ensures .0) ((starts-begun (s .pre .1 .0) (λ i. c .before .before .before .before .before .before .before .before .before .before .before .before .before .before .before .shared-slice-known .given i .fits) (now (s .args .m)) (λ i. c .before .before .before .before .before .before .before .before .before .before .before .before .shared-slice-known4 .given i .fits) (s .args .at) _ _ (c .before .before .before .before .before .before .before .before .before .before .peek .ensures) _ (c .before .before .before .before .before .starts .ensures)) ∙ c .before .before .before .before .if1 .taken), (s .pre .1 .4) .small))  -- place-choice-add-next
+    (λ c. let l = c .before .before .before .before .before .before .before .before .loop in let s = c .before .before .before .before .before .before .before .before .before .before .before .before .before .before .before .before in let parts′ = c .before .before .before .before .before .before .before .before .before .parts in let octet′ = c .before .before .before .before .before .before .octet in let q = rw (l .inv .4) at (c .before .before .begin-node .kept .0) in omega (arith, chosen-room (look (now (s .args .table)) (now (s .args .offsets))) (s .args .level) (drop (s .args .at) (now (s .args .m))) (now (s .args .table)) (parts′ .result .step) (l .p) (parts′ .result .count) (l .j) (octet′ .result) (s .args .to) (now (s .args .buf)) _ (s .pre .1 .4) (l .inv .5) (c .before .before .before .before .before .before .before .loop-test .taken) (octet′ .ensures .0) ((starts-begun (s .pre .1 .0) (now (s .args .m)) (λ i. c .before .before .before .before .before .before .before .before .before .before .before .before .shared-slice-known4 .given i .fits) (s .args .at) _ _ (c .before .before .before .before .before .before .before .before .before .before .peek .ensures) _ (c .before .before .before .before .before .starts .ensures)) ∙ c .before .before .before .before .if1 .taken)))  -- place-choice-slice-write-buf
+    (λ c. let s = c .before .before .before .before .before .before .before .before .before .before .before .before .before .before .before .before in let parts′ = c .before .before .before .before .before .before .before .before .before .parts in let l = c .before .before .before .before .before .before .before .before .loop in let octet′ = c .before .before .before .before .before .before .octet in omega (arith, chosen-room (look (now (s .args .table)) (now (s .args .offsets))) (s .args .level) (drop (s .args .at) (now (s .args .m))) (now (s .args .table)) (parts′ .result .step) (l .p) (parts′ .result .count) (l .j) (octet′ .result) (s .args .to) (now (s .args .buf)) _ (s .pre .1 .4) (l .inv .5) (c .before .before .before .before .before .before .before .loop-test .taken) (octet′ .ensures .0) ((starts-begun (s .pre .1 .0) (now (s .args .m)) (λ i. c .before .before .before .before .before .before .before .before .before .before .before .before .shared-slice-known4 .given i .fits) (s .args .at) _ _ (c .before .before .before .before .before .before .before .before .before .before .peek .ensures) _ (c .before .before .before .before .before .starts .ensures)) ∙ c .before .before .before .before .if1 .taken), (s .pre .1 .4) .small))  -- place-choice-add-next
     (λ c κs. search needs)  -- place-choice-offset-requires
     (λ c κs. search needs)  -- place-choice-is-plain-requires
-    (λ c κs. let isplain′ = c .before .before .is-plain in let if2′ = c .before .if2 in let s = c .before .before .before .before .before .before .before .before .before .before .before .before .before .before .before .before .before .before .before .before in let octet′ = c .before .before .before .before .before .before .before .before .before .before .octet in let offset′ = c .before .before .before .offset in let parts′ = c .before .before .before .before .before .before .before .before .before .before .before .before .before .parts in let l = c .before .before .before .before .before .before .before .before .before .before .before .before .loop in let looptest′ = c .before .before .before .before .before .before .before .before .before .before .before .loop-test in let sharedsliceknown′ = c .before .before .before .before .before .before .before .before .before .before .before .before .before .before .before .before .before .before .before .shared-slice-known in let sharedsliceknown4′ = c .before .before .before .before .before .before .before .before .before .before .before .before .before .before .before .before .shared-slice-known4 in let peek′ = c .before .before .before .before .before .before .before .before .before .before .before .before .before .before .peek in let starts′ = c .before .before .before .before .before .before .before .before .before .starts in let if1′ = c .before .before .before .before .before .before .before .before .if1 in let beginnode′ = c .before .before .before .before .before .before .begin-node in (isplain′ .ensures (if2′ .taken) .1, (s .pre .1 .1), (s .pre .1 .2), rw (plain-value (now (s .args .table)) (now (s .args .offsets)) (s .args .level) (octet′ .result) (offset′ .result) (s .args .at) ((s .args .to) + 4) (now (s .args .m)) _ (chosen-fits (look (now (s .args .table)) (now (s .args .offsets))) (s .args .level) (drop (s .args .at) (now (s .args .m))) (now (s .args .table)) (parts′ .result .step) (l .p) (parts′ .result .count) (l .j) (octet′ .result) (s .args .to) (now (s .args .buf)) _ (s .pre .1 .4) (l .inv .5) (looptest′ .taken) (octet′ .ensures .0) ((starts-begun (s .pre .1 .0) (λ i. sharedsliceknown′ .given i .fits) (now (s .args .m)) (λ i. sharedsliceknown4′ .given i .fits) (s .args .at) _ _ (peek′ .ensures) _ (starts′ .ensures)) ∙ if1′ .taken) (set (beginnode′ .last .0) ((s .args .to) + 3) (l .j)) (length-set (beginnode′ .last .0) ((s .args .to) + 3) (l .j) ∙ beginnode′ .kept .0 ∙ ap length (l .inv .4))) (offset′ .ensures) (isplain′ .ensures (if2′ .taken) .0) (isplain′ .ensures (if2′ .taken) .1) _ (peek′ .ensures)) at (chosen-fits (look (now (s .args .table)) (now (s .args .offsets))) (s .args .level) (drop (s .args .at) (now (s .args .m))) (now (s .args .table)) (parts′ .result .step) (l .p) (parts′ .result .count) (l .j) (octet′ .result) (s .args .to) (now (s .args .buf)) _ (s .pre .1 .4) (l .inv .5) (looptest′ .taken) (octet′ .ensures .0) ((starts-begun (s .pre .1 .0) (λ i. sharedsliceknown′ .given i .fits) (now (s .args .m)) (λ i. sharedsliceknown4′ .given i .fits) (s .args .at) _ _ (peek′ .ensures) _ (starts′ .ensures)) ∙ if1′ .taken) (set (beginnode′ .last .0) ((s .args .to) + 3) (l .j)) (length-set (beginnode′ .last .0) ((s .args .to) + 3) (l .j) ∙ beginnode′ .kept .0 ∙ ap length (l .inv .4)))))  -- place-choice-place-simple-requires
+    (λ c κs. let isplain′ = c .before .before .is-plain in let if2′ = c .before .if2 in let s = c .before .before .before .before .before .before .before .before .before .before .before .before .before .before .before .before .before .before .before .before in let octet′ = c .before .before .before .before .before .before .before .before .before .before .octet in let offset′ = c .before .before .before .offset in let parts′ = c .before .before .before .before .before .before .before .before .before .before .before .before .before .parts in let l = c .before .before .before .before .before .before .before .before .before .before .before .before .loop in let looptest′ = c .before .before .before .before .before .before .before .before .before .before .before .loop-test in let sharedsliceknown′ = c .before .before .before .before .before .before .before .before .before .before .before .before .before .before .before .before .before .before .before .shared-slice-known in let sharedsliceknown4′ = c .before .before .before .before .before .before .before .before .before .before .before .before .before .before .before .before .shared-slice-known4 in let peek′ = c .before .before .before .before .before .before .before .before .before .before .before .before .before .before .peek in let starts′ = c .before .before .before .before .before .before .before .before .before .starts in let if1′ = c .before .before .before .before .before .before .before .before .if1 in let beginnode′ = c .before .before .before .before .before .before .begin-node in (isplain′ .ensures (if2′ .taken) .1, (s .pre .1 .1), (s .pre .1 .2), rw (plain-value (now (s .args .table)) (now (s .args .offsets)) (s .args .level) (octet′ .result) (offset′ .result) (s .args .at) ((s .args .to) + 4) (now (s .args .m)) _ (chosen-fits (look (now (s .args .table)) (now (s .args .offsets))) (s .args .level) (drop (s .args .at) (now (s .args .m))) (now (s .args .table)) (parts′ .result .step) (l .p) (parts′ .result .count) (l .j) (octet′ .result) (s .args .to) (now (s .args .buf)) _ (s .pre .1 .4) (l .inv .5) (looptest′ .taken) (octet′ .ensures .0) ((starts-begun (s .pre .1 .0) (now (s .args .m)) (λ i. sharedsliceknown4′ .given i .fits) (s .args .at) _ _ (peek′ .ensures) _ (starts′ .ensures)) ∙ if1′ .taken) (set (beginnode′ .last .0) ((s .args .to) + 3) (l .j)) (length-set (beginnode′ .last .0) ((s .args .to) + 3) (l .j) ∙ beginnode′ .kept .0 ∙ ap length (l .inv .4))) (offset′ .ensures) (isplain′ .ensures (if2′ .taken) .0) (isplain′ .ensures (if2′ .taken) .1) _ (peek′ .ensures)) at (chosen-fits (look (now (s .args .table)) (now (s .args .offsets))) (s .args .level) (drop (s .args .at) (now (s .args .m))) (now (s .args .table)) (parts′ .result .step) (l .p) (parts′ .result .count) (l .j) (octet′ .result) (s .args .to) (now (s .args .buf)) _ (s .pre .1 .4) (l .inv .5) (looptest′ .taken) (octet′ .ensures .0) ((starts-begun (s .pre .1 .0) (now (s .args .m)) (λ i. sharedsliceknown4′ .given i .fits) (s .args .at) _ _ (peek′ .ensures) _ (starts′ .ensures)) ∙ if1′ .taken) (set (beginnode′ .last .0) ((s .args .to) + 3) (l .j)) (length-set (beginnode′ .last .0) ((s .args .to) + 3) (l .j) ∙ beginnode′ .kept .0 ∙ ap length (l .inv .4)))))  -- place-choice-place-simple-requires
     (λ c. c .before .before .place-simple .kept .1 .1 .1 .1 .1 .0 ∙ rw length-set (c .before .before .before .before .before .before .before .before .before .begin-node .kept .0 ∙ ap length (c .before .before .before .before .before .before .before .before .before .before .before .before .before .before .before .loop .inv .4)))  -- place-choice-same-length
-    (λ c. let s = c .before .before .before .before .before .before .before .before .before .before .before .before .before .before .before .before .before .before .before .before .before .before .before in let parts′ = c .before .before .before .before .before .before .before .before .before .before .before .before .before .before .before .before .parts in let l = c .before .before .before .before .before .before .before .before .before .before .before .before .before .before .before .loop in let octet′ = c .before .before .before .before .before .before .before .before .before .before .before .before .before .octet in let looptest′ = c .before .before .before .before .before .before .before .before .before .before .before .before .before .before .loop-test in let sharedsliceknown′ = c .before .before .before .before .before .before .before .before .before .before .before .before .before .before .before .before .before .before .before .before .before .before .shared-slice-known in let sharedsliceknown4′ = c .before .before .before .before .before .before .before .before .before .before .before .before .before .before .before .before .before .before .before .shared-slice-known4 in let peek′ = c .before .before .before .before .before .before .before .before .before .before .before .before .before .before .before .before .before .peek in let starts′ = c .before .before .before .before .before .before .before .before .before .before .before .before .starts in let if1′ = c .before .before .before .before .before .before .before .before .before .before .before .if1 in let beginnode′ = c .before .before .before .before .before .before .before .before .before .begin-node in let offset′ = c .before .before .before .before .before .before .offset in let isplain′ = c .before .before .before .before .before .is-plain in let if2′ = c .before .before .before .before .if2 in chosen-placed (look (now (s .args .table)) (now (s .args .offsets))) (s .args .level) (drop (s .args .at) (now (s .args .m))) (now (s .args .table)) (parts′ .result .step) (l .p) (parts′ .result .count) (l .j) (octet′ .result) (s .args .to) (now (s .args .buf)) _ (s .pre .1 .4) (l .inv .5) (looptest′ .taken) (octet′ .ensures .0) ((starts-begun (s .pre .1 .0) (λ i. sharedsliceknown′ .given i .fits) (now (s .args .m)) (λ i. sharedsliceknown4′ .given i .fits) (s .args .at) _ _ (peek′ .ensures) _ (starts′ .ensures)) ∙ if1′ .taken) (now (s .args .m)) _ _ _ (beginnode′ .ensures ∙ ap (λ b. sets b (s .args .to) (86 ∷ 65 ∷ 50 ∷ [])) (l .inv .4)) (rw (plain-value (now (s .args .table)) (now (s .args .offsets)) (s .args .level) (octet′ .result) (offset′ .result) (s .args .at) ((s .args .to) + 4) (now (s .args .m)) _ (chosen-fits (look (now (s .args .table)) (now (s .args .offsets))) (s .args .level) (drop (s .args .at) (now (s .args .m))) (now (s .args .table)) (parts′ .result .step) (l .p) (parts′ .result .count) (l .j) (octet′ .result) (s .args .to) (now (s .args .buf)) _ (s .pre .1 .4) (l .inv .5) (looptest′ .taken) (octet′ .ensures .0) ((starts-begun (s .pre .1 .0) (λ i. sharedsliceknown′ .given i .fits) (now (s .args .m)) (λ i. sharedsliceknown4′ .given i .fits) (s .args .at) _ _ (peek′ .ensures) _ (starts′ .ensures)) ∙ if1′ .taken) (set (beginnode′ .last .0) ((s .args .to) + 3) (l .j)) (length-set (beginnode′ .last .0) ((s .args .to) + 3) (l .j) ∙ beginnode′ .kept .0 ∙ ap length (l .inv .4))) (offset′ .ensures) (isplain′ .ensures (if2′ .taken) .0) (isplain′ .ensures (if2′ .taken) .1) _ (peek′ .ensures)) (c .before .before .place-simple .ensures)))  -- place-choice-returns
-    (λ c κs. let s = c .before .before .before .before .before .before .before .before .before .before .before .before .before .before .before .before .before .before .before .before in let parts′ = c .before .before .before .before .before .before .before .before .before .before .before .before .before .parts in let l = c .before .before .before .before .before .before .before .before .before .before .before .before .loop in let octet′ = c .before .before .before .before .before .before .before .before .before .before .octet in let beginnode′ = c .before .before .before .before .before .before .begin-node in (omega (arith, s .pre .0), ((s .pre .1 .0), (s .pre .1 .1), (s .pre .1 .2), omega (arith, (s .pre .1 .3)), (chosen-fits (look (now (s .args .table)) (now (s .args .offsets))) (s .args .level) (drop (s .args .at) (now (s .args .m))) (now (s .args .table)) (parts′ .result .step) (l .p) (parts′ .result .count) (l .j) (octet′ .result) (s .args .to) (now (s .args .buf)) _ (s .pre .1 .4) (l .inv .5) (c .before .before .before .before .before .before .before .before .before .before .before .loop-test .taken) (octet′ .ensures .0) ((starts-begun (s .pre .1 .0) (λ i. c .before .before .before .before .before .before .before .before .before .before .before .before .before .before .before .before .before .before .before .shared-slice-known .given i .fits) (now (s .args .m)) (λ i. c .before .before .before .before .before .before .before .before .before .before .before .before .before .before .before .before .shared-slice-known4 .given i .fits) (s .args .at) _ _ (c .before .before .before .before .before .before .before .before .before .before .before .before .before .before .peek .ensures) _ (c .before .before .before .before .before .before .before .before .before .starts .ensures)) ∙ c .before .before .before .before .before .before .before .before .if1 .taken) (set (beginnode′ .last .0) ((s .args .to) + 3) (l .j)) (length-set (beginnode′ .last .0) ((s .args .to) + 3) (l .j) ∙ beginnode′ .kept .0 ∙ ap length (l .inv .4))))))  -- place-choice-place-value-requires
+    (λ c. let s = c .before .before .before .before .before .before .before .before .before .before .before .before .before .before .before .before .before .before .before .before .before .before .before in let parts′ = c .before .before .before .before .before .before .before .before .before .before .before .before .before .before .before .before .parts in let l = c .before .before .before .before .before .before .before .before .before .before .before .before .before .before .before .loop in let octet′ = c .before .before .before .before .before .before .before .before .before .before .before .before .before .octet in let looptest′ = c .before .before .before .before .before .before .before .before .before .before .before .before .before .before .loop-test in let sharedsliceknown′ = c .before .before .before .before .before .before .before .before .before .before .before .before .before .before .before .before .before .before .before .before .before .before .shared-slice-known in let sharedsliceknown4′ = c .before .before .before .before .before .before .before .before .before .before .before .before .before .before .before .before .before .before .before .shared-slice-known4 in let peek′ = c .before .before .before .before .before .before .before .before .before .before .before .before .before .before .before .before .before .peek in let starts′ = c .before .before .before .before .before .before .before .before .before .before .before .before .starts in let if1′ = c .before .before .before .before .before .before .before .before .before .before .before .if1 in let beginnode′ = c .before .before .before .before .before .before .before .before .before .begin-node in let offset′ = c .before .before .before .before .before .before .offset in let isplain′ = c .before .before .before .before .before .is-plain in let if2′ = c .before .before .before .before .if2 in chosen-placed (look (now (s .args .table)) (now (s .args .offsets))) (s .args .level) (drop (s .args .at) (now (s .args .m))) (now (s .args .table)) (parts′ .result .step) (l .p) (parts′ .result .count) (l .j) (octet′ .result) (s .args .to) (now (s .args .buf)) _ (s .pre .1 .4) (l .inv .5) (looptest′ .taken) (octet′ .ensures .0) ((starts-begun (s .pre .1 .0) (now (s .args .m)) (λ i. sharedsliceknown4′ .given i .fits) (s .args .at) _ _ (peek′ .ensures) _ (starts′ .ensures)) ∙ if1′ .taken) (now (s .args .m)) _ _ _ (beginnode′ .ensures ∙ ap (λ b. sets b (s .args .to) (86 ∷ 65 ∷ 50 ∷ [])) (l .inv .4)) (rw (plain-value (now (s .args .table)) (now (s .args .offsets)) (s .args .level) (octet′ .result) (offset′ .result) (s .args .at) ((s .args .to) + 4) (now (s .args .m)) _ (chosen-fits (look (now (s .args .table)) (now (s .args .offsets))) (s .args .level) (drop (s .args .at) (now (s .args .m))) (now (s .args .table)) (parts′ .result .step) (l .p) (parts′ .result .count) (l .j) (octet′ .result) (s .args .to) (now (s .args .buf)) _ (s .pre .1 .4) (l .inv .5) (looptest′ .taken) (octet′ .ensures .0) ((starts-begun (s .pre .1 .0) (now (s .args .m)) (λ i. sharedsliceknown4′ .given i .fits) (s .args .at) _ _ (peek′ .ensures) _ (starts′ .ensures)) ∙ if1′ .taken) (set (beginnode′ .last .0) ((s .args .to) + 3) (l .j)) (length-set (beginnode′ .last .0) ((s .args .to) + 3) (l .j) ∙ beginnode′ .kept .0 ∙ ap length (l .inv .4))) (offset′ .ensures) (isplain′ .ensures (if2′ .taken) .0) (isplain′ .ensures (if2′ .taken) .1) _ (peek′ .ensures)) (c .before .before .place-simple .ensures)))  -- place-choice-returns
+    (λ c κs. let s = c .before .before .before .before .before .before .before .before .before .before .before .before .before .before .before .before .before .before .before .before in let parts′ = c .before .before .before .before .before .before .before .before .before .before .before .before .before .parts in let l = c .before .before .before .before .before .before .before .before .before .before .before .before .loop in let octet′ = c .before .before .before .before .before .before .before .before .before .before .octet in let beginnode′ = c .before .before .before .before .before .before .begin-node in (omega (arith, s .pre .0), ((s .pre .1 .0), (s .pre .1 .1), (s .pre .1 .2), omega (arith, (s .pre .1 .3)), (chosen-fits (look (now (s .args .table)) (now (s .args .offsets))) (s .args .level) (drop (s .args .at) (now (s .args .m))) (now (s .args .table)) (parts′ .result .step) (l .p) (parts′ .result .count) (l .j) (octet′ .result) (s .args .to) (now (s .args .buf)) _ (s .pre .1 .4) (l .inv .5) (c .before .before .before .before .before .before .before .before .before .before .before .loop-test .taken) (octet′ .ensures .0) ((starts-begun (s .pre .1 .0) (now (s .args .m)) (λ i. c .before .before .before .before .before .before .before .before .before .before .before .before .before .before .before .before .shared-slice-known4 .given i .fits) (s .args .at) _ _ (c .before .before .before .before .before .before .before .before .before .before .before .before .before .before .peek .ensures) _ (c .before .before .before .before .before .before .before .before .before .starts .ensures)) ∙ c .before .before .before .before .before .before .before .before .if1 .taken) (set (beginnode′ .last .0) ((s .args .to) + 3) (l .j)) (length-set (beginnode′ .last .0) ((s .args .to) + 3) (l .j) ∙ beginnode′ .kept .0 ∙ ap length (l .inv .4))))))  -- place-choice-place-value-requires
     (λ c. c .before .before .place-value .kept .1 .1 .1 .1 .1 .1 .1 .0 ∙ rw length-set (c .before .before .before .before .before .before .before .before .before .begin-node .kept .0 ∙ ap length (c .before .before .before .before .before .before .before .before .before .before .before .before .before .before .before .loop .inv .4)))  -- place-choice-same-length-2
-    (λ c. let s = c .before .before .before .before .before .before .before .before .before .before .before .before .before .before .before .before .before .before .before .before .before .before .before in let parts′ = c .before .before .before .before .before .before .before .before .before .before .before .before .before .before .before .before .parts in let l = c .before .before .before .before .before .before .before .before .before .before .before .before .before .before .before .loop in let octet′ = c .before .before .before .before .before .before .before .before .before .before .before .before .before .octet in chosen-placed (look (now (s .args .table)) (now (s .args .offsets))) (s .args .level) (drop (s .args .at) (now (s .args .m))) (now (s .args .table)) (parts′ .result .step) (l .p) (parts′ .result .count) (l .j) (octet′ .result) (s .args .to) (now (s .args .buf)) _ (s .pre .1 .4) (l .inv .5) (c .before .before .before .before .before .before .before .before .before .before .before .before .before .before .loop-test .taken) (octet′ .ensures .0) ((starts-begun (s .pre .1 .0) (λ i. c .before .before .before .before .before .before .before .before .before .before .before .before .before .before .before .before .before .before .before .before .before .before .shared-slice-known .given i .fits) (now (s .args .m)) (λ i. c .before .before .before .before .before .before .before .before .before .before .before .before .before .before .before .before .before .before .before .shared-slice-known4 .given i .fits) (s .args .at) _ _ (c .before .before .before .before .before .before .before .before .before .before .before .before .before .before .before .before .before .peek .ensures) _ (c .before .before .before .before .before .before .before .before .before .before .before .before .starts .ensures)) ∙ c .before .before .before .before .before .before .before .before .before .before .before .if1 .taken) (now (s .args .m)) _ _ _ (c .before .before .before .before .before .before .before .before .before .begin-node .ensures ∙ ap (λ b. sets b (s .args .to) (86 ∷ 65 ∷ 50 ∷ [])) (l .inv .4)) (c .before .before .place-value .ensures))  -- place-choice-returns-2
+    (λ c. let s = c .before .before .before .before .before .before .before .before .before .before .before .before .before .before .before .before .before .before .before .before .before .before .before in let parts′ = c .before .before .before .before .before .before .before .before .before .before .before .before .before .before .before .before .parts in let l = c .before .before .before .before .before .before .before .before .before .before .before .before .before .before .before .loop in let octet′ = c .before .before .before .before .before .before .before .before .before .before .before .before .before .octet in chosen-placed (look (now (s .args .table)) (now (s .args .offsets))) (s .args .level) (drop (s .args .at) (now (s .args .m))) (now (s .args .table)) (parts′ .result .step) (l .p) (parts′ .result .count) (l .j) (octet′ .result) (s .args .to) (now (s .args .buf)) _ (s .pre .1 .4) (l .inv .5) (c .before .before .before .before .before .before .before .before .before .before .before .before .before .before .loop-test .taken) (octet′ .ensures .0) ((starts-begun (s .pre .1 .0) (now (s .args .m)) (λ i. c .before .before .before .before .before .before .before .before .before .before .before .before .before .before .before .before .before .before .before .shared-slice-known4 .given i .fits) (s .args .at) _ _ (c .before .before .before .before .before .before .before .before .before .before .before .before .before .before .before .before .before .peek .ensures) _ (c .before .before .before .before .before .before .before .before .before .before .before .before .starts .ensures)) ∙ c .before .before .before .before .before .before .before .before .before .before .before .if1 .taken) (now (s .args .m)) _ _ _ (c .before .before .before .before .before .before .before .before .before .begin-node .ensures ∙ ap (λ b. sets b (s .args .to) (86 ∷ 65 ∷ 50 ∷ [])) (l .inv .4)) (c .before .before .place-value .ensures))  -- place-choice-returns-2
     (λ c. let l = c .before .before .before .before .loop in omega (arith, l .inv .3, l .inv .2, c .before .before .before .loop-test .taken, l .inv .1))  -- place-choice-add-p
     (λ c. omega (arith, c .before .before .before .loop-test .taken, c .before .before .before .before .loop .inv .1))  -- place-choice-add-j
     (λ c. omega (arith, c .before .before .before .loop-test .taken))  -- place-choice-loop-less
-    (λ c. let looptest′ = c .before .before .before .loop-test in let l = c .before .before .before .before .loop in let s = c .before .before .before .before .before .before .before .before .before .before .before .before in let parts′ = c .before .before .before .before .before .parts in (omega (arith, looptest′ .taken), l .inv .1, l .inv .2, omega (arith, l .inv .3, l .inv .2), l .inv .4, choose-miss (look (now (s .args .table)) (now (s .args .offsets))) (readValue (look (now (s .args .table)) (now (s .args .offsets))) (s .args .level)) (drop (s .args .at) (now (s .args .m))) (now (s .args .table)) (parts′ .result .step) (l .p) (parts′ .result .count) (l .j) _ (looptest′ .taken) (c .before .before .octet .ensures .0) ((starts-begun (s .pre .1 .0) (λ i. c .before .before .before .before .before .before .before .before .before .before .before .shared-slice-known .given i .fits) (now (s .args .m)) (λ i. c .before .before .before .before .before .before .before .before .shared-slice-known4 .given i .fits) (s .args .at) _ _ (c .before .before .before .before .before .before .peek .ensures) _ (c .before .starts .ensures)) ∙ c .if1 .left) (l .inv .5)))  -- place-choice-loop-again
+    (λ c. let looptest′ = c .before .before .before .loop-test in let l = c .before .before .before .before .loop in let s = c .before .before .before .before .before .before .before .before .before .before .before .before in let parts′ = c .before .before .before .before .before .parts in (omega (arith, looptest′ .taken), l .inv .1, l .inv .2, omega (arith, l .inv .3, l .inv .2), l .inv .4, choose-miss (look (now (s .args .table)) (now (s .args .offsets))) (readValue (look (now (s .args .table)) (now (s .args .offsets))) (s .args .level)) (drop (s .args .at) (now (s .args .m))) (now (s .args .table)) (parts′ .result .step) (l .p) (parts′ .result .count) (l .j) _ (looptest′ .taken) (c .before .before .octet .ensures .0) ((starts-begun (s .pre .1 .0) (now (s .args .m)) (λ i. c .before .before .before .before .before .before .before .before .shared-slice-known4 .given i .fits) (s .args .at) _ _ (c .before .before .before .before .before .before .peek .ensures) _ (c .before .starts .ensures)) ∙ c .if1 .left) (l .inv .5)))  -- place-choice-loop-again
     (λ c. ap length (c .before .loop .inv .4))  -- place-choice-same-length-3
     (λ c. let s = c .before .before .before .before .before .before .before .before .before in let parts′ = c .before .before .parts in let l = c .before .loop in absurd (choose-end (look (now (s .args .table)) (now (s .args .offsets))) (readValue (look (now (s .args .table)) (now (s .args .offsets))) (s .args .level)) (drop (s .args .at) (now (s .args .m))) (now (s .args .table)) (parts′ .result .step) (l .p) (parts′ .result .count) (l .j) (c .loop-test .left) (l .inv .5) ((s .pre .1 .4) .done))))  -- place-choice-returns-3
     (λ t. place-constructed-lts.spec (
@@ -486,20 +486,20 @@ pub +place-body+place-choice+place-constructed+place-item+place-list+place-membe
     (λ c. omega (arith, (c .before .before .before .before .loop .inv .4) .room, c .before .before .before .loop-test .taken))  -- place-sequence-slice-write-buf-2
     (λ c κs. search needs)  -- place-sequence-offset-requires
     (λ c κs. search needs)  -- place-sequence-is-plain-requires
-    (λ c κs. let isplain′ = c .before .before .is-plain in let if2′ = c .before .if2 in let l = c .before .before .before .before .before .before .before .before .loop in let s = c .before .before .before .before .before .before .before .before .before .before .before .before .before .before .before .before .before .before .before .before .before in let octet2′ = c .before .before .before .before .before .before .octet2 in let offset′ = c .before .before .before .offset in let looptest′ = c .before .before .before .before .before .before .before .loop-test in let sharedsliceknown′ = c .before .before .before .before .before .before .before .before .before .before .before .before .before .before .before .before .before .before .before .before .shared-slice-known in let sharedsliceknown4′ = c .before .before .before .before .before .before .before .before .before .before .before .before .before .before .before .before .before .shared-slice-known4 in let starts′ = c .before .before .before .before .before .starts in let if1′ = c .before .before .before .before .if1 in (isplain′ .ensures (if2′ .taken) .1, l .inv .1, (s .pre .1 .4), rw (plain-value (now (s .args .table)) (now (s .args .offsets)) (s .args .level) (octet2′ .result) (offset′ .result) (l .at) (l .next) (now (s .args .m)) _ (row-fits (l .inv .4) (looptest′ .taken) (octet2′ .ensures .0) ((starts-begun (s .pre .1 .0) (λ i. sharedsliceknown′ .given i .fits) (now (s .args .m)) (λ i. sharedsliceknown4′ .given i .fits) (l .at) _ _ (l .inv .3) _ (starts′ .ensures)) ∙ if1′ .taken)) (offset′ .ensures) (isplain′ .ensures (if2′ .taken) .0) (isplain′ .ensures (if2′ .taken) .1) _ (l .inv .3)) at (row-fits (l .inv .4) (looptest′ .taken) (octet2′ .ensures .0) ((starts-begun (s .pre .1 .0) (λ i. sharedsliceknown′ .given i .fits) (now (s .args .m)) (λ i. sharedsliceknown4′ .given i .fits) (l .at) _ _ (l .inv .3) _ (starts′ .ensures)) ∙ if1′ .taken))))  -- place-sequence-place-simple-requires
+    (λ c κs. let isplain′ = c .before .before .is-plain in let if2′ = c .before .if2 in let l = c .before .before .before .before .before .before .before .before .loop in let s = c .before .before .before .before .before .before .before .before .before .before .before .before .before .before .before .before .before .before .before .before .before in let octet2′ = c .before .before .before .before .before .before .octet2 in let offset′ = c .before .before .before .offset in let looptest′ = c .before .before .before .before .before .before .before .loop-test in let sharedsliceknown′ = c .before .before .before .before .before .before .before .before .before .before .before .before .before .before .before .before .before .before .before .before .shared-slice-known in let sharedsliceknown4′ = c .before .before .before .before .before .before .before .before .before .before .before .before .before .before .before .before .before .shared-slice-known4 in let starts′ = c .before .before .before .before .before .starts in let if1′ = c .before .before .before .before .if1 in (isplain′ .ensures (if2′ .taken) .1, l .inv .1, (s .pre .1 .4), rw (plain-value (now (s .args .table)) (now (s .args .offsets)) (s .args .level) (octet2′ .result) (offset′ .result) (l .at) (l .next) (now (s .args .m)) _ (row-fits (l .inv .4) (looptest′ .taken) (octet2′ .ensures .0) ((starts-begun (s .pre .1 .0) (now (s .args .m)) (λ i. sharedsliceknown4′ .given i .fits) (l .at) _ _ (l .inv .3) _ (starts′ .ensures)) ∙ if1′ .taken)) (offset′ .ensures) (isplain′ .ensures (if2′ .taken) .0) (isplain′ .ensures (if2′ .taken) .1) _ (l .inv .3)) at (row-fits (l .inv .4) (looptest′ .taken) (octet2′ .ensures .0) ((starts-begun (s .pre .1 .0) (now (s .args .m)) (λ i. sharedsliceknown4′ .given i .fits) (l .at) _ _ (l .inv .3) _ (starts′ .ensures)) ∙ if1′ .taken))))  -- place-sequence-place-simple-requires
     (λ c κs. (c .before .before .place-simple .ensures .within, (c .before .before .before .before .before .before .before .before .before .before .before .before .before .before .before .before .before .before .before .before .before .before .before .before .pre .1 .4)))  -- place-sequence-peek-requires-2
     (λ c. omega (arith, c .before .before .before .before .before .before .before .before .before .before .before .before .before .before .before .before .before .before .octet .ensures .1, c .before .before .before .before .before .before .before .before .before .before .before .loop-test .taken))  -- place-sequence-add-j
     (λ c. omega (arith, c .before .before .before .before .before .before .before .before .before .before .before .loop-test .taken))  -- place-sequence-loop-less
-    (λ c. let looptest′ = c .before .before .before .before .before .before .before .before .before .before .before .loop-test in let placesimple′ = c .before .before .before .place-simple in let l = c .before .before .before .before .before .before .before .before .before .before .before .before .loop in let octet2′ = c .before .before .before .before .before .before .before .before .before .before .octet2 in let s = c .before .before .before .before .before .before .before .before .before .before .before .before .before .before .before .before .before .before .before .before .before .before .before .before .before in let sharedsliceknown′ = c .before .before .before .before .before .before .before .before .before .before .before .before .before .before .before .before .before .before .before .before .before .before .before .before .shared-slice-known in let sharedsliceknown4′ = c .before .before .before .before .before .before .before .before .before .before .before .before .before .before .before .before .before .before .before .before .before .shared-slice-known4 in let starts′ = c .before .before .before .before .before .before .before .before .before .starts in let if1′ = c .before .before .before .before .before .before .before .before .if1 in let offset′ = c .before .before .before .before .before .before .before .offset in let isplain′ = c .before .before .before .before .before .before .is-plain in let if2′ = c .before .before .before .before .before .if2 in (omega (arith, looptest′ .taken), placesimple′ .ensures .within, placesimple′ .kept .1 .1 .1 .1 .1 .0 ∙ rw length-set (l .inv .2), c .peek2 .ensures, row-hit (l .inv .4) (looptest′ .taken) (octet2′ .ensures .0) ((starts-begun (s .pre .1 .0) (λ i. sharedsliceknown′ .given i .fits) (now (s .args .m)) (λ i. sharedsliceknown4′ .given i .fits) (l .at) _ _ (l .inv .3) _ (starts′ .ensures)) ∙ if1′ .taken) (placesimple′ .last .1 .1 .1 .1 .1 .0) (placesimple′ .result) (rw (plain-value (now (s .args .table)) (now (s .args .offsets)) (s .args .level) (octet2′ .result) (offset′ .result) (l .at) (l .next) (now (s .args .m)) _ (row-fits (l .inv .4) (looptest′ .taken) (octet2′ .ensures .0) ((starts-begun (s .pre .1 .0) (λ i. sharedsliceknown′ .given i .fits) (now (s .args .m)) (λ i. sharedsliceknown4′ .given i .fits) (l .at) _ _ (l .inv .3) _ (starts′ .ensures)) ∙ if1′ .taken)) (offset′ .ensures) (isplain′ .ensures (if2′ .taken) .0) (isplain′ .ensures (if2′ .taken) .1) _ (l .inv .3)) (placesimple′ .ensures))))  -- place-sequence-loop-again
-    (λ c κs. let s = c .before .before .before .before .before .before .before .before .before .before .before .before .before .before .before .before .before .before .before .before .before in let l = c .before .before .before .before .before .before .before .before .loop in (omega (arith, s .pre .0), ((s .pre .1 .0), l .inv .1, (s .pre .1 .4), omega (arith, (s .pre .1 .5)), (row-fits (l .inv .4) (c .before .before .before .before .before .before .before .loop-test .taken) (c .before .before .before .before .before .before .octet2 .ensures .0) ((starts-begun (s .pre .1 .0) (λ i. c .before .before .before .before .before .before .before .before .before .before .before .before .before .before .before .before .before .before .before .before .shared-slice-known .given i .fits) (now (s .args .m)) (λ i. c .before .before .before .before .before .before .before .before .before .before .before .before .before .before .before .before .before .shared-slice-known4 .given i .fits) (l .at) _ _ (l .inv .3) _ (c .before .before .before .before .before .starts .ensures)) ∙ c .before .before .before .before .if1 .taken)))))  -- place-sequence-place-value-requires
+    (λ c. let looptest′ = c .before .before .before .before .before .before .before .before .before .before .before .loop-test in let placesimple′ = c .before .before .before .place-simple in let l = c .before .before .before .before .before .before .before .before .before .before .before .before .loop in let octet2′ = c .before .before .before .before .before .before .before .before .before .before .octet2 in let s = c .before .before .before .before .before .before .before .before .before .before .before .before .before .before .before .before .before .before .before .before .before .before .before .before .before in let sharedsliceknown′ = c .before .before .before .before .before .before .before .before .before .before .before .before .before .before .before .before .before .before .before .before .before .before .before .before .shared-slice-known in let sharedsliceknown4′ = c .before .before .before .before .before .before .before .before .before .before .before .before .before .before .before .before .before .before .before .before .before .shared-slice-known4 in let starts′ = c .before .before .before .before .before .before .before .before .before .starts in let if1′ = c .before .before .before .before .before .before .before .before .if1 in let offset′ = c .before .before .before .before .before .before .before .offset in let isplain′ = c .before .before .before .before .before .before .is-plain in let if2′ = c .before .before .before .before .before .if2 in (omega (arith, looptest′ .taken), placesimple′ .ensures .within, placesimple′ .kept .1 .1 .1 .1 .1 .0 ∙ rw length-set (l .inv .2), c .peek2 .ensures, row-hit (l .inv .4) (looptest′ .taken) (octet2′ .ensures .0) ((starts-begun (s .pre .1 .0) (now (s .args .m)) (λ i. sharedsliceknown4′ .given i .fits) (l .at) _ _ (l .inv .3) _ (starts′ .ensures)) ∙ if1′ .taken) (placesimple′ .last .1 .1 .1 .1 .1 .0) (placesimple′ .result) (rw (plain-value (now (s .args .table)) (now (s .args .offsets)) (s .args .level) (octet2′ .result) (offset′ .result) (l .at) (l .next) (now (s .args .m)) _ (row-fits (l .inv .4) (looptest′ .taken) (octet2′ .ensures .0) ((starts-begun (s .pre .1 .0) (now (s .args .m)) (λ i. sharedsliceknown4′ .given i .fits) (l .at) _ _ (l .inv .3) _ (starts′ .ensures)) ∙ if1′ .taken)) (offset′ .ensures) (isplain′ .ensures (if2′ .taken) .0) (isplain′ .ensures (if2′ .taken) .1) _ (l .inv .3)) (placesimple′ .ensures))))  -- place-sequence-loop-again
+    (λ c κs. let s = c .before .before .before .before .before .before .before .before .before .before .before .before .before .before .before .before .before .before .before .before .before in let l = c .before .before .before .before .before .before .before .before .loop in (omega (arith, s .pre .0), ((s .pre .1 .0), l .inv .1, (s .pre .1 .4), omega (arith, (s .pre .1 .5)), (row-fits (l .inv .4) (c .before .before .before .before .before .before .before .loop-test .taken) (c .before .before .before .before .before .before .octet2 .ensures .0) ((starts-begun (s .pre .1 .0) (now (s .args .m)) (λ i. c .before .before .before .before .before .before .before .before .before .before .before .before .before .before .before .before .before .shared-slice-known4 .given i .fits) (l .at) _ _ (l .inv .3) _ (c .before .before .before .before .before .starts .ensures)) ∙ c .before .before .before .before .if1 .taken)))))  -- place-sequence-place-value-requires
     (λ c κs. (c .before .before .place-value .ensures .within, (c .before .before .before .before .before .before .before .before .before .before .before .before .before .before .before .before .before .before .before .before .before .before .before .before .pre .1 .4)))  -- place-sequence-peek-requires-3
     (λ c. omega (arith, c .before .before .before .before .before .before .before .before .before .before .before .before .before .before .before .before .before .before .octet .ensures .1, c .before .before .before .before .before .before .before .before .before .before .before .loop-test .taken))  -- place-sequence-add-j-2
     (λ c. omega (arith, c .before .before .before .before .before .before .before .before .before .before .before .loop-test .taken))  -- place-sequence-loop-less-2
-    (λ c. let looptest′ = c .before .before .before .before .before .before .before .before .before .before .before .loop-test in let placevalue′ = c .before .before .before .place-value in let l = c .before .before .before .before .before .before .before .before .before .before .before .before .loop in let s = c .before .before .before .before .before .before .before .before .before .before .before .before .before .before .before .before .before .before .before .before .before .before .before .before .before in (omega (arith, looptest′ .taken), placevalue′ .ensures .within, placevalue′ .kept .1 .1 .1 .1 .1 .1 .1 .0 ∙ rw length-set (l .inv .2), c .peek3 .ensures, row-hit (l .inv .4) (looptest′ .taken) (c .before .before .before .before .before .before .before .before .before .before .octet2 .ensures .0) ((starts-begun (s .pre .1 .0) (λ i. c .before .before .before .before .before .before .before .before .before .before .before .before .before .before .before .before .before .before .before .before .before .before .before .before .shared-slice-known .given i .fits) (now (s .args .m)) (λ i. c .before .before .before .before .before .before .before .before .before .before .before .before .before .before .before .before .before .before .before .before .before .shared-slice-known4 .given i .fits) (l .at) _ _ (l .inv .3) _ (c .before .before .before .before .before .before .before .before .before .starts .ensures)) ∙ c .before .before .before .before .before .before .before .before .if1 .taken) _ _ (placevalue′ .ensures)))  -- place-sequence-loop-again-2
+    (λ c. let looptest′ = c .before .before .before .before .before .before .before .before .before .before .before .loop-test in let placevalue′ = c .before .before .before .place-value in let l = c .before .before .before .before .before .before .before .before .before .before .before .before .loop in let s = c .before .before .before .before .before .before .before .before .before .before .before .before .before .before .before .before .before .before .before .before .before .before .before .before .before in (omega (arith, looptest′ .taken), placevalue′ .ensures .within, placevalue′ .kept .1 .1 .1 .1 .1 .1 .1 .0 ∙ rw length-set (l .inv .2), c .peek3 .ensures, row-hit (l .inv .4) (looptest′ .taken) (c .before .before .before .before .before .before .before .before .before .before .octet2 .ensures .0) ((starts-begun (s .pre .1 .0) (now (s .args .m)) (λ i. c .before .before .before .before .before .before .before .before .before .before .before .before .before .before .before .before .before .before .before .before .before .shared-slice-known4 .given i .fits) (l .at) _ _ (l .inv .3) _ (c .before .before .before .before .before .before .before .before .before .starts .ensures)) ∙ c .before .before .before .before .before .before .before .before .if1 .taken) _ _ (placevalue′ .ensures)))  -- place-sequence-loop-again-2
     (λ c. omega (arith, (c .before .before .before .before .loop .inv .4) .room, c .before .before .before .loop-test .taken))  -- place-sequence-slice-write-buf-3
     (λ c. omega (arith, c .before .before .before .before .before .before .before .before .before .before .octet .ensures .1, c .before .before .before .loop-test .taken))  -- place-sequence-add-j-3
     (λ c. omega (arith, c .before .before .before .loop-test .taken))  -- place-sequence-loop-less-3
-    (λ c. let looptest′ = c .before .before .before .loop-test in let l = c .before .before .before .before .loop in let s = c .before .before .before .before .before .before .before .before .before .before .before .before .before .before .before .before .before in (omega (arith, looptest′ .taken), l .inv .1, rw length-set (l .inv .2), l .inv .3, row-miss (l .inv .4) (looptest′ .taken) (c .before .before .octet2 .ensures .0) ((starts-begun (s .pre .1 .0) (λ i. c .before .before .before .before .before .before .before .before .before .before .before .before .before .before .before .before .shared-slice-known .given i .fits) (now (s .args .m)) (λ i. c .before .before .before .before .before .before .before .before .before .before .before .before .before .shared-slice-known4 .given i .fits) (l .at) _ _ (l .inv .3) _ (c .before .starts .ensures)) ∙ c .if1 .left)))  -- place-sequence-loop-again-3
+    (λ c. let looptest′ = c .before .before .before .loop-test in let l = c .before .before .before .before .loop in let s = c .before .before .before .before .before .before .before .before .before .before .before .before .before .before .before .before .before in (omega (arith, looptest′ .taken), l .inv .1, rw length-set (l .inv .2), l .inv .3, row-miss (l .inv .4) (looptest′ .taken) (c .before .before .octet2 .ensures .0) ((starts-begun (s .pre .1 .0) (now (s .args .m)) (λ i. c .before .before .before .before .before .before .before .before .before .before .before .before .before .shared-slice-known4 .given i .fits) (l .at) _ _ (l .inv .3) _ (c .before .starts .ensures)) ∙ c .if1 .left)))  -- place-sequence-loop-again-3
     (λ c. omega (arith, c .before .before .loop .inv .1, (c .before .before .before .before .before .before .before .before .before .before .before .before .before .before .before .pre .1 .4)))  -- place-sequence-add-end
     (λ c. let beginnode′ = c .before .before .before .before .before .before .begin-node in c .before .before .loop .inv .2 ∙ length-set (beginnode′ .last .0) ((c .before .before .before .before .before .before .before .before .before .before .before .before .before .before .before .args .to) + 3) (c .before .before .before .before .before .before .before .before .octet .result) ∙ beginnode′ .kept .0)  -- place-sequence-same-length
     (λ c. let s = c .before .before .before .before .before .before .before .before .before .before .before .before .before .before .before in let own′ = c .before .before .before .before .before .before .before .before .before .own in let octet′ = c .before .before .before .before .before .before .before .before .octet in let l = c .before .before .loop in sequence-open (now (s .args .table)) (now (s .args .offsets)) (s .args .level) (s .args .o) (own′ .result) (octet′ .result) (s .args .at) (s .args .to) (s .args .marked) (now (s .args .m)) (now (s .args .buf)) (s .pre .1 .6) (s .pre .1 .2) (own′ .ensures .0) (octet′ .ensures .0) (l .inv .4) (c .before .loop-test .left) (l .inv .1) (c .before .before .before .before .before .before .begin-node .ensures) refl (c .if3 .taken))  -- place-sequence-returns

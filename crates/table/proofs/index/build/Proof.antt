@@ -20,7 +20,7 @@ build-spec =
     (tie.spec
     Inv-loop
     μ-loop
-    (λ c. filling-first _ _ (search needs))  -- loop-holds
+    (λ c. filling-first _)  -- loop-holds
     (λ c κs. omega arith)  -- record-end-requires
     (λ c. filling-stops _ _ _ _ (c .before .before .before .loop .inv) (c .before .before .loop-test .taken) (sym (c .before .record-end .ensures) ∙ c .if1 .taken))  -- returns
     (λ c. omega arith)  -- cast-offsets

@@ -5,7 +5,7 @@ use borrow.Author.Tests.{lt-ltb, le-ltb}
 use lib.Dec.{ltb}
 use Rattle.octets.specs.Lists.{all}
 use Rattle.table.specs.Reading.{everyAt}
-use Rattle.table.proofs.Loops.{all-stops, all-goes, all-ends}
+use Rattle.table.proofs.Promises.{all-stops, all-goes, all-ends}
 use borrow.Author.Needs.{needs}
 use Rattle.writer.proofs.node.marks.Statement.{statement}
 use Rattle.writer.proofs.node.marks.Tie as tie

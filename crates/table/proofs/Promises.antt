@@ -1,0 +1,87 @@
+-- What the crates above may use of tables beside the theorems (`Theorems`) and the contracts of the functions. No other law of this crate is for them.
+-- Assumes nothing.
+use mathlib.Core.Bool.{Bool, true, false}
+use mathlib.Core.List.{List, _∷_}
+use mathlib.Core.Path.{_≡_}
+use Prim.Native.Nat.{ℕ, _+_, _-_, _≤_, _<_}
+use lib.Dec.{leb}
+use lib.ListN.{length, getD, take}
+use Rattle.octets.specs.Lists.{all}
+use Rattle.table.specs.Syntax.{Record, isChoice, universal, constructed}
+use Rattle.table.specs.Octets.{recordShaped, bodyShaped}
+use Rattle.table.specs.Reading.{membersAt, everyAt, bodyAt, scan}
+use Rattle.table.specs.Fields.{formOf, universalOf, constructedOf, choiceOf, choiceBy, Viewed}
+use Rattle.table.specs.Index.{Indexed}
+use Rattle.table.specs.Cause.{place}
+use Rattle.table.specs.Verdict.{verdict}
+use Rattle.table.specs.declared.index.Index.{Index}
+use Rattle.table.specs.declared.TableCause.{TableCause}
+use Rattle.table.specs.declared.Verdict.the-variants.{Passed, Refused}
+use Rattle.table.proofs.Pieces as pieces
+use Rattle.table.proofs.Reading as reading
+use Rattle.table.proofs.Fields as fields
+use Rattle.table.proofs.Loops as loops
+use Rattle.table.proofs.Filling as filling
+use Rattle.table.proofs.Places as places
+
+-- The verdict, of any list: the place of a refusal, and the length of what passes.
+
+pub place-small : (b : List ℕ) (c : TableCause) → verdict b ≡ Refused c → place c ≤ 128
+place-small = places.place-small
+
+pub passed-short : (b : List ℕ) → verdict b ≡ Passed → length b ≤ 8192
+passed-short = places.passed-short
+
+-- An index: how many places it has, and which are those of the records.
+
+pub index-size : {b : List ℕ} {x : Index} → Indexed b x → length (x .offsets) ≡ 128
+index-size = filling.index-size
+
+pub index-places : {b : List ℕ} {x : Index} → Indexed b x → take (x .count) (x .offsets) ≡ scan b .offsets
+index-places = filling.index-places
+
+-- The body of kind k whose own part begins at p: what goes by the kind's form, and what by the kind alone.
+
+pub viewed : (b : List ℕ) (k p : ℕ) → Viewed b p (formOf k) (bodyAt b k p)
+viewed = fields.viewed
+
+pub choice-by : (b : List ℕ) (k p : ℕ) → isChoice (bodyAt b k p) ≡ choiceBy (formOf k)
+choice-by = fields.choice-by
+
+pub choice-of : (b : List ℕ) (k p : ℕ) → isChoice (bodyAt b k p) ≡ choiceOf k
+choice-of = fields.choice-of
+
+pub universal-of : (b : List ℕ) (k p : ℕ) → universal (bodyAt b k p) ≡ universalOf k
+universal-of = fields.universal-of
+
+pub constructed-of : (b : List ℕ) (k p : ℕ) → constructed (bodyAt b k p) ≡ constructedOf k
+constructed-of = fields.constructed-of
+
+-- A shaped record: how many tags it has, their classes, and its body.
+
+pub shaped-few : (r : Record) → recordShaped r ≡ true → length (r .tags) ≤ 4
+shaped-few r e = reading.limits r e .few
+
+pub shaped-classes : (r : Record) → recordShaped r ≡ true → all (λ g. leb (g .class) 3) (r .tags) ≡ true
+shaped-classes r e = reading.limits r e .classed
+
+pub shaped-body : (r : Record) → recordShaped r ≡ true → bodyShaped (r .body) ≡ true
+shaped-body r e = reading.limits r e .shaped
+
+-- Lists that are read from a place on: how many members there are, and a loop through octets.
+
+pub length-members : (b : List ℕ) (p n : ℕ) → length (membersAt b p n) ≡ n
+length-members = pieces.length-members
+
+pub every-step : (b : List ℕ) (p n : ℕ) → 0 < n → (step : ℕ) → everyAt step b p n ≡ getD b p 0 ∷ everyAt step b (p + step) (n - 1)
+every-step = loops.every-step
+
+module _ (f : ℕ → Bool) (step : ℕ) (b : List ℕ) (p n : ℕ) (w : Bool) where
+  pub all-stops : all f (everyAt step b p n) ≡ w → 0 < n → f (getD b p 0) ≡ false → false ≡ w
+  all-stops = loops.all-stops f step b p n w
+
+  pub all-goes : all f (everyAt step b p n) ≡ w → 0 < n → f (getD b p 0) ≡ true → all f (everyAt step b (p + step) (n - 1)) ≡ w
+  all-goes = loops.all-goes f step b p n w
+
+  pub all-ends : all f (everyAt step b p n) ≡ w → n ≤ 0 → true ≡ w
+  all-ends = loops.all-ends f step b p n w
