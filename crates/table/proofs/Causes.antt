@@ -19,7 +19,7 @@ use Rattle.table.specs.Rules.{Dangling, Mistagged, Circular, Sharing, In
 use Rattle.table.specs.Reading.{scan, look}
 use Rattle.table.specs.Decide.{infinite}
 use Rattle.table.specs.Cause.{number, place, Holds, Cause, FirstCause}
-use Rattle.table.specs.Verdict.{breaks, inTurn, recordCauses, judge, verdict}
+use Rattle.table.specs.Verdict.{breaks, inTurn, recordCauses, judge, tooLong, verdict}
 use Rattle.table.specs.Passes.{Passes}
 use Rattle.table.specs.Walk.{Named}
 use Rattle.table.specs.declared.TableCause.{TableCause}
@@ -176,23 +176,25 @@ module _ (b : List ℕ) (octets : Octets b) where
   pub right : Right b (verdict b)
   unfolding verdict judge
   right =
-      test (ltb 8192 (length b))
+      test (tooLong b)
       (λ e. rw e (record {
-        holds = over-long (ltb-true 8192 (length b) e);
+        holds = over-long (omega (arith, ltb-true));
         earlier = λ d h x. omega (arith, number-some d);
         lower = λ d s h x. omega arith;
       }))
       λ e.
-      let short = ltb-false 8192 (length b) e in
+      let short : length b ≤ 8192 = omega (arith, ltb-false) in
       test (scan b .whole)
       (λ w.
       let f = scan-spells b octets short w in
       rw (e, w) (judged b _ _ (f .beyond) (to-rule f) from-rule 2 recordCauses (omega arith) in-order
       (λ d h x. spells-not-misshapen octets (f .spells) (shape-of d (omega (arith, number-some d)) x))))
-      λ w. rw (e, w) (record {
-        holds = scan-misshapen b octets short w;
+      λ w.
+      let m = scan-misshapen b octets short w in
+      rw (e, w) (record {
+        holds = m;
         earlier = λ d h x. omega (arith, number-some d);
-        lower = λ d s h x. omega (arith, misshapen-unique octets (shape-of d s x) (scan-misshapen b octets short w));
+        lower = λ d s h x. omega (arith, misshapen-unique octets (shape-of d s x) m);
       })
 
   -- octets of which no cause holds
@@ -217,9 +219,9 @@ module _ (b : List ℕ) (octets : Octets b) where
           tagged = λ t h y. none (WrongTag t) (held t (λ T n. Mistagged (T t)) h y);
         } in
         record {
-          some = x .some;
-          few = x .few;
-          short = x .short;
+          some = omega arith;
+          few = omega arith;
+          short = omega arith;
           shaped = named .shaped;
           there = named .there;
           tagged = named .tagged;
@@ -227,7 +229,7 @@ module _ (b : List ℕ) (octets : Octets b) where
           distinct = λ t h y. none (SharedTag t) (held t (λ T n. Sharing T t) h y);
           finite = λ t h. test (infinite T n t)
               (λ e. absurd (none (NoValue t) (held t (λ T n. Infinite T t) h (infinite-true T n beyond t e)))) λ e. infinite-false T n t e;
-          tag-numbers = tag-numbers octets x;
-          listed-numbers = listed-numbers octets x;
+          tag-numbers = λ t h g i. omega (arith, tag-numbers octets x t h g i);
+          listed-numbers = λ t h ns q k i. omega (arith, listed-numbers octets x t h ns q k i);
           no-more = beyond;
         }

@@ -12,7 +12,7 @@ use Rattle.octets.specs.Lists.{lowest}
 use Rattle.octets.proofs.Tests.{test}
 use Rattle.table.specs.Syntax.{Table}
 use Rattle.table.specs.Reading.{recordEnd, scanFrom, scan, look}
-use Rattle.table.specs.Verdict.{breaks, inTurn, recordCauses, judge, verdict}
+use Rattle.table.specs.Verdict.{breaks, inTurn, recordCauses, judge, tooLong, verdict}
 use Rattle.table.specs.Cause.{place}
 use Rattle.table.specs.declared.TableCause.{TableCause}
 use Rattle.table.specs.declared.TableCause.the-variants.{Shape}
@@ -44,7 +44,7 @@ within : (b : List ℕ) → Within 128 (verdict b)
 unfolding verdict scan judge
 within b =
     let s = scanned b 128 [] 0 in
-    test (ltb 8192 (length b)) (λ e. rw e (omega arith)) λ e. rw e
+    test (tooLong b) (λ e. rw e (omega arith)) λ e. rw e
     (test (not (scan b .whole)) (λ f. rw f (omega arith)) λ f. rw f
     (judged (look b (scan b .offsets)) (length (scan b .offsets)) 128 2 recordCauses (omega arith) in-order))
 
@@ -53,7 +53,7 @@ place-small b c e = subst (Within 128) e (within b)
 
 pub passed-short : (b : List ℕ) → verdict b ≡ Passed → length b ≤ 8192
 unfolding verdict
-passed-short b e = test (ltb 8192 (length b)) (λ f. absurd (refused (rw f at e))) λ f. ltb-false 8192 (length b) f
+passed-short b e = test (tooLong b) (λ f. absurd (refused (rw f at e))) λ f. omega (arith, ltb-false)
   where
     refused : Refused (Shape 0) ≡ Passed → ⊥
     refused z = let o : _≡_ {A = ℕ} 0 1 = cc in omega arith

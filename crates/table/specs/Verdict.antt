@@ -44,9 +44,13 @@ judgeChoices T n = inTurn T n choiceCauses
 unfoldable pub judge : Table → ℕ → Verdict
 judge T n = inTurn T n recordCauses
 
+-- so many octets are not looked at (FORMATS, "Limits")
+abbrev pub tooLong : List ℕ → Bool
+tooLong b = ltb 8192 (length b)
+
 -- Too many octets are refused by 1 at 0, whatever they are; then 1 at the first record that is not shaped; then the causes of records (FORMATS, "Order of refusals").
 unfoldable pub verdict : List ℕ → Verdict
 verdict b =
-    if (ltb 8192 (length b)) (Refused (Shape 0)) λ _.
+    if (tooLong b) (Refused (Shape 0)) λ _.
     if (not (scan b .whole)) (Refused (Shape (length (scan b .offsets)))) λ _.
     judge (look b (scan b .offsets)) (length (scan b .offsets))
