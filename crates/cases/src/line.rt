@@ -1,123 +1,90 @@
-// The lines of the program: each is put into a buffer and written at once.
-use coding::Refusal;
+// The lines that the program prints (FORMATS, "The program of cases"), each made in a line that is lent.
+ghost use mathlib.Core.Path.{_≡_};
+ghost use mathlib.Core.List.{_++_};
 ghost use Prim.Native.Nat.{_≤_};
 ghost use lib.ListN.{length};
+ghost use Rattle.cases.specs.Output.{Room, Put, longest, decimal, space, doneLine, refusedLine, cutLine, outputLine};
+use crate::text::front;
+use crate::text::put;
+use crate::text::put_decimal;
+use crate::text::put_shown;
+use crate::text::put_text;
+use coding::Answer;
 
-// The longest line: twenty digits, " ok ", the digits of 16,384 octets, a line feed.
-const LONGEST: usize = 32793;
-
-// Puts an octet into a line and answers the place behind it; a full line takes no more.
-fn put(line: &mut [u8], at: usize, octet: u8) -> usize
-    requires { ⌜ at ≤ length (now line) ⌝ }
-    ensures { λ r. ⌜ r ≤ length (now (line .exit)) ⌝ }
+// The number of a case, and the text behind it.
+fn begin(number: u64, text: &[u8], line: &mut [u8]) -> usize
+    requires { ⌜ Room (decimal number ++ now text) 0 (now line) ⌝ }
+    ensures { λ r. ⌜ Put (decimal number ++ now (text .entry)) 0 (now (line .entry)) (now (line .exit)) r ⌝ }
 {
-    if at < line.len() {
-        line[at] = octet;
-        at + 1
-    } else {
-        at
-    }
-}
-
-fn put_text(line: &mut [u8], at: usize, text: &[u8]) -> usize
-    requires { ⌜ at ≤ length (now line) ⌝ }
-    ensures { λ r. ⌜ r ≤ length (now (line .exit)) ⌝ }
-{
-    let mut end = at;
-    let mut i = 0;
-    while i < text.len() {
-        end = put(line, end, text[i]);
-        i += 1;
-    }
-    end
-}
-
-fn put_decimal(line: &mut [u8], at: usize, n: u64) -> usize
-    requires { ⌜ at ≤ length (now line) ⌝ }
-    ensures { λ r. ⌜ r ≤ length (now (line .exit)) ⌝ }
-{
-    let mut digits = [0u8; 20];
-    let k = io::decimal(n, &mut digits);
-    put_text(line, at, &digits[..k])
-}
-
-// A digit of small hexadecimal.
-fn digit(x: u8) -> u8 {
-    let low = x % 16;
-    if low < 10 { 48 + low } else { 87 + low }
-}
-
-fn put_hex(line: &mut [u8], at: usize, octets: &[u8]) -> usize
-    requires { ⌜ at ≤ length (now line) ⌝ }
-    ensures { λ r. ⌜ r ≤ length (now (line .exit)) ⌝ }
-{
-    let mut end = at;
-    let mut i = 0;
-    while i < octets.len() {
-        let x = octets[i];
-        end = put(line, end, digit(x / 16));
-        end = put(line, end, digit(x));
-        i += 1;
-    }
-    end
-}
-
-// " ok" and the result, if there is one
-fn put_done(line: &mut [u8], at: usize, result: &[u8]) -> usize
-    requires { ⌜ at ≤ length (now line) ⌝ }
-    ensures { λ r. ⌜ r ≤ length (now (line .exit)) ⌝ }
-{
-    let at = put_text(line, at, b" ok");
-    if result.len() == 0 {
-        return at;
-    }
-    let at = put_text(line, at, b" ");
-    put_hex(line, at, result)
-}
-
-// " no 25 0"
-fn put_refused(line: &mut [u8], at: usize, number: u64, place: usize) -> usize
-    requires { ⌜ at ≤ length (now line) ⌝ }
-    ensures { λ r. ⌜ r ≤ length (now (line .exit)) ⌝ }
-{
-    let at = put_text(line, at, b" no ");
-    let at = put_decimal(line, at, number);
-    let at = put_text(line, at, b" ");
-    put_decimal(line, at, place as u64)
-}
-
-// Ends a line and writes it.
-fn print(line: &mut [u8], at: usize)
-    requires { ⌜ at ≤ length (now line) ⌝ }
-{
-    let at = put(line, at, 10);
-    io::write_all(1, &line[..at]);
-}
-
-// "1 ok 56410101"; "A check prints 1 ok"
-pub fn print_done(number: u64, result: &[u8]) {
-    let mut space = [0u8; LONGEST];
-    let line: &mut [u8] = &mut space;
     let at = put_decimal(line, 0, number);
-    let at = put_done(line, at, result);
-    print(line, at);
+    put_text(line, at, text)
 }
 
-// "A refusal prints 1 no 25 0: number, place."
-pub fn print_refused(number: u64, refusal: Refusal) {
-    let p = engine::refusal::parts_of(refusal);
-    let mut space = [0u8; LONGEST];
-    let line: &mut [u8] = &mut space;
-    let at = put_decimal(line, 0, number);
-    let at = put_refused(line, at, p.number, p.place);
-    print(line, at);
+// `1 ok 56410101`, or `1 ok`
+fn done_line(number: u64, result: &[u8], line: &mut [u8]) -> usize
+    requires { ⌜ Room (doneLine number (now result)) 0 (now line) ⌝ }
+    ensures { λ r. ⌜ Put (doneLine number (now (result .entry))) 0 (now (line .entry)) (now (line .exit)) r ⌝ }
+{
+    let at = begin(number, b" ok", line);
+    let end = put_shown(line, at, result);
+    put(line, end, b'\n')
 }
 
-// "prints 1 cut and ends"
-pub fn print_cut(number: u64) {
-    let mut space = [0u8; LONGEST];
-    let line: &mut [u8] = &mut space;
-    let at = put_decimal(line, 0, number);
-    let at = put_text(line, at, b" cut");
-    print(line, at);
+// `25 0`: the number of a refusal and its place.
+fn put_refusal(line: &mut [u8], at: usize, n: u64, place: u64) -> usize
+    requires { ⌜ Room (decimal n ++ space ++ decimal place) at (now line) ⌝ }
+    ensures { λ r. ⌜ Put (decimal n ++ space ++ decimal place) at (now (line .entry)) (now (line .exit)) r ⌝ }
+{
+    let behind = put_decimal(line, at, n);
+    let from = put(line, behind, b' ');
+    put_decimal(line, from, place)
+}
+
+// `1 no 25 0`
+fn refused_line(number: u64, n: u64, place: usize, line: &mut [u8]) -> usize
+    requires { ⌜ Room (refusedLine number n place) 0 (now line) ⌝ }
+    ensures { λ r. ⌜ Put (refusedLine number n place) 0 (now (line .entry)) (now (line .exit)) r ⌝ }
+{
+    let at = begin(number, b" no ", line);
+    let end = put_refusal(line, at, n, place as u64);
+    put(line, end, b'\n')
+}
+
+// `1 cut`
+fn cut_line(number: u64, line: &mut [u8]) -> usize
+    requires { ⌜ Room (cutLine number) 0 (now line) ⌝ }
+    ensures { λ r. ⌜ Put (cutLine number) 0 (now (line .entry)) (now (line .exit)) r ⌝ }
+{
+    let at = begin(number, b" cut", line);
+    put(line, at, b'\n')
+}
+
+// The octets of that line.
+pub fn cut_text<'a>(number: u64, line: &'a mut [u8]) -> &'a [u8]
+    requires { ⌜ longest ≤ length (now line) ⌝ }
+    ensures { λ r. ⌜ now r ≡ cutLine number ⌝ }
+{
+    let n = cut_line(number, line);
+    front(line, n)
+}
+
+// The line for an answer; what is done has its result at the start of the buffer.
+pub fn line_of(number: u64, a: Answer, buf: &[u8; 16384], line: &mut [u8]) -> usize
+    requires { ⌜ longest ≤ length (now line) ⌝ }
+    ensures { λ r. ⌜ Put (outputLine number a (now (buf .entry))) 0 (now (line .entry)) (now (line .exit)) r ⌝ }
+{
+    match a {
+        Answer::Done(n) => {
+            let all: &[u8] = buf;
+            if n <= all.len() {
+                done_line(number, &all[..n], line)
+            } else {
+                done_line(number, all, line)
+            }
+        }
+        Answer::Refused(r) => {
+            let p = engine::refusal::parts_of(r);
+            refused_line(number, p.number, p.place, line)
+        }
+    }
 }

@@ -1,7 +1,8 @@
-// The program of cases (document 01, "Examples on each edge"): reads cases from standard input and prints a line for each.
+// The program of cases (FORMATS, "The program of cases"): reads cases from standard input and prints a line for each.
+mod case;
 mod line;
+mod text;
 
-use coding::Answer;
 ghost use Prim.Native.Nat.{_≤_};
 ghost use lib.ListN.{length};
 
@@ -30,30 +31,19 @@ fn known(head: &[u8; 6]) -> bool {
     head[0] == 0x43 && head[1] == 0x41 && head[2] <= 2
 }
 
-// Prints an answer; what is done has its result at the start of the buffer.
-fn print(number: u64, a: Answer, buf: &[u8]) {
-    match a {
-        Answer::Done(n) => {
-            if n <= buf.len() {
-                line::print_done(number, &buf[..n]);
-            }
-        }
-        Answer::Refused(r) => line::print_refused(number, r),
-    }
+// Runs a case and prints its line.
+fn run(number: u64, operation: u8, t: usize, table: &[u8], data: &[u8]) {
+    let mut space = [0u8; 32793];
+    io::write_all(
+        1,
+        case::case_text(number, operation, t, table, data, &mut space),
+    );
 }
 
-// "the lent buffer is 16,384 octets, and a check passes over type and data"
-fn run(number: u64, operation: u8, t: usize, table: &[u8], data: &[u8]) {
-    let mut buf = [0u8; 16384];
-    if operation == 0 {
-        print(number, engine::check(table), &buf);
-    } else if operation == 1 {
-        let a = engine::write(table, t, data, &mut buf);
-        print(number, a, &buf);
-    } else {
-        let a = engine::read(table, t, data, &mut buf);
-        print(number, a, &buf);
-    }
+// Says that a case is cut.
+fn say_cut(number: u64) {
+    let mut space = [0u8; 32793];
+    io::write_all(1, line::cut_text(number, &mut space));
 }
 
 // The data of a case; false if the case is cut.
@@ -100,7 +90,7 @@ fn one(number: u64) -> bool {
     if got == 6 && with_head(number, &head) {
         return true;
     }
-    line::print_cut(number);
+    say_cut(number);
     false
 }
 

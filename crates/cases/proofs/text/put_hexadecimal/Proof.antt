@@ -1,0 +1,38 @@
+-- `cases::text::put_hexadecimal` meets its contract: two digits for each octet passed.
+-- Assumes nothing.
+use mathlib.Core.List.{[], _∷_}
+use mathlib.Core.Path.{_≡_, refl, _∙_}
+use Prim.Native.Nat.{_+_, _-_, _≤_}
+use native.Mathlib.Numerals.{add-one}
+use native.Mathlib.Omega.{arith}
+use lib.ListN.{length, take}
+use lib.Seq.{take-all}
+use Rattle.cases.specs.Output.{Put, hexadecimal}
+use Rattle.cases.proofs.Placing.{put-none}
+use Rattle.cases.proofs.Digits.{hexadecimal-room, hexadecimal-turn}
+use borrow.Author.Needs.{needs}
+use Rattle.cases.proofs.text.put_hexadecimal.Statement.{statement}
+use Rattle.cases.proofs.text.put_hexadecimal.Tie as tie
+
+-- the first i octets are spelled
+abbrev Inv-loop : tie.InvT-loop
+Inv-loop line₀ at octets end₀ i₀ line end i = (i ≤ length octets) × (length line ≡ length line₀) × Put (hexadecimal (take i octets)) at line₀ line end
+
+abbrev μ-loop : tie.MeasureT-loop
+μ-loop line₀ at octets end₀ i₀ line end i = length octets - i
+
+pub put-hexadecimal-spec : {M : Type 1} → statement M
+unfolding hexadecimal
+put-hexadecimal-spec =
+    tie.close
+    (tie.spec
+    Inv-loop
+    μ-loop
+    (λ c. (search needs, refl, put-none _ _))  -- loop-holds
+    (λ c. search needs)  -- shared-slice-read-put-pair
+    (λ c κs. hexadecimal-room (c .before .before .before .before .before .before .args .octets .now) (c .before .before .before .loop .i) (c .before .before .loop-test .taken) (c .before .before .before .before .before .before .pre) (c .before .before .before .loop .inv .2))  -- put-pair-requires
+    (λ c. search needs)  -- add-i
+    (λ c. search needs)  -- loop-less
+    (λ c. (search needs, c .before .before .put-pair .kept .0 ∙ c .before .before .before .before .before .before .loop .inv .1, rw add-one (hexadecimal-turn (c .before .before .before .before .before .before .before .before .before .args .octets .now) (c .before .before .before .before .before .before .loop .i) (c .before .before .before .before .before .loop-test .taken) (c .before .before .before .before .before .before .before .before .before .pre) (c .before .before .before .before .before .before .loop .inv .2) (c .before .before .put-pair .ensures))))  -- loop-again
+    (λ c. c .before .loop .inv .1)  -- same-length
+    (λ c. rw (take-all (c .before .loop .i) (c .before .before .before .before .args .octets .now) (c .loop-test .left)) at (c .before .loop .inv .2)))  -- returns

@@ -1,0 +1,3 @@
+-- What the program of cases prints.
+-- Assumes nothing.
+pub mod Output
