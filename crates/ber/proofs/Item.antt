@@ -104,7 +104,7 @@ pub part-place : {A : Type 0} (body : Mode → List ℕ → Answer A) {n l : ℕ
 unfolding inside behind then
 part-place body {n} {l} c s e =
     let k : length (c ++ s) - length c ≡ length s = simp length-append (omega arith) in
-    rw (take-append-seam c s, e, k) refl
+    rw (take-append-seam c s, e) (ap (λ (j : ℕ). refused n (l + j)) k)
 
 -- what a reader of the identifier and the length took
 pub header-sound : (i s : List ℕ) → Holds (λ z r. (u : List ℕ) × (s ≡ i ++ u) × Shape u z r) (readHeader i s)
