@@ -1,8 +1,8 @@
 -- Texts put into a line: one behind another is their join, and room for the join is room for each.
 -- Assumes nothing.
-use mathlib.Core.List.{List, [], _++_, append-assoc}
+use mathlib.Core.List.{List, [], _∷_, _++_, append-assoc}
 use mathlib.Core.Path.{_≡_, refl, ap, _∙_}
-use Prim.Native.Nat.{ℕ, _+_, _≤_}
+use Prim.Native.Nat.{ℕ, _+_, _≤_, _<_}
 use native.Mathlib.Omega.{arith}
 use lib.ListN.{length, take, drop, length-append}
 use lib.Seq.{take-length, take-at, drop-drop, sets, sets-eq, paste, paste-zero, length-paste, take-paste, drop-paste}
@@ -61,6 +61,10 @@ put-joined {t} {u} {l} {at = at} {r = r} p q room =
       behind = omega arith;
       holds = q .holds ∙ rw (put-head first p, put-rest first p (length u), e, append-assoc (take at l) t u) refl;
     }
+
+-- room for one octet
+pub one-room : {o at : ℕ} {l : List ℕ} → Room (o ∷ []) at l → at < length l
+one-room room = omega arith
 
 -- three texts
 module _ (t u w : List ℕ) {l : List ℕ} {at : ℕ} (room : Room (t ++ u ++ w) at l) where
