@@ -11,6 +11,12 @@ use lib.Pow.{pow-pos}
 use Rattle.octets.specs.Permutations.{AllOctets, every-cons}
 use Rattle.ber.specs.BitString.{unused, masked}
 
+-- the unused bits of what is read are 0
+pub masked-clear : (n x : ℕ) (c : List ℕ) → getD (masked n (x ∷ c)) (length c) 0 % 2 ^ n ≡ 0
+unfolding masked
+masked-clear n x [] = ap (λ (z : ℕ). z % 2 ^ n) (sym (add-zero (x / 2 ^ n * 2 ^ n))) ∙ digits-mod (x / 2 ^ n) (pow-pos n)
+masked-clear n x (y ∷ c) = masked-clear n y c
+
 masked-cons : (n x y : ℕ) (c : List ℕ) → masked n (x ∷ masked n (y ∷ c)) ≡ x ∷ masked n (masked n (y ∷ c))
 unfolding masked
 masked-cons n x y [] = refl
@@ -33,9 +39,3 @@ unfolding masked
 masked-octets n {c = []} es = es
 masked-octets n {c = x ∷ []} (every-cons h es) = every-cons {x = x / 2 ^ n * 2 ^ n} (omega (arith, div-mul-le-self x (2 ^ n))) es
 masked-octets n {c = x ∷ y ∷ c} (every-cons h es) = every-cons h (masked-octets n es)
-
--- the unused bits of what is read are 0
-pub masked-clear : (n x : ℕ) (c : List ℕ) → getD (masked n (x ∷ c)) (length c) 0 % 2 ^ n ≡ 0
-unfolding masked
-masked-clear n x [] = ap (λ (z : ℕ). z % 2 ^ n) (sym (add-zero (x / 2 ^ n * 2 ^ n))) ∙ digits-mod (x / 2 ^ n) (pow-pos n)
-masked-clear n x (y ∷ c) = masked-clear n y c

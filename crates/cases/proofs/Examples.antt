@@ -1,8 +1,7 @@
 -- Lines by their definitions: one fact covers them.
 -- Assumes nothing.
-use mathlib.Core.List.{List, [], _∷_}
+use mathlib.Core.List.{[], _∷_}
 use mathlib.Core.Path.{_≡_, refl}
-use Prim.Native.Nat.{ℕ}
 use Rattle.cases.specs.Output.{figures, decimal, pair, hexadecimal, shown, doneLine, refusedLine, cutLine}
 
 -- `1 ok 56410101`, `1 ok`, `12 no 25 0`, `3 cut`, `0 ok 09af`, `1000 cut`, each with its line feed

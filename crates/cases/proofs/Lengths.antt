@@ -1,13 +1,12 @@
 -- How long the lines are: none is longer than `longest`.
 -- Assumes nothing.
-use mathlib.Core.List.{List, [], _∷_, _++_}
-use mathlib.Core.Path.{_≡_, refl}
+use mathlib.Core.List.{List, [], _∷_}
 use Prim.Native.Nat.{ℕ, zero, suc, _+_, _*_, _/_, _^_, _≤_, _<_}
 use native.Mathlib.Nat.{pow-suc}
 use native.Mathlib.Omega.{arith}
-use lib.ListN.{length, take, length-append, length-take}
+use lib.ListN.{length, length-append}
 use Rattle.cases.proofs.Digits.{hexadecimal-length}
-use Rattle.cases.specs.Output.{Room, longest, figures, decimal, shown, ok, no, cut, space, feed, doneLine, refusedLine, cutLine}
+use Rattle.cases.specs.Output.{Room, longest, figures, decimal, shown, doneLine, refusedLine, cutLine}
 
 figures-length : (k j n : ℕ) → n < 10 ^ j → length (figures k n) ≤ j
 unfolding figures

@@ -1,11 +1,10 @@
 -- The line of a case, by its operation.
 -- Assumes nothing.
 use mathlib.Core.List.{List}
-use mathlib.Core.Path.{_≡_, refl}
+use mathlib.Core.Path.{_≡_}
 use Prim.Native.Nat.{ℕ}
 use borrow.Author.Tests.{eq-eqb, ne-eqb}
 use Rattle.table.specs.Verdict.{verdict}
-use Rattle.coding.specs.Outcome.{Outcome}
 use Rattle.coding.specs.Calls.{checkAnswer, wholeWrite, wholeRead}
 use Rattle.cases.specs.Output.{lent, caseOutcome, caseLine, outputLine}
 

@@ -1,11 +1,11 @@
 -- Texts put into a line: one behind another is their join, and room for the join is room for each.
 -- Assumes nothing.
-use mathlib.Core.List.{List, [], _++_, append-assoc}
-use mathlib.Core.Path.{_≡_, refl, sym, ap, _∙_}
-use Prim.Native.Nat.{ℕ, _+_, _≤_}
+use mathlib.Core.List.{List, [], _∷_, _++_, append-assoc}
+use mathlib.Core.Path.{_≡_, refl, ap, _∙_}
+use Prim.Native.Nat.{ℕ, _+_, _≤_, _<_}
 use native.Mathlib.Omega.{arith}
-use lib.ListN.{length, take, drop, length-append, length-drop}
-use lib.Seq.{length-take-le, take-length, take-at, drop-append-add, drop-drop, sets, sets-eq, paste, paste-zero}
+use lib.ListN.{length, take, drop, length-append}
+use lib.Seq.{take-length, take-at, drop-drop, sets, sets-eq, paste, paste-zero, length-paste, take-paste, drop-paste}
 use Rattle.cases.specs.Output.{Room, Put}
 
 -- nothing at all
@@ -21,22 +21,21 @@ pub put-copied : (t l m : List ℕ) (at i : ℕ) → i ≡ length t → m ≡ pa
 put-copied t l m at i e f = record { behind = ap (λ (k : ℕ). at + k) e; holds = rw (e, take-length) at f }
 
 module _ {t l m : List ℕ} {at r : ℕ} (room : Room t at l) (p : Put t at l m r) where
-  head-length : length (take at l ++ t) ≡ at + length t
-  head-length = length-append (take at l) t ∙ ap (λ (k : ℕ). k + length t) (length-take-le at l (omega arith))
+  pasted : m ≡ paste l at t (length t)
+  pasted = rw take-length (p .holds)
+
+  put-length : length m ≡ length l
+  put-length = rw pasted (length-paste l at t (length t) (room .fits) (omega arith))
 
   -- the line up to the place behind the text
-  pub put-head : take r m ≡ take at l ++ t
-  put-head = rw (p .holds, p .behind) (take-at (take at l ++ t) (drop (at + length t) l) (at + length t) head-length)
+  put-head : take r m ≡ take at l ++ t
+  put-head = rw (p .behind, pasted) (take-paste l at t (length t) (omega arith) (omega arith) ∙ rw take-length refl)
 
   -- what is behind it
   put-rest : (k : ℕ) → drop (r + k) m ≡ drop (r + k) l
   put-rest k =
-      rw (p .holds, p .behind)
-      (ap (λ (j : ℕ). drop (j + k) (take at l ++ t ++ drop (at + length t) l)) (sym head-length)
-      ∙ drop-append-add (take at l ++ t) (drop (at + length t) l) k ∙ drop-drop k (at + length t) l)
-
-  pub put-length : length m ≡ length l
-  put-length = ap length (p .holds) ∙ length-append (take at l ++ t) (drop (at + length t) l) ∙ rw (head-length, length-drop) (omega arith)
+      rw (p .behind, ← drop-drop k (at + length t) m, pasted, drop-paste l at t (length t) (omega arith) (omega arith))
+      (drop-drop k (at + length t) l)
 
 -- a whole line: no place is behind its end, and what stands in front of the answer is the text
 pub put-within : {t l m : List ℕ} {r : ℕ} → Put t 0 l m r → r ≤ length m
@@ -62,6 +61,10 @@ put-joined {t} {u} {l} {at = at} {r = r} p q room =
       behind = omega arith;
       holds = q .holds ∙ rw (put-head first p, put-rest first p (length u), e, append-assoc (take at l) t u) refl;
     }
+
+-- room for one octet
+pub one-room : {o at : ℕ} {l : List ℕ} → Room (o ∷ []) at l → at < length l
+one-room room = omega arith
 
 -- three texts
 module _ (t u w : List ℕ) {l : List ℕ} {at : ℕ} (room : Room (t ++ u ++ w) at l) where

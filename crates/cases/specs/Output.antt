@@ -13,7 +13,8 @@ use Rattle.coding.specs.Outcome.{numberOf, placeOf, Outcome}
 use Rattle.coding.specs.Calls.{checkAnswer, wholeWrite, wholeRead}
 use Rattle.table.specs.Verdict.{verdict}
 
--- FORMATS, "The program of cases": the digits of a number, the last of them its ones; zero has none. At most as many as the first argument says.
+-- FORMATS, "The program of cases": the digits of a number, ones last and no zero in front; zero has none. The first argument bounds how many are looked for.
+-- `glyph` is the octet of a digit: `0` to `9`, then `a` to `f`.
 unfoldable pub figures : ℕ → ℕ → List ℕ
 figures zero n = []
 figures (suc k) zero = []
@@ -61,7 +62,7 @@ doneLine number result = decimal number ++ ok ++ shown result ++ feed
 unfoldable pub refusedLine : ℕ → ℕ → ℕ → List ℕ
 refusedLine number n p = decimal number ++ no ++ (decimal n ++ space ++ decimal p) ++ feed
 
--- FORMATS, "The program of cases": a case that ends too early, or is none.
+-- FORMATS, "The program of cases": a case that the input cuts off, or that is none.
 unfoldable pub cutLine : ℕ → List ℕ
 cutLine number = decimal number ++ cut ++ feed
 
@@ -70,10 +71,11 @@ unfoldable pub outputLine : ℕ → Answer → List ℕ → List ℕ
 outputLine number (Done n) buf = doneLine number (take n buf)
 outputLine number (Refused r) buf = refusedLine number (numberOf r) (placeOf r)
 
--- FORMATS, "The program of cases": operation 0 checks the table, 1 writes the data as a message, 2 reads it; the buffer that is lent has 16,384 octets.
+-- FORMATS, "The program of cases": the engine is lent a buffer of 16,384 octets.
 unfoldable pub lent : List ℕ
 lent = replicate 16384 0
 
+-- FORMATS, "The program of cases": operation 0 checks the table, 1 writes the data, a value, as a message, 2 reads the data, a message. There is no other.
 unfoldable pub caseOutcome : ℕ → ℕ → List ℕ → List ℕ → Outcome
 caseOutcome operation t table d =
     cond (eqb operation 0) (record { answer = checkAnswer (verdict table); buffer = lent })

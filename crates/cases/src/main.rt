@@ -6,8 +6,11 @@ mod text;
 ghost use Prim.Native.Nat.{_≤_};
 ghost use lib.ListN.{length};
 
-// "a length over 16,385"
+// The longest table, and the longest data, that a case may have.
 const LONGEST: usize = 16385;
+
+// The longest line: `longest` of specs/Output.antt.
+const LINE: usize = 32793;
 
 // Two octets, the high one first.
 fn two(high: u8, low: u8) -> usize {
@@ -33,7 +36,7 @@ fn known(head: &[u8; 6]) -> bool {
 
 // Runs a case and prints its line.
 fn run(number: u64, operation: u8, t: usize, table: &[u8], data: &[u8]) {
-    let mut space = [0u8; 32793];
+    let mut space = [0u8; LINE];
     io::write_all(
         1,
         case::case_text(number, operation, t, table, data, &mut space),
@@ -42,7 +45,7 @@ fn run(number: u64, operation: u8, t: usize, table: &[u8], data: &[u8]) {
 
 // Says that a case is cut.
 fn say_cut(number: u64) {
-    let mut space = [0u8; 32793];
+    let mut space = [0u8; LINE];
     io::write_all(1, line::cut_text(number, &mut space));
 }
 

@@ -9,7 +9,7 @@ ghost use Rattle.cases.specs.Output.{Room, Put, decimal, pair, hexadecim
 
 // One octet.
 pub fn put(line: &mut [u8], at: usize, octet: u8) -> usize
-    requires { ⌜ Room (octet ∷ []) at (now line) ⌝ }
+    requires { ⌜ at < length (now line) ⌝ }
     ensures { λ r. ⌜ Put (octet ∷ []) at (now (line .entry)) (now (line .exit)) r ⌝ }
 {
     line[at] = octet;

@@ -3,7 +3,6 @@
 use mathlib.Core.Path.{_∙_}
 use Rattle.cases.specs.Output.{decimal}
 use Rattle.cases.proofs.Placing.{first-room, next-room, put-joined}
-use borrow.Author.Needs.{needs}
 use Rattle.cases.proofs.line.begin.Statement.{statement}
 use Rattle.cases.proofs.line.begin.Tie as tie
 
@@ -11,7 +10,7 @@ pub begin-spec : {M : Type 1} → statement M
 begin-spec =
     tie.close
     (tie.spec
-    (λ c κs. first-room (decimal (c .before .before .before .args .number)) (c .before .before .before .args .text .now) (c .before .before .before .pre))  -- put-decimal-requires
-    (λ c κs. next-room (c .before .before .before .before .before .before .before .args .text .now) (c .before .before .before .put-decimal .ensures) (c .before .before .before .before .before .before .before .pre))  -- put-text-requires
+    (λ c κs. let at-start = c .before .before .before in first-room (decimal (at-start .args .number)) (at-start .args .text .now) (at-start .pre))  -- put-decimal-requires
+    (λ c κs. let at-start = c .before .before .before .before .before .before .before in next-room (at-start .args .text .now) (c .before .before .before .put-decimal .ensures) (at-start .pre))  -- put-text-requires
     (λ c. c .before .before .put-text .kept .0 ∙ c .before .before .before .before .before .before .put-decimal .kept .0)  -- same-length
     (λ c. put-joined (c .before .before .before .before .before .before .put-decimal .ensures) (c .before .before .put-text .ensures) (c .before .before .before .before .before .before .before .before .before .before .pre)))  -- returns

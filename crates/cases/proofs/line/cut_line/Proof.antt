@@ -3,7 +3,7 @@
 use mathlib.Core.List.{_++_}
 use mathlib.Core.Path.{_∙_}
 use Rattle.cases.specs.Output.{decimal, cut, feed, cutLine}
-use Rattle.cases.proofs.Placing.{first-room, next-room, put-joined}
+use Rattle.cases.proofs.Placing.{one-room, first-room, next-room, put-joined}
 use borrow.Author.Needs.{needs}
 use Rattle.cases.proofs.line.cut_line.Statement.{statement}
 use Rattle.cases.proofs.line.cut_line.Tie as tie
@@ -14,7 +14,7 @@ cut-line-spec =
     tie.close
     (tie.spec
     (λ c. search needs)  -- slice-aggregate-begin
-    (λ c κs. first-room (decimal (c .before .before .before .args .number) ++ cut) feed (c .before .before .before .pre))  -- begin-requires
-    (λ c κs. next-room feed (c .before .before .before .begin .ensures) (c .before .before .before .before .before .before .before .pre))  -- put-requires
+    (λ c κs. let at-start = c .before .before .before in first-room (decimal (at-start .args .number) ++ cut) feed (at-start .pre))  -- begin-requires
+    (λ c κs. one-room (next-room feed (c .before .before .before .begin .ensures) (c .before .before .before .before .before .before .before .pre)))  -- put-requires
     (λ c. c .before .before .put .kept .0 ∙ c .before .before .before .before .before .before .begin .kept .1 .1 .0)  -- same-length
     (λ c. put-joined (c .before .before .before .before .before .before .begin .ensures) (c .before .before .put .ensures) (c .before .before .before .before .before .before .before .before .before .before .pre)))  -- returns

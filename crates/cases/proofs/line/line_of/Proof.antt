@@ -17,11 +17,11 @@ line-of-spec =
     (tie.spec
     (λ c. search needs)  -- enum-known-a
     (λ c. sym (length-take-le (c .before .before .before .before .a .given .0 .0) (c .before .before .before .before .before .before .before .args .buf .now) (omega (arith, c .before .before .all .given .0))))  -- slice-aggregate-done-line
-    (λ c κs. done-room _ _ _ (c .before .before .before .before .before .before .before .before .fits .number .fits) (omega (arith, length-take (c .before .before .before .before .before .a .given .0 .0) (c .before .before .before .before .before .before .before .before .args .buf .now), c .before .before .before .all .given .0)) (c .before .before .before .before .before .before .before .before .pre))  -- done-line-requires
-    (λ c κs. done-room _ _ _ (c .before .before .before .before .before .before .before .fits .number .fits) (omega (arith, c .before .before .all .given .0)) (c .before .before .before .before .before .before .before .pre))  -- done-line-requires-2
+    (λ c κs. let at-start = c .before .before .before .before .before .before .before .before in done-room _ _ _ (at-start .fits .number .fits) (omega (arith, length-take (c .before .before .before .before .before .a .given .0 .0) (at-start .args .buf .now), c .before .before .before .all .given .0)) (at-start .pre))  -- done-line-requires
+    (λ c κs. let at-start = c .before .before .before .before .before .before .before in done-room _ _ _ (at-start .fits .number .fits) (omega (arith, c .before .before .all .given .0)) (at-start .pre))  -- done-line-requires-2
     (λ c. search needs)  -- enum-known-a-2
     (λ c κs. search needs)  -- parts-of-requires
-    (λ c κs. refused-room _ _ _ _ (c .before .before .before .before .before .before .fits .number .fits) (search needs) (search needs) (c .before .before .before .before .before .before .pre))  -- refused-line-requires
+    (λ c κs. refused-room _ _ _ _ (search needs) (search needs) (search needs) (c .before .before .before .before .before .before .pre))  -- refused-line-requires
     (λ c. search needs)  -- same-length
     (λ c. rw (c .before .before .before .before .before .before .before .before .a .given .1) (c .before .before .done-line .ensures))  -- returns
     (λ c. search needs)  -- same-length-2

@@ -11,4 +11,4 @@ put-spec = tie.close (tie.spec
     (λ c. search needs)  -- slice-write-line
     (λ c. search needs)  -- add-result
     (λ c. search needs)  -- same-length
-    (λ c. put-stored (c .pre)))  -- returns
+    (λ c. put-stored {t = c .args .octet ∷ []} (search needs)))  -- returns

@@ -1,10 +1,8 @@
 -- `cases::text::put_hexadecimal` meets its contract: two digits for each octet passed.
 -- Assumes nothing.
-use mathlib.Core.List.{[], _∷_}
 use mathlib.Core.Path.{_≡_, refl, _∙_}
-use Prim.Native.Nat.{_+_, _-_, _≤_}
+use Prim.Native.Nat.{_-_, _≤_}
 use native.Mathlib.Numerals.{add-one}
-use native.Mathlib.Omega.{arith}
 use lib.ListN.{length, take}
 use lib.Seq.{take-all}
 use Rattle.cases.specs.Output.{Put, hexadecimal}
@@ -30,9 +28,9 @@ put-hexadecimal-spec =
     μ-loop
     (λ c. (search needs, refl, put-none _ _))  -- loop-holds
     (λ c. search needs)  -- shared-slice-read-put-pair
-    (λ c κs. hexadecimal-room (c .before .before .before .before .before .before .args .octets .now) (c .before .before .before .loop .i) (c .before .before .loop-test .taken) (c .before .before .before .before .before .before .pre) (c .before .before .before .loop .inv .2))  -- put-pair-requires
+    (λ c κs. let at-start = c .before .before .before .before .before .before in hexadecimal-room (at-start .args .octets .now) (c .before .before .before .loop .i) (c .before .before .loop-test .taken) (at-start .pre) (c .before .before .before .loop .inv .2))  -- put-pair-requires
     (λ c. search needs)  -- add-i
     (λ c. search needs)  -- loop-less
-    (λ c. (search needs, c .before .before .put-pair .kept .0 ∙ c .before .before .before .before .before .before .loop .inv .1, rw add-one (hexadecimal-turn (c .before .before .before .before .before .before .before .before .before .args .octets .now) (c .before .before .before .before .before .before .loop .i) (c .before .before .before .before .before .loop-test .taken) (c .before .before .before .before .before .before .before .before .before .pre) (c .before .before .before .before .before .before .loop .inv .2) (c .before .before .put-pair .ensures))))  -- loop-again
+    (λ c. let at-start = c .before .before .before .before .before .before .before .before .before in (search needs, c .before .before .put-pair .kept .0 ∙ c .before .before .before .before .before .before .loop .inv .1, rw add-one (hexadecimal-turn (at-start .args .octets .now) (c .before .before .before .before .before .before .loop .i) (c .before .before .before .before .before .loop-test .taken) (at-start .pre) (c .before .before .before .before .before .before .loop .inv .2) (c .before .before .put-pair .ensures))))  -- loop-again
     (λ c. c .before .loop .inv .1)  -- same-length
     (λ c. rw (take-all (c .before .loop .i) (c .before .before .before .before .args .octets .now) (c .loop-test .left)) at (c .before .loop .inv .2)))  -- returns

@@ -1,6 +1,5 @@
 -- `cases::text::put_pair` meets its contract: two stores.
 -- Assumes nothing.
-use mathlib.Core.List.{[], _∷_}
 use native.Mathlib.Numerals.{add-one}
 use native.Mathlib.Omega.{arith}
 use lib.ListN.{length-set}

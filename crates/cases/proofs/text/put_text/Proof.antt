@@ -1,7 +1,7 @@
 -- `cases::text::put_text` meets its contract: a copy.
 -- Assumes nothing.
-use mathlib.Core.Path.{_≡_, refl, _∙_}
-use Prim.Native.Nat.{_+_, _-_, _≤_}
+use mathlib.Core.Path.{_≡_, refl}
+use Prim.Native.Nat.{_-_, _≤_}
 use native.Mathlib.Numerals.{add-one}
 use native.Mathlib.Omega.{arith}
 use lib.ListN.{length, length-set}
@@ -24,13 +24,13 @@ put-text-spec =
     (tie.spec
     Inv-loop
     μ-loop
-    (λ c. (search needs, refl, paste-zero (c .args .line .now) (c .args .at) (c .args .text .now)))  -- loop-holds
+    (λ c. let at-start = c in (search needs, refl, paste-zero (at-start .args .line .now) (at-start .args .at) (at-start .args .text .now)))  -- loop-holds
     (λ c. search needs)  -- shared-slice-read-line
     (λ c. search needs)  -- add-line
     (λ c. search needs)  -- slice-write-line
     (λ c. search needs)  -- add-i
     (λ c. search needs)  -- loop-less
-    (λ c. (search needs, simp length-set (c .before .before .loop .inv .1), rw (c .before .before .loop .inv .2, add-one) (paste-suc (c .before .before .before .args .line .now) (c .before .before .before .args .at) (c .before .before .before .args .text .now) (c .before .before .loop .i) 0 (search needs) (search needs))))  -- loop-again
+    (λ c. let at-start = c .before .before .before in (search needs, simp length-set (c .before .before .loop .inv .1), rw (c .before .before .loop .inv .2, add-one) (paste-suc (at-start .args .line .now) (at-start .args .at) (at-start .args .text .now) (c .before .before .loop .i) 0 (search needs) (search needs))))  -- loop-again
     (λ c. search needs)  -- add-result
     (λ c. c .before .loop .inv .1)  -- same-length
     (λ c. put-copied _ _ _ _ _ (omega arith) (c .before .loop .inv .2)))  -- returns
