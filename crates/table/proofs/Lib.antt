@@ -1,8 +1,8 @@
 -- Reading a table's octets is the inverse of the octet form, the tests of the rules agree with the rules, and laws for the code that reads a table.
 -- The crates above see the first two alone.
 -- Assumes nothing.
-pub mod Promises
 pub mod Theorems
+pub mod Promises
 mod Causes
 mod Places
 mod Limits
