@@ -35,11 +35,6 @@ unfolding atEnd if none-left
 atEnd-end f x no-more = refl
 atEnd-end f x mark = refl
 
-pub atEnd-more : {A : Type 0} (mode : Mode) (b : ℕ) (s : List ℕ) (f : List ℕ → Answer A) (x : Unit {0} → Answer A) → 0 < b → atEnd mode (b ∷ s) f x ≡ x tt
-unfolding atEnd
-atEnd-more closed b s f x h = simp run
-atEnd-more open-ended b s f x h = simp (run, ne-eqb b 0 (λ e. omega arith))
-
 pub atEnd-holds : {A : Type 0} {P : A → List ℕ → Type 0} (mode : Mode) (s : List ℕ) {f : List ℕ → Answer A} {x : Unit {0} → Answer A} → ((r : List ℕ) → Ends mode s r → Holds P (f r)) → ((u : Unit {0}) → Holds P (x u)) → Holds P (atEnd mode s f x)
 unfolding atEnd if none-left
 atEnd-holds closed [] h k = h [] no-more
@@ -49,6 +44,11 @@ atEnd-holds open-ended (zero ∷ []) h k = refuses
 atEnd-holds open-ended (zero ∷ zero ∷ s) h k = h s mark
 atEnd-holds open-ended (zero ∷ suc c ∷ s) h k = rw (ne-eqb (suc c) 0 (λ e. omega arith)) refuses
 atEnd-holds open-ended (suc b ∷ s) h k = rw (ne-eqb (suc b) 0 (λ e. omega arith)) (k tt)
+
+pub atEnd-more : {A : Type 0} (mode : Mode) (b : ℕ) (s : List ℕ) (f : List ℕ → Answer A) (x : Unit {0} → Answer A) → 0 < b → atEnd mode (b ∷ s) f x ≡ x tt
+unfolding atEnd
+atEnd-more closed b s f x h = simp run
+atEnd-more open-ended b s f x h = simp (run, ne-eqb b 0 (λ e. omega arith))
 
 pub definite-octets : {i c m : List ℕ} → Definite i c m → AllOctets m → AllOctets c
 definite-octets {i = i} (sized ls l e) o = every-right ls (every-right i (rw e at o))

@@ -1,30 +1,21 @@
--- Laws of length octets: what may be sent is read, what is read may be sent, what is written may be sent.
+-- Laws of length octets: what may be sent is read, what is read may be sent, what is written may be sent and is the shortest form.
 -- Assumes nothing.
-use borrow.Author.Tests.{ltb-true, ltb-false, leb-true, eqb-true, eqb-false, lt-ltb, le-ltb, le-leb, ne-eqb}
+use borrow.Author.Tests.{ltb-true, ltb-false, leb-true, eqb-true, eqb-false, lt-ltb, le-ltb, le-leb, eq-eqb, ne-eqb}
 use mathlib.Core.Bool.{false}
 use mathlib.Core.List.{List, [], _∷_, _++_}
 use mathlib.Core.Path.{_≡_, refl, sym, ap, _∙_}
 use native.Mathlib.Nat.{pow-suc, div-add-mod', div-lt-iff-lt-mul}
 use native.Mathlib.Omega.{arith}
-use Prim.Native.Nat.{ℕ, zero, suc, _+_, _-_, _/_, _%_, _^_, _≤_, _<_}
-use lib.Dec.{eqb}
+use Prim.Native.Nat.{ℕ, zero, suc, _+_, _-_, _*_, _/_, _%_, _^_, _≤_, _<_}
+use lib.Dec.{ltb, eqb}
 use lib.ListN.{length, take, length-append, take-append-drop}
 use lib.Seq.{length-take-le, take-append-seam, drop-append-seam}
 use Rattle.octets.specs.Answer.{got}
+use Rattle.octets.specs.Permutations.{AllOctets, every-cons}
 use Rattle.octets.proofs.Answer.{Holds, yields, refuses, if-holds, if-cases, run}
+use Rattle.octets.proofs.Permutations.{every-right}
 use Rattle.ber.specs.Length.{number, Length, short, long, digits, lengthOctets}
 use Rattle.ber.specs.Reading.{Size, definite, indefinite, fit, readLong, readLength}
-
--- what may be sent is read
-pub length-complete : {n : ℕ} {m : List ℕ} (l : ℕ) (s : List ℕ) → Length n m → n ≤ length s → readLength l (m ++ s) ≡ got (definite n) s
-unfolding readLength readLong fit
-length-complete {n} l s (short h e) f = rw e (simp (run, lt-ltb n 128 h, fit, le-leb n (length s) f))
-length-complete {n} l s (long ds h k v e) f =
-    let b = 128 + length ds in
-    let i : length ds ≤ length (ds ++ s) = simp length-append (omega arith) in
-    let d : b - 128 ≡ length ds = omega arith in
-    rw e
-    (simp (run, le-ltb b 128 (omega arith), ne-eqb b 128 (λ z. omega arith), lt-ltb b 255 (omega arith), d, readLong, le-leb _ _ i, take-append-seam ds s, drop-append-seam ds s, v, fit, le-leb n (length s) f))
 
 -- what a reader of length octets took from s
 pub data Shape (s : List ℕ) : Size → List ℕ → Type 0 where
@@ -56,12 +47,49 @@ length-sound p (b ∷ s) =
     above : eqb b 128 ≡ false → 128 ≤ b → 128 < b
     above e h = let n : (b ≡ 128 → ⊥) = eqb-false b 128 e in omega arith
 
+-- what may be sent is read
+pub length-complete : {n : ℕ} {m : List ℕ} (l : ℕ) (s : List ℕ) → Length n m → n ≤ length s → readLength l (m ++ s) ≡ got (definite n) s
+unfolding readLength readLong fit
+length-complete {n} l s (short h e) f = rw e (simp (run, lt-ltb n 128 h, fit, le-leb n (length s) f))
+length-complete {n} l s (long ds h k v e) f =
+    let b = 128 + length ds in
+    let i : length ds ≤ length (ds ++ s) = simp length-append (omega arith) in
+    let d : b - 128 ≡ length ds = omega arith in
+    rw e
+    (simp (run, le-ltb b 128 (omega arith), ne-eqb b 128 (λ z. omega arith), lt-ltb b 255 (omega arith), d, readLong, le-leb _ _ i, take-append-seam ds s, drop-append-seam ds s, v, fit, le-leb n (length s) f))
+
 digits-number : (k n : ℕ) (l : List ℕ) → n < 256 ^ k → number 0 (digits k n l) ≡ number n l
 unfolding digits number
 digits-number zero n l h = ap (λ (x : ℕ). number x l) (omega arith)
 digits-number (suc k) n l h =
     if-cases (λ x. number 0 x ≡ number n l) _ _ _ (λ e. ap (λ (x : ℕ). number x l) (sym (eqb-true n 0 e)))
     (λ e. digits-number k (n / 256) (n % 256 ∷ l) (div-lt-iff-lt-mul (omega arith) .1 (rw pow-suc at h)) ∙ ap (λ (x : ℕ). number x l) (div-add-mod' n 256))
+
+digits-few : (k j n : ℕ) (l : List ℕ) → n < 256 ^ j → length (digits k n l) ≤ j + length l
+unfolding digits
+digits-few zero j n l h = omega arith
+digits-few (suc k) zero n l h = rw (eq-eqb n 0 (omega arith)) (simp run (omega arith))
+digits-few (suc k) (suc j) n l h =
+    if-cases (λ x. length x ≤ suc j + length l) _ l (λ _. digits k (n / 256) (n % 256 ∷ l)) (λ e. omega arith)
+    (λ e. let f = digits-few k j (n / 256) (n % 256 ∷ l) (div-lt-iff-lt-mul (omega arith) .1 (rw pow-suc at h)) in omega arith)
+
+number-below : (i n : ℕ) (ds : List ℕ) → n < 256 ^ i → AllOctets ds → number n ds < 256 ^ (i + length ds)
+unfolding number
+number-below i n [] h o = let e : i + 0 ≡ i = omega arith in rw e h
+number-below i n (d ∷ ds) h (every-cons b o) =
+    let f : n * 256 + d < 256 ^ suc i = rw pow-suc (omega arith) in
+    let e : suc i + length ds ≡ i + suc (length ds) = omega arith in
+    rw e at (number-below (suc i) (n * 256 + d) ds f o)
+
+-- what is written is the shortest form that may be sent
+pub length-shortest : (n : ℕ) (m : List ℕ) → Length n m → AllOctets m → length (lengthOctets n) ≤ length m
+unfolding lengthOctets
+length-shortest n m (short h e) o = rw (e, lt-ltb n 128 h) (simp run (omega arith))
+length-shortest n m (long ds h k v e) o =
+    let z : 0 + length ds ≡ length ds = omega arith in
+    let b : n < 256 ^ length ds = rw (v, z) at (number-below 0 0 ds (omega arith) (every-right ((128 + length ds) ∷ []) (rw e at o))) in
+    let f = digits-few 8 (length ds) n [] b in
+    rw e (if-cases (λ (x : List ℕ). length x ≤ suc (length ds)) (ltb n 128) _ _ (λ t. omega arith) (λ t. omega arith))
 
 digits-most : (k n : ℕ) (l : List ℕ) → length (digits k n l) ≤ k + length l
 unfolding digits
