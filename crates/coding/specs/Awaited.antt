@@ -28,7 +28,7 @@ unfoldable pub beginsIn : Table → ℕ → ℕ → List ℕ → Bool
 beginsIn T zero t i = false
 beginsIn T (suc k) t i = beginsItem (λ a. beginsIn T k a i) i (explicit (T t)) (own (T t)) (T t .body)
 
--- the identifier octets i begin values of the type t; a table has at most 128 records, so at most 128 CHOICEs stand above an item
+-- the identifier octets i begin values of the type t; of 128 records at most 127 are CHOICEs above an item
 unfoldable pub begins : Table → ℕ → List ℕ → Bool
 begins T t i = beginsIn T 129 t i
 
