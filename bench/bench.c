@@ -71,8 +71,8 @@ static const struct input *named(const char *name)
 static uint64_t engine(const struct input *x)
 {
     if (x->op == CHECK)
-        return link_check(x->table, x->table_len);
-    return (x->op == WRITE ? link_write : link_read)(x->table, x->table_len, x->type, x->data, x->data_len, buf, ROOM);
+        return yinscarf_check(x->table, x->table_len);
+    return (x->op == WRITE ? yinscarf_write : yinscarf_read)(x->table, x->table_len, x->type, x->data, x->data_len, buf, ROOM);
 }
 
 /* The engine as one of the coders: a value is the octets of a value. */
@@ -81,14 +81,14 @@ static size_t our_length;
 
 static void *our_read(const uint8_t *message, size_t n)
 {
-    uint64_t a = link_read(our_table->table, our_table->table_len, 0, message, n, buf, ROOM);
+    uint64_t a = yinscarf_read(our_table->table, our_table->table_len, 0, message, n, buf, ROOM);
     our_length = YINSCARF_REST(a);
     return YINSCARF_NUMBER(a) == YINSCARF_DONE ? buf : NULL;
 }
 
 static size_t our_write(const void *value, uint8_t *to, size_t room)
 {
-    uint64_t a = link_write(our_table->table, our_table->table_len, 0, value, our_length, to, room);
+    uint64_t a = yinscarf_write(our_table->table, our_table->table_len, 0, value, our_length, to, room);
     return YINSCARF_NUMBER(a) == YINSCARF_DONE ? YINSCARF_REST(a) : 0;
 }
 

@@ -14,8 +14,8 @@
  * what is done writes the first octets of buf, as many as the answer says, and leaves the rest as it was. Nothing is kept
  * between calls and no memory is allocated, so calls may run at the same time on different buffers.
  *
- * ./build puts this file and the archive into target/link; a program is built by
- *   cc -Itarget/link program.c target/link/liblink.a
+ * ./build puts this file and the archive into target/yinscarf; a program is built by
+ *   cc -Itarget/yinscarf program.c target/yinscarf/libyinscarf.a
  */
 #ifndef YINSCARF_H
 #define YINSCARF_H
@@ -57,15 +57,15 @@ enum yinscarf_number {
 };
 
 /* Whether a type table passes: 0, or a refusal 1 to 6. */
-uint64_t link_check(const uint8_t *table, size_t table_len);
+uint64_t yinscarf_check(const uint8_t *table, size_t table_len);
 
 /* Writes a value of a type as a message: 0 and the message's length, or a refusal 1 to 14. */
-uint64_t link_write(const uint8_t *table, size_t table_len, size_t type, const uint8_t *value, size_t value_len, uint8_t *buf,
-                    size_t buf_len);
+uint64_t yinscarf_write(const uint8_t *table, size_t table_len, size_t type, const uint8_t *value, size_t value_len, uint8_t *buf,
+                        size_t buf_len);
 
 /* Reads a message of a type into a value: 0 and the value's length, or a refusal 1 to 7 or 21 to 28. */
-uint64_t link_read(const uint8_t *table, size_t table_len, size_t type, const uint8_t *message, size_t message_len, uint8_t *buf,
-                   size_t buf_len);
+uint64_t yinscarf_read(const uint8_t *table, size_t table_len, size_t type, const uint8_t *message, size_t message_len, uint8_t *buf,
+                       size_t buf_len);
 
 #ifdef __cplusplus
 }

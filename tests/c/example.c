@@ -26,14 +26,14 @@ static void show(const char *what, uint64_t answer, const uint8_t *buf)
 int main(void)
 {
     uint8_t message[64], back[64];
-    uint64_t a = link_check(table, sizeof table);
+    uint64_t a = yinscarf_check(table, sizeof table);
     show("check", a, message);
-    uint64_t w = link_write(table, sizeof table, 2, value, sizeof value, message, sizeof message);
+    uint64_t w = yinscarf_write(table, sizeof table, 2, value, sizeof value, message, sizeof message);
     show("write", w, message);
-    uint64_t r = link_read(table, sizeof table, 2, message, YINSCARF_REST(w), back, sizeof back);
+    uint64_t r = yinscarf_read(table, sizeof table, 2, message, YINSCARF_REST(w), back, sizeof back);
     show("read", r, back);
     /* a member of the SET is missing */
-    uint64_t no = link_read(table, sizeof table, 2, (const uint8_t *)"\x31\x00", 2, back, sizeof back);
+    uint64_t no = yinscarf_read(table, sizeof table, 2, (const uint8_t *)"\x31\x00", 2, back, sizeof back);
     show("read", no, back);
     if (a != 0 || w != 8 || memcmp(message, "\x31\x06\x80\x01\x05\x01\x01\xff", 8) != 0)
         return 1;

@@ -110,8 +110,8 @@ static uint64_t call_at(const struct one *c, size_t room, int at_end, uint8_t *o
     protect(tables, PROT_READ);
     protect(datas, PROT_READ);
     double t = now();
-    uint64_t a = c->op == CHECK ? link_check(table, c->table_len)
-                                : (c->op == WRITE ? link_write : link_read)(table, c->table_len, c->type, data, c->data_len, buf, room);
+    uint64_t a = c->op == CHECK ? yinscarf_check(table, c->table_len)
+                                : (c->op == WRITE ? yinscarf_write : yinscarf_read)(table, c->table_len, c->type, data, c->data_len, buf, room);
     t = now() - t;
     protect(tables, PROT_READ | PROT_WRITE);
     protect(datas, PROT_READ | PROT_WRITE);
@@ -249,20 +249,20 @@ static void edges(void)
     static const uint8_t b[] = {0x54, 0x59, 0x01, 0x01, 0x00, 0x00, 0x01}, v[] = {0x56, 0x41, 0x01, 0x01}, m[] = {0x01, 0x01, 0xFF};
     uint8_t buf[8] = {1, 2, 3, 4, 5, 6, 7, 8}, same[8] = {1, 2, 3, 4, 5, 6, 7, 8};
     struct one c = {WRITE, 0, b, v, sizeof b, sizeof v, 0, NULL};
-    if (link_write(b, sizeof b, 0, v, sizeof v, buf, 2) != 14 * 65536 || link_read(b, sizeof b, 0, m, sizeof m, buf, 3) != 27 * 65536 ||
+    if (yinscarf_write(b, sizeof b, 0, v, sizeof v, buf, 2) != 14 * 65536 || yinscarf_read(b, sizeof b, 0, m, sizeof m, buf, 3) != 27 * 65536 ||
         memcmp(buf, same, 8) != 0)
         fail("small buffers", &c);
-    if (link_check(NULL, 0) != 1 * 65536 || link_write(NULL, 0, 0, v, sizeof v, buf, 8) != 1 * 65536 ||
-        link_read(NULL, 0, 0, m, sizeof m, buf, 8) != 1 * 65536)
+    if (yinscarf_check(NULL, 0) != 1 * 65536 || yinscarf_write(NULL, 0, 0, v, sizeof v, buf, 8) != 1 * 65536 ||
+        yinscarf_read(NULL, 0, 0, m, sizeof m, buf, 8) != 1 * 65536)
         fail("a null table", &c);
-    if (link_write(b, sizeof b, 0, NULL, 0, buf, 8) != 11 * 65536 || link_read(b, sizeof b, 0, NULL, 0, buf, 8) != 22 * 65536)
+    if (yinscarf_write(b, sizeof b, 0, NULL, 0, buf, 8) != 11 * 65536 || yinscarf_read(b, sizeof b, 0, NULL, 0, buf, 8) != 22 * 65536)
         fail("null data", &c);
-    if (link_write(b, sizeof b, 0, v, sizeof v, NULL, 0) != 14 * 65536 || link_read(b, sizeof b, 0, m, sizeof m, NULL, 0) != 27 * 65536)
+    if (yinscarf_write(b, sizeof b, 0, v, sizeof v, NULL, 0) != 14 * 65536 || yinscarf_read(b, sizeof b, 0, m, sizeof m, NULL, 0) != 27 * 65536)
         fail("a null buffer", &c);
-    if (link_write(NULL, 0, 0, NULL, 0, NULL, 0) != 1 * 65536 || link_read(NULL, 0, 0, NULL, 0, NULL, 0) != 1 * 65536)
+    if (yinscarf_write(NULL, 0, 0, NULL, 0, NULL, 0) != 1 * 65536 || yinscarf_read(NULL, 0, 0, NULL, 0, NULL, 0) != 1 * 65536)
         fail("nothing but null pointers", &c);
-    if (link_read(b, sizeof b, 0x100, m, sizeof m, buf, 8) != 7 * 65536 ||
-        link_write(b, sizeof b, 0xFFFFFFFF, v, sizeof v, buf, 8) != 7 * 65536)
+    if (yinscarf_read(b, sizeof b, 0x100, m, sizeof m, buf, 8) != 7 * 65536 ||
+        yinscarf_write(b, sizeof b, 0xFFFFFFFF, v, sizeof v, buf, 8) != 7 * 65536)
         fail("a large type", &c);
     if (memcmp(buf, same, 8) != 0)
         fail("buffer changed by a refusal", &c);

@@ -28,21 +28,21 @@ fn pack(a: Answer) -> u64
 }
 
 #[no_mangle]
-pub extern "C" fn link_check(table: &[u8]) -> u64
+pub extern "C" fn yinscarf_check(table: &[u8]) -> u64
     ensures { λ r. ⌜ r ≡ packed (checkAnswer (verdict (now (table .entry)))) ⌝ }
 {
     pack(engine::check(table))
 }
 
 #[no_mangle]
-pub extern "C" fn link_write(table: &[u8], t: usize, value: &[u8], buf: &mut [u8]) -> u64
+pub extern "C" fn yinscarf_write(table: &[u8], t: usize, value: &[u8], buf: &mut [u8]) -> u64
     ensures { λ r. ⌜ (r ≡ packed (wholeWrite (now (table .entry)) t (now (value .entry)) (now (buf .entry)) .answer)) × (now (buf .exit) ≡ wholeWrite (now (table .entry)) t (now (value .entry)) (now (buf .entry)) .buffer) ⌝ }
 {
     pack(engine::write(table, t, value, buf))
 }
 
 #[no_mangle]
-pub extern "C" fn link_read(table: &[u8], t: usize, message: &[u8], buf: &mut [u8]) -> u64
+pub extern "C" fn yinscarf_read(table: &[u8], t: usize, message: &[u8], buf: &mut [u8]) -> u64
     ensures { λ r. ⌜ (r ≡ packed (wholeRead (now (table .entry)) t (now (message .entry)) (now (buf .entry)) .answer)) × (now (buf .exit) ≡ wholeRead (now (table .entry)) t (now (message .entry)) (now (buf .entry)) .buffer) ⌝ }
 {
     pack(engine::read(table, t, message, buf))
