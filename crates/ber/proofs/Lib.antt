@@ -1,7 +1,7 @@
 -- What is written is read back, and nothing else is accepted.
 -- Assumes nothing.
-pub mod Identifier
-pub mod Length
-pub mod Item
-pub mod Integer
+pub mod Identifiers
+pub mod Lengths
+pub mod Items
+pub mod Integers
 pub mod BitString

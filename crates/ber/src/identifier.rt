@@ -1,6 +1,6 @@
 // Identifier octets (X.690, 8.1.2), and the code by which they are compared: the leading octet and, in the long form, 256 for each unit of the tag number.
 ghost use mathlib.Core.Path.{_≡_};
-ghost use Prim.Native.Nat.{_<_, _+_, _*_, _%_, min};
+ghost use Prim.Native.Nat.{_<_, _≤_, _+_, _*_, _%_, min};
 ghost use lib.ListN.{length, getD};
 ghost use Rattle.octets.specs.Buffers.{put, putEnd};
 ghost use Rattle.ber.specs.Codes.{code, codeOctets};
@@ -97,7 +97,7 @@ pub fn size(code: u32) -> usize
 
 // Puts the identifier of a code; where it ends, or the place itself if there is no room.
 pub fn put(code: u32, buf: &mut [u8], to: usize) -> usize
-    ensures { λ r. ⌜ let w = codeOctets code in (r ≡ putEnd (now (buf .entry)) to w) × (now (buf .exit) ≡ put (now (buf .entry)) to w) ⌝ }
+    ensures { λ r. ⌜ (let w = codeOctets code in (r ≡ putEnd (now (buf .entry)) to w) × (now (buf .exit) ≡ put (now (buf .entry)) to w)) ⌝ }
 {
     if !holds(buf, to, size(code)) {
         return to;

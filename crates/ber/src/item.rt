@@ -76,7 +76,7 @@ pub fn header_size(code: u32, n: u16) -> usize
 
 // Puts these octets; where they end, or the place itself if there is no room.
 pub fn put_header(code: u32, n: u16, buf: &mut [u8], to: usize) -> usize
-    ensures { λ r. ⌜ let w = codeOctets code ++ lengthOctets n in (r ≡ putEnd (now (buf .entry)) to w) × (now (buf .exit) ≡ put (now (buf .entry)) to w) ⌝ }
+    ensures { λ r. ⌜ (let w = codeOctets code ++ lengthOctets n in (r ≡ putEnd (now (buf .entry)) to w) × (now (buf .exit) ≡ put (now (buf .entry)) to w)) ⌝ }
 {
     if !octets::holds(buf, to, header_size(code, n)) {
         return to;

@@ -1,6 +1,6 @@
 // Length octets (X.690, 8.1.3). They are read in all forms, and put in the shortest definite one.
 ghost use mathlib.Core.Path.{_≡_};
-ghost use Prim.Native.Nat.{ℕ, _<_, _≤_, _+_};
+ghost use Prim.Native.Nat.{ℕ, _<_, _≤_, _+_, _-_};
 ghost use lib.ListN.{length, getD, drop};
 ghost use Rattle.octets.specs.Answer.{Answer};
 ghost use Rattle.octets.specs.Buffers.{put, putEnd};
@@ -25,7 +25,7 @@ pub enum Length {
 // The long form with k octets from `at` on. The number never grows beyond what is left.
 fn read_long(m: &[u8], at: usize, k: usize) -> Length
     requires { ⌜ (0 < at) × (at ≤ length (now m)) × (0 < k) × (k < 127) × (getD (now m) (at - 1) 0 ≡ 128 + k) ⌝ }
-    ensures { λ r. ⌜ (l : ℕ) → r ≡ toldLength (length (now (m .entry))) (readLength l (drop (at - 1) (now (m .entry)))) ⌝ }
+    ensures { λ r. ⌜ ((l : ℕ) → r ≡ toldLength (length (now (m .entry))) (readLength l (drop (at - 1) (now (m .entry))))) ⌝ }
 {
     let left = m.len() - at;
     if left < k {
@@ -56,7 +56,7 @@ fn read_long(m: &[u8], at: usize, k: usize) -> Length
 // The forms but the short one: `first` is the first octet, and the next is at `at`.
 fn read_other(m: &[u8], at: usize, first: usize) -> Length
     requires { ⌜ (0 < at) × (at ≤ length (now m)) × (first ≡ getD (now m) (at - 1) 0) × (128 ≤ first) × (first < 256) ⌝ }
-    ensures { λ r. ⌜ (l : ℕ) → r ≡ toldLength (length (now (m .entry))) (readLength l (drop (at - 1) (now (m .entry)))) ⌝ }
+    ensures { λ r. ⌜ ((l : ℕ) → r ≡ toldLength (length (now (m .entry))) (readLength l (drop (at - 1) (now (m .entry))))) ⌝ }
 {
     if first == 128 {
         return Length::Read(Extent {
@@ -73,7 +73,7 @@ fn read_other(m: &[u8], at: usize, first: usize) -> Length
 
 // The length octets at a place of m.
 pub fn read(m: &[u8], at: usize) -> Length
-    ensures { λ r. ⌜ (l : ℕ) → r ≡ toldLength (length (now (m .entry))) (readLength l (drop at (now (m .entry)))) ⌝ }
+    ensures { λ r. ⌜ ((l : ℕ) → r ≡ toldLength (length (now (m .entry))) (readLength l (drop at (now (m .entry))))) ⌝ }
 {
     if m.len() <= at {
         return Length::Refused { fault: Fault::Cut };
@@ -96,7 +96,7 @@ pub fn read(m: &[u8], at: usize) -> Length
 
 // The length octets at a place of m where a length was read before.
 pub fn again(m: &[u8], at: usize) -> Extent
-    ensures { λ r. ⌜ (l : ℕ) → Again (length (now (m .entry))) (readLength l (drop at (now (m .entry)))) r ⌝ }
+    ensures { λ r. ⌜ ((l : ℕ) → Again (length (now (m .entry))) (readLength l (drop at (now (m .entry)))) r) ⌝ }
 {
     let none = Extent {
         start: 0,
@@ -137,7 +137,7 @@ pub fn size(n: u16) -> usize
 
 // Puts the length n; where it ends, or the place itself if there is no room.
 pub fn put(n: u16, buf: &mut [u8], to: usize) -> usize
-    ensures { λ r. ⌜ let w = lengthOctets n in (r ≡ putEnd (now (buf .entry)) to w) × (now (buf .exit) ≡ put (now (buf .entry)) to w) ⌝ }
+    ensures { λ r. ⌜ (let w = lengthOctets n in (r ≡ putEnd (now (buf .entry)) to w) × (now (buf .exit) ≡ put (now (buf .entry)) to w)) ⌝ }
 {
     if !holds(buf, to, size(n)) {
         return to;
