@@ -4,4 +4,6 @@ pub mod Identifiers
 pub mod Lengths
 pub mod Items
 pub mod Integers
+pub mod IntegerCode
+pub mod Sizes
 pub mod BitString

@@ -11,7 +11,7 @@ ghost use Rattle.ber.specs.Integer.{integerOf, integerIn, minimal, fewes
 ghost use Rattle.ber.specs.Integer.{digit as Integer·digit, spare as Integer·spare, negative};
 
 fn wide(x: u8) -> u64
-    ensures { λ r. ⌜ r ≡ x ⌝ }
+    ensures { λ r. ⌜ (r ≡ x) × (r < 256) ⌝ }
 {
     x as u64
 }
