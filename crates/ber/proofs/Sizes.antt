@@ -8,11 +8,11 @@ use native.Mathlib.Nat.{zero-add, add-zero, pow-suc, pow-le-pow-right}
 use native.Mathlib.Omega.{arith}
 use borrow.Author.Tests.{ltb-true, ltb-false, eqb-true, eqb-false, not-true, not-false}
 use lib.Dec.{ltb, eqb}
-use lib.IntN.{ℤ, pos}
+use lib.IntN.{ℤ}
 use lib.ListN.{length}
-use lib.Signed.{mag, ltZ}
+use lib.Signed.{mag}
 use mir.Syntax.{w64}
-use mir.Val.{SFits, toZ, ofZ}
+use mir.Val.{SFits, ofZ}
 use mir.Facts.{fits-ofZ}
 use Rattle.octets.specs.Permutations.{AllOctets, every-cons}
 use Rattle.octets.proofs.Tests.{test}
@@ -85,21 +85,9 @@ fewest-sized z j f a =
     let b : Sized (mag z) (length (fewestOf z) - 1) = rw (w .back) at (integer-sized (fewestOf z) o (w .is-minimal) h) in
     omega (arith, sized-one (mag z) _ j b a)
 
--- by the tests of the code on a number n of 64 bits that is z, or its complement
-module _ (z : ℤ) (n : ℕ) (f : SFits w64 z) (e : toZ w64 n ≡ pos (mag z)) where
-  below : (k : ℕ) → ltZ (toZ w64 n) (pos k) ≡ true → mag z < k
-  below k t = ltb-true (mag z) k (rw e at t)
+-- by bounds of the number
+pub size-one : (z : ℤ) → SFits w64 z → mag z < 128 → 1 ≡ length (fewestOf z)
+size-one z f h = sym (fewest-sized z 0 f (record { most = h; least = λ i l. absurd (omega arith) }))
 
-  above : (k : ℕ) → ltZ (toZ w64 n) (pos k) ≡ false → k ≤ mag z
-  above k t = ltb-false (mag z) k (rw e at t)
-
-  pub size-one : ltZ (toZ w64 n) (pos 128) ≡ true → 1 ≡ length (fewestOf z)
-  size-one t = sym (fewest-sized z 0 f (record { most = below 128 t; least = λ i l. absurd (omega arith) }))
-
-  pub size-between : (j : ℕ) → ltZ (toZ w64 n) (pos (128 * 256 ^ j)) ≡ false → ltZ (toZ w64 n) (pos (128 * 256 ^ suc j)) ≡ true
-      → suc (suc j) ≡ length (fewestOf z)
-  size-between j s t =
-      sym (fewest-sized z (suc j) f (record { most = below (128 * 256 ^ suc j) t; least = least-from j (mag z) (above (128 * 256 ^ j) s) }))
-
-  pub size-eight : ltZ (toZ w64 n) (pos 36028797018963968) ≡ false → 8 ≡ length (fewestOf z)
-  size-eight s = sym (fewest-sized z 7 f (record { most = f .sfits; least = least-from 6 (mag z) (above 36028797018963968 s) }))
+pub size-between : (z : ℤ) (j : ℕ) → SFits w64 z → 128 * 256 ^ j ≤ mag z → mag z < 128 * 256 ^ suc j → suc (suc j) ≡ length (fewestOf z)
+size-between z j f g h = sym (fewest-sized z (suc j) f (record { most = h; least = least-from j (mag z) g }))

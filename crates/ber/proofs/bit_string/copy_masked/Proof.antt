@@ -19,7 +19,9 @@ copy-masked-spec =
     (λ c. search needs)  -- sub-last
     (λ c κs. search needs)  -- unit-requires
     (λ c. search needs)  -- shared-slice-read-x
-    (λ c. rw (c .before .unit .ensures) (pow-pos (c .before .before .before .before .before .before .before .before .before .before .args .n % 8)))  -- div-part
+    (λ c.
+    let a = c .before .before .before .before .before .before .before .before .before .before .args in
+    omega (arith, c .before .unit .ensures, pow-pos (a .n % 8)))  -- div-part
     (λ c.
     let s = now (c .before .before .before .before .before .before .before .before .before .before .args .c) in
     omega (arith, div-mul-le-self (getD s (length s - 1) 0) (c .before .unit .result), c .shared-slice-known2 .given (length s - 1)))  -- mul-part
@@ -27,7 +29,7 @@ copy-masked-spec =
     (λ c. search needs)  -- same-length
     (λ c.
     let a = c .before .before .before .before .before .before .before .before .before .before .args in
-    masked-filled _ (c .before .unit .result) (now (a .c)) (now (a .part)) _
+    masked-filled (a .n % 8) (c .before .unit .result) (now (a .c)) (now (a .part)) _
     (c .before .before .before .before .before .before .before .if1 .left)
     (c .before .before .before .before .before .before .if2 .left)
     (c .before .before .before .before .copy .ensures)

@@ -1,12 +1,13 @@
 use mathlib.Core.Logic.{⊎-elim}
 use mathlib.Core.Path.{_≡_, ap, _∙_}
 use native.Mathlib.Omega.{arith}
+use borrow.Author.Tests.{ltb-true, ltb-false}
 use lib.IntN.{pos}
 use lib.Signed.{mag}
 use mir.Syntax.{w64}
 use mir.Val.{toZ}
 use Rattle.ber.proofs.IntegerCode.{bits-neg, bits-pos}
-use Rattle.ber.proofs.Sizes.{size-one, size-between, size-eight}
+use Rattle.ber.proofs.Sizes.{size-one, size-between}
 use Rattle.ber.proofs.integer.size.Statement.{statement}
 use Rattle.ber.proofs.integer.size.Tie as tie
 use Rattle.ber.proofs.integer.size.Reads as reads
@@ -25,32 +26,46 @@ size-spec =
     (λ c.
     let w = c .before in
     let s = w .before in
-    (size-one (s .args .z) (w .if1 .n) (s .fits .z) (number w) (c .if2 .taken), omega arith, omega arith))  -- returns
+    let b = ltb-true (mag (s .args .z)) _ (rw (number w) at (c .if2 .taken)) in
+    (size-one (s .args .z) (s .fits .z) (omega arith), omega arith, omega arith))  -- returns
     (λ c.
     let w = c .before .before in
     let s = w .before in
-    (size-between (s .args .z) (w .if1 .n) (s .fits .z) (number w) 0 (c .before .if2 .left) (c .if3 .taken), omega arith, omega arith))  -- returns-2
+    let a = ltb-false (mag (s .args .z)) _ (rw (number w) at (c .before .if2 .left)) in
+    let b = ltb-true (mag (s .args .z)) _ (rw (number w) at (c .if3 .taken)) in
+    (size-between (s .args .z) 0 (s .fits .z) (omega arith) (omega arith), omega arith, omega arith))  -- returns-2
     (λ c.
     let w = c .before .before .before in
     let s = w .before in
-    (size-between (s .args .z) (w .if1 .n) (s .fits .z) (number w) 1 (c .before .if3 .left) (c .if4 .taken), omega arith, omega arith))  -- returns-3
+    let a = ltb-false (mag (s .args .z)) _ (rw (number w) at (c .before .if3 .left)) in
+    let b = ltb-true (mag (s .args .z)) _ (rw (number w) at (c .if4 .taken)) in
+    (size-between (s .args .z) 1 (s .fits .z) (omega arith) (omega arith), omega arith, omega arith))  -- returns-3
     (λ c.
     let w = c .before .before .before .before in
     let s = w .before in
-    (size-between (s .args .z) (w .if1 .n) (s .fits .z) (number w) 2 (c .before .if4 .left) (c .if5 .taken), omega arith, omega arith))  -- returns-4
+    let a = ltb-false (mag (s .args .z)) _ (rw (number w) at (c .before .if4 .left)) in
+    let b = ltb-true (mag (s .args .z)) _ (rw (number w) at (c .if5 .taken)) in
+    (size-between (s .args .z) 2 (s .fits .z) (omega arith) (omega arith), omega arith, omega arith))  -- returns-4
     (λ c.
     let w = c .before .before .before .before .before in
     let s = w .before in
-    (size-between (s .args .z) (w .if1 .n) (s .fits .z) (number w) 3 (c .before .if5 .left) (c .if6 .taken), omega arith, omega arith))  -- returns-5
+    let a = ltb-false (mag (s .args .z)) _ (rw (number w) at (c .before .if5 .left)) in
+    let b = ltb-true (mag (s .args .z)) _ (rw (number w) at (c .if6 .taken)) in
+    (size-between (s .args .z) 3 (s .fits .z) (omega arith) (omega arith), omega arith, omega arith))  -- returns-5
     (λ c.
     let w = c .before .before .before .before .before .before in
     let s = w .before in
-    (size-between (s .args .z) (w .if1 .n) (s .fits .z) (number w) 4 (c .before .if6 .left) (c .if7 .taken), omega arith, omega arith))  -- returns-6
+    let a = ltb-false (mag (s .args .z)) _ (rw (number w) at (c .before .if6 .left)) in
+    let b = ltb-true (mag (s .args .z)) _ (rw (number w) at (c .if7 .taken)) in
+    (size-between (s .args .z) 4 (s .fits .z) (omega arith) (omega arith), omega arith, omega arith))  -- returns-6
     (λ c.
     let w = c .before .before .before .before .before .before .before in
     let s = w .before in
-    (size-between (s .args .z) (w .if1 .n) (s .fits .z) (number w) 5 (c .before .if7 .left) (c .if8 .taken), omega arith, omega arith))  -- returns-7
+    let a = ltb-false (mag (s .args .z)) _ (rw (number w) at (c .before .if7 .left)) in
+    let b = ltb-true (mag (s .args .z)) _ (rw (number w) at (c .if8 .taken)) in
+    (size-between (s .args .z) 5 (s .fits .z) (omega arith) (omega arith), omega arith, omega arith))  -- returns-7
     (λ c.
     let w = c .before .before .before .before .before .before .before in
     let s = w .before in
-    (size-eight (s .args .z) (w .if1 .n) (s .fits .z) (number w) (c .if8 .left), omega arith, omega arith)))  -- returns-8
+    let a = ltb-false (mag (s .args .z)) _ (rw (number w) at (c .if8 .left)) in
+    (size-between (s .args .z) 6 (s .fits .z) (omega arith) (s .fits .z .sfits), omega arith, omega arith)))  -- returns-8
