@@ -1,7 +1,9 @@
 -- What is written is read back, and nothing else is accepted.
 -- Assumes nothing.
-pub mod Identifier
-pub mod Length
-pub mod Item
-pub mod Integer
+pub mod Identifiers
+pub mod Lengths
+pub mod Items
+pub mod Integers
+pub mod IntegerCode
+pub mod Sizes
 pub mod BitString

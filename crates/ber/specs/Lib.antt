@@ -6,3 +6,6 @@ pub mod Item
 pub mod Integer
 pub mod BitString
 pub mod Reading
+pub mod Codes
+pub mod Told
+pub mod Skipping

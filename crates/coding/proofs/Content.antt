@@ -14,7 +14,7 @@ use Rattle.octets.specs.Permutations.{AllOctets, every-cons}
 use Rattle.octets.proofs.Answer.{Holds, yields, refuses, if-holds, run}
 use Rattle.ber.specs.Integer.{integerOf, minimal, fewestOf}
 use Rattle.ber.specs.BitString.{unused}
-use Rattle.ber.proofs.Integer.{fewest-written, integer-fits}
+use Rattle.ber.proofs.Integers.{fewest-written, integer-fits}
 use Rattle.ber.proofs.BitString.{masked-masked, masked-unused, masked-octets}
 use Rattle.table.specs.Syntax.{Simple, Boolean, Integer, BitString, OctetString, Null, Enumerated}
 use Rattle.coding.specs.Value.{Leaf}

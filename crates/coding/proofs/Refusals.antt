@@ -15,8 +15,8 @@ use Rattle.octets.proofs.Permutations.{every-right}
 use Rattle.ber.specs.Reading.{readFollowing, readIdentifier, Size, definite, indefinite, fit, readLong, readLength, Mode, closed, open-ended, atEnd, readHeader, inside, readConstructed, contents, readPrimitive}
 use Rattle.ber.specs.Length.{short, long}
 use Rattle.ber.specs.Item.{Definite, sized, Constructed, in-size, in-marks}
-use Rattle.ber.proofs.Length.{Shape, is-definite, is-indefinite}
-use Rattle.ber.proofs.Item.{Ends, no-more, mark, header-sound}
+use Rattle.ber.proofs.Lengths.{Shape, is-definite, is-indefinite}
+use Rattle.ber.proofs.Items.{Ends, no-more, mark, header-sound}
 use Rattle.table.specs.Syntax.{Member, Simple, Boolean, Integer, BitString, OctetString, Null, Enumerated, Body, Plain, Sequence, Set, SequenceOf, SetOf, Choice, Table}
 use Rattle.coding.specs.Value.{Value, octets}
 use Rattle.coding.specs.Reading.{decode, notAwaited, unwanted, nothing, readWrapped, readSequence, place, readSet, readMany, choose, readBody, readKind, readValue, readMessage}

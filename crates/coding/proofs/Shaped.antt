@@ -17,9 +17,9 @@ use Rattle.octets.proofs.Permutations.{Perm·sym, every-perm, joined-octets, ar
 use Rattle.ber.specs.BitString.{masked}
 use Rattle.ber.specs.Length.{short, long}
 use Rattle.ber.specs.Item.{Definite, sized, Constructed, in-size, in-marks}
-use Rattle.ber.proofs.Integer.{integer-fits}
+use Rattle.ber.proofs.Integers.{integer-fits}
 use Rattle.ber.proofs.BitString.{masked-masked, masked-unused, masked-octets}
-use Rattle.ber.proofs.Item.{definite-octets, constructed-octets}
+use Rattle.ber.proofs.Items.{definite-octets, constructed-octets}
 use Rattle.table.specs.Syntax.{Member, Simple, Boolean, Integer, BitString, OctetString, Null, Enumerated, Body, Plain, Sequence, Set, SequenceOf, SetOf, Choice, Record, Table, absent}
 use Rattle.table.specs.Octets.{bodyShaped, recordShaped}
 use Rattle.table.specs.Passes.{Passes}

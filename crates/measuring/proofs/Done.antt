@@ -13,9 +13,9 @@ use Rattle.octets.specs.Answer.{Answer, got, refused, then, behind}
 use Rattle.octets.proofs.Answer.{Holds, yields, refuses, then-holds, if-holds, map-holds, got-holds}
 use Rattle.octets.proofs.Lists.{behind as behind-part, length-behind}
 use Rattle.ber.specs.Reading.{readIdentifier, Size, definite, indefinite, Mode, closed, open-ended, atEnd, inside}
-use Rattle.ber.proofs.Identifier.{identifier-sound}
-use Rattle.ber.proofs.Length.{Shape, is-definite, is-indefinite, length-sound}
-use Rattle.ber.proofs.Item.{atEnd-holds}
+use Rattle.ber.proofs.Identifiers.{identifier-sound}
+use Rattle.ber.proofs.Lengths.{Shape, is-definite, is-indefinite, length-sound}
+use Rattle.ber.proofs.Items.{atEnd-holds}
 use Rattle.table.specs.Syntax.{Table}
 use Rattle.table.specs.Reading.{look, recordAt}
 use Rattle.coding.specs.Value.{Value, choice, octets}

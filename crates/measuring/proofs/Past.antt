@@ -14,9 +14,9 @@ use Rattle.octets.proofs.Answer.{refused≢got, got-value, got-rest, Holds, the
 use Rattle.octets.proofs.Tests.{test}
 use Rattle.octets.proofs.Lists.{behind as behind-part, length-behind}
 use Rattle.ber.specs.Reading.{readFollowing, readIdentifier, Size, definite, indefinite, readLength}
-use Rattle.ber.proofs.Identifier.{identifier-sound}
+use Rattle.ber.proofs.Identifiers.{identifier-sound}
 use Rattle.ber.specs.Length.{Length as Octets, short, long}
-use Rattle.ber.proofs.Length.{length-sound, Shape, is-definite, is-indefinite}
+use Rattle.ber.proofs.Lengths.{length-sound, Shape, is-definite, is-indefinite}
 use Rattle.message.specs.Answers.{asLength, endOf}
 use Rattle.message.specs.Codes.{asIdentifier}
 use Rattle.measuring.specs.Skipping.{headed, Passed, behind-all, closes, jumps, opens, Skips, sized, marked}

@@ -12,8 +12,8 @@ use lib.ListN.{length, take}
 use Rattle.octets.specs.Answer.{Answer, got, refused, then, if, none-left}
 use Rattle.octets.proofs.Answer.{Holds, yields, refuses, then-holds, map-holds, behind-holds, if-holds, got-holds}
 use Rattle.ber.specs.Reading.{readIdentifier, Size, definite, indefinite, readLength, open-ended, closed, atEnd, readHeader, inside, readConstructed, contents, readPrimitive}
-use Rattle.ber.proofs.Identifier.{identifier-sound}
-use Rattle.ber.proofs.Item.{Ends, mark, atEnd-holds}
+use Rattle.ber.proofs.Identifiers.{identifier-sound}
+use Rattle.ber.proofs.Items.{Ends, mark, atEnd-holds}
 use Rattle.table.specs.Syntax.{Member, Body, Plain, Sequence, Set, SequenceOf, SetOf, Choice, Table}
 use Rattle.coding.specs.Value.{Value}
 use Rattle.coding.specs.Reading.{passes, begun, unwanted, nothing, readWrapped, readSequence, place, readSet, readMany, choose, readBody, readKind, readValue}

@@ -11,7 +11,7 @@ use lib.Seq.{length-take-le, take-length}
 use Rattle.octets.specs.Answer.{Answer, got, refused}
 use Rattle.octets.proofs.Answer.{Holds, yields, refuses, then-holds, if-holds}
 use Rattle.ber.specs.Reading.{readIdentifier, Mode, closed}
-use Rattle.ber.proofs.Item.{Ends, no-more, atEnd-holds}
+use Rattle.ber.proofs.Items.{Ends, no-more, atEnd-holds}
 use Rattle.table.specs.Syntax.{Member, Body, Plain, Sequence, Set, SequenceOf, SetOf, Choice, Table}
 use Rattle.coding.specs.Value.{Value}
 use Rattle.coding.specs.Reading.{notAwaited, unwanted, nothing, place, readSequence, readSet, readMany, readBody}

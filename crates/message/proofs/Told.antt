@@ -16,7 +16,7 @@ use Rattle.octets.proofs.Answer.{got-holds}
 use Rattle.octets.proofs.Tests.{test}
 use Rattle.octets.proofs.Lists.{behind, length-behind}
 use Rattle.ber.specs.Reading.{readFollowing, readIdentifier, readLength, readLong, fit, atEnd}
-use Rattle.ber.proofs.Identifier.{identifier-sound}
+use Rattle.ber.proofs.Identifiers.{identifier-sound}
 use Rattle.ber.specs.Length.{number}
 use Rattle.coding.specs.Value.{Value}
 use Rattle.coding.specs.Reading.{notAwaited}

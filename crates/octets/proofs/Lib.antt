@@ -7,3 +7,4 @@ pub mod Tabulate
 pub mod Members
 pub mod Answer
 pub mod Permutations
+pub mod Buffers

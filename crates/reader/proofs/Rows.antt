@@ -13,7 +13,7 @@ use Rattle.octets.specs.Answer.{Answer, got, refused, then, if}
 use Rattle.octets.proofs.Answer.{Holds, yields, refuses, then-holds, if-holds, map-holds, got-holds}
 use Rattle.octets.proofs.Tests.{test}
 use Rattle.ber.specs.Reading.{Mode}
-use Rattle.ber.proofs.Item.{Ends, no-more, mark, atEnd-holds}
+use Rattle.ber.proofs.Items.{Ends, no-more, mark, atEnd-holds}
 use Rattle.table.specs.Syntax.{Member, Table}
 use Rattle.table.specs.Reading.{look, recordAt, membersAt, bodyAt, ownAt}
 use Rattle.table.proofs.Promises.{length-members}

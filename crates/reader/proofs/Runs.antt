@@ -12,7 +12,7 @@ use Rattle.octets.proofs.Answer.{Holds, yields, refuses, then-holds, if-holds, 
 use Rattle.octets.proofs.Tests.{test, at as at-kind}
 use Rattle.octets.specs.Numbers.{octetsOf}
 use Rattle.ber.specs.Reading.{Mode}
-use Rattle.ber.proofs.Item.{atEnd-holds}
+use Rattle.ber.proofs.Items.{atEnd-holds}
 use Rattle.table.specs.Syntax.{Table}
 use Rattle.table.specs.Reading.{look, recordAt, bodyAt, ownAt}
 use Rattle.table.specs.Fields.{formOf}

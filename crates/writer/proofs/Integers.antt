@@ -20,7 +20,7 @@ use Rattle.octets.proofs.Answer.{run}
 use Rattle.ber.specs.Integer.{negative, digit, pile, spare, minimal, eight, fewest, fewestOf, eightOf}
 use Rattle.octets.proofs.Tests.{test}
 use Rattle.octets.specs.Numbers.{Octets, two}
-use Rattle.ber.proofs.Integer.{fewest-minimal}
+use Rattle.ber.proofs.Integers.{fewest-minimal}
 
 -- what `z < 0` says, and the two ways from z to its bits
 pub bits-neg : (z : ℤ) → SFits w64 z → ltZ (toZ w64 (ofZ w64 z)) (pos 0) ≡ true

@@ -1,26 +1,27 @@
 -- Laws of two's complement: what is written of an integer of 64 bits is read back as it.
 -- Assumes nothing.
-use borrow.Author.Tests.{ltb-true, ltb-false, eqb-true, not-false}
+use borrow.Author.Tests.{ltb-true, ltb-false, eqb-true, not-false, ne-eqb}
 use mathlib.Core.Path.{_≡_, refl, sym, ap, _∙_}
 use mathlib.Core.Bool.{Bool, true, false, not, _&&_, _||_, true≢false}
 use mathlib.Core.List.{List, [], _∷_}
 use mathlib.Core.Logic.{_⊎_, inl, inr, ⊎-elim}
-use native.Mathlib.Nat.{zero-add, pow-suc, pow-le-pow-right}
+use native.Mathlib.Nat.{zero-add, add-zero, pow-suc, pow-le-pow-right}
 use native.Mathlib.Omega.{arith}
-use Prim.Native.Nat.{ℕ, suc, _+_, _-_, _*_, _/_, _%_, _^_, _≤_, _<_}
+use Prim.Native.Nat.{ℕ, zero, suc, _+_, _-_, _*_, _/_, _%_, _^_, _≤_, _<_}
 use lib.Dec.{ltb, eqb}
 use lib.IntN.{ℤ, pos, negsuc}
-use lib.ListN.{length}
+use lib.ListN.{length, drop}
 use mir.Syntax.{w64}
 use mir.Val.{SFits, toZ, ofZ}
 use mir.Facts.{fits-ofZ}
 use mir.ValLaws.{toZ-pos, toZ-neg, toZ-ofZ, ofZ-toZ}
-use Rattle.octets.specs.Permutations.{AllOctets, every-cons}
+use Rattle.octets.specs.Permutations.{AllOctets, every-nil, every-cons}
 use Rattle.octets.proofs.Answer.{if-cases}
-use Rattle.ber.specs.Integer.{negative, digit, pile, signed, integerOf, spare, minimal, eight, eightOf, fewest, fewestOf}
+use Rattle.octets.proofs.Tests.{test}
+use Rattle.ber.specs.Integer.{negative, digit, pile, signed, integerOf, spare, minimal, eight, eightOf, fewest, fewestOf, lastBefore, lastOctets}
 
 -- the eight octets read back
-spelt : (u : ℕ) → u < 18446744073709551616 → pile false 0 (eight u) ≡ u
+pub spelt : (u : ℕ) → u < 18446744073709551616 → pile false 0 (eight u) ≡ u
 unfolding pile eight
 spelt u h =
     let s1 : u / 72057594037927936 * 256 + u / 281474976710656 % 256 ≡ u / 281474976710656 = omega arith in
@@ -83,6 +84,19 @@ spare-says false true false e = inr (refl, refl)
 spare-says false false true e = absurd (true≢false (sym e))
 spare-says false false false e = absurd (true≢false (sym e))
 
+-- the test for such an octet
+pub spare-zero : (a b : ℕ) → a ≡ 0 → ltb b 128 ≡ spare a b
+unfolding spare
+spare-zero a b e = test (ltb b 128) (λ h. rw (e, h)) λ h. rw (e, h)
+
+pub spare-ones : (a b : ℕ) → a ≡ 255 → not (ltb b 128) ≡ spare a b
+unfolding spare
+spare-ones a b e = rw e
+
+pub spare-other : (a b : ℕ) → (a ≡ 0 → ⊥) → (a ≡ 255 → ⊥) → false ≡ spare a b
+unfolding spare
+spare-other a b f g = rw (ne-eqb a 0 f, ne-eqb a 255 g)
+
 spare-same : (a b : ℕ) (s : List ℕ) → not (spare a b) ≡ false → integerOf (a ∷ b ∷ s) ≡ integerOf (b ∷ s)
 unfolding spare
 spare-same a b s e =
@@ -100,13 +114,16 @@ fewest-same (a ∷ b ∷ s) =
 pub fewest-length : (s : List ℕ) → length (fewest s) ≤ length s
 unfolding fewest
 fewest-length [] = omega arith
-fewest-length (a ∷ s) = if-cases (λ (x : List ℕ). length x ≤ suc (length s)) (minimal (a ∷ s)) (a ∷ s) (λ _. fewest s) (λ e. omega arith) (λ e. let h = fewest-length s in omega arith)
+fewest-length (a ∷ s) =
+    if-cases (λ (x : List ℕ). length x ≤ suc (length s)) (minimal (a ∷ s)) (a ∷ s) (λ _. fewest s) (λ e. omega arith)
+    (λ e. let h = fewest-length s in omega arith)
 
 pub fewest-minimal : (s : List ℕ) → 0 < length s → minimal (fewest s) ≡ true
 unfolding fewest minimal
 fewest-minimal [] h = absurd (omega arith)
 fewest-minimal (a ∷ []) h = if-cases (λ x. minimal x ≡ true) true (a ∷ []) (λ _. fewest []) (λ e. refl) (λ e. absurd (true≢false e))
-fewest-minimal (a ∷ b ∷ s) h = if-cases (λ x. minimal x ≡ true) (not (spare a b)) (a ∷ b ∷ s) (λ _. fewest (b ∷ s)) (λ e. e) (λ e. fewest-minimal (b ∷ s) (omega arith))
+fewest-minimal (a ∷ b ∷ s) h =
+    if-cases (λ x. minimal x ≡ true) (not (spare a b)) (a ∷ b ∷ s) (λ _. fewest (b ∷ s)) (λ e. e) (λ e. fewest-minimal (b ∷ s) (omega arith))
 
 -- the writer's contents: minimal, at most eight octets, the same integer
 pub record Written (z : ℤ) (c : List ℕ) : Type 0 where
@@ -120,7 +137,7 @@ fewest-written z f =
     record { is-minimal = fewest-minimal (eightOf z) (omega arith); few = fewest-length (eightOf z); back = fewest-same (eightOf z) ∙ eight-back z f }
 
 -- one octet more
-grow : (k acc d : ℕ) → acc < 128 * 256 ^ k → d < 256 → acc * 256 + d < 128 * 256 ^ suc k
+pub grow : (k acc d : ℕ) → acc < 128 * 256 ^ k → d < 256 → acc * 256 + d < 128 * 256 ^ suc k
 grow k acc d h g = rw pow-suc (omega arith)
 
 digit-octet : (neg : Bool) (b : ℕ) → b < 256 → digit neg b < 256
@@ -129,13 +146,13 @@ digit-octet false b h = h
 
 pile-bound : (neg : Bool) (k acc : ℕ) (s : List ℕ) → AllOctets s → acc < 128 * 256 ^ k → pile neg acc s < 128 * 256 ^ (k + length s)
 unfolding pile
-pile-bound neg k acc [] o h = rw native.Mathlib.Nat.add-zero h
+pile-bound neg k acc [] o h = rw add-zero h
 pile-bound neg k acc (b ∷ s) (every-cons g o) h =
     let x = pile-bound neg (suc k) (acc * 256 + digit neg b) s o (grow k acc (digit neg b) h (digit-octet neg b g)) in
     let e : suc k + length s ≡ k + suc (length s) = omega arith in
     rw (← e) x
 
-head-small : (b : ℕ) (neg : Bool) → not (ltb b 128) ≡ neg → digit neg b < 128
+pub head-small : (b : ℕ) (neg : Bool) → not (ltb b 128) ≡ neg → digit neg b < 128
 head-small b neg e = side (ltb b 128) refl neg e
   where
     side : (t : Bool) → ltb b 128 ≡ t → (n : Bool) → not t ≡ n → digit n b < 128
@@ -144,24 +161,29 @@ head-small b neg e = side (ltb b 128) refl neg e
     side false f true g = let h : 128 ≤ b = ltb-false b 128 f in omega arith
     side false f false g = absurd (true≢false g)
 
-within : (k acc : ℕ) → k ≤ 7 → acc < 128 * 256 ^ k → acc < 9223372036854775808
+pub within : (k acc : ℕ) → k ≤ 7 → acc < 128 * 256 ^ k → acc < 9223372036854775808
 within k acc le h = omega (arith, pow-le-pow-right {n = 256} (omega arith) {i = k} {j = 7} le)
 
 signed-fits : (neg : Bool) (n : ℕ) → n < 9223372036854775808 → SFits w64 (signed neg n)
 signed-fits true n h = record { sfits = h }
 signed-fits false n h = record { sfits = h }
 
+-- the number of some octets, or that of their complements, has a first bit 0
+pub pile-below : (b : ℕ) (s : List ℕ) → AllOctets s → pile (negative (b ∷ s)) 0 (b ∷ s) < 128 * 256 ^ length s
+unfolding negative pile
+pile-below b s o =
+    let neg = not (ltb b 128) in
+    let e : 0 * 256 + digit neg b ≡ digit neg b = zero-add (digit neg b) in
+    let f : 0 + length s ≡ length s = zero-add (length s) in
+    let lt : digit neg b < 128 * 256 ^ 0 = head-small b neg refl in
+    rw e (rw f at (pile-bound neg 0 (digit neg b) s o lt))
+
 -- at most eight octets are an integer of 64 bits
 pub integer-fits : (c : List ℕ) → AllOctets c → length c ≤ 8 → SFits w64 (integerOf c)
 unfolding integerOf negative pile
 integer-fits [] o h = record { sfits = omega arith }
 integer-fits (b ∷ s) (every-cons g o) h =
-    let neg = not (ltb b 128) in
-    let e : 0 * 256 + digit neg b ≡ digit neg b = zero-add (digit neg b) in
-    let lt : digit neg b < 128 * 256 ^ 0 = head-small b neg refl in
-    let x : pile neg (digit neg b) s < 128 * 256 ^ (0 + length s) = pile-bound neg 0 (digit neg b) s o lt in
-    let y : pile neg (0 * 256 + digit neg b) s < 128 * 256 ^ (0 + length s) = rw e x in
-    signed-fits neg (pile neg (0 * 256 + digit neg b) s) (within (0 + length s) _ (omega arith) y)
+    signed-fits (negative (b ∷ s)) (pile (negative (b ∷ s)) 0 (b ∷ s)) (within (length s) _ (omega arith) (pile-below b s o))
 
 s1 : (x d : ℕ) → d < 256 → (x * 256 + d) / 256 ≡ x
 s1 x d h = omega arith
@@ -212,3 +234,58 @@ eight-same (a ∷ b ∷ c ∷ d ∷ e ∷ f ∷ g ∷ h ∷ []) (every-cons ha (
     let q : eight u ≡ a ∷ b ∷ c ∷ d ∷ e ∷ f ∷ g ∷ h ∷ [] = eight-of a b c d e f g h hb hc hd he hf hg hh in
     let p : u < 18446744073709551616 = pile-eight a b c d e f g h ha hb hc hd he hf hg hh in
     ap eightOf (ap integerOf (sym q) ∙ read-eight u p) ∙ ap eight (ofZ-toZ w64 u (record { fits = p })) ∙ q
+
+-- 64 bits are those of the integer that their octets are read as
+pub eight-integer : (u : ℕ) → u < 18446744073709551616 → ofZ w64 (integerOf (eight u)) ≡ u
+eight-integer u h = ap (ofZ w64) (read-eight u h) ∙ ofZ-toZ w64 u (record { fits = h })
+
+pub eight-length : (u : ℕ) → length (eight u) ≡ 8
+unfolding eight
+eight-length u = refl
+
+pub fewest-octets : {s : List ℕ} → AllOctets s → AllOctets (fewest s)
+unfolding fewest
+fewest-octets every-nil = every-nil
+fewest-octets (every-cons {x = a} {l = s} h o) =
+    if-cases AllOctets (minimal (a ∷ s)) (a ∷ s) (λ _. fewest s) (λ e. every-cons h o) (λ e. fewest-octets o)
+
+-- the last octets of a number: one octet less is the same without the first
+last-behind : (n u : ℕ) (l : List ℕ) → drop 1 (lastBefore (suc n) u l) ≡ lastBefore n u l
+unfolding lastBefore
+last-behind zero u l = refl
+last-behind (suc n) u l = last-behind n (u / 256) (u % 256 ∷ l)
+
+-- eight of them are all that 64 bits have
+last-eight : (u : ℕ) → u < 18446744073709551616 → eight u ≡ lastOctets 8 u
+unfolding eight lastBefore
+last-eight u h =
+    let d2 : u / 256 / 256 ≡ u / 65536 = omega arith in
+    let d3 : u / 65536 / 256 ≡ u / 16777216 = omega arith in
+    let d4 : u / 16777216 / 256 ≡ u / 4294967296 = omega arith in
+    let d5 : u / 4294967296 / 256 ≡ u / 1099511627776 = omega arith in
+    let d6 : u / 1099511627776 / 256 ≡ u / 281474976710656 = omega arith in
+    let d7 : u / 281474976710656 / 256 ≡ u / 72057594037927936 = omega arith in
+    let d8 : u / 72057594037927936 % 256 ≡ u / 72057594037927936 = omega arith in
+    rw (d2, d3, d4, d5, d6, d7, d8)
+
+pub last-octets : (n u : ℕ) {l : List ℕ} → AllOctets l → AllOctets (lastBefore n u l)
+unfolding lastBefore
+last-octets zero u o = o
+last-octets (suc n) u o = last-octets n (u / 256) (every-cons {x = u % 256} (omega arith) o)
+
+pub eight-octets : (u : ℕ) → u < 18446744073709551616 → AllOctets (eight u)
+eight-octets u h = rw (last-eight u h) (last-octets 8 u every-nil)
+
+last-fewer : (u : ℕ) (s : List ℕ) → s ≡ lastOctets (length s) u → lastOctets (length (fewest s)) u ≡ fewest s
+unfolding fewest
+last-fewer u [] e = sym e
+last-fewer u (a ∷ s) e =
+    if-cases (λ x. lastOctets (length x) u ≡ x) (minimal (a ∷ s)) (a ∷ s) (λ _. fewest s) (λ t. sym e)
+    (λ t. last-fewer u s (ap (drop 1) e ∙ last-behind (length s) u []))
+
+-- the fewest octets of an integer are the last of its bits
+pub last-fewest-bits : (u : ℕ) → u < 18446744073709551616 → lastOctets (length (fewest (eight u))) u ≡ fewest (eight u)
+last-fewest-bits u h = last-fewer u (eight u) (rw eight-length (last-eight u h))
+
+pub last-fewest : (z : ℤ) → SFits w64 z → lastOctets (length (fewestOf z)) (ofZ w64 z) ≡ fewestOf z
+last-fewest z f = last-fewest-bits (ofZ w64 z) (fits-ofZ {w = w64} {z = z} f .fits)

@@ -16,8 +16,8 @@ use Rattle.octets.proofs.Lists.{same-refl, same-true}
 use Rattle.ber.specs.Reading.{readIdentifier, Size, definite, indefinite, readLength, Mode, closed, open-ended, atEnd, readHeader, inside, readConstructed, contents, readPrimitive}
 use Rattle.ber.specs.Length.{Length, lengthOctets}
 use Rattle.ber.specs.Item.{Definite, sized, Constructed, in-size, in-marks, item}
-use Rattle.ber.proofs.Identifier.{identifier-sound}
-use Rattle.ber.proofs.Length.{length-complete, length-sound, length-octets, Shape, is-definite, is-indefinite}
+use Rattle.ber.proofs.Identifiers.{identifier-sound}
+use Rattle.ber.proofs.Lengths.{length-complete, length-sound, length-octets, Shape, is-definite, is-indefinite}
 
 -- behind contents stands `tail`: the contents end there, and r follows
 pub data Ends : Mode → List ℕ → List ℕ → Type 0 where

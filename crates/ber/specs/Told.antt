@@ -1,0 +1,53 @@
+-- What the functions that read X.690's octets answer, in terms of the reading of items; n octets were lent (X.690, 8.1).
+-- Assumes nothing.
+use mathlib.Core.Bool.{Bool, true, false, not}
+use mathlib.Core.List.{List}
+use mathlib.Core.Path.{_≡_}
+use Prim.Native.Nat.{ℕ, _+_, _-_}
+use lib.Dec.{eqb}
+use lib.ListN.{length, getD, drop}
+use Rattle.octets.specs.Answer.{Answer, got, refused, if, none-left}
+use Rattle.ber.specs.Codes.{codeOf}
+use Rattle.ber.specs.Reading.{Size, definite, indefinite, Mode, closed, open-ended}
+use Rattle.ber.specs.declared.Fault.{Fault}
+use Rattle.ber.specs.declared.Fault.the-variants.{Cut, Form}
+use Rattle.ber.specs.declared.identifier.Identifier.{Identifier}
+use Rattle.ber.specs.declared.identifier.Identifier.the-variants.{Read as ReadIdentifier, Refused as NoIdentifier}
+use Rattle.ber.specs.declared.length.Length.{Length}
+use Rattle.ber.specs.declared.length.Length.the-variants.{Read as ReadLength, Refused as NoLength}
+use Rattle.ber.specs.declared.length.Extent.{Extent}
+use Rattle.ber.specs.declared.ending.End.{End}
+use Rattle.ber.specs.declared.ending.End.the-variants.{More, Over, Broken}
+
+-- 22, or 23
+unfoldable pub faultOf : ℕ → Fault
+faultOf c = if (eqb c 22) Cut λ _. Form
+
+unfoldable pub toldIdentifier : ℕ → Answer (List ℕ) → Identifier
+toldIdentifier n (got i s) = ReadIdentifier (codeOf i) (n - length s)
+toldIdentifier n (refused c l) = NoIdentifier (faultOf c)
+
+-- indefinite contents may go to the end of what was lent
+unfoldable pub toldLength : ℕ → Answer Size → Length
+toldLength n (got (definite k) s) = ReadLength (record { start = n - length s; end = n - length s + k; marked = false })
+toldLength n (got indefinite s) = ReadLength (record { start = n - length s; end = n; marked = true })
+toldLength n (refused c l) = NoLength (faultOf c)
+
+abbrev pub mode : Bool → Mode
+mode true = open-ended
+mode false = closed
+
+-- whether contents end at s, the last of the n octets
+unfoldable pub endOf : Bool → ℕ → List ℕ → End
+endOf false n s = if (none-left s) (Over n) λ _. More
+endOf true n s =
+    if (none-left s) (Broken Cut) λ _.
+    if (not (eqb (getD s 0 0) 0)) More λ _.
+    if (none-left (drop 1 s)) (Broken Cut) λ _.
+    if (not (eqb (getD s 1 0) 0)) (Broken Form) λ _.
+    Over (n - length (drop 2 s))
+
+-- x is the extent of a length that can be read
+unfoldable pub Again : ℕ → Answer Size → Extent → Type 0
+Again n (got z s) x = ReadLength x ≡ toldLength n (got z s)
+Again n (refused c l) x = Unit {0}

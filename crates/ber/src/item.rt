@@ -1,0 +1,86 @@
+// Whole items (X.690, 8.1.1): identifier, length and contents octets, and those that end indefinite contents.
+ghost use mathlib.Core.Path.{_≡_};
+ghost use mathlib.Core.List.{List, _++_};
+ghost use Prim.Native.Nat.{ℕ, _≤_, _+_, min};
+ghost use lib.ListN.{length, drop};
+ghost use Rattle.octets.specs.Buffers.{put, putEnd};
+ghost use Rattle.ber.specs.Codes.{codeOctets};
+ghost use Rattle.ber.specs.Length.{lengthOctets};
+ghost use Rattle.ber.specs.Skipping.{Passed, Skips};
+use crate::identifier;
+use crate::identifier::Identifier;
+use crate::length;
+use crate::length::Length;
+
+// Where indefinite contents end that begin at a place of m. Those that no reader accepts go to the end of m.
+fn open_end(m: &[u8], start: usize) -> usize
+    requires { ⌜ start ≤ length (now m) ⌝ }
+    ensures { λ r. ⌜ (start ≤ r) × (r ≤ length (now (m .entry))) × ((w : List ℕ) → Passed 1 (drop start (now (m .entry))) w → drop r (now (m .entry)) ≡ w) ⌝ }
+{
+    let mut at = start;
+    let mut open: usize = 1;
+    while 0 < open {
+        let left = m.len() - at;
+        if left < 2 {
+            return m.len();
+        }
+        if m[at] == 0 {
+            at += 2;
+            open -= 1;
+        } else {
+            let rest = &m[at..];
+            match identifier::read(rest) {
+                Identifier::Refused { fault: _ } => {
+                    return m.len();
+                }
+                Identifier::Read { code: _, end } => match length::read(rest, end) {
+                    Length::Refused { fault: _ } => {
+                        return m.len();
+                    }
+                    Length::Read(x) => {
+                        if x.marked {
+                            at += x.start;
+                            open += 1;
+                        } else {
+                            at += x.end;
+                        }
+                    }
+                },
+            }
+        }
+    }
+    at
+}
+
+// Where the item that m begins with ends, by headers alone; its identifier ends at `from`.
+pub fn end(m: &[u8], from: usize) -> usize
+    ensures { λ r. ⌜ (min from (length (now (m .entry))) ≤ r) × (r ≤ length (now (m .entry))) × ((w : List ℕ) → Skips (now (m .entry)) from w → drop r (now (m .entry)) ≡ w) ⌝ }
+{
+    match length::read(m, from) {
+        Length::Refused { fault: _ } => m.len(),
+        Length::Read(x) => {
+            if x.marked {
+                return open_end(m, x.start);
+            }
+            x.end
+        }
+    }
+}
+
+// How many octets stand before n contents octets in the definite item of a code.
+pub fn header_size(code: u32, n: u16) -> usize
+    ensures { λ r. ⌜ r ≡ length (codeOctets code ++ lengthOctets n) ⌝ }
+{
+    identifier::size(code) + length::size(n)
+}
+
+// Puts these octets; where they end, or the place itself if there is no room.
+pub fn put_header(code: u32, n: u16, buf: &mut [u8], to: usize) -> usize
+    ensures { λ r. ⌜ (let w = codeOctets code ++ lengthOctets n in (r ≡ putEnd (now (buf .entry)) to w) × (now (buf .exit) ≡ put (now (buf .entry)) to w)) ⌝ }
+{
+    if !octets::holds(buf, to, header_size(code, n)) {
+        return to;
+    }
+    let next = identifier::put(code, buf, to);
+    length::put(n, buf, next)
+}

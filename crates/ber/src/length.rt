@@ -1,0 +1,160 @@
+// Length octets (X.690, 8.1.3). They are read in all forms, and put in the shortest definite one.
+ghost use mathlib.Core.Path.{_≡_};
+ghost use Prim.Native.Nat.{ℕ, _<_, _≤_, _+_, _-_};
+ghost use lib.ListN.{length, getD, drop};
+ghost use Rattle.octets.specs.Answer.{Answer};
+ghost use Rattle.octets.specs.Buffers.{put, putEnd};
+ghost use Rattle.ber.specs.Length.{lengthOctets};
+ghost use Rattle.ber.specs.Reading.{readLength};
+ghost use Rattle.ber.specs.Told.{toldLength, Again};
+use crate::Fault;
+use octets::holds;
+
+// Where the contents begin and end, and whether 00 00 closes them; then their end is that of m.
+pub struct Extent {
+    pub start: usize,
+    pub end: usize,
+    pub marked: bool,
+}
+
+pub enum Length {
+    Read(Extent),
+    Refused { fault: Fault },
+}
+
+// The long form with k octets from `at` on. The number never grows beyond what is left.
+fn read_long(m: &[u8], at: usize, k: usize) -> Length
+    requires { ⌜ (0 < at) × (at ≤ length (now m)) × (0 < k) × (k < 127) × (getD (now m) (at - 1) 0 ≡ 128 + k) ⌝ }
+    ensures { λ r. ⌜ ((l : ℕ) → r ≡ toldLength (length (now (m .entry))) (readLength l (drop (at - 1) (now (m .entry))))) ⌝ }
+{
+    let left = m.len() - at;
+    if left < k {
+        return Length::Refused { fault: Fault::Cut };
+    }
+    let mut n: usize = 0;
+    let mut i: usize = 0;
+    while i < k {
+        if left / 256 < n {
+            return Length::Refused { fault: Fault::Cut };
+        }
+        let p = at + i;
+        n = n * 256 + m[p] as usize;
+        i += 1;
+    }
+    if left - k < n {
+        return Length::Refused { fault: Fault::Cut };
+    }
+    let start = at + k;
+    let end = start + n;
+    Length::Read(Extent {
+        start,
+        end,
+        marked: false,
+    })
+}
+
+// The forms but the short one: `first` is the first octet, and the next is at `at`.
+fn read_other(m: &[u8], at: usize, first: usize) -> Length
+    requires { ⌜ (0 < at) × (at ≤ length (now m)) × (first ≡ getD (now m) (at - 1) 0) × (128 ≤ first) × (first < 256) ⌝ }
+    ensures { λ r. ⌜ ((l : ℕ) → r ≡ toldLength (length (now (m .entry))) (readLength l (drop (at - 1) (now (m .entry))))) ⌝ }
+{
+    if first == 128 {
+        return Length::Read(Extent {
+            start: at,
+            end: m.len(),
+            marked: true,
+        });
+    }
+    if first == 255 {
+        return Length::Refused { fault: Fault::Form };
+    }
+    read_long(m, at, first - 128)
+}
+
+// The length octets at a place of m.
+pub fn read(m: &[u8], at: usize) -> Length
+    ensures { λ r. ⌜ ((l : ℕ) → r ≡ toldLength (length (now (m .entry))) (readLength l (drop at (now (m .entry))))) ⌝ }
+{
+    if m.len() <= at {
+        return Length::Refused { fault: Fault::Cut };
+    }
+    let first = m[at] as usize;
+    let start = at + 1;
+    if first < 128 {
+        let end = start + first;
+        if m.len() < end {
+            return Length::Refused { fault: Fault::Cut };
+        }
+        return Length::Read(Extent {
+            start,
+            end,
+            marked: false,
+        });
+    }
+    read_other(m, start, first)
+}
+
+// The length octets at a place of m where a length was read before.
+pub fn again(m: &[u8], at: usize) -> Extent
+    ensures { λ r. ⌜ ((l : ℕ) → Again (length (now (m .entry))) (readLength l (drop at (now (m .entry)))) r) ⌝ }
+{
+    let none = Extent {
+        start: 0,
+        end: 0,
+        marked: false,
+    };
+    if m.len() <= at {
+        return none;
+    }
+    let first = m[at] as usize;
+    let start = at + 1;
+    if first < 128 {
+        let end = start + first;
+        return Extent {
+            start,
+            end,
+            marked: false,
+        };
+    }
+    match read_other(m, start, first) {
+        Length::Read(x) => x,
+        Length::Refused { fault: _ } => none,
+    }
+}
+
+// How many octets the length n has.
+pub fn size(n: u16) -> usize
+    ensures { λ r. ⌜ (r ≡ length (lengthOctets n)) × (r < 4) ⌝ }
+{
+    if n < 128 {
+        return 1;
+    }
+    if n < 256 {
+        return 2;
+    }
+    3
+}
+
+// Puts the length n; where it ends, or the place itself if there is no room.
+pub fn put(n: u16, buf: &mut [u8], to: usize) -> usize
+    ensures { λ r. ⌜ (let w = lengthOctets n in (r ≡ putEnd (now (buf .entry)) to w) × (now (buf .exit) ≡ put (now (buf .entry)) to w)) ⌝ }
+{
+    if !holds(buf, to, size(n)) {
+        return to;
+    }
+    if n < 128 {
+        buf[to] = n as u8;
+        return to + 1;
+    }
+    let a = to + 1;
+    if n < 256 {
+        buf[to] = 129;
+        buf[a] = n as u8;
+        return to + 2;
+    }
+    let b = to + 2;
+    buf[to] = 130;
+    buf[a] = (n / 256) as u8;
+    buf[b] = (n % 256) as u8;
+    to + 3
+}
