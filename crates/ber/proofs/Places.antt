@@ -21,3 +21,6 @@ module _ (m : List ℕ) (at : ℕ) where
 -- with the octet before it
 pub from-before : (m : List ℕ) (at : ℕ) → 0 < at → at ≤ length m → drop (at - 1) m ≡ getD m (at - 1) 0 ∷ drop at m
 from-before m at h k = let e : at - 1 + 1 ≡ at = omega arith in rw e at (some-at m (at - 1) (omega arith))
+
+pub one-back : (n : ℕ) → n + 1 - 1 ≡ n
+one-back n = omega arith

@@ -150,6 +150,10 @@ module _ (m : List ℕ) (at : ℕ) where
       let g : length (drop (at + 1) m) < getD m at 0 = rw length-drop (omega arith) in
       rw (some-at m at h, lt-ltb (getD m at 0) 128 l, lt-leb (getD m at 0) (length (drop (at + 1) m)) g)
 
+-- the k octets of a number, of which i are read and spell n
+abbrev pub Digits : List ℕ → ℕ → ℕ → ℕ → ℕ → Type 0
+Digits m at k n i = number 0 (take k (drop at m)) ≡ number n (drop i (take k (drop at m)))
+
 -- behind a first octet of another form
 module _ (m : List ℕ) (at : ℕ) (some : 0 < at) (there : at ≤ length m) where
   pub length-open : getD m (at - 1) 0 ≡ 128 → Here m (at - 1) (ReadLength (record { start = at; end = length m; marked = true }))
@@ -173,10 +177,6 @@ module _ (m : List ℕ) (at : ℕ) (some : 0 < at) (there : at ≤ length m) whe
         let g : length (drop at m) < k = rw length-drop f in
         rw (long-form l, lt-leb k (length (drop at m)) g)
 
-    -- the octets of the number, of which i are read and spell n
-    abbrev pub Digits : ℕ → ℕ → Type 0
-    Digits n i = number 0 (take k (drop at m)) ≡ number n (drop i (take k (drop at m)))
-
     module _ (f : k ≤ length m - at) where
       whole-form : (l : ℕ) → readLength l (drop (at - 1) m) ≡ fit l (number 0 (take k (drop at m))) (drop k (drop at m))
       unfolding readLong if
@@ -187,7 +187,7 @@ module _ (m : List ℕ) (at : ℕ) (some : 0 < at) (there : at ≤ length m) whe
       behind-long : length (drop k (drop at m)) ≡ length m - at - k
       behind-long = length-drop k (drop at m) ∙ rw (length-drop at m)
 
-      pub length-long : (n i : ℕ) → Digits n i → k ≤ i → n ≤ length m - at - k
+      pub length-long : (n i : ℕ) → Digits m at k n i → k ≤ i → n ≤ length m - at - k
           → Here m (at - 1) (ReadLength (record { start = at + k; end = at + k + n; marked = false }))
       unfolding toldLength fit if number
       length-long n i d e g l =
@@ -200,17 +200,17 @@ module _ (m : List ℕ) (at : ℕ) (some : 0 < at) (there : at ≤ length m) whe
       unfolding toldLength fit faultOf if
       long-no w l = rw (whole-form l, behind-long, lt-leb _ _ w)
 
-      pub length-long-no : (n i : ℕ) → Digits n i → length m - at - k < n → Here m (at - 1) (NoLength Cut)
+      pub length-long-no : (n i : ℕ) → Digits m at k n i → length m - at - k < n → Here m (at - 1) (NoLength Cut)
       length-long-no n i d g = let b = number-least n (drop i (take k (drop at m))) in long-no (omega arith)
 
       -- an octet more makes it too large
-      pub length-long-over : (n i : ℕ) → Digits n i → i < k → (length m - at) / 256 < n → Here m (at - 1) (NoLength Cut)
+      pub length-long-over : (n i : ℕ) → Digits m at k n i → i < k → (length m - at) / 256 < n → Here m (at - 1) (NoLength Cut)
       length-long-over n i d j g =
           let t : 0 < length (drop i (take k (drop at m))) = simp (length-drop, length-take) (omega arith) in
           let b = number-more n (drop i (take k (drop at m))) t in
           long-no (omega arith)
 
-      pub one-digit : (n i : ℕ) → i < k → Digits n i → Digits (n * 256 + getD m (at + i) 0) (i + 1)
+      pub one-digit : (n i : ℕ) → i < k → Digits m at k n i → Digits m at k (n * 256 + getD m (at + i) 0) (i + 1)
       unfolding number
       one-digit n i j d =
           let t : i < length (take k (drop at m)) = simp (length-take, length-drop) (omega arith) in

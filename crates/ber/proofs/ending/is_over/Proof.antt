@@ -1,24 +1,19 @@
+-- `ber::ending::is_over` meets its contract.
+-- Assumes nothing.
+use denote.Ref.{now}
+use borrow.Author.Tests.{not-true, not-false}
+use Rattle.ber.proofs.Ends.{over-none, over-closed, over-octet}
 use borrow.Author.Needs.{needs}
 use Rattle.ber.proofs.ending.is_over.Statement.{statement}
 use Rattle.ber.proofs.ending.is_over.Tie as tie
 use Rattle.ber.proofs.ending.is_over.Reads as reads
 use Rattle.ber.proofs.ending.is_over.Lts as lts
 
--- src/ending.rt:56:9
-returns : tie.Need-returns
-returns c = ?
-
--- src/ending.rt:59:9
-returns-2 : tie.Need-returns-2
-returns-2 c = ?
-
--- src/ending.rt:61:5
-shared-slice-read-result : tie.Need-shared-slice-read-result
-shared-slice-read-result c = search needs
-
--- src/ending.rt:52:1
-returns-3 : tie.Need-returns-3
-returns-3 c = ?
-
 pub is-over-spec : {M : Type 1} → statement M
-is-over-spec = tie.close (tie.spec returns returns-2 shared-slice-read-result returns-3)
+is-over-spec =
+    tie.close
+    (tie.spec
+    (λ c. over-none (now (c .before .args .m)) (c .before .args .at) (c .before .args .marked) (c .if1 .taken))  -- returns
+    (λ c. over-closed (now (c .before .before .args .m)) (c .before .before .args .at) (c .before .before .args .marked) (c .before .if1 .left) (not-true _ (c .if2 .taken)))  -- returns-2
+    (λ c. search needs)  -- shared-slice-read-result
+    (λ c. over-octet (now (c .before .before .before .args .m)) (c .before .before .before .args .at) (c .before .before .before .args .marked) (c .before .before .if1 .left) (not-false _ (c .before .if2 .left))))  -- returns-3

@@ -1,55 +1,24 @@
+-- `ber::ending::marked_end` meets its contract.
+-- Assumes nothing.
+use denote.Ref.{now}
+use native.Mathlib.Omega.{arith}
+use Rattle.ber.proofs.Ends.{ends-none, ends-more, ends-half, ends-wrong, ends-over}
 use borrow.Author.Needs.{needs}
 use Rattle.ber.proofs.ending.marked_end.Statement.{statement}
 use Rattle.ber.proofs.ending.marked_end.Tie as tie
 use Rattle.ber.proofs.ending.marked_end.Reads as reads
 use Rattle.ber.proofs.ending.marked_end.Lts as lts
 
--- src/ending.rt:22:9
-returns : tie.Need-returns
-returns c = ?
-
--- src/ending.rt:24:8
-shared-slice-read-if2 : tie.Need-shared-slice-read-if2
-shared-slice-read-if2 c = search needs
-
--- src/ending.rt:25:9
-returns-2 : tie.Need-returns-2
-returns-2 c = ?
-
--- src/ending.rt:27:18
-add-second : tie.Need-add-second
-add-second c = search needs
-
--- src/ending.rt:29:9
-returns-3 : tie.Need-returns-3
-returns-3 c = ?
-
--- src/ending.rt:31:8
-shared-slice-read-if4 : tie.Need-shared-slice-read-if4
-shared-slice-read-if4 c = search needs
-
--- src/ending.rt:32:9
-returns-4 : tie.Need-returns-4
-returns-4 c = ?
-
--- src/ending.rt:34:15
-add-end : tie.Need-add-end
-add-end c = search needs
-
--- src/ending.rt:18:1
-returns-5 : tie.Need-returns-5
-returns-5 c = ?
-
 pub marked-end-spec : {M : Type 1} → statement M
 marked-end-spec =
     tie.close
     (tie.spec
-    returns
-    shared-slice-read-if2
-    returns-2
-    add-second
-    returns-3
-    shared-slice-read-if4
-    returns-4
-    add-end
-    returns-5)
+    (λ c. ends-none (now (c .before .args .m)) _ (c .if1 .taken))  -- returns
+    (λ c. search needs)  -- shared-slice-read-if2
+    (λ c. ends-more (now (c .before .before .before .args .m)) _ (c .before .before .if1 .left) (c .if2 .taken))  -- returns-2
+    (λ c. search needs)  -- add-second
+    (λ c. ends-half (now (c .before .before .before .before .args .m)) _ (c .before .before .before .if1 .left) (c .before .if2 .left) (c .if3 .taken))  -- returns-3
+    (λ c. search needs)  -- shared-slice-read-if4
+    (λ c. ends-wrong (now (c .before .before .before .before .before .before .args .m)) _ (c .before .before .if3 .left) (c .before .before .before .if2 .left) (c .if4 .taken))  -- returns-4
+    (λ c. search needs)  -- add-end
+    (λ c. ends-over (now (c .before .before .before .before .before .before .args .m)) _ (c .before .before .if3 .left) (c .before .before .before .if2 .left) (c .if4 .left)))  -- returns-5
