@@ -6,5 +6,7 @@ pub mod Items
 pub mod Integers
 pub mod BitString
 pub mod Places
+pub mod Codes
+pub mod Headers
 pub mod Ends
 pub mod Told

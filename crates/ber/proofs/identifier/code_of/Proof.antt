@@ -1,55 +1,31 @@
+-- `ber::identifier::code_of` meets its contract.
+-- Assumes nothing.
+use mathlib.Core.Logic.{⊎-elim}
+use mathlib.Core.Path.{_≡_, sym, _∙_}
+use native.Mathlib.Omega.{arith}
+use Prim.Native.Nat.{_+_, _*_}
+use Rattle.ber.specs.Identifier.{bit}
+use Rattle.ber.proofs.Codes.{bit-small, code-short, code-long}
 use borrow.Author.Needs.{needs}
 use Rattle.ber.proofs.identifier.code_of.Statement.{statement}
 use Rattle.ber.proofs.identifier.code_of.Tie as tie
 use Rattle.ber.proofs.identifier.code_of.Reads as reads
 use Rattle.ber.proofs.identifier.code_of.Lts as lts
 
--- src/identifier.rt:23:9
-mul-lead : tie.Need-mul-lead
-mul-lead c = search needs
-
--- src/identifier.rt:23:9
-add-lead : tie.Need-add-lead
-add-lead c = search needs
-
--- src/identifier.rt:25:9
-mul-lead-2 : tie.Need-mul-lead-2
-mul-lead-2 c = search needs
-
--- src/identifier.rt:28:16
-add-result : tie.Need-add-result
-add-result c = ?
-
--- src/identifier.rt:28:9
-returns : tie.Need-returns
-returns c = ?
-
--- src/identifier.rt:30:5
-add-result-2 : tie.Need-add-result-2
-add-result-2 c = ?
-
--- src/identifier.rt:30:17
-mul-result : tie.Need-mul-result
-mul-result c = search needs
-
--- src/identifier.rt:30:5
-add-result-3 : tie.Need-add-result-3
-add-result-3 c = ?
-
--- src/identifier.rt:19:1
-returns-2 : tie.Need-returns-2
-returns-2 c = ?
+-- the leading octet without the number
+lead-is : (c : tie.Joined1) → let a = c .before .args in c .if1 .lead ≡ a .class * 64 + bit (a .constructed) * 32
+lead-is c = ⊎-elim (λ w. rw (w .0 .taken) (w .1)) (λ w. rw (w .0 .left) (w .1 ∙ omega arith)) (c .if1 .came)
 
 pub code-of-spec : {M : Type 1} → statement M
 code-of-spec =
     tie.close
     (tie.spec
-    mul-lead
-    add-lead
-    mul-lead-2
-    add-result
-    returns
-    add-result-2
-    mul-result
-    add-result-3
-    returns-2)
+    (λ c. search needs)  -- mul-lead
+    (λ c. search needs)  -- add-lead
+    (λ c. search needs)  -- mul-lead-2
+    (λ c. omega (arith, lead-is (c .before .before), bit-small (c .before .before .before .args .constructed)))  -- add-result
+    (λ c. (rw (code-short _ _ _ (c .before .if2 .taken)) (omega (arith, lead-is (c .before .before))), omega (arith, lead-is (c .before .before), bit-small (c .before .before .before .args .constructed))))  -- returns
+    (λ c. omega (arith, lead-is (c .before .before), bit-small (c .before .before .before .args .constructed)))  -- add-result-2
+    (λ c. search needs)  -- mul-result
+    (λ c. omega (arith, lead-is (c .before .before), bit-small (c .before .before .before .args .constructed)))  -- add-result-3
+    (λ c. (rw (code-long _ _ _ (c .before .if2 .left)) (omega (arith, lead-is (c .before .before))), omega (arith, lead-is (c .before .before), bit-small (c .before .before .before .args .constructed)))))  -- returns-2

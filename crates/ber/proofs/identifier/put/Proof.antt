@@ -1,3 +1,11 @@
+-- `ber::identifier::put` meets its contract.
+-- Assumes nothing.
+use native.Mathlib.Omega.{arith}
+use lib.ListN.{length-set}
+use denote.Ref.{now}
+use Rattle.ber.specs.Codes.{codeOctets}
+use Rattle.ber.proofs.Codes.{octets-one, octets-two, octets-three, octets-four, octets-some}
+use Rattle.ber.proofs.Headers.{room, no-room, put-nothing, put-one, put-two, put-three, put-four}
 use borrow.Author.Needs.{needs}
 use Rattle.ber.proofs.identifier.put.Statement.{statement}
 use Rattle.ber.proofs.identifier.put.Tie as tie
@@ -6,187 +14,43 @@ use Rattle.ber.proofs.identifier.put.Lts as lts
 use Rattle.ber.proofs.identifier.size.Reads as size-reads
 use Rattle.octets.proofs.holds.Reads as holds-reads
 
--- src/identifier.rt:102:24
-size-requires : tie.Need-size-requires
-size-requires c κs = search needs
-
--- src/identifier.rt:102:9
-holds-requires : tie.Need-holds-requires
-holds-requires c κs = search needs
-
--- src/identifier.rt:103:9
-same-length : tie.Need-same-length
-same-length c = search needs
-
--- src/identifier.rt:103:9
-returns : tie.Need-returns
-returns c = ?
-
--- src/identifier.rt:105:15
-cast-buf : tie.Need-cast-buf
-cast-buf c = search needs
-
--- src/identifier.rt:105:5
-slice-write-buf : tie.Need-slice-write-buf
-slice-write-buf c = ?
-
--- src/identifier.rt:107:16
-add-result : tie.Need-add-result
-add-result c = ?
-
--- src/identifier.rt:107:9
-same-length-2 : tie.Need-same-length-2
-same-length-2 c = search needs
-
--- src/identifier.rt:107:9
-returns-2 : tie.Need-returns-2
-returns-2 c = ?
-
--- src/identifier.rt:109:13
-add-a : tie.Need-add-a
-add-a c = ?
-
--- src/identifier.rt:111:18
-cast-buf-2 : tie.Need-cast-buf-2
-cast-buf-2 c = search needs
-
--- src/identifier.rt:111:9
-slice-write-buf-2 : tie.Need-slice-write-buf-2
-slice-write-buf-2 c = ?
-
--- src/identifier.rt:112:16
-add-result-2 : tie.Need-add-result-2
-add-result-2 c = ?
-
--- src/identifier.rt:112:9
-same-length-3 : tie.Need-same-length-3
-same-length-3 c = search needs
-
--- src/identifier.rt:112:9
-returns-3 : tie.Need-returns-3
-returns-3 c = ?
-
--- src/identifier.rt:114:13
-add-b : tie.Need-add-b
-add-b c = ?
-
--- src/identifier.rt:117:19
-add-buf : tie.Need-add-buf
-add-buf c = search needs
-
--- src/identifier.rt:117:18
-cast-buf-3 : tie.Need-cast-buf-3
-cast-buf-3 c = search needs
-
--- src/identifier.rt:117:9
-slice-write-buf-3 : tie.Need-slice-write-buf-3
-slice-write-buf-3 c = ?
-
--- src/identifier.rt:118:18
-cast-buf-4 : tie.Need-cast-buf-4
-cast-buf-4 c = search needs
-
--- src/identifier.rt:118:9
-slice-write-buf-4 : tie.Need-slice-write-buf-4
-slice-write-buf-4 c = ?
-
--- src/identifier.rt:119:16
-add-result-3 : tie.Need-add-result-3
-add-result-3 c = ?
-
--- src/identifier.rt:119:9
-same-length-4 : tie.Need-same-length-4
-same-length-4 c = search needs
-
--- src/identifier.rt:119:9
-returns-4 : tie.Need-returns-4
-returns-4 c = ?
-
--- src/identifier.rt:121:13
-add-c : tie.Need-add-c
-add-c c = ?
-
--- src/identifier.rt:122:15
-add-buf-2 : tie.Need-add-buf-2
-add-buf-2 c = search needs
-
--- src/identifier.rt:122:14
-cast-buf-5 : tie.Need-cast-buf-5
-cast-buf-5 c = search needs
-
--- src/identifier.rt:122:5
-slice-write-buf-5 : tie.Need-slice-write-buf-5
-slice-write-buf-5 c = ?
-
--- src/identifier.rt:123:15
-add-buf-3 : tie.Need-add-buf-3
-add-buf-3 c = search needs
-
--- src/identifier.rt:123:14
-cast-buf-6 : tie.Need-cast-buf-6
-cast-buf-6 c = search needs
-
--- src/identifier.rt:123:5
-slice-write-buf-6 : tie.Need-slice-write-buf-6
-slice-write-buf-6 c = ?
-
--- src/identifier.rt:124:14
-cast-buf-7 : tie.Need-cast-buf-7
-cast-buf-7 c = search needs
-
--- src/identifier.rt:124:5
-slice-write-buf-7 : tie.Need-slice-write-buf-7
-slice-write-buf-7 c = ?
-
--- src/identifier.rt:125:5
-add-result-4 : tie.Need-add-result-4
-add-result-4 c = ?
-
--- src/identifier.rt:99:1
-same-length-5 : tie.Need-same-length-5
-same-length-5 c = search needs
-
--- src/identifier.rt:99:1
-returns-5 : tie.Need-returns-5
-returns-5 c = ?
-
 pub put-spec : {M : Type 1} → statement M
 put-spec =
     tie.close
     (tie.spec
-    size-requires
-    holds-requires
-    same-length
-    returns
-    cast-buf
-    slice-write-buf
-    add-result
-    same-length-2
-    returns-2
-    add-a
-    cast-buf-2
-    slice-write-buf-2
-    add-result-2
-    same-length-3
-    returns-3
-    add-b
-    add-buf
-    cast-buf-3
-    slice-write-buf-3
-    cast-buf-4
-    slice-write-buf-4
-    add-result-3
-    same-length-4
-    returns-4
-    add-c
-    add-buf-2
-    cast-buf-5
-    slice-write-buf-5
-    add-buf-3
-    cast-buf-6
-    slice-write-buf-6
-    cast-buf-7
-    slice-write-buf-7
-    add-result-4
-    same-length-5
-    returns-5)
+    (λ c κs. search needs)  -- size-requires
+    (λ c κs. search needs)  -- holds-requires
+    (λ c. search needs)  -- same-length
+    (λ c. put-nothing (now (c .before .before .before .before .before .args .buf)) (c .before .before .before .before .before .args .to) (codeOctets (c .before .before .before .before .before .args .code)) (no-room (codeOctets (c .before .before .before .before .before .args .code)) _ _ _ _ (c .before .before .size .ensures .0) (c .before .holds .ensures) (c .if1 .taken)))  -- returns
+    (λ c. search needs)  -- cast-buf
+    (λ c. omega (arith, octets-some (c .before .before .before .before .before .args .code), (room (codeOctets (c .before .before .before .before .before .args .code)) _ _ _ _ (c .before .before .size .ensures .0) (c .before .holds .ensures) (c .if1 .left))))  -- slice-write-buf
+    (λ c. omega (arith, octets-some (c .before .before .before .before .before .before .args .code), (room (codeOctets (c .before .before .before .before .before .before .args .code)) _ _ _ _ (c .before .before .before .size .ensures .0) (c .before .before .holds .ensures) (c .before .if1 .left))))  -- add-result
+    (λ c. search needs)  -- same-length-2
+    (λ c. put-one (now (c .before .before .before .before .before .before .args .buf)) (c .before .before .before .before .before .before .args .to) _ (room (codeOctets (c .before .before .before .before .before .before .args .code)) _ _ _ _ (c .before .before .before .size .ensures .0) (c .before .before .holds .ensures) (c .before .if1 .left)) _ (octets-one _ (c .if2 .taken)))  -- returns-2
+    (λ c. omega (arith, octets-some (c .before .before .before .before .before .before .args .code), (room (codeOctets (c .before .before .before .before .before .before .args .code)) _ _ _ _ (c .before .before .before .size .ensures .0) (c .before .before .holds .ensures) (c .before .if1 .left))))  -- add-a
+    (λ c. search needs)  -- cast-buf-2
+    (λ c. simp length-set (omega (arith, rw (octets-two _ (c .before .if2 .left) (c .if3 .taken)) at (room (codeOctets (c .before .before .before .before .before .before .before .args .code)) _ _ _ _ (c .before .before .before .before .size .ensures .0) (c .before .before .before .holds .ensures) (c .before .before .if1 .left)))))  -- slice-write-buf-2
+    (λ c. omega (arith, rw (octets-two _ (c .before .if2 .left) (c .if3 .taken)) at (room (codeOctets (c .before .before .before .before .before .before .before .args .code)) _ _ _ _ (c .before .before .before .before .size .ensures .0) (c .before .before .before .holds .ensures) (c .before .before .if1 .left))))  -- add-result-2
+    (λ c. simp length-set)  -- same-length-3
+    (λ c. put-two (now (c .before .before .before .before .before .before .before .args .buf)) (c .before .before .before .before .before .before .before .args .to) _ (room (codeOctets (c .before .before .before .before .before .before .before .args .code)) _ _ _ _ (c .before .before .before .before .size .ensures .0) (c .before .before .before .holds .ensures) (c .before .before .if1 .left)) _ _ (octets-two _ (c .before .if2 .left) (c .if3 .taken)))  -- returns-3
+    (λ c. omega (arith, octets-some (c .before .before .before .before .before .before .before .args .code), (room (codeOctets (c .before .before .before .before .before .before .before .args .code)) _ _ _ _ (c .before .before .before .before .size .ensures .0) (c .before .before .before .holds .ensures) (c .before .before .if1 .left))))  -- add-b
+    (λ c. search needs)  -- add-buf
+    (λ c. search needs)  -- cast-buf-3
+    (λ c. simp length-set (omega (arith, rw (octets-three _ (c .before .if3 .left) (c .if4 .taken)) at (room (codeOctets (c .before .before .before .before .before .before .before .before .args .code)) _ _ _ _ (c .before .before .before .before .before .size .ensures .0) (c .before .before .before .before .holds .ensures) (c .before .before .before .if1 .left)))))  -- slice-write-buf-3
+    (λ c. search needs)  -- cast-buf-4
+    (λ c. simp length-set (omega (arith, rw (octets-three _ (c .before .if3 .left) (c .if4 .taken)) at (room (codeOctets (c .before .before .before .before .before .before .before .before .args .code)) _ _ _ _ (c .before .before .before .before .before .size .ensures .0) (c .before .before .before .before .holds .ensures) (c .before .before .before .if1 .left)))))  -- slice-write-buf-4
+    (λ c. omega (arith, rw (octets-three _ (c .before .if3 .left) (c .if4 .taken)) at (room (codeOctets (c .before .before .before .before .before .before .before .before .args .code)) _ _ _ _ (c .before .before .before .before .before .size .ensures .0) (c .before .before .before .before .holds .ensures) (c .before .before .before .if1 .left))))  -- add-result-3
+    (λ c. simp length-set)  -- same-length-4
+    (λ c. put-three (now (c .before .before .before .before .before .before .before .before .args .buf)) (c .before .before .before .before .before .before .before .before .args .to) _ (room (codeOctets (c .before .before .before .before .before .before .before .before .args .code)) _ _ _ _ (c .before .before .before .before .before .size .ensures .0) (c .before .before .before .before .holds .ensures) (c .before .before .before .if1 .left)) _ _ _ (octets-three _ (c .before .if3 .left) (c .if4 .taken)))  -- returns-4
+    (λ c. omega (arith, octets-some (c .before .before .before .before .before .before .before .before .args .code), (room (codeOctets (c .before .before .before .before .before .before .before .before .args .code)) _ _ _ _ (c .before .before .before .before .before .size .ensures .0) (c .before .before .before .before .holds .ensures) (c .before .before .before .if1 .left))))  -- add-c
+    (λ c. search needs)  -- add-buf-2
+    (λ c. search needs)  -- cast-buf-5
+    (λ c. simp length-set (omega (arith, rw (octets-four _ (c .if4 .left)) at (room (codeOctets (c .before .before .before .before .before .before .before .before .args .code)) _ _ _ _ (c .before .before .before .before .before .size .ensures .0) (c .before .before .before .before .holds .ensures) (c .before .before .before .if1 .left)))))  -- slice-write-buf-5
+    (λ c. search needs)  -- add-buf-3
+    (λ c. search needs)  -- cast-buf-6
+    (λ c. simp length-set (omega (arith, rw (octets-four _ (c .if4 .left)) at (room (codeOctets (c .before .before .before .before .before .before .before .before .args .code)) _ _ _ _ (c .before .before .before .before .before .size .ensures .0) (c .before .before .before .before .holds .ensures) (c .before .before .before .if1 .left)))))  -- slice-write-buf-6
+    (λ c. search needs)  -- cast-buf-7
+    (λ c. simp length-set (omega (arith, rw (octets-four _ (c .if4 .left)) at (room (codeOctets (c .before .before .before .before .before .before .before .before .args .code)) _ _ _ _ (c .before .before .before .before .before .size .ensures .0) (c .before .before .before .before .holds .ensures) (c .before .before .before .if1 .left)))))  -- slice-write-buf-7
+    (λ c. omega (arith, rw (octets-four _ (c .if4 .left)) at (room (codeOctets (c .before .before .before .before .before .before .before .before .args .code)) _ _ _ _ (c .before .before .before .before .before .size .ensures .0) (c .before .before .before .before .holds .ensures) (c .before .before .before .if1 .left))))  -- add-result-4
+    (λ c. simp length-set)  -- same-length-5
+    (λ c. put-four (now (c .before .before .before .before .before .before .before .before .args .buf)) (c .before .before .before .before .before .before .before .before .args .to) _ (room (codeOctets (c .before .before .before .before .before .before .before .before .args .code)) _ _ _ _ (c .before .before .before .before .before .size .ensures .0) (c .before .before .before .before .holds .ensures) (c .before .before .before .if1 .left)) _ _ _ _ (octets-four _ (c .if4 .left))))  -- returns-5

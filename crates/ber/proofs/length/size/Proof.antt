@@ -1,19 +1,17 @@
+-- `ber::length::size` meets its contract.
+-- Assumes nothing.
+use mathlib.Core.Path.{refl}
+use native.Mathlib.Omega.{arith}
+use Rattle.ber.proofs.Headers.{length-one, length-two, length-three}
 use Rattle.ber.proofs.length.size.Statement.{statement}
 use Rattle.ber.proofs.length.size.Tie as tie
 use Rattle.ber.proofs.length.size.Reads as reads
 use Rattle.ber.proofs.length.size.Lts as lts
 
--- src/length.rt:130:9
-returns : tie.Need-returns
-returns c = ?
-
--- src/length.rt:133:9
-returns-2 : tie.Need-returns-2
-returns-2 c = ?
-
--- src/length.rt:126:1
-returns-3 : tie.Need-returns-3
-returns-3 c = ?
-
 pub size-spec : {M : Type 1} → statement M
-size-spec = tie.close (tie.spec returns returns-2 returns-3)
+size-spec =
+    tie.close
+    (tie.spec
+    (λ c. (rw (length-one _ (c .if1 .taken)) refl, omega arith))  -- returns
+    (λ c. (rw (length-two _ (c .before .if1 .left) (c .if2 .taken)) refl, omega arith))  -- returns-2
+    (λ c. (rw (length-three _ (c .if2 .left) (omega (arith, c .before .before .fits .n))) refl, omega arith)))  -- returns-3
