@@ -10,3 +10,4 @@ pub mod Codes
 pub mod Headers
 pub mod Ends
 pub mod Told
+pub mod Skipping

@@ -1,3 +1,12 @@
+-- `ber::item::open_end` meets its contract.
+-- Assumes nothing.
+use Prim.Native.Nat.{_+_, _-_, _≤_, _<_}
+use native.Mathlib.Omega.{arith}
+use lib.ListN.{length}
+use denote.Ref.{now}
+use Rattle.ber.proofs.Places.{part-to-end}
+use Rattle.ber.proofs.Skipping.{Stands, pass-cut, pass-mark, pass-none, pass-refused, pass-sized, pass-opened, pass-end}
+use borrow.Author.Needs.{needs}
 use Rattle.ber.proofs.item.open_end.Statement.{statement}
 use Rattle.ber.proofs.item.open_end.Tie as tie
 use Rattle.ber.proofs.item.open_end.Reads as reads
@@ -6,118 +15,20 @@ use Rattle.ber.proofs.identifier.read.Reads as identifier-read-reads
 use Rattle.ber.proofs.length.read.Reads as length-read-reads
 
 abbrev Inv-loop : tie.InvT-loop
-Inv-loop m start at₀ open₀ at «open» = ?
+Inv-loop m start at₀ open₀ at k = (start ≤ at) × (at ≤ length m) × (k ≤ at + 1) × Stands m start at k
 
 abbrev μ-loop : tie.MeasureT-loop
-μ-loop m start at₀ open₀ at «open» = ?
+μ-loop m start at₀ open₀ at k = length m - at
 
--- src/item.rt:22:5
-loop-holds : tie.Need-loop-holds Inv-loop μ-loop
-loop-holds c = ?
+-- an indefinite item is entered
+opened : (c : tie.After-struct-known Inv-loop μ-loop) → let next = c .before .before .before .before .before .before .before .before .before .before .before .before .before .before .before .loop .at + c .before .before .before .x .given .0 .0 .start in
+    (c .before .before .before .before .before .before .before .before .before .before .before .before .before .before .before .loop .at < next) × (next ≤ length (now (c .before .before .before .before .before .before .before .before .before .before .before .before .before .before .before .before .before .args .m))) × Stands (now (c .before .before .before .before .before .before .before .before .before .before .before .before .before .before .before .before .before .args .m)) (c .before .before .before .before .before .before .before .before .before .before .before .before .before .before .before .before .before .args .start) next (c .before .before .before .before .before .before .before .before .before .before .before .before .before .before .before .loop .«open» + 1)
+opened c = pass-opened (now (c .before .before .before .before .before .before .before .before .before .before .before .before .before .before .before .before .before .args .m)) (c .before .before .before .before .before .before .before .before .before .before .before .before .before .before .before .before .before .args .start) (c .before .before .before .before .before .before .before .before .before .before .before .before .before .before .before .loop .at) (c .before .before .before .before .before .before .before .before .before .before .before .before .before .before .before .loop .«open») (c .before .before .before .before .before .before .before .before .before .before .before .before .before .before .loop-test .taken) (c .before .before .before .before .before .before .before .before .before .before .before .before .before .before .before .loop .inv .3) (c .before .before .before .before .before .before .before .before .before .before .before .if2 .left) _ (rw part-to-end at (c .before .before .before .before .before .before .before .before .before .read .ensures)) _ _ (c .before .before .before .before .before .before .before .end .given .1) _ (λ l. rw part-to-end at (c .before .before .before .before .before .read2 .ensures l)) _ (c .before .before .before .x .given .1) (c .before .before .before .before .before .before .before .before .before .before .before .before .before .before .before .loop .inv .1) (c .before .if3 .taken)
 
--- src/item.rt:23:20
-sub-left : tie.Need-sub-left Inv-loop μ-loop
-sub-left c = ?
-
--- src/item.rt:25:13
-returns : tie.Need-returns Inv-loop μ-loop
-returns c = ?
-
--- src/item.rt:27:12
-shared-slice-read-if2 : tie.Need-shared-slice-read-if2 Inv-loop μ-loop
-shared-slice-read-if2 c = ?
-
--- src/item.rt:28:13
-add-at : tie.Need-add-at Inv-loop μ-loop
-add-at c = ?
-
--- src/item.rt:29:13
-sub-open : tie.Need-sub-open Inv-loop μ-loop
-sub-open c = ?
-
--- src/item.rt:22:5
-loop-less : tie.Need-loop-less Inv-loop μ-loop
-loop-less c = ?
-
--- src/item.rt:22:5
-loop-again : tie.Need-loop-again Inv-loop μ-loop
-loop-again c = ?
-
--- src/item.rt:31:24
-sub-rest : tie.Need-sub-rest Inv-loop μ-loop
-sub-rest c = ?
-
--- src/item.rt:31:24
-part-rest-start : tie.Need-part-rest-start Inv-loop μ-loop
-part-rest-start c = ?
-
--- src/item.rt:31:24
-part-rest-end : tie.Need-part-rest-end Inv-loop μ-loop
-part-rest-end c = ?
-
--- src/item.rt:32:19
-read-requires : tie.Need-read-requires Inv-loop μ-loop
-read-requires c κs = ?
-
--- src/item.rt:34:21
-enum-told : tie.Need-enum-told Inv-loop μ-loop
-enum-told c = ?
-
--- src/item.rt:34:21
-returns-2 : tie.Need-returns-2 Inv-loop μ-loop
-returns-2 c = ?
-
--- src/item.rt:36:45
-enum-known-end : tie.Need-enum-known-end Inv-loop μ-loop
-enum-known-end c = ?
-
--- src/item.rt:36:60
-read-requires-2 : tie.Need-read-requires-2 Inv-loop μ-loop
-read-requires-2 c κs = ?
-
--- src/item.rt:38:25
-enum-told-2 : tie.Need-enum-told-2 Inv-loop μ-loop
-enum-told-2 c = ?
-
--- src/item.rt:38:25
-returns-3 : tie.Need-returns-3 Inv-loop μ-loop
-returns-3 c = ?
-
--- src/item.rt:40:34
-enum-known-x : tie.Need-enum-known-x Inv-loop μ-loop
-enum-known-x c = ?
-
--- src/item.rt:42:29
-add-at-2 : tie.Need-add-at-2 Inv-loop μ-loop
-add-at-2 c = ?
-
--- src/item.rt:43:29
-add-open : tie.Need-add-open Inv-loop μ-loop
-add-open c = ?
-
--- src/item.rt:22:5
-loop-less-2 : tie.Need-loop-less-2 Inv-loop μ-loop
-loop-less-2 c = ?
-
--- src/item.rt:22:5
-loop-again-2 : tie.Need-loop-again-2 Inv-loop μ-loop
-loop-again-2 c = ?
-
--- src/item.rt:45:29
-add-at-3 : tie.Need-add-at-3 Inv-loop μ-loop
-add-at-3 c = ?
-
--- src/item.rt:22:5
-loop-less-3 : tie.Need-loop-less-3 Inv-loop μ-loop
-loop-less-3 c = ?
-
--- src/item.rt:22:5
-loop-again-3 : tie.Need-loop-again-3 Inv-loop μ-loop
-loop-again-3 c = ?
-
--- src/item.rt:16:1
-returns-4 : tie.Need-returns-4 Inv-loop μ-loop
-returns-4 c = ?
+-- a definite item is passed over
+passed : (c : tie.After-struct-known2 Inv-loop μ-loop) → let next = c .before .before .before .before .before .before .before .before .before .before .before .before .before .before .before .loop .at + c .before .before .before .x .given .0 .0 .end in
+    (c .before .before .before .before .before .before .before .before .before .before .before .before .before .before .before .loop .at < next) × (next ≤ length (now (c .before .before .before .before .before .before .before .before .before .before .before .before .before .before .before .before .before .args .m))) × Stands (now (c .before .before .before .before .before .before .before .before .before .before .before .before .before .before .before .before .before .args .m)) (c .before .before .before .before .before .before .before .before .before .before .before .before .before .before .before .before .before .args .start) next (c .before .before .before .before .before .before .before .before .before .before .before .before .before .before .before .loop .«open»)
+passed c = pass-sized (now (c .before .before .before .before .before .before .before .before .before .before .before .before .before .before .before .before .before .args .m)) (c .before .before .before .before .before .before .before .before .before .before .before .before .before .before .before .before .before .args .start) (c .before .before .before .before .before .before .before .before .before .before .before .before .before .before .before .loop .at) (c .before .before .before .before .before .before .before .before .before .before .before .before .before .before .before .loop .«open») (c .before .before .before .before .before .before .before .before .before .before .before .before .before .before .loop-test .taken) (c .before .before .before .before .before .before .before .before .before .before .before .before .before .before .before .loop .inv .3) (c .before .before .before .before .before .before .before .before .before .before .before .if2 .left) _ (rw part-to-end at (c .before .before .before .before .before .before .before .before .before .read .ensures)) _ _ (c .before .before .before .before .before .before .before .end .given .1) _ (λ l. rw part-to-end at (c .before .before .before .before .before .read2 .ensures l)) _ (c .before .before .before .x .given .1) (c .before .before .before .before .before .before .before .before .before .before .before .before .before .before .before .loop .inv .1) (c .before .if3 .left)
 
 pub open-end-spec : {M : Type 1} → statement M
 open-end-spec =
@@ -125,30 +36,30 @@ open-end-spec =
     (tie.spec
     Inv-loop
     μ-loop
-    loop-holds
-    sub-left
-    returns
-    shared-slice-read-if2
-    add-at
-    sub-open
-    loop-less
-    loop-again
-    sub-rest
-    part-rest-start
-    part-rest-end
-    read-requires
-    enum-told
-    returns-2
-    enum-known-end
-    read-requires-2
-    enum-told-2
-    returns-3
-    enum-known-x
-    add-at-2
-    add-open
-    loop-less-2
-    loop-again-2
-    add-at-3
-    loop-less-3
-    loop-again-3
-    returns-4)
+    (λ c. (omega arith, c .before .pre, omega arith, λ w p. p))  -- loop-holds
+    (λ c. omega (arith, c .before .loop .inv .1))  -- sub-left
+    (λ c. (c .before .before .before .before .pre, omega arith, pass-cut (now (c .before .before .before .before .args .m)) (c .before .before .before .before .args .start) (c .before .before .loop .at) (c .before .before .loop .«open») (c .before .loop-test .taken) (c .before .before .loop .inv .3) (c .if1 .taken)))  -- returns
+    (λ c. omega (arith, c .before .if1 .left))  -- shared-slice-read-if2
+    (λ c. omega (arith, c .before .before .if1 .left, c .before .before .before .before .before .before .good))  -- add-at
+    (λ c. omega (arith, c .before .before .before .loop-test .taken))  -- sub-open
+    (λ c. omega (arith, c .before .before .if1 .left))  -- loop-less
+    (λ c. (omega (arith, c .before .before .before .before .loop .inv .0), omega (arith, c .before .before .if1 .left), omega (arith, c .before .before .before .before .loop .inv .2), pass-mark (now (c .before .before .before .before .before .before .args .m)) (c .before .before .before .before .before .before .args .start) _ _ (c .before .before .before .loop-test .taken) (c .before .before .before .before .loop .inv .3) (c .if2 .taken)))  -- loop-again
+    (λ c. c .before .before .before .before .loop .inv .1)  -- sub-rest
+    (λ c. omega (arith, c .before .before .before .before .loop .inv .1))  -- part-rest-start
+    (λ c. omega arith)  -- part-rest-end
+    (λ c κs. search needs)  -- read-requires
+    (λ c. search needs)  -- enum-told
+    (λ c. (c .before .before .before .before .before .before .before .before .before .before .pre, omega arith, pass-none (now (c .before .before .before .before .before .before .before .before .before .before .args .m)) (c .before .before .before .before .before .before .before .before .before .before .args .start) (c .before .before .before .before .before .before .before .before .loop .at) (c .before .before .before .before .before .before .before .before .loop .«open») (c .before .before .before .before .before .before .before .loop-test .taken) (c .before .before .before .before .before .before .before .before .loop .inv .3) (c .before .before .before .before .if2 .left) _ (rw part-to-end at (c .before .before .read .ensures)) _ (c .enum-told .given .1)))  -- returns-2
+    (λ c. search needs)  -- enum-known-end
+    (λ c κs. search needs)  -- read-requires-2
+    (λ c. search needs)  -- enum-told-2
+    (λ c. (c .before .before .before .before .before .before .before .before .before .before .before .before .before .before .pre, omega arith, pass-refused (now (c .before .before .before .before .before .before .before .before .before .before .before .before .before .before .args .m)) (c .before .before .before .before .before .before .before .before .before .before .before .before .before .before .args .start) (c .before .before .before .before .before .before .before .before .before .before .before .before .loop .at) (c .before .before .before .before .before .before .before .before .before .before .before .before .loop .«open») (c .before .before .before .before .before .before .before .before .before .before .before .loop-test .taken) (c .before .before .before .before .before .before .before .before .before .before .before .before .loop .inv .3) (c .before .before .before .before .before .before .before .before .if2 .left) _ (rw part-to-end at (c .before .before .before .before .before .before .read .ensures)) _ _ (c .before .before .before .before .end .given .1) _ (λ l. rw part-to-end at (c .before .before .read2 .ensures l)) _ (c .enum-told2 .given .1)))  -- returns-3
+    (λ c. search needs)  -- enum-known-x
+    (λ c. omega (arith, opened c .1, c .before .before .before .before .before .before .before .before .before .before .before .before .before .before .before .before .before .good))  -- add-at-2
+    (λ c. omega (arith, c .before .before .before .before .before .before .before .before .before .before .before .before .before .before .before .loop .inv .2, c .before .before .before .before .before .before .before .before .before .before .before .before .before .before .before .loop .inv .1, c .before .before .before .before .before .before .before .before .before .before .before .before .before .before .before .before .before .good))  -- add-open
+    (λ c. omega (arith, opened c .0, opened c .1))  -- loop-less-2
+    (λ c. (omega (arith, opened c .0, c .before .before .before .before .before .before .before .before .before .before .before .before .before .before .before .loop .inv .0), opened c .1, omega (arith, opened c .0, c .before .before .before .before .before .before .before .before .before .before .before .before .before .before .before .loop .inv .2), opened c .2))  -- loop-again-2
+    (λ c. omega (arith, passed c .1, c .before .before .before .before .before .before .before .before .before .before .before .before .before .before .before .before .before .good))  -- add-at-3
+    (λ c. omega (arith, passed c .0, passed c .1))  -- loop-less-3
+    (λ c. (omega (arith, passed c .0, c .before .before .before .before .before .before .before .before .before .before .before .before .before .before .before .loop .inv .0), passed c .1, omega (arith, passed c .0, c .before .before .before .before .before .before .before .before .before .before .before .before .before .before .before .loop .inv .2), passed c .2))  -- loop-again-3
+    (λ c. (c .before .loop .inv .0, c .before .loop .inv .1, pass-end (now (c .before .before .before .args .m)) (c .before .before .before .args .start) (c .before .loop .at) (c .before .loop .«open») (c .before .loop .inv .3) (c .loop-test .left))))  -- returns-4

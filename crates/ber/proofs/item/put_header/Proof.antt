@@ -1,3 +1,11 @@
+-- `ber::item::put_header` meets its contract.
+-- Assumes nothing.
+use mathlib.Core.List.{_++_}
+use mathlib.Core.Path.{_∙_}
+use denote.Ref.{now}
+use Rattle.ber.specs.Codes.{codeOctets}
+use Rattle.ber.specs.Length.{lengthOctets}
+use Rattle.ber.proofs.Headers.{room, no-room, put-nothing, put-behind}
 use borrow.Author.Needs.{needs}
 use Rattle.ber.proofs.item.put_header.Statement.{statement}
 use Rattle.ber.proofs.item.put_header.Tie as tie
@@ -8,47 +16,18 @@ use Rattle.ber.proofs.item.header_size.Reads as header-size-reads
 use Rattle.ber.proofs.length.put.Reads as length-put-reads
 use Rattle.octets.proofs.holds.Reads as holds-reads
 
--- src/item.rt:81:32
-header-size-requires : tie.Need-header-size-requires
-header-size-requires c κs = search needs
-
--- src/item.rt:81:9
-holds-requires : tie.Need-holds-requires
-holds-requires c κs = search needs
-
--- src/item.rt:82:9
-same-length : tie.Need-same-length
-same-length c = search needs
-
--- src/item.rt:82:9
-returns : tie.Need-returns
-returns c = ?
-
--- src/item.rt:84:9
-put-requires : tie.Need-put-requires
-put-requires c κs = search needs
-
--- src/item.rt:85:5
-put-requires-2 : tie.Need-put-requires-2
-put-requires-2 c κs = search needs
-
--- src/item.rt:78:1
-same-length-2 : tie.Need-same-length-2
-same-length-2 c = search needs
-
--- src/item.rt:78:1
-returns-2 : tie.Need-returns-2
-returns-2 c = ?
-
 pub put-header-spec : {M : Type 1} → statement M
 put-header-spec =
     tie.close
     (tie.spec
-    header-size-requires
-    holds-requires
-    same-length
-    returns
-    put-requires
-    put-requires-2
-    same-length-2
-    returns-2)
+    (λ c κs. search needs)  -- header-size-requires
+    (λ c κs. search needs)  -- holds-requires
+    (λ c. search needs)  -- same-length
+    (λ c. let w = codeOctets (c .before .before .before .before .before .args .code) ++ lengthOctets (c .before .before .before .before .before .args .n) in
+    put-nothing (now (c .before .before .before .before .before .args .buf)) (c .before .before .before .before .before .args .to) w (no-room w _ _ _ _ (c .before .before .header-size .ensures) (c .before .holds .ensures) (c .if1 .taken)))  -- returns
+    (λ c κs. search needs)  -- put-requires
+    (λ c κs. search needs)  -- put-requires-2
+    (λ c. search needs)  -- same-length-2
+    (λ c. let v = codeOctets (c .before .before .before .before .before .before .before .before .before .before .before .before .before .args .code) in let w = lengthOctets (c .before .before .before .before .before .before .before .before .before .before .before .before .before .args .n) in
+    let (p, q) = put-behind (now (c .before .before .before .before .before .before .before .before .before .before .before .before .before .args .buf)) (c .before .before .before .before .before .before .before .before .before .before .before .before .before .args .to) v w (room (v ++ w) _ _ _ _ (c .before .before .before .before .before .before .before .before .before .before .header-size .ensures) (c .before .before .before .before .before .before .before .before .before .holds .ensures) (c .before .before .before .before .before .before .before .before .if1 .left)) _ _ (c .before .before .before .before .before .before .put .ensures .0) (c .before .before .before .before .before .before .put .ensures .1) in
+    (c .before .before .put2 .ensures .0 ∙ p, c .before .before .put2 .ensures .1 ∙ q)))  -- returns-2
