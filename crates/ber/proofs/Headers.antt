@@ -1,6 +1,6 @@
 -- Laws of octets that are put: the length octets by their forms, single octets one behind another, identifier and length octets together.
 -- Assumes nothing.
-use borrow.Author.Tests.{lt-ltb, le-ltb, leb-true, le-leb, not-true, not-false, ne-eqb}
+use borrow.Author.Tests.{lt-ltb, le-ltb, leb-true, not-true, not-false, ne-eqb}
 use mathlib.Core.Bool.{Bool, true, false, not}
 use mathlib.Core.List.{List, [], _∷_, _++_}
 use mathlib.Core.Path.{_≡_, refl, sym, _∙_}

@@ -89,7 +89,8 @@ module _ (s : List ℕ) (r : Identifier) (a : r ≡ toldIdentifier (length s) (r
     head-refused f g = behind-identifier ∙ length-refused s e (length s) x (b (length s)) f g
 
     module _ (y : Extent) (g : x ≡ ReadLength y) where
-      head-definite : y .marked ≡ false → (headed s ≡ got (definite (y .end - y .start)) (drop (y .start) s)) × (0 < y .start) × (y .start ≤ y .end) × (y .end ≤ length s)
+      head-definite : y .marked ≡ false
+          → (headed s ≡ got (definite (y .end - y .start)) (drop (y .start) s)) × (0 < y .start) × (y .start ≤ y .end) × (y .end ≤ length s)
       head-definite h =
           let (q, l, k, u) = length-definite s e (length s) x (b (length s)) y g h in
           (behind-identifier ∙ q, omega arith, k, u)
@@ -162,6 +163,7 @@ module _ (m : List ℕ) (from : ℕ) (x : Length) (b : (l : ℕ) → x ≡ toldL
         sym (rw j at (drop-drop (y .end - y .start) (y .start) m)) ∙ same-rest q e
     skip-sized h w (marked l e p) = let (q, low, k, u) = length-definite m from l x (b l) y g h in absurd (not-both q e)
 
-    pub skip-marked : y .marked ≡ true → (end : ℕ) → ((w : List ℕ) → Passed 1 (drop (y .start) m) w → drop end m ≡ w) → (w : List ℕ) → Skips m from w → drop end m ≡ w
+    pub skip-marked : y .marked ≡ true → (end : ℕ) → ((w : List ℕ) → Passed 1 (drop (y .start) m) w → drop end m ≡ w)
+        → (w : List ℕ) → Skips m from w → drop end m ≡ w
     skip-marked h end f w (sized l n r e) = let (q, low, k, u) = length-indefinite m from l x (b l) y g h in absurd (not-both e q)
     skip-marked h end f w (marked l e p) = let (q, low, k, u) = length-indefinite m from l x (b l) y g h in f w (rw (got-rest (sym e ∙ q)) at p)

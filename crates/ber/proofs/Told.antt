@@ -4,7 +4,7 @@ use borrow.Author.Tests.{lt-ltb, le-ltb, le-leb, lt-leb, eq-eqb, ne-eqb}
 use lib.Dec.{ltb, leb, eqb}
 use lib.ListN.{length, getD, take, drop, length-append, length-drop, length-take, drop-of-length-le}
 use lib.Seq.{append-snoc, drop-cons, drop-append-seam, getD-drop, getD-take}
-use mathlib.Core.Bool.{Bool, true, false, true≢false, false≢true}
+use mathlib.Core.Bool.{true, false, true≢false, false≢true}
 use mathlib.Core.List.{List, [], _∷_, _++_}
 use mathlib.Core.Path.{_≡_, refl, sym, ap, _∙_}
 use native.Mathlib.Omega.{arith}
@@ -169,7 +169,14 @@ module _ (m : List ℕ) (at : ℕ) (some : 0 < at) (there : at ≤ length m) whe
     unfolding readLength if
     long-form l =
         let z : 128 + k - 128 ≡ k = omega arith in
-        rw (from-before m at some there, says, le-ltb (128 + k) 128 (omega arith), ne-eqb (128 + k) 128 (λ e. omega arith), lt-ltb (128 + k) 255 (omega arith), z)
+        rw (
+          from-before m at some there,
+          says,
+          le-ltb (128 + k) 128 (omega arith),
+          ne-eqb (128 + k) 128 (λ e. omega arith),
+          lt-ltb (128 + k) 255 (omega arith),
+          z,
+        )
 
     pub length-few : length m - at < k → Here m (at - 1) (NoLength Cut)
     unfolding toldLength readLong faultOf if
@@ -306,7 +313,8 @@ module _ (n : ℕ) (e : Extent) where
       absurd (true≢false (sym (ap (λ (x : Extent). x .marked) h) ∙ q))
   says-definite (refused c l) p q = let z : _≡_ {A = ℕ} 0 1 = cc in absurd (omega arith)
 
-  says-open : (x : Answer Size) → ReadLength e ≡ toldLength n x → e .marked ≡ true → (w : List ℕ) × (x ≡ got indefinite w) × (e .start ≡ n - length w) × (e .end ≡ n)
+  says-open : (x : Answer Size) → ReadLength e ≡ toldLength n x → e .marked ≡ true
+      → (w : List ℕ) × (x ≡ got indefinite w) × (e .start ≡ n - length w) × (e .end ≡ n)
   unfolding toldLength
   says-open (got (definite k) w) p q =
       let h : e ≡ record { start = n - length w; end = n - length w + k; marked = false } = cc in
@@ -356,7 +364,8 @@ module _ (m : List ℕ) (at l : ℕ) where
           let ew : w ≡ drop (e .start) m = y ∙ ap (λ (j : ℕ). drop j m) (sym es) in
           (x ∙ rw (ek, ew), omega arith, omega arith, omega arith)
 
-      pub length-indefinite : e .marked ≡ true → (readLength l (drop at m) ≡ got indefinite (drop (e .start) m)) × (at < e .start) × (e .start ≤ length m) × (e .end ≡ length m)
+      pub length-indefinite : e .marked ≡ true
+          → (readLength l (drop at m) ≡ got indefinite (drop (e .start) m)) × (at < e .start) × (e .start ≤ length m) × (e .end ≡ length m)
       length-indefinite q =
           let (w, x, s, t) = says-open (length m) e (readLength l (drop at m)) (sym d ∙ a) q in
           let (p, y, low, high, room) = length-rest indefinite w x in
@@ -399,4 +408,5 @@ module _ (m : List ℕ) (at l : ℕ) where
   again-short h k =
       let e : Extent = record { start = at + 1; end = at + 1 + getD m at 0; marked = false } in
       rw (some-at m at h, lt-ltb (getD m at 0) 128 k)
-      (if-cases (λ (y : Answer Size). Again (length m) y e) (leb (getD m at 0) (length (drop (at + 1) m))) _ _ (λ t. rw (left-at m (at + 1) (omega arith))) λ t. tt)
+      (if-cases (λ (y : Answer Size). Again (length m) y e) (leb (getD m at 0) (length (drop (at + 1) m))) _ _
+      (λ t. rw (left-at m (at + 1) (omega arith))) λ t. tt)

@@ -1,7 +1,6 @@
 -- `ber::ending::marked_end` meets its contract.
 -- Assumes nothing.
 use denote.Ref.{now}
-use native.Mathlib.Omega.{arith}
 use Rattle.ber.proofs.Ends.{ends-none, ends-more, ends-half, ends-wrong, ends-over}
 use borrow.Author.Needs.{needs}
 use Rattle.ber.proofs.ending.marked_end.Statement.{statement}
@@ -17,8 +16,14 @@ marked-end-spec =
     (λ c. search needs)  -- shared-slice-read-if2
     (λ c. ends-more (now (c .before .before .before .args .m)) _ (c .before .before .if1 .left) (c .if2 .taken))  -- returns-2
     (λ c. search needs)  -- add-second
-    (λ c. ends-half (now (c .before .before .before .before .args .m)) _ (c .before .before .before .if1 .left) (c .before .if2 .left) (c .if3 .taken))  -- returns-3
+    (λ c. let at-if1 = c .before .before .before in
+    let at-start = at-if1 .before in
+    ends-half (now (at-start .args .m)) _ (at-if1 .if1 .left) (c .before .if2 .left) (c .if3 .taken))  -- returns-3
     (λ c. search needs)  -- shared-slice-read-if4
-    (λ c. ends-wrong (now (c .before .before .before .before .before .before .args .m)) _ (c .before .before .if3 .left) (c .before .before .before .if2 .left) (c .if4 .taken))  -- returns-4
+    (λ c. let at-if2 = c .before .before .before in
+    let at-start = at-if2 .before .before .before in
+    ends-wrong (now (at-start .args .m)) _ (c .before .before .if3 .left) (at-if2 .if2 .left) (c .if4 .taken))  -- returns-4
     (λ c. search needs)  -- add-end
-    (λ c. ends-over (now (c .before .before .before .before .before .before .args .m)) _ (c .before .before .if3 .left) (c .before .before .before .if2 .left) (c .if4 .left)))  -- returns-5
+    (λ c. let at-if2 = c .before .before .before in
+    let at-start = at-if2 .before .before .before in
+    ends-over (now (at-start .args .m)) _ (c .before .before .if3 .left) (at-if2 .if2 .left) (c .if4 .left)))  -- returns-5

@@ -1,6 +1,5 @@
 -- `ber::identifier::read` meets its contract.
 -- Assumes nothing.
-use mathlib.Core.Path.{refl}
 use native.Mathlib.Omega.{arith}
 use denote.Ref.{now}
 use Rattle.ber.proofs.Told.{identifier-none, identifier-short}
@@ -18,6 +17,7 @@ read-spec =
     (λ c. identifier-none (now (c .before .before .args .m)) (c .if1 .taken))  -- returns
     (λ c. search needs)  -- shared-slice-read-lead
     (λ c. omega (arith, c .shared-slice-known2 .given 0))  -- cast-lead
-    (λ c. identifier-short (now (c .before .before .before .before .args .m)) (omega (arith, c .before .before .if1 .left)) (c .if2 .taken))  -- returns-2
+    (λ c. identifier-short (now (c .before .before .before .before .args .m)) (omega (arith, c .before .before .if1 .left))
+      (c .if2 .taken))  -- returns-2
     (λ c κs. search needs)  -- read-long-requires
     (λ c. search needs))  -- returns-3

@@ -1,6 +1,5 @@
 -- `ber::item::header_size` meets its contract.
 -- Assumes nothing.
-use mathlib.Core.Path.{sym, _∙_}
 use lib.ListN.{length-append}
 use borrow.Author.Needs.{needs}
 use Rattle.ber.proofs.item.header_size.Statement.{statement}

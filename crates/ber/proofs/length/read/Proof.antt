@@ -1,7 +1,6 @@
 -- `ber::length::read` meets its contract.
 -- Assumes nothing.
-use Prim.Native.Nat.{_+_, _-_}
-use mathlib.Core.Path.{_≡_, refl}
+use mathlib.Core.Path.{refl}
 use native.Mathlib.Omega.{arith}
 use denote.Ref.{now}
 use Rattle.ber.proofs.Places.{one-back}
@@ -22,7 +21,13 @@ read-spec =
     (λ c. omega (arith, c .shared-slice-known2 .given (c .before .before .before .args .at)))  -- cast-first
     (λ c. search needs)  -- add-start
     (λ c. search needs)  -- add-end
-    (λ c. length-short-no (now (c .before .before .before .before .before .args .m)) _ (c .before .before .before .if1 .left) (c .before .if2 .taken) (c .if3 .taken))  -- returns-2
-    (λ c. length-short (now (c .before .before .before .before .before .args .m)) _ (c .before .before .before .if1 .left) (c .before .if2 .taken) (c .if3 .left))  -- returns-3
-    (λ c κs. (omega arith, omega (arith, c .before .before .if1 .left), rw one-back refl, c .if2 .left, omega (arith, c .before .shared-slice-known2 .given (c .before .before .before .before .args .at))))  -- read-other-requires
+    (λ c. let at-if1 = c .before .before .before in
+    let at-start = at-if1 .before .before in
+    length-short-no (now (at-start .args .m)) _ (at-if1 .if1 .left) (c .before .if2 .taken) (c .if3 .taken))  -- returns-2
+    (λ c. let at-if1 = c .before .before .before in
+    let at-start = at-if1 .before .before in
+    length-short (now (at-start .args .m)) _ (at-if1 .if1 .left) (c .before .if2 .taken) (c .if3 .left))  -- returns-3
+    (λ c κs. let at-start = c .before .before .before .before in
+    (omega arith, omega (arith, c .before .before .if1 .left), rw one-back refl, c .if2 .left, omega
+      (arith, c .before .shared-slice-known2 .given (at-start .args .at))))  -- read-other-requires
     (λ c. λ l. rw one-back at (c .read-other .ensures l)))  -- returns-4

@@ -1,7 +1,6 @@
 -- `ber::length::read_other` meets its contract.
 -- Assumes nothing.
 use mathlib.Core.Path.{sym, _∙_}
-use native.Mathlib.Omega.{arith}
 use denote.Ref.{now}
 use Rattle.ber.proofs.Told.{length-open, length-reserved}
 use borrow.Author.Needs.{needs}
@@ -15,8 +14,10 @@ pub read-other-spec : {M : Type 1} → statement M
 read-other-spec =
     tie.close
     (tie.spec
-    (λ c. length-open (now (c .before .before .args .m)) _ (c .before .before .pre .0) (c .before .before .pre .1) (sym (c .before .before .pre .2) ∙ c .if1 .taken))  -- returns
-    (λ c. length-reserved (now (c .before .before .before .args .m)) _ (c .before .before .before .pre .0) (c .before .before .before .pre .1) (sym (c .before .before .before .pre .2) ∙ c .if2 .taken))  -- returns-2
+    (λ c. length-open (now (c .before .before .args .m)) _ (c .before .before .pre .0) (c .before .before .pre .1)
+      (sym (c .before .before .pre .2) ∙ c .if1 .taken))  -- returns
+    (λ c. let at-start = c .before .before .before in
+    length-reserved (now (at-start .args .m)) _ (at-start .pre .0) (at-start .pre .1) (sym (at-start .pre .2) ∙ c .if2 .taken))  -- returns-2
     (λ c. search needs)  -- sub-read-long
     (λ c κs. search needs)  -- read-long-requires
     (λ c. search needs))  -- returns-3
