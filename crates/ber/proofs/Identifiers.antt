@@ -32,6 +32,17 @@ identifier-sound (b ∷ s) =
     if-holds _ (λ f. refuses) λ f _.
     yields (ap (λ (x : List ℕ). b ∷ x) h)
 
+-- it has an octet
+pub identifier-some : (s : List ℕ) → Holds (λ i r. 0 < length i) (readIdentifier s)
+unfolding readIdentifier
+identifier-some [] = refuses
+identifier-some (b ∷ s) =
+    if-holds _ (λ e. yields (omega arith)) λ e _.
+    then-holds (following-sound (suc (length s)) [] s) λ ds s₁ h.
+    if-holds _ (λ f. refuses) λ f _.
+    if-holds _ (λ f. refuses) λ f _.
+    yields (omega arith)
+
 -- what follows a leading octet is read, and is no forbidden form
 record Followed (n : ℕ) (s : List ℕ) (l : ℕ) (ds : List ℕ) : Type 0 where
   is-read : readFollowing l [] (ds ++ s) ≡ got ds s

@@ -23,6 +23,10 @@ use Rattle.ber.specs.declared.ending.End.the-variants.{More, Over, Broke
 unfoldable pub faultOf : ℕ → Fault
 faultOf c = if (eqb c 22) Cut λ _. Form
 
+abbrev pub faultNumber : Fault → ℕ
+faultNumber Cut = 22
+faultNumber Form = 23
+
 unfoldable pub toldIdentifier : ℕ → Answer (List ℕ) → Identifier
 toldIdentifier n (got i s) = ReadIdentifier (codeOf i) (n - length s)
 toldIdentifier n (refused c l) = NoIdentifier (faultOf c)

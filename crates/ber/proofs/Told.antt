@@ -1,0 +1,412 @@
+-- Laws of the answers of the code that reads identifier and length octets: each answer, and what it says of the reading of items.
+-- Assumes nothing.
+use borrow.Author.Tests.{lt-ltb, le-ltb, le-leb, lt-leb, eq-eqb, ne-eqb}
+use lib.Dec.{ltb, leb, eqb}
+use lib.ListN.{length, getD, take, drop, length-append, length-drop, length-take, drop-of-length-le}
+use lib.Seq.{append-snoc, drop-cons, drop-append-seam, getD-drop, getD-take}
+use mathlib.Core.Bool.{true, false, true≢false, false≢true}
+use mathlib.Core.List.{List, [], _∷_, _++_}
+use mathlib.Core.Path.{_≡_, refl, sym, ap, _∙_}
+use native.Mathlib.Omega.{arith}
+use Prim.Native.Nat.{ℕ, suc, _+_, _-_, _*_, _/_, _%_, _≤_, _<_, min}
+use Rattle.octets.specs.Answer.{Answer, got, refused, then, if}
+use Rattle.octets.proofs.Answer.{got-holds, if-cases}
+use Rattle.octets.proofs.Lists.{behind, length-behind}
+use Rattle.ber.specs.Codes.{spelled, codeOf}
+use Rattle.ber.specs.Length.{number, Length as Octets, short, long}
+use Rattle.ber.specs.Reading.{readFollowing, readIdentifier, Size, definite, indefinite, readLength, readLong, fit}
+use Rattle.ber.specs.Told.{faultOf, faultNumber, toldIdentifier, toldLength, Again}
+use Rattle.ber.specs.declared.Fault.{Fault}
+use Rattle.ber.specs.declared.Fault.the-variants.{Cut, Form}
+use Rattle.ber.specs.declared.identifier.Identifier.{Identifier}
+use Rattle.ber.specs.declared.identifier.Identifier.the-variants.{Read, Refused as NoIdentifier}
+use Rattle.ber.specs.declared.length.Length.{Length}
+use Rattle.ber.specs.declared.length.Length.the-variants.{Read as ReadLength, Refused as NoLength}
+use Rattle.ber.specs.declared.length.Extent.{Extent}
+use Rattle.ber.proofs.Identifiers.{identifier-sound, identifier-some}
+use Rattle.ber.proofs.Lengths.{length-sound, Shape, is-definite, is-indefinite}
+use Rattle.ber.proofs.Places.{left-at, none-at, some-at, from-before}
+
+-- m is an identifier, as the code answers
+abbrev Identified : List ℕ → Identifier → Type 0
+Identified m r = r ≡ toldIdentifier (length m) (readIdentifier m)
+
+pub identifier-none : (m : List ℕ) → length m ≡ 0 → Identified m (NoIdentifier Cut)
+unfolding toldIdentifier readIdentifier faultOf if
+identifier-none [] h = refl
+identifier-none (b ∷ s) h = absurd (omega arith)
+
+pub identifier-short : (m : List ℕ) → 0 < length m → getD m 0 0 % 32 < 31 → Identified m (Read (getD m 0 0) 1)
+unfolding toldIdentifier readIdentifier codeOf if
+identifier-short [] h k = absurd (omega arith)
+identifier-short (b ∷ s) h k = let e : suc (length s) - length s ≡ 1 = omega arith in rw (lt-ltb (b % 32) 31 k, e)
+
+-- the octets that follow a leading octet: those from the first up to i are in hand, n is what they spell
+pub record Following (m : List ℕ) (i n : ℕ) : Type 0 where
+  pub hand : List ℕ
+  pub whole : (l : ℕ) → readFollowing l [] (drop 1 m) ≡ readFollowing l hand (drop i m)
+  pub spells : (ds : List ℕ) → spelled 0 (hand ++ ds) ≡ spelled n ds
+  pub starts : getD (hand ++ (getD m i 0 ∷ [])) 0 0 ≡ getD m 1 0
+
+pub follow-none : (m : List ℕ) → Following m 1 0
+follow-none m = record { hand = []; whole = λ l. refl; spells = λ ds. refl; starts = refl }
+
+head-keeps : (ds : List ℕ) (d : ℕ) (xs : List ℕ) → getD ((ds ++ (d ∷ [])) ++ xs) 0 0 ≡ getD (ds ++ (d ∷ [])) 0 0
+head-keeps [] d xs = refl
+head-keeps (x ∷ ds) d xs = refl
+
+code-long : (b : ℕ) (ds : List ℕ) (d : ℕ) → codeOf (b ∷ (ds ++ (d ∷ []))) ≡ b + 256 * spelled 0 (ds ++ (d ∷ []))
+unfolding codeOf
+code-long b [] d = refl
+code-long b (x ∷ ds) d = refl
+
+pub follow-next : (m : List ℕ) (i n : ℕ) → Following m i n → i < length m → 128 ≤ getD m i 0 → Following m (i + 1) (min 65536 (n * 128 + getD m i 0 % 128))
+unfolding readFollowing spelled if
+follow-next m i n F h k =
+    let d = getD m i 0 in
+    record {
+      hand = F .hand ++ (d ∷ []);
+      whole = λ l. F .whole l ∙ rw (some-at m i h, le-ltb d 128 k);
+      spells = λ ds. ap (spelled 0) (append-snoc (F .hand) d ds) ∙ F .spells (d ∷ ds);
+      starts = head-keeps (F .hand) d _ ∙ F .starts;
+    }
+
+module _ (i n : ℕ) where
+  pub long-cut : (m : List ℕ) → 0 < length m → 31 ≤ getD m 0 0 % 32 → Following m i n → length m ≤ i → Identified m (NoIdentifier Cut)
+  unfolding toldIdentifier readIdentifier readFollowing faultOf if then
+  long-cut [] h low F k = absurd (omega arith)
+  long-cut (b ∷ s) h low F k = rw (le-ltb (b % 32) 31 low, F .whole _, none-at (b ∷ s) i k)
+
+  pub long-zero : (m : List ℕ) → 0 < length m → 31 ≤ getD m 0 0 % 32 → Following m i n → i < length m → getD m i 0 < 128 → getD m 1 0 ≡ 128
+      → Identified m (NoIdentifier Form)
+  unfolding toldIdentifier readIdentifier readFollowing faultOf if then
+  long-zero [] h low F k z e = absurd (omega arith)
+  long-zero (b ∷ s) h low F k z e =
+      rw (le-ltb (b % 32) 31 low, F .whole _, some-at (b ∷ s) i k, lt-ltb (getD (b ∷ s) i 0) 128 z, F .starts, eq-eqb (getD (b ∷ s) 1 0) 128 e)
+
+  pub long-few : (m : List ℕ) → 0 < length m → 31 ≤ getD m 0 0 % 32 → Following m i n → i < length m → getD m i 0 < 128 → (getD m 1 0 ≡ 128 → ⊥)
+      → getD m 1 0 < 31 → Identified m (NoIdentifier Form)
+  unfolding toldIdentifier readIdentifier readFollowing faultOf if then
+  long-few [] h low F k z e f = absurd (omega arith)
+  long-few (b ∷ s) h low F k z e f =
+      rw (
+        le-ltb (b % 32) 31 low,
+        F .whole _,
+        some-at (b ∷ s) i k,
+        lt-ltb (getD (b ∷ s) i 0) 128 z,
+        F .starts,
+        ne-eqb (getD (b ∷ s) 1 0) 128 e,
+        lt-ltb (getD (b ∷ s) 1 0) 31 f,
+      )
+
+  pub long-read : (m : List ℕ) → 0 < length m → 31 ≤ getD m 0 0 % 32 → Following m i n → i < length m → getD m i 0 < 128 → (getD m 1 0 ≡ 128 → ⊥)
+      → 31 ≤ getD m 1 0 → Identified m (Read (getD m 0 0 + 256 * min 65536 (n * 128 + getD m i 0 % 128)) (i + 1))
+  unfolding toldIdentifier readIdentifier readFollowing if then spelled
+  long-read [] h low F k z e f = absurd (omega arith)
+  long-read (b ∷ s) h low F k z e f =
+      rw (
+        le-ltb (b % 32) 31 low,
+        F .whole _,
+        some-at (b ∷ s) i k,
+        lt-ltb (getD (b ∷ s) i 0) 128 z,
+        F .starts,
+        ne-eqb (getD (b ∷ s) 1 0) 128 e,
+        le-ltb (getD (b ∷ s) 1 0) 31 f,
+        code-long b (F .hand) (getD (b ∷ s) i 0),
+        F .spells (getD (b ∷ s) i 0 ∷ []),
+        left-at (b ∷ s) (i + 1) (omega arith),
+      )
+
+-- lengths
+number-least : (n : ℕ) (l : List ℕ) → n ≤ number n l
+unfolding number
+number-least n [] = omega arith
+number-least n (d ∷ l) = let h = number-least (n * 256 + d) l in omega arith
+
+number-more : (n : ℕ) (l : List ℕ) → 0 < length l → n * 256 ≤ number n l
+unfolding number
+number-more n [] h = absurd (omega arith)
+number-more n (d ∷ l) h = let k = number-least (n * 256 + d) l in omega arith
+
+-- length octets are at a place of m, as the code answers
+abbrev Here : List ℕ → ℕ → Length → Type 0
+Here m at r = (l : ℕ) → r ≡ toldLength (length m) (readLength l (drop at m))
+
+module _ (m : List ℕ) (at : ℕ) where
+  pub length-none : length m ≤ at → Here m at (NoLength Cut)
+  unfolding toldLength readLength faultOf if
+  length-none k l = rw (none-at m at k)
+
+  pub length-short : at < length m → getD m at 0 < 128 → at + 1 + getD m at 0 ≤ length m
+      → Here m at (ReadLength (record { start = at + 1; end = at + 1 + getD m at 0; marked = false }))
+  unfolding toldLength readLength fit if
+  length-short h l f p =
+      let g : getD m at 0 ≤ length (drop (at + 1) m) = rw length-drop (omega arith) in
+      rw (some-at m at h, lt-ltb (getD m at 0) 128 l, le-leb (getD m at 0) (length (drop (at + 1) m)) g, left-at m (at + 1) (omega arith))
+
+  pub length-short-no : at < length m → getD m at 0 < 128 → length m < at + 1 + getD m at 0 → Here m at (NoLength Cut)
+  unfolding toldLength readLength fit faultOf if
+  length-short-no h l f p =
+      let g : length (drop (at + 1) m) < getD m at 0 = rw length-drop (omega arith) in
+      rw (some-at m at h, lt-ltb (getD m at 0) 128 l, lt-leb (getD m at 0) (length (drop (at + 1) m)) g)
+
+-- the k octets of a number, of which i are read and spell n
+abbrev pub Digits : List ℕ → ℕ → ℕ → ℕ → ℕ → Type 0
+Digits m at k n i = number 0 (take k (drop at m)) ≡ number n (drop i (take k (drop at m)))
+
+-- behind a first octet of another form
+module _ (m : List ℕ) (at : ℕ) (some : 0 < at) (there : at ≤ length m) where
+  pub length-open : getD m (at - 1) 0 ≡ 128 → Here m (at - 1) (ReadLength (record { start = at; end = length m; marked = true }))
+  unfolding toldLength readLength if
+  length-open e p = rw (from-before m at some there, e, left-at m at there)
+
+  pub length-reserved : getD m (at - 1) 0 ≡ 255 → Here m (at - 1) (NoLength Form)
+  unfolding toldLength readLength faultOf if
+  length-reserved e p = rw (from-before m at some there, e)
+
+  module _ (k : ℕ) (k-some : 0 < k) (k-few : k < 127) (says : getD m (at - 1) 0 ≡ 128 + k) where
+    long-form : (l : ℕ) → readLength l (drop (at - 1) m) ≡ readLong l k (drop at m)
+    unfolding readLength if
+    long-form l =
+        let z : 128 + k - 128 ≡ k = omega arith in
+        rw (
+          from-before m at some there,
+          says,
+          le-ltb (128 + k) 128 (omega arith),
+          ne-eqb (128 + k) 128 (λ e. omega arith),
+          lt-ltb (128 + k) 255 (omega arith),
+          z,
+        )
+
+    pub length-few : length m - at < k → Here m (at - 1) (NoLength Cut)
+    unfolding toldLength readLong faultOf if
+    length-few f l =
+        let g : length (drop at m) < k = rw length-drop f in
+        rw (long-form l, lt-leb k (length (drop at m)) g)
+
+    module _ (f : k ≤ length m - at) where
+      whole-form : (l : ℕ) → readLength l (drop (at - 1) m) ≡ fit l (number 0 (take k (drop at m))) (drop k (drop at m))
+      unfolding readLong if
+      whole-form l =
+          let g : k ≤ length (drop at m) = rw length-drop f in
+          rw (long-form l, le-leb k (length (drop at m)) g)
+
+      behind-long : length (drop k (drop at m)) ≡ length m - at - k
+      behind-long = length-drop k (drop at m) ∙ rw (length-drop at m)
+
+      pub length-long : (n i : ℕ) → Digits m at k n i → k ≤ i → n ≤ length m - at - k
+          → Here m (at - 1) (ReadLength (record { start = at + k; end = at + k + n; marked = false }))
+      unfolding toldLength fit if number
+      length-long n i d e g l =
+          let t : length (take k (drop at m)) ≤ i = simp length-take (omega arith) in
+          let q : number 0 (take k (drop at m)) ≡ n = d ∙ ap (number n) (drop-of-length-le (take k (drop at m)) t) in
+          let w : length m - (length m - at - k) ≡ at + k = omega arith in
+          rw (whole-form l, q, behind-long, le-leb n (length m - at - k) g, behind-long, w)
+
+      long-no : length m - at - k < number 0 (take k (drop at m)) → Here m (at - 1) (NoLength Cut)
+      unfolding toldLength fit faultOf if
+      long-no w l = rw (whole-form l, behind-long, lt-leb _ _ w)
+
+      pub length-long-no : (n i : ℕ) → Digits m at k n i → length m - at - k < n → Here m (at - 1) (NoLength Cut)
+      length-long-no n i d g = let b = number-least n (drop i (take k (drop at m))) in long-no (omega arith)
+
+      -- an octet more makes it too large
+      pub length-long-over : (n i : ℕ) → Digits m at k n i → i < k → (length m - at) / 256 < n → Here m (at - 1) (NoLength Cut)
+      length-long-over n i d j g =
+          let t : 0 < length (drop i (take k (drop at m))) = simp (length-drop, length-take) (omega arith) in
+          let b = number-more n (drop i (take k (drop at m))) t in
+          long-no (omega arith)
+
+      pub one-digit : (n i : ℕ) → i < k → Digits m at k n i → Digits m at k (n * 256 + getD m (at + i) 0) (i + 1)
+      unfolding number
+      one-digit n i j d =
+          let t : i < length (take k (drop at m)) = simp (length-take, length-drop) (omega arith) in
+          let e : getD (take k (drop at m)) i 0 ≡ getD m (at + i) 0 = getD-take k (drop at m) i 0 j ∙ getD-drop at m i 0 in
+          let q : i + 1 ≡ suc i = omega arith in
+          d ∙ ap (number n) (drop-cons (take k (drop at m)) i 0 t) ∙ rw (e, q)
+
+-- a refusal has one of the two numbers, and its place is where l octets are left
+abbrev Faulty : {A : Type 0} → ℕ → Answer A → Type 0
+Faulty l (got a s) = Unit {0}
+Faulty l (refused c k) = (c ≡ faultNumber (faultOf c)) × (k ≡ l)
+
+then-faulty : {A B : Type 0} (l : ℕ) (x : Answer A) (f : A → List ℕ → Answer B)
+    → Faulty l x → ((a : A) (s : List ℕ) → Faulty l (f a s)) → Faulty l (then x f)
+unfolding then
+then-faulty l (got a s) f h k = k a s
+then-faulty l (refused c j) f h k = h
+
+following-faulty : (l : ℕ) (ds s : List ℕ) → Faulty l (readFollowing l ds s)
+unfolding readFollowing faultOf if
+following-faulty l ds [] = (refl, refl)
+following-faulty l ds (d ∷ s) = if-cases (Faulty l) (ltb d 128) _ _ (λ e. tt) λ e. following-faulty l (ds ++ (d ∷ [])) s
+
+identifier-faulty : (m : List ℕ) → Faulty (length m) (readIdentifier m)
+unfolding readIdentifier faultOf if
+identifier-faulty [] = (refl, refl)
+identifier-faulty (b ∷ s) =
+    let l = suc (length s) in
+    if-cases (Faulty l) (ltb (b % 32) 31) _ _ (λ e. tt) λ e.
+    then-faulty l (readFollowing l [] s) _ (following-faulty l [] s) λ ds s₁.
+    if-cases (Faulty l) (eqb (getD ds 0 0) 128) _ _ (λ e. (refl, refl)) λ e.
+    if-cases (Faulty l) (ltb (getD ds 0 0) 31) _ _ (λ e. (refl, refl)) λ e. tt
+
+fit-faulty : (l n : ℕ) (s : List ℕ) → Faulty l (fit l n s)
+unfolding fit faultOf if
+fit-faulty l n s = if-cases (Faulty l) (leb n (length s)) _ _ (λ e. tt) λ e. (refl, refl)
+
+long-faulty : (l k : ℕ) (s : List ℕ) → Faulty l (readLong l k s)
+unfolding readLong faultOf if
+long-faulty l k s = if-cases (Faulty l) (leb k (length s)) _ _ (λ e. fit-faulty l _ _) λ e. (refl, refl)
+
+length-faulty : (l : ℕ) (s : List ℕ) → Faulty l (readLength l s)
+unfolding readLength faultOf if
+length-faulty l [] = (refl, refl)
+length-faulty l (b ∷ s) =
+    if-cases (Faulty l) (ltb b 128) _ _ (λ e. fit-faulty l b s) λ e.
+    if-cases (Faulty l) (eqb b 128) _ _ (λ e. tt) λ e.
+    if-cases (Faulty l) (ltb b 255) _ _ (λ e. long-faulty l (b - 128) s) λ e. (refl, refl)
+
+the-refusal : {A : Type 0} {l c k : ℕ} (x : Answer A) (f : Fault) → Faulty l x → x ≡ refused c k → faultOf c ≡ f → x ≡ refused (faultNumber f) l
+the-refusal {A} {l} {c} {k} x f h e g = let (p, q) : Faulty {A = A} l (refused c k) = rw e at h in e ∙ rw (q, ← g, ← p)
+
+-- what an answer says of an identifier
+module _ (n : ℕ) where
+  abbrev Says : Answer (List ℕ) → Identifier → Type 0
+  Says x (Read c e) = (i : List ℕ) × (w : List ℕ) × (x ≡ got i w) × (codeOf i ≡ c) × (n - length w ≡ e)
+  Says x (NoIdentifier f) = (c : ℕ) × (l : ℕ) × (x ≡ refused c l) × (faultOf c ≡ f)
+
+  says : (x : Answer (List ℕ)) → Says x (toldIdentifier n x)
+  unfolding toldIdentifier
+  says (got i w) = (i, w, refl, refl, refl)
+  says (refused c l) = (c, l, refl, refl)
+
+module _ (m : List ℕ) (r : Identifier) (a : r ≡ toldIdentifier (length m) (readIdentifier m)) where
+  its-some : (i w : List ℕ) → readIdentifier m ≡ got i w → 0 < length i
+  its-some i w x = got-holds (identifier-some m) x
+
+  pub identifier-read : (c e : ℕ) → r ≡ Read c e → (i : List ℕ) × (readIdentifier m ≡ got i (drop e m)) × (codeOf i ≡ c) × (0 < e) × (e ≤ length m)
+  identifier-read c e d =
+      let (i, w, x, k, q) : Says (length m) (readIdentifier m) (Read c e) = rw (← a, d) at (says (length m) (readIdentifier m)) in
+      let y = got-holds (identifier-sound m) x in
+      let o = its-some i w x in
+      let l = rw length-append at (ap length y) in
+      let z : length i ≡ e = omega arith in
+      let b : drop (length i) m ≡ w = ap (drop (length i)) y ∙ drop-append-seam i w in
+      (i, x ∙ rw (← b, z), k, omega arith, omega arith)
+
+  pub identifier-refused : (f : Fault) → r ≡ NoIdentifier f → readIdentifier m ≡ refused (faultNumber f) (length m)
+  identifier-refused f d =
+      let (c, l, x, y) : Says (length m) (readIdentifier m) (NoIdentifier f) = rw (← a, d) at (says (length m) (readIdentifier m)) in
+      the-refusal (readIdentifier m) f (identifier-faulty m) x y
+
+-- what an answer says of a length
+module _ (n : ℕ) (e : Extent) where
+  says-definite : (x : Answer Size) → ReadLength e ≡ toldLength n x → e .marked ≡ false
+      → (k : ℕ) × (w : List ℕ) × (x ≡ got (definite k) w) × (e .start ≡ n - length w) × (e .end ≡ n - length w + k)
+  unfolding toldLength
+  says-definite (got (definite k) w) p q =
+      let h : e ≡ record { start = n - length w; end = n - length w + k; marked = false } = cc in
+      (k, w, refl, ap (λ (x : Extent). x .start) h, ap (λ (x : Extent). x .end) h)
+  says-definite (got indefinite w) p q =
+      let h : e ≡ record { start = n - length w; end = n; marked = true } = cc in
+      absurd (true≢false (sym (ap (λ (x : Extent). x .marked) h) ∙ q))
+  says-definite (refused c l) p q = let z : _≡_ {A = ℕ} 0 1 = cc in absurd (omega arith)
+
+  says-open : (x : Answer Size) → ReadLength e ≡ toldLength n x → e .marked ≡ true
+      → (w : List ℕ) × (x ≡ got indefinite w) × (e .start ≡ n - length w) × (e .end ≡ n)
+  unfolding toldLength
+  says-open (got (definite k) w) p q =
+      let h : e ≡ record { start = n - length w; end = n - length w + k; marked = false } = cc in
+      absurd (false≢true (sym (ap (λ (x : Extent). x .marked) h) ∙ q))
+  says-open (got indefinite w) p q =
+      let h : e ≡ record { start = n - length w; end = n; marked = true } = cc in
+      (w, refl, ap (λ (x : Extent). x .start) h, ap (λ (x : Extent). x .end) h)
+  says-open (refused c l) p q = let z : _≡_ {A = ℕ} 0 1 = cc in absurd (omega arith)
+
+says-no : (n : ℕ) (x : Answer Size) (f : Fault) → NoLength f ≡ toldLength n x → (c : ℕ) × (l : ℕ) × (x ≡ refused c l) × (faultOf c ≡ f)
+unfolding toldLength
+says-no n (got (definite k) w) f e = let z : _≡_ {A = ℕ} 0 1 = cc in absurd (omega arith)
+says-no n (got indefinite w) f e = let z : _≡_ {A = ℕ} 0 1 = cc in absurd (omega arith)
+says-no n (refused c l) f e = (c, l, refl, cc)
+
+octets-some : {n : ℕ} {m : List ℕ} → Octets n m → 0 < length m
+octets-some (short h e) = rw e (omega arith)
+octets-some (long ds a b c e) = rw e (omega arith)
+
+-- the contents have room behind the length octets
+abbrev Room : Size → List ℕ → Type 0
+Room (definite n) w = n ≤ length w
+Room indefinite w = Unit {0}
+
+shape-some : {s : List ℕ} {z : Size} {w : List ℕ} → Shape s z w → (p : List ℕ) × (s ≡ p ++ w) × (0 < length p) × Room z w
+shape-some (is-definite m e l h) = (m, e, octets-some l, h)
+shape-some (is-indefinite e) = (128 ∷ [], e, omega arith, tt)
+
+module _ (m : List ℕ) (at l : ℕ) where
+  length-rest : (z : Size) (w : List ℕ) → readLength l (drop at m) ≡ got z w → (p : ℕ) × (w ≡ drop p m) × (at < p) × (p ≤ length m) × Room z w
+  length-rest z w x =
+      let (q, k, o, room) = shape-some (got-holds (length-sound l (drop at m)) x) in
+      let h : at ≤ length m = omega (arith, length-drop at m, rw length-append at (ap length k)) in
+      let y = length-behind m at q w h k in
+      (at + length q, sym (behind m at q w k), omega arith, y, room)
+
+  module _ (r : Length) (a : r ≡ toldLength (length m) (readLength l (drop at m))) where
+    module _ (e : Extent) (d : r ≡ ReadLength e) where
+      pub length-definite : e .marked ≡ false
+          → (readLength l (drop at m) ≡ got (definite (e .end - e .start)) (drop (e .start) m)) × (at < e .start) × (e .start ≤ e .end) × (e .end ≤ length m)
+      length-definite q =
+          let (k, w, x, s, t) = says-definite (length m) e (readLength l (drop at m)) (sym d ∙ a) q in
+          let (p, y, low, high, room) = length-rest (definite k) w x in
+          let z = ap length y ∙ length-drop p m in
+          let es : e .start ≡ p = omega arith in
+          let ek : k ≡ e .end - e .start = omega arith in
+          let ew : w ≡ drop (e .start) m = y ∙ ap (λ (j : ℕ). drop j m) (sym es) in
+          (x ∙ rw (ek, ew), omega arith, omega arith, omega arith)
+
+      pub length-indefinite : e .marked ≡ true
+          → (readLength l (drop at m) ≡ got indefinite (drop (e .start) m)) × (at < e .start) × (e .start ≤ length m) × (e .end ≡ length m)
+      length-indefinite q =
+          let (w, x, s, t) = says-open (length m) e (readLength l (drop at m)) (sym d ∙ a) q in
+          let (p, y, low, high, room) = length-rest indefinite w x in
+          let z = ap length y ∙ length-drop p m in
+          let es : e .start ≡ p = omega arith in
+          let ew : w ≡ drop (e .start) m = y ∙ ap (λ (j : ℕ). drop j m) (sym es) in
+          (x ∙ rw ew, omega arith, omega arith, t)
+
+    pub length-refused : (f : Fault) → r ≡ NoLength f → readLength l (drop at m) ≡ refused (faultNumber f) l
+    length-refused f d =
+        let (c, j, x, y) = says-no (length m) (readLength l (drop at m)) f (sym d ∙ a) in
+        the-refusal (readLength l (drop at m)) f (length-faulty l (drop at m)) x y
+
+-- the length octets of contents that were read before
+module _ (n : ℕ) (x : Answer Size) where
+  pub again-told : (e : Extent) (z : Size) (w : List ℕ) → Again n x e → x ≡ got z w → ReadLength e ≡ toldLength n x
+  unfolding Again
+  again-told e z w h q = rw q (rw q at h)
+
+  pub again-read : (r : Length) (e : Extent) → r ≡ toldLength n x → r ≡ ReadLength e → Again n x e
+  unfolding Again
+  again-read r e a d = go x (sym d ∙ a)
+    where
+      go : (y : Answer Size) → ReadLength e ≡ toldLength n y → Again n y e
+      go (got z w) h = h
+      go (refused c l) h = tt
+
+  pub again-no : (r : Length) (f : Fault) (e : Extent) → r ≡ toldLength n x → r ≡ NoLength f → Again n x e
+  unfolding Again
+  again-no r f e a d = let (c, l, q, y) = says-no n x f (sym d ∙ a) in rw q tt
+
+module _ (m : List ℕ) (at l : ℕ) where
+  pub again-none : (e : Extent) → length m ≤ at → Again (length m) (readLength l (drop at m)) e
+  unfolding Again readLength
+  again-none e h = rw (none-at m at h) tt
+
+  pub again-short : at < length m → getD m at 0 < 128
+      → Again (length m) (readLength l (drop at m)) (record { start = at + 1; end = at + 1 + getD m at 0; marked = false })
+  unfolding Again readLength fit if toldLength
+  again-short h k =
+      let e : Extent = record { start = at + 1; end = at + 1 + getD m at 0; marked = false } in
+      rw (some-at m at h, lt-ltb (getD m at 0) 128 k)
+      (if-cases (λ (y : Answer Size). Again (length m) y e) (leb (getD m at 0) (length (drop (at + 1) m))) _ _
+      (λ t. rw (left-at m (at + 1) (omega arith))) λ t. tt)
