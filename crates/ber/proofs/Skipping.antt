@@ -133,9 +133,12 @@ module _ (m : List ℕ) (start at k : ℕ) (o : 0 < k) (S : Stands m start at k)
         pass-sized h =
             let (p, l, u, v) = head-definite (drop at m) r a c e d x b y g h in
             let n : suc (k - 1) ≡ k = omega arith in
-            let j : y .start + (y .end - y .start) ≡ y .end = omega arith in
-            (omega arith, omega (arith, length-drop at m), λ w q.
-            rw (drop-drop (y .end) at m) at (rw (n, drop-drop (y .end - y .start) (y .start) (drop at m), j) at (pass-jump (stands w q) other p)))
+            let j : y .start + (y .end - y .start) ≡ y .end = omega arith in (
+              omega arith,
+              omega (arith, length-drop at m),
+              λ w q.
+                  rw (drop-drop (y .end) at m) at (rw (n, drop-drop (y .end - y .start) (y .start) (drop at m), j) at (pass-jump (stands w q) other p)),
+            )
 
         pub pass-opened : y .marked ≡ true → (at < at + y .start) × (at + y .start ≤ length m) × Stands m start (at + y .start) (k + 1)
         pass-opened h =

@@ -15,8 +15,8 @@ is-over-spec =
     (tie.spec
     (λ c. over-none (now (c .before .args .m)) (c .before .args .at) (c .before .args .marked) (c .if1 .taken))  -- returns
     (λ c. over-closed (now (c .before .before .args .m)) (c .before .before .args .at) (c .before .before .args .marked)
-      (c .before .if1 .left) (not-true _ (c .if2 .taken)))  -- returns-2
+    (c .before .if1 .left) (not-true _ (c .if2 .taken)))  -- returns-2
     (λ c. search needs)  -- shared-slice-read-result
     (λ c. let at-start = c .before .before .before in
     over-octet (now (at-start .args .m)) (at-start .args .at) (at-start .args .marked) (c .before .before .if1 .left)
-      (not-false _ (c .before .if2 .left))))  -- returns-3
+    (not-false _ (c .before .if2 .left))))  -- returns-3

@@ -24,12 +24,16 @@ code-of-spec =
     (λ c. search needs)  -- add-lead
     (λ c. search needs)  -- mul-lead-2
     (λ c. omega (arith, lead-is (c .before .before), bit-small (c .before .before .before .args .constructed)))  -- add-result
-    (λ c. let at-start = c .before .before .before in
-    (rw (code-short _ _ _ (c .before .if2 .taken)) (omega (arith, lead-is (c .before .before))), omega
-      (arith, lead-is (c .before .before), bit-small (at-start .args .constructed))))  -- returns
+    (λ c. let at-start = c .before .before .before in (
+      rw (code-short _ _ _ (c .before .if2 .taken)) (omega (arith, lead-is (c .before .before))),
+      omega
+          (arith, lead-is (c .before .before), bit-small (at-start .args .constructed)),
+    ))  -- returns
     (λ c. omega (arith, lead-is (c .before .before), bit-small (c .before .before .before .args .constructed)))  -- add-result-2
     (λ c. search needs)  -- mul-result
     (λ c. omega (arith, lead-is (c .before .before), bit-small (c .before .before .before .args .constructed)))  -- add-result-3
-    (λ c. let at-start = c .before .before .before in
-    (rw (code-long _ _ _ (c .before .if2 .left)) (omega (arith, lead-is (c .before .before))), omega
-      (arith, lead-is (c .before .before), bit-small (at-start .args .constructed)))))  -- returns-2
+    (λ c. let at-start = c .before .before .before in (
+      rw (code-long _ _ _ (c .before .if2 .left)) (omega (arith, lead-is (c .before .before))),
+      omega
+          (arith, lead-is (c .before .before), bit-small (at-start .args .constructed)),
+    )))  -- returns-2

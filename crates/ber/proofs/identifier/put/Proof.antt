@@ -29,8 +29,8 @@ put-spec =
     (λ c. search needs)  -- same-length
     (λ c. let at-start = c .before .before .before .before .before in
     put-nothing (now (at-start .args .buf)) (at-start .args .to) (codeOctets (at-start .args .code))
-      (no-room (codeOctets (at-start .args .code)) _ _ _ _ (c .before .before .size .ensures .0) (c .before .holds .ensures)
-      (c .if1 .taken)))  -- returns
+    (no-room (codeOctets (at-start .args .code)) _ _ _ _ (c .before .before .size .ensures .0) (c .before .holds .ensures)
+    (c .if1 .taken)))  -- returns
     (λ c. search needs)  -- cast-buf
     (λ c. omega (arith, octets-some (c .before .before .before .before .before .args .code), has-room (c)))  -- slice-write-buf
     (λ c. omega (arith, octets-some (c .before .before .before .before .before .before .args .code), has-room (c .before)))  -- add-result
@@ -39,27 +39,36 @@ put-spec =
     put-one (now (at-start .args .buf)) (at-start .args .to) _ (has-room (c .before)) _ (octets-one _ (c .if2 .taken)))  -- returns-2
     (λ c. omega (arith, octets-some (c .before .before .before .before .before .before .args .code), has-room (c .before)))  -- add-a
     (λ c. search needs)  -- cast-buf-2
-    (λ c. simp length-set (omega (arith, rw (octets-two _ (c .before .if2 .left) (c .if3 .taken)) at
-      (has-room (c .before .before)))))  -- slice-write-buf-2
+    (λ c. simp length-set (omega (
+      arith,
+      rw (octets-two _ (c .before .if2 .left) (c .if3 .taken)) at
+          (has-room (c .before .before)),
+    )))  -- slice-write-buf-2
     (λ c. omega (arith, rw (octets-two _ (c .before .if2 .left) (c .if3 .taken)) at (has-room (c .before .before))))  -- add-result-2
     (λ c. simp length-set)  -- same-length-3
     (λ c. let at-start = c .before .before .before .before .before .before .before in
     put-two (now (at-start .args .buf)) (at-start .args .to) _ (has-room (c .before .before)) _ _
-      (octets-two _ (c .before .if2 .left) (c .if3 .taken)))  -- returns-3
+    (octets-two _ (c .before .if2 .left) (c .if3 .taken)))  -- returns-3
     (λ c. omega (arith, octets-some (c .before .before .before .before .before .before .before .args .code), has-room (c .before .before)))  -- add-b
     (λ c. search needs)  -- add-buf
     (λ c. search needs)  -- cast-buf-3
-    (λ c. simp length-set (omega (arith, rw (octets-three _ (c .before .if3 .left) (c .if4 .taken)) at
-      (has-room (c .before .before .before)))))  -- slice-write-buf-3
+    (λ c. simp length-set (omega (
+      arith,
+      rw (octets-three _ (c .before .if3 .left) (c .if4 .taken)) at
+          (has-room (c .before .before .before)),
+    )))  -- slice-write-buf-3
     (λ c. search needs)  -- cast-buf-4
-    (λ c. simp length-set (omega (arith, rw (octets-three _ (c .before .if3 .left) (c .if4 .taken)) at
-      (has-room (c .before .before .before)))))  -- slice-write-buf-4
+    (λ c. simp length-set (omega (
+      arith,
+      rw (octets-three _ (c .before .if3 .left) (c .if4 .taken)) at
+          (has-room (c .before .before .before)),
+    )))  -- slice-write-buf-4
     (λ c. omega (arith, rw (octets-three _ (c .before .if3 .left) (c .if4 .taken)) at (has-room (c .before .before .before))))  -- add-result-3
     (λ c. simp length-set)  -- same-length-4
     (λ c. let at-if1 = c .before .before .before in
     let at-start = at-if1 .before .before .before .before .before in
     put-three (now (at-start .args .buf)) (at-start .args .to) _ (has-room (at-if1)) _ _ _
-      (octets-three _ (c .before .if3 .left) (c .if4 .taken)))  -- returns-4
+    (octets-three _ (c .before .if3 .left) (c .if4 .taken)))  -- returns-4
     (λ c. let at-if1 = c .before .before .before in
     let at-start = at-if1 .before .before .before .before .before in
     omega (arith, octets-some (at-start .args .code), has-room (at-if1)))  -- add-c

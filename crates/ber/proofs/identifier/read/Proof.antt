@@ -18,6 +18,6 @@ read-spec =
     (λ c. search needs)  -- shared-slice-read-lead
     (λ c. omega (arith, c .shared-slice-known2 .given 0))  -- cast-lead
     (λ c. identifier-short (now (c .before .before .before .before .args .m)) (omega (arith, c .before .before .if1 .left))
-      (c .if2 .taken))  -- returns-2
+    (c .if2 .taken))  -- returns-2
     (λ c κs. search needs)  -- read-long-requires
     (λ c. search needs))  -- returns-3

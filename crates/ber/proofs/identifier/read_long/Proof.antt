@@ -28,19 +28,22 @@ read-long-spec =
     (λ c. omega (arith, c .shared-slice-known2 .given (c .before .before .loop .i)))  -- cast-d
     (λ c κs. (c .before .before .loop .inv .2, omega (arith, c .shared-slice-known2 .given (c .before .before .loop .i))))  -- follow-requires
     (λ c. omega (arith, c .before .before .loop-test .taken, c .before .before .before .before .before .good))  -- add-i
-    (λ c. omega (arith, c .before .before .before .before .before .loop .inv .0,
-      c .before .before .before .before .loop-test .taken))  -- shared-slice-read-f
+    (λ c. omega (
+      arith,
+      c .before .before .before .before .before .loop .inv .0,
+      c .before .before .before .before .loop-test .taken,
+    ))  -- shared-slice-read-f
     (λ c. let at-loop-test = c .before .before .before .before .before in
     let at-loop = at-loop-test .before in
     let at-start = at-loop .before .before in
     long-zero _ _ _ (at-start .pre .0) (rw (at-start .pre .1) at (at-start .pre .2)) (at-loop .loop .inv .3)
-      (at-loop-test .loop-test .taken) (c .before .before .if1 .taken) (c .if2 .taken))  -- returns
+    (at-loop-test .loop-test .taken) (c .before .before .if1 .taken) (c .if2 .taken))  -- returns
     (λ c. let at-if1 = c .before .before .before in
     let at-loop-test = at-if1 .before .before .before in
     let at-loop = at-loop-test .before in
     let at-start = at-loop .before .before in
     long-few _ _ _ (at-start .pre .0) (rw (at-start .pre .1) at (at-start .pre .2)) (at-loop .loop .inv .3)
-      (at-loop-test .loop-test .taken) (at-if1 .if1 .taken) (c .before .if2 .left) (c .if3 .taken))  -- returns-2
+    (at-loop-test .loop-test .taken) (at-if1 .if1 .taken) (c .before .if2 .left) (c .if3 .taken))  -- returns-2
     (λ c. omega (arith, c .before .before .before .before .follow .ensures .1))  -- mul-code
     (λ c. let at-follow = c .before .before .before .before in
     let at-shared-slice-known = at-follow .before .before .before .before in
@@ -52,15 +55,19 @@ read-long-spec =
     let at-loop = at-loop-test .before in
     let at-start = at-loop .before .before in
     rw (at-start .pre .1, at-follow .follow .ensures .0)
-      (long-read _ _ _ (at-start .pre .0) (rw (at-start .pre .1) at (at-start .pre .2)) (at-loop .loop .inv .3)
-      (at-loop-test .loop-test .taken) (at-if1 .if1 .taken) (c .before .if2 .left) (c .if3 .left)))  -- returns-3
+    (long-read _ _ _ (at-start .pre .0) (rw (at-start .pre .1) at (at-start .pre .2)) (at-loop .loop .inv .3)
+    (at-loop-test .loop-test .taken) (at-if1 .if1 .taken) (c .before .if2 .left) (c .if3 .left)))  -- returns-3
     (λ c. omega (arith, c .before .before .before .loop-test .taken))  -- loop-less
     (λ c. let at-loop-test = c .before .before .before in
     let at-loop = at-loop-test .before in
-    let at-start = at-loop .before .before in
-    (omega (arith, at-loop .loop .inv .0), omega (arith, at-loop-test .loop-test .taken), c .before .follow .ensures .1, rw
-      (c .before .follow .ensures .0) (follow-next (now (at-start .args .m)) (at-loop .loop .i) (at-loop .loop .n)
-      (at-loop .loop .inv .3) (at-loop-test .loop-test .taken) (c .if1 .left))))  -- loop-again
+    let at-start = at-loop .before .before in (
+      omega (arith, at-loop .loop .inv .0),
+      omega (arith, at-loop-test .loop-test .taken),
+      c .before .follow .ensures .1,
+      rw
+          (c .before .follow .ensures .0) (follow-next (now (at-start .args .m)) (at-loop .loop .i) (at-loop .loop .n)
+          (at-loop .loop .inv .3) (at-loop-test .loop-test .taken) (c .if1 .left)),
+    ))  -- loop-again
     (λ c. let at-start = c .before .before .before in
     long-cut (c .before .loop .i) (c .before .loop .n) (now (at-start .args .m)) (at-start .pre .0)
-      (rw (at-start .pre .1) at (at-start .pre .2)) (c .before .loop .inv .3) (c .loop-test .left)))  -- returns-4
+    (rw (at-start .pre .1) at (at-start .pre .2)) (c .before .loop .inv .3) (c .loop-test .left)))  -- returns-4

@@ -22,20 +22,29 @@ end-spec =
     (λ c κs. let at-read = c .before .before .before .before in
     let at-start = at-read .before .before in
     length-indefinite (now (at-start .args .m)) (at-start .args .from) 0 _ (at-read .read .ensures 0) _
-      (c .before .before .x .given .1) (c .if1 .taken) .2)  -- open-end-requires
+    (c .before .before .x .given .1) (c .if1 .taken) .2)  -- open-end-requires
     (λ c. let at-x = c .before .before .before in
     let at-read = at-x .before .before in
     let at-start = at-read .before .before in
     let (q, low, high, e) = length-indefinite (now (at-start .args .m)) (at-start .args .from) 0 _ (at-read .read .ensures 0) _ (at-x .x .given .1)
-      (c .before .if1 .taken) in
-    (omega (arith, c .open-end .ensures .0), c .open-end .ensures .1, skip-marked (now (at-start .args .m)) (at-start .args .from) _
-      (at-read .read .ensures) _ (at-x .x .given .1) (c .before .if1 .taken) (c .open-end .result) (c .open-end .ensures .2)))  -- returns
-    (λ c. let at-start = c .before .before .before .before in
-    (omega arith, omega arith, skip-none (now (at-start .args .m)) (at-start .args .from) _ (c .before .before .read .ensures) _
-      (c .enum-told .given .1)))  -- returns-2
+    (c .before .if1 .taken) in (
+      omega (arith, c .open-end .ensures .0),
+      c .open-end .ensures .1,
+      skip-marked (now (at-start .args .m)) (at-start .args .from) _
+          (at-read .read .ensures) _ (at-x .x .given .1) (c .before .if1 .taken) (c .open-end .result) (c .open-end .ensures .2),
+    ))  -- returns
+    (λ c. let at-start = c .before .before .before .before in (
+      omega arith,
+      omega arith,
+      skip-none (now (at-start .args .m)) (at-start .args .from) _ (c .before .before .read .ensures) _
+          (c .enum-told .given .1),
+    ))  -- returns-2
     (λ c. let at-read = c .before .before .before .before in
     let at-start = at-read .before .before in
     let (q, low, high, e) = length-definite (now (at-start .args .m)) (at-start .args .from) 0 _ (at-read .read .ensures 0) _
-      (c .before .before .x .given .1) (c .if1 .left) in
-    (omega arith, e, skip-sized (now (at-start .args .m)) (at-start .args .from) _ (at-read .read .ensures) _
-      (c .before .before .x .given .1) (c .if1 .left))))  -- returns-3
+    (c .before .before .x .given .1) (c .if1 .left) in (
+      omega arith,
+      e,
+      skip-sized (now (at-start .args .m)) (at-start .args .from) _ (at-read .read .ensures) _
+          (c .before .before .x .given .1) (c .if1 .left),
+    )))  -- returns-3

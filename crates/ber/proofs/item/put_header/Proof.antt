@@ -26,7 +26,7 @@ put-header-spec =
     (λ c. let at-start = c .before .before .before .before .before in
     let w = codeOctets (at-start .args .code) ++ lengthOctets (at-start .args .n) in
     put-nothing (now (at-start .args .buf)) (at-start .args .to) w
-      (no-room w _ _ _ _ (c .before .before .header-size .ensures) (c .before .holds .ensures) (c .if1 .taken)))  -- returns
+    (no-room w _ _ _ _ (c .before .before .header-size .ensures) (c .before .holds .ensures) (c .if1 .taken)))  -- returns
     (λ c κs. search needs)  -- put-requires
     (λ c κs. search needs)  -- put-requires-2
     (λ c. search needs)  -- same-length-2
@@ -37,6 +37,6 @@ put-header-spec =
     let at-start = at-header-size .before .before .before in
     let v = codeOctets (at-start .args .code) in let w = lengthOctets (at-start .args .n) in
     let (p, q) = put-behind (now (at-start .args .buf)) (at-start .args .to) v w
-      (room (v ++ w) _ _ _ _ (at-header-size .header-size .ensures) (at-holds .holds .ensures) (at-if1 .if1 .left)) _ _ (at-put .put .ensures .0)
-      (at-put .put .ensures .1) in
+    (room (v ++ w) _ _ _ _ (at-header-size .header-size .ensures) (at-holds .holds .ensures) (at-if1 .if1 .left)) _ _ (at-put .put .ensures .0)
+    (at-put .put .ensures .1) in
     (c .before .before .put2 .ensures .0 ∙ p, c .before .before .put2 .ensures .1 ∙ q)))  -- returns-2

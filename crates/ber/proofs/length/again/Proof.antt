@@ -22,9 +22,14 @@ again-spec =
     (λ c. search needs)  -- add-start
     (λ c. search needs)  -- add-end
     (λ c. λ l. again-short (now (c .before .before .before .before .args .m)) _ l (c .before .before .if1 .left) (c .if2 .taken))  -- returns-2
-    (λ c κs. let at-start = c .before .before .before .before in
-    (omega arith, omega (arith, c .before .before .if1 .left), rw one-back refl, c .if2 .left, omega
-      (arith, c .before .shared-slice-known2 .given (at-start .args .at))))  -- read-other-requires
+    (λ c κs. let at-start = c .before .before .before .before in (
+      omega arith,
+      omega (arith, c .before .before .if1 .left),
+      rw one-back refl,
+      c .if2 .left,
+      omega
+          (arith, c .before .shared-slice-known2 .given (at-start .args .at)),
+    ))  -- read-other-requires
     (λ c. search needs)  -- enum-known-x
     (λ c. search needs)  -- enum-told
     (λ c. λ l. again-read _ _ _ _ (rw one-back at (c .before .before .before .read-other .ensures l)) (c .before .x .given .1))  -- returns-3

@@ -28,8 +28,8 @@ put-spec =
     (λ c. search needs)  -- same-length
     (λ c. let at-start = c .before .before .before .before .before in
     put-nothing (now (at-start .args .buf)) (at-start .args .to) (lengthOctets (at-start .args .n))
-      (no-room (lengthOctets (at-start .args .n)) _ _ _ _ (c .before .before .size .ensures .0) (c .before .holds .ensures)
-      (c .if1 .taken)))  -- returns
+    (no-room (lengthOctets (at-start .args .n)) _ _ _ _ (c .before .before .size .ensures .0) (c .before .holds .ensures)
+    (c .if1 .taken)))  -- returns
     (λ c. search needs)  -- cast-buf
     (λ c. omega (arith, rw (length-one _ (c .if2 .taken)) at (has-room (c .before))))  -- slice-write-buf
     (λ c. omega (arith, rw (length-one _ (c .if2 .taken)) at (has-room (c .before))))  -- add-result
@@ -39,28 +39,37 @@ put-spec =
     (λ c. omega (arith, has-room (c .before)))  -- add-a
     (λ c. omega (arith, rw (length-two _ (c .before .if2 .left) (c .if3 .taken)) at (has-room (c .before .before))))  -- slice-write-buf-2
     (λ c. search needs)  -- cast-buf-2
-    (λ c. simp length-set (omega (arith, rw (length-two _ (c .before .if2 .left) (c .if3 .taken)) at
-      (has-room (c .before .before)))))  -- slice-write-buf-3
+    (λ c. simp length-set (omega (
+      arith,
+      rw (length-two _ (c .before .if2 .left) (c .if3 .taken)) at
+          (has-room (c .before .before)),
+    )))  -- slice-write-buf-3
     (λ c. omega (arith, rw (length-two _ (c .before .if2 .left) (c .if3 .taken)) at (has-room (c .before .before))))  -- add-result-2
     (λ c. simp length-set)  -- same-length-3
     (λ c. let at-start = c .before .before .before .before .before .before .before in
     put-two (now (at-start .args .buf)) (at-start .args .to) _ (has-room (c .before .before)) _ _
-      (length-two _ (c .before .if2 .left) (c .if3 .taken)))  -- returns-3
+    (length-two _ (c .before .if2 .left) (c .if3 .taken)))  -- returns-3
     (λ c. let at-start = c .before .before .before .before .before .before .before in
     omega (arith, rw (length-three _ (c .if3 .left) (omega (arith, at-start .fits .n))) at (has-room (c .before .before))))  -- add-b
     (λ c. let at-start = c .before .before .before .before .before .before .before in
     omega (arith, rw (length-three _ (c .if3 .left) (omega (arith, at-start .fits .n))) at (has-room (c .before .before))))  -- slice-write-buf-4
     (λ c. search needs)  -- cast-buf-3
     (λ c. let at-start = c .before .before .before .before .before .before .before in
-    simp length-set (omega (arith, rw (length-three _ (c .if3 .left) (omega (arith, at-start .fits .n))) at
-      (has-room (c .before .before)))))  -- slice-write-buf-5
+    simp length-set (omega (
+      arith,
+      rw (length-three _ (c .if3 .left) (omega (arith, at-start .fits .n))) at
+          (has-room (c .before .before)),
+    )))  -- slice-write-buf-5
     (λ c. search needs)  -- cast-buf-4
     (λ c. let at-start = c .before .before .before .before .before .before .before in
-    simp length-set (omega (arith, rw (length-three _ (c .if3 .left) (omega (arith, at-start .fits .n))) at
-      (has-room (c .before .before)))))  -- slice-write-buf-6
+    simp length-set (omega (
+      arith,
+      rw (length-three _ (c .if3 .left) (omega (arith, at-start .fits .n))) at
+          (has-room (c .before .before)),
+    )))  -- slice-write-buf-6
     (λ c. let at-start = c .before .before .before .before .before .before .before in
     omega (arith, rw (length-three _ (c .if3 .left) (omega (arith, at-start .fits .n))) at (has-room (c .before .before))))  -- add-result-3
     (λ c. simp length-set)  -- same-length-4
     (λ c. let at-start = c .before .before .before .before .before .before .before in
     put-three (now (at-start .args .buf)) (at-start .args .to) _ (has-room (c .before .before)) _ _ _
-      (length-three _ (c .if3 .left) (omega (arith, at-start .fits .n)))))  -- returns-4
+    (length-three _ (c .if3 .left) (omega (arith, at-start .fits .n)))))  -- returns-4

@@ -27,7 +27,12 @@ read-spec =
     (λ c. let at-if1 = c .before .before .before in
     let at-start = at-if1 .before .before in
     length-short (now (at-start .args .m)) _ (at-if1 .if1 .left) (c .before .if2 .taken) (c .if3 .left))  -- returns-3
-    (λ c κs. let at-start = c .before .before .before .before in
-    (omega arith, omega (arith, c .before .before .if1 .left), rw one-back refl, c .if2 .left, omega
-      (arith, c .before .shared-slice-known2 .given (at-start .args .at))))  -- read-other-requires
+    (λ c κs. let at-start = c .before .before .before .before in (
+      omega arith,
+      omega (arith, c .before .before .if1 .left),
+      rw one-back refl,
+      c .if2 .left,
+      omega
+          (arith, c .before .shared-slice-known2 .given (at-start .args .at)),
+    ))  -- read-other-requires
     (λ c. λ l. rw one-back at (c .read-other .ensures l)))  -- returns-4

@@ -24,13 +24,13 @@ read-long-spec =
     μ-loop
     (λ c. omega (arith, c .pre .1))  -- sub-left
     (λ c. length-few (now (c .before .args .m)) _ (c .before .pre .0) (c .before .pre .1) _ (c .before .pre .2) (c .before .pre .3)
-      (c .before .pre .4) (c .if1 .taken))  -- returns
+    (c .before .pre .4) (c .if1 .taken))  -- returns
     (λ c. (omega arith, omega arith, refl))  -- loop-holds
     (λ c. let at-if1 = c .before .before .before in
     let at-start = at-if1 .before in
     length-long-over (now (at-start .args .m)) _ (at-start .pre .0) (at-start .pre .1) _ (at-start .pre .2) (at-start .pre .3)
-      (at-start .pre .4) (at-if1 .if1 .left) (c .before .before .loop .n) (c .before .before .loop .i)
-      (c .before .before .loop .inv .2) (c .before .loop-test .taken) (c .if2 .taken))  -- returns-2
+    (at-start .pre .4) (at-if1 .if1 .left) (c .before .before .loop .n) (c .before .before .loop .i)
+    (c .before .before .loop .inv .2) (c .before .loop-test .taken) (c .if2 .taken))  -- returns-2
     (λ c. let at-if1 = c .before .before .before in
     let at-start = at-if1 .before in
     omega (arith, at-if1 .if1 .left, c .before .loop-test .taken, at-start .pre .1, at-start .good))  -- add-p
@@ -38,8 +38,11 @@ read-long-spec =
     (λ c. let at-if1 = c .before .before .before .before in
     let at-start = at-if1 .before in
     omega (arith, at-if1 .if1 .left, c .before .before .loop-test .taken, at-start .pre .1))  -- shared-slice-read-n
-    (λ c. omega (arith, c .shared-slice-known .given
-      (c .before .before .before .before .before .args .at + c .before .before .before .loop .i)))  -- cast-n
+    (λ c. omega (
+      arith,
+      c .shared-slice-known .given
+          (c .before .before .before .before .before .args .at + c .before .before .before .loop .i),
+    ))  -- cast-n
     (λ c. let at-loop = c .before .before .before in
     let at-start = at-loop .before .before in
     omega (arith, c .shared-slice-known .given (at-start .args .at + at-loop .loop .i), c .before .if2 .left, at-start .good))  -- add-n
@@ -47,23 +50,30 @@ read-long-spec =
     (λ c. omega (arith, c .before .before .loop-test .taken))  -- loop-less
     (λ c. let at-loop = c .before .before .before in
     let at-if1 = at-loop .before in
-    let at-start = at-if1 .before in
-    (omega (arith, c .before .before .loop-test .taken), omega
-      (arith, c .shared-slice-known .given (at-start .args .at + at-loop .loop .i), c .before .if2 .left), one-digit
-      (now (at-start .args .m)) _ (at-start .pre .0) (at-start .pre .1) _ (at-start .pre .2) (at-start .pre .3) (at-start .pre .4)
-      (at-if1 .if1 .left) (at-loop .loop .n) (at-loop .loop .i) (c .before .before .loop-test .taken) (at-loop .loop .inv .2)))  -- loop-again
+    let at-start = at-if1 .before in (
+      omega (arith, c .before .before .loop-test .taken),
+      omega
+          (arith, c .shared-slice-known .given (at-start .args .at + at-loop .loop .i), c .before .if2 .left),
+      one-digit
+          (now (at-start .args .m)) _ (at-start .pre .0) (at-start .pre .1) _ (at-start .pre .2) (at-start .pre .3) (at-start .pre .4)
+          (at-if1 .if1 .left) (at-loop .loop .n) (at-loop .loop .i) (c .before .before .loop-test .taken) (at-loop .loop .inv .2),
+    ))  -- loop-again
     (λ c. let at-if1 = c .before .before .before in
     let at-start = at-if1 .before in
     length-long-no (now (at-start .args .m)) _ (at-start .pre .0) (at-start .pre .1) _ (at-start .pre .2) (at-start .pre .3)
-      (at-start .pre .4) (at-if1 .if1 .left) (c .before .before .loop .n) (c .before .before .loop .i)
-      (c .before .before .loop .inv .2) (c .if3 .taken))  -- returns-3
-    (λ c. omega (arith, c .before .before .before .if1 .left, c .before .before .before .before .pre .1,
-      c .before .before .before .before .good))  -- add-start
+    (at-start .pre .4) (at-if1 .if1 .left) (c .before .before .loop .n) (c .before .before .loop .i)
+    (c .before .before .loop .inv .2) (c .if3 .taken))  -- returns-3
+    (λ c. omega (
+      arith,
+      c .before .before .before .if1 .left,
+      c .before .before .before .before .pre .1,
+      c .before .before .before .before .good,
+    ))  -- add-start
     (λ c. let at-if1 = c .before .before .before in
     let at-start = at-if1 .before in
     omega (arith, at-if1 .if1 .left, c .if3 .left, at-start .pre .1, at-start .good))  -- add-end
     (λ c. let at-if1 = c .before .before .before in
     let at-start = at-if1 .before in
     length-long (now (at-start .args .m)) _ (at-start .pre .0) (at-start .pre .1) _ (at-start .pre .2) (at-start .pre .3)
-      (at-start .pre .4) (at-if1 .if1 .left) (c .before .before .loop .n) (c .before .before .loop .i)
-      (c .before .before .loop .inv .2) (c .before .loop-test .left) (c .if3 .left)))  -- returns-4
+    (at-start .pre .4) (at-if1 .if1 .left) (c .before .before .loop .n) (c .before .before .loop .i)
+    (c .before .before .loop .inv .2) (c .before .loop-test .left) (c .if3 .left)))  -- returns-4

@@ -15,7 +15,7 @@ read-other-spec =
     tie.close
     (tie.spec
     (λ c. length-open (now (c .before .before .args .m)) _ (c .before .before .pre .0) (c .before .before .pre .1)
-      (sym (c .before .before .pre .2) ∙ c .if1 .taken))  -- returns
+    (sym (c .before .before .pre .2) ∙ c .if1 .taken))  -- returns
     (λ c. let at-start = c .before .before .before in
     length-reserved (now (at-start .args .m)) _ (at-start .pre .0) (at-start .pre .1) (sym (at-start .pre .2) ∙ c .if2 .taken))  -- returns-2
     (λ c. search needs)  -- sub-read-long
