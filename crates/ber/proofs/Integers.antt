@@ -18,7 +18,8 @@ use mir.ValLaws.{toZ-pos, toZ-neg, toZ-ofZ, ofZ-toZ}
 use Rattle.octets.specs.Permutations.{AllOctets, every-nil, every-cons}
 use Rattle.octets.proofs.Answer.{if-cases}
 use Rattle.octets.proofs.Tests.{test}
-use Rattle.ber.specs.Integer.{negative, digit, pile, signed, integerOf, spare, minimal, eight, eightOf, fewest, fewestOf, lastBefore, lastOctets}
+use Rattle.ber.specs.Integer.{negative, digit, pile, signed, integerOf, spare, minimal, eight, eightOf, fewest, fewestOf}
+use Rattle.ber.specs.Told.{lastBefore, lastOctets}
 
 -- the eight octets read back
 pub spelt : (u : ℕ) → u < 18446744073709551616 → pile false 0 (eight u) ≡ u

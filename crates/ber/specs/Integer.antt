@@ -2,9 +2,8 @@
 -- Assumes nothing.
 use mathlib.Core.Bool.{Bool, true, false, not, _&&_, _||_}
 use mathlib.Core.List.{List, [], _∷_}
-use Prim.Native.Nat.{ℕ, zero, suc, _+_, _-_, _*_, _/_, _%_}
-use lib.Dec.{ltb, leb, eqb}
-use lib.ListN.{length}
+use Prim.Native.Nat.{ℕ, _+_, _-_, _*_, _/_, _%_}
+use lib.Dec.{ltb, eqb}
 use lib.IntN.{ℤ, pos, negsuc}
 use mir.Syntax.{w64}
 use mir.Val.{ofZ}
@@ -68,15 +67,3 @@ fewest (a ∷ s) = if (minimal (a ∷ s)) (a ∷ s) λ _. fewest s
 -- 8.3.2: the contents of an INTEGER
 abbrev pub fewestOf : ℤ → List ℕ
 fewestOf z = fewest (eightOf z)
-
--- the integer of at most eight octets; 0 for more
-abbrev pub integerIn : List ℕ → ℤ
-integerIn c = if (leb (length c) 8) (integerOf c) λ _. pos 0
-
--- the last n octets of a number to the base 256, after which those in hand stand
-unfoldable pub lastBefore : ℕ → ℕ → List ℕ → List ℕ
-lastBefore zero u l = l
-lastBefore (suc n) u l = lastBefore n (u / 256) (u % 256 ∷ l)
-
-abbrev pub lastOctets : ℕ → ℕ → List ℕ
-lastOctets n u = lastBefore n u []

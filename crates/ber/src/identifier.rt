@@ -97,7 +97,11 @@ pub fn size(code: u32) -> usize
 
 // Puts the identifier of a code; where it ends, or the place itself if there is no room.
 pub fn put(code: u32, buf: &mut [u8], to: usize) -> usize
-    ensures { λ r. ⌜ (let w = codeOctets code in (r ≡ putEnd (now (buf .entry)) to w) × (now (buf .exit) ≡ put (now (buf .entry)) to w)) ⌝ }
+    ensures { λ r. ⌜
+        (let w = codeOctets code in
+        (r ≡ putEnd (now (buf .entry)) to w)
+        × (now (buf .exit) ≡ put (now (buf .entry)) to w))
+        ⌝ }
 {
     if !holds(buf, to, size(code)) {
         return to;

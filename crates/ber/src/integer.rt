@@ -7,7 +7,8 @@ ghost use lib.ListN.{length};
 ghost use mir.Syntax.{w64};
 ghost use mir.Val.{ofZ};
 ghost use Rattle.octets.specs.Buffers.{filled};
-ghost use Rattle.ber.specs.Integer.{integerOf, integerIn, minimal, fewestOf, eightOf, lastOctets};
+ghost use Rattle.ber.specs.Integer.{integerOf, minimal, fewestOf, eightOf};
+ghost use Rattle.ber.specs.Told.{integerIn, lastOctets};
 ghost use Rattle.ber.specs.Integer.{digit as Integer·digit, spare as Integer·spare, negative};
 
 fn wide(x: u8) -> u64

@@ -15,7 +15,12 @@ use crate::length::Length;
 // Where indefinite contents end that begin at a place of m. Those that no reader accepts go to the end of m.
 fn open_end(m: &[u8], start: usize) -> usize
     requires { ⌜ start ≤ length (now m) ⌝ }
-    ensures { λ r. ⌜ (start ≤ r) × (r ≤ length (now (m .entry))) × ((w : List ℕ) → Passed 1 (drop start (now (m .entry))) w → drop r (now (m .entry)) ≡ w) ⌝ }
+    ensures { λ r. ⌜
+        (let o = now (m .entry) in
+        (start ≤ r)
+        × (r ≤ length o)
+        × ((w : List ℕ) → Passed 1 (drop start o) w → drop r o ≡ w))
+        ⌝ }
 {
     let mut at = start;
     let mut open: usize = 1;
@@ -54,7 +59,12 @@ fn open_end(m: &[u8], start: usize) -> usize
 
 // Where the item that m begins with ends, by headers alone; its identifier ends at `from`.
 pub fn end(m: &[u8], from: usize) -> usize
-    ensures { λ r. ⌜ (min from (length (now (m .entry))) ≤ r) × (r ≤ length (now (m .entry))) × ((w : List ℕ) → Skips (now (m .entry)) from w → drop r (now (m .entry)) ≡ w) ⌝ }
+    ensures { λ r. ⌜
+        (let o = now (m .entry) in
+        (min from (length o) ≤ r)
+        × (r ≤ length o)
+        × ((w : List ℕ) → Skips o from w → drop r o ≡ w))
+        ⌝ }
 {
     match length::read(m, from) {
         Length::Refused { fault: _ } => m.len(),
@@ -76,7 +86,11 @@ pub fn header_size(code: u32, n: u16) -> usize
 
 // Puts these octets; where they end, or the place itself if there is no room.
 pub fn put_header(code: u32, n: u16, buf: &mut [u8], to: usize) -> usize
-    ensures { λ r. ⌜ (let w = codeOctets code ++ lengthOctets n in (r ≡ putEnd (now (buf .entry)) to w) × (now (buf .exit) ≡ put (now (buf .entry)) to w)) ⌝ }
+    ensures { λ r. ⌜
+        (let w = codeOctets code ++ lengthOctets n in
+        (r ≡ putEnd (now (buf .entry)) to w)
+        × (now (buf .exit) ≡ put (now (buf .entry)) to w))
+        ⌝ }
 {
     if !octets::holds(buf, to, header_size(code, n)) {
         return to;

@@ -137,7 +137,11 @@ pub fn size(n: u16) -> usize
 
 // Puts the length n; where it ends, or the place itself if there is no room.
 pub fn put(n: u16, buf: &mut [u8], to: usize) -> usize
-    ensures { λ r. ⌜ (let w = lengthOctets n in (r ≡ putEnd (now (buf .entry)) to w) × (now (buf .exit) ≡ put (now (buf .entry)) to w)) ⌝ }
+    ensures { λ r. ⌜
+        (let w = lengthOctets n in
+        (r ≡ putEnd (now (buf .entry)) to w)
+        × (now (buf .exit) ≡ put (now (buf .entry)) to w))
+        ⌝ }
 {
     if !holds(buf, to, size(n)) {
         return to;

@@ -8,7 +8,7 @@ use mir.Syntax.{w64}
 use mir.Val.{ofZ}
 use mir.ValLaws.{toZ-ofZ}
 use borrow.Author.Needs.{needs}
-use Rattle.ber.specs.Integer.{lastBefore, lastOctets}
+use Rattle.ber.specs.Told.{lastBefore, lastOctets}
 use Rattle.ber.proofs.IntegerCode.{last-turn, last-end}
 use Rattle.ber.proofs.integer.put.Statement.{statement}
 use Rattle.ber.proofs.integer.put.Tie as tie
