@@ -7,5 +7,3 @@ pub mod Integer
 pub mod BitString
 pub mod Reading
 pub mod Codes
-pub mod Told
-pub mod Skipping
