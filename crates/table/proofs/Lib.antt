@@ -21,6 +21,7 @@ mod Spelled
 mod Rounds
 mod Decided
 mod Fields
+mod Entered
 mod Loops
 mod Filling
 mod Marks

@@ -31,13 +31,13 @@ present m = all (λ x. x .optional || m (x .type))
 
 -- the members from p on, one after another
 module _ (m : ℕ → Bool) (b : List ℕ) (p n : ℕ) (w : Bool) where
-  pub present-stops : present m (membersAt b p n) ≡ w → 0 < n → (getD b (p + 1) 0 ≡ 1 → ⊥) → m (getD b p 0) ≡ false → false ≡ w
+  pub present-stops : present m (membersAt b p n) ≡ w → 0 < n → eqb (getD b (p + 1) 0) 1 ≡ false → m (getD b p 0) ≡ false → false ≡ w
   unfolding all membersAt
-  present-stops e h o t = let q : n ≡ suc (n - 1) = omega arith in rw (q, ne-eqb (getD b (p + 1) 0) 1 o, t) at e
+  present-stops e h o t = let q : n ≡ suc (n - 1) = omega arith in rw (q, o, t) at e
 
-  pub present-optional : present m (membersAt b p n) ≡ w → 0 < n → getD b (p + 1) 0 ≡ 1 → present m (membersAt b (p + 2) (n - 1)) ≡ w
+  pub present-optional : present m (membersAt b p n) ≡ w → 0 < n → eqb (getD b (p + 1) 0) 1 ≡ true → present m (membersAt b (p + 2) (n - 1)) ≡ w
   unfolding all membersAt
-  present-optional e h o = let q : n ≡ suc (n - 1) = omega arith in rw (q, eq-eqb (getD b (p + 1) 0) 1 o) at e
+  present-optional e h o = let q : n ≡ suc (n - 1) = omega arith in rw (q, o) at e
 
   pub present-marked : present m (membersAt b p n) ≡ w → 0 < n → m (getD b p 0) ≡ true → present m (membersAt b (p + 2) (n - 1)) ≡ w
   unfolding all membersAt

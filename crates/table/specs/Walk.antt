@@ -94,5 +94,6 @@ pub record GatheredUnder (T : Table) (m : ℕ) (v : List ℕ) (k : ℕ) (r : Boo
 pub record Gathers (b index nodes flags : List ℕ) (t : ℕ) : Type 0 where
   pub filled : Filled b index (countIn b)
   pub ready : Ready (tableIn b) (countIn b) nodes
+  pub named : Named (tableIn b) (countIn b)
   pub marks : length flags ≡ 128
   pub there : t < countIn b
