@@ -1,0 +1,14 @@
+-- `table::entry::optional` meets its contract: behind the last octet stands 0.
+-- Assumes nothing.
+use borrow.Author.Needs.{needs}
+use Rattle.table.proofs.entry.optional.Statement.{statement}
+use Rattle.table.proofs.entry.optional.Tie as tie
+
+pub optional-spec : {M : Type 1} → statement M
+optional-spec =
+    tie.close
+    (tie.spec
+    (λ c. ?)  -- returns
+    (λ c. search needs)  -- add-octet
+    (λ c κs. search needs)  -- octet-requires
+    (λ c. rw (c .octet .ensures .0)))  -- returns-2
