@@ -24,3 +24,4 @@ mod Fields
 mod Loops
 mod Filling
 mod Marks
+mod Packing
