@@ -25,3 +25,4 @@ mod Entered
 mod Loops
 mod Filling
 mod Marks
+mod Packing
