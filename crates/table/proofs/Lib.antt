@@ -22,6 +22,7 @@ mod Rounds
 mod Decided
 mod Fields
 mod Entered
+mod Alike
 mod Loops
 mod Filling
 mod Marks
