@@ -25,3 +25,4 @@ mod Loops
 mod Filling
 mod Marks
 mod Packing
+mod Listed
