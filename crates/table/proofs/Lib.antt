@@ -26,3 +26,5 @@ mod Filling
 mod Marks
 mod Packing
 mod Listed
+mod Entries
+mod Entering
