@@ -27,3 +27,6 @@ mod Loops
 mod Filling
 mod Marks
 mod Packing
+mod Listed
+mod Entries
+mod Entering

@@ -11,9 +11,9 @@ use Rattle.octets.specs.Tests.{if}
 use Rattle.octets.specs.Lists.{any}
 use Rattle.octets.specs.Numbers.{two}
 use Rattle.ber.specs.Codes.{code}
-use Rattle.table.specs.Syntax.{Tag, Body, Record, Table, isChoice, constructed}
+use Rattle.table.specs.Syntax.{Tag, Member, Body, Plain, Sequence, Set, SequenceOf, SetOf, Choice, Record, Table, isChoice, constructed}
 use Rattle.table.specs.Octets.{recordShaped}
-use Rattle.table.specs.Reading.{tagsAt, bodyAt, ownEnd, scan, look}
+use Rattle.table.specs.Reading.{tagsAt, numbersAt, membersAt, everyAt, bodyAt, ownEnd, scan, look}
 use Rattle.table.specs.declared.entry.Entry.{Entry}
 use Rattle.table.specs.declared.entry.Span.{Span}
 
@@ -70,6 +70,23 @@ tagPlace e j = e .own - 3 * (tagCount e - j)
 abbrev pub counted : List ℕ → ℕ → ℕ → Span
 counted b p step = record { first = p + 1; count = getD b p 0; step = step }
 
+-- whether a body has members, or elements of one type
+unfoldable pub hasMembers : Body → Bool
+hasMembers (Plain k) = false
+hasMembers (Sequence ms) = true
+hasMembers (Set ms) = true
+hasMembers (SequenceOf t) = false
+hasMembers (SetOf t) = false
+hasMembers (Choice ts) = false
+
+unfoldable pub isList : Body → Bool
+isList (Plain k) = false
+isList (Sequence ms) = false
+isList (Set ms) = false
+isList (SequenceOf t) = true
+isList (SetOf t) = true
+isList (Choice ts) = false
+
 -- members, alternatives, or the one type of elements, of kind k whose own part is at p
 unfoldable pub spanOf : List ℕ → ℕ → ℕ → Span
 spanOf b k p =
@@ -88,11 +105,40 @@ pub record Entered (b : List ℕ) (e : Entry) (r : Record) : Type 0 where
   pub body : bodyAt b (e .kind) (e .own) ≡ r .body
   pub tags : tagsAt b (e .own - 3 * length (r .tags)) (length (r .tags)) ≡ r .tags
   pub behind : 3 * length (r .tags) ≤ e .own
+  pub few : length (r .tags) ≤ 4
   pub code : e .code ≡ firstCode r
   pub explicit : e .explicit ≡ explicitCount r
   pub simple : e .simple ≡ not (constructed (r .body))
   pub some : 0 < ownEnd b (e .kind) (e .own)
   pub ends : ownEnd b (e .kind) (e .own) ≤ length b
+
+-- what the own part of the entry's record is, within the octets: members, alternatives, the one type of elements, the numbers of an ENUMERATED
+pub record WithMembers (b : List ℕ) (e : Entry) (ms : List Member) : Type 0 where
+  pub is : membersAt b (e .own + 1) (getD b (e .own) 0) ≡ ms
+  pub span : spanOf b (e .kind) (e .own) ≡ counted b (e .own) 2
+  pub count : getD b (e .own) 0 ≡ length ms
+  pub few : length ms ≤ 16
+  pub within : e .own + 1 + 2 * length ms ≤ length b
+
+pub record WithAlternatives (b : List ℕ) (e : Entry) (ts : List ℕ) : Type 0 where
+  pub is : everyAt 1 b (e .own + 1) (getD b (e .own) 0) ≡ ts
+  pub span : spanOf b (e .kind) (e .own) ≡ counted b (e .own) 1
+  pub count : getD b (e .own) 0 ≡ length ts
+  pub some : 1 ≤ length ts
+  pub few : length ts ≤ 16
+  pub within : e .own + 1 + length ts ≤ length b
+
+pub record WithElements (b : List ℕ) (e : Entry) (t : ℕ) : Type 0 where
+  pub is : getD b (e .own) 0 ≡ t
+  pub span : spanOf b (e .kind) (e .own) ≡ record { first = e .own; count = 1; step = 0 }
+  pub within : e .own < length b
+
+pub record WithNumbers (b : List ℕ) (e : Entry) (ns : List ℕ) : Type 0 where
+  pub is : numbersAt b (e .own + 1) (getD b (e .own) 0) ≡ ns
+  pub count : getD b (e .own) 0 ≡ length ns
+  pub some : 1 ≤ length ns
+  pub few : length ns ≤ 32
+  pub within : leb (e .own + 1 + 2 * getD b (e .own) 0) (length b) ≡ true
 
 -- the records that octets stand for, by their numbers, and how many there are
 abbrev pub tableIn : List ℕ → Table

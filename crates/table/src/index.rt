@@ -110,11 +110,12 @@ fn entry(table: &[u8], o: usize) -> u64
     pack(code, own as u16, kind, explicit(kind, tags), simple)
 }
 
-// Fills the index, from record to record.
+// Fills the index, from record to record. It is stored whole first: only then is it known how many numbers it has.
 pub(crate) fn fill(table: &[u8], index: &mut [u64; 128]) -> Count
-    requires { ⌜ (length (now table) ≤ 8192) × (length (now index) ≡ 128) ⌝ }
+    requires { ⌜ length (now table) ≤ 8192 ⌝ }
     ensures { λ r. ⌜ (r .whole ≡ scan (now (table .entry)) .whole) × Filled (now (table .entry)) (now (index .exit)) (r .count) ⌝ }
 {
+    *index = [0u64; 128];
     let mut n: usize = 0;
     let mut at: usize = 0;
     while n < 128 {
