@@ -21,7 +21,7 @@ mod Spelled
 mod Rounds
 mod Decided
 mod Fields
-mod Entered
+mod Rules
 mod Alike
 mod Loops
 mod Filling

@@ -1,13 +1,12 @@
 // 3: a tag that is missing, or a UNIVERSAL tag out of place (FORMATS, "Tables" and "Refusals").
 ghost use mathlib.Core.Path.{_≡_};
-ghost use mathlib.Core.Bool.{true, not, _&&_};
+ghost use mathlib.Core.Bool.{not, _&&_};
 ghost use Prim.Native.Nat.{_<_, _+_};
 ghost use lib.Dec.{eqb};
 ghost use lib.ListN.{getD};
 ghost use Rattle.octets.specs.Numbers.{two};
 ghost use Rattle.octets.specs.Lists.{any, lowest};
 ghost use Rattle.table.specs.Syntax.{Record};
-ghost use Rattle.table.specs.Octets.{recordShaped};
 ghost use Rattle.table.specs.Reading.{everyAt};
 ghost use Rattle.table.specs.Fields.{universalOf};
 ghost use Rattle.table.specs.Decide.{wrongTags, mistagged};
@@ -51,7 +50,7 @@ fn wrong_own(table: &[u8], kind: u8, p: usize) -> bool
 
 // Whether the tags of a record break the rule.
 fn wrong(table: &[u8], e: Entry) -> bool
-    ensures { λ r. ⌜ ((x : Record) → recordShaped x ≡ true → Entered (now (table .entry)) e x → r ≡ wrongTags (x .body) (x .tags)) ⌝ }
+    ensures { λ r. ⌜ ((x : Record) → Entered (now (table .entry)) e x → r ≡ wrongTags (x .body) (x .tags)) ⌝ }
 {
     if e.explicit == LACKING {
         return true;
