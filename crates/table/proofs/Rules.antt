@@ -12,23 +12,27 @@ use borrow.Author.Tests.{ne-eqb, not-true}
 use Rattle.octets.specs.Lists.{any, all}
 use Rattle.octets.specs.Numbers.{Octets, two}
 use Rattle.octets.proofs.Tests.{test}
-use Rattle.table.specs.Syntax.{Tag, Body, Plain, Sequence, Set, SequenceOf, SetOf, Choice, Record, absent, isChoice, universal, constructed}
+use Rattle.table.specs.Syntax.{Tag, Body, Plain, Sequence, Set, SequenceOf, SetOf, Choice, Record, absent, references, isChoice, universal, constructed}
 use Rattle.table.specs.Rules.{Mistagged, missing, bodyBelow, tagsBelow}
 use Rattle.table.specs.Reading.{membersAt, everyAt, tagsAt, scan}
 use Rattle.table.specs.Decide.{wrongTags, finiteBody}
 use Rattle.table.specs.Fields.{universalOf}
-use Rattle.table.specs.Entries.{allButLast, explicitCount, tagPlace, hasMembers, spanOf, Entered, Near, tableIn, Filled}
+use Rattle.table.specs.Entries.{unpacked, allButLast, explicitCount, tagPlace, hasMembers, counted, spanOf, Entered, Near, tableIn, Filled}
 use Rattle.table.specs.declared.entry.Entry.{Entry}
+use Rattle.table.specs.declared.entry.Span.{Span}
 use Rattle.table.proofs.Fields.{universal-of}
 use Rattle.table.proofs.Scan.{look-beyond}
-use Rattle.table.proofs.Entries.{kind-choice, kind-members, entered-members, entered-choice, entered-tags}
+use Rattle.table.proofs.Entries.{kind-choice, kind-members, entered-members, entered-span, entered-choice, entered-tags}
 
--- a span lies near, whatever the kind
+-- what a count stands before lies near, and so does the span of any kind
+pub near-counted : (b : List ℕ) (p step : ℕ) → Octets b → p < 65536 → step < 3 → Near (counted b p step)
+near-counted b p step o h l = record { near = omega arith; few = o p; close = l }
+
 pub near-span : (b : List ℕ) (k p : ℕ) → Octets b → p < 65536 → Near (spanOf b k p)
 unfolding spanOf
 near-span b k p o h =
-    test (eqb k 16 || eqb k 17) (λ e. rw e (record { near = omega arith; few = o p; close = omega arith })) λ e₁.
-    test (eqb k 50) (λ e. rw (e₁, e) (record { near = omega arith; few = o p; close = omega arith })) λ e₂.
+    test (eqb k 16 || eqb k 17) (λ e. rw e (near-counted b p 2 o h (omega arith))) λ e₁.
+    test (eqb k 50) (λ e. rw (e₁, e) (near-counted b p 1 o h (omega arith))) λ e₂.
     test (eqb k 48 || eqb k 49) (λ e. rw (e₁, e₂, e) (record { near = omega arith; few = omega arith; close = omega arith })) λ e₃.
     rw (e₁, e₂, e₃) (record { near = omega arith; few = omega arith; close = omega arith })
 
@@ -214,3 +218,15 @@ module _ {b : List ℕ} {e : Entry} {r : Record} (x : Entered b e r) where
 -- behind the records of an index there are none
 pub filled-beyond : {b index : List ℕ} {n : ℕ} → Filled b index n → (t : ℕ) → n ≤ t → tableIn b t ≡ absent
 filled-beyond {b} x t h = look-beyond b (scan b .offsets) t (x .short) (rw (x .count) at h)
+
+-- the entry that the code reads for record t, and what its parts span
+module _ {b index : List ℕ} {n : ℕ} (x : Filled b index n) (t : ℕ) (h : t < n) {e : Entry} (d : e ≡ unpacked (getD index t 0)) where
+  pub entry-at : Entered b e (tableIn b t)
+  entry-at = rw d (x .entered t h)
+
+  pub span-near : Octets b → {s : Span} → s ≡ spanOf b (e .kind) (e .own) → Near s
+  unfolding unpacked
+  span-near o q = rw q (near-span b (e .kind) (e .own) o (rw d (omega arith)))
+
+  pub span-named : {s : Span} → s ≡ spanOf b (e .kind) (e .own) → everyAt (s .step) b (s .first) (s .count) ≡ references (tableIn b t .body)
+  span-named q = rw q (entered-span entry-at)
