@@ -9,7 +9,7 @@ use lib.Dec.{eqb, ltb, leb}
 use lib.ListN.{length, getD}
 use borrow.Author.Tests.{eqb-true, eqb-false, eq-eqb, ne-eqb, ltb-true, ltb-false, lt-ltb, le-ltb, leb-true}
 use Rattle.octets.specs.Answer.{if}
-use Rattle.octets.specs.Lists.{all}
+use Rattle.octets.specs.Lists.{all, lowest}
 use Rattle.octets.specs.Numbers.{Octets, two}
 use Rattle.octets.proofs.Tests.{test}
 use Rattle.octets.proofs.Lists.{both}
@@ -18,6 +18,7 @@ use Rattle.ber.specs.Identifier.{bit, leading}
 use Rattle.ber.specs.Codes.{code}
 use Rattle.table.specs.Syntax.{Tag, Body, Record, Table, constructed}
 use Rattle.table.specs.Octets.{recordShaped}
+use Rattle.table.specs.Rules.{tagsBelow}
 use Rattle.table.specs.Reading.{tagsAt}
 use Rattle.table.specs.Decide.{sameTag, begins}
 use Rattle.table.specs.Walk.{sameOutermost, like, tagOf, likeIn}
@@ -117,6 +118,15 @@ pub code-some : {b : List ℕ} {e : Entry} {r : Record} → Entered b e r → r 
 unfolding outermostCode
 code-some x t = rw t at (x .code)
 
+-- with an identifier nothing stands below
+pub below-none : {b : List ℕ} {e : Entry} {r : Record} → Entered b e r → (e .code ≡ untagged → ⊥) → tagsBelow (r .tags) (r .body) ≡ []
+unfolding tagsBelow
+below-none {r = r} x c = by (r .tags) refl
+  where
+    by : (gs : List Tag) → r .tags ≡ gs → tagsBelow (r .tags) (r .body) ≡ []
+    by [] t = absurd (c (code-some x t))
+    by (g ∷ gs) t = rw t
+
 -- two records begin alike where their codes do
 code-test : (e f : Entry) (g h : Tag) → Fronted e g → Fronted f h → eqb (tagOf (e .code)) (tagOf (f .code)) ≡ sameTag g h
 unfolding sameTag
@@ -163,3 +173,13 @@ unfolding likeIn
 like-in-low index t =
     test (eqb (tagOf (unpacked (getD index t 0) .code)) untagged) (λ e. rw e (omega arith)) λ e.
     rw e (lowest-most (λ u. eqb (tagOf (unpacked (getD index u 0) .code)) (tagOf (unpacked (getD index t 0) .code))) t)
+
+-- the ways through the search for the record that stands for a first tag
+module _ (index : List ℕ) (t : ℕ) {g : ℕ} (d : g ≡ tagOf (unpacked (getD index t 0) .code)) where
+  pub like-none : g ≡ untagged → t ≡ likeIn index t
+  unfolding likeIn
+  like-none e = rw (← d, eq-eqb g untagged e)
+
+  pub like-some : (g ≡ untagged → ⊥) → {u : ℕ} → u ≡ lowest (λ w. eqb (tagOf (unpacked (getD index w 0) .code)) g) t → u ≡ likeIn index t
+  unfolding likeIn
+  like-some e q = rw (← d, ne-eqb g untagged e) q

@@ -10,11 +10,18 @@ use lib.ListN.{length, getD, set}
 use lib.Seq.{getD-set-same, getD-set-other}
 use borrow.Author.Tests.{eqb-true, eqb-false}
 use Rattle.octets.proofs.Tests.{test}
+use Rattle.octets.specs.Numbers.{Octets}
 use Rattle.table.specs.Syntax.{Table}
 use Rattle.table.specs.Rules.{below}
 use Rattle.table.specs.Reading.{everyAt}
-use Rattle.table.specs.Walk.{like, free, at, under, Walks, done, seen, down, Met, Gathered, GatheredUnder}
+use Rattle.table.specs.Walk.{like, free, at, under, Walks, done, seen, down, Met, Gathered, GatheredUnder, Gathers}
+use Rattle.table.specs.Entries.{unpacked, untagged, counted, tableIn, countIn, Near}
+use Rattle.table.specs.declared.entry.Entry.{Entry}
+use Rattle.table.specs.declared.entry.Span.{Span}
 use Rattle.table.proofs.Loops.{every-step}
+use Rattle.table.proofs.Nodes.{like-low}
+use Rattle.table.proofs.Rules.{near-counted, entered-below, entry-at}
+use Rattle.table.proofs.Alike.{code-none}
 use Rattle.table.proofs.Walk.{walks-append, Kept, kept, newly, keeps, marked}
 
 -- no octet is left
@@ -116,3 +123,24 @@ module _ (T : Table) (m : ℕ) (v : List ℕ) (k : ℕ) {w : List ℕ} (b : List
   pub under-done : n ≤ 0 → free w ≤ free v → GatheredUnder T m v k false w
   under-done h g =
       record { met = λ z. absurd (false≢true z); walked = λ _. going-done (rw (every-none 1 b p n h) at x); fewer = g }
+
+-- what a walk from t needs, in the code's hands
+module _ {b index nodes v : List ℕ} {t : ℕ} (x : Gathers b index nodes v t) where
+  pub stand-in : getD nodes t 0 ≡ like (tableIn b) t
+  stand-in = x .ready .right t (x .there)
+
+  pub stand-in-small : getD nodes t 0 < 128
+  stand-in-small = omega (arith, stand-in, like-low (tableIn b) t, x .there, x .filled .few)
+
+  pub gathers-at : {w : List ℕ} (a : ℕ) → length w ≡ 128 → a < countIn b → Gathers b index nodes w a
+  gathers-at a l h = record { filled = x .filled; ready = x .ready; named = x .named; marks = l; there = h }
+
+  module _ {e : Entry} (d : e ≡ unpacked (getD index t 0)) {s : Span} (q : s ≡ counted b (e .own) 1) (o : Octets b) where
+    pub alternatives-near : Near s
+    unfolding unpacked
+    alternatives-near = rw q (near-counted b (e .own) 1 o (rw d (omega arith)) (omega arith))
+
+    pub alternatives-below : unpacked (getD index t 0) .code ≡ untagged → below (tableIn b) t ≡ everyAt 1 b (s .first) (s .count)
+    alternatives-below c =
+        let y = entry-at (x .filled) t (x .there) d in
+        rw q (entered-below y (code-none o y (x .filled .shaped t (x .there)) (rw d c)) (x .named .tagged t (x .there)))

@@ -25,7 +25,7 @@ fn first_tag(w: u64) -> u32
 
 // The lowest record with the first tag of record t; t itself, if that is a CHOICE without tags.
 fn lowest_like(index: &[u64; 128], t: usize) -> usize
-    requires { ⌜ (length (now index) ≡ 128) × (t < 128) ⌝ }
+    requires { ⌜ t < 128 ⌝ }
     ensures { λ r. ⌜ r ≡ likeIn (now (index .entry)) t ⌝ }
 {
     let tag = first_tag(index[t]);
