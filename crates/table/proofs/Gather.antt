@@ -14,8 +14,8 @@ use Rattle.octets.specs.Numbers.{Octets}
 use Rattle.table.specs.Syntax.{Table}
 use Rattle.table.specs.Rules.{below}
 use Rattle.table.specs.Reading.{everyAt}
-use Rattle.table.specs.Walk.{like, free, at, under, Walks, done, seen, down, Met, Gathered, GatheredUnder, Gathers}
-use Rattle.table.specs.Entries.{unpacked, untagged, counted, tableIn, countIn, Near}
+use Rattle.table.specs.Walk.{like, free, at, under, Walks, done, seen, down, Met, Gathered, GatheredUnder, Gathers, Ready, Named}
+use Rattle.table.specs.Entries.{unpacked, untagged, counted, tableIn, countIn, Near, Filled}
 use Rattle.table.specs.declared.entry.Entry.{Entry}
 use Rattle.table.specs.declared.entry.Span.{Span}
 use Rattle.table.proofs.Loops.{every-step}
@@ -123,6 +123,11 @@ module _ (T : Table) (m : ℕ) (v : List ℕ) (k : ℕ) {w : List ℕ} (b : List
   pub under-done : n ≤ 0 → free w ≤ free v → GatheredUnder T m v k false w
   under-done h g =
       record { met = λ z. absurd (false≢true z); walked = λ _. going-done (rw (every-none 1 b p n h) at x); fewer = g }
+
+pub gathers-from : {b index nodes : List ℕ} {n : ℕ} → Filled b index n → Ready (tableIn b) n nodes → Named (tableIn b) n → {v : List ℕ} {t : ℕ}
+    → length v ≡ 128 → t < n → Gathers b index nodes v t
+gathers-from x r m l h =
+    record { filled = rw (x .count) at x; ready = rw (x .count) at r; named = rw (x .count) at m; marks = l; there = rw (x .count) at h }
 
 -- what a walk from t needs, in the code's hands
 module _ {b index nodes v : List ℕ} {t : ℕ} (x : Gathers b index nodes v t) where

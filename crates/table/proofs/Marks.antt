@@ -3,11 +3,11 @@
 use mathlib.Core.Bool.{Bool, true, false, not, _||_, or-true, false≢true}
 use mathlib.Core.List.{List, [], _∷_, _++_}
 use mathlib.Core.Logic.{_⊎_, inl, inr, ⊎-elim}
-use mathlib.Core.Path.{_≡_, refl, sym}
+use mathlib.Core.Path.{_≡_, refl, sym, _∙_}
 use Prim.Native.Nat.{ℕ, zero, suc, _+_, _-_, _≤_, _<_}
 use native.Mathlib.Omega.{arith}
 use lib.Dec.{eqb}
-use lib.ListN.{length, getD, set, take, replicate, List·getD-eq-default, List·getD-append}
+use lib.ListN.{length, getD, set, length-set, List·getD-eq-default}
 use lib.Seq.{getD-set-other}
 use borrow.Author.Tests.{eqb-true, eqb-false, ne-eqb, not-false}
 use Rattle.octets.proofs.Tests.{test}
@@ -72,6 +72,10 @@ module _ (T : Table) where
   pub raised-on : {v w x : List ℕ} → Raised T v w → Raised T w x → Raised T v x
   raised-on same s = s
   raised-on (one-more t e r) s = one-more t e (raised-on r s)
+
+  pub raised-size : {v w : List ℕ} → Raised T v w → length w ≡ length v
+  raised-size same = refl
+  raised-size (one-more {v} t e r) = raised-size r ∙ length-set v t 1
 
   -- none was looked at, and all were
   pub looked-none : (n : ℕ) (v : List ℕ) → Looked T (From n n) v false v

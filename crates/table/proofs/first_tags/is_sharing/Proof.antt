@@ -1,73 +1,29 @@
+-- `table::first_tags::is_sharing` meets its contract. The loop's invariant: each mark is that of the part it was gathered for, and no two parts met.
+-- The measure is the parts left. Assumes nothing.
+use borrow.Author.Needs.{needs}
+use Prim.Native.Nat.{_+_, _*_, _≤_, _<_}
+use mathlib.Core.Bool.{true≢false, false≢true}
+use mathlib.Core.Path.{_≡_, refl, sym, _∙_}
+use native.Mathlib.Omega.{arith}
+use lib.ListN.{length}
+use Rattle.table.specs.Syntax.{references}
+use Rattle.table.specs.Reading.{everyAt}
+use Rattle.table.specs.Entries.{tableIn, countIn}
+use Rattle.table.proofs.Rules.{span-near, span-named}
+use Rattle.table.proofs.Walk.{same-size}
+use Rattle.table.proofs.Gather.{every-none, gathers-at}
+use Rattle.table.proofs.Straight.{zeros, named-there}
+use Rattle.table.proofs.Shared.{named-few, Owned, owned-start, owned-next, owned-in, owned-turn, owned-met, owned-end, pairing-shares, sharing-names}
 use Rattle.table.proofs.first_tags.is_sharing.Statement.{statement}
 use Rattle.table.proofs.first_tags.is_sharing.Tie as tie
-use Rattle.table.proofs.first_tags.is_sharing.Reads as reads
-use Rattle.table.proofs.first_tags.is_sharing.Lts as lts
-use Rattle.octets.proofs.octet.Reads as octet-reads
-use Rattle.table.proofs.entry.parts.Reads as parts-reads
-use Rattle.table.proofs.entry.unpack.Reads as unpack-reads
-use Rattle.table.proofs.first_tags.gather.Reads as gather-reads
 
 abbrev Inv-loop : tie.InvT-loop
-Inv-loop table index nodes t s at₀ left₀ flags₀ mark₀ at left flags mark = ?
+Inv-loop table index nodes t s at₀ left₀ flags₀ mark₀ at left flags mark =
+    (length flags ≡ 128) × (at + 3 * left ≤ 100000) × (s .step < 3) × (mark + left ≤ 17)
+    × Owned (tableIn table) (references (tableIn table t .body)) flags mark (everyAt (s .step) table at left)
 
 abbrev μ-loop : tie.MeasureT-loop
-μ-loop table index nodes t s at₀ left₀ flags₀ mark₀ at left flags mark = ?
-
--- src/first_tags.rt:147:33
-mul-unpack : tie.Need-mul-unpack Inv-loop μ-loop
-mul-unpack c = ?
-
--- src/first_tags.rt:147:33
-element-copy-out-unpack : tie.Need-element-copy-out-unpack Inv-loop μ-loop
-element-copy-out-unpack c = ?
-
--- src/first_tags.rt:147:26
-unpack-requires : tie.Need-unpack-requires Inv-loop μ-loop
-unpack-requires c κs = ?
-
--- src/first_tags.rt:147:9
-parts-requires : tie.Need-parts-requires Inv-loop μ-loop
-parts-requires c κs = ?
-
--- src/first_tags.rt:152:5
-loop-holds : tie.Need-loop-holds Inv-loop μ-loop
-loop-holds c = ?
-
--- src/first_tags.rt:153:13
-octet-requires : tie.Need-octet-requires Inv-loop μ-loop
-octet-requires c κs = ?
-
--- src/first_tags.rt:154:12
-gather-requires : tie.Need-gather-requires Inv-loop μ-loop
-gather-requires c κs = ?
-
--- src/first_tags.rt:155:13
-returns : tie.Need-returns Inv-loop μ-loop
-returns c = ?
-
--- src/first_tags.rt:157:9
-add-mark : tie.Need-add-mark Inv-loop μ-loop
-add-mark c = ?
-
--- src/first_tags.rt:158:9
-add-at : tie.Need-add-at Inv-loop μ-loop
-add-at c = ?
-
--- src/first_tags.rt:159:9
-sub-left : tie.Need-sub-left Inv-loop μ-loop
-sub-left c = ?
-
--- src/first_tags.rt:152:5
-loop-less : tie.Need-loop-less Inv-loop μ-loop
-loop-less c = ?
-
--- src/first_tags.rt:152:5
-loop-again : tie.Need-loop-again Inv-loop μ-loop
-loop-again c = ?
-
--- src/first_tags.rt:143:1
-returns-2 : tie.Need-returns-2 Inv-loop μ-loop
-returns-2 c = ?
+μ-loop table index nodes t s at₀ left₀ flags₀ mark₀ at left flags mark = left
 
 pub is-sharing-spec : {M : Type 1} → statement M
 is-sharing-spec =
@@ -75,17 +31,40 @@ is-sharing-spec =
     (tie.spec
     Inv-loop
     μ-loop
-    mul-unpack
-    element-copy-out-unpack
-    unpack-requires
-    parts-requires
-    loop-holds
-    octet-requires
-    gather-requires
-    returns
-    add-mark
-    add-at
-    sub-left
-    loop-less
-    loop-again
-    returns-2)
+    (λ c. omega (arith, c .before .pre .0 .there, c .before .pre .0 .filled .few))  -- mul-unpack
+    (λ c. omega (arith, c .before .pre .0 .there, c .before .pre .0 .filled .few))  -- element-copy-out-unpack
+    (λ c κs. search needs)  -- unpack-requires
+    (λ c κs. search needs)  -- parts-requires
+    (λ c.
+    let x = c .before .before .before .before .pre .0 in
+    let near = span-near (x .filled) _ (x .there) (c .before .unpack .ensures) (λ i. omega (arith, c .before .before .before .shared-slice-known .given i)) (c .parts .ensures) in
+    let named = span-named (x .filled) _ (x .there) (c .before .unpack .ensures) (c .parts .ensures) in (
+      refl,
+      omega (arith, near .near, near .few),
+      near .close,
+      omega (arith, named-few (tableIn (c .before .before .before .before .args .table .now) (c .before .before .before .before .args .t)) _ _ _ _ (x .filled .shaped _ (x .there)) named),
+      owned-start _ (zeros 128) (sym named),
+    ))  -- loop-holds
+    (λ c κs. search needs)  -- octet-requires
+    (λ c κs. let x = c .before .before .before .before .before .before .before .before .pre .0 in
+    gathers-at x _ (c .before .before .before .loop .inv .0) (named-there _ _ (x .named) _ _ (x .there) (owned-in (owned-next _ _ _ _ _ (c .before .before .before .loop .inv .4) (c .before .before .loop-test .taken) (c .before .octet .ensures .0)))))  -- gather-requires
+    (λ c. let x = c .before .before .before .before .before .before .before .before .before .before .pre .0 in (
+      λ _. pairing-shares _ _ (owned-met _ _ (c .before .before .before .before .before .before .before .before .before .before .pre .1) (x .ready .closed) _ (λ a i. named-there _ _ (x .named) _ a (x .there) i) _ _
+          (owned-next _ _ _ _ _ (c .before .before .before .before .before .loop .inv .4) (c .before .before .before .before .loop-test .taken) (c .before .before .before .octet .ensures .0)) (c .before .gather .ensures .met (c .if1 .taken))),
+      λ z. absurd (true≢false z),
+    ))  -- returns
+    (λ c. omega (arith, c .before .before .before .before .before .loop .inv .3, c .before .before .before .before .loop-test .taken))  -- add-mark
+    (λ c. omega (arith, c .before .before .before .before .before .before .loop .inv .1, c .before .before .before .before .before .before .loop .inv .2, c .before .before .before .before .before .loop-test .taken))  -- add-at
+    (λ c. omega (arith, c .before .before .before .before .before .loop-test .taken))  -- sub-left
+    (λ c. omega (arith, c .before .before .before .before .before .loop-test .taken))  -- loop-less
+    (λ c. (
+      same-size (c .before .before .gather .ensures .walked (c .before .if1 .left)) ∙ c .before .before .before .before .before .before .loop .inv .0,
+      omega (arith, c .before .before .before .before .before .before .loop .inv .1, c .before .before .before .before .before .before .loop .inv .2, c .before .before .before .before .before .loop-test .taken),
+      c .before .before .before .before .before .before .loop .inv .2,
+      omega (arith, c .before .before .before .before .before .before .loop .inv .3, c .before .before .before .before .before .loop-test .taken),
+      owned-turn _ _ _ _ _ _ _ (owned-next _ _ _ _ _ (c .before .before .before .before .before .before .loop .inv .4) (c .before .before .before .before .before .loop-test .taken) (c .before .before .before .before .octet .ensures .0)) (c .before .before .gather .ensures .walked (c .before .if1 .left)),
+    ))  -- loop-again
+    (λ c. (
+      λ z. absurd (false≢true z),
+      λ _ y. owned-end _ _ _ _ (rw (every-none _ _ _ _ (c .loop-test .left)) at (c .before .loop .inv .4)) (sharing-names _ _ y),
+    )))  -- returns-2

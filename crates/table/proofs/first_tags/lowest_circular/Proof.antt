@@ -1,55 +1,26 @@
+-- `table::first_tags::lowest_circular` meets its contract. The loop's invariant: no record before t fails. The measure is what is left.
+-- Assumes nothing.
+use borrow.Author.Needs.{needs}
+use Prim.Native.Nat.{_-_}
+use mathlib.Core.Logic.{⊎-elim}
+use mathlib.Core.Path.{refl, sym, _∙_}
+use native.Mathlib.Omega.{arith}
+use Rattle.octets.proofs.Search.{Rest, rest-first, rest-here, rest-next, rest-none}
+use Rattle.table.specs.Decide.{circular}
+use Rattle.table.specs.Entries.{tableIn}
+use Rattle.table.proofs.Decided.{circular-is}
+use Rattle.table.proofs.Rules.{filled-beyond}
+use Rattle.table.proofs.Alike.{below-none}
+use Rattle.table.proofs.Gather.{gathers-from}
+use Rattle.table.proofs.Shared.{no-circle}
 use Rattle.table.proofs.first_tags.lowest_circular.Statement.{statement}
 use Rattle.table.proofs.first_tags.lowest_circular.Tie as tie
-use Rattle.table.proofs.first_tags.lowest_circular.Reads as reads
-use Rattle.table.proofs.first_tags.lowest_circular.Lts as lts
-use Rattle.table.proofs.entry.first.Reads as first-reads
-use Rattle.table.proofs.first_tags.is_circular.Reads as is-circular-reads
 
 abbrev Inv-loop : tie.InvT-loop
-Inv-loop table index nodes n t₀ t = ?
+Inv-loop table index nodes n t₀ t = Rest (circular (tableIn table) n) n t
 
 abbrev μ-loop : tie.MeasureT-loop
-μ-loop table index nodes n t₀ t = ?
-
--- src/first_tags.rt:131:5
-loop-holds : tie.Need-loop-holds Inv-loop μ-loop
-loop-holds c = ?
-
--- src/first_tags.rt:132:18
-mul-first : tie.Need-mul-first Inv-loop μ-loop
-mul-first c = ?
-
--- src/first_tags.rt:132:18
-element-copy-out-first : tie.Need-element-copy-out-first Inv-loop μ-loop
-element-copy-out-first c = ?
-
--- src/first_tags.rt:132:12
-first-requires : tie.Need-first-requires Inv-loop μ-loop
-first-requires c κs = ?
-
--- src/first_tags.rt:133:16
-is-circular-requires : tie.Need-is-circular-requires Inv-loop μ-loop
-is-circular-requires c κs = ?
-
--- src/first_tags.rt:134:17
-returns : tie.Need-returns Inv-loop μ-loop
-returns c = ?
-
--- src/first_tags.rt:137:9
-add-t : tie.Need-add-t Inv-loop μ-loop
-add-t c = ?
-
--- src/first_tags.rt:131:5
-loop-less : tie.Need-loop-less Inv-loop μ-loop
-loop-less c = ?
-
--- src/first_tags.rt:131:5
-loop-again : tie.Need-loop-again Inv-loop μ-loop
-loop-again c = ?
-
--- src/first_tags.rt:121:1
-returns-2 : tie.Need-returns-2 Inv-loop μ-loop
-returns-2 c = ?
+μ-loop table index nodes n t₀ t = n - t
 
 pub lowest-circular-spec : {M : Type 1} → statement M
 lowest-circular-spec =
@@ -57,13 +28,16 @@ lowest-circular-spec =
     (tie.spec
     Inv-loop
     μ-loop
-    loop-holds
-    mul-first
-    element-copy-out-first
-    first-requires
-    is-circular-requires
-    returns
-    add-t
-    loop-less
-    loop-again
-    returns-2)
+    (λ c. rest-first _ _)  -- loop-holds
+    (λ c. omega (arith, c .before .before .before .pre .0 .few))  -- mul-first
+    (λ c. omega (arith, c .before .before .before .pre .0 .few))  -- element-copy-out-first
+    (λ c κs. search needs)  -- first-requires
+    (λ c κs. (gathers-from (c .before .before .before .before .before .before .pre .0) (c .before .before .before .before .before .before .pre .1) (c .before .before .before .before .before .before .pre .2) refl (c .before .before .before .loop-test .taken), sym (c .before .first .ensures) ∙ c .if1 .taken))  -- is-circular-requires
+    (λ c. rest-here _ _ _ (c .before .before .before .before .before .before .loop .inv) (c .before .before .before .before .before .loop-test .taken) (circular-is _ _ (filled-beyond (c .before .before .before .before .before .before .before .before .pre .0)) _ _ (c .before .before .before .before .before .loop-test .taken) (c .before .is-circular .ensures) ∙ c .if2 .taken))  -- returns
+    (λ c. search needs)  -- add-t
+    (λ c. omega arith)  -- loop-less
+    (λ c. rest-next _ _ _ (c .before .before .before .before .loop .inv) (c .before .before .before .loop-test .taken) (⊎-elim
+    (λ w. circular-is _ _ (filled-beyond (c .before .before .before .before .before .before .pre .0)) _ _ (c .before .before .before .loop-test .taken) (w .1 .ensures) ∙ w .2 .left)
+    (λ w. no-circle _ _ _ (below-none (c .before .before .before .before .before .before .pre .0 .entered _ (c .before .before .before .loop-test .taken)) (λ z. w .left (c .before .first .ensures ∙ z))))
+    (c .if1 .came)))  -- loop-again
+    (λ c. rest-none _ _ _ (c .before .loop .inv) (c .loop-test .left)))  -- returns-2
