@@ -28,3 +28,4 @@ mod Packing
 mod Listed
 mod Entries
 mod Entering
+mod Ways
