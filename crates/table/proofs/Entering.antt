@@ -51,19 +51,18 @@ module _ (b index places : List ℕ) (n at w : ℕ) (size : length index ≡ 128
 filled : (b index places : List ℕ) (n : ℕ) (w : Bool) → record { whole = w; offsets = places } ≡ scan b → length places ≡ n → n ≤ 128 → length b ≤ 8192
     → ((t : ℕ) → t < n → Said b (getD index t 0) (getD places t 65535)) → (w ≡ scan b .whole) × Filled b index n
 unfolding look
-filled b index places n w e c l k said =
-    (
-      ap (λ s. s .whole) e,
-      record {
-        count = sym c ∙ ap (λ s. length (s .offsets)) e;
-        few = l;
-        short = k;
-        shaped = λ t h. subst (λ (s : List ℕ). recordShaped (recordAt b (getD s t 65535)) ≡ true) (ap (λ s. s .offsets) e) (said t h .shaped);
-        entered =
-            λ t h.
-            subst (λ (s : List ℕ). Entered b (unpacked (getD index t 0)) (recordAt b (getD s t 65535))) (ap (λ s. s .offsets) e) (said t h .entered);
-      },
-    )
+filled b index places n w e c l k said = (
+  ap (λ s. s .whole) e,
+  record {
+    count = sym c ∙ ap (λ s. length (s .offsets)) e;
+    few = l;
+    short = k;
+    shaped = λ t h. subst (λ (s : List ℕ). recordShaped (recordAt b (getD s t 65535)) ≡ true) (ap (λ s. s .offsets) e) (said t h .shaped);
+    entered =
+        λ t h.
+        subst (λ (s : List ℕ). Entered b (unpacked (getD index t 0)) (recordAt b (getD s t 65535))) (ap (λ s. s .offsets) e) (said t h .entered);
+  },
+)
 
 module _ (b index : List ℕ) (n at : ℕ) (f : Entering b index n at) (k : length b ≤ 8192) where
   pub entering-stops : n < 128 → recordEnd b at ≡ 0 → (false ≡ scan b .whole) × Filled b index n

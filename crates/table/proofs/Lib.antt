@@ -30,3 +30,4 @@ mod Packing
 mod Listed
 mod Entries
 mod Entering
+mod Ways

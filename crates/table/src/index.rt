@@ -116,28 +116,25 @@ pub(crate) fn fill(table: &[u8], index: &mut [u64; 128]) -> Count
     ensures { λ r. ⌜ (r .whole ≡ scan (now (table .entry)) .whole) × Filled (now (table .entry)) (now (index .exit)) (r .count) ⌝ }
 {
     *index = [0u64; 128];
-    let mut n: usize = 0;
+    let mut count: usize = 0;
     let mut at: usize = 0;
-    while n < 128 {
+    while count < 128 {
         let end = record_end(table, at);
         if end == 0 {
             return Count {
-                count: n,
+                count,
                 whole: false,
             };
         }
-        index[n] = entry(table, at);
-        n += 1;
+        index[count] = entry(table, at);
+        count += 1;
         if end == table.len() {
-            return Count {
-                count: n,
-                whole: true,
-            };
+            return Count { count, whole: true };
         }
         at = end;
     }
     Count {
-        count: n,
+        count,
         whole: false,
     }
 }
