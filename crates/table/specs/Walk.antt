@@ -37,7 +37,6 @@ likeIn index t =
 -- every alternative is there, and `nodes` has what stands for each record
 pub record Ready (T : Table) (n : ℕ) (nodes : List ℕ) : Type 0 where
   pub closed : (t a : ℕ) → t < n → In a (below T t) → a < n
-  pub size : n ≤ length nodes
   pub right : (t : ℕ) → t < n → getD nodes t 0 ≡ like T t
 
 -- what the verdict has found before it judges circles
