@@ -299,8 +299,15 @@ module _ (T : Table) (n : ℕ) where
     sharing-complete t s = paired (share T n) _ (s .i) (s .j) (s .apart) (s .within) (share-complete (s .first) (s .second))
 
 -- a test that agrees with a rule, and code that finds which of the two holds
-pub decides : {P : Type 0} (f r : Bool) → (f ≡ true → P) → (P → f ≡ true) → (r ≡ true → P) → (r ≡ false → P → ⊥) → f ≡ r
+decides : {P : Type 0} (f r : Bool) → (f ≡ true → P) → (P → f ≡ true) → (r ≡ true → P) → (r ≡ false → P → ⊥) → f ≡ r
 decides true true a b c d = refl
 decides true false a b c d = absurd (d refl (a refl))
 decides false true a b c d = b (c refl)
 decides false false a b c d = refl
+
+module _ (T : Table) (n : ℕ) (beyond : (t : ℕ) → n ≤ t → T t ≡ absent) (t : ℕ) (r : Bool) where
+  pub circular-is : t < n → (r ≡ true → Circular T t) × (r ≡ false → Circular T t → ⊥) → circular T n t ≡ r
+  circular-is h x = decides (circular T n t) r (circular-sound T n t) (circular-complete T n beyond t h) (x .0) (x .1)
+
+  pub sharing-is : (r ≡ true → Sharing T t) × (r ≡ false → Sharing T t → ⊥) → sharing T n t ≡ r
+  sharing-is x = decides (sharing T n t) r (sharing-sound T n t) (sharing-complete T n beyond t) (x .0) (x .1)

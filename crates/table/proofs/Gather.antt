@@ -10,13 +10,18 @@ use lib.ListN.{length, getD, set}
 use lib.Seq.{getD-set-same, getD-set-other}
 use borrow.Author.Tests.{eqb-true, eqb-false}
 use Rattle.octets.proofs.Tests.{test}
+use Rattle.octets.specs.Numbers.{Octets}
 use Rattle.table.specs.Syntax.{Table}
-use Rattle.table.specs.Rules.{below, tagsBelow}
-use Rattle.table.specs.Reading.{everyAt, recordAt, look}
-use Rattle.table.specs.Fields.{Spans}
-use Rattle.table.specs.declared.record.Span.{Span}
-use Rattle.table.specs.Walk.{like, free, at, under, Walks, done, seen, down, Met, Gathered}
+use Rattle.table.specs.Rules.{below}
+use Rattle.table.specs.Reading.{everyAt}
+use Rattle.table.specs.Walk.{like, free, at, under, Walks, done, seen, down, Met, Gathered, GatheredUnder, Gathers, Ready, Named}
+use Rattle.table.specs.Entries.{unpacked, untagged, counted, tableIn, countIn, Near, Filled}
+use Rattle.table.specs.declared.entry.Entry.{Entry}
+use Rattle.table.specs.declared.entry.Span.{Span}
 use Rattle.table.proofs.Loops.{every-step}
+use Rattle.table.proofs.Nodes.{like-low}
+use Rattle.table.proofs.Rules.{near-counted, entered-below, entry-at}
+use Rattle.table.proofs.Alike.{code-none}
 use Rattle.table.proofs.Walk.{walks-append, Kept, kept, newly, keeps, marked}
 
 -- no octet is left
@@ -50,21 +55,19 @@ met-before : {T : Table} {m : ℕ} {v ks w : List ℕ} (j : ℕ) → Kept T m v 
 met-before j (kept e) n = e
 met-before j (newly z e a i h) n = absurd (n e)
 
-pub met-under : (T : Table) (m : ℕ) (v : List ℕ) (k : ℕ) {w rest : List ℕ} {a : ℕ} → like T k < length v
-    → Going T m (set v (like T k) m) (below T k) w (a ∷ rest) → Met T m w a → Met T m v k
-met-under T m v k {w} {rest} {a} h x y =
-    let j = y .node in
-    let e = met-before {v = set v (like T k) m} j (keeps (x .walked) j) (y .other) in
-    test (eqb j (like T k))
-    (λ q. absurd (y .other (e ∙ rw (eqb-true j (like T k) q) (getD-set-same v (like T k) m 0 h))))
-    (λ n. let f = e ∙ getD-set-other v (like T k) j m 0 (eqb-false j (like T k) n) in
-    record { node = j; hit = under a (going-next _ _ w x) (y .hit); marked = λ z. y .marked (f ∙ z); other = λ z. y .other (f ∙ z) })
+met-midst : {T : Table} {m : ℕ} (v : List ℕ) {ks w rest : List ℕ} {a : ℕ} → Going T m v ks w rest → Met T m w a → Met T m v a
+met-midst v x y =
+    let e = met-before {v = v} (y .node) (keeps (x .walked) (y .node)) (y .other) in
+    record { node = y .node; hit = y .hit; marked = λ z. y .marked (e ∙ z); other = λ z. y .other (e ∙ z) }
 
--- the records under record k stand in the table where the code finds them
-pub below-span : (b os : List ℕ) (k o : ℕ) (s : Span) → o ≡ getD os k 65535 → Spans b s (tagsBelow (recordAt b o .tags) (recordAt b o .body))
-    → below (look b os) k ≡ everyAt (s .step) b (s .first) (s .count)
-unfolding look
-below-span b os k o s e x = rw (← e) (sym (x .is))
+-- and one that carries it under a record that was marked carried it before
+met-down : (T : Table) (m : ℕ) (v : List ℕ) (k : ℕ) {a : ℕ} → like T k < length v → In a (below T k) → Met T m (set v (like T k) m) a → Met T m v k
+met-down T m v k {a} h i y =
+    let j = y .node in
+    test (eqb j (like T k))
+    (λ q. absurd (y .other (rw (eqb-true j (like T k) q) (getD-set-same v (like T k) m 0 h))))
+    (λ n. let f = getD-set-other v (like T k) j m 0 (eqb-false j (like T k) n) in
+    record { node = j; hit = under a i (y .hit); marked = λ z. y .marked (f ∙ z); other = λ z. y .other (f ∙ z) })
 
 pub going-from : {T : Table} {m : ℕ} (v : List ℕ) {ks l : List ℕ} → ks ≡ l → Going T m v ks v l
 going-from v {ks} {l} e = record { past = []; whole = e; walked = done }
@@ -89,14 +92,60 @@ module _ (T : Table) (m : ℕ) (v : List ℕ) (k q : ℕ) (e : q ≡ like T k) w
   gathered-met n o =
       record { met = λ _. record { node = q; hit = at e; marked = n; other = o }; walked = λ z. absurd (true≢false z); fewer = omega arith }
 
-  pub gathered-under : {w u : List ℕ} {r : Bool} (step : ℕ) (b : List ℕ) (p n a : ℕ) → Going T m (set v q m) (below T k) w (everyAt step b p n) → 0 < n → a ≡ getD b p 0
-      → q < length v → Gathered T m w a r u → r ≡ true → free u ≤ free v → Gathered T m v k true u
-  gathered-under {w} {u} {r} step b p n a x h d l y f g =
-      let x′ = rw e at (next-is step b p n a x h d) in
-      record { met = λ _. met-under T m v k (rw e at l) x′ (y .met f); walked = λ z. absurd (true≢false z); fewer = g }
+  module _ (l : q < length v) (f : getD v q 0 ≡ 0) (g : m ≡ 0 → ⊥) where
+    -- with tags nothing stands below
+    pub gathered-alone : below T k ≡ [] → Gathered T m v k false (set v q m)
+    gathered-alone b =
+        record {
+          met = λ z. absurd (false≢true z);
+          walked = λ _. down {v = v} {u = set v q m} (rw e at l) (rw e at f) (rw (b, e) done) done;
+          fewer = omega (arith, marked v q m l f g);
+        }
 
-  pub gathered-down : {w : List ℕ} (step : ℕ) (b : List ℕ) (p n : ℕ) → Going T m (set v q m) (below T k) w (everyAt step b p n) → n ≤ 0 → q < length v → getD v q 0 ≡ 0
-      → free w ≤ free v → Gathered T m v k false w
-  gathered-down {w} step b p n x h l f g =
-      let x′ = rw (every-none step b p n h) at (rw e at x) in
-      record { met = λ z. absurd (false≢true z); walked = λ _. down (rw e at l) (rw e at f) (going-done x′) done; fewer = g }
+    pub gathered-under : {w : List ℕ} {r : Bool} → GatheredUnder T m (set v q m) k r w → Gathered T m v k r w
+    gathered-under {w} {r} x =
+        record {
+          met = λ z. let (a, i, y) = x .met z in met-down T m v k (rw e at l) i (rw e at y);
+          walked = λ z. down (rw e at l) (rw e at f) (rw e at (x .walked z)) done;
+          fewer = omega (arith, marked v q m l f g, x .fewer);
+        }
+
+-- the two ways out of `gather_under`
+module _ (T : Table) (m : ℕ) (v : List ℕ) (k : ℕ) {w : List ℕ} (b : List ℕ) (p n : ℕ) (x : Going T m v (below T k) w (everyAt 1 b p n)) where
+  pub under-met : {u : List ℕ} {r : Bool} (a : ℕ) → 0 < n → a ≡ getD b p 0 → free w ≤ free v → Gathered T m w a r u → r ≡ true → GatheredUnder T m v k true u
+  under-met {u} {r} a h d g y f =
+      record {
+        met = λ _. (a, next-in 1 b p n a x h d, met-midst v x (y .met f));
+        walked = λ z. absurd (true≢false z);
+        fewer = omega (arith, g, y .fewer);
+      }
+
+  pub under-done : n ≤ 0 → free w ≤ free v → GatheredUnder T m v k false w
+  under-done h g =
+      record { met = λ z. absurd (false≢true z); walked = λ _. going-done (rw (every-none 1 b p n h) at x); fewer = g }
+
+pub gathers-from : {b index nodes : List ℕ} {n : ℕ} → Filled b index n → Ready (tableIn b) n nodes → Named (tableIn b) n → {v : List ℕ} {t : ℕ}
+    → length v ≡ 128 → t < n → Gathers b index nodes v t
+gathers-from x r m l h =
+    record { filled = rw (x .count) at x; ready = rw (x .count) at r; named = rw (x .count) at m; marks = l; there = rw (x .count) at h }
+
+-- what a walk from t needs, in the code's hands
+module _ {b index nodes v : List ℕ} {t : ℕ} (x : Gathers b index nodes v t) where
+  pub stand-in : getD nodes t 0 ≡ like (tableIn b) t
+  stand-in = x .ready .right t (x .there)
+
+  pub stand-in-small : getD nodes t 0 < 128
+  stand-in-small = omega (arith, stand-in, like-low (tableIn b) t, x .there, x .filled .few)
+
+  pub gathers-at : {w : List ℕ} (a : ℕ) → length w ≡ 128 → a < countIn b → Gathers b index nodes w a
+  gathers-at a l h = record { filled = x .filled; ready = x .ready; named = x .named; marks = l; there = h }
+
+  module _ {e : Entry} (d : e ≡ unpacked (getD index t 0)) {s : Span} (q : s ≡ counted b (e .own) 1) (o : Octets b) where
+    pub alternatives-near : Near s
+    unfolding unpacked
+    alternatives-near = rw q (near-counted b (e .own) 1 o (rw d (omega arith)) (omega arith))
+
+    pub alternatives-below : unpacked (getD index t 0) .code ≡ untagged → below (tableIn b) t ≡ everyAt 1 b (s .first) (s .count)
+    alternatives-below c =
+        let y = entry-at (x .filled) t (x .there) d in
+        rw q (entered-below y (code-none o y (x .filled .shaped t (x .there)) (rw d c)) (x .named .tagged t (x .there)))

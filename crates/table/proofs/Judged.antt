@@ -40,8 +40,8 @@ named T n p q s d h m k =
     }
 
 module _ (T : Table) (n : ℕ) (x : Named T n) where
-  pub ready : (nodes : List ℕ) → n ≤ length nodes → ((t : ℕ) → t < n → getD nodes t 0 ≡ like T t) → Ready T n nodes
-  ready nodes h r = record { closed = below-there T n x; size = h; right = r }
+  pub ready : {nodes : List ℕ} → ((t : ℕ) → t < n → getD nodes t 0 ≡ like T t) → Ready T n nodes
+  ready r = record { closed = below-there T n x; right = r }
 
   pub straight : ((t : ℕ) → n ≤ t → T t ≡ absent) → (p : ℕ) → p ≡ lowest (circular T n) n → n ≤ p → Straight T n
   straight beyond p e h = record { named = x; ends = ends T n (below-there T n x) (none-has _ (circular T n) n p (circular-complete T n beyond) e h) }

@@ -21,6 +21,13 @@ mod Spelled
 mod Rounds
 mod Decided
 mod Fields
+mod Rules
+mod Alike
 mod Loops
 mod Filling
 mod Marks
+mod Packing
+mod Listed
+mod Entries
+mod Entering
+mod Ways

@@ -2,13 +2,14 @@
 -- Assumes nothing.
 use mathlib.Core.Bool.{Bool, true, false, not}
 use mathlib.Core.List.{List, [], _∷_}
-use mathlib.Core.Path.{_≡_, refl, sym}
+use mathlib.Core.Path.{_≡_, refl, sym, _∙_}
 use Prim.Native.Nat.{ℕ, zero, suc, _+_, _*_, _-_, _≤_, _<_}
 use native.Mathlib.Omega.{arith}
 use lib.ListN.{length, getD}
 use borrow.Author.Tests.{le-leb, lt-leb, eq-eqb, ne-eqb}
-use Rattle.octets.specs.Lists.{any, all}
+use Rattle.octets.specs.Lists.{any, all, lowestFrom, lowest}
 use Rattle.octets.specs.Numbers.{two}
+use Rattle.octets.proofs.Tests.{test}
 use Rattle.octets.proofs.Search.{any-here, any-next, all-here, all-next}
 use Rattle.table.specs.Syntax.{Body}
 use Rattle.table.specs.Octets.{rising}
@@ -98,3 +99,14 @@ pub getD-there : (l : List ℕ) (i d e : ℕ) → i < length l → getD l i d �
 getD-there [] i d e h = absurd (omega arith)
 getD-there (x ∷ l) zero d e h = refl
 getD-there (x ∷ l) (suc i) d e h = getD-there l i d e (omega arith)
+
+-- tests that agree below n have one lowest number there
+lowest-from : (f g : ℕ → Bool) (k n : ℕ) → ((i : ℕ) → k ≤ i → i < k + n → f i ≡ g i) → lowestFrom f k n ≡ lowestFrom g k n
+unfolding lowestFrom
+lowest-from f g k zero h = refl
+lowest-from f g k (suc n) h =
+    let q = h k (omega arith) (omega arith) in
+    test (g k) (λ e. rw (q ∙ e, e)) λ e. rw (q ∙ e, e) (lowest-from f g (suc k) n (λ i j l. h i (omega arith) (omega arith)))
+
+pub lowest-same : (f g : ℕ → Bool) (n : ℕ) → ((k : ℕ) → k < n → f k ≡ g k) → lowest f n ≡ lowest g n
+lowest-same f g n h = lowest-from f g 0 n (λ i _ l. h i (omega arith))

@@ -26,13 +26,13 @@ pub record Own (b : List ℕ) (k p e : ℕ) (x : Body) : Type 0 where
   pub more : p ≤ e
   pub within : e ≤ length b
 
-record Counted (size least most : ℕ) (b : List ℕ) (p : ℕ) : Type 0 where
-  low : least ≤ getD b p 0
-  high : getD b p 0 ≤ most
-  fits : p + 1 + size * getD b p 0 ≤ length b
-  end : countedEnd size least most b p ≡ p + 1 + size * getD b p 0
+pub record Counted (size least most : ℕ) (b : List ℕ) (p : ℕ) : Type 0 where
+  pub low : least ≤ getD b p 0
+  pub high : getD b p 0 ≤ most
+  pub fits : p + 1 + size * getD b p 0 ≤ length b
+  pub end : countedEnd size least most b p ≡ p + 1 + size * getD b p 0
 
-counted-back : (size least most : ℕ) (b : List ℕ) (p : ℕ) → (countedEnd size least most b p ≡ 0 → ⊥) → Counted size least most b p
+pub counted-back : (size least most : ℕ) (b : List ℕ) (p : ℕ) → (countedEnd size least most b p ≡ 0 → ⊥) → Counted size least most b p
 unfolding countedEnd
 counted-back size least most b p h =
     test (leb (length b) p) (λ e. absurd (h (rw e))) λ e₁.
@@ -96,7 +96,7 @@ plain-own b x k p l o n s = record { is = rw o; named = n; shaped = s; more = om
 abbrev OwnAt : List ℕ → ℕ → ℕ → Type 0
 OwnAt b p k = (ownEnd b k p ≡ 0 → ⊥) → Own b k p (ownEnd b k p) (bodyAt b k p)
 
-above-five : (k : ℕ) → eqb k 0 ≡ false → eqb k 1 ≡ false → eqb k 2 ≡ false → eqb k 3 ≡ false → eqb k 4 ≡ false → eqb k 5 ≡ false
+pub above-five : (k : ℕ) → eqb k 0 ≡ false → eqb k 1 ≡ false → eqb k 2 ≡ false → eqb k 3 ≡ false → eqb k 4 ≡ false → eqb k 5 ≡ false
     → leb k 5 ≡ false
 above-five k e₀ e₁ e₂ e₃ e₄ e₅ = lt-leb k 5 (omega (arith, eqb-false))
 

@@ -19,15 +19,15 @@ use Rattle.table.proofs.Pieces.{length-tags, tags-back, tags-only, clas
 use Rattle.table.proofs.Own.{Own, own-back, own-only}
 
 -- what the tests before the own part tell
-record Headed (b : List ℕ) (o : ℕ) : Type 0 where
-  first : getD b o 0 ≡ 0x54
-  second : getD b (o + 1) 0 ≡ 0x59
-  few : getD b (o + 3) 0 ≤ 4
-  fits : ownAt b o ≤ length b
-  classed : all (λ x. leb x 3) (everyAt 3 b (o + 4) (getD b (o + 3) 0)) ≡ true
-  end : recordEnd b o ≡ ownEnd b (getD b (o + 2) 0) (ownAt b o)
+pub record Headed (b : List ℕ) (o : ℕ) : Type 0 where
+  pub first : getD b o 0 ≡ 0x54
+  pub second : getD b (o + 1) 0 ≡ 0x59
+  pub few : getD b (o + 3) 0 ≤ 4
+  pub fits : ownAt b o ≤ length b
+  pub classed : all (λ x. leb x 3) (everyAt 3 b (o + 4) (getD b (o + 3) 0)) ≡ true
+  pub end : recordEnd b o ≡ ownEnd b (getD b (o + 2) 0) (ownAt b o)
 
-headed : (b : List ℕ) (o : ℕ) → (recordEnd b o ≡ 0 → ⊥) → Headed b o
+pub headed : (b : List ℕ) (o : ℕ) → (recordEnd b o ≡ 0 → ⊥) → Headed b o
 unfolding recordEnd
 headed b o h =
     test (leb (o + 4) (length b)) (λ e₁.

@@ -2,6 +2,7 @@
 -- Assumes nothing.
 use mathlib.Core.Bool.{Bool, true, false, not, true≢false, false≢true}
 use mathlib.Core.List.{List, [], _∷_, _++_, append-assoc, append-nil, List·Memᴰ as In, List·Memᴰ·head as first-of, List·Memᴰ·tail as later, List·Memᴰ·not-nil as not-in-nil, List·Memᴰ·eq-of-singleton as in-one, Memᴰ·append-right as in-right}
+use mathlib.Core.Logic.{_⊎_, inl, inr, ⊎-elim}
 use mathlib.Core.Path.{_≡_, refl, sym, ap, _∙_}
 use Prim.Native.Nat.{ℕ, zero, suc, _+_, _-_, _≤_, _<_}
 use native.Mathlib.Nat.{not-suc-le-zero, le-of-suc-le-suc}
@@ -10,21 +11,20 @@ use lib.Dec.{eqb, ltb, leb}
 use lib.ListN.{length, getD, length-append, length-map, List·getD-append}
 use lib.Seq.{getD-append-seam}
 use borrow.Author.Tests.{ltb-true, ltb-false, leb-true, eq-eqb}
+use Rattle.octets.specs.Lists.{any}
 use Rattle.octets.proofs.Tests.{test}
 use Rattle.octets.proofs.Lists.{both}
-use Rattle.table.specs.Syntax.{Tag, Table, Body, Plain, Sequence, Set, SequenceOf, SetOf, Choice, references}
+use Rattle.table.specs.Syntax.{Tag, Table, Body, Plain, Sequence, Set, SequenceOf, SetOf, Choice, Record, references, constructed}
 use Rattle.table.specs.Octets.{recordShaped, bodyShaped}
-use Rattle.table.specs.Rules.{below, tagsBelow, parts, Circular, Sharing}
-use Rattle.table.specs.Reading.{everyAt, recordAt, look}
-use Rattle.table.specs.Fields.{Spans}
-use Rattle.table.specs.declared.record.Span.{Span}
-use Rattle.table.specs.Walk.{like, Hits, Walks, Met, Gathered, Straight}
+use Rattle.table.specs.Rules.{below, tagsBelow, parts, Circular, First, Sharing}
+use Rattle.table.specs.Reading.{everyAt}
+use Rattle.table.specs.Decide.{circular, pair, sharing}
+use Rattle.table.specs.Walk.{like, Hits, Walks, Met, GatheredUnder, Straight}
 use Rattle.table.proofs.Nodes.{hits-reaches, reaches-hits, first-record, first-hits}
 use Rattle.table.proofs.Walk.{Kept, kept, newly, keeps, complete}
 use Rattle.table.proofs.Pieces.{length-every}
 use Rattle.table.proofs.Reading.{limits}
-use Rattle.table.proofs.Straight.{share-tag, parts-there}
-use Rattle.table.proofs.Gather.{Going, going-done, every-none}
+use Rattle.table.proofs.Straight.{share-tag}
 use Rattle.table.proofs.Loops.{every-step}
 
 abbrev pub Zero : List ℕ → Type 0
@@ -36,16 +36,8 @@ at-in (x ∷ l) zero h = first-of refl
 at-in (x ∷ l) (suc i) h = later (at-in l i (le-of-suc-le-suc h))
 
 -- with one mark alone, no other is met
-pub one-mark : {T : Table} {v ks w rest u : List ℕ} {a : ℕ} (r : Bool) → Zero v → Going T 1 v ks w rest → Gathered T 1 w a r u → r ≡ false
-one-mark {T} {v} {ks} {w} {rest} {u} {a} r z x y = by r refl
-  where
-    no : (e : Met T 1 w a) → Kept T 1 v (x .past) w (e .node) → ⊥
-    no e (kept p) = e .marked (p ∙ z (e .node))
-    no e (newly n p k i h) = e .other p
-
-    by : (s : Bool) → r ≡ s → r ≡ false
-    by false e = e
-    by true e = let m = y .met e in absurd (no m (keeps (x .walked) (m .node)))
+one-mark : {T : Table} {v w : List ℕ} {k : ℕ} (r : Bool) → Zero v → GatheredUnder T 1 v k r w → r ≡ false
+one-mark r z x = test r (λ e. let (a, i, y) = x .met e in absurd (y .marked (z (y .node)))) (λ e. e)
 
 -- a record that has something below it has no tags
 untagged : (gs : List Tag) (b : Body) (a : ℕ) → In a (tagsBelow gs b) → gs ≡ []
@@ -53,15 +45,13 @@ unfolding tagsBelow
 untagged [] b a i = refl
 untagged (g ∷ gs) b a i = absurd (not-in-nil i)
 
-pub no-circle : (T : Table) (t : ℕ) {l : List ℕ} → below T t ≡ l → l ≡ [] → (false ≡ true → Circular T t) × (false ≡ false → Circular T t → ⊥)
-no-circle T t e f = (λ z. absurd (false≢true z), λ _ c. not-in-nil (rw (e ∙ f) at (c .of)))
-
-pub circle-end : (T : Table) (t : ℕ) {v w : List ℕ} (step : ℕ) (b : List ℕ) (p n : ℕ) (r : Bool) → Zero v → Going T 1 v (below T t) w (everyAt step b p n) → n ≤ 0 → r ≡ not (eqb (getD w t 0) 0)
+-- whether a walk from the alternatives comes back to the record
+pub circle-end : (T : Table) (t : ℕ) {v w : List ℕ} {q : Bool} (r : Bool) → Zero v → GatheredUnder T 1 v t q w → r ≡ not (eqb (getD w t 0) 0)
     → (r ≡ true → Circular T t) × (r ≡ false → Circular T t → ⊥)
-circle-end T t {v} {w} step b p n r z x h e = (λ f. yes f (keeps y t), λ f c. none f c)
+circle-end T t {v} {w} {q} r z x e = (λ f. yes f (keeps y t), λ f c. none f c)
   where
     y : Walks T 1 v (below T t) w
-    y = going-done (rw (every-none step b p n h) at x)
+    y = x .walked (one-mark q z x)
 
     yes : r ≡ true → Kept T 1 v (below T t) w t → Circular T t
     yes f (kept q) = absurd (false≢true (sym (rw (eq-eqb (getD w t 0) 0 (q ∙ z t)) at e) ∙ f))
@@ -71,6 +61,11 @@ circle-end T t {v} {w} step b p n r z x h e = (λ f. yes f (keeps y t), λ f c. 
     none f c =
         let q = complete {m = 1} (λ o. omega arith) (λ j o. omega (arith, z j, o)) y (c .alternative) (c .of) (reaches-hits T (untagged (T t .tags) (T t .body) (c .alternative) (c .of)) (c .back)) in
         true≢false (sym (rw q at e) ∙ f)
+
+-- a record with tags is in no circle
+pub no-circle : (T : Table) (n t : ℕ) → below T t ≡ [] → circular T n t ≡ false
+unfolding circular any
+no-circle T n t e = rw e
 
 -- the members so far, each node that one of them hits marked with its place, counted from 1; m is the next mark, and the rest is still to come
 pub record Owned (T : Table) (ps w : List ℕ) (m : ℕ) (rest : List ℕ) : Type 0 where
@@ -120,38 +115,89 @@ module _ (T : Table) (m : ℕ) (ps w u rest : List ℕ) (a : ℕ) (x : Owned T p
     owned-turn =
         record { past = x .past ++ (a ∷ []); mark = omega (arith, e, size); whole = x .whole ∙ sym (append-assoc (x .past) (a ∷ []) rest); own = own-next; from = from-next }
 
-module _ (T : Table) (n t : ℕ) (c : Straight T n) (there : (s a : ℕ) → s < n → In a (below T s) → a < n) (h : t < n) where
+-- two of the records ps have a first tag in common
+pub record Pairing (T : Table) (ps : List ℕ) : Type 0 where
+  pub i : ℕ
+  pub j : ℕ
+  pub apart : i < j
+  pub within : j < length ps
+  pub tag : Tag
+  pub first : First T tag (getD ps i 0)
+  pub second : First T tag (getD ps j 0)
+
+module _ (T : Table) (n : ℕ) (c : Straight T n) (there : (s a : ℕ) → s < n → In a (below T s) → a < n) (ps : List ℕ) (named : (a : ℕ) → In a ps → a < n) where
   -- a node that two members hit
-  pub owned-met : (m : ℕ) (w : List ℕ) {rest : List ℕ} {a : ℕ} → Owned T (parts (T t .body)) w m (a ∷ rest) → Met T m w a → Sharing T t
+  pub owned-met : (m : ℕ) (w : List ℕ) {rest : List ℕ} {a : ℕ} → Owned T ps w m (a ∷ rest) → Met T m w a → Pairing T ps
   owned-met m w {rest} {a} x y = by (x .from (y .node) (y .marked))
     where
-      ps : List ℕ
-      ps = parts (T t .body)
-
       here : getD ps (length (x .past)) 0 ≡ a
       here = rw (x .whole) (getD-append-seam (x .past) a rest 0)
 
       inside : length (x .past) < length ps
       inside = rw (x .whole) (omega (arith, length-append (x .past) (a ∷ rest)))
 
-      by : ((i : ℕ) × (i < length (x .past)) × (getD w (y .node) 0 ≡ suc i) × Hits T (y .node) (getD (x .past) i 0)) → Sharing T t
+      by : ((i : ℕ) × (i < length (x .past)) × (getD w (y .node) 0 ≡ suc i) × Hits T (y .node) (getD (x .past) i 0)) → Pairing T ps
       by (i, l, f, g) =
           let same : getD ps i 0 ≡ getD (x .past) i 0 = rw (x .whole) (List·getD-append (x .past) (a ∷ rest) 0 i l) in
           let k : i < length ps = omega (arith, l, inside) in
           let (tag, p, q) = share-tag T n c there (y .node) (getD ps i 0) (getD ps (length (x .past)) 0)
-          (parts-there T n (c .named) t (getD ps i 0) h (at-in ps i k)) (parts-there T n (c .named) t (getD ps (length (x .past)) 0) h (at-in ps (length (x .past)) inside))
+          (named (getD ps i 0) (at-in ps i k)) (named (getD ps (length (x .past)) 0) (at-in ps (length (x .past)) inside))
           (rw same g) (rw here (y .hit)) in
           record { i = i; j = length (x .past); apart = l; within = inside; tag = tag; first = p; second = q }
 
-  -- no two members share a first tag
-  pub owned-end : (m : ℕ) (w : List ℕ) → Owned T (parts (T t .body)) w m [] → Sharing T t → ⊥
-  owned-end m w x y =
-      let (u, gs, f) = first-record T (y .first) in
-      let p : x .past ≡ parts (T t .body) = sym (x .whole ∙ append-nil (x .past)) in
-      let k : y .j < length (x .past) = rw p (y .within) in
-      let a = x .own (y .i) (like T u) (omega (arith, y .apart, k)) (rw p (first-hits T u (y .tag) gs f (y .first))) in
-      let b = x .own (y .j) (like T u) k (rw p (first-hits T u (y .tag) gs f (y .second))) in
-      omega (arith, a, b, y .apart)
+-- no two members share a first tag
+pub owned-end : (T : Table) (ps : List ℕ) (m : ℕ) (w : List ℕ) → Owned T ps w m [] → Pairing T ps → ⊥
+owned-end T ps m w x y =
+    let (u, gs, f) = first-record T (y .first) in
+    let p : x .past ≡ ps = sym (x .whole ∙ append-nil (x .past)) in
+    let k : y .j < length (x .past) = rw p (y .within) in
+    let a = x .own (y .i) (like T u) (omega (arith, y .apart, k)) (rw p (first-hits T u (y .tag) gs f (y .first))) in
+    let b = x .own (y .j) (like T u) k (rw p (first-hits T u (y .tag) gs f (y .second))) in
+    omega (arith, a, b, y .apart)
+
+-- what a body names is its parts, or one type of elements
+parts-or-one : (y : Body) → (parts y ≡ references y) ⊎ ((parts y ≡ []) × (length (references y) ≤ 1))
+unfolding parts references
+parts-or-one (Plain k) = inl refl
+parts-or-one (Sequence ms) = inl refl
+parts-or-one (Set ms) = inl refl
+parts-or-one (SequenceOf t) = inr (refl, omega arith)
+parts-or-one (SetOf t) = inr (refl, omega arith)
+parts-or-one (Choice ts) = inl refl
+
+pairing-parts : {T : Table} (ps qs : List ℕ) → ps ≡ qs → Pairing T ps → Pairing T qs
+pairing-parts ps qs e x = rw e at x
+
+sharing-pairs : {T : Table} {t : ℕ} → Sharing T t → Pairing T (parts (T t .body))
+sharing-pairs x = record { i = x .i; j = x .j; apart = x .apart; within = x .within; tag = x .tag; first = x .first; second = x .second }
+
+pub pairing-shares : (T : Table) (t : ℕ) → Pairing T (references (T t .body)) → Sharing T t
+pairing-shares T t x =
+    ⊎-elim
+    (λ e. let y = pairing-parts (references (T t .body)) (parts (T t .body)) (sym e) x in
+    record { i = y .i; j = y .j; apart = y .apart; within = y .within; tag = y .tag; first = y .first; second = y .second })
+    (λ e. absurd (omega (arith, x .apart, x .within, e .1)))
+    (parts-or-one (T t .body))
+
+pub sharing-names : (T : Table) (t : ℕ) → Sharing T t → Pairing T (references (T t .body))
+sharing-names T t x =
+    ⊎-elim
+    (λ e. pairing-parts (parts (T t .body)) (references (T t .body)) e (sharing-pairs x))
+    (λ e. absurd (omega (arith, x .within, ap length (e .0))))
+    (parts-or-one (T t .body))
+
+-- a simple kind has no parts
+pub no-sharing : (T : Table) (n t : ℕ) → constructed (T t .body) ≡ false → sharing T n t ≡ false
+unfolding sharing pair parts constructed
+no-sharing T n t e = by (T t .body) refl
+  where
+    by : (y : Body) → T t .body ≡ y → sharing T n t ≡ false
+    by (Plain k) q = rw q
+    by (Sequence ms) q = absurd (true≢false (rw q at e))
+    by (Set ms) q = absurd (true≢false (rw q at e))
+    by (SequenceOf u) q = absurd (true≢false (rw q at e))
+    by (SetOf u) q = absurd (true≢false (rw q at e))
+    by (Choice ts) q = absurd (true≢false (rw q at e))
 
 -- the next member, read from the table
 pub owned-next : {T : Table} {m : ℕ} {ps w : List ℕ} (step : ℕ) (b : List ℕ) (p n a : ℕ) → Owned T ps w m (everyAt step b p n) → 0 < n → a ≡ getD b p 0
@@ -161,21 +207,15 @@ owned-next step b p n a x h e = rw e (rw (every-step b p n h step) at x)
 pub owned-in : {T : Table} {m a : ℕ} {ps w rest : List ℕ} → Owned T ps w m (a ∷ rest) → In a ps
 owned-in x = rw (x .whole) (in-right (x .past) (first-of refl))
 
-pub parts-span : (b os : List ℕ) (t o : ℕ) (s : Span) → o ≡ getD os t 65535 → Spans b s (parts (recordAt b o .body))
-    → parts (look b os t .body) ≡ everyAt (s .step) b (s .first) (s .count)
-unfolding look
-parts-span b os t o s e x = rw (← e) (sym (x .is))
+-- a well-formed record names at most 16 others
+few-named : (b : Body) → bodyShaped b ≡ true → length (references b) ≤ 16
+unfolding bodyShaped references
+few-named (Plain k) e = omega arith
+few-named (Sequence ms) e = rw length-map (leb-true (length ms) 16 e)
+few-named (Set ms) e = rw length-map (leb-true (length ms) 16 e)
+few-named (SequenceOf t) e = omega arith
+few-named (SetOf t) e = omega arith
+few-named (Choice ts) e = leb-true (length ts) 16 (both (leb 1 (length ts)) (leb (length ts) 16) e .1)
 
--- a well-formed record has at most 16 members
-few-parts : (b : Body) → bodyShaped b ≡ true → length (parts b) ≤ 16
-unfolding parts bodyShaped references
-few-parts (Plain k) e = omega arith
-few-parts (Sequence ms) e = rw length-map (leb-true (length ms) 16 e)
-few-parts (Set ms) e = rw length-map (leb-true (length ms) 16 e)
-few-parts (SequenceOf t) e = omega arith
-few-parts (SetOf t) e = omega arith
-few-parts (Choice ts) e = leb-true (length ts) 16 (both (leb 1 (length ts)) (leb (length ts) 16) e .1)
-
-pub parts-few : (b os : List ℕ) (t o : ℕ) (s : Span) → o ≡ getD os t 65535 → Spans b s (parts (recordAt b o .body)) → recordShaped (look b os t) ≡ true → s .count ≤ 16
-parts-few b os t o s e x f =
-    omega (arith, few-parts (look b os t .body) (limits (look b os t) f .shaped), ap length (parts-span b os t o s e x), length-every (s .step) b (s .first) (s .count))
+pub named-few : (r : Record) (step : ℕ) (b : List ℕ) (p n : ℕ) → recordShaped r ≡ true → everyAt step b p n ≡ references (r .body) → n ≤ 16
+named-few r step b p n s e = omega (arith, few-named (r .body) (limits r s .shaped), ap length e, length-every step b p n)

@@ -124,7 +124,7 @@ module _ (T : Table) (n : ℕ) (x : Straight T n) (there : (t a : ℕ) → t < n
               let (g, f) = first-within n u (reached-there hi r) (x .ends u (reached-there hi r)) in
               (g, reaches-first T f r, reaches-first T f (hits-reaches T d (rw same at b)))
 
--- what a record's alternatives and members are: records that it names
+-- a record's alternatives are records that it names
 below-named : (gs : List Tag) (b : Body) (a : ℕ) → In a (tagsBelow gs b) → In a (references b)
 unfolding tagsBelow bodyBelow references
 below-named [] (Plain k) a i = i
@@ -135,21 +135,9 @@ below-named [] (SetOf t) a i = absurd (not-in-nil i)
 below-named [] (Choice ts) a i = i
 below-named (g ∷ gs) b a i = absurd (not-in-nil i)
 
-parts-named : (b : Body) (a : ℕ) → In a (parts b) → In a (references b)
-unfolding parts references
-parts-named (Plain k) a i = i
-parts-named (Sequence ms) a i = i
-parts-named (Set ms) a i = i
-parts-named (SequenceOf t) a i = absurd (not-in-nil i)
-parts-named (SetOf t) a i = absurd (not-in-nil i)
-parts-named (Choice ts) a i = i
-
 module _ (T : Table) (n : ℕ) (x : Named T n) where
-  named-there : (t a : ℕ) → t < n → In a (references (T t .body)) → a < n
+  pub named-there : (t a : ℕ) → t < n → In a (references (T t .body)) → a < n
   named-there t a h i = test (leb n a) (λ e. absurd (x .there t h (record { number = a; named = i; beyond = leb-true n a e }))) λ e. leb-false n a e
 
   pub below-there : (t a : ℕ) → t < n → In a (below T t) → a < n
   below-there t a h i = named-there t a h (below-named (T t .tags) (T t .body) a i)
-
-  pub parts-there : (t a : ℕ) → t < n → In a (parts (T t .body)) → a < n
-  parts-there t a h i = named-there t a h (parts-named (T t .body) a i)

@@ -9,6 +9,7 @@ pub mod Verdict
 pub mod Cause
 pub mod Passes
 pub mod Fields
+pub mod Entries
 pub mod Index
 pub mod Walk
 pub mod Marks

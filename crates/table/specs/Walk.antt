@@ -4,14 +4,17 @@
 use mathlib.Core.Bool.{Bool, true, false}
 use mathlib.Core.List.{List, [], _∷_, List·Memᴰ as In}
 use mathlib.Core.Path.{_≡_}
-use Prim.Native.Nat.{ℕ, zero, suc, _+_, _≤_, _<_}
+use Prim.Native.Nat.{ℕ, zero, suc, _+_, _-_, _*_, _/_, _%_, _≤_, _<_}
+use lib.Dec.{eqb}
 use lib.ListN.{length, getD, set}
+use Rattle.octets.specs.Tests.{if}
 use Rattle.octets.specs.Lists.{lowest}
 use Rattle.table.specs.Syntax.{Tag, Table}
 use Rattle.table.specs.Octets.{recordShaped}
 use Rattle.table.specs.Rules.{below, Dangling, Mistagged}
 use Rattle.table.specs.Decide.{begins}
 use Rattle.table.specs.Passes.{Nested}
+use Rattle.table.specs.Entries.{unpacked, untagged, tableIn, countIn, Filled}
 
 unfoldable pub sameOutermost : List Tag → List Tag → Bool
 sameOutermost [] hs = false
@@ -21,10 +24,19 @@ sameOutermost (g ∷ gs) hs = begins g hs
 unfoldable pub like : Table → ℕ → ℕ
 like T t = lowest (λ u. sameOutermost (T u .tags) (T t .tags)) t
 
+-- the first tag of a code: all but the bit that says constructed
+abbrev pub tagOf : ℕ → ℕ
+tagOf c = c - c / 32 % 2 * 32
+
+-- the same by the index
+unfoldable pub likeIn : List ℕ → ℕ → ℕ
+likeIn index t =
+    if (eqb (tagOf (unpacked (getD index t 0) .code)) untagged) t λ _.
+    lowest (λ u. eqb (tagOf (unpacked (getD index u 0) .code)) (tagOf (unpacked (getD index t 0) .code))) t
+
 -- every alternative is there, and `nodes` has what stands for each record
 pub record Ready (T : Table) (n : ℕ) (nodes : List ℕ) : Type 0 where
   pub closed : (t a : ℕ) → t < n → In a (below T t) → a < n
-  pub size : n ≤ length nodes
   pub right : (t : ℕ) → t < n → getD nodes t 0 ≡ like T t
 
 -- what the verdict has found before it judges circles
@@ -70,3 +82,17 @@ pub record Gathered (T : Table) (m : ℕ) (v : List ℕ) (k : ℕ) (r : Bool) (w
   pub met : r ≡ true → Met T m v k
   pub walked : r ≡ false → Walks T m v (k ∷ []) w
   pub fewer : free w ≤ free v
+
+-- the same of a walk from the alternatives of a CHOICE without tags k
+pub record GatheredUnder (T : Table) (m : ℕ) (v : List ℕ) (k : ℕ) (r : Bool) (w : List ℕ) : Type 0 where
+  pub met : r ≡ true → (a : ℕ) × In a (below T k) × Met T m v a
+  pub walked : r ≡ false → Walks T m v (below T k) w
+  pub fewer : free w ≤ free v
+
+-- what a walk from t needs: the index, what stands for each record, and marks
+pub record Gathers (b index nodes flags : List ℕ) (t : ℕ) : Type 0 where
+  pub filled : Filled b index (countIn b)
+  pub ready : Ready (tableIn b) (countIn b) nodes
+  pub named : Named (tableIn b) (countIn b)
+  pub marks : length flags ≡ 128
+  pub there : t < countIn b

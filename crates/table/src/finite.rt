@@ -1,36 +1,44 @@
 // 6: a record with no finite value (FORMATS, "Tables" and "Refusals").
 ghost use mathlib.Core.Path.{_≡_};
-ghost use mathlib.Core.Bool.{_||_};
-ghost use Prim.Native.Nat.{_≤_, _<_};
+ghost use mathlib.Core.Bool.{not, _||_};
+ghost use Prim.Native.Nat.{_≤_, _<_, _+_};
 ghost use lib.ListN.{length};
 ghost use Rattle.octets.specs.Lists.{any, all, lowest};
-ghost use Rattle.table.specs.Reading.{membersAt, everyAt, recordAt, look};
+ghost use Rattle.table.specs.Syntax.{Record};
+ghost use Rattle.table.specs.Reading.{membersAt, everyAt};
 ghost use Rattle.table.specs.Decide.{finiteBody, infinite};
-ghost use Rattle.table.specs.Marks.{isMarked, Raised, Closed, Looked};
-use crate::kind::Form;
-use crate::record::kind;
-use crate::record::offset;
-use crate::record::own;
+ghost use Rattle.table.specs.Marks.{isMarked, Looked};
+ghost use Rattle.table.specs.Entries.{Near, tableIn, Entered, Filled};
+use crate::entry::Entry;
+use crate::entry::Span;
+use crate::entry::alternatives;
+use crate::entry::optional;
+use crate::entry::parts;
+use crate::entry::unpack;
+use crate::kind::CHOICE;
+use crate::kind::has_members;
 use octets::octet;
 
-fn marked(flags: &[u8], t: usize) -> bool
+// Whether record t is marked; a number that is not there is not.
+fn marked(flags: &[u8; 128], t: usize) -> bool
+    requires { ⌜ length (now flags) ≡ 128 ⌝ }
     ensures { λ r. ⌜ r ≡ isMarked (now (flags .entry)) t ⌝ }
 {
-    if t < flags.len() {
+    if t < 128 {
         return flags[t] != 0;
     }
     false
 }
 
-// Whether each of n members from p on is optional or marked.
-fn members(table: &[u8], flags: &[u8], p: usize, n: usize) -> bool
-    requires { ⌜ (p < 90000) × (n < 256) ⌝ }
-    ensures { λ r. ⌜ r ≡ all (λ m. m .optional || isMarked (now (flags .entry)) (m .type)) (membersAt (now (table .entry)) p n) ⌝ }
+// Whether each member is optional or marked.
+fn each_marked(table: &[u8], flags: &[u8; 128], s: Span) -> bool
+    requires { ⌜ Near s × (length (now flags) ≡ 128) ⌝ }
+    ensures { λ r. ⌜ r ≡ all (λ m. m .optional || isMarked (now (flags .entry)) (m .type)) (membersAt (now (table .entry)) (s .first) (s .count)) ⌝ }
 {
-    let mut at = p;
-    let mut left = n;
+    let mut at = s.first;
+    let mut left = s.count;
     while 0 < left {
-        if octet(table, at + 1) != 1 {
+        if !optional(table, at) {
             if !marked(flags, octet(table, at)) {
                 return false;
             }
@@ -41,13 +49,13 @@ fn members(table: &[u8], flags: &[u8], p: usize, n: usize) -> bool
     true
 }
 
-// Whether one of n alternatives from p on is marked.
-fn alternatives(table: &[u8], flags: &[u8], p: usize, n: usize) -> bool
-    requires { ⌜ (p < 90000) × (n < 256) ⌝ }
-    ensures { λ r. ⌜ r ≡ any (isMarked (now (flags .entry))) (everyAt 1 (now (table .entry)) p n) ⌝ }
+// Whether one of the alternatives is marked.
+fn one_marked(table: &[u8], flags: &[u8; 128], s: Span) -> bool
+    requires { ⌜ Near s × (length (now flags) ≡ 128) ⌝ }
+    ensures { λ r. ⌜ r ≡ any (isMarked (now (flags .entry))) (everyAt 1 (now (table .entry)) (s .first) (s .count)) ⌝ }
 {
-    let mut at = p;
-    let mut left = n;
+    let mut at = s.first;
+    let mut left = s.count;
     while 0 < left {
         if marked(flags, octet(table, at)) {
             return true;
@@ -58,72 +66,48 @@ fn alternatives(table: &[u8], flags: &[u8], p: usize, n: usize) -> bool
     false
 }
 
-// Whether the record at o has a finite value, if the marked ones have.
-fn found(table: &[u8], flags: &[u8], o: u16) -> bool
-    ensures { λ r. ⌜ r ≡ finiteBody (isMarked (now (flags .entry))) (recordAt (now (table .entry)) o .body) ⌝ }
+// Whether a record has a finite value, if the marked ones have.
+fn found(table: &[u8], flags: &[u8; 128], e: Entry) -> bool
+    requires { ⌜ length (now flags) ≡ 128 ⌝ }
+    ensures { λ r. ⌜ ((x : Record) → Entered (now (table .entry)) e x → r ≡ finiteBody (isMarked (now (flags .entry))) (x .body)) ⌝ }
 {
-    let p = own(table, o);
-    match crate::kind::form_of(kind(table, o)) {
-        Form::Simple => true,
-        Form::Members => members(table, flags, p + 1, octet(table, p)),
-        Form::Of => true,
-        Form::Choice => alternatives(table, flags, p + 1, octet(table, p)),
+    if e.simple {
+        return true;
     }
-}
-
-// Marks record t if it is found; true if it was.
-fn mark_one(table: &[u8], offsets: &[u16], flags: &mut [u8], t: usize) -> bool
-    requires { ⌜ (t < length (now offsets)) × (length (now flags) ≡ length (now offsets)) ⌝ }
-    ensures { λ r. ⌜ Looked (look (now (table .entry)) (now (offsets .entry))) (λ u. u ≡ t) (now (flags .entry)) r (now (flags .exit)) ⌝ }
-{
-    if flags[t] != 0 {
-        return false;
+    if has_members(e.kind) {
+        return each_marked(table, flags, parts(table, e));
     }
-    let o = offset(offsets, t);
-    if !found(table, flags, o) {
-        return false;
+    if e.kind == CHOICE {
+        return one_marked(table, flags, alternatives(table, e));
     }
-    flags[t] = 1;
     true
 }
 
-// Marks what is found of all records in turn; true if any was.
-fn round(table: &[u8], offsets: &[u16], flags: &mut [u8]) -> bool
-    requires { ⌜ length (now flags) ≡ length (now offsets) ⌝ }
-    ensures { λ r. ⌜ Looked (look (now (table .entry)) (now (offsets .entry))) (λ u. u < length (now (offsets .entry))) (now (flags .entry)) r (now (flags .exit)) ⌝ }
+// Marks what is found of the n records, the last first; true if any was.
+fn round(table: &[u8], index: &[u64; 128], flags: &mut [u8; 128], n: usize) -> bool
+    requires { ⌜ Filled (now table) (now index) n × (length (now flags) ≡ 128) ⌝ }
+    ensures { λ r. ⌜ Looked (tableIn (now (table .entry))) (λ u. u < n) (now (flags .entry)) r (now (flags .exit)) ⌝ }
 {
-    let n = offsets.len();
     let mut more = false;
-    let mut t = 0;
-    while t < n {
-        if mark_one(table, offsets, flags, t) {
-            more = true;
+    let mut t = n;
+    while 0 < t {
+        t -= 1;
+        if flags[t] == 0 {
+            let e = unpack(index[t]);
+            if found(table, flags, e) {
+                flags[t] = 1;
+                more = true;
+            }
         }
-        t += 1;
     }
     more
 }
 
-// Marks the records that have a finite value.
-fn mark(table: &[u8], offsets: &[u16], flags: &mut [u8])
-    requires { ⌜ length (now flags) ≡ length (now offsets) ⌝ }
-    ensures { λ _. ⌜ (Raised (look (now (table .entry)) (now (offsets .entry))) (now (flags .entry)) (now (flags .exit))) × (Closed (look (now (table .entry)) (now (offsets .entry))) (length (now (offsets .entry))) (now (flags .exit))) ⌝ }
+// The lowest of n records without a mark; n if each has one.
+fn lowest_without(flags: &[u8; 128], n: usize) -> usize
+    requires { ⌜ (length (now flags) ≡ 128) × (n ≤ 128) ⌝ }
+    ensures { λ r. ⌜ r ≡ lowest (λ t. not (isMarked (now (flags .entry)) t)) n ⌝ }
 {
-    loop {
-        if !round(table, offsets, flags) {
-            return;
-        }
-    }
-}
-
-// The lowest record that has none; the count of records if each has.
-pub(crate) fn lowest(table: &[u8], offsets: &[u16]) -> usize
-    requires { ⌜ (length (now offsets) ≤ 128) × (length (now table) ≤ 8192) ⌝ }
-    ensures { λ r. ⌜ r ≡ lowest (infinite (look (now (table .entry)) (now (offsets .entry))) (length (now (offsets .entry)))) (length (now (offsets .entry))) ⌝ }
-{
-    let n = offsets.len();
-    let mut flags = [0u8; 128];
-    mark(table, offsets, &mut flags[..n]);
     let mut t = 0;
     while t < n {
         if flags[t] == 0 {
@@ -132,4 +116,22 @@ pub(crate) fn lowest(table: &[u8], offsets: &[u16]) -> usize
         t += 1;
     }
     n
+}
+
+// The lowest of n records that has none; n if each has.
+pub(crate) fn lowest(table: &[u8], index: &[u64; 128], n: usize) -> usize
+    requires { ⌜ Filled (now table) (now index) n ⌝ }
+    ensures { λ r. ⌜ r ≡ lowest (infinite (tableIn (now (table .entry))) n) n ⌝ }
+{
+    let mut flags = [0u8; 128];
+    loop {
+        let more = round(table, index, &mut flags, n);
+        let t = lowest_without(&flags, n);
+        if t == n {
+            return n;
+        }
+        if !more {
+            return t;
+        }
+    }
 }

@@ -2,46 +2,39 @@
 ghost use mathlib.Core.Path.{_≡_};
 ghost use mathlib.Core.Bool.{true, false};
 ghost use Prim.Native.Nat.{ℕ, _≤_, _<_};
-ghost use lib.ListN.{length, getD};
+ghost use lib.ListN.{length, getD, replicate};
 ghost use Rattle.octets.specs.Lists.{lowest};
 ghost use Rattle.table.specs.Rules.{Circular, Sharing};
-ghost use Rattle.table.specs.Reading.{recordAt, look};
 ghost use Rattle.table.specs.Decide.{circular, sharing};
-ghost use Rattle.table.specs.Walk.{sameOutermost, like, Ready, Straight, Gathered};
-use crate::record::below;
-use crate::record::offset;
-use crate::record::parts;
-use crate::record::tag_count;
-use octets::number;
+ghost use Rattle.table.specs.Walk.{like, likeIn, tagOf, Ready, Named, Straight, Gathers, Gathered, GatheredUnder};
+ghost use Rattle.table.specs.Entries.{unpacked, untagged, tableIn, countIn, Filled};
+use crate::entry::UNTAGGED;
+use crate::entry::alternatives;
+use crate::entry::first;
+use crate::entry::parts;
+use crate::entry::unpack;
 use octets::octet;
 
-// Whether the records at o and at p have the same outermost tag.
-fn same_outermost(table: &[u8], o: u16, p: u16) -> bool
-    ensures { λ r. ⌜ r ≡ sameOutermost (recordAt (now (table .entry)) o .tags) (recordAt (now (table .entry)) p .tags) ⌝ }
+// The first tag of an entry: its code but for the bit that says constructed.
+fn first_tag(w: u64) -> u32
+    ensures { λ r. ⌜ r ≡ tagOf (unpacked w .code) ⌝ }
 {
-    if tag_count(table, o) == 0 {
-        return false;
-    }
-    if tag_count(table, p) == 0 {
-        return false;
-    }
-    let at = o as usize + 4;
-    let other = p as usize + 4;
-    if octet(table, at) != octet(table, other) {
-        return false;
-    }
-    number(table, at + 1) == number(table, other + 1)
+    let c = first(w);
+    c - c / 32 % 2 * 32
 }
 
-// The lowest record with the outermost tag of record t; t itself, if that has no tags.
-fn lowest_like(table: &[u8], offsets: &[u16], t: usize) -> usize
-    ensures { λ r. ⌜ (r ≡ like (look (now (table .entry)) (now (offsets .entry))) t) × (r ≤ t) ⌝ }
+// The lowest record with the first tag of record t; t itself, if that is a CHOICE without tags.
+fn lowest_like(index: &[u64; 128], t: usize) -> usize
+    requires { ⌜ t < 128 ⌝ }
+    ensures { λ r. ⌜ r ≡ likeIn (now (index .entry)) t ⌝ }
 {
-    let o = offset(offsets, t);
+    let tag = first_tag(index[t]);
+    if tag == UNTAGGED {
+        return t;
+    }
     let mut u = 0;
     while u < t {
-        let p = offset(offsets, u);
-        if same_outermost(table, p, o) {
+        if first_tag(index[u]) == tag {
             return u;
         }
         u += 1;
@@ -49,25 +42,31 @@ fn lowest_like(table: &[u8], offsets: &[u16], t: usize) -> usize
     t
 }
 
-// Writes for each record the one that stands for its outermost tag.
-pub(crate) fn stand_ins(table: &[u8], offsets: &[u16], nodes: &mut [u8])
-    requires { ⌜ (length (now offsets) ≤ length (now nodes)) × (length (now offsets) ≤ 128) ⌝ }
-    ensures { λ _. ⌜ ((t : ℕ) → t < length (now (offsets .entry)) → getD (now (nodes .exit)) t 0 ≡ like (look (now (table .entry)) (now (offsets .entry))) t) ⌝ }
+// Writes for each of n records the one that stands for its first tag.
+pub(crate) fn stand_ins(table: &[u8], index: &[u64; 128], n: usize, nodes: &mut [u8; 128])
+    requires { ⌜ Filled (now table) (now index) n × (length (now nodes) ≡ 128) ⌝ }
+    ensures { λ _. ⌜ ((t : ℕ) → t < n → getD (now (nodes .exit)) t 0 ≡ like (tableIn (now (table .entry))) t) ⌝ }
 {
-    let n = offsets.len();
     let mut t = 0;
     while t < n {
-        nodes[t] = lowest_like(table, offsets, t) as u8;
+        nodes[t] = lowest_like(index, t) as u8;
         t += 1;
     }
 }
 
-// Marks what stands for record k, and for the records under it through CHOICEs without tags. True if another mark was met.
-fn gather(table: &[u8], offsets: &[u16], nodes: &[u8], flags: &mut [u8], k: usize, mark: u8) -> bool
-    requires { ⌜ Ready (look (now table) (now offsets)) (length (now offsets)) (now nodes) × (length (now offsets) ≤ length (now flags)) × (k < length (now offsets)) ⌝ }
-    ensures { λ r. ⌜ Gathered (look (now (table .entry)) (now (offsets .entry))) mark (now (flags .entry)) k r (now (flags .exit)) ⌝ }
+// Marks what stands for record t, and for the records under it through CHOICEs without tags. True if another mark was met.
+fn gather(
+    table: &[u8],
+    index: &[u64; 128],
+    nodes: &[u8; 128],
+    flags: &mut [u8; 128],
+    t: usize,
+    mark: u8,
+) -> bool
+    requires { ⌜ Gathers (now table) (now index) (now nodes) (now flags) t ⌝ }
+    ensures { λ r. ⌜ Gathered (tableIn (now (table .entry))) mark (now (flags .entry)) t r (now (flags .exit)) ⌝ }
 {
-    let q = nodes[k] as usize;
+    let q = nodes[t] as usize;
     let f = flags[q];
     if f == mark {
         return false;
@@ -76,95 +75,104 @@ fn gather(table: &[u8], offsets: &[u16], nodes: &[u8], flags: &mut [u8], k: usiz
         return true;
     }
     flags[q] = mark;
-    let o = offset(offsets, k);
-    let s = below(table, o);
+    if first(index[t]) != UNTAGGED {
+        return false;
+    }
+    gather_under(table, index, nodes, flags, t, mark)
+}
+
+// The same for the alternatives of the CHOICE without tags t.
+fn gather_under(
+    table: &[u8],
+    index: &[u64; 128],
+    nodes: &[u8; 128],
+    flags: &mut [u8; 128],
+    t: usize,
+    mark: u8,
+) -> bool
+    requires { ⌜ Gathers (now table) (now index) (now nodes) (now flags) t × (unpacked (getD (now index) t 0) .code ≡ untagged) ⌝ }
+    ensures { λ r. ⌜ GatheredUnder (tableIn (now (table .entry))) mark (now (flags .entry)) t r (now (flags .exit)) ⌝ }
+{
+    let s = alternatives(table, unpack(index[t]));
     let mut at = s.first;
     let mut left = s.count;
-    let step = s.step;
     while 0 < left {
         let a = octet(table, at);
-        if gather(table, offsets, nodes, flags, a, mark) {
+        if gather(table, index, nodes, flags, a, mark) {
             return true;
         }
-        at += step;
+        at += 1;
         left -= 1;
     }
     false
 }
 
-// Whether record t is a CHOICE without tags that reaches itself through such CHOICEs alone.
-fn is_circular(table: &[u8], offsets: &[u16], nodes: &[u8], t: usize) -> bool
-    requires { ⌜ Ready (look (now table) (now offsets)) (length (now offsets)) (now nodes) × (t < length (now offsets)) × (length (now offsets) ≤ 128) ⌝ }
-    ensures { λ r. ⌜ (r ≡ true → Circular (look (now (table .entry)) (now (offsets .entry))) t) × (r ≡ false → Circular (look (now (table .entry)) (now (offsets .entry))) t → ⊥) ⌝ }
+// Whether the CHOICE without tags t reaches itself through such CHOICEs alone.
+fn is_circular(table: &[u8], index: &[u64; 128], nodes: &[u8; 128], t: usize) -> bool
+    requires { ⌜ Gathers (now table) (now index) (now nodes) (replicate 128 0) t × (unpacked (getD (now index) t 0) .code ≡ untagged) ⌝ }
+    ensures { λ r. ⌜ (let T = tableIn (now (table .entry)) in (r ≡ true → Circular T t) × (r ≡ false → Circular T t → ⊥)) ⌝ }
 {
-    let o = offset(offsets, t);
-    let s = below(table, o);
-    let mut at = s.first;
-    let mut left = s.count;
-    let step = s.step;
-    if left == 0 {
-        return false;
-    }
     let mut flags = [0u8; 128];
-    while 0 < left {
-        let a = octet(table, at);
-        gather(table, offsets, nodes, &mut flags, a, 1);
-        at += step;
-        left -= 1;
-    }
+    gather_under(table, index, nodes, &mut flags, t, 1);
     flags[t] != 0
 }
 
-// The lowest such record; the count of records if there is none.
-pub(crate) fn lowest_circular(table: &[u8], offsets: &[u16], nodes: &[u8]) -> usize
-    requires { ⌜ Ready (look (now table) (now offsets)) (length (now offsets)) (now nodes) × (length (now offsets) ≤ 128) × (length (now table) ≤ 8192) ⌝ }
-    ensures { λ r. ⌜ r ≡ lowest (circular (look (now (table .entry)) (now (offsets .entry))) (length (now (offsets .entry)))) (length (now (offsets .entry))) ⌝ }
+// The lowest of n records that is such a CHOICE; n if there is none.
+pub(crate) fn lowest_circular(
+    table: &[u8],
+    index: &[u64; 128],
+    nodes: &[u8; 128],
+    n: usize,
+) -> usize
+    requires { ⌜ Filled (now table) (now index) n × Ready (tableIn (now table)) n (now nodes) × Named (tableIn (now table)) n ⌝ }
+    ensures { λ r. ⌜ r ≡ lowest (circular (tableIn (now (table .entry))) n) n ⌝ }
 {
-    let n = offsets.len();
     let mut t = 0;
     while t < n {
-        if is_circular(table, offsets, nodes, t) {
-            return t;
+        if first(index[t]) == UNTAGGED {
+            if is_circular(table, index, nodes, t) {
+                return t;
+            }
         }
         t += 1;
     }
     n
 }
 
-// Whether two members of record t share a first tag.
-fn is_sharing(table: &[u8], offsets: &[u16], nodes: &[u8], t: usize) -> bool
-    requires { ⌜ Ready (look (now table) (now offsets)) (length (now offsets)) (now nodes) × Straight (look (now table) (now offsets)) (length (now offsets)) × (t < length (now offsets)) × (length (now offsets) ≤ 128) ⌝ }
-    ensures { λ r. ⌜ (r ≡ true → Sharing (look (now (table .entry)) (now (offsets .entry))) t) × (r ≡ false → Sharing (look (now (table .entry)) (now (offsets .entry))) t → ⊥) ⌝ }
+// Whether two parts of a record share a first tag.
+fn is_sharing(table: &[u8], index: &[u64; 128], nodes: &[u8; 128], t: usize) -> bool
+    requires { ⌜ Gathers (now table) (now index) (now nodes) (replicate 128 0) t × Straight (tableIn (now table)) (countIn (now table)) ⌝ }
+    ensures { λ r. ⌜ (let T = tableIn (now (table .entry)) in (r ≡ true → Sharing T t) × (r ≡ false → Sharing T t → ⊥)) ⌝ }
 {
-    let o = offset(offsets, t);
-    let s = parts(table, o);
+    let s = parts(table, unpack(index[t]));
     let mut at = s.first;
     let mut left = s.count;
-    let step = s.step;
     let mut flags = [0u8; 128];
     let mut mark: u8 = 1;
     while 0 < left {
         let a = octet(table, at);
-        if gather(table, offsets, nodes, &mut flags, a, mark) {
+        if gather(table, index, nodes, &mut flags, a, mark) {
             return true;
         }
         mark += 1;
-        at += step;
+        at += s.step;
         left -= 1;
     }
     false
 }
 
-// The lowest such record; the count of records if there is none.
-pub(crate) fn lowest_sharing(table: &[u8], offsets: &[u16], nodes: &[u8]) -> usize
-    requires { ⌜ Ready (look (now table) (now offsets)) (length (now offsets)) (now nodes) × Straight (look (now table) (now offsets)) (length (now offsets)) × (length (now offsets) ≤ 128) × (length (now table) ≤ 8192) ⌝ }
-    ensures { λ r. ⌜ r ≡ lowest (sharing (look (now (table .entry)) (now (offsets .entry))) (length (now (offsets .entry)))) (length (now (offsets .entry))) ⌝ }
+// The lowest of n records with such parts; n if there is none.
+pub(crate) fn lowest_sharing(table: &[u8], index: &[u64; 128], nodes: &[u8; 128], n: usize) -> usize
+    requires { ⌜ Filled (now table) (now index) n × Ready (tableIn (now table)) n (now nodes) × Straight (tableIn (now table)) n ⌝ }
+    ensures { λ r. ⌜ r ≡ lowest (sharing (tableIn (now (table .entry))) n) n ⌝ }
 {
-    let n = offsets.len();
     let mut t = 0;
     while t < n {
-        if is_sharing(table, offsets, nodes, t) {
-            return t;
+        let e = unpack(index[t]);
+        if !e.simple {
+            if is_sharing(table, index, nodes, t) {
+                return t;
+            }
         }
         t += 1;
     }

@@ -1,6 +1,63 @@
-// The kinds of types by their octets (FORMATS, "Tables").
+// The kinds of types by their octets, each with its own UNIVERSAL tag (FORMATS, "Tables"; X.690, 8.1.2).
 ghost use mathlib.Core.Path.{_≡_};
+ghost use mathlib.Core.Bool.{_||_};
+ghost use lib.Dec.{eqb};
 ghost use Rattle.table.specs.Fields.{formOf, universalOf, constructedOf};
+
+pub const BOOLEAN: u8 = 1;
+
+pub const INTEGER: u8 = 2;
+
+pub const BIT_STRING: u8 = 3;
+
+pub const OCTET_STRING: u8 = 4;
+
+pub const NULL: u8 = 5;
+
+pub const ENUMERATED: u8 = 10;
+
+pub const SEQUENCE: u8 = 16;
+
+pub const SET: u8 = 17;
+
+pub const SEQUENCE_OF: u8 = 48;
+
+pub const SET_OF: u8 = 49;
+
+pub const CHOICE: u8 = 50;
+
+// No record's: what stands in a message is one item.
+pub const MESSAGE: u8 = 51;
+
+// Whether what a kind holds is members.
+pub fn has_members(kind: u8) -> bool
+    ensures { λ r. ⌜ r ≡ (eqb kind 16 || eqb kind 17) ⌝ }
+{
+    if kind == SEQUENCE {
+        return true;
+    }
+    kind == SET
+}
+
+// Whether what a kind holds is elements of one type.
+pub fn is_list(kind: u8) -> bool
+    ensures { λ r. ⌜ r ≡ (eqb kind 48 || eqb kind 49) ⌝ }
+{
+    if kind == SEQUENCE_OF {
+        return true;
+    }
+    kind == SET_OF
+}
+
+// Whether what a kind holds is one item.
+pub fn holds_one(kind: u8) -> bool
+    ensures { λ r. ⌜ r ≡ (eqb kind 50 || eqb kind 51) ⌝ }
+{
+    if kind == CHOICE {
+        return true;
+    }
+    kind == MESSAGE
+}
 
 // The identifier octet of each kind's own UNIVERSAL tag: the number in the low five bits, and 32 for constructed.
 // A number that is no kind counts as a CHOICE, which has no tag of its own.

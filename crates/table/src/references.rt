@@ -1,43 +1,42 @@
 // 2: a record number that is not there (FORMATS, "Refusals").
 ghost use mathlib.Core.Path.{_≡_};
+ghost use Prim.Native.Nat.{_<_};
 ghost use lib.Dec.{leb};
-ghost use lib.ListN.{length};
 ghost use Rattle.octets.specs.Lists.{any, lowest};
-ghost use Rattle.table.specs.Syntax.{references};
-ghost use Rattle.table.specs.Reading.{recordAt, look};
+ghost use Rattle.table.specs.Reading.{everyAt};
 ghost use Rattle.table.specs.Decide.{dangling};
-use crate::record::offset;
-use crate::record::references;
+ghost use Rattle.table.specs.Entries.{Near, tableIn, Filled};
+use crate::entry::Span;
+use crate::entry::parts;
+use crate::entry::unpack;
 use octets::octet;
 
-// Whether the record at o names a number that is not below n.
-fn dangling(table: &[u8], o: u16, n: usize) -> bool
-    ensures { λ r. ⌜ r ≡ any (λ x. leb n x) (references (recordAt (now (table .entry)) o .body)) ⌝ }
+// Whether one of the parts has a number that is not below n.
+fn dangling(table: &[u8], s: Span, n: usize) -> bool
+    requires { ⌜ Near s ⌝ }
+    ensures { λ r. ⌜ r ≡ any (λ x. leb n x) (everyAt (s .step) (now (table .entry)) (s .first) (s .count)) ⌝ }
 {
-    let s = references(table, o);
     let mut at = s.first;
     let mut left = s.count;
-    let step = s.step;
     while 0 < left {
-        let x = octet(table, at);
-        if n <= x {
+        if n <= octet(table, at) {
             return true;
         }
-        at += step;
+        at += s.step;
         left -= 1;
     }
     false
 }
 
-// The lowest record that names one that is not there; the count of records if none does.
-pub(crate) fn lowest(table: &[u8], offsets: &[u16]) -> usize
-    ensures { λ r. ⌜ r ≡ lowest (dangling (look (now (table .entry)) (now (offsets .entry))) (length (now (offsets .entry)))) (length (now (offsets .entry))) ⌝ }
+// The lowest of n records that names one that is not there; n if none does.
+pub(crate) fn lowest(table: &[u8], index: &[u64; 128], n: usize) -> usize
+    requires { ⌜ Filled (now table) (now index) n ⌝ }
+    ensures { λ r. ⌜ r ≡ lowest (dangling (tableIn (now (table .entry))) n) n ⌝ }
 {
-    let n = offsets.len();
     let mut t = 0;
     while t < n {
-        let o = offset(offsets, t);
-        if dangling(table, o, n) {
+        let e = unpack(index[t]);
+        if dangling(table, parts(table, e), n) {
             return t;
         }
         t += 1;

@@ -1,74 +1,79 @@
 // 3: a tag that is missing, or a UNIVERSAL tag out of place (FORMATS, "Tables" and "Refusals").
 ghost use mathlib.Core.Path.{_≡_};
-ghost use Prim.Native.Nat.{_<_};
-ghost use mathlib.Core.List.{[]};
-ghost use lib.ListN.{length};
-ghost use Rattle.octets.specs.Lists.{lowest};
-ghost use Rattle.table.specs.Reading.{tagsAt, bodyAt, recordAt, look};
-ghost use Rattle.table.specs.Fields.{choiceOf};
+ghost use mathlib.Core.Bool.{not, _&&_};
+ghost use Prim.Native.Nat.{_<_, _+_};
+ghost use lib.Dec.{eqb};
+ghost use lib.ListN.{getD};
+ghost use Rattle.octets.specs.Numbers.{two};
+ghost use Rattle.octets.specs.Lists.{any, lowest};
+ghost use Rattle.table.specs.Syntax.{Record};
+ghost use Rattle.table.specs.Reading.{everyAt};
+ghost use Rattle.table.specs.Fields.{universalOf};
 ghost use Rattle.table.specs.Decide.{wrongTags, mistagged};
-use crate::kind::Form;
+ghost use Rattle.table.specs.Entries.{tableIn, Entered, Filled};
+use crate::entry::Entry;
+use crate::entry::LACKING;
+use crate::entry::tag_place;
+use crate::entry::unpack;
+use crate::kind::CHOICE;
 use crate::kind::universal;
-use crate::record::kind;
-use crate::record::offset;
-use crate::record::tag_count;
 use octets::number;
 use octets::octet;
 
-fn is_choice(k: usize) -> bool
-    ensures { λ r. ⌜ r ≡ choiceOf k ⌝ }
+// Whether one of the n tags from p on is UNIVERSAL.
+fn any_universal(table: &[u8], p: usize, n: usize) -> bool
+    requires { ⌜ (p < 65536) × (n < 256) ⌝ }
+    ensures { λ r. ⌜ r ≡ any (λ x. eqb x 0) (everyAt 3 (now (table .entry)) p n) ⌝ }
 {
-    match crate::kind::form_of(k) {
-        Form::Simple => false,
-        Form::Members => false,
-        Form::Of => false,
-        Form::Choice => true,
-    }
-}
-
-// Whether a last tag, at p, is a UNIVERSAL one that its kind does not bear.
-fn wrong_last(table: &[u8], k: usize, p: usize) -> bool
-    requires { ⌜ p < 90000 ⌝ }
-    ensures { λ r. ⌜ r ≡ wrongTags (bodyAt [] k 0) (tagsAt (now (table .entry)) p 1) ⌝ }
-{
-    if octet(table, p) != 0 {
-        return false;
-    }
-    if is_choice(k) {
-        return true;
-    }
-    number(table, p + 1) != universal(k)
-}
-
-// Whether the tags of the record at o break the rule.
-fn wrong(table: &[u8], o: u16) -> bool
-    ensures { λ r. ⌜ r ≡ wrongTags (recordAt (now (table .entry)) o .body) (recordAt (now (table .entry)) o .tags) ⌝ }
-{
-    let k = kind(table, o);
-    let mut left = tag_count(table, o);
-    if left == 0 {
-        return !is_choice(k);
-    }
-    let mut at = o as usize + 4;
-    while 1 < left {
+    let mut at = p;
+    let mut left = n;
+    while 0 < left {
         if octet(table, at) == 0 {
             return true;
         }
         at += 3;
         left -= 1;
     }
-    wrong_last(table, k, at)
+    false
 }
 
-// The lowest record with such tags; the count of records if there is none.
-pub(crate) fn lowest(table: &[u8], offsets: &[u16]) -> usize
-    ensures { λ r. ⌜ r ≡ lowest (mistagged (look (now (table .entry)) (now (offsets .entry)))) (length (now (offsets .entry))) ⌝ }
+// Whether the tag at p is a UNIVERSAL one that its kind does not bear.
+fn wrong_own(table: &[u8], kind: u8, p: usize) -> bool
+    requires { ⌜ p < 65536 ⌝ }
+    ensures { λ r. ⌜ r ≡ (eqb (getD (now (table .entry)) p 0) 0 && not (eqb (two (now (table .entry)) (p + 1)) (universalOf kind))) ⌝ }
 {
-    let n = offsets.len();
+    if octet(table, p) != 0 {
+        return false;
+    }
+    number(table, p + 1) != universal(kind as usize)
+}
+
+// Whether the tags of a record break the rule.
+fn wrong(table: &[u8], e: Entry) -> bool
+    ensures { λ r. ⌜ ((x : Record) → Entered (now (table .entry)) e x → r ≡ wrongTags (x .body) (x .tags)) ⌝ }
+{
+    if e.explicit == LACKING {
+        return true;
+    }
+    let n = e.explicit as usize;
+    if any_universal(table, tag_place(e, 0), n) {
+        return true;
+    }
+    if e.kind == CHOICE {
+        return false;
+    }
+    wrong_own(table, e.kind, tag_place(e, n))
+}
+
+// The lowest of n records with such tags; n if there is none.
+pub(crate) fn lowest(table: &[u8], index: &[u64; 128], n: usize) -> usize
+    requires { ⌜ Filled (now table) (now index) n ⌝ }
+    ensures { λ r. ⌜ r ≡ lowest (mistagged (tableIn (now (table .entry)))) n ⌝ }
+{
     let mut t = 0;
     while t < n {
-        let o = offset(offsets, t);
-        if wrong(table, o) {
+        let e = unpack(index[t]);
+        if wrong(table, e) {
             return t;
         }
         t += 1;

@@ -1,7 +1,10 @@
--- `table::finite::found` meets its contract: a body goes by the form of its kind.
+-- `table::finite::found` meets its contract: a body goes by its kind.
 -- Assumes nothing.
+use mathlib.Core.Path.{sym, _∙_}
+use native.Mathlib.Omega.{arith}
 use borrow.Author.Needs.{needs}
-use Rattle.table.proofs.Fields.{finite-at}
+use borrow.Author.Tests.{eq-eqb, ne-eqb}
+use Rattle.table.proofs.Rules.{near-counted, near-span, finite-simple, finite-members, finite-choice, finite-other}
 use Rattle.table.proofs.finite.found.Statement.{statement}
 use Rattle.table.proofs.finite.found.Tie as tie
 
@@ -9,34 +12,12 @@ pub found-spec : {M : Type 1} → statement M
 found-spec =
     tie.close
     (tie.spec
-    (λ c κs. search needs)  -- own-requires
-    (λ c κs. search needs)  -- kind-requires
-    (λ c κs. search needs)  -- form-of-requires
-    (λ c. search needs)  -- enum-told
-    (λ c. search needs)  -- enum-told-2
-    (λ c. search needs)  -- add-members
-    (λ c κs. search needs)  -- octet-requires
-    (λ c κs. search needs)  -- members-requires
-    (λ c. search needs)  -- enum-told-3
-    (λ c. search needs)  -- enum-told-4
-    (λ c. search needs)  -- add-alternatives
-    (λ c κs. search needs)  -- octet-requires-2
+    (λ c. λ r x. finite-simple x _ (c .if1 .taken))  -- returns
+    (λ c κs. search needs)  -- has-members-requires
+    (λ c κs. search needs)  -- parts-requires
+    (λ c κs. (rw (c .parts .ensures) (near-span _ _ _ (λ i. omega (arith, c .before .before .before .before .shared-slice-known .given i)) (omega arith)), c .before .before .before .before .before .pre))  -- each-marked-requires
+    (λ c. λ r x. rw (c .before .parts .ensures) at (c .each-marked .ensures) ∙ finite-members x _ (sym (c .before .before .before .has-members .ensures) ∙ c .before .before .if2 .taken))  -- returns-2
     (λ c κs. search needs)  -- alternatives-requires
-    (λ c. rw (finite-at _ _ _, ← c .before .before .before .kind .ensures .0, ← c .before .before .form-of .ensures, c .enum-told .given .1))  -- returns
-    (λ c. rw (
-      finite-at _ _ _,
-      ← c .before .before .before .before .before .kind .ensures .0,
-      ← c .before .before .before .before .form-of .ensures,
-      c .before .before .enum-told2 .given .1,
-      ← c .before .before .before .before .before .before .own .ensures .0,
-      ← c .before .octet .ensures .0,
-    ) (c .members .ensures))  -- returns-2
-    (λ c. rw (finite-at _ _ _, ← c .before .before .before .kind .ensures .0, ← c .before .before .form-of .ensures, c .enum-told3 .given .1))  -- returns-3
-    (λ c. rw (
-      finite-at _ _ _,
-      ← c .before .before .before .before .before .kind .ensures .0,
-      ← c .before .before .before .before .form-of .ensures,
-      c .before .before .enum-told4 .given .1,
-      ← c .before .before .before .before .before .before .own .ensures .0,
-      ← c .before .octet2 .ensures .0,
-    ) (c .alternatives .ensures)))  -- returns-4
+    (λ c κs. (rw (c .alternatives .ensures) (near-counted (c .before .before .before .before .before .before .before .args .table .now) (c .before .before .before .before .before .before .before .args .e .own) 1 (λ i. omega (arith, c .before .before .before .before .before .before .shared-slice-known .given i)) (omega arith) (omega arith)), c .before .before .before .before .before .before .before .pre))  -- one-marked-requires
+    (λ c. λ r x. rw (c .before .alternatives .ensures) at (c .one-marked .ensures) ∙ finite-choice x _ (eq-eqb _ _ (c .before .before .if3 .taken)))  -- returns-3
+    (λ c. λ r x. finite-other x _ (sym (c .before .before .before .has-members .ensures) ∙ c .before .before .if2 .left) (ne-eqb _ _ (c .if3 .left))))  -- returns-4

@@ -13,6 +13,6 @@ unfolding isMarked
 marked-spec =
     tie.close
     (tie.spec
-    (λ c. search needs)  -- shared-slice-read-result
+    (λ c. search needs)  -- element-copy-out-result
     (λ c. refl)  -- returns
     (λ c. sym (marked-beyond (c .before .args .flags .now) (c .before .args .t) (omega arith))))  -- returns-2

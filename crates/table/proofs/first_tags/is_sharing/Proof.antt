@@ -1,32 +1,29 @@
--- `table::first_tags::is_sharing` meets its contract. The loop's invariant: each mark is that of the member it was gathered for, and no two members met. The measure is the members left.
--- Assumes nothing.
+-- `table::first_tags::is_sharing` meets its contract. The loop's invariant: each mark is that of the part it was gathered for, and no two parts met.
+-- The measure is the parts left. Assumes nothing.
 use borrow.Author.Needs.{needs}
 use Prim.Native.Nat.{_+_, _*_, _≤_, _<_}
-use mathlib.Core.Path.{_≡_, refl, _∙_}
+use mathlib.Core.Bool.{true≢false, false≢true}
+use mathlib.Core.Path.{_≡_, refl, sym, _∙_}
 use native.Mathlib.Omega.{arith}
 use lib.ListN.{length}
-use Rattle.table.specs.Rules.{parts}
-use Rattle.table.specs.Reading.{everyAt, look}
-use Rattle.table.proofs.Gather.{every-none}
-use mathlib.Core.Bool.{true≢false, false≢true}
-use Rattle.table.proofs.Straight.{zeros, parts-there}
-use Rattle.table.proofs.Shared.{parts-few, Owned, owned-start, owned-next, owned-in, owned-turn, owned-met, owned-end, parts-span}
+use Rattle.table.specs.Syntax.{references}
+use Rattle.table.specs.Reading.{everyAt}
+use Rattle.table.specs.Entries.{tableIn, countIn}
+use Rattle.table.proofs.Rules.{span-near, span-named}
+use Rattle.table.proofs.Walk.{same-size}
+use Rattle.table.proofs.Gather.{every-none, gathers-at}
+use Rattle.table.proofs.Straight.{zeros, named-there}
+use Rattle.table.proofs.Shared.{named-few, Owned, owned-start, owned-next, owned-in, owned-turn, owned-met, owned-end, pairing-shares, sharing-names}
 use Rattle.table.proofs.first_tags.is_sharing.Statement.{statement}
 use Rattle.table.proofs.first_tags.is_sharing.Tie as tie
-use Rattle.table.proofs.first_tags.is_sharing.Reads as reads
-use Rattle.table.proofs.first_tags.is_sharing.Lts as lts
-use Rattle.octets.proofs.octet.Reads as octet-reads
-use Rattle.table.proofs.first_tags.gather.Reads as gather-reads
-use Rattle.table.proofs.record.offset.Reads as offset-reads
-use Rattle.table.proofs.record.parts.Reads as parts-reads
 
 abbrev Inv-loop : tie.InvT-loop
-Inv-loop table offsets nodes t o at₀ left₀ step flags₀ mark₀ at left flags mark =
-    (length flags ≡ 128) × (at + 3 * left ≤ 100000) × (step < 3) × (mark + left ≤ 17)
-    × Owned (look table offsets) (parts (look table offsets t .body)) flags mark (everyAt step table at left)
+Inv-loop table index nodes t s at₀ left₀ flags₀ mark₀ at left flags mark =
+    (length flags ≡ 128) × (at + 3 * left ≤ 100000) × (s .step < 3) × (mark + left ≤ 17)
+    × Owned (tableIn table) (references (tableIn table t .body)) flags mark (everyAt (s .step) table at left)
 
 abbrev μ-loop : tie.MeasureT-loop
-μ-loop table offsets nodes t o at₀ left₀ step flags₀ mark₀ at left flags mark = left
+μ-loop table index nodes t s at₀ left₀ flags₀ mark₀ at left flags mark = left
 
 pub is-sharing-spec : {M : Type 1} → statement M
 is-sharing-spec =
@@ -34,32 +31,40 @@ is-sharing-spec =
     (tie.spec
     Inv-loop
     μ-loop
-    (λ c κs. search needs)  -- offset-requires
+    (λ c. omega (arith, c .before .pre .0 .there, c .before .pre .0 .filled .few))  -- mul-unpack
+    (λ c. omega (arith, c .before .pre .0 .there, c .before .pre .0 .filled .few))  -- element-copy-out-unpack
+    (λ c κs. search needs)  -- unpack-requires
     (λ c κs. search needs)  -- parts-requires
-    (λ c. let a = c .before .before .before .before .before .args in let T = look (a .table .now) (a .offsets .now) in (
+    (λ c.
+    let x = c .before .before .before .before .pre .0 in
+    let near = span-near (x .filled) _ (x .there) (c .before .unpack .ensures) (λ i. omega (arith, c .before .before .before .shared-slice-known .given i)) (c .parts .ensures) in
+    let named = span-named (x .filled) _ (x .there) (c .before .unpack .ensures) (c .parts .ensures) in (
       refl,
-      omega (arith, c .parts .ensures .near, c .parts .ensures .few),
-      c .parts .ensures .close,
-      omega (arith, parts-few (a .table .now) (a .offsets .now) (a .t) (c .before .offset .result) (c .parts .result) (c .before .offset .ensures) (c .parts .ensures) (c .before .before .before .before .before .pre .1 .named .shaped (a .t) (c .before .before .before .before .before .pre .2))),
-      owned-start _ (zeros 128) (parts-span (a .table .now) (a .offsets .now) (a .t) _ _ (c .before .offset .ensures) (c .parts .ensures)),
+      omega (arith, near .near, near .few),
+      near .close,
+      omega (arith, named-few (tableIn (c .before .before .before .before .args .table .now) (c .before .before .before .before .args .t)) _ _ _ _ (x .filled .shaped _ (x .there)) named),
+      owned-start _ (zeros 128) (sym named),
     ))  -- loop-holds
     (λ c κs. search needs)  -- octet-requires
-    (λ c. search needs)  -- slice-aggregate-gather
-    (λ c κs. let a = c .before .before .before .before .before .before .before .before .before .args in let T = look (a .table .now) (a .offsets .now) in (c .before .before .before .before .before .before .before .before .before .pre .0, omega (arith, c .before .before .before .loop .inv .0, c .before .before .before .before .before .before .before .before .before .pre .3), parts-there T (length (a .offsets .now)) (c .before .before .before .before .before .before .before .before .before .pre .1 .named) (a .t) (c .before .octet .result) (c .before .before .before .before .before .before .before .before .before .pre .2) (owned-in (owned-next (c .before .before .before .before .parts .result .step) (a .table .now) (c .before .before .before .loop .at) (c .before .before .before .loop .left) (c .before .octet .result) (c .before .before .before .loop .inv .4) (c .before .before .loop-test .taken) (c .before .octet .ensures .0)))))  -- gather-requires
-    (λ c. let a = c .before .before .before .before .before .before .before .before .before .before .before .before .args in let T = look (a .table .now) (a .offsets .now) in (λ _. owned-met T (length (a .offsets .now)) (a .t) (c .before .before .before .before .before .before .before .before .before .before .before .before .pre .1) (c .before .before .before .before .before .before .before .before .before .before .before .before .pre .0 .closed) (c .before .before .before .before .before .before .before .before .before .before .before .before .pre .2) (c .before .before .before .before .before .before .loop .mark) (c .before .before .before .before .before .before .loop .flags) (owned-next (c .before .before .before .before .before .before .before .parts .result .step) (a .table .now) (c .before .before .before .before .before .before .loop .at) (c .before .before .before .before .before .before .loop .left) (c .before .before .before .before .octet .result) (c .before .before .before .before .before .before .loop .inv .4) (c .before .before .before .before .before .loop-test .taken) (c .before .before .before .before .octet .ensures .0)) (c .before .before .gather .ensures .met (c .if1 .taken)), λ z. absurd (true≢false z)))  -- returns
-    (λ c. omega (arith, c .before .before .before .before .before .before .loop .inv .3, c .before .before .before .before .before .loop-test .taken))  -- add-mark
-    (λ c. search needs)  -- add-at
-    (λ c. search needs)  -- sub-left
-    (λ c. search needs)  -- loop-less
-    (λ c. let a = c .before .before .before .before .before .before .before .before .before .before .before .before .args in let T = look (a .table .now) (a .offsets .now) in (
-      c .before .before .gather .kept .1 .1 .1 .0 ∙ c .before .before .before .before .before .before .loop .inv .0,
+    (λ c κs. let x = c .before .before .before .before .before .before .before .before .pre .0 in
+    gathers-at x _ (c .before .before .before .loop .inv .0) (named-there _ _ (x .named) _ _ (x .there) (owned-in (owned-next _ _ _ _ _ (c .before .before .before .loop .inv .4) (c .before .before .loop-test .taken) (c .before .octet .ensures .0)))))  -- gather-requires
+    (λ c. let x = c .before .before .before .before .before .before .before .before .before .before .pre .0 in (
+      λ _. pairing-shares _ _ (owned-met _ _ (c .before .before .before .before .before .before .before .before .before .before .pre .1) (x .ready .closed) _ (λ a i. named-there _ _ (x .named) _ a (x .there) i) _ _
+          (owned-next _ _ _ _ _ (c .before .before .before .before .before .loop .inv .4) (c .before .before .before .before .loop-test .taken) (c .before .before .before .octet .ensures .0)) (c .before .gather .ensures .met (c .if1 .taken))),
+      λ z. absurd (true≢false z),
+    ))  -- returns
+    (λ c. omega (arith, c .before .before .before .before .before .loop .inv .3, c .before .before .before .before .loop-test .taken))  -- add-mark
+    (λ c. omega (arith, c .before .before .before .before .before .before .loop .inv .1, c .before .before .before .before .before .before .loop .inv .2, c .before .before .before .before .before .loop-test .taken))  -- add-at
+    (λ c. omega (arith, c .before .before .before .before .before .loop-test .taken))  -- sub-left
+    (λ c. omega (arith, c .before .before .before .before .before .loop-test .taken))  -- loop-less
+    (λ c. (
+      same-size (c .before .before .gather .ensures .walked (c .before .if1 .left)) ∙ c .before .before .before .before .before .before .loop .inv .0,
       omega (arith, c .before .before .before .before .before .before .loop .inv .1, c .before .before .before .before .before .before .loop .inv .2, c .before .before .before .before .before .loop-test .taken),
       c .before .before .before .before .before .before .loop .inv .2,
       omega (arith, c .before .before .before .before .before .before .loop .inv .3, c .before .before .before .before .before .loop-test .taken),
-      owned-turn T (c .before .before .before .before .before .before .loop .mark) _ (c .before .before .before .before .before .before .loop .flags) _ _ (c .before .before .before .before .octet .result) (owned-next (c .before .before .before .before .before .before .before .parts .result .step) (a .table .now) (c .before .before .before .before .before .before .loop .at) (c .before .before .before .before .before .before .loop .left) (c .before .before .before .before .octet .result) (c .before .before .before .before .before .before .loop .inv .4) (c .before .before .before .before .before .loop-test .taken) (c .before .before .before .before .octet .ensures .0)) (c .before .before .gather .ensures .walked (c .if1 .left)),
+      owned-turn _ _ _ _ _ _ _ (owned-next _ _ _ _ _ (c .before .before .before .before .before .before .loop .inv .4) (c .before .before .before .before .before .loop-test .taken) (c .before .before .before .before .octet .ensures .0)) (c .before .before .gather .ensures .walked (c .before .if1 .left)),
     ))  -- loop-again
-    (λ c. let a = c .before .before .before .before .before .before .before .args in let T = look (a .table .now) (a .offsets .now) in (
+    (λ c. (
       λ z. absurd (false≢true z),
-      λ _. owned-end T (length (a .offsets .now)) (a .t) (c .before .before .before .before .before .before .before .pre .1) (c .before .before .before .before .before .before .before .pre .0 .closed) (c .before .before .before .before .before .before .before .pre .2) (c .before .loop .mark) (c .before .loop .flags)
-          (rw (every-none (c .before .before .parts .result .step) (a .table .now) (c .before .loop .at) (c .before .loop .left) (c .loop-test .left)) at (c .before .loop .inv .4)),
+      λ _ y. owned-end _ _ _ _ (rw (every-none _ _ _ _ (c .loop-test .left)) at (c .before .loop .inv .4)) (sharing-names _ _ y),
     )))  -- returns-2

@@ -1,26 +1,26 @@
 -- `table::first_tags::lowest_circular` meets its contract. The loop's invariant: no record before t fails. The measure is what is left.
 -- Assumes nothing.
 use borrow.Author.Needs.{needs}
-use Prim.Native.Nat.{ℕ, _-_, _≤_}
-use Rattle.table.specs.Syntax.{absent}
-use mathlib.Core.Path.{_≡_, refl, _∙_}
-use lib.ListN.{length}
+use Prim.Native.Nat.{_-_}
+use mathlib.Core.Logic.{⊎-elim}
+use mathlib.Core.Path.{refl, sym, _∙_}
+use native.Mathlib.Omega.{arith}
 use Rattle.octets.proofs.Search.{Rest, rest-first, rest-here, rest-next, rest-none}
-use Rattle.table.specs.Reading.{look}
-use Rattle.table.proofs.Scan.{look-beyond}
-use Rattle.table.proofs.Decided.{decides, circular-sound, circular-complete}
 use Rattle.table.specs.Decide.{circular}
+use Rattle.table.specs.Entries.{tableIn}
+use Rattle.table.proofs.Decided.{circular-is}
+use Rattle.table.proofs.Rules.{filled-beyond}
+use Rattle.table.proofs.Alike.{below-none}
+use Rattle.table.proofs.Gather.{gathers-from}
+use Rattle.table.proofs.Shared.{no-circle}
 use Rattle.table.proofs.first_tags.lowest_circular.Statement.{statement}
 use Rattle.table.proofs.first_tags.lowest_circular.Tie as tie
-use Rattle.table.proofs.first_tags.lowest_circular.Reads as reads
-use Rattle.table.proofs.first_tags.lowest_circular.Lts as lts
-use Rattle.table.proofs.first_tags.is_circular.Reads as is-circular-reads
 
 abbrev Inv-loop : tie.InvT-loop
-Inv-loop table offsets nodes n t₀ t = (n ≡ length offsets) × Rest (circular (look table offsets) (length offsets)) (length offsets) t
+Inv-loop table index nodes n t₀ t = Rest (circular (tableIn table) n) n t
 
 abbrev μ-loop : tie.MeasureT-loop
-μ-loop table offsets nodes n t₀ t = n - t
+μ-loop table index nodes n t₀ t = n - t
 
 pub lowest-circular-spec : {M : Type 1} → statement M
 lowest-circular-spec =
@@ -28,10 +28,16 @@ lowest-circular-spec =
     (tie.spec
     Inv-loop
     μ-loop
-    (λ c. (refl, rest-first _ _))  -- loop-holds
-    (λ c κs. (c .before .before .before .before .before .pre .0, c .loop-test .taken, c .before .before .before .before .before .pre .1))  -- is-circular-requires
-    (λ c. let a = c .before .before .before .before .before .before .before .args in let T = look (a .table .now) (a .offsets .now) in let n = length (a .offsets .now) in let beyond : (t : ℕ) → n ≤ t → T t ≡ absent = λ t h. look-beyond (a .table .now) (a .offsets .now) t (c .before .before .before .before .before .before .before .pre .2) h in rest-here (circular T n) n (c .before .before .before .loop .t) (c .before .before .before .loop .inv .1) (c .before .before .loop-test .taken) (decides (circular T n (c .before .before .before .loop .t)) (c .before .is-circular .result) (circular-sound T n (c .before .before .before .loop .t)) (circular-complete T n beyond (c .before .before .before .loop .t) (c .before .before .loop-test .taken)) (c .before .is-circular .ensures .0) (c .before .is-circular .ensures .1) ∙ c .if1 .taken))  -- returns
+    (λ c. rest-first _ _)  -- loop-holds
+    (λ c. omega (arith, c .before .before .before .pre .0 .few))  -- mul-first
+    (λ c. omega (arith, c .before .before .before .pre .0 .few))  -- element-copy-out-first
+    (λ c κs. search needs)  -- first-requires
+    (λ c κs. (gathers-from (c .before .before .before .before .before .before .pre .0) (c .before .before .before .before .before .before .pre .1) (c .before .before .before .before .before .before .pre .2) refl (c .before .before .before .loop-test .taken), sym (c .before .first .ensures) ∙ c .if1 .taken))  -- is-circular-requires
+    (λ c. rest-here _ _ _ (c .before .before .before .before .before .before .loop .inv) (c .before .before .before .before .before .loop-test .taken) (circular-is _ _ (filled-beyond (c .before .before .before .before .before .before .before .before .pre .0)) _ _ (c .before .before .before .before .before .loop-test .taken) (c .before .is-circular .ensures) ∙ c .if2 .taken))  -- returns
     (λ c. search needs)  -- add-t
-    (λ c. search needs)  -- loop-less
-    (λ c. let a = c .before .before .before .before .before .before .before .args in let T = look (a .table .now) (a .offsets .now) in let n = length (a .offsets .now) in let beyond : (t : ℕ) → n ≤ t → T t ≡ absent = λ t h. look-beyond (a .table .now) (a .offsets .now) t (c .before .before .before .before .before .before .before .pre .2) h in (refl, rest-next (circular T n) n (c .before .before .before .loop .t) (c .before .before .before .loop .inv .1) (c .before .before .loop-test .taken) (decides (circular T n (c .before .before .before .loop .t)) (c .before .is-circular .result) (circular-sound T n (c .before .before .before .loop .t)) (circular-complete T n beyond (c .before .before .before .loop .t) (c .before .before .loop-test .taken)) (c .before .is-circular .ensures .0) (c .before .is-circular .ensures .1) ∙ c .if1 .left)))  -- loop-again
-    (λ c. let a = c .before .before .before .before .before .args in let T = look (a .table .now) (a .offsets .now) in rest-none (circular T (length (a .offsets .now))) (length (a .offsets .now)) (c .before .loop .t) (c .before .loop .inv .1) (c .loop-test .left)))  -- returns-2
+    (λ c. omega arith)  -- loop-less
+    (λ c. rest-next _ _ _ (c .before .before .before .before .loop .inv) (c .before .before .before .loop-test .taken) (⊎-elim
+    (λ w. circular-is _ _ (filled-beyond (c .before .before .before .before .before .before .pre .0)) _ _ (c .before .before .before .loop-test .taken) (w .1 .ensures) ∙ w .2 .left)
+    (λ w. no-circle _ _ _ (below-none (c .before .before .before .before .before .before .pre .0 .entered _ (c .before .before .before .loop-test .taken)) (λ z. w .left (c .before .first .ensures ∙ z))))
+    (c .if1 .came)))  -- loop-again
+    (λ c. rest-none _ _ _ (c .before .loop .inv) (c .loop-test .left)))  -- returns-2

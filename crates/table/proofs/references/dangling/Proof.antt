@@ -13,11 +13,11 @@ use Rattle.table.proofs.references.dangling.Statement.{statement}
 use Rattle.table.proofs.references.dangling.Tie as tie
 
 abbrev Inv-loop : tie.InvT-loop
-Inv-loop table o n at₀ left₀ step at left =
-    (at + 3 * left ≤ at₀ + 3 * left₀) × (any (λ x. leb n x) (everyAt step table at left) ≡ any (λ x. leb n x) (everyAt step table at₀ left₀))
+Inv-loop table s n at₀ left₀ at left =
+    (at + 3 * left ≤ at₀ + 3 * left₀) × (any (λ x. leb n x) (everyAt (s .step) table at left) ≡ any (λ x. leb n x) (everyAt (s .step) table at₀ left₀))
 
 abbrev μ-loop : tie.MeasureT-loop
-μ-loop table o n at₀ left₀ step at left = left
+μ-loop table s n at₀ left₀ at left = left
 
 pub dangling-spec : {M : Type 1} → statement M
 dangling-spec =
@@ -25,12 +25,11 @@ dangling-spec =
     (tie.spec
     Inv-loop
     μ-loop
-    (λ c κs. search needs)  -- references-requires
     (λ c. (omega arith, refl))  -- loop-holds
     (λ c κs. search needs)  -- octet-requires
-    (λ c. any-stops _ _ _ _ _ _ (rw (c .before .before .before .before .references .ensures .is) at (c .before .before .before .loop .inv .1)) (omega arith) (rw (← c .before .octet .ensures .0) (le-leb _ _ (c .if1 .taken))))  -- returns
-    (λ c. omega arith)  -- add-at
+    (λ c. any-stops _ _ _ _ _ _ (c .before .before .before .loop .inv .1) (c .before .before .loop-test .taken) (rw (← c .before .octet .ensures .0) (le-leb _ _ (c .if1 .taken))))  -- returns
+    (λ c. omega (arith, c .before .before .before .before .before .before .pre .close))  -- add-at
     (λ c. omega arith)  -- sub-left
     (λ c. omega arith)  -- loop-less
-    (λ c. (omega arith, any-goes _ _ _ _ _ _ (c .before .before .before .loop .inv .1) (omega arith) (rw (← c .before .octet .ensures .0) (lt-leb _ _ (c .if1 .left)))))  -- loop-again
-    (λ c. any-ends _ _ _ _ _ _ (rw (c .before .before .references .ensures .is) at (c .before .loop .inv .1)) (omega arith)))  -- returns-2
+    (λ c. (omega (arith, c .before .before .before .before .before .before .pre .close), any-goes _ _ _ _ _ _ (c .before .before .before .before .loop .inv .1) (c .before .before .before .loop-test .taken) (rw (← c .before .before .octet .ensures .0) (lt-leb _ _ (c .before .if1 .left)))))  -- loop-again
+    (λ c. any-ends _ _ _ _ _ _ (c .before .loop .inv .1) (omega arith)))  -- returns-2

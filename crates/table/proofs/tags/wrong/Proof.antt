@@ -1,40 +1,22 @@
--- `table::tags::wrong` meets its contract. The loop's invariant: the rule over the tags that are left is the whole rule. The measure is their count.
+-- `table::tags::wrong` meets its contract: by the ways through the rule of the tags.
 -- Assumes nothing.
-use mathlib.Core.List.{[]}
-use mathlib.Core.Path.{_≡_, refl, sym, _∙_}
-use Prim.Native.Nat.{_+_, _*_, _≤_}
-use native.Mathlib.Omega.{arith}
+use mathlib.Core.Path.{sym, _∙_}
 use borrow.Author.Needs.{needs}
-use Rattle.table.specs.Reading.{bodyAt, tagsAt}
-use Rattle.table.specs.Decide.{wrongTags}
-use Rattle.table.proofs.Loops.{wrong-stops, wrong-goes, wrong-ends, wrong-at, wrong-none}
+use borrow.Author.Tests.{eq-eqb, ne-eqb}
+use Rattle.table.proofs.Rules.{wrong-lacking, wrong-explicit, wrong-none, wrong-own}
 use Rattle.table.proofs.tags.wrong.Statement.{statement}
 use Rattle.table.proofs.tags.wrong.Tie as tie
-
-abbrev Inv-loop : tie.InvT-loop
-Inv-loop table o k left₀ at₀ left at =
-    (1 ≤ left) × (at + 3 * left ≡ at₀ + 3 * left₀) × (wrongTags (bodyAt [] k 0) (tagsAt table at left) ≡ wrongTags (bodyAt [] k 0) (tagsAt table at₀ left₀))
-
-abbrev μ-loop : tie.MeasureT-loop
-μ-loop table o k left₀ at₀ left at = left
 
 pub wrong-spec : {M : Type 1} → statement M
 wrong-spec =
     tie.close
     (tie.spec
-    Inv-loop
-    μ-loop
-    (λ c κs. search needs)  -- kind-requires
-    (λ c κs. search needs)  -- tag-count-requires
-    (λ c κs. search needs)  -- is-choice-requires
-    (λ c. rw (c .is-choice .ensures) (wrong-none _ _ _ _ (c .before .before .before .kind .ensures .0) (c .before .before .tag-count .ensures .0) (c .before .if1 .taken)))  -- returns
-    (λ c. search needs)  -- add-at
-    (λ c. (omega arith, refl, refl))  -- loop-holds
-    (λ c κs. search needs)  -- octet-requires
-    (λ c. wrong-stops _ _ _ _ _ (c .before .before .before .loop .inv .2 ∙ wrong-at _ _ _ _ (c .before .before .before .before .before .before .kind .ensures .0) (c .before .before .before .before .before .tag-count .ensures .0)) (omega arith) (sym (c .before .octet .ensures .0) ∙ c .if2 .taken))  -- returns-2
-    (λ c. omega arith)  -- add-at-2
-    (λ c. omega arith)  -- sub-left
-    (λ c. omega arith)  -- loop-less
-    (λ c. (omega arith, omega arith, wrong-goes _ _ _ _ _ (c .before .before .before .loop .inv .2) (omega arith) (rw (c .before .octet .ensures .0) at (c .if2 .left))))  -- loop-again
-    (λ c κs. omega arith)  -- wrong-last-requires
-    (λ c. c .wrong-last .ensures ∙ wrong-ends _ _ _ _ _ (c .before .before .loop .inv .2 ∙ wrong-at _ _ _ _ (c .before .before .before .before .before .kind .ensures .0) (c .before .before .before .before .tag-count .ensures .0)) (c .before .before .loop .inv .0) (c .before .loop-test .left)))  -- returns-3
+    (λ c. λ r x. wrong-lacking x (c .if1 .taken))  -- returns
+    (λ c. search needs)  -- cast-n
+    (λ c κs. search needs)  -- tag-place-requires
+    (λ c κs. search needs)  -- any-universal-requires
+    (λ c. λ r x. wrong-explicit x (c .before .before .before .before .if1 .left) (rw (c .before .before .tag-place .ensures .0) at (sym (c .before .any-universal .ensures) ∙ c .if2 .taken)))  -- returns-2
+    (λ c. λ r x. wrong-none x (c .before .before .before .before .before .before .if1 .left) (rw (c .before .before .before .before .tag-place .ensures .0) at (sym (c .before .before .before .any-universal .ensures) ∙ c .before .before .if2 .left)) (eq-eqb _ _ (c .if3 .taken)))  -- returns-3
+    (λ c κs. search needs)  -- tag-place-requires-2
+    (λ c κs. search needs)  -- wrong-own-requires
+    (λ c. λ r x. rw (c .before .tag-place2 .ensures .0) at (c .wrong-own .ensures) ∙ wrong-own x (c .before .before .before .before .before .before .before .before .if1 .left) (rw (c .before .before .before .before .before .before .tag-place .ensures .0) at (sym (c .before .before .before .before .before .any-universal .ensures) ∙ c .before .before .before .before .if2 .left)) (ne-eqb _ _ (c .before .before .if3 .left))))  -- returns-4
