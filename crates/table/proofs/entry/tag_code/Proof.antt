@@ -6,14 +6,8 @@ use mathlib.Core.Path.{_≡_, _∙_}
 use lib.Dec.{ltb}
 use borrow.Author.Needs.{needs}
 use borrow.Author.Tests.{lt-ltb, le-ltb}
-use Rattle.ber.proofs.identifier.code_of.Reads as code-of-reads
-use Rattle.octets.proofs.number.Reads as number-reads
-use Rattle.octets.proofs.octet.Reads as octet-reads
-use Rattle.table.proofs.entry.tag_place.Reads as tag-place-reads
 use Rattle.table.proofs.entry.tag_code.Statement.{statement}
 use Rattle.table.proofs.entry.tag_code.Tie as tie
-use Rattle.table.proofs.entry.tag_code.Reads as reads
-use Rattle.table.proofs.entry.tag_code.Lts as lts
 
 pub tag-code-spec : {M : Type 1} → statement M
 tag-code-spec =
