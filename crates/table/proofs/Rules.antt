@@ -84,6 +84,22 @@ module _ {b : List ℕ} {e : Entry} {r : Record} (x : Entered b e r) where
       by (SetOf u) q = absurd (m (missing t (rw q)))
       by (Choice ts) q = rw (t, q) (sym (entered-choice x ts q .is))
 
+  -- a simple record names no other
+  pub none-named : (f : ℕ → Bool) → e .simple ≡ true → false ≡ any f (references (r .body))
+  unfolding constructed references any
+  none-named f i = by (r .body) refl
+    where
+      k : constructed (r .body) ≡ false
+      k = not-true _ (sym (x .simple) ∙ i)
+
+      by : (y : Body) → r .body ≡ y → false ≡ any f (references (r .body))
+      by (Plain s) q = rw q
+      by (Sequence ms) q = absurd (true≢false (rw q at k))
+      by (Set ms) q = absurd (true≢false (rw q at k))
+      by (SequenceOf u) q = absurd (true≢false (rw q at k))
+      by (SetOf u) q = absurd (true≢false (rw q at k))
+      by (Choice ts) q = absurd (true≢false (rw q at k))
+
   -- the ways through the code that finds a finite value
   module _ (m : ℕ → Bool) where
     pub finite-simple : e .simple ≡ true → true ≡ finiteBody m (r .body)

@@ -5,7 +5,9 @@ ghost use lib.Dec.{leb};
 ghost use Rattle.octets.specs.Lists.{any, lowest};
 ghost use Rattle.table.specs.Reading.{everyAt};
 ghost use Rattle.table.specs.Decide.{dangling};
-ghost use Rattle.table.specs.Entries.{Near, tableIn, Filled};
+ghost use Rattle.table.specs.Syntax.{Record, references};
+ghost use Rattle.table.specs.Entries.{Near, Entered, tableIn, Filled};
+use crate::entry::Entry;
 use crate::entry::Span;
 use crate::entry::parts;
 use crate::entry::unpack;
@@ -28,6 +30,16 @@ fn dangling(table: &[u8], s: Span, n: usize) -> bool
     false
 }
 
+// Whether a record names such a number; a simple one names none.
+fn names_beyond(table: &[u8], e: Entry, n: usize) -> bool
+    ensures { λ r. ⌜ ((x : Record) → Entered (now (table .entry)) e x → r ≡ any (λ y. leb n y) (references (x .body))) ⌝ }
+{
+    if e.simple {
+        return false;
+    }
+    dangling(table, parts(table, e), n)
+}
+
 // The lowest of n records that names one that is not there; n if none does.
 pub(crate) fn lowest(table: &[u8], index: &[u64; 128], n: usize) -> usize
     requires { ⌜ Filled (now table) (now index) n ⌝ }
@@ -36,7 +48,7 @@ pub(crate) fn lowest(table: &[u8], index: &[u64; 128], n: usize) -> usize
     let mut t = 0;
     while t < n {
         let e = unpack(index[t]);
-        if dangling(table, parts(table, e), n) {
+        if names_beyond(table, e, n) {
             return t;
         }
         t += 1;

@@ -10,7 +10,7 @@ ghost use Rattle.table.specs.Syntax.{Record};
 ghost use Rattle.table.specs.Reading.{everyAt};
 ghost use Rattle.table.specs.Fields.{universalOf};
 ghost use Rattle.table.specs.Decide.{wrongTags, mistagged};
-ghost use Rattle.table.specs.Entries.{tableIn, Entered, Filled};
+ghost use Rattle.table.specs.Entries.{tagPlace, tableIn, Entered, Filled};
 use crate::entry::Entry;
 use crate::entry::LACKING;
 use crate::entry::tag_place;
@@ -37,6 +37,17 @@ fn any_universal(table: &[u8], p: usize, n: usize) -> bool
     false
 }
 
+// Whether one of the explicit tags is; most records have none.
+fn explicit_universal(table: &[u8], e: Entry) -> bool
+    ensures { λ r. ⌜ r ≡ any (λ x. eqb x 0) (everyAt 3 (now (table .entry)) (tagPlace e 0) (e .explicit)) ⌝ }
+{
+    let n = e.explicit as usize;
+    if n == 0 {
+        return false;
+    }
+    any_universal(table, tag_place(e, 0), n)
+}
+
 // Whether the tag at p is a UNIVERSAL one that its kind does not bear.
 fn wrong_own(table: &[u8], kind: u8, p: usize) -> bool
     requires { ⌜ p < 65536 ⌝ }
@@ -55,14 +66,13 @@ fn wrong(table: &[u8], e: Entry) -> bool
     if e.explicit == LACKING {
         return true;
     }
-    let n = e.explicit as usize;
-    if any_universal(table, tag_place(e, 0), n) {
+    if explicit_universal(table, e) {
         return true;
     }
     if e.kind == CHOICE {
         return false;
     }
-    wrong_own(table, e.kind, tag_place(e, n))
+    wrong_own(table, e.kind, tag_place(e, e.explicit as usize))
 }
 
 // The lowest of n records with such tags; n if there is none.

@@ -1,12 +1,13 @@
 -- `table::references::lowest` meets its contract. The loop's invariant: no record before t fails. The measure is what is left.
 -- Assumes nothing.
+use mathlib.Core.Path.{sym, _∙_}
 use Prim.Native.Nat.{_-_}
 use native.Mathlib.Omega.{arith}
 use borrow.Author.Needs.{needs}
 use Rattle.octets.proofs.Search.{Rest, rest-first, rest-here, rest-next, rest-none}
 use Rattle.table.specs.Decide.{dangling}
 use Rattle.table.specs.Entries.{tableIn}
-use Rattle.table.proofs.Rules.{span-near, span-named}
+use Rattle.table.proofs.Rules.{entry-at}
 use Rattle.table.proofs.references.lowest.Statement.{statement}
 use Rattle.table.proofs.references.lowest.Tie as tie
 
@@ -27,10 +28,9 @@ lowest-spec =
     (λ c. search needs)  -- mul-unpack
     (λ c. omega (arith, c .before .before .before .pre .few))  -- element-copy-out-unpack
     (λ c κs. search needs)  -- unpack-requires
-    (λ c κs. search needs)  -- parts-requires
-    (λ c κs. span-near (c .before .before .before .before .before .before .pre) _ (c .before .before .before .loop-test .taken) (c .before .unpack .ensures) (λ i. omega (arith, c .before .before .before .before .before .shared-slice-known .given i)) (c .parts .ensures))  -- dangling-requires
-    (λ c. rest-here _ _ _ (c .before .before .before .before .before .before .loop .inv) (c .before .before .before .before .before .loop-test .taken) (rw (← span-named (c .before .before .before .before .before .before .before .before .pre) _ (c .before .before .before .before .before .loop-test .taken) (c .before .before .before .unpack .ensures) (c .before .before .parts .ensures), ← c .before .dangling .ensures) (c .if1 .taken)))  -- returns
+    (λ c κs. search needs)  -- names-beyond-requires
+    (λ c. rest-here _ _ _ (c .before .before .before .before .before .loop .inv) (c .before .before .before .before .loop-test .taken) (sym (c .before .names-beyond .ensures _ (entry-at (c .before .before .before .before .before .before .before .pre) _ (c .before .before .before .before .loop-test .taken) (c .before .before .unpack .ensures))) ∙ c .if1 .taken))  -- returns
     (λ c. search needs)  -- add-t
     (λ c. omega arith)  -- loop-less
-    (λ c. rest-next _ _ _ (c .before .before .before .before .before .before .loop .inv) (c .before .before .before .before .before .loop-test .taken) (rw (← span-named (c .before .before .before .before .before .before .before .before .pre) _ (c .before .before .before .before .before .loop-test .taken) (c .before .before .before .unpack .ensures) (c .before .before .parts .ensures), ← c .before .dangling .ensures) (c .if1 .left)))  -- loop-again
+    (λ c. rest-next _ _ _ (c .before .before .before .before .before .loop .inv) (c .before .before .before .before .loop-test .taken) (sym (c .before .names-beyond .ensures _ (entry-at (c .before .before .before .before .before .before .before .pre) _ (c .before .before .before .before .loop-test .taken) (c .before .before .unpack .ensures))) ∙ c .if1 .left))  -- loop-again
     (λ c. rest-none _ _ _ (c .before .loop .inv) (c .loop-test .left)))  -- returns-2

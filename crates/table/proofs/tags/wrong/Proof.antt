@@ -7,16 +7,31 @@ use Rattle.table.proofs.Rules.{wrong-lacking, wrong-explicit, wrong-non
 use Rattle.table.proofs.tags.wrong.Statement.{statement}
 use Rattle.table.proofs.tags.wrong.Tie as tie
 
+returns : tie.Need-returns
+returns c = λ r x. wrong-lacking x (c .if1 .taken)
+
+universal-requires : tie.Need-explicit-universal-requires
+universal-requires c κs = search needs
+
+returns-2 : tie.Need-returns-2
+returns-2 c = λ r x. wrong-explicit x (c .before .before .if1 .left) (sym (c .before .explicit-universal .ensures) ∙ c .if2 .taken)
+
+returns-3 : tie.Need-returns-3
+returns-3 c = λ r x. wrong-none x (c .before .before .before .before .if1 .left) (sym (c .before .before .before .explicit-universal .ensures) ∙ c .before .before .if2 .left) (eq-eqb _ _ (c .if3 .taken))
+
+cast-place : tie.Need-cast-tag-place
+cast-place c = search needs
+
+place-requires : tie.Need-tag-place-requires
+place-requires c κs = search needs
+
+own-requires : tie.Need-wrong-own-requires
+own-requires c κs = search needs
+
+returns-4 : tie.Need-returns-4
+returns-4 c = λ r x. rw (c .before .tag-place .ensures .0) at (c .wrong-own .ensures) ∙ wrong-own x (c .before .before .before .before .before .before .before .if1 .left) (sym (c .before .before .before .before .before .before .explicit-universal .ensures) ∙ c .before .before .before .before .before .if2 .left) (ne-eqb _ _ (c .before .before .before .if3 .left))
+
 pub wrong-spec : {M : Type 1} → statement M
 wrong-spec =
     tie.close
-    (tie.spec
-    (λ c. λ r x. wrong-lacking x (c .if1 .taken))  -- returns
-    (λ c. search needs)  -- cast-n
-    (λ c κs. search needs)  -- tag-place-requires
-    (λ c κs. search needs)  -- any-universal-requires
-    (λ c. λ r x. wrong-explicit x (c .before .before .before .before .if1 .left) (rw (c .before .before .tag-place .ensures .0) at (sym (c .before .any-universal .ensures) ∙ c .if2 .taken)))  -- returns-2
-    (λ c. λ r x. wrong-none x (c .before .before .before .before .before .before .if1 .left) (rw (c .before .before .before .before .tag-place .ensures .0) at (sym (c .before .before .before .any-universal .ensures) ∙ c .before .before .if2 .left)) (eq-eqb _ _ (c .if3 .taken)))  -- returns-3
-    (λ c κs. search needs)  -- tag-place-requires-2
-    (λ c κs. search needs)  -- wrong-own-requires
-    (λ c. λ r x. rw (c .before .tag-place2 .ensures .0) at (c .wrong-own .ensures) ∙ wrong-own x (c .before .before .before .before .before .before .before .before .if1 .left) (rw (c .before .before .before .before .before .before .tag-place .ensures .0) at (sym (c .before .before .before .before .before .any-universal .ensures) ∙ c .before .before .before .before .if2 .left)) (ne-eqb _ _ (c .before .before .if3 .left))))  -- returns-4
+    (tie.spec returns universal-requires returns-2 returns-3 cast-place place-requires own-requires returns-4)
