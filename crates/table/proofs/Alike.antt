@@ -1,7 +1,7 @@
 -- First tags by their codes: the index tells which record stands for a first tag, and which records have none.
 -- Assumes nothing.
-use mathlib.Core.Bool.{Bool, true, false, _&&_, _||_, false≢true}
-use mathlib.Core.List.{List, [], _∷_, List·Memᴰ as In, List·Memᴰ·head as first-of}
+use mathlib.Core.Bool.{Bool, true, false, _||_}
+use mathlib.Core.List.{List, [], _∷_}
 use mathlib.Core.Path.{_≡_, refl, sym, ap, _∙_}
 use Prim.Native.Nat.{ℕ, zero, suc, _+_, _-_, _*_, _/_, _%_, _≤_, _<_}
 use native.Mathlib.Omega.{arith}
@@ -16,7 +16,7 @@ use Rattle.octets.proofs.Lists.{both}
 use Rattle.octets.proofs.Search.{lowest-most}
 use Rattle.ber.specs.Identifier.{bit, leading}
 use Rattle.ber.specs.Codes.{code}
-use Rattle.table.specs.Syntax.{Tag, Body, Record, Table, constructed}
+use Rattle.table.specs.Syntax.{Tag, Record, Table, constructed}
 use Rattle.table.specs.Octets.{recordShaped}
 use Rattle.table.specs.Rules.{tagsBelow}
 use Rattle.table.specs.Reading.{tagsAt}

@@ -37,9 +37,6 @@ pub record Going (T : Table) (m : ℕ) (v ks w rest : List ℕ) : Type 0 where
   pub walked : Walks T m v past w
 
 module _ {T : Table} {m : ℕ} where
-  pub going-start : (v ks : List ℕ) → Going T m v ks v ks
-  going-start v ks = record { past = []; whole = refl; walked = done }
-
   pub going-next : (v ks w : List ℕ) {a : ℕ} {rest : List ℕ} → Going T m v ks w (a ∷ rest) → In a ks
   going-next v ks w x = rw (x .whole) (in-right (x .past) (first-of refl))
 

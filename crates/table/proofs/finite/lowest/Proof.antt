@@ -2,7 +2,6 @@
 -- The measure is how many have no mark. Assumes nothing.
 use mathlib.Core.Path.{_≡_, refl, sym, _∙_}
 use lib.ListN.{length, replicate}
-use borrow.Author.Needs.{needs}
 use borrow.Author.Tests.{not-true, not-false}
 use Rattle.table.specs.Entries.{tableIn}
 use Rattle.table.specs.Walk.{free}

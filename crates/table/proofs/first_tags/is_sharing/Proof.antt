@@ -8,7 +8,7 @@ use native.Mathlib.Omega.{arith}
 use lib.ListN.{length}
 use Rattle.table.specs.Syntax.{references}
 use Rattle.table.specs.Reading.{everyAt}
-use Rattle.table.specs.Entries.{tableIn, countIn}
+use Rattle.table.specs.Entries.{tableIn}
 use Rattle.table.proofs.Rules.{span-near, span-named}
 use Rattle.table.proofs.Walk.{same-size}
 use Rattle.table.proofs.Gather.{every-none, gathers-at}

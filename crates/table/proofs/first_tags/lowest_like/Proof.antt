@@ -1,6 +1,5 @@
 -- `table::first_tags::lowest_like` meets its contract. The loop's invariant: no record before u has the tag. The measure is what is left.
 -- Assumes nothing.
-use mathlib.Core.Path.{_∙_}
 use Prim.Native.Nat.{_-_}
 use native.Mathlib.Omega.{arith}
 use lib.Dec.{eqb}
