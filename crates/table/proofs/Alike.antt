@@ -164,7 +164,8 @@ module _ (b index : List ℕ) (n : ℕ) (o : Octets b) (x : Filled b index n) (t
       by [] q = rw (code-some (x .entered t h) q) (sym (like-untagged T t q))
       by (g ∷ gs) q =
           let f = fronted o (x .entered t h) (x .shaped t h) g gs q in
-          rw (ne-eqb (tagOf (unpacked (getD index t 0) .code)) untagged (λ z. omega (arith, z, f .is, code-small (g .class) (g .number) (f .class) (f .number))))
+          rw (ne-eqb (tagOf (unpacked (getD index t 0) .code)) untagged
+          (λ z. omega (arith, z, f .is, code-small (g .class) (g .number) (f .class) (f .number))))
           (lowest-same _ (λ u. sameOutermost (T u .tags) (T t .tags)) t
           (λ u l. rw q (front-test o (x .entered u (omega arith)) (x .shaped u (omega arith)) (unpacked (getD index t 0)) g gs f)))
 

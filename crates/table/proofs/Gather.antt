@@ -70,7 +70,8 @@ pub going-from : {T : Table} {m : ℕ} (v : List ℕ) {ks l : List ℕ} → ks �
 going-from v {ks} {l} e = record { past = []; whole = e; walked = done }
 
 -- the next record to walk, read from the table
-module _ {T : Table} {m : ℕ} {v ks w : List ℕ} (step : ℕ) (b : List ℕ) (p n a : ℕ) (x : Going T m v ks w (everyAt step b p n)) (h : 0 < n) (e : a ≡ getD b p 0) where
+module _ {T : Table} {m : ℕ} {v ks w : List ℕ} (step : ℕ) (b : List ℕ) (p n a : ℕ)
+    (x : Going T m v ks w (everyAt step b p n)) (h : 0 < n) (e : a ≡ getD b p 0) where
   next-is : Going T m v ks w (a ∷ everyAt step b (p + step) (n - 1))
   next-is = rw e (rw (every-step b p n h step) at x)
 

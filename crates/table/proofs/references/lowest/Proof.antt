@@ -28,9 +28,20 @@ lowest-spec =
     (λ c. omega (arith, c .before .before .before .pre .few))  -- element-copy-out-unpack
     (λ c κs. search needs)  -- unpack-requires
     (λ c κs. search needs)  -- parts-requires
-    (λ c κs. span-near (c .before .before .before .before .before .before .pre) _ (c .before .before .before .loop-test .taken) (c .before .unpack .ensures) (λ i. omega (arith, c .before .before .before .before .before .shared-slice-known .given i)) (c .parts .ensures))  -- dangling-requires
-    (λ c. rest-here _ _ _ (c .before .before .before .before .before .before .loop .inv) (c .before .before .before .before .before .loop-test .taken) (rw (← span-named (c .before .before .before .before .before .before .before .before .pre) _ (c .before .before .before .before .before .loop-test .taken) (c .before .before .before .unpack .ensures) (c .before .before .parts .ensures), ← c .before .dangling .ensures) (c .if1 .taken)))  -- returns
+    (λ c κs. span-near (c .before .before .before .before .before .before .pre) _ (c .before .before .before .loop-test .taken) (c .before .unpack .ensures)
+    (λ i. omega (arith, c .before .before .before .before .before .shared-slice-known .given i)) (c .parts .ensures))  -- dangling-requires
+    (λ c. rest-here _ _ _ (c .before .before .before .before .before .before .loop .inv) (c .before .before .before .before .before .loop-test .taken)
+    (rw (
+      ← span-named (c .before .before .before .before .before .before .before .before .pre) _ (c .before .before .before .before .before .loop-test .taken)
+          (c .before .before .before .unpack .ensures) (c .before .before .parts .ensures),
+      ← c .before .dangling .ensures,
+    ) (c .if1 .taken)))  -- returns
     (λ c. search needs)  -- add-t
     (λ c. omega arith)  -- loop-less
-    (λ c. rest-next _ _ _ (c .before .before .before .before .before .before .loop .inv) (c .before .before .before .before .before .loop-test .taken) (rw (← span-named (c .before .before .before .before .before .before .before .before .pre) _ (c .before .before .before .before .before .loop-test .taken) (c .before .before .before .unpack .ensures) (c .before .before .parts .ensures), ← c .before .dangling .ensures) (c .if1 .left)))  -- loop-again
+    (λ c. rest-next _ _ _ (c .before .before .before .before .before .before .loop .inv) (c .before .before .before .before .before .loop-test .taken)
+    (rw (
+      ← span-named (c .before .before .before .before .before .before .before .before .pre) _ (c .before .before .before .before .before .loop-test .taken)
+          (c .before .before .before .unpack .ensures) (c .before .before .parts .ensures),
+      ← c .before .dangling .ensures,
+    ) (c .if1 .left)))  -- loop-again
     (λ c. rest-none _ _ _ (c .before .loop .inv) (c .loop-test .left)))  -- returns-2

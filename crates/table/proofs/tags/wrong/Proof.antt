@@ -15,8 +15,15 @@ wrong-spec =
     (λ c. search needs)  -- cast-n
     (λ c κs. search needs)  -- tag-place-requires
     (λ c κs. search needs)  -- any-universal-requires
-    (λ c. λ r x. wrong-explicit x (c .before .before .before .before .if1 .left) (rw (c .before .before .tag-place .ensures .0) at (sym (c .before .any-universal .ensures) ∙ c .if2 .taken)))  -- returns-2
-    (λ c. λ r x. wrong-none x (c .before .before .before .before .before .before .if1 .left) (rw (c .before .before .before .before .tag-place .ensures .0) at (sym (c .before .before .before .any-universal .ensures) ∙ c .before .before .if2 .left)) (eq-eqb _ _ (c .if3 .taken)))  -- returns-3
+    (λ c. λ r x. wrong-explicit x (c .before .before .before .before .if1 .left)
+    (rw (c .before .before .tag-place .ensures .0) at (sym (c .before .any-universal .ensures) ∙ c .if2 .taken)))  -- returns-2
+    (λ c. λ r x. wrong-none x (c .before .before .before .before .before .before .if1 .left)
+    (rw (c .before .before .before .before .tag-place .ensures .0) at (sym (c .before .before .before .any-universal .ensures) ∙
+    c .before .before .if2 .left)) (eq-eqb _ _ (c .if3 .taken)))  -- returns-3
     (λ c κs. search needs)  -- tag-place-requires-2
     (λ c κs. search needs)  -- wrong-own-requires
-    (λ c. λ r x. rw (c .before .tag-place2 .ensures .0) at (c .wrong-own .ensures) ∙ wrong-own x (c .before .before .before .before .before .before .before .before .if1 .left) (rw (c .before .before .before .before .before .before .tag-place .ensures .0) at (sym (c .before .before .before .before .before .any-universal .ensures) ∙ c .before .before .before .before .if2 .left)) (ne-eqb _ _ (c .before .before .if3 .left))))  -- returns-4
+    (λ c. λ r x. rw (c .before .tag-place2 .ensures .0) at (c .wrong-own .ensures) ∙ wrong-own x
+    (c .before .before .before .before .before .before .before .before .if1 .left)
+    (rw (c .before .before .before .before .before .before .tag-place .ensures .0)
+    at (sym (c .before .before .before .before .before .any-universal .ensures) ∙ c .before .before .before .before .if2 .left))
+    (ne-eqb _ _ (c .before .before .if3 .left))))  -- returns-4
