@@ -1,7 +1,7 @@
 -- The entry of a record: what it says of the record, and the places in the table's octets to which it leads.
 -- Assumes nothing.
 use mathlib.Core.Bool.{Bool, true, false, not, _||_, false≢true}
-use mathlib.Core.List.{List, [], _∷_}
+use mathlib.Core.List.{List}
 use mathlib.Core.Logic.{_⊎_, ⊎-elim}
 use mathlib.Core.Path.{_≡_, refl, sym, ap, _∙_}
 use Prim.Native.Nat.{ℕ, zero, suc, _+_, _-_, _*_, _≤_, _<_}
@@ -10,9 +10,8 @@ use lib.Dec.{ltb, leb, eqb}
 use lib.ListN.{length, getD}
 use borrow.Author.Tests.{leb-false, ltb-true, ltb-false, lt-ltb, le-ltb, le-leb, eqb-false, ne-eqb}
 use Rattle.octets.specs.Tests.{if}
-use Rattle.octets.specs.Numbers.{Octets, two}
+use Rattle.octets.specs.Numbers.{Octets}
 use Rattle.octets.proofs.Tests.{test, at}
-use Rattle.ber.specs.Codes.{code}
 use Rattle.table.specs.Syntax.{Tag, Member, Boolean, Integer, BitString, OctetString, Null, Enumerated, Body, Plain, Sequence, Set, SequenceOf, SetOf, Choice, Record, references, isChoice, constructed}
 use Rattle.table.specs.Octets.{kind}
 use Rattle.table.specs.Reading.{tagsAt, numbersAt, membersAt, everyAt, bodyAt, ownAt, recordAt, countedEnd, enumeratedEnd, membersEnd, referenceEnd, ownEnd, recordEnd}

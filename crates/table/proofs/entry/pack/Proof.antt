@@ -28,4 +28,7 @@ pack-spec =
     (λ c. omega (arith, high-below c))  -- add-result-2
     (λ c. omega (arith, high-below c))  -- mul-result-3
     (λ c. omega (arith, high-below c))  -- add-result-3
-    (λ c. let a = c .before .before .args in rw (high-is c) (unpacks (a .simple) (a .explicit) (a .kind) (a .own) (a .code) (c .before .before .pre) (omega arith) (omega arith) (omega arith))))  -- returns
+    (λ c.
+    let a = c .before .before .args in
+    rw (high-is c) (unpacks (a .simple) (a .explicit) (a .kind) (a .own) (a .code) (c .before .before .pre) (omega arith) (omega arith)
+    (omega arith))))  -- returns

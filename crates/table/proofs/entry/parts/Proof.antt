@@ -17,7 +17,22 @@ parts-spec =
     (λ c κs. search needs)  -- counted-requires
     (λ c. rw (sym (c .before .before .has-members .ensures) ∙ c .before .if1 .taken, c .counted .ensures))  -- returns
     (λ c κs. search needs)  -- counted-requires-2
-    (λ c. rw (sym (c .before .before .before .has-members .ensures) ∙ c .before .before .if1 .left, eq-eqb _ _ (c .before .if2 .taken), c .counted2 .ensures))  -- returns-2
+    (λ c. rw (
+      sym (c .before .before .before .has-members .ensures) ∙ c .before .before .if1 .left,
+      eq-eqb _ _
+          (c .before .if2 .taken),
+      c .counted2 .ensures,
+    ))  -- returns-2
     (λ c κs. search needs)  -- is-list-requires
-    (λ c. rw (sym (c .before .before .before .before .has-members .ensures) ∙ c .before .before .before .if1 .left, ne-eqb _ _ (c .before .before .if2 .left), sym (c .before .is-list .ensures) ∙ c .if3 .taken))  -- returns-3
-    (λ c. rw (sym (c .before .before .before .before .has-members .ensures) ∙ c .before .before .before .if1 .left, ne-eqb _ _ (c .before .before .if2 .left), sym (c .before .is-list .ensures) ∙ c .if3 .left)))  -- returns-4
+    (λ c. rw (
+      sym (c .before .before .before .before .has-members .ensures) ∙ c .before .before .before .if1 .left,
+      ne-eqb _ _
+          (c .before .before .if2 .left),
+      sym (c .before .is-list .ensures) ∙ c .if3 .taken,
+    ))  -- returns-3
+    (λ c. rw (
+      sym (c .before .before .before .before .has-members .ensures) ∙ c .before .before .before .if1 .left,
+      ne-eqb _ _
+          (c .before .before .if2 .left),
+      sym (c .before .is-list .ensures) ∙ c .if3 .left,
+    )))  -- returns-4

@@ -6,14 +6,8 @@ use mathlib.Core.Path.{_≡_, _∙_}
 use lib.Dec.{ltb}
 use borrow.Author.Needs.{needs}
 use borrow.Author.Tests.{lt-ltb, le-ltb}
-use Rattle.ber.proofs.identifier.code_of.Reads as code-of-reads
-use Rattle.octets.proofs.number.Reads as number-reads
-use Rattle.octets.proofs.octet.Reads as octet-reads
-use Rattle.table.proofs.entry.tag_place.Reads as tag-place-reads
 use Rattle.table.proofs.entry.tag_code.Statement.{statement}
 use Rattle.table.proofs.entry.tag_code.Tie as tie
-use Rattle.table.proofs.entry.tag_code.Reads as reads
-use Rattle.table.proofs.entry.tag_code.Lts as lts
 
 pub tag-code-spec : {M : Type 1} → statement M
 tag-code-spec =
@@ -30,5 +24,6 @@ tag-code-spec =
     (λ c.
     let a = c .before .before .before .before .before .before .before .args in
     let e : c .before .if1 .constructed ≡ (ltb (a .j) (a .e .explicit) || not (a .e .simple)) =
-    ⊎-elim (λ w. w .1 ∙ rw (lt-ltb (a .j) (a .e .explicit) (w .0 .taken))) (λ w. w .2 ∙ rw (le-ltb (a .j) (a .e .explicit) (w .0 .left))) (c .before .if1 .came) in
+    ⊎-elim (λ w. w .1 ∙ rw (lt-ltb (a .j) (a .e .explicit) (w .0 .taken))) (λ w. w .2 ∙ rw (le-ltb (a .j) (a .e .explicit) (w .0 .left)))
+    (c .before .if1 .came) in
     rw (c .code-of .ensures .0, c .before .before .before .before .octet .ensures .0, c .before .before .before .number .ensures .0, c .before .before .before .before .before .tag-place .ensures .0, e)))  -- returns

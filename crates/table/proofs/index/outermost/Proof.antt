@@ -18,6 +18,20 @@ outermost-spec =
     (λ c κs. search needs)  -- number-requires
     (λ c. search needs)  -- cast-n
     (λ c κs. search needs)  -- code-of-requires
-    (λ c. rw (ne-eqb _ _ (c .before .before .before .before .if1 .left), lt-ltb _ _ (c .before .if2 .taken), c .code-of .ensures .0, c .before .before .before .octet .ensures .0, c .before .before .number .ensures .0))  -- returns-2
+    (λ c. rw (
+      ne-eqb _ _ (c .before .before .before .before .if1 .left),
+      lt-ltb _ _
+          (c .before .if2 .taken),
+      c .code-of .ensures .0,
+      c .before .before .before .octet .ensures .0,
+      c .before .before .number .ensures .0,
+    ))  -- returns-2
     (λ c κs. search needs)  -- code-of-requires-2
-    (λ c. rw (ne-eqb _ _ (c .before .before .before .before .if1 .left), le-ltb _ _ (c .before .if2 .left), c .code-of2 .ensures .0, c .before .before .before .octet .ensures .0, c .before .before .number .ensures .0)))  -- returns-3
+    (λ c. rw (
+      ne-eqb _ _ (c .before .before .before .before .if1 .left),
+      le-ltb _ _
+          (c .before .if2 .left),
+      c .code-of2 .ensures .0,
+      c .before .before .before .octet .ensures .0,
+      c .before .before .number .ensures .0,
+    )))  -- returns-3
