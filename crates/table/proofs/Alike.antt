@@ -1,7 +1,7 @@
 -- First tags by their codes: the index tells which record stands for a first tag, and which records have none.
 -- Assumes nothing.
-use mathlib.Core.Bool.{Bool, true, false, _&&_, _||_, false≢true}
-use mathlib.Core.List.{List, [], _∷_, List·Memᴰ as In, List·Memᴰ·head as first-of}
+use mathlib.Core.Bool.{Bool, true, false, _||_}
+use mathlib.Core.List.{List, [], _∷_}
 use mathlib.Core.Path.{_≡_, refl, sym, ap, _∙_}
 use Prim.Native.Nat.{ℕ, zero, suc, _+_, _-_, _*_, _/_, _%_, _≤_, _<_}
 use native.Mathlib.Omega.{arith}
@@ -16,7 +16,7 @@ use Rattle.octets.proofs.Lists.{both}
 use Rattle.octets.proofs.Search.{lowest-most}
 use Rattle.ber.specs.Identifier.{bit, leading}
 use Rattle.ber.specs.Codes.{code}
-use Rattle.table.specs.Syntax.{Tag, Body, Record, Table, constructed}
+use Rattle.table.specs.Syntax.{Tag, Record, Table, constructed}
 use Rattle.table.specs.Octets.{recordShaped}
 use Rattle.table.specs.Rules.{tagsBelow}
 use Rattle.table.specs.Reading.{tagsAt}
@@ -164,7 +164,8 @@ module _ (b index : List ℕ) (n : ℕ) (o : Octets b) (x : Filled b index n) (t
       by [] q = rw (code-some (x .entered t h) q) (sym (like-untagged T t q))
       by (g ∷ gs) q =
           let f = fronted o (x .entered t h) (x .shaped t h) g gs q in
-          rw (ne-eqb (tagOf (unpacked (getD index t 0) .code)) untagged (λ z. omega (arith, z, f .is, code-small (g .class) (g .number) (f .class) (f .number))))
+          rw (ne-eqb (tagOf (unpacked (getD index t 0) .code)) untagged
+          (λ z. omega (arith, z, f .is, code-small (g .class) (g .number) (f .class) (f .number))))
           (lowest-same _ (λ u. sameOutermost (T u .tags) (T t .tags)) t
           (λ u l. rw q (front-test o (x .entered u (omega arith)) (x .shaped u (omega arith)) (unpacked (getD index t 0)) g gs f)))
 

@@ -1,6 +1,6 @@
 -- The fields of a record by its kind's form: what the code reads is what the record says.
 -- Assumes nothing.
-use mathlib.Core.Bool.{Bool, true, false, not, _||_}
+use mathlib.Core.Bool.{Bool, true, false, not}
 use mathlib.Core.List.{List, [], _∷_, map}
 use mathlib.Core.Path.{_≡_, refl, sym, ap}
 use Prim.Native.Nat.{ℕ, zero, suc, _+_, _*_, _/_, _%_, _≤_, _<_}
@@ -8,13 +8,12 @@ use native.Mathlib.Omega.{arith}
 use lib.Dec.{eqb}
 use lib.ListN.{getD}
 use borrow.Author.Tests.{ne-eqb, eqb-true, not-true, not-false}
-use Rattle.octets.specs.Lists.{any, all, lowestFrom}
+use Rattle.octets.specs.Lists.{lowestFrom}
 use Rattle.octets.proofs.Tests.{at}
 use Rattle.octets.proofs.Search.{upto}
-use Rattle.table.specs.Syntax.{Tag, Member, Boolean, Integer, BitString, OctetString, Null, Enumerated, Body, Plain, Sequence, Set, SequenceOf, SetOf, Choice, references, isChoice, universal, constructed}
+use Rattle.table.specs.Syntax.{Member, Boolean, Integer, BitString, OctetString, Null, Enumerated, Body, Plain, Sequence, Set, SequenceOf, SetOf, Choice, references, isChoice, universal, constructed}
 use Rattle.table.specs.Rules.{bodyBelow, tagsBelow, parts}
 use Rattle.table.specs.Reading.{tagsAt, numbersAt, membersAt, everyAt, bodyAt, ownAt, recordAt}
-use Rattle.table.specs.Decide.{wrongTags, finiteBody}
 use Rattle.table.specs.Fields.{formOf, universalOf, constructedOf, choiceOf, choiceBy, Viewed, plain, sequence, set, sequence-of, set-of, choice}
 use Rattle.table.specs.declared.kind.Form.{Form}
 use Rattle.table.specs.declared.kind.Form.the-variants.{Simple as FSimple, Members as FMembers, Of as FOf, Choice as FChoice}
@@ -62,12 +61,6 @@ belowBy b p FMembers = []
 belowBy b p FOf = []
 belowBy b p FChoice = everyAt 1 b (p + 1) (getD b p 0)
 
-abbrev pub finiteBy : (ℕ → Bool) → List ℕ → ℕ → Form → Bool
-finiteBy m b p FSimple = true
-finiteBy m b p FMembers = all (λ x. x .optional || m (x .type)) (membersAt b (p + 1) (getD b p 0))
-finiteBy m b p FOf = true
-finiteBy m b p FChoice = any m (everyAt 1 b (p + 1) (getD b p 0))
-
 module _ {b : List ℕ} {p : ℕ} where
   references-view : {f : Form} {x : Body} → Viewed b p f x → references x ≡ referencesBy b p f
   unfolding references everyAt
@@ -96,15 +89,6 @@ module _ {b : List ℕ} {p : ℕ} where
   below-view set-of = refl
   below-view choice = refl
 
-  finite-view : (m : ℕ → Bool) {f : Form} {x : Body} → Viewed b p f x → finiteBody m x ≡ finiteBy m b p f
-  unfolding finiteBody
-  finite-view m (plain s) = refl
-  finite-view m sequence = refl
-  finite-view m set = refl
-  finite-view m sequence-of = refl
-  finite-view m set-of = refl
-  finite-view m choice = refl
-
   choice-view : {f : Form} {x : Body} → Viewed b p f x → isChoice x ≡ choiceBy f
   unfolding isChoice
   choice-view (plain s) = refl
@@ -131,10 +115,6 @@ module _ (b : List ℕ) (o : ℕ) where
   unfolding recordAt
   parts-at = parts-view (viewed b (getD b (o + 2) 0) (ownAt b o))
 
-  pub finite-at : (m : ℕ → Bool) → finiteBody m (recordAt b o .body) ≡ finiteBy m b (ownAt b o) (formOf (getD b (o + 2) 0))
-  unfolding recordAt
-  finite-at m = finite-view m (viewed b (getD b (o + 2) 0) (ownAt b o))
-
   -- with tags there is nothing below
   pub below-none : (getD b (o + 3) 0 ≡ 0 → ⊥) → tagsBelow (recordAt b o .tags) (recordAt b o .body) ≡ []
   unfolding recordAt
@@ -155,9 +135,6 @@ module _ (b : List ℕ) (o p k : ℕ) (f : Form) (own : p ≡ ownAt b o) (kind :
 
   pub below-spans : getD b (o + 3) 0 ≡ 0 → belowBy b p f ≡ tagsBelow (recordAt b o .tags) (recordAt b o .body)
   below-spans e = rw (below-at b o e, own, form, kind)
-
-  pub finite-reads : (m : ℕ → Bool) → finiteBody m (recordAt b o .body) ≡ finiteBy m b p f
-  finite-reads m = rw (finite-at, own, form, kind)
 
 -- bodies of one kind
 data Alike : Body → Body → Type 0 where
@@ -226,13 +203,6 @@ module _ (b : List ℕ) (k p : ℕ) where
 
   pub choice-of : isChoice (bodyAt b k p) ≡ choiceOf k
   choice-of = choice-alike (alike b k p)
-
-  -- the rule of the tags goes by the kind alone
-  pub wrong-of : (gs : List Tag) → wrongTags (bodyAt b k p) gs ≡ wrongTags (bodyAt [] k 0) gs
-  unfolding wrongTags
-  wrong-of [] = rw choice-of
-  wrong-of (g ∷ []) = rw (choice-of, universal-of)
-  wrong-of (g ∷ h ∷ gs) = ap (λ t. eqb (g .class) 0 || t) (wrong-of (h ∷ gs))
 
 -- a number that is no kind
 pub no-kind : (k : ℕ) → 50 ≤ k → bodyAt [] k 0 ≡ Choice []

@@ -37,9 +37,6 @@ pub record Going (T : Table) (m : ℕ) (v ks w rest : List ℕ) : Type 0 where
   pub walked : Walks T m v past w
 
 module _ {T : Table} {m : ℕ} where
-  pub going-start : (v ks : List ℕ) → Going T m v ks v ks
-  going-start v ks = record { past = []; whole = refl; walked = done }
-
   pub going-next : (v ks w : List ℕ) {a : ℕ} {rest : List ℕ} → Going T m v ks w (a ∷ rest) → In a ks
   going-next v ks w x = rw (x .whole) (in-right (x .past) (first-of refl))
 
@@ -73,7 +70,8 @@ pub going-from : {T : Table} {m : ℕ} (v : List ℕ) {ks l : List ℕ} → ks �
 going-from v {ks} {l} e = record { past = []; whole = e; walked = done }
 
 -- the next record to walk, read from the table
-module _ {T : Table} {m : ℕ} {v ks w : List ℕ} (step : ℕ) (b : List ℕ) (p n a : ℕ) (x : Going T m v ks w (everyAt step b p n)) (h : 0 < n) (e : a ≡ getD b p 0) where
+module _ {T : Table} {m : ℕ} {v ks w : List ℕ} (step : ℕ) (b : List ℕ) (p n a : ℕ)
+    (x : Going T m v ks w (everyAt step b p n)) (h : 0 < n) (e : a ≡ getD b p 0) where
   next-is : Going T m v ks w (a ∷ everyAt step b (p + step) (n - 1))
   next-is = rw e (rw (every-step b p n h step) at x)
 

@@ -11,7 +11,6 @@ mod Own
 mod Walk
 mod Nodes
 mod Straight
-mod Outermost
 mod Gather
 mod Shared
 mod Judged

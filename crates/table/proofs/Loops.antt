@@ -1,22 +1,18 @@
 -- Loops through a table's octets, with a place and how many are left: what is left to test decides the whole test.
 -- Assumes nothing.
-use mathlib.Core.Bool.{Bool, true, false, not}
+use mathlib.Core.Bool.{Bool, true, false}
 use mathlib.Core.List.{List, [], _∷_}
-use mathlib.Core.Path.{_≡_, refl, sym, _∙_}
+use mathlib.Core.Path.{_≡_, refl, _∙_}
 use Prim.Native.Nat.{ℕ, zero, suc, _+_, _*_, _-_, _≤_, _<_}
 use native.Mathlib.Omega.{arith}
 use lib.ListN.{length, getD}
-use borrow.Author.Tests.{le-leb, lt-leb, eq-eqb, ne-eqb}
+use borrow.Author.Tests.{le-leb, lt-leb}
 use Rattle.octets.specs.Lists.{any, all, lowestFrom, lowest}
 use Rattle.octets.specs.Numbers.{two}
 use Rattle.octets.proofs.Tests.{test}
 use Rattle.octets.proofs.Search.{any-here, any-next, all-here, all-next}
-use Rattle.table.specs.Syntax.{Body}
 use Rattle.table.specs.Octets.{rising}
-use Rattle.table.specs.Reading.{tagsAt, numbersAt, everyAt, bodyAt, recordAt}
-use Rattle.table.specs.Decide.{wrongTags}
-use Rattle.table.specs.Fields.{choiceOf}
-use Rattle.table.proofs.Fields.{wrong-of}
+use Rattle.table.specs.Reading.{numbersAt, everyAt}
 
 pub every-step : (b : List ℕ) (p n : ℕ) → 0 < n → (step : ℕ) → everyAt step b p n ≡ getD b p 0 ∷ everyAt step b (p + step) (n - 1)
 unfolding everyAt
@@ -59,33 +55,6 @@ module _ (b : List ℕ) (low p n : ℕ) (w : Bool) where
   pub rising-ends : rising low (numbersAt b p n) ≡ w → n ≤ 0 → true ≡ w
   unfolding numbersAt rising
   rising-ends e h = let q : n ≡ 0 = omega arith in rw q at e
-
--- the tags before the last
-module _ (x : Body) (b : List ℕ) (p n : ℕ) (w : Bool) where
-  pub wrong-stops : wrongTags x (tagsAt b p n) ≡ w → 1 < n → getD b p 0 ≡ 0 → true ≡ w
-  unfolding tagsAt wrongTags
-  wrong-stops e h t = let q : n ≡ suc (suc (n - 2)) = omega arith in rw (q, eq-eqb (getD b p 0) 0 t) at e
-
-  pub wrong-goes : wrongTags x (tagsAt b p n) ≡ w → 1 < n → (getD b p 0 ≡ 0 → ⊥) → wrongTags x (tagsAt b (p + 3) (n - 1)) ≡ w
-  unfolding tagsAt wrongTags
-  wrong-goes e h t =
-      let q : n ≡ suc (suc (n - 2)) = omega arith in
-      let r : n - 1 ≡ suc (n - 2) = omega arith in
-      rw r (rw (q, ne-eqb (getD b p 0) 0 t) at e)
-
-  pub wrong-ends : wrongTags x (tagsAt b p n) ≡ w → 1 ≤ n → n ≤ 1 → wrongTags x (tagsAt b p 1) ≡ w
-  wrong-ends e h l = let q : n ≡ 1 = omega arith in rw q at e
-
--- the whole rule of a record's tags, by its kind and its count of tags
-pub wrong-at : (b : List ℕ) (o k n : ℕ) → k ≡ getD b (o + 2) 0 → n ≡ getD b (o + 3) 0
-    → wrongTags (bodyAt [] k 0) (tagsAt b (o + 4) n) ≡ wrongTags (recordAt b o .body) (recordAt b o .tags)
-unfolding recordAt
-wrong-at b o k n d e = rw (d, e) (sym (wrong-of b (getD b (o + 2) 0) (o + 4 + 3 * getD b (o + 3) 0) (tagsAt b (o + 4) (getD b (o + 3) 0))))
-
-pub wrong-none : (b : List ℕ) (o k n : ℕ) → k ≡ getD b (o + 2) 0 → n ≡ getD b (o + 3) 0 → n ≡ 0
-    → not (choiceOf k) ≡ wrongTags (recordAt b o .body) (recordAt b o .tags)
-unfolding tagsAt wrongTags
-wrong-none b o k n d e z = rw z at (wrong-at b o k n d e)
 
 -- a product that does not wrap
 pub few-times : (s n : ℕ) → s < 3 → n < 256 → s * n < 600

@@ -8,7 +8,6 @@ use native.Mathlib.Omega.{arith}
 use lib.Dec.{ltb}
 use borrow.Author.Tests.{eq-eqb, ltb-true, ltb-false}
 use Rattle.octets.proofs.Tests.{test}
-use Rattle.octets.specs.Lists.{lowest}
 use Rattle.octets.proofs.Search.{lowest-most, lowest-passes, before-lowest}
 use Rattle.table.specs.Syntax.{Tag, Table}
 use Rattle.table.specs.Rules.{Reaches, here, through, First, outermost, inside}

@@ -59,7 +59,8 @@ circle-end T t {v} {w} {q} r z x e = (λ f. yes f (keeps y t), λ f c. none f c)
 
     none : r ≡ false → Circular T t → ⊥
     none f c =
-        let q = complete {m = 1} (λ o. omega arith) (λ j o. omega (arith, z j, o)) y (c .alternative) (c .of) (reaches-hits T (untagged (T t .tags) (T t .body) (c .alternative) (c .of)) (c .back)) in
+        let g = untagged (T t .tags) (T t .body) (c .alternative) (c .of) in
+        let q = complete {m = 1} (λ o. omega arith) (λ j o. omega (arith, z j, o)) y (c .alternative) (c .of) (reaches-hits T g (c .back)) in
         true≢false (sym (rw q at e) ∙ f)
 
 -- a record with tags is in no circle
@@ -113,7 +114,13 @@ module _ (T : Table) (m : ℕ) (ps w u rest : List ℕ) (a : ℕ) (x : Owned T p
 
     pub owned-turn : Owned T ps u (m + 1) rest
     owned-turn =
-        record { past = x .past ++ (a ∷ []); mark = omega (arith, e, size); whole = x .whole ∙ sym (append-assoc (x .past) (a ∷ []) rest); own = own-next; from = from-next }
+        record {
+          past = x .past ++ (a ∷ []);
+          mark = omega (arith, e, size);
+          whole = x .whole ∙ sym (append-assoc (x .past) (a ∷ []) rest);
+          own = own-next;
+          from = from-next;
+        }
 
 -- two of the records ps have a first tag in common
 pub record Pairing (T : Table) (ps : List ℕ) : Type 0 where

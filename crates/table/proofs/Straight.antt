@@ -14,7 +14,7 @@ use Rattle.octets.proofs.Tests.{test}
 use Rattle.octets.proofs.Lists.{both}
 use Rattle.table.specs.Syntax.{Tag, Table, Body, Plain, Sequence, Set, SequenceOf, SetOf, Choice, Record, isChoice, references}
 use Rattle.table.specs.Octets.{recordShaped, bodyShaped}
-use Rattle.table.specs.Rules.{below, tagsBelow, bodyBelow, parts, Reaches, here, through, Circular, First, outermost, inside, Mistagged, missing}
+use Rattle.table.specs.Rules.{below, tagsBelow, bodyBelow, Reaches, here, through, Circular, First, outermost, inside, Mistagged, missing}
 use Rattle.table.specs.Passes.{Nested}
 use Rattle.table.specs.Walk.{like, free, Hits, Named, Straight}
 use Rattle.table.proofs.Nodes.{hits-record, hits-first, hits-reaches, reaches-first, like-untagged}

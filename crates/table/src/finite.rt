@@ -1,7 +1,7 @@
 // 6: a record with no finite value (FORMATS, "Tables" and "Refusals").
 ghost use mathlib.Core.Path.{_≡_};
 ghost use mathlib.Core.Bool.{not, _||_};
-ghost use Prim.Native.Nat.{_≤_, _<_, _+_};
+ghost use Prim.Native.Nat.{_≤_, _<_};
 ghost use lib.ListN.{length};
 ghost use Rattle.octets.specs.Lists.{any, all, lowest};
 ghost use Rattle.table.specs.Syntax.{Record};

@@ -1,7 +1,7 @@
 // 4 and 5: a CHOICE without tags that comes back to itself, and first tags that two parts share (FORMATS, "Tables" and "Refusals").
 ghost use mathlib.Core.Path.{_≡_};
 ghost use mathlib.Core.Bool.{true, false};
-ghost use Prim.Native.Nat.{ℕ, _≤_, _<_};
+ghost use Prim.Native.Nat.{ℕ, _<_};
 ghost use lib.ListN.{length, getD, replicate};
 ghost use Rattle.octets.specs.Lists.{lowest};
 ghost use Rattle.table.specs.Rules.{Circular, Sharing};

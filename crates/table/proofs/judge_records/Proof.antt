@@ -15,6 +15,21 @@ judge-records-spec =
     (λ c κs. search needs)  -- lowest-requires
     (λ c. rw (← c .before .lowest .ensures, lt-ltb _ _ (c .if1 .taken)))  -- returns
     (λ c κs. search needs)  -- lowest-requires-2
-    (λ c. rw (← c .before .before .before .lowest .ensures, le-ltb _ _ (c .before .before .if1 .left), ← c .before .lowest2 .ensures, lt-ltb _ _ (c .if2 .taken)))  -- returns-2
-    (λ c κs. (c .before .before .before .before .before .pre, named _ _ _ _ (c .before .before .before .before .before .pre .shaped) (c .before .before .before .lowest .ensures) (c .before .before .if1 .left) (c .before .lowest2 .ensures) (c .if2 .left)))  -- judge-choices-requires
-    (λ c. rw (← c .before .before .before .before .lowest .ensures, le-ltb _ _ (c .before .before .before .if1 .left), ← c .before .before .lowest2 .ensures, le-ltb _ _ (c .before .if2 .left)) (c .judge-choices .ensures)))  -- returns-3
+    (λ c. rw (
+      ← c .before .before .before .lowest .ensures,
+      le-ltb _ _ (c .before .before .if1 .left),
+      ← c .before .lowest2 .ensures,
+      lt-ltb _ _
+          (c .if2 .taken),
+    ))  -- returns-2
+    (λ c κs. (
+      c .before .before .before .before .before .pre,
+      named _ _ _ _ (c .before .before .before .before .before .pre .shaped)
+          (c .before .before .before .lowest .ensures) (c .before .before .if1 .left) (c .before .lowest2 .ensures) (c .if2 .left),
+    ))  -- judge-choices-requires
+    (λ c. rw (
+      ← c .before .before .before .before .lowest .ensures,
+      le-ltb _ _ (c .before .before .before .if1 .left),
+      ← c .before .before .lowest2 .ensures,
+      le-ltb _ _ (c .before .if2 .left),
+    ) (c .judge-choices .ensures)))  -- returns-3

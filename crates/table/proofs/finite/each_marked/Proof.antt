@@ -29,7 +29,9 @@ each-marked-spec =
     (λ c κs. search needs)  -- optional-requires
     (λ c κs. search needs)  -- octet-requires
     (λ c κs. search needs)  -- marked-requires
-    (λ c. present-stops (isMarked _) _ _ _ _ (c .before .before .before .before .before .before .loop .inv .1) (c .before .before .before .before .before .loop-test .taken) (rw (← c .before .before .before .before .optional .ensures) (not-true _ (c .before .before .before .if1 .taken)))
+    (λ c. present-stops (isMarked _) _ _ _ _ (c .before .before .before .before .before .before .loop .inv .1)
+    (c .before .before .before .before .before .loop-test .taken) (rw (← c .before .before .before .before .optional .ensures)
+    (not-true _ (c .before .before .before .if1 .taken)))
     (rw (← c .before .before .octet .ensures .0, ← c .before .marked .ensures) (not-true _ (c .if2 .taken))))  -- returns
     (λ c. omega arith)  -- add-at
     (λ c. omega arith)  -- sub-left
@@ -37,8 +39,10 @@ each-marked-spec =
     (λ c. (
       omega arith,
       ⊎-elim
-          (λ w. present-marked (isMarked _) _ _ _ _ (c .before .before .before .loop .inv .1) (c .before .before .loop-test .taken) (rw (← w .1 .ensures .0, ← w .2 .ensures) (not-false _ (w .3 .left))))
-          (λ w. present-optional (isMarked _) _ _ _ _ (c .before .before .before .loop .inv .1) (c .before .before .loop-test .taken) (rw (← c .before .optional .ensures) (not-false _ (w .left))))
+          (λ w. present-marked (isMarked _) _ _ _ _ (c .before .before .before .loop .inv .1) (c .before .before .loop-test .taken)
+          (rw (← w .1 .ensures .0, ← w .2 .ensures) (not-false _ (w .3 .left))))
+          (λ w. present-optional (isMarked _) _ _ _ _ (c .before .before .before .loop .inv .1) (c .before .before .loop-test .taken)
+          (rw (← c .before .optional .ensures) (not-false _ (w .left))))
           (c .if1 .came),
     ))  -- loop-again
     (λ c. present-ends (isMarked _) _ _ _ _ (c .before .loop .inv .1) (omega arith)))  -- returns-2

@@ -2,7 +2,6 @@
 -- The measure is how many have no mark. Assumes nothing.
 use mathlib.Core.Path.{_≡_, refl, sym, _∙_}
 use lib.ListN.{length, replicate}
-use borrow.Author.Needs.{needs}
 use borrow.Author.Tests.{not-true, not-false}
 use Rattle.table.specs.Entries.{tableIn}
 use Rattle.table.specs.Walk.{free}
@@ -27,10 +26,21 @@ lowest-spec =
     μ-loop
     (λ c. (refl, same))  -- loop-holds
     (λ c κs. (c .before .before .before .pre, c .before .loop .inv .0))  -- round-requires
-    (λ c κs. (raised-size _ (c .before .round .ensures .raised) ∙ c .before .before .before .loop .inv .0, c .before .before .before .before .before .pre .few))  -- lowest-without-requires
-    (λ c. sym (c .if1 .taken) ∙ c .before .lowest-without .ensures ∙ lowest-full _ _ (filled-beyond (c .before .before .before .before .before .before .before .pre)) _ _ (zeros 128)
-    (raised-on _ (c .before .before .before .before .before .loop .inv .1) (c .before .before .before .round .ensures .raised)) (sym (c .before .lowest-without .ensures) ∙ c .if1 .taken))  -- returns
-    (λ c. c .before .before .lowest-without .ensures ∙ lowest-closed _ _ (filled-beyond (c .before .before .before .before .before .before .before .before .pre)) _ _ (zeros 128)
-    (raised-on _ (c .before .before .before .before .before .before .loop .inv .1) (c .before .before .before .before .round .ensures .raised)) (looked-closed _ _ (c .before .before .before .before .round .ensures) (not-true _ (c .if2 .taken))))  -- returns-2
+    (λ c κs. (
+      raised-size _ (c .before .round .ensures .raised) ∙ c .before .before .before .loop .inv .0,
+      c .before .before .before .before .before .pre .few,
+    ))  -- lowest-without-requires
+    (λ c. sym (c .if1 .taken) ∙ c .before .lowest-without .ensures ∙ lowest-full _ _
+    (filled-beyond (c .before .before .before .before .before .before .before .pre)) _ _ (zeros 128)
+    (raised-on _ (c .before .before .before .before .before .loop .inv .1) (c .before .before .before .round .ensures .raised))
+    (sym (c .before .lowest-without .ensures) ∙ c .if1 .taken))  -- returns
+    (λ c. c .before .before .lowest-without .ensures ∙ lowest-closed _ _
+    (filled-beyond (c .before .before .before .before .before .before .before .before .pre)) _ _ (zeros 128)
+    (raised-on _ (c .before .before .before .before .before .before .loop .inv .1) (c .before .before .before .before .round .ensures .raised))
+    (looked-closed _ _ (c .before .before .before .before .round .ensures) (not-true _ (c .if2 .taken))))  -- returns-2
     (λ c. c .before .before .before .before .round .ensures .fewer (not-false _ (c .if2 .left)))  -- loop-less
-    (λ c. (raised-size _ (c .before .before .before .before .round .ensures .raised) ∙ c .before .before .before .before .before .before .loop .inv .0, raised-on _ (c .before .before .before .before .before .before .loop .inv .1) (c .before .before .before .before .round .ensures .raised))))  -- loop-again
+    (λ c. (
+      raised-size _ (c .before .before .before .before .round .ensures .raised) ∙ c .before .before .before .before .before .before .loop .inv .0,
+      raised-on _ (c .before .before .before .before .before .before .loop .inv .1)
+          (c .before .before .before .before .round .ensures .raised),
+    )))  -- loop-again

@@ -1,5 +1,5 @@
--- `table::finite::one_marked` meets its contract. The loop's invariant: the test of the alternatives that are left is the whole test. The measure is their count.
--- Assumes nothing.
+-- `table::finite::one_marked` meets its contract. The loop's invariant: the test of the alternatives that are left is the whole test.
+-- The measure is their count. Assumes nothing.
 use mathlib.Core.Path.{_≡_, refl}
 use Prim.Native.Nat.{_+_}
 use native.Mathlib.Omega.{arith}
@@ -27,9 +27,14 @@ one-marked-spec =
     (λ c. (refl, refl))  -- loop-holds
     (λ c κs. search needs)  -- octet-requires
     (λ c κs. search needs)  -- marked-requires
-    (λ c. any-stops _ 1 _ _ _ _ (c .before .before .before .before .loop .inv .1) (c .before .before .before .loop-test .taken) (rw (← c .before .before .octet .ensures .0, ← c .before .marked .ensures) (c .if1 .taken)))  -- returns
+    (λ c. any-stops _ 1 _ _ _ _ (c .before .before .before .before .loop .inv .1) (c .before .before .before .loop-test .taken)
+    (rw (← c .before .before .octet .ensures .0, ← c .before .marked .ensures) (c .if1 .taken)))  -- returns
     (λ c. omega arith)  -- add-at
     (λ c. omega arith)  -- sub-left
     (λ c. omega arith)  -- loop-less
-    (λ c. (omega arith, any-goes _ 1 _ _ _ _ (c .before .before .before .before .loop .inv .1) (c .before .before .before .loop-test .taken) (rw (← c .before .before .octet .ensures .0, ← c .before .marked .ensures) (c .if1 .left))))  -- loop-again
+    (λ c. (
+      omega arith,
+      any-goes _ 1 _ _ _ _ (c .before .before .before .before .loop .inv .1) (c .before .before .before .loop-test .taken)
+          (rw (← c .before .before .octet .ensures .0, ← c .before .marked .ensures) (c .if1 .left)),
+    ))  -- loop-again
     (λ c. any-ends _ 1 _ _ _ _ (c .before .loop .inv .1) (omega arith)))  -- returns-2

@@ -36,15 +36,27 @@ round-spec =
     (λ c. omega arith)  -- loop-less
     (λ c. (
       omega arith,
-      length-set (c .before .before .before .before .before .before .before .before .loop .flags) _ _ ∙ c .before .before .before .before .before .before .before .before .loop .inv .1,
-      looked-more _ _ _ _ _ _ (c .before .before .before .before .before .before .before .before .loop .inv .2) (omega (arith, c .before .before .before .before .before .before .before .before .before .before .pre .0 .few)) (c .before .before .before .before .before .if1 .taken) (sym (c .before .found .ensures _ (entry-at (c .before .before .before .before .before .before .before .before .before .before .pre .0) _ (omega arith) (c .before .before .before .unpack .ensures))) ∙ c .if2 .taken),
+      length-set (c .before .before .before .before .before .before .before .before .loop .flags) _ _ ∙
+          c .before .before .before .before .before .before .before .before .loop .inv .1,
+      looked-more _ _ _ _ _ _ (c .before .before .before .before .before .before .before .before .loop .inv .2)
+          (omega (arith, c .before .before .before .before .before .before .before .before .before .before .pre .0 .few))
+          (c .before .before .before .before .before .if1 .taken) (sym (c .before .found .ensures _
+          (entry-at (c .before .before .before .before .before .before .before .before .before .before .pre .0) _ (omega arith)
+          (c .before .before .before .unpack .ensures))) ∙ c .if2 .taken),
     ))  -- loop-again
     (λ c. omega arith)  -- loop-less-2
     (λ c. (
       omega arith,
       c .before .before .before .before .before .before .before .before .loop .inv .1,
-      looked-idle _ _ _ _ _ _ (c .before .before .before .before .before .before .before .before .loop .inv .2) (sym (c .before .found .ensures _ (entry-at (c .before .before .before .before .before .before .before .before .before .before .pre .0) _ (omega arith) (c .before .before .before .unpack .ensures))) ∙ c .if2 .left),
+      looked-idle _ _ _ _ _ _ (c .before .before .before .before .before .before .before .before .loop .inv .2)
+          (sym (c .before .found .ensures _ (entry-at (c .before .before .before .before .before .before .before .before .before .before .pre .0) _
+          (omega arith) (c .before .before .before .unpack .ensures))) ∙ c .if2 .left),
     ))  -- loop-again-2
     (λ c. omega arith)  -- loop-less-3
-    (λ c. (omega arith, c .before .before .before .loop .inv .1, looked-marked _ _ _ _ _ _ (c .before .before .before .loop .inv .2) (c .if1 .left)))  -- loop-again-3
+    (λ c. (
+      omega arith,
+      c .before .before .before .loop .inv .1,
+      looked-marked _ _ _ _ _ _ (c .before .before .before .loop .inv .2)
+          (c .if1 .left),
+    ))  -- loop-again-3
     (λ c. looked-all _ _ _ (c .loop-test .left) (c .before .loop .inv .2)))  -- returns

@@ -2,7 +2,7 @@
 -- The loop's invariant: the walk so far, and what is left of it. Assumes nothing.
 use borrow.Author.Needs.{needs}
 use Prim.Native.Nat.{ℕ, _<_, _≤_, _+_, _*_}
-use mathlib.Core.Path.{_≡_, sym, refl, _∙_}
+use mathlib.Core.Path.{_≡_, sym, _∙_}
 use native.Mathlib.Omega.{arith}
 use lib.ListN.{length, getD, length-set}
 use Rattle.table.specs.Rules.{below}
@@ -11,7 +11,8 @@ use Rattle.table.specs.Entries.{tableIn}
 use Rattle.table.specs.Walk.{free}
 use Rattle.table.proofs.Walk.{marked, same-size}
 use Rattle.table.proofs.Alike.{below-none}
-use Rattle.table.proofs.Gather.{Going, going-from, next-in, next-turn, gathered-seen, gathered-met, gathered-alone, gathered-under, under-met, under-done, stand-in, stand-in-small, gathers-at, alternatives-near, alternatives-below}
+use Rattle.table.proofs.Gather.{Going, going-from, next-in, next-turn, gathered-seen, gathered-met, gathered-alone, gathered-under}
+use Rattle.table.proofs.Gather.{under-met, under-done, stand-in, stand-in-small, gathers-at, alternatives-near, alternatives-below}
 use borrow.Fn.Kinds.{In}
 use borrow.Fn.PlainCycle.{Measures, is, falls, and}
 use Rattle.table.proofs.first_tags.gather.Reads as gather
@@ -68,16 +69,55 @@ pub +gather+gather-under-spec : {M : Type 1} → statement M
     (λ c. gathered-seen _ _ _ _ _ (stand-in (c .before .before .before .before .pre .1)) (c .if1 .taken))  -- gather-returns
     (λ c. gathered-met _ _ _ _ _ (stand-in (c .before .before .before .before .before .pre .1)) (c .if2 .taken) (c .before .if1 .left))  -- gather-returns-2
     (λ c. stand-in-small (c .before .before .before .before .before .pre .1))  -- gather-element-write-flags
-    (λ c. omega (arith, c .before .before .before .before .before .pre .1 .there, c .before .before .before .before .before .pre .1 .filled .few))  -- gather-mul-first
-    (λ c. omega (arith, c .before .before .before .before .before .pre .1 .there, c .before .before .before .before .before .pre .1 .filled .few))  -- gather-element-copy-out-first
+    (λ c. omega (
+      arith,
+      c .before .before .before .before .before .pre .1 .there,
+      c .before .before .before .before .before .pre .1 .filled .few,
+    ))  -- gather-mul-first
+    (λ c. omega (
+      arith,
+      c .before .before .before .before .before .pre .1 .there,
+      c .before .before .before .before .before .pre .1 .filled .few,
+    ))  -- gather-element-copy-out-first
     (λ c κs. search needs)  -- gather-first-requires
-    (λ c. gathered-alone _ _ _ _ _ (stand-in (c .before .before .before .before .before .before .before .before .pre .1)) (omega (arith, stand-in-small (c .before .before .before .before .before .before .before .before .pre .1), c .before .before .before .before .before .before .before .before .pre .1 .marks)) (c .before .before .before .if2 .left) (λ z. c .before .before .before .before .if1 .left (c .before .before .before .if2 .left ∙ sym z))
-    (below-none (c .before .before .before .before .before .before .before .before .pre .1 .filled .entered _ (c .before .before .before .before .before .before .before .before .pre .1 .there)) (λ z. c .if3 .taken (c .before .first .ensures ∙ z))))  -- gather-returns-3
+    (λ c. gathered-alone _ _ _ _ _ (stand-in (c .before .before .before .before .before .before .before .before .pre .1))
+    (omega (
+      arith,
+      stand-in-small (c .before .before .before .before .before .before .before .before .pre .1),
+      c .before .before .before .before .before .before .before .before .pre .1 .marks,
+    )) (c .before .before .before .if2 .left)
+    (λ z. c .before .before .before .before .if1 .left (c .before .before .before .if2 .left ∙ sym z))
+    (below-none (c .before .before .before .before .before .before .before .before .pre .1 .filled .entered _
+    (c .before .before .before .before .before .before .before .before .pre .1 .there))
+    (λ z. c .if3 .taken (c .before .first .ensures ∙ z))))  -- gather-returns-3
     (λ c κs. let a = c .before .before .before .before .before .before .before .before .before .args in let q = getD (a .nodes .now) (a .t) 0 in (
-      omega (arith, marked (a .flags .now) q (a .mark) (omega (arith, stand-in-small (c .before .before .before .before .before .before .before .before .before .pre .1), c .before .before .before .before .before .before .before .before .before .pre .1 .marks)) (c .before .before .before .before .if2 .left) (λ z. c .before .before .before .before .before .if1 .left (c .before .before .before .before .if2 .left ∙ sym z)), c .before .before .before .before .before .before .before .before .before .pre .0),
-      (gathers-at (c .before .before .before .before .before .before .before .before .before .pre .1) _ (length-set (a .flags .now) q (a .mark) ∙ c .before .before .before .before .before .before .before .before .before .pre .1 .marks) (c .before .before .before .before .before .before .before .before .before .pre .1 .there), sym (c .before .before .first .ensures) ∙ c .before .if3 .left),
+      omega (
+        arith,
+        marked (a .flags .now) q (a .mark) (omega (
+          arith,
+          stand-in-small
+              (c .before .before .before .before .before .before .before .before .before .pre .1),
+          c .before .before .before .before .before .before .before .before .before .pre .1 .marks,
+        )) (c .before .before .before .before .if2 .left)
+            (λ z. c .before .before .before .before .before .if1 .left (c .before .before .before .before .if2 .left ∙ sym z)),
+        c .before .before .before .before .before .before .before .before .before .pre .0,
+      ),
+      (
+        gathers-at (c .before .before .before .before .before .before .before .before .before .pre .1) _
+            (length-set (a .flags .now) q (a .mark) ∙ c .before .before .before .before .before .before .before .before .before .pre .1 .marks)
+            (c .before .before .before .before .before .before .before .before .before .pre .1 .there),
+        sym (c .before .before .first .ensures) ∙
+            c .before .if3 .left,
+      ),
     ))  -- gather-gather-under-requires
-    (λ c. gathered-under _ _ _ _ _ (stand-in (c .before .before .before .before .before .before .before .before .before .before .pre .1)) (omega (arith, stand-in-small (c .before .before .before .before .before .before .before .before .before .before .pre .1), c .before .before .before .before .before .before .before .before .before .before .pre .1 .marks)) (c .before .before .before .before .before .if2 .left) (λ z. c .before .before .before .before .before .before .if1 .left (c .before .before .before .before .before .if2 .left ∙ sym z)) (c .gather-under .ensures)))  -- gather-returns-4
+    (λ c. gathered-under _ _ _ _ _ (stand-in (c .before .before .before .before .before .before .before .before .before .before .pre .1))
+    (omega (
+      arith,
+      stand-in-small (c .before .before .before .before .before .before .before .before .before .before .pre .1),
+      c .before .before .before .before .before .before .before .before .before .before .pre .1 .marks,
+    )) (c .before .before .before .before .before .if2 .left)
+    (λ z. c .before .before .before .before .before .before .if1 .left (c .before .before .before .before .before .if2 .left ∙ sym z))
+    (c .gather-under .ensures)))  -- gather-returns-4
     λ t. gather-under-lts.spec (
       unpack-reads.Asked,
       unpack-reads.Learnt,
@@ -96,18 +136,25 @@ pub +gather+gather-under-spec : {M : Type 1} → statement M
     (λ c. omega (arith, c .before .pre .1 .0 .there, c .before .pre .1 .0 .filled .few))  -- gather-under-element-copy-out-unpack
     (λ c κs. search needs)  -- gather-under-unpack-requires
     (λ c κs. search needs)  -- gather-under-alternatives-requires
-    (λ c. let s = alternatives-near (c .before .before .before .before .pre .1 .0) (c .before .unpack .ensures) (c .alternatives .ensures) (λ i. omega (arith, c .before .before .before .shared-slice-known .given i)) in (
+    (λ c. let s = alternatives-near (c .before .before .before .before .pre .1 .0) (c .before .unpack .ensures) (c .alternatives .ensures)
+    (λ i. omega (arith, c .before .before .before .shared-slice-known .given i)) in (
       c .before .before .before .before .pre .1 .0 .marks,
       omega arith,
       omega (arith, s .near, s .few),
-      going-from _ (alternatives-below (c .before .before .before .before .pre .1 .0) (c .before .unpack .ensures) (c .alternatives .ensures) (λ i. omega (arith, c .before .before .before .shared-slice-known .given i)) (c .before .before .before .before .pre .1 .1)),
+      going-from _ (alternatives-below (c .before .before .before .before .pre .1 .0) (c .before .unpack .ensures) (c .alternatives .ensures)
+          (λ i. omega (arith, c .before .before .before .shared-slice-known .given i)) (c .before .before .before .before .pre .1 .1)),
     ))  -- gather-under-loop-holds
     (λ c κs. search needs)  -- gather-under-octet-requires
     (λ c κs. (
       omega (arith, c .before .before .before .loop .inv .1, c .before .before .before .before .before .before .before .before .pre .0),
-      gathers-at (c .before .before .before .before .before .before .before .before .pre .1 .0) _ (c .before .before .before .loop .inv .0) (c .before .before .before .before .before .before .before .before .pre .1 .0 .ready .closed _ _ (c .before .before .before .before .before .before .before .before .pre .1 .0 .there) (next-in 1 _ _ _ _ (c .before .before .before .loop .inv .3) (c .before .before .loop-test .taken) (c .before .octet .ensures .0))),
+      gathers-at (c .before .before .before .before .before .before .before .before .pre .1 .0) _ (c .before .before .before .loop .inv .0)
+          (c .before .before .before .before .before .before .before .before .pre .1 .0 .ready .closed _ _
+          (c .before .before .before .before .before .before .before .before .pre .1 .0 .there)
+          (next-in 1 _ _ _ _ (c .before .before .before .loop .inv .3) (c .before .before .loop-test .taken) (c .before .octet .ensures .0))),
     ))  -- gather-under-gather-requires
-    (λ c. under-met _ _ _ _ _ _ _ (c .before .before .before .before .before .loop .inv .3) _ (c .before .before .before .before .loop-test .taken) (c .before .before .before .octet .ensures .0) (c .before .before .before .before .before .loop .inv .1) (c .before .gather .ensures) (c .if1 .taken))  -- gather-under-returns
+    (λ c. under-met _ _ _ _ _ _ _ (c .before .before .before .before .before .loop .inv .3) _ (c .before .before .before .before .loop-test .taken)
+    (c .before .before .before .octet .ensures .0) (c .before .before .before .before .before .loop .inv .1) (c .before .gather .ensures)
+    (c .if1 .taken))  -- gather-under-returns
     (λ c. omega (arith, c .before .before .before .before .before .loop .inv .2))  -- gather-under-add-at
     (λ c. omega (arith, c .before .before .before .before .loop-test .taken))  -- gather-under-sub-left
     (λ c. omega (arith, c .before .before .before .before .loop-test .taken))  -- gather-under-loop-less
@@ -115,6 +162,7 @@ pub +gather+gather-under-spec : {M : Type 1} → statement M
       same-size (c .before .gather .ensures .walked (c .if1 .left)) ∙ c .before .before .before .before .before .loop .inv .0,
       omega (arith, c .before .before .before .before .before .loop .inv .1, c .before .gather .ensures .fewer),
       omega (arith, c .before .before .before .before .before .loop .inv .2, c .before .before .before .before .loop-test .taken),
-      next-turn 1 _ _ _ _ (c .before .before .before .before .before .loop .inv .3) (c .before .before .before .before .loop-test .taken) (c .before .before .before .octet .ensures .0) (c .before .gather .ensures) (c .if1 .left),
+      next-turn 1 _ _ _ _ (c .before .before .before .before .before .loop .inv .3) (c .before .before .before .before .loop-test .taken)
+          (c .before .before .before .octet .ensures .0) (c .before .gather .ensures) (c .if1 .left),
     ))  -- gather-under-loop-again
     (λ c. under-done _ _ _ _ _ _ _ (c .before .loop .inv .3) (c .loop-test .left) (c .before .loop .inv .1))  -- gather-under-returns-2

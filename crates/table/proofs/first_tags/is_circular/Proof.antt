@@ -15,4 +15,5 @@ is-circular-spec =
     (tie.spec
     (λ c κs. search needs)  -- gather-under-requires
     (λ c. omega (arith, c .before .before .before .pre .0 .there, c .before .before .before .pre .0 .filled .few))  -- array-read-result
-    (λ c. circle-end (tableIn (c .before .before .before .args .table .now)) (c .before .before .before .args .t) _ (zeros 128) (c .gather-under .ensures) refl))  -- returns
+    (λ c. circle-end (tableIn (c .before .before .before .args .table .now)) (c .before .before .before .args .t) _ (zeros 128) (c .gather-under .ensures)
+    refl))  -- returns

@@ -8,7 +8,7 @@ use native.Mathlib.Omega.{arith}
 use lib.ListN.{length}
 use Rattle.table.specs.Syntax.{references}
 use Rattle.table.specs.Reading.{everyAt}
-use Rattle.table.specs.Entries.{tableIn, countIn}
+use Rattle.table.specs.Entries.{tableIn}
 use Rattle.table.proofs.Rules.{span-near, span-named}
 use Rattle.table.proofs.Walk.{same-size}
 use Rattle.table.proofs.Gather.{every-none, gathers-at}
@@ -37,32 +37,53 @@ is-sharing-spec =
     (λ c κs. search needs)  -- parts-requires
     (λ c.
     let x = c .before .before .before .before .pre .0 in
-    let near = span-near (x .filled) _ (x .there) (c .before .unpack .ensures) (λ i. omega (arith, c .before .before .before .shared-slice-known .given i)) (c .parts .ensures) in
+    let near = span-near (x .filled) _ (x .there) (c .before .unpack .ensures) (λ i. omega (arith, c .before .before .before .shared-slice-known .given i))
+    (c .parts .ensures) in
     let named = span-named (x .filled) _ (x .there) (c .before .unpack .ensures) (c .parts .ensures) in (
       refl,
       omega (arith, near .near, near .few),
       near .close,
-      omega (arith, named-few (tableIn (c .before .before .before .before .args .table .now) (c .before .before .before .before .args .t)) _ _ _ _ (x .filled .shaped _ (x .there)) named),
+      omega (
+        arith,
+        named-few (tableIn (c .before .before .before .before .args .table .now) (c .before .before .before .before .args .t)) _ _ _ _
+            (x .filled .shaped _ (x .there)) named,
+      ),
       owned-start _ (zeros 128) (sym named),
     ))  -- loop-holds
     (λ c κs. search needs)  -- octet-requires
     (λ c κs. let x = c .before .before .before .before .before .before .before .before .pre .0 in
-    gathers-at x _ (c .before .before .before .loop .inv .0) (named-there _ _ (x .named) _ _ (x .there) (owned-in (owned-next _ _ _ _ _ (c .before .before .before .loop .inv .4) (c .before .before .loop-test .taken) (c .before .octet .ensures .0)))))  -- gather-requires
+    gathers-at x _ (c .before .before .before .loop .inv .0) (named-there _ _ (x .named) _ _ (x .there)
+    (owned-in (owned-next _ _ _ _ _ (c .before .before .before .loop .inv .4) (c .before .before .loop-test .taken)
+    (c .before .octet .ensures .0)))))  -- gather-requires
     (λ c. let x = c .before .before .before .before .before .before .before .before .before .before .pre .0 in (
-      λ _. pairing-shares _ _ (owned-met _ _ (c .before .before .before .before .before .before .before .before .before .before .pre .1) (x .ready .closed) _ (λ a i. named-there _ _ (x .named) _ a (x .there) i) _ _
-          (owned-next _ _ _ _ _ (c .before .before .before .before .before .loop .inv .4) (c .before .before .before .before .loop-test .taken) (c .before .before .before .octet .ensures .0)) (c .before .gather .ensures .met (c .if1 .taken))),
+      λ _. pairing-shares _ _ (owned-met _ _ (c .before .before .before .before .before .before .before .before .before .before .pre .1) (x .ready .closed) _
+          (λ a i. named-there _ _ (x .named) _ a (x .there) i) _ _
+          (owned-next _ _ _ _ _ (c .before .before .before .before .before .loop .inv .4) (c .before .before .before .before .loop-test .taken)
+          (c .before .before .before .octet .ensures .0)) (c .before .gather .ensures .met (c .if1 .taken))),
       λ z. absurd (true≢false z),
     ))  -- returns
     (λ c. omega (arith, c .before .before .before .before .before .loop .inv .3, c .before .before .before .before .loop-test .taken))  -- add-mark
-    (λ c. omega (arith, c .before .before .before .before .before .before .loop .inv .1, c .before .before .before .before .before .before .loop .inv .2, c .before .before .before .before .before .loop-test .taken))  -- add-at
+    (λ c. omega (
+      arith,
+      c .before .before .before .before .before .before .loop .inv .1,
+      c .before .before .before .before .before .before .loop .inv .2,
+      c .before .before .before .before .before .loop-test .taken,
+    ))  -- add-at
     (λ c. omega (arith, c .before .before .before .before .before .loop-test .taken))  -- sub-left
     (λ c. omega (arith, c .before .before .before .before .before .loop-test .taken))  -- loop-less
     (λ c. (
       same-size (c .before .before .gather .ensures .walked (c .before .if1 .left)) ∙ c .before .before .before .before .before .before .loop .inv .0,
-      omega (arith, c .before .before .before .before .before .before .loop .inv .1, c .before .before .before .before .before .before .loop .inv .2, c .before .before .before .before .before .loop-test .taken),
+      omega (
+        arith,
+        c .before .before .before .before .before .before .loop .inv .1,
+        c .before .before .before .before .before .before .loop .inv .2,
+        c .before .before .before .before .before .loop-test .taken,
+      ),
       c .before .before .before .before .before .before .loop .inv .2,
       omega (arith, c .before .before .before .before .before .before .loop .inv .3, c .before .before .before .before .before .loop-test .taken),
-      owned-turn _ _ _ _ _ _ _ (owned-next _ _ _ _ _ (c .before .before .before .before .before .before .loop .inv .4) (c .before .before .before .before .before .loop-test .taken) (c .before .before .before .before .octet .ensures .0)) (c .before .before .gather .ensures .walked (c .before .if1 .left)),
+      owned-turn _ _ _ _ _ _ _ (owned-next _ _ _ _ _ (c .before .before .before .before .before .before .loop .inv .4)
+          (c .before .before .before .before .before .loop-test .taken) (c .before .before .before .before .octet .ensures .0))
+          (c .before .before .gather .ensures .walked (c .before .if1 .left)),
     ))  -- loop-again
     (λ c. (
       λ z. absurd (false≢true z),

@@ -32,12 +32,21 @@ lowest-circular-spec =
     (λ c. omega (arith, c .before .before .before .pre .0 .few))  -- mul-first
     (λ c. omega (arith, c .before .before .before .pre .0 .few))  -- element-copy-out-first
     (λ c κs. search needs)  -- first-requires
-    (λ c κs. (gathers-from (c .before .before .before .before .before .before .pre .0) (c .before .before .before .before .before .before .pre .1) (c .before .before .before .before .before .before .pre .2) refl (c .before .before .before .loop-test .taken), sym (c .before .first .ensures) ∙ c .if1 .taken))  -- is-circular-requires
-    (λ c. rest-here _ _ _ (c .before .before .before .before .before .before .loop .inv) (c .before .before .before .before .before .loop-test .taken) (circular-is _ _ (filled-beyond (c .before .before .before .before .before .before .before .before .pre .0)) _ _ (c .before .before .before .before .before .loop-test .taken) (c .before .is-circular .ensures) ∙ c .if2 .taken))  -- returns
+    (λ c κs. (
+      gathers-from (c .before .before .before .before .before .before .pre .0) (c .before .before .before .before .before .before .pre .1)
+          (c .before .before .before .before .before .before .pre .2) refl (c .before .before .before .loop-test .taken),
+      sym (c .before .first .ensures) ∙
+          c .if1 .taken,
+    ))  -- is-circular-requires
+    (λ c. rest-here _ _ _ (c .before .before .before .before .before .before .loop .inv) (c .before .before .before .before .before .loop-test .taken)
+    (circular-is _ _ (filled-beyond (c .before .before .before .before .before .before .before .before .pre .0)) _ _
+    (c .before .before .before .before .before .loop-test .taken) (c .before .is-circular .ensures) ∙ c .if2 .taken))  -- returns
     (λ c. search needs)  -- add-t
     (λ c. omega arith)  -- loop-less
     (λ c. rest-next _ _ _ (c .before .before .before .before .loop .inv) (c .before .before .before .loop-test .taken) (⊎-elim
-    (λ w. circular-is _ _ (filled-beyond (c .before .before .before .before .before .before .pre .0)) _ _ (c .before .before .before .loop-test .taken) (w .1 .ensures) ∙ w .2 .left)
-    (λ w. no-circle _ _ _ (below-none (c .before .before .before .before .before .before .pre .0 .entered _ (c .before .before .before .loop-test .taken)) (λ z. w .left (c .before .first .ensures ∙ z))))
+    (λ w. circular-is _ _ (filled-beyond (c .before .before .before .before .before .before .pre .0)) _ _ (c .before .before .before .loop-test .taken)
+    (w .1 .ensures) ∙ w .2 .left)
+    (λ w. no-circle _ _ _ (below-none (c .before .before .before .before .before .before .pre .0 .entered _ (c .before .before .before .loop-test .taken))
+    (λ z. w .left (c .before .first .ensures ∙ z))))
     (c .if1 .came)))  -- loop-again
     (λ c. rest-none _ _ _ (c .before .loop .inv) (c .loop-test .left)))  -- returns-2

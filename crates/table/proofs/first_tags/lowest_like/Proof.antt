@@ -1,6 +1,5 @@
 -- `table::first_tags::lowest_like` meets its contract. The loop's invariant: no record before u has the tag. The measure is what is left.
 -- Assumes nothing.
-use mathlib.Core.Path.{_∙_}
 use Prim.Native.Nat.{_-_}
 use native.Mathlib.Omega.{arith}
 use lib.Dec.{eqb}
@@ -34,8 +33,13 @@ lowest-like-spec =
     (λ c. search needs)  -- mul-first-tag-2
     (λ c. search needs)  -- element-copy-out-first-tag-2
     (λ c κs. search needs)  -- first-tag-requires-2
-    (λ c. like-some (c .before .before .before .before .before .before .before .before .args .index .now) _ (c .before .before .before .before .before .before .first-tag .ensures) (c .before .before .before .before .before .if1 .left) (rest-here _ _ _ (c .before .before .before .before .loop .inv) (c .before .before .before .loop-test .taken) (rw (← c .before .first-tag2 .ensures) (eq-eqb _ _ (c .if2 .taken)))))  -- returns-2
+    (λ c. like-some (c .before .before .before .before .before .before .before .before .args .index .now) _
+    (c .before .before .before .before .before .before .first-tag .ensures) (c .before .before .before .before .before .if1 .left)
+    (rest-here _ _ _ (c .before .before .before .before .loop .inv) (c .before .before .before .loop-test .taken)
+    (rw (← c .before .first-tag2 .ensures) (eq-eqb _ _ (c .if2 .taken)))))  -- returns-2
     (λ c. search needs)  -- add-u
     (λ c. omega arith)  -- loop-less
-    (λ c. rest-next _ _ _ (c .before .before .before .before .loop .inv) (c .before .before .before .loop-test .taken) (rw (← c .before .first-tag2 .ensures) (ne-eqb _ _ (c .if2 .left))))  -- loop-again
-    (λ c. like-some (c .before .before .before .before .before .args .index .now) _ (c .before .before .before .first-tag .ensures) (c .before .before .if1 .left) (rest-none _ _ _ (c .before .loop .inv) (c .loop-test .left))))  -- returns-3
+    (λ c. rest-next _ _ _ (c .before .before .before .before .loop .inv) (c .before .before .before .loop-test .taken)
+    (rw (← c .before .first-tag2 .ensures) (ne-eqb _ _ (c .if2 .left))))  -- loop-again
+    (λ c. like-some (c .before .before .before .before .before .args .index .now) _ (c .before .before .before .first-tag .ensures)
+    (c .before .before .if1 .left) (rest-none _ _ _ (c .before .loop .inv) (c .loop-test .left))))  -- returns-3

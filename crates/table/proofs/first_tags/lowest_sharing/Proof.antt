@@ -32,12 +32,17 @@ lowest-sharing-spec =
     (λ c. omega (arith, c .before .before .before .pre .0 .few))  -- mul-unpack
     (λ c. omega (arith, c .before .before .before .pre .0 .few))  -- element-copy-out-unpack
     (λ c κs. search needs)  -- unpack-requires
-    (λ c κs. let x = c .before .before .before .before .before .before .before .pre in (gathers-from (x .0) (x .1) (x .2 .named) refl (c .before .before .before .before .loop-test .taken), rw (x .0 .count) at (x .2)))  -- is-sharing-requires
-    (λ c. rest-here _ _ _ (c .before .before .before .before .before .before .before .loop .inv) (c .before .before .before .before .before .before .loop-test .taken) (sharing-is _ _ (filled-beyond (c .before .before .before .before .before .before .before .before .before .pre .0)) _ _ (c .before .is-sharing .ensures) ∙ c .if2 .taken))  -- returns
+    (λ c κs. let x = c .before .before .before .before .before .before .before .pre in
+    (gathers-from (x .0) (x .1) (x .2 .named) refl (c .before .before .before .before .loop-test .taken), rw (x .0 .count) at (x .2)))  -- is-sharing-requires
+    (λ c. rest-here _ _ _ (c .before .before .before .before .before .before .before .loop .inv)
+    (c .before .before .before .before .before .before .loop-test .taken)
+    (sharing-is _ _ (filled-beyond (c .before .before .before .before .before .before .before .before .before .pre .0)) _ _ (c .before .is-sharing .ensures) ∙
+    c .if2 .taken))  -- returns
     (λ c. search needs)  -- add-t
     (λ c. omega arith)  -- loop-less
     (λ c. rest-next _ _ _ (c .before .before .before .before .before .loop .inv) (c .before .before .before .before .loop-test .taken) (⊎-elim
     (λ w. sharing-is _ _ (filled-beyond (c .before .before .before .before .before .before .before .pre .0)) _ _ (w .1 .ensures) ∙ w .2 .left)
-    (λ w. no-sharing _ _ _ (not-true _ (sym (entry-at (c .before .before .before .before .before .before .before .pre .0) _ (c .before .before .before .before .loop-test .taken) (c .before .before .unpack .ensures) .simple) ∙ not-false _ (w .left))))
+    (λ w. no-sharing _ _ _ (not-true _ (sym (entry-at (c .before .before .before .before .before .before .before .pre .0) _
+    (c .before .before .before .before .loop-test .taken) (c .before .before .unpack .ensures) .simple) ∙ not-false _ (w .left))))
     (c .if1 .came)))  -- loop-again
     (λ c. rest-none _ _ _ (c .before .loop .inv) (c .loop-test .left)))  -- returns-2

@@ -28,7 +28,12 @@ stand-ins-spec =
     μ-loop
     (λ c. (omega arith, c .before .pre .1, λ k h. absurd (omega arith)))  -- loop-holds
     (λ c κs. omega (arith, c .before .before .before .pre .0 .few))  -- lowest-like-requires
-    (λ c. omega (arith, c .lowest-like .ensures, like-in-low (c .before .before .before .before .args .index .now) (c .before .before .loop .t), c .before .before .before .before .pre .0 .few))  -- cast-nodes
+    (λ c. omega (
+      arith,
+      c .lowest-like .ensures,
+      like-in-low (c .before .before .before .before .args .index .now) (c .before .before .loop .t),
+      c .before .before .before .before .pre .0 .few,
+    ))  -- cast-nodes
     (λ c. omega (arith, c .before .before .before .before .pre .0 .few))  -- element-write-nodes
     (λ c. search needs)  -- add-t
     (λ c. omega arith)  -- loop-less
@@ -36,6 +41,8 @@ stand-ins-spec =
       omega arith,
       length-set (l .nodes) (l .t) _ ∙ l .inv .1,
       below-more _ (l .t) (λ k j. getD-set-other (l .nodes) (l .t) k _ 0 (omega arith) ∙ l .inv .2 k j)
-          (getD-set-same (l .nodes) (l .t) _ 0 (omega (arith, c .before .before .before .before .pre .0 .few)) ∙ c .lowest-like .ensures ∙ like-in _ _ _ (λ i. omega (arith, c .before .before .before .shared-slice-known .given i)) (c .before .before .before .before .pre .0) (l .t) (c .before .loop-test .taken)),
+          (getD-set-same (l .nodes) (l .t) _ 0 (omega (arith, c .before .before .before .before .pre .0 .few)) ∙ c .lowest-like .ensures ∙ like-in _ _ _
+          (λ i. omega (arith, c .before .before .before .shared-slice-known .given i)) (c .before .before .before .before .pre .0) (l .t)
+          (c .before .loop-test .taken)),
     ))  -- loop-again
     (λ c. λ t h. c .before .loop .inv .2 t (omega (arith, c .loop-test .left, h))))  -- returns

@@ -27,9 +27,15 @@ dangling-spec =
     μ-loop
     (λ c. (omega arith, refl))  -- loop-holds
     (λ c κs. search needs)  -- octet-requires
-    (λ c. any-stops _ _ _ _ _ _ (c .before .before .before .loop .inv .1) (c .before .before .loop-test .taken) (rw (← c .before .octet .ensures .0) (le-leb _ _ (c .if1 .taken))))  -- returns
+    (λ c. any-stops _ _ _ _ _ _ (c .before .before .before .loop .inv .1) (c .before .before .loop-test .taken)
+    (rw (← c .before .octet .ensures .0) (le-leb _ _ (c .if1 .taken))))  -- returns
     (λ c. omega (arith, c .before .before .before .before .before .before .pre .close))  -- add-at
     (λ c. omega arith)  -- sub-left
     (λ c. omega arith)  -- loop-less
-    (λ c. (omega (arith, c .before .before .before .before .before .before .pre .close), any-goes _ _ _ _ _ _ (c .before .before .before .before .loop .inv .1) (c .before .before .before .loop-test .taken) (rw (← c .before .before .octet .ensures .0) (lt-leb _ _ (c .before .if1 .left)))))  -- loop-again
+    (λ c. (
+      omega (arith, c .before .before .before .before .before .before .pre .close),
+      any-goes _ _ _ _ _ _
+          (c .before .before .before .before .loop .inv .1) (c .before .before .before .loop-test .taken)
+          (rw (← c .before .before .octet .ensures .0) (lt-leb _ _ (c .before .if1 .left))),
+    ))  -- loop-again
     (λ c. any-ends _ _ _ _ _ _ (c .before .loop .inv .1) (omega arith)))  -- returns-2

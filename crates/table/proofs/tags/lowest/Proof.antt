@@ -27,8 +27,12 @@ lowest-spec =
     (λ c. omega (arith, c .before .before .before .pre .few))  -- element-copy-out-unpack
     (λ c κs. search needs)  -- unpack-requires
     (λ c κs. search needs)  -- wrong-requires
-    (λ c. rest-here _ _ _ (c .before .before .before .before .before .loop .inv) (c .before .before .before .before .loop-test .taken) (rw (← c .before .wrong .ensures _ (entry-at (c .before .before .before .before .before .before .before .pre) _ (c .before .before .before .before .loop-test .taken) (c .before .before .unpack .ensures))) (c .if1 .taken)))  -- returns
+    (λ c. rest-here _ _ _ (c .before .before .before .before .before .loop .inv) (c .before .before .before .before .loop-test .taken)
+    (rw (← c .before .wrong .ensures _ (entry-at (c .before .before .before .before .before .before .before .pre) _
+    (c .before .before .before .before .loop-test .taken) (c .before .before .unpack .ensures))) (c .if1 .taken)))  -- returns
     (λ c. search needs)  -- add-t
     (λ c. omega arith)  -- loop-less
-    (λ c. rest-next _ _ _ (c .before .before .before .before .before .loop .inv) (c .before .before .before .before .loop-test .taken) (rw (← c .before .wrong .ensures _ (entry-at (c .before .before .before .before .before .before .before .pre) _ (c .before .before .before .before .loop-test .taken) (c .before .before .unpack .ensures))) (c .if1 .left)))  -- loop-again
+    (λ c. rest-next _ _ _ (c .before .before .before .before .before .loop .inv) (c .before .before .before .before .loop-test .taken)
+    (rw (← c .before .wrong .ensures _ (entry-at (c .before .before .before .before .before .before .before .pre) _
+    (c .before .before .before .before .loop-test .taken) (c .before .before .unpack .ensures))) (c .if1 .left)))  -- loop-again
     (λ c. rest-none _ _ _ (c .before .loop .inv) (c .loop-test .left)))  -- returns-2

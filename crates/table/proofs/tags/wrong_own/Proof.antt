@@ -14,4 +14,9 @@ wrong-own-spec =
     (λ c. search needs)  -- add-number
     (λ c κs. search needs)  -- number-requires
     (λ c κs. search needs)  -- universal-requires
-    (λ c. rw (← c .before .before .before .octet .ensures .0, eq-eqb _ _ (c .before .before .if1 .left), ← c .before .number .ensures .0, ← c .universal .ensures)))  -- returns-2
+    (λ c. rw (
+      ← c .before .before .before .octet .ensures .0,
+      eq-eqb _ _ (c .before .before .if1 .left),
+      ← c .before .number .ensures .0,
+      ← c .universal .ensures,
+    )))  -- returns-2
