@@ -2,8 +2,7 @@
 ghost use mathlib.Core.Path.{_≡_};
 ghost use Prim.Native.Nat.{_<_, _+_};
 ghost use lib.ListN.{getD};
-ghost use Rattle.table.specs.Syntax.{references};
-ghost use Rattle.table.specs.Rules.{parts, tagsBelow};
+ghost use Rattle.table.specs.Rules.{parts};
 ghost use Rattle.table.specs.Reading.{ownAt, recordAt};
 ghost use Rattle.table.specs.Fields.{Spans};
 use crate::kind::Form;
@@ -43,35 +42,6 @@ pub fn own(table: &[u8], o: u16) -> usize
     o as usize + 4 + 3 * tag_count(table, o)
 }
 
-// The record numbers that it names.
-pub fn references(table: &[u8], o: u16) -> Span
-    ensures { λ r. ⌜ Spans (now (table .entry)) r (references (recordAt (now (table .entry)) o .body)) ⌝ }
-{
-    let p = own(table, o);
-    match crate::kind::form_of(kind(table, o)) {
-        Form::Simple => Span {
-            first: p,
-            count: 0,
-            step: 1,
-        },
-        Form::Members => Span {
-            first: p + 1,
-            count: octet(table, p),
-            step: 2,
-        },
-        Form::Of => Span {
-            first: p,
-            count: 1,
-            step: 1,
-        },
-        Form::Choice => Span {
-            first: p + 1,
-            count: octet(table, p),
-            step: 1,
-        },
-    }
-}
-
 // Its members or alternatives.
 pub fn parts(table: &[u8], o: u16) -> Span
     ensures { λ r. ⌜ Spans (now (table .entry)) r (parts (recordAt (now (table .entry)) o .body)) ⌝ }
@@ -93,31 +63,6 @@ pub fn parts(table: &[u8], o: u16) -> Span
             count: 0,
             step: 1,
         },
-        Form::Choice => Span {
-            first: p + 1,
-            count: octet(table, p),
-            step: 1,
-        },
-    }
-}
-
-// Its alternatives, if it is a CHOICE without tags; else none.
-pub fn below(table: &[u8], o: u16) -> Span
-    ensures { λ r. ⌜ Spans (now (table .entry)) r (tagsBelow (recordAt (now (table .entry)) o .tags) (recordAt (now (table .entry)) o .body)) ⌝ }
-{
-    let p = own(table, o);
-    let none = Span {
-        first: p,
-        count: 0,
-        step: 1,
-    };
-    if tag_count(table, o) != 0 {
-        return none;
-    }
-    match crate::kind::form_of(kind(table, o)) {
-        Form::Simple => none,
-        Form::Members => none,
-        Form::Of => none,
         Form::Choice => Span {
             first: p + 1,
             count: octet(table, p),
