@@ -1,104 +1,98 @@
-// Reads messages into values: a message is measured, which finds every refusal, and its value is then placed into a lent buffer.
+// Reads messages into values: a message is judged, which finds every refusal, and its value is then placed into a lent buffer.
+mod answer;
+mod came;
+mod contents;
+mod judge;
+mod node;
 mod place;
+mod search;
+mod set;
+mod tags;
 
 ghost use mathlib.Core.Path.{_≡_};
-ghost use Prim.Native.Nat.{_≤_};
-ghost use lib.ListN.{length};
+ghost use Rattle.table.specs.Entries.{tableIn, Filled};
 ghost use Rattle.table.specs.Passes.{Passes};
-ghost use Rattle.table.specs.Reading.{look};
 ghost use Rattle.coding.specs.Calls.{messageCause, readOutcome, wholeRead};
-ghost use Rattle.message.specs.Codes.{Ready};
+ghost use Rattle.reader.specs.Answers.{causeNumber};
+use answer::Cause;
+use answer::Judged;
 use coding::Answer;
 use coding::MessageCause;
 use coding::Refusal;
-use measuring::measure::measure_message;
-use message::answer::Measured;
-use message::first::fill_firsts;
-use place::place_value;
 use table::TableCause;
 use table::Verdict;
 
-// The cause with a number that measuring gives.
-fn cause_of(cause: u8, at: usize) -> MessageCause
-    ensures { λ r. ⌜ r ≡ messageCause cause at ⌝ }
+// A cause with its place.
+fn placed(cause: Cause, at: usize) -> MessageCause
+    ensures { λ r. ⌜ r ≡ messageCause (causeNumber cause) at ⌝ }
 {
-    if cause == 22 {
-        return MessageCause::Cut(at);
+    match cause {
+        Cause::Cut => MessageCause::Cut(at),
+        Cause::Form => MessageCause::Form(at),
+        Cause::NotAwaited => MessageCause::NotAwaited(at),
+        Cause::Contents => MessageCause::Contents(at),
+        Cause::Trailing => MessageCause::Trailing(at),
+        Cause::Level => MessageCause::Level(at),
     }
-    if cause == 23 {
-        return MessageCause::Form(at);
-    }
-    if cause == 24 {
-        return MessageCause::NotAwaited(at);
-    }
-    if cause == 25 {
-        return MessageCause::Contents(at);
-    }
-    if cause == 26 {
-        return MessageCause::Trailing(at);
-    }
-    MessageCause::Level(at)
 }
 
-// Reads a message of type t, by a table that passed, with the codes of its records' outermost identifiers.
-fn read_by(
+// Reads a message of type t, by a table of n records that passed.
+fn read_passed(
     table: &[u8],
-    offsets: &[u16],
-    firsts: &[u32],
+    index: &[u64; 128],
+    n: usize,
     t: usize,
     message: &[u8],
     buf: &mut [u8],
 ) -> Answer
-    requires { ⌜ Ready (now table) (now offsets) (now firsts) ⌝ }
-    ensures { λ r. ⌜ (r ≡ readOutcome (look (now (table .entry)) (now (offsets .entry))) (length (now (offsets .entry))) t (now (message .entry)) (now (buf .entry)) .answer) × (now (buf .exit) ≡ readOutcome (look (now (table .entry)) (now (offsets .entry))) (length (now (offsets .entry))) t (now (message .entry)) (now (buf .entry)) .buffer) ⌝ }
+    requires { ⌜
+        Filled (now table) (now index) n
+        × Passes (now table) (tableIn (now table)) n
+        ⌝ }
+    ensures { λ r. ⌜
+        (let x = readOutcome (tableIn (now (table .entry))) n t (now (message .entry)) (now (buf .entry)) in
+        (r ≡ x .answer)
+        × (now (buf .exit) ≡ x .buffer))
+        ⌝ }
 {
-    if offsets.len() <= t {
+    if n <= t {
         return Answer::Refused(Refusal::Table(TableCause::NoType));
     }
     if 8192 < message.len() {
         return Answer::Refused(Refusal::Message(MessageCause::TooLong));
     }
-    match measure_message(table, offsets, firsts, t, message) {
-        Measured::Refused { cause, at } => Answer::Refused(Refusal::Message(cause_of(cause, at))),
-        Measured::Done { end: _, size } => {
+    let mut way = [0u16; 128];
+    match judge::judge(table, index, t, message, &mut way) {
+        Judged::Refused { cause, left } => {
+            let at = message.len() - left;
+            Answer::Refused(Refusal::Message(placed(cause, at)))
+        }
+        Judged::Done { end: _, size } => {
             if 16384 < size {
                 return Answer::Refused(Refusal::Message(MessageCause::Room));
             }
             if buf.len() < size {
                 return Answer::Refused(Refusal::Message(MessageCause::Room));
             }
-            let part = &mut buf[..size];
-            place_value(table, offsets, firsts, t, message, 0, 24, part, 0);
+            place::place(table, index, t, message, buf, &mut way);
             Answer::Done(size)
         }
     }
 }
 
-// Reads a message of type t, by a table that passed.
-fn read_passed(table: &[u8], offsets: &[u16], t: usize, message: &[u8], buf: &mut [u8]) -> Answer
-    requires { ⌜ Passes (now table) (look (now table) (now offsets)) (length (now offsets)) ⌝ }
-    ensures { λ r. ⌜ (r ≡ readOutcome (look (now (table .entry)) (now (offsets .entry))) (length (now (offsets .entry))) t (now (message .entry)) (now (buf .entry)) .answer) × (now (buf .exit) ≡ readOutcome (look (now (table .entry)) (now (offsets .entry))) (length (now (offsets .entry))) t (now (message .entry)) (now (buf .entry)) .buffer) ⌝ }
-{
-    let mut space = [0u32; 128];
-    let n = offsets.len();
-    let firsts = &mut space[..n];
-    fill_firsts(table, offsets, firsts);
-    read_by(table, offsets, firsts, t, message, buf)
-}
-
 // Reads the message into the buffer, as a value of type t.
 pub fn read(table: &[u8], t: usize, message: &[u8], buf: &mut [u8]) -> Answer
-    ensures { λ r. ⌜ (r ≡ wholeRead (now (table .entry)) t (now (message .entry)) (now (buf .entry)) .answer) × (now (buf .exit) ≡ wholeRead (now (table .entry)) t (now (message .entry)) (now (buf .entry)) .buffer) ⌝ }
+    ensures { λ r. ⌜
+        (let x = wholeRead (now (table .entry)) t (now (message .entry)) (now (buf .entry)) in
+        (r ≡ x .answer)
+        × (now (buf .exit) ≡ x .buffer))
+        ⌝ }
 {
-    let c = table::check_and_index(table);
+    let mut index = [0u64; 128];
+    let c = table::check_into(table, &mut index);
     let verdict = c.verdict;
-    let index = c.index;
     match verdict {
         Verdict::Refused(cause) => Answer::Refused(Refusal::Table(cause)),
-        Verdict::Passed => {
-            let n = index.count;
-            let offsets = index.offsets;
-            read_passed(table, &offsets[..n], t, message, buf)
-        }
+        Verdict::Passed => read_passed(table, &index, c.count, t, message, buf),
     }
 }

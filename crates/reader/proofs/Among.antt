@@ -1,0 +1,205 @@
+-- The loop that searches under CHOICEs without tags, by ways out.
+-- Assumes nothing.
+use borrow.Author.Tests.{ltb-true, ltb-false}
+use lib.Dec.{ltb}
+use lib.ListN.{length, getD, set}
+use mathlib.Core.List.{List, [], _∷_}
+use mathlib.Core.Path.{_≡_, refl, sym, ap, _∙_}
+use native.Mathlib.Numerals.{add-one}
+use native.Mathlib.Omega.{arith}
+use Prim.Native.Nat.{ℕ, zero, suc, _+_, _-_, _*_, _/_, _%_, _≤_, _<_}
+use Rattle.octets.proofs.Members.{place-in}
+use Rattle.octets.proofs.Tests.{test}
+use Rattle.table.specs.Syntax.{Choice, Record, Table, references}
+use Rattle.table.specs.Rules.{parts}
+use Rattle.table.specs.Reading.{everyAt}
+use Rattle.table.specs.Entries.{unpacked, counted, tableIn, countIn, Entered}
+use Rattle.table.specs.declared.entry.Span.{Span}
+use Rattle.table.proofs.Promises.{entered-choice}
+use Rattle.reader.specs.Codes.{firstOf, untagged, searchIn}
+use Rattle.reader.specs.Ways.{Leads, here}
+use Rattle.reader.specs.Records.{Ready, Finds}
+use Rattle.reader.specs.declared.search.Under.{Under}
+use Rattle.reader.specs.declared.search.Under.the-variants.{Nothing, At}
+use Rattle.reader.proofs.Begun.{Fit, bare, fit, nested, nested-all}
+use Rattle.reader.proofs.ItemsWay.{Looking, look-first, look-found, look-down, look-next, look-none, look-back, look-above, look-deep, turnsLeft, fewer-down, fewer-next, fewer-back, search-here, search-other}
+
+every-at : (b : List ℕ) (p n j : ℕ) → j < n → getD (everyAt 1 b p n) j 0 ≡ getD b (p + j) 0
+unfolding everyAt
+every-at b p zero j h = absurd (omega arith)
+every-at b p (suc n) zero h = let q : p + 0 ≡ p = omega arith in rw q refl
+every-at b p (suc n) (suc j) h = let q : p + 1 + j ≡ p + suc j = omega arith in every-at b (p + 1) n j (omega arith) ∙ rw q refl
+
+-- the alternatives of a CHOICE, where they stand
+pub record Alternatives (b : List ℕ) (x : ℕ) (s : Span) : Type 0 where
+  pub count : s .count ≡ length (parts (tableIn b x .body))
+  pub few : s .count ≤ 16
+  pub near : s .first + s .count ≤ 8192
+  pub at : (j : ℕ) → j < s .count → getD b (s .first + j) 0 ≡ getD (parts (tableIn b x .body)) j 0
+
+-- before a turn
+pub record Amid (b : List ℕ) (code : ℕ) (way : List ℕ) (t d x j : ℕ) : Type 0 where
+  pub looking : Looking (tableIn b) code way t d x j
+  pub low : x < countIn b
+  pub deep : d ≤ countIn b
+
+module _ {b ix : List ℕ} (R : Ready b ix) where
+  abbrev T : Table
+  T = tableIn b
+
+  abbrev F : (t : ℕ) → Fit (T t)
+  F = fit b T (countIn b) (R .passes)
+
+  pub code-is : (a f : ℕ) → a < countIn b → f ≡ unpacked (getD ix a 0) .code → f ≡ firstOf (T a)
+  code-is a f h e = e ∙ R .filled .entered a h .code
+
+  pub alternatives-of : (x : ℕ) (s : Span) → x < countIn b → firstOf (T x) ≡ untagged → s ≡ counted b (unpacked (getD ix x 0) .own) 1 → Alternatives b x s
+  unfolding parts
+  alternatives-of x s h e q =
+      let y = bare (T x) (F x) e in
+      let w = entered-choice (R .filled .entered x h) (y .alternatives) (y .is) in
+      let o = unpacked (getD ix x 0) .own in
+      let l = R .filled .short in
+      let p : parts (T x .body) ≡ y .alternatives = ap parts (y .is) in
+      rw q
+      (record {
+        count = w .count ∙ ap length (sym p);
+        few = omega (arith, w .few, w .count);
+        near = omega (arith, w .within, w .count);
+        at = λ j k. sym (every-at b (o + 1) (getD b o 0) j k) ∙ ap (λ (ts : List ℕ). getD ts j 0) (w .is ∙ sym p);
+      })
+
+  pub part-low : (x j : ℕ) → x < countIn b → firstOf (T x) ≡ untagged → j < length (parts (T x .body)) → getD (parts (T x .body)) j 0 < countIn b
+  unfolding parts references
+  part-low x j h e k =
+      let y = bare (T x) (F x) e in
+      let a = getD (parts (T x .body)) j 0 in
+      test (ltb a (countIn b)) (λ z. ltb-true a (countIn b) z)
+      λ z. absurd (R .passes .there x h (record { number = a; named = rw (y .is) (rw (y .is) at (place-in (parts (T x .body)) j 0 k)); beyond = ltb-false a (countIn b) z }))
+
+  above-low : (x j : ℕ) → j < length (parts (T x .body)) → x < countIn b
+  unfolding parts
+  above-low x j h =
+      test (ltb x (countIn b)) (λ z. ltb-true x (countIn b) z)
+      λ z. let q = ap (λ (r : Record). length (parts (r .body))) (R .passes .no-more x (ltb-false x (countIn b) z)) in absurd (omega arith)
+
+  -- one turn: the CHOICE x has its alternatives at s
+  module _ (code : ℕ) (tag : code < untagged) (way : List ℕ) (wide : length way ≡ 128) (t d x j : ℕ) (S : Amid b code way t d x j)
+      (s : Span) (es : s ≡ counted b (unpacked (getD ix x 0) .own) 1) where
+    not-tag : code ≡ untagged → ⊥
+    not-tag e = omega arith
+
+    its : Alternatives b x s
+    its = alternatives-of x s (S .low) (S .looking .bare) es
+
+    -- there is one more, whose number is a
+    module _ (h : j < s .count) (a : ℕ) (ea : a ≡ getD b (s .first + j) 0) where
+      within : j < length (parts (T x .body))
+      within = omega (arith, its .count)
+
+      is-part : a ≡ getD (parts (T x .body)) j 0
+      is-part = ea ∙ its .at j h
+
+      pub record Next : Type 0 where
+        pub small : a < countIn b
+        pub few : j < 16
+        pub deep : d < countIn b
+        pub room : d < 128
+
+      pub next : Next
+      next =
+          let q = look-deep T F (nested-all b T (countIn b) (R .passes)) code not-tag (countIn b) (nested b T (countIn b) (R .passes) t) (S .looking) within in
+          record {
+            small = rw is-part (part-low x j (S .low) (S .looking .bare) within);
+            few = omega (arith, its .few);
+            deep = q;
+            room = omega (arith, R .passes .few);
+          }
+
+      module _ (f : ℕ) (ef : f ≡ unpacked (getD ix a 0) .code) where
+        abbrev Noted : List ℕ
+        Noted = set way d (16 * x + j)
+
+        its-first : f ≡ firstOf (T (getD (parts (T x .body)) j 0))
+        its-first = code-is a f (next .small) ef ∙ ap (λ (u : ℕ). firstOf (T u)) is-part
+
+        room-way : d < length way
+        room-way = omega (arith, next .room)
+
+        pub among-found : f ≡ code → Finds b code Noted t (At a (d + 1))
+        among-found e =
+            let y = look-found T F (nested-all b T (countIn b) (R .passes)) code not-tag way t d x j (S .looking) within (next .few) room-way (sym its-first ∙ e) in
+            rw (add-one, is-part) (y .0, y .1, sym its-first ∙ e, rw is-part at (next .small))
+
+        pub among-down : f ≡ untagged → Amid b code Noted t (d + 1) a 0
+        among-down e =
+            rw (add-one, is-part)
+            (record {
+              looking = look-down T F (nested-all b T (countIn b) (R .passes)) code not-tag way t d x j (S .looking) within (next .few) room-way (sym its-first ∙ e);
+              low = rw is-part at (next .small);
+              deep = omega (arith, next .deep);
+            })
+
+        pub among-next : (f ≡ code → ⊥) → (f ≡ untagged → ⊥) → Amid b code Noted t d x (j + 1)
+        among-next e g =
+            rw add-one
+            (record {
+              looking =
+                  look-next T F (nested-all b T (countIn b) (R .passes)) code not-tag way t d x j (S .looking) within (next .few) room-way (λ z. e (its-first ∙ z)) (λ z. g (its-first ∙ z));
+              low = S .low;
+              deep = S .deep;
+            })
+
+      pub fewer-under : turnsLeft T (countIn b) (set way d (16 * x + j)) (d + 1) a 0 < turnsLeft T (countIn b) way d x j
+      fewer-under = rw (add-one, is-part) (fewer-down T (countIn b) way d x j within (next .deep) (next .few) (omega (arith, next .room)))
+
+      pub fewer-beside : turnsLeft T (countIn b) (set way d (16 * x + j)) d x (j + 1) < turnsLeft T (countIn b) way d x j
+      fewer-beside = rw add-one (fewer-next T (countIn b) way d x j within (next .deep))
+
+    -- there is none
+    module _ (h : s .count ≤ j) where
+      beyond : length (parts (T x .body)) ≤ j
+      beyond = omega (arith, its .count)
+
+      pub among-none : d ≡ 0 → Finds b code way t Nothing
+      among-none z = look-none T F (nested-all b T (countIn b) (R .passes)) code not-tag way t d x j (S .looking) beyond z
+
+      module _ (z : d ≡ 0 → ⊥) where
+        one-less : d ≡ suc (d - 1)
+        one-less = omega arith
+
+        pub among-back : Amid b code way t (d - 1) (getD way (d - 1) 0 / 16) (getD way (d - 1) 0 % 16 + 1)
+        among-back =
+            let N = nested-all b T (countIn b) (R .passes) in
+            rw add-one
+            (record {
+              looking = look-back T F N code not-tag way t d x j (S .looking) beyond (d - 1) one-less;
+              low = above-low _ _ (look-above T F N code not-tag way t d x j (S .looking) beyond (d - 1) one-less);
+              deep = omega (arith, S .deep);
+            })
+
+        -- what is noted is small
+        pub among-small : getD way (d - 1) 0 < 2048
+        among-small =
+            let q = look-above T F (nested-all b T (countIn b) (R .passes)) code not-tag way t d x j (S .looking) beyond (d - 1) one-less in
+            omega (arith, above-low _ _ q, R .passes .few)
+
+        pub fewer-above : turnsLeft T (countIn b) way (d - 1) (getD way (d - 1) 0 / 16) (getD way (d - 1) 0 % 16 + 1) < turnsLeft T (countIn b) way d x j
+        fewer-above = rw add-one (fewer-back T (countIn b) way d x j beyond (d - 1) one-less)
+
+  -- before the first
+  pub amid-first : (code : ℕ) (way : List ℕ) (t : ℕ) → code < untagged → t < countIn b → firstOf (T t) ≡ untagged → Amid b code way t 0 t 0
+  amid-first code way t tag h e =
+      record { looking = look-first T F (nested-all b T (countIn b) (R .passes)) code (λ z. omega arith) way t e; low = h; deep = omega arith }
+
+  -- a record itself
+  pub seek-here : (code : ℕ) (way : List ℕ) (t f : ℕ) → code < untagged → t < countIn b → f ≡ unpacked (getD ix t 0) .code → f ≡ code → Finds b code way t (At t 0)
+  seek-here code way t f tag h ef e =
+      let q = sym (code-is t f h ef) ∙ e in
+      (search-here T F (nested-all b T (countIn b) (R .passes)) code (λ z. omega arith) t q, here, q, h)
+
+  pub seek-other : (code : ℕ) (way : List ℕ) (t f : ℕ) → code < untagged → t < countIn b → f ≡ unpacked (getD ix t 0) .code → (f ≡ code → ⊥) → (f ≡ untagged → ⊥)
+      → Finds b code way t Nothing
+  seek-other code way t f tag h ef e g =
+      let q = code-is t f h ef in
+      search-other T F (nested-all b T (countIn b) (R .passes)) code (λ z. omega arith) t (λ z. e (q ∙ z)) (λ z. g (q ∙ z))

@@ -1,0 +1,116 @@
+-- What stands at a place of contents: an item, their end, or neither.
+-- Assumes nothing.
+use borrow.Author.Tests.{eqb-true, eqb-false}
+use lib.Dec.{eqb}
+use lib.ListN.{length, getD, drop}
+use mathlib.Core.Bool.{Bool, true, false, not, _||_, true≢false, false≢true}
+use mathlib.Core.List.{List, [], _∷_}
+use mathlib.Core.Path.{_≡_, refl, sym, ap, _∙_}
+use Prim.Native.Nat.{ℕ, zero, suc}
+use Rattle.octets.specs.Answer.{if}
+use Rattle.octets.specs.Lists.{any}
+use Rattle.octets.proofs.Tests.{test}
+use Rattle.ber.specs.Told.{faultNumber}
+use Rattle.ber.specs.declared.Fault.{Fault}
+use Rattle.ber.specs.declared.ending.End.{End}
+use Rattle.ber.specs.declared.ending.End.the-variants.{More, Over as EndsAt, Broken}
+use Rattle.table.specs.Syntax.{Simple, Body, Plain, Sequence, Set, SequenceOf, SetOf, Choice, constructed}
+use Rattle.table.specs.Octets.{kind}
+use Rattle.table.specs.Entries.{unpacked, tableIn, countIn}
+use Rattle.table.specs.declared.entry.Entry.{Entry}
+use Rattle.table.proofs.Promises.{entered-kind}
+use Rattle.reader.specs.Answers.{causeOf}
+use Rattle.reader.specs.Items.{Holder, inside, message, manner, isSingle, partsOf, optionals, pending, left, lacks}
+use Rattle.reader.specs.Records.{Ready, Known, of-record, of-message, holderIn}
+use Rattle.reader.specs.Sought.{held, Sound}
+use Rattle.reader.specs.Standing.{atEnding, standing}
+use Rattle.reader.specs.declared.answer.Cause.{Cause}
+use Rattle.reader.specs.declared.answer.Cause.the-variants.{NotAwaited}
+use Rattle.reader.specs.declared.judge.Standing.the-variants.{Item, Over, Refused}
+use Rattle.reader.proofs.Items.{pending-free, pending-come}
+use Rattle.reader.proofs.Spans.{by-member, entry-of, held-body}
+
+-- which kinds hold one item
+one-kind : (y : Body) → constructed y ≡ true → (eqb (kind y) 50 || eqb (kind y) 51) ≡ isSingle (manner (inside y))
+unfolding kind manner isSingle constructed
+one-kind (Plain k) c = absurd (false≢true c)
+one-kind (Sequence ms) c = refl
+one-kind (Set ms) c = refl
+one-kind (SequenceOf t) c = refl
+one-kind (SetOf t) c = refl
+one-kind (Choice ts) c = refl
+
+not-not : (a : Bool) → false ≡ not a → a ≡ true
+not-not true e = refl
+not-not false e = absurd (false≢true e)
+
+one-known : {b index : List ℕ} → Ready b index → (w : ℕ) → Known b index w → unpacked w .simple ≡ false
+    → (eqb (unpacked w .kind) 50 || eqb (unpacked w .kind) 51) ≡ isSingle (manner (held b w))
+unfolding holderIn if manner isSingle
+one-known {b} R w (of-record t h q) n =
+    let x = R .filled .entered t h in
+    let c = not-not (constructed (tableIn b t .body)) (sym (rw q at n) ∙ x .simple) in
+    rw (q, held-body x (R .filled .short)) (ap (λ (k : ℕ). eqb k 50 || eqb k 51) (entered-kind x) ∙ one-kind (tableIn b t .body) c)
+one-known R w (of-message t h q) n = rw q refl
+
+-- elements need not come
+optional-parts : (came : List ℕ) (i k : ℕ) (ts : List ℕ) → any (λ x. not (x .1 .optional)) (pending came k (drop i (optionals ts))) ≡ false
+unfolding pending any
+optional-parts came zero k [] = refl
+optional-parts came (suc i) k [] = refl
+optional-parts came zero k (t ∷ ts) =
+    test (eqb (getD came k 0) 0)
+    (λ z. rw (pending-free came k (record { type = t; optional = true }) (optionals ts) (eqb-true (getD came k 0) 0 z)) (optional-parts came zero (suc k) ts))
+    λ z. rw (pending-come came k (record { type = t; optional = true }) (optionals ts) (eqb-false (getD came k 0) 0 z)) (optional-parts came zero (suc k) ts)
+optional-parts came (suc i) k (t ∷ ts) = optional-parts came i k ts
+
+list-lacks : (h : Holder) (i : ℕ) (came : List ℕ) → isSingle (manner h) ≡ false → by-member (manner h) ≡ false → lacks h i came ≡ false
+unfolding manner isSingle partsOf
+list-lacks (inside (Plain k)) i came s n = absurd (true≢false s)
+list-lacks (inside (Sequence ms)) i came s n = absurd (true≢false n)
+list-lacks (inside (Set ms)) i came s n = absurd (true≢false n)
+list-lacks (inside (SequenceOf t)) i came s n = optional-parts came i i (t ∷ [])
+list-lacks (inside (SetOf t)) i came s n = optional-parts came i i (t ∷ [])
+list-lacks (inside (Choice ts)) i came s n = absurd (true≢false s)
+list-lacks (message t) i came s n = absurd (true≢false s)
+
+module _ {b index : List ℕ} {w : ℕ} {came : List ℕ} (Z : Sound b index w came) (plain : unpacked w .simple ≡ false) (e : Entry) (ee : e ≡ unpacked w)
+    (g : Bool) (eg : g ≡ (eqb (e .kind) 50 || eqb (e .kind) 51)) (i : ℕ) (y : End) where
+  abbrev H : Holder
+  H = held b w
+
+  one-is : g ≡ isSingle (manner H)
+  one-is = eg ∙ ap (λ (x : Entry). eqb (x .kind) 50 || eqb (x .kind) 51) ee ∙ one-known (Z .ready) w (Z .known) plain
+
+  pub stands-one : g ≡ true → Item ≡ standing H i came y
+  unfolding standing if
+  stands-one q = rw (← one-is, q) refl
+
+  module _ (q : g ≡ false) (z : End) (ez : z ≡ y) where
+    at-ending : standing H i came y ≡ atEnding H i came z
+    unfolding standing if
+    at-ending = rw (← one-is, q, ez) refl
+
+    pub stands-more : z ≡ More → Item ≡ standing H i came y
+    unfolding atEnding
+    stands-more d = sym (at-ending ∙ rw d refl)
+
+    pub stands-broken : (f : Fault) → z ≡ Broken f → (c : Cause) → c ≡ causeOf (faultNumber f) → Refused c ≡ standing H i came y
+    unfolding atEnding
+    stands-broken f d c ec = sym (at-ending ∙ rw (d, ec) refl)
+
+    module _ (u : ℕ) (d : z ≡ EndsAt u) (k : Bool) (ek : k ≡ (eqb (e .kind) 16 || eqb (e .kind) 17)) where
+      pub stands-list : k ≡ false → Over u ≡ standing H i came y
+      unfolding atEnding if
+      stands-list n =
+          let v : by-member (manner H) ≡ false = sym (ek ∙ ap (λ (x : Entry). eqb (x .kind) 16 || eqb (x .kind) 17) ee ∙ entry-of (Z .ready) w (Z .known) .members) ∙ n in
+          sym (at-ending ∙ rw (d, list-lacks H i came (sym one-is ∙ q) v) refl)
+
+      module _ (r : Bool) (er : r ≡ lacks H i came) where
+        pub stands-lacking : r ≡ true → Refused NotAwaited ≡ standing H i came y
+        unfolding atEnding if
+        stands-lacking v = sym (at-ending ∙ rw (d, ← er, v) refl)
+
+        pub stands-over : r ≡ false → Over u ≡ standing H i came y
+        unfolding atEnding if
+        stands-over v = sym (at-ending ∙ rw (d, ← er, v) refl)

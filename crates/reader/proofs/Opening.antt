@@ -1,0 +1,448 @@
+-- The explicit tags of a record, opened from the outermost in.
+-- Assumes nothing.
+use borrow.Author.Tests.{eq-eqb, ne-eqb, ltb-true, ltb-false, lt-ltb, le-ltb}
+use lib.Dec.{eqb, ltb}
+use lib.ListN.{length, getD, take, drop, set, length-take, length-drop, length-map, length-append, List·getD-eq-default}
+use lib.Seq.{getD-take, getD-drop, take-length, take-take, take-suc-set, length-take-le, take-add, drop-drop, drop-length, drop-append-seam}
+use mathlib.Core.Bool.{Bool, true, false, not, _||_, true≢false, false≢true}
+use mathlib.Core.List.{List, [], _∷_, _++_, map, append-nil}
+use mathlib.Core.Logic.{_⊎_, inl, inr}
+use mathlib.Core.Path.{_≡_, refl, sym, ap, _∙_}
+use native.Mathlib.Numerals.{add-one}
+use native.Mathlib.Omega.{arith}
+use Prim.Native.Nat.{ℕ, zero, suc, _+_, _-_, _*_, _/_, _%_, _≤_, _<_}
+use Rattle.octets.specs.Answer.{Answer, got, refused, then, if, behind, none-left}
+use Rattle.octets.specs.Lists.{same}
+use Rattle.octets.specs.Numbers.{Octets}
+use Rattle.octets.proofs.Tests.{test}
+use Rattle.ber.specs.Codes.{codeOf, code as codeBy}
+use Rattle.ber.specs.Reading.{Mode, closed, open-ended, Size, definite, indefinite, readIdentifier, readLength, readHeader, inside, readConstructed, readPrimitive, atEnd}
+use Rattle.ber.specs.Told.{toldLength, faultNumber, mode}
+use Rattle.ber.specs.declared.Fault.{Fault}
+use Rattle.ber.specs.declared.length.Length.{Length}
+use Rattle.ber.specs.declared.length.Length.the-variants.{Read as ReadLength, Refused as NoLength}
+use Rattle.ber.specs.declared.length.Extent.{Extent}
+use Rattle.ber.proofs.Told.{length-definite, length-indefinite, length-refused}
+use Rattle.table.specs.Syntax.{Tag, Body, Plain, Sequence, Set, SequenceOf, SetOf, Choice, Record, Table, isChoice, constructed}
+use Rattle.table.specs.Entries.{unpacked, tableIn, countIn, Entered, firstCode, outermostCode, more, explicitCount}
+use Rattle.coding.specs.Tags.{identifierOf, before, explicitTags, own, explicit}
+use Rattle.coding.specs.Value.{Value}
+use Rattle.coding.specs.Reading.{readWrapped, readKind}
+use Rattle.reader.specs.Answers.{causeOf, causeNumber}
+use Rattle.reader.specs.Records.{Ready, recordIn, IsRecord, readRecord}
+use Rattle.reader.specs.Wraps.{ended, shut, closing, noteOf, Around, identifiers, Headed, readBare, AwaitsTag, behind-last, is-tag, no-tag, mustGoOn, EntersTag, goes-on, is-over, Opens}
+use Rattle.reader.specs.declared.answer.Cause.{Cause}
+use Rattle.reader.specs.declared.tags.Tag.{Tag as TagRead}
+use Rattle.reader.specs.declared.tags.Tag.the-variants.{Read as ReadTag, Refused as NoTag}
+use Rattle.reader.specs.declared.tags.Opened.the-variants.{Inside, Refused as NotOpened}
+use Rattle.reader.proofs.Begun.{Fit}
+use Rattle.reader.proofs.Tagging.{zeros, count-identifiers, code-at, same-at, its-entry, its-record, its-fit}
+use Rattle.reader.proofs.Wrapping.{cause-fault, closing-last, around-more, closing-refused, note-half, note-mark}
+
+-- octets of a part
+octets-drop : (m : List ℕ) → Octets m → (n : ℕ) → Octets (drop n m)
+octets-drop m o n i = rw (getD-drop n m i 0) (o (n + i))
+
+octets-take : (m : List ℕ) → Octets m → (e : ℕ) → Octets (take e m)
+octets-take m o e i =
+    test (ltb i e)
+    (λ t. rw (getD-take e m i 0 (ltb-true i e t)) (o i))
+    λ t. let k : length (take e m) ≤ i = omega (arith, length-take e m, ltb-false i e t) in rw (List·getD-eq-default (take e m) 0 k) (omega arith)
+
+pub part-is : (start size : ℕ) (m : List ℕ) → start + size ≤ length m → drop start (take (start + size) m) ≡ take size (drop start m)
+part-is start size m h =
+    let l : length (take start m) ≡ start = length-take-le start m (omega arith) in
+    rw (take-add start size m) (rw l at (drop-append-seam (take start m) (take size (drop start m))))
+
+pub slice-is : (start end : ℕ) (m : List ℕ) → start ≤ end → end ≤ length m → take (end - start) (drop start m) ≡ drop start (take end m)
+slice-is start end m h k = let q : start + (end - start) ≡ end = omega arith in let w = part-is start (end - start) m (omega arith) in sym w ∙ rw q refl
+
+-- lists of identifiers
+front-at : (a c : List (List ℕ)) (j : ℕ) → j < length a → getD (a ++ c) j [] ≡ getD a j []
+front-at [] c j l = absurd (omega arith)
+front-at (x ∷ a) c zero l = refl
+front-at (x ∷ a) c (suc j) l = front-at a c j (omega arith)
+
+drop-at : (a : List (List ℕ)) (j : ℕ) → j < length a → drop j a ≡ getD a j [] ∷ drop (suc j) a
+drop-at [] j l = absurd (omega arith)
+drop-at (x ∷ a) zero l = refl
+drop-at (x ∷ a) (suc j) l = drop-at a j (omega arith)
+
+behind-at : (a : List (List ℕ)) (x : List ℕ) → getD (a ++ (x ∷ [])) (length a) [] ≡ x
+behind-at [] x = refl
+behind-at (y ∷ a) x = behind-at a x
+
+-- how many are explicit
+before-length : (g : Tag) (gs : List Tag) → length (before (g ∷ gs)) ≡ length gs
+unfolding before
+before-length g [] = refl
+before-length g (h ∷ gs) = ap suc (before-length h gs)
+
+count-of : (gs : List Tag) (y : Body) → (gs ≡ [] → isChoice y ≡ true)
+    → length (explicit (record { tags = gs; body = y })) ≡ explicitCount (record { tags = gs; body = y })
+unfolding explicit explicitTags isChoice explicitCount if
+count-of gs (Choice ts) t = length-map gs (identifierOf true)
+count-of [] (Plain k) t = absurd (false≢true (t refl))
+count-of [] (Sequence ms) t = absurd (false≢true (t refl))
+count-of [] (Set ms) t = absurd (false≢true (t refl))
+count-of [] (SequenceOf u) t = absurd (false≢true (t refl))
+count-of [] (SetOf u) t = absurd (false≢true (t refl))
+count-of (g ∷ gs) (Plain k) t = length-map (before (g ∷ gs)) (identifierOf true) ∙ before-length g gs ∙ rw (ne-eqb (suc (length gs)) 0 (λ z. omega arith)) (omega arith)
+count-of (g ∷ gs) (Sequence ms) t = length-map (before (g ∷ gs)) (identifierOf true) ∙ before-length g gs ∙ rw (ne-eqb (suc (length gs)) 0 (λ z. omega arith)) (omega arith)
+count-of (g ∷ gs) (Set ms) t = length-map (before (g ∷ gs)) (identifierOf true) ∙ before-length g gs ∙ rw (ne-eqb (suc (length gs)) 0 (λ z. omega arith)) (omega arith)
+count-of (g ∷ gs) (SequenceOf u) t = length-map (before (g ∷ gs)) (identifierOf true) ∙ before-length g gs ∙ rw (ne-eqb (suc (length gs)) 0 (λ z. omega arith)) (omega arith)
+count-of (g ∷ gs) (SetOf u) t = length-map (before (g ∷ gs)) (identifierOf true) ∙ before-length g gs ∙ rw (ne-eqb (suc (length gs)) 0 (λ z. omega arith)) (omega arith)
+
+first-by : (gs : List Tag) (y : Body) → 0 < length gs
+    → outermostCode gs y ≡ codeBy (getD gs 0 zeros .class) (ltb (0 + 1) (length gs) || constructed y) (getD gs 0 zeros .number)
+unfolding outermostCode
+first-by [] y l = absurd (omega arith)
+first-by (g ∷ []) y l = refl
+first-by (g ∷ h ∷ gs) y l = rw (lt-ltb (0 + 1) (suc (suc (length gs))) (omega arith)) refl
+
+-- contents of a tag: they go on, or they are refused, whatever comes then
+clash : {A : Type 0} (a : A) (s : List ℕ) (c l : ℕ) → _≡_ {A = Answer A} (got a s) (refused c l) → ⊥
+clash a s c l e = let z : _≡_ {A = ℕ} 0 1 = cc in omega arith
+
+module _ (A B : Type 0) (s : List ℕ) (l : ℕ) where
+  abbrev Goes : Mode → Type 0
+  Goes k = ((x : Unit {0} → Answer A) → atEnd k s (λ _. refused 24 l) x ≡ x tt) × ((y : Unit {0} → Answer B) → atEnd k s (λ _. refused 24 l) y ≡ y tt)
+
+  abbrev Stops : Mode → Type 0
+  Stops k =
+      (c : ℕ) × (n : ℕ) × ((x : Unit {0} → Answer A) → atEnd k s (λ _. refused 24 l) x ≡ refused c n) × ((y : Unit {0} → Answer B) → atEnd k s (λ _. refused 24 l) y ≡ refused c n)
+
+  either : (k : Mode) → Goes k ⊎ Stops k
+  unfolding atEnd if
+  either closed = test (none-left s) (λ a. inr (24, l, (λ x. rw a refl), λ y. rw a refl)) λ a. inl ((λ x. rw a refl), λ y. rw a refl)
+  either open-ended =
+      test (none-left s) (λ a. inr (22, 0, (λ x. rw a refl), λ y. rw a refl)) λ a.
+      test (eqb (getD s 0 0) 0)
+      (λ d.
+      test (none-left (drop 1 s)) (λ f. inr (22, length s, (λ x. rw (a, d, f) refl), λ y. rw (a, d, f) refl)) λ f.
+      test (eqb (getD s 1 0) 0) (λ g. inr (24, l, (λ x. rw (a, d, f, g) refl), λ y. rw (a, d, f, g) refl))
+      λ g. inr (23, length s, (λ x. rw (a, d, f, g) refl), λ y. rw (a, d, f, g) refl))
+      λ d. inl ((λ x. rw (a, d) refl), λ y. rw (a, d) refl)
+
+going : {B : Type 0} (k : Mode) (s u : List ℕ) (l : ℕ) → atEnd k s (λ _. refused 24 l) (λ _. got u s) ≡ got u s → (y : Unit {0} → Answer B)
+    → atEnd k s (λ _. refused 24 l) y ≡ y tt
+going {B} k s u l e y = go (either (List ℕ) B s l k)
+  where
+    go : Goes (List ℕ) B s l k ⊎ Stops (List ℕ) B s l k → atEnd k s (λ _. refused 24 l) y ≡ y tt
+    go (inl h) = h .1 y
+    go (inr h) = absurd (clash u s (h .0) (h .1) (sym e ∙ h .2 (λ _. got u s)))
+
+stopping : {B : Type 0} (k : Mode) (s u : List ℕ) (l c n : ℕ) → atEnd k s (λ _. refused 24 l) (λ _. got u s) ≡ refused c n → (y : Unit {0} → Answer B)
+    → atEnd k s (λ _. refused 24 l) y ≡ refused c n
+stopping {B} k s u l c n e y = go (either (List ℕ) B s l k)
+  where
+    same-refusal : (a b p q : ℕ) → _≡_ {A = Answer (List ℕ)} (refused a b) (refused p q) → _≡_ {A = Answer B} (refused a b) (refused p q)
+    same-refusal a b p q z = let v : a ≡ p = cc in let w : b ≡ q = cc in rw (v, w) refl
+
+    go : Goes (List ℕ) B s l k ⊎ Stops (List ℕ) B s l k → atEnd k s (λ _. refused 24 l) y ≡ refused c n
+    go (inl h) = absurd (clash u s c n (sym (h .0 (λ _. got u s)) ∙ e))
+    go (inr h) = h .3 y ∙ same-refusal (h .0) (h .1) c n (sym (h .2 (λ _. got u s)) ∙ e)
+
+-- the tag's item, where y is what was read of its contents
+unfoldable sealed : {A : Type 0} → List ℕ → ℕ → ℕ → Bool → Answer A → Answer A
+sealed m outer inner true y = y
+sealed m outer inner false y = then (behind (outer - inner) y) λ v r. got v (drop inner (take outer m))
+
+sealed-shut : {A : Type 0} (m : List ℕ) (outer inner : ℕ) (k : Bool) (x : Answer A) → sealed m outer inner k (ended (mode k) x) ≡ shut m outer inner k x
+unfolding sealed shut
+sealed-shut m outer inner true x = refl
+sealed-shut m outer inner false x = refl
+
+sealed-refused : {A : Type 0} (m : List ℕ) (outer inner : ℕ) (k : Bool) (c l : ℕ) → (k ≡ true → inner ≡ outer)
+    → sealed {A = A} m outer inner k (refused c l) ≡ refused c (l + (outer - inner))
+unfolding sealed then behind
+sealed-refused m outer inner true c l o = let q : l ≡ l + (outer - inner) = omega (arith, o refl) in ap (refused c) q
+sealed-refused m outer inner false c l o = refl
+
+-- an item whose header is refused
+item-refused : (T : Table) (f : ℕ → List ℕ → Answer Value) (o : List ℕ) (y : Body) (s : List ℕ) (c l : ℕ) → isChoice y ≡ false → readHeader o s ≡ refused c l
+    → readKind T f o y s ≡ refused c l
+unfolding readKind readPrimitive readConstructed then isChoice
+item-refused T f o (Plain k) s c l n e = rw e refl
+item-refused T f o (Sequence ms) s c l n e = rw e refl
+item-refused T f o (Set ms) s c l n e = rw e refl
+item-refused T f o (SequenceOf u) s c l n e = rw e refl
+item-refused T f o (SetOf u) s c l n e = rw e refl
+item-refused T f o (Choice ts) s c l n e = absurd (true≢false n)
+
+wrapped-refused : {A : Type 0} (i : List ℕ) (is : List (List ℕ)) (r : List ℕ → Answer A) (s : List ℕ) (c l : ℕ) → readHeader i s ≡ refused c l
+    → readWrapped (i ∷ is) r s ≡ refused c l
+unfolding readWrapped readConstructed then
+wrapped-refused i is r s c l e = rw e refl
+
+header-none : (i s : List ℕ) (c : ℕ) → then (readIdentifier s) (λ j u. if (same i j) (got j u) λ _. refused 24 (length s)) ≡ refused c (length s)
+    → readHeader i s ≡ refused c (length s)
+unfolding readHeader then if
+header-none i s c e = go (readIdentifier s) e
+  where
+    go : (x : Answer (List ℕ)) → then x (λ j u. if (same i j) (got j u) λ _. refused 24 (length s)) ≡ refused c (length s)
+        → then x (λ j u. if (not (same i j)) (refused 24 (length s)) λ _. readLength (length s) u) ≡ refused c (length s)
+    go (got j u) e = test (same i j) (λ t. absurd (clash j u c (length s) (rw t at e))) λ t. rw t (let k = rw t at e in let v : 24 ≡ c = cc in rw v refl)
+    go (refused a n) e = let v : a ≡ c = cc in let w : n ≡ length s = cc in rw (v, w) refl
+
+-- the tags that are opened: j notes are made, and what is read next stands from `at` to `end`, with its identifier up to `from`
+pub record Opening (b : List ℕ) (r : Record) (m : List ℕ) (first : ℕ) (notes : List ℕ) (at from end j : ℕ) : Type 0 where
+  pub within : j ≤ length (explicit r)
+  pub low : first ≤ at
+  pub later : 0 < j → first < at
+  pub some : at < end
+  pub high : end ≤ length m
+  pub around : Around (length m) (take j notes) end
+  pub headed : j < length (identifiers r) → Headed (take end m) at from (codeOf (getD (identifiers r) j []))
+  pub whole : (n : ℕ)
+      → readRecord (tableIn b) n r (drop first m) ≡ closing m (take j notes) end (readWrapped (drop j (explicit r)) (readBare b n r) (drop at (take end m)))
+
+module _ (b : List ℕ) (r : Record) (F : Fit r) (m : List ℕ) (om : Octets m) (first : ℕ) where
+  abbrev Ids : List (List ℕ)
+  Ids = identifiers r
+
+  abbrev Count : ℕ
+  Count = length (explicit r)
+
+  more-ids : Count ≤ length Ids
+  more-ids = omega (arith, length-append (explicit r) (if (isChoice (r .body)) [] λ _. own r ∷ []))
+
+  id-explicit : (j : ℕ) → j < Count → getD Ids j [] ≡ getD (explicit r) j []
+  id-explicit j l = front-at (explicit r) _ j l
+
+  wraps-at : (j : ℕ) → j < Count → drop j (explicit r) ≡ getD Ids j [] ∷ drop (suc j) (explicit r)
+  wraps-at j l = drop-at (explicit r) j l ∙ ap (λ (z : List ℕ). z ∷ drop (suc j) (explicit r)) (sym (id-explicit j l))
+
+  own-last : isChoice (r .body) ≡ false → getD Ids Count [] ≡ own r
+  unfolding if
+  own-last n = rw n (behind-at (explicit r) (own r))
+
+  is-last : Count < length Ids → isChoice (r .body) ≡ false
+  unfolding if
+  is-last l = test (isChoice (r .body)) (λ t. absurd (short (isChoice (r .body)) t l)) λ t. t
+    where
+      short : (t : Bool) → t ≡ true → Count < length (explicit r ++ if t [] λ _. own r ∷ []) → ⊥
+      short true t l = let q = ap length (append-nil (explicit r)) in omega (arith, q)
+      short false t l = false≢true t
+
+  pub open-none : (notes : List ℕ) (from : ℕ) → 0 < Count → Headed m first from (firstCode r) → Opening b r m first notes first from (length m) 0
+  unfolding Around closing readRecord
+  open-none notes from l h =
+      let k : 0 < length (r .tags) = omega (arith, more-ids, count-identifiers r F) in
+      let c : codeOf (getD Ids 0 []) ≡ firstCode r = code-at r F 0 k ∙ sym (first-by (r .tags) (r .body) k) in
+      record {
+        within = omega arith;
+        low = omega arith;
+        later = λ z. absurd (omega arith);
+        some = omega (arith, h .further, h .low);
+        high = omega arith;
+        around = refl;
+        headed = λ z. rw (take-length m, c) h;
+        whole = λ n. rw (take-length m) refl;
+      }
+
+  module _ (notes : List ℕ) (at from end j : ℕ) (S : Opening b r m first notes at from end j) where
+    pub open-done : (count : ℕ) → count ≡ Count → 0 < Count → count ≤ j
+        → Opens b r m first (take count notes) (Inside (record { at = at; from = from; end = end }))
+    unfolding readWrapped if
+    open-done count ec l k =
+        let q : j ≡ Count = omega (arith, S .within) in
+        let v : count ≡ j = ec ∙ sym q in
+        rw v (
+          S .later (omega arith),
+          S .some,
+          S .high,
+          S .around,
+          (λ n.
+              let w : getD Ids j [] ≡ own r = ap (λ (i : ℕ). getD Ids i []) q ∙ own-last n in
+              let y = longer n in let u : j < length Ids = omega (arith, q, y) in
+              rw (← w) (S .headed u)),
+          λ n. S .whole n ∙ ap (λ (z : List (List ℕ)). closing m (take j notes) end (readWrapped z (readBare b n r) (drop at (take end m)))) (ap (λ (i : ℕ). drop i (explicit r)) q ∙ drop-length (explicit r)),
+        )
+      where
+        longer : isChoice (r .body) ≡ false → Count < length Ids
+        longer n = let q = length-append (explicit r) (own r ∷ []) in rw n (omega (arith, q))
+
+    module _ (l : j < Count) where
+      abbrev P : List ℕ
+      P = take end m
+
+      abbrev Id : List ℕ
+      Id = getD Ids j []
+
+      abbrev Rest : List (List ℕ)
+      Rest = drop (suc j) (explicit r)
+
+      size-part : length P ≡ end
+      size-part = length-take-le end m (S .high)
+
+      left-part : length (drop at P) ≡ end - at
+      left-part = length-drop at P ∙ ap (λ (i : ℕ). i - at) size-part
+
+      head : Headed P at from (codeOf Id)
+      head = S .headed (omega (arith, more-ids))
+
+      header-is : readHeader Id (drop at P) ≡ readLength (length (drop at P)) (drop from P)
+      unfolding readHeader then if
+      header-is =
+          let k : j < length (r .tags) = omega (arith, more-ids, count-identifiers r F) in
+          let o = octets-drop P (octets-take m om end) at in
+          let y = same-at r F j k (drop at P) (head .identifier) (drop from P) o (head .is) ∙ eq-eqb (codeOf (head .identifier)) (codeOf Id) (head .coded) in
+          rw (head .is, y) refl
+
+      under : (n : ℕ) → readRecord (tableIn b) n r (drop first m) ≡ closing m (take j notes) end (readWrapped (Id ∷ Rest) (readBare b n r) (drop at P))
+      under n = S .whole n ∙ ap (λ (z : List (List ℕ)). closing m (take j notes) end (readWrapped z (readBare b n r) (drop at P))) (wraps-at j l)
+
+      refused-all : (c : Cause) (k n₁ : ℕ) (ns : List ℕ) → ((n : ℕ) → readWrapped (Id ∷ Rest) (readBare b n r) (drop at P) ≡ refused (causeNumber c) k)
+          → k + (length m - end) ≡ n₁ → n₁ ≤ length m → Opens b r m first ns (NotOpened c n₁)
+      refused-all c k n₁ ns e q h =
+          (h, λ n. under n ∙ ap (closing m (take j notes) end) (e n) ∙ closing-refused m (length m) (take j notes) end (causeNumber c) k (S .around) ∙ ap (refused (causeNumber c)) q)
+
+      module _ (z : Length) (az : (k : ℕ) → z ≡ toldLength (length P) (readLength k (drop from P))) where
+        pub open-unread : (f : Fault) → z ≡ NoLength f → (c : Cause) → c ≡ causeOf (faultNumber f) → (ns : List ℕ)
+            → Opens b r m first ns (NotOpened c (length m - at))
+        open-unread f q c ec ns =
+            let k = length (drop at P) in
+            let v : faultNumber f ≡ causeNumber c = sym (ap causeNumber ec ∙ cause-fault f) in
+            let y = header-is ∙ length-refused P from k z (az k) f q ∙ ap (λ (i : ℕ). refused i k) v in
+            refused-all c k (length m - at) ns (λ n. wrapped-refused Id Rest (readBare b n r) (drop at P) (causeNumber c) k y) (omega (arith, left-part, S .some, S .high)) (omega arith)
+
+        module _ (x : Extent) (q : z ≡ ReadLength x) where
+          abbrev K : ℕ
+          K = length (drop at P)
+
+          pub extent : (at < x .start) × (x .start ≤ x .end) × (x .end ≤ end) × (x .marked ≡ true → x .end ≡ end)
+          extent =
+              test (x .marked)
+              (λ t. let y = length-indefinite P from K z (az K) x q t in (omega (arith, y .1, head .further), omega (arith, y .2, y .3), omega (arith, y .3, size-part), λ _. y .3 ∙ size-part))
+              λ t. let y = length-definite P from K z (az K) x q t in
+              (omega (arith, y .1, head .further), y .2, omega (arith, y .3, size-part), λ v. absurd (true≢false (sym v ∙ t)))
+
+          abbrev pub U : List ℕ
+          U = drop (x .start) (take (x .end) m)
+
+          size-inside : length U ≡ x .end - x .start
+          size-inside = length-drop (x .start) (take (x .end) m) ∙ ap (λ (i : ℕ). i - x .start) (length-take-le (x .end) m (omega (arith, extent .2, S .high)))
+
+          abbrev Contents : Answer Value → Answer Value
+          Contents y = atEnd (mode (x .marked)) U (λ _. refused 24 (length U)) λ _. ended (mode (x .marked)) y
+
+          tag-inside : (f : List ℕ → Answer Value) → readWrapped (Id ∷ Rest) f (drop at P) ≡ sealed m end (x .end) (x .marked) (Contents (readWrapped Rest f U))
+          unfolding readWrapped readConstructed then inside sealed ended
+          tag-inside f =
+              test (x .marked)
+              (λ t.
+              let y = length-indefinite P from K z (az K) x q t in
+              let v : x .end ≡ end = y .3 ∙ size-part in
+              rw (header-is, y .0, t, v) refl)
+              λ t.
+              let y = length-definite P from K z (az K) x q t in
+              let a : length (drop (x .start) P) - (x .end - x .start) ≡ end - x .end = omega (arith, length-drop (x .start) P, size-part, y .2, y .3) in
+              let d : take (x .end - x .start) (drop (x .start) P) ≡ U
+              = slice-is (x .start) (x .end) P (y .2) (y .3) ∙ ap (drop (x .start)) (take-take (x .end) end m (omega (arith, y .3, size-part))) in
+              let g : x .start + (x .end - x .start) ≡ x .end = omega (arith, y .2) in
+              let h : drop (x .end - x .start) (drop (x .start) P) ≡ drop (x .end) P = drop-drop (x .end - x .start) (x .start) P ∙ ap (λ (i : ℕ). drop i P) g in
+              rw (header-is, y .0, t, a, d, h) refl
+
+          -- the identifier that is awaited next
+          rest-refused : (c : Cause) → AwaitsTag Ids (suc j) U (NoTag c) → (n : ℕ) → readWrapped Rest (readBare b n r) U ≡ refused (causeNumber c) (length U)
+          unfolding readWrapped
+          rest-refused c (no-tag w e) n =
+              test (ltb (suc j) Count)
+              (λ t.
+              let k = ltb-true (suc j) Count t in
+              ap (λ (y : List (List ℕ)). readWrapped y (readBare b n r) U) (wraps-at (suc j) k)
+              ∙ wrapped-refused (getD Ids (suc j) []) (drop (suc (suc j)) (explicit r)) (readBare b n r) U (causeNumber c) (length U) (header-none (getD Ids (suc j) []) U (causeNumber c) e))
+              λ t.
+              let k : suc j ≡ Count = omega (arith, ltb-false (suc j) Count t) in
+              let v = is-last (omega (arith, w, k)) in
+              let u : getD Ids (suc j) [] ≡ own r = ap (λ (i : ℕ). getD Ids i []) k ∙ own-last v in
+              let y = header-none (own r) U (causeNumber c) (rw u at e) in
+              ap (λ (a : List (List ℕ)). readWrapped a (readBare b n r) U) (ap (λ (i : ℕ). drop i (explicit r)) k ∙ drop-length (explicit r))
+              ∙ item-refused (tableIn b) _ (own r) (r .body) U (causeNumber c) (length U) v y
+
+          no-entry : (c : Cause) → EntersTag Ids (suc j) U (x .marked) (NoTag c) → (n : ℕ)
+              → Contents (readWrapped Rest (readBare b n r) U) ≡ refused (causeNumber c) (length U)
+          unfolding ended then
+          no-entry c (goes-on g h a) n =
+              going (mode (x .marked)) U [] (length U) g (λ _. ended (mode (x .marked)) (readWrapped Rest (readBare b n r) U)) ∙ rw (rest-refused c a n) refl
+          no-entry c (is-over h) n =
+              stopping (mode (x .marked)) U [] (length U) (causeNumber c) (length U) h (λ _. ended (mode (x .marked)) (readWrapped Rest (readBare b n r) U))
+
+          entry : (next : ℕ) → EntersTag Ids (suc j) U (x .marked) (ReadTag next)
+              → (mustGoOn (x .marked) U ≡ got [] U) × (0 < length U) × AwaitsTag Ids (suc j) U (ReadTag next)
+          entry next (goes-on g h a) = (g, h, a)
+
+          next-head : (next : ℕ) → AwaitsTag Ids (suc j) U (ReadTag next)
+              → (suc j < length Ids → Headed U 0 next (codeOf (getD Ids (suc j) []))) × (next ≤ length U)
+          next-head next (behind-last k) = ((λ v. absurd (omega arith)), omega arith)
+          next-head next (is-tag e v h) = ((λ _. h), h .low)
+
+          module _ (part : List ℕ) (ep : part ≡ U) (y : TagRead) (E : EntersTag Ids (j + 1) part (x .marked) y) where
+            its : (u : TagRead) → y ≡ u → EntersTag Ids (suc j) U (x .marked) u
+            its u e = let q = add-one j in rw (q, ep, e) at E
+
+            pub open-refused : (c : Cause) → y ≡ NoTag c → (ns : List ℕ) → Opens b r m first ns (NotOpened c (length m - x .start))
+            open-refused c e ns =
+                let k = length U + (end - x .end) in
+                refused-all c k (length m - x .start) ns
+                (λ n. tag-inside (readBare b n r) ∙ ap (sealed m end (x .end) (x .marked)) (no-entry c (its (NoTag c) e) n) ∙ sealed-refused m end (x .end) (x .marked) (causeNumber c) (length U) (extent .3))
+                (omega (arith, size-inside, extent .1, extent .2, S .high)) (omega arith)
+
+            module _ (next : ℕ) (e : y ≡ ReadTag next) where
+              pub open-next : next ≤ length m
+              open-next = let q = next-head next (entry next (its (ReadTag next) e) .2) .1 in omega (arith, q, size-inside, extent .2, S .high)
+
+              pub open-turn : (note : ℕ) → note ≡ noteOf end (x .marked) → j < length notes
+                  → Opening b r m first (set notes j note) (x .start) (x .start + next) (x .end) (j + 1)
+              open-turn note en g =
+                  let (a, s, w) = entry next (its (ReadTag next) e) in
+                  let (h, k) = next-head next w in
+                  let half : note / 2 ≡ end = ap (λ (i : ℕ). i / 2) en ∙ note-half end (x .marked) in
+                  let mark : eqb (note % 2) 1 ≡ x .marked = ap (λ (i : ℕ). eqb (i % 2) 1) en ∙ note-mark end (x .marked) in
+                  let made : take (j + 1) (set notes j note) ≡ take j notes ++ (note ∷ []) = ap (λ (i : ℕ). take i (set notes j note)) (add-one j) ∙ take-suc-set notes j note g in
+                  let fit-end : length (take (x .end) m) ≡ x .end = length-take-le (x .end) m (omega (arith, extent .2, S .high)) in
+                  let one = add-one j in
+                  record {
+                    within = omega arith;
+                    low = omega (arith, S .low, extent .0);
+                    later = λ _. omega (arith, S .low, extent .0);
+                    some = omega (arith, s, size-inside);
+                    high = omega (arith, extent .2, S .high);
+                    around = rw made (around-more (length m) (take j notes) note (x .end) (rw half (S .around)) (omega (arith, half, extent .2)) (λ v. extent .3 (sym mark ∙ eq-eqb (note % 2) 1 v) ∙ sym half));
+                    headed = λ v.
+                        let f = h (omega arith) in
+                        rw one
+                        (record {
+                          identifier = f .identifier;
+                          is = f .is ∙ ap (got (f .identifier)) (drop-drop next (x .start) (take (x .end) m));
+                          coded = f .coded;
+                          further = omega (arith, f .further);
+                          low = omega (arith, k, size-inside, fit-end, extent .1);
+                        });
+                    whole = λ n.
+                        under n
+                        ∙ ap (closing m (take j notes) end)
+                        (tag-inside (readBare b n r)
+                        ∙ ap (sealed m end (x .end) (x .marked)) (going (mode (x .marked)) U [] (length U) a (λ _. ended (mode (x .marked)) (readWrapped Rest (readBare b n r) U)))
+                        ∙ sealed-shut m end (x .end) (x .marked) (readWrapped Rest (readBare b n r) U))
+                        ∙ rw (one, rw one at made, closing-last m (take j notes) note (x .end), half, mark) refl;
+                  }
+
+-- of the record of an entry
+module _ {b index : List ℕ} (R : Ready b index) {w : ℕ} (I : IsRecord b index w) where
+  pub its-count : unpacked w .explicit ≡ length (explicit (recordIn b (unpacked w)))
+  its-count =
+      let t = recordIn b (unpacked w) in
+      its-entry R I .explicit ∙ ap explicitCount (sym (its-record R I)) ∙ sym (count-of (t .tags) (t .body) (its-fit R I .tagged))
+
+  pub its-first : unpacked w .code ≡ firstCode (recordIn b (unpacked w))
+  its-first = its-entry R I .code ∙ ap (λ (x : Record). firstCode x) (sym (its-record R I))
+
+  pub its-few : length (explicit (recordIn b (unpacked w))) ≤ 4
+  its-few =
+      let t = recordIn b (unpacked w) in
+      omega (arith, more-few t, count-identifiers t (its-fit R I), ap (λ (x : Record). length (x .tags)) (its-record R I), its-entry R I .few)
+    where
+      more-few : (t : Record) → length (explicit t) ≤ length (identifiers t)
+      more-few t = omega (arith, length-append (explicit t) (if (isChoice (t .body)) [] λ _. own t ∷ []))

@@ -1,0 +1,222 @@
+-- The identifiers of a record by its tags, and whether octets begin with the one that is awaited.
+-- Assumes nothing.
+use borrow.Author.Tests.{lt-ltb, le-ltb, ltb-true, ltb-false, eq-eqb, ne-eqb}
+use lib.Dec.{ltb, eqb}
+use lib.ListN.{length, getD, drop, length-drop}
+use mathlib.Core.Bool.{Bool, true, false, not, _||_, false≢true}
+use mathlib.Core.List.{List, [], _∷_, _++_, map}
+use mathlib.Core.Path.{_≡_, refl, sym, ap, _∙_}
+use native.Mathlib.Omega.{arith}
+use Prim.Native.Nat.{ℕ, zero, suc, _+_, _*_, _-_, _≤_, _<_}
+use Rattle.octets.specs.Answer.{Answer, got, refused, then, if}
+use Rattle.octets.specs.Lists.{same}
+use Rattle.octets.specs.Numbers.{Octets, two}
+use Rattle.octets.proofs.Tests.{test}
+use Rattle.ber.specs.Codes.{codeOf, code as codeBy}
+use Rattle.ber.specs.Reading.{readIdentifier}
+use Rattle.ber.specs.Told.{toldIdentifier, faultNumber, endOf, mode}
+use Rattle.ber.specs.declared.Fault.{Fault}
+use Rattle.ber.specs.declared.ending.End.{End}
+use Rattle.ber.specs.declared.ending.End.the-variants.{More, Over, Broken}
+use Rattle.ber.specs.declared.identifier.Identifier.{Identifier}
+use Rattle.ber.specs.declared.identifier.Identifier.the-variants.{Read, Refused as NoIdentifier}
+use Rattle.ber.proofs.Codes.{code-of-identifier, code-awaited}
+use Rattle.ber.proofs.Ends.{end-more, end-over, end-broken}
+use Rattle.ber.proofs.Told.{identifier-read, identifier-refused}
+use Rattle.table.specs.Syntax.{Tag, Body, Plain, Sequence, Set, SequenceOf, SetOf, Choice, Record, isChoice, constructed}
+use Rattle.table.specs.Entries.{unpacked, tagCount, tagPlace, tableIn, countIn, Entered, firstCode, outermostCode, explicitCount}
+use Rattle.table.specs.declared.entry.Entry.{Entry}
+use Rattle.table.proofs.Promises.{entered-tags, entered-tag, entered-bit}
+use Rattle.coding.specs.Tags.{identifierOf, last, before, explicitTags, own, explicit}
+use Rattle.reader.specs.Answers.{causeOf, causeNumber}
+use Rattle.reader.specs.Records.{Ready, recordIn, IsRecord}
+use Rattle.reader.specs.Wraps.{identifiers, Headed, AwaitsTag, behind-last, is-tag, no-tag, EntersTag, goes-on, is-over}
+use Rattle.reader.specs.declared.answer.Cause.{Cause}
+use Rattle.reader.specs.declared.answer.Cause.the-variants.{NotAwaited}
+use Rattle.reader.specs.declared.tags.Tag.{Tag as TagRead}
+use Rattle.reader.specs.declared.tags.Tag.the-variants.{Read as ReadTag, Refused as NoTag}
+use Rattle.reader.proofs.Begun.{AllFine, Fit, fit}
+use Rattle.reader.proofs.Wrapping.{cause-fault}
+
+-- a record by its entry
+pub record-is : {b : List ℕ} {e : Entry} {r : Record} → Entered b e r → recordIn b e ≡ r
+unfolding recordIn
+record-is {b} {e} {r} x = let z : length (r .tags) - 0 ≡ length (r .tags) = omega arith in rw (entered-tags x, z, x .tags, x .body) refl
+
+-- identifiers, one a tag
+bit-later : (a n : ℕ) → ltb (suc a + 1) (suc n) ≡ ltb (a + 1) n
+bit-later a n =
+    test (ltb (a + 1) n)
+    (λ q. let h = ltb-true (a + 1) n q in lt-ltb (suc a + 1) (suc n) (omega arith) ∙ sym q)
+    λ q. let h = ltb-false (a + 1) n q in le-ltb (suc a + 1) (suc n) (omega arith) ∙ sym q
+
+abbrev pub zeros : Tag
+zeros = record { class = 0; number = 0 }
+
+or-true : (a : Bool) → (a || true) ≡ true
+or-true true = refl
+or-true false = refl
+
+module _ (y : Body) (c : Bool) where
+  abbrev Items : List Tag → List (List ℕ)
+  Items gs = map (identifierOf true) (before gs) ++ (identifierOf c (last y gs) ∷ [])
+
+  items-length : (g : Tag) (gs : List Tag) → length (Items (g ∷ gs)) ≡ suc (length gs)
+  unfolding before last
+  items-length g [] = refl
+  items-length g (h ∷ gs) = ap suc (items-length h gs)
+
+  items-at : (g : Tag) (gs : List Tag) (j : ℕ) → j < suc (length gs)
+      → getD (Items (g ∷ gs)) j [] ≡ identifierOf (ltb (j + 1) (suc (length gs)) || c) (getD (g ∷ gs) j zeros)
+  unfolding before last
+  items-at g [] zero l = refl
+  items-at g [] (suc j) l = absurd (omega arith)
+  items-at g (h ∷ gs) zero l = rw (lt-ltb (0 + 1) (suc (suc (length gs))) (omega arith)) refl
+  items-at g (h ∷ gs) (suc j) l = rw (bit-later j (suc (length gs))) (items-at h gs j (omega arith))
+
+all-length : (gs : List Tag) → length (map (identifierOf true) gs ++ []) ≡ length gs
+all-length [] = refl
+all-length (g ∷ gs) = ap suc (all-length gs)
+
+all-at : (gs : List Tag) (j : ℕ) → j < length gs → getD (map (identifierOf true) gs ++ []) j [] ≡ identifierOf true (getD gs j zeros)
+all-at [] j l = absurd (omega arith)
+all-at (g ∷ gs) zero l = refl
+all-at (g ∷ gs) (suc j) l = all-at gs j (omega arith)
+
+length-of : (gs : List Tag) (y : Body) → (gs ≡ [] → isChoice y ≡ true) → length (identifiers (record { tags = gs; body = y })) ≡ length gs
+unfolding explicit explicitTags own isChoice if
+length-of gs (Choice ts) t = all-length gs
+length-of [] (Plain k) t = absurd (false≢true (t refl))
+length-of [] (Sequence ms) t = absurd (false≢true (t refl))
+length-of [] (Set ms) t = absurd (false≢true (t refl))
+length-of [] (SequenceOf u) t = absurd (false≢true (t refl))
+length-of [] (SetOf u) t = absurd (false≢true (t refl))
+length-of (g ∷ gs) (Plain k) t = items-length (Plain k) _ g gs
+length-of (g ∷ gs) (Sequence ms) t = items-length (Sequence ms) _ g gs
+length-of (g ∷ gs) (Set ms) t = items-length (Set ms) _ g gs
+length-of (g ∷ gs) (SequenceOf u) t = items-length (SequenceOf u) _ g gs
+length-of (g ∷ gs) (SetOf u) t = items-length (SetOf u) _ g gs
+
+at-of : (gs : List Tag) (y : Body) → (gs ≡ [] → isChoice y ≡ true) → (j : ℕ) → j < length gs
+    → getD (identifiers (record { tags = gs; body = y })) j [] ≡ identifierOf (ltb (j + 1) (length gs) || constructed y) (getD gs j zeros)
+unfolding explicit explicitTags own isChoice constructed if
+at-of gs (Choice ts) t j l = all-at gs j l ∙ ap (λ (k : Bool). identifierOf k (getD gs j zeros)) (sym (or-true (ltb (j + 1) (length gs))))
+at-of [] (Plain k) t j l = absurd (omega arith)
+at-of [] (Sequence ms) t j l = absurd (omega arith)
+at-of [] (Set ms) t j l = absurd (omega arith)
+at-of [] (SequenceOf u) t j l = absurd (omega arith)
+at-of [] (SetOf u) t j l = absurd (omega arith)
+at-of (g ∷ gs) (Plain k) t j l = items-at (Plain k) false g gs j l
+at-of (g ∷ gs) (Sequence ms) t j l = items-at (Sequence ms) true g gs j l
+at-of (g ∷ gs) (Set ms) t j l = items-at (Set ms) true g gs j l
+at-of (g ∷ gs) (SequenceOf u) t j l = items-at (SequenceOf u) true g gs j l
+at-of (g ∷ gs) (SetOf u) t j l = items-at (SetOf u) true g gs j l
+
+fine-at : (gs : List Tag) → AllFine gs → (j : ℕ) → j < length gs → (getD gs j zeros .class < 4) × (getD gs j zeros .number < 65536)
+fine-at [] f j l = absurd (omega arith)
+fine-at (g ∷ gs) f zero l = f .0
+fine-at (g ∷ gs) f (suc j) l = fine-at gs (f .1) j (omega arith)
+
+-- of a record that fits
+module _ (r : Record) (F : Fit r) where
+  pub count-identifiers : length (identifiers r) ≡ length (r .tags)
+  count-identifiers = length-of (r .tags) (r .body) (F .tagged)
+
+  module _ (j : ℕ) (l : j < length (r .tags)) where
+    abbrev Bit : Bool
+    Bit = ltb (j + 1) (length (r .tags)) || constructed (r .body)
+
+    abbrev Its : Tag
+    Its = getD (r .tags) j zeros
+
+    identifier-at : getD (identifiers r) j [] ≡ identifierOf Bit Its
+    identifier-at = at-of (r .tags) (r .body) (F .tagged) j l
+
+    pub code-at : codeOf (getD (identifiers r) j []) ≡ codeBy (Its .class) Bit (Its .number)
+    unfolding identifierOf
+    code-at = ap codeOf identifier-at ∙ code-of-identifier (Its .class) Bit (Its .number) (fine-at (r .tags) (F .fine) j l .1)
+
+    -- identifiers that are read are compared by their codes
+    pub same-at : (s i u : List ℕ) → Octets s → readIdentifier s ≡ got i u
+        → same (getD (identifiers r) j []) i ≡ eqb (codeOf i) (codeOf (getD (identifiers r) j []))
+    unfolding identifierOf
+    same-at s i u o e =
+        let f = fine-at (r .tags) (F .fine) j l in
+        ap (λ (z : List ℕ). same z i) identifier-at ∙ code-awaited s i u o e (Its .class) Bit (Its .number) (f .0) (f .1) ∙ ap (λ (z : ℕ). eqb (codeOf i) z) (sym code-at)
+
+-- of the record of an entry
+module _ {b index : List ℕ} (R : Ready b index) {w : ℕ} (I : IsRecord b index w) where
+  pub its-entry : Entered b (unpacked w) (tableIn b (I .0))
+  its-entry = rw (I .2) (R .filled .entered (I .0) (I .1))
+
+  pub its-record : recordIn b (unpacked w) ≡ tableIn b (I .0)
+  its-record = record-is its-entry
+
+  pub its-fit : Fit (recordIn b (unpacked w))
+  its-fit = rw its-record (fit b (tableIn b) (countIn b) (R .passes) (I .0))
+
+  abbrev r : Record
+  r = recordIn b (unpacked w)
+
+  its-tags : tagCount (unpacked w) ≡ length (identifiers r)
+  its-tags = entered-tags its-entry ∙ ap (λ (x : Record). length (x .tags)) (sym its-record) ∙ sym (count-identifiers r its-fit)
+
+  module _ (e : Entry) (ee : e ≡ unpacked w) (n : ℕ) (en : n ≡ tagCount e) (j : ℕ) (m : List ℕ) where
+    how-many : n ≡ length (identifiers r)
+    how-many = en ∙ ap tagCount ee ∙ its-tags
+
+    pub awaits-none : n ≤ j → AwaitsTag (identifiers r) j m (ReadTag 0)
+    awaits-none l = behind-last (omega (arith, how-many))
+
+    module _ (l : j < n) (o : Octets m) (y : Identifier) (ey : y ≡ toldIdentifier (length m) (readIdentifier m)) where
+      within : j < length (identifiers r)
+      within = omega (arith, how-many)
+
+      pub awaits-unread : (f : Fault) → y ≡ NoIdentifier f → (c : Cause) → c ≡ causeOf (faultNumber f) → AwaitsTag (identifiers r) j m (NoTag c)
+      unfolding then
+      awaits-unread f q c ec = no-tag {c = c} within (rw (identifier-refused m y ey f q, ec, cause-fault f) refl)
+
+      module _ (code end : ℕ) (q : y ≡ Read code end) (k : ℕ)
+          (ek : k ≡ codeBy (getD b (tagPlace e j) 0) (ltb j (e .explicit) || not (e .simple)) (two b (tagPlace e j + 1))) where
+        abbrev Is : (a : List ℕ) × (readIdentifier m ≡ got a (drop end m)) × (codeOf a ≡ code) × (0 < end) × (end ≤ length m)
+        Is = identifier-read m y ey code end q
+
+        in-tags : j < length (tableIn b (I .0) .tags)
+        in-tags = omega (arith, en, ap tagCount ee, entered-tags its-entry)
+
+        its-code : k ≡ codeOf (getD (identifiers r) j [])
+        its-code =
+            let t = tableIn b (I .0) in
+            let F = fit b (tableIn b) (countIn b) (R .passes) (I .0) in
+            let g = entered-tag its-entry zeros j in-tags in
+            rw its-record
+            (ek
+            ∙ ap (λ (x : Entry). codeBy (getD b (tagPlace x j) 0) (ltb j (x .explicit) || not (x .simple)) (two b (tagPlace x j + 1))) ee
+            ∙ ap (λ (x : Bool). codeBy (getD b (tagPlace (unpacked w) j) 0) x (two b (tagPlace (unpacked w) j + 1))) (entered-bit its-entry j in-tags)
+            ∙ ap (λ (x : Tag). codeBy (x .class) (ltb (j + 1) (length (t .tags)) || constructed (t .body)) (x .number)) g
+            ∙ sym (code-at t F j in-tags))
+
+        its-same : same (getD (identifiers r) j []) (Is .0) ≡ eqb code k
+        its-same =
+            let l : j < length (r .tags) = omega (arith, within, count-identifiers r its-fit) in
+            same-at r its-fit j l m (Is .0) (drop end m) o (Is .1) ∙ ap (λ (z : ℕ). eqb z (codeOf (getD (identifiers r) j []))) (Is .2) ∙ ap (eqb code) (sym its-code)
+
+        pub awaits-tag : code ≡ k → AwaitsTag (identifiers r) j m (ReadTag end)
+        awaits-tag z =
+            is-tag end within (record { identifier = Is .0; is = Is .1; coded = Is .2 ∙ z ∙ its-code; further = Is .3; low = Is .4 })
+
+        pub awaits-other : (code ≡ k → ⊥) → AwaitsTag (identifiers r) j m (NoTag NotAwaited)
+        unfolding then if
+        awaits-other z = no-tag {c = NotAwaited} within (rw (Is .1, its-same, ne-eqb code k z) refl)
+
+-- in the contents of a tag
+module _ (is : List (List ℕ)) (j : ℕ) (m : List ℕ) (marked : Bool) (y : End) (ey : y ≡ endOf marked (length m) (drop 0 m)) where
+  pub enters-over : (u : ℕ) → y ≡ Over u → EntersTag is j m marked (NoTag NotAwaited)
+  enters-over u q = is-over (end-over {A = List ℕ} (λ _. refused 24 (length m)) (λ _. got [] m) m 0 marked y u (omega arith) ey q .0)
+
+  pub enters-broken : (f : Fault) → y ≡ Broken f → (c : Cause) → c ≡ causeOf (faultNumber f) → EntersTag is j m marked (NoTag c)
+  enters-broken f q c ec =
+      is-over (end-broken {A = List ℕ} (λ _. refused 24 (length m)) (λ _. got [] m) m 0 marked y f ey q ∙ ap (λ (z : ℕ). refused z (length m)) (sym (ap causeNumber ec ∙ cause-fault f)))
+
+  pub enters-more : y ≡ More → (t : TagRead) → AwaitsTag is j m t → EntersTag is j m marked t
+  enters-more q t a = let h = end-more {A = List ℕ} (λ _. refused 24 (length m)) (λ _. got [] m) m 0 marked y ey q in goes-on (h .0) (h .1) a

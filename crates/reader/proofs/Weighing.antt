@@ -1,0 +1,144 @@
+-- The size of simple contents, by the number of the kind.
+-- Assumes nothing.
+use borrow.Author.Tests.{eq-eqb, ne-eqb}
+use lib.Dec.{leb, eqb}
+use lib.IntN.{ℤ, pos, negsuc}
+use lib.ListN.{length, getD, drop, length-drop}
+use mathlib.Core.Bool.{Bool, true, false, not, _&&_, true≢false}
+use mathlib.Core.List.{List, [], _∷_}
+use mathlib.Core.Path.{_≡_, refl, sym, ap, _∙_}
+use native.Mathlib.Omega.{arith}
+use Prim.Native.Nat.{ℕ, suc, _+_, _*_, _-_, _≤_, _<_}
+use Rattle.octets.specs.Answer.{if, none-left}
+use Rattle.octets.specs.Lists.{any}
+use Rattle.octets.proofs.Tests.{test}
+use Rattle.octets.proofs.Lists.{both}
+use Rattle.ber.specs.Integer.{integerOf, minimal, eight}
+use Rattle.ber.specs.BitString.{unused, masked}
+use Rattle.ber.specs.Told.{integerIn}
+use Rattle.table.specs.Syntax.{Record, Plain, Enumerated}
+use Rattle.table.specs.Reading.{numbersAt, bodyAt}
+use Rattle.table.specs.Entries.{Entered, listsNumber}
+use Rattle.table.specs.declared.entry.Entry.{Entry}
+use Rattle.table.proofs.Promises.{entered-enumerated}
+use Rattle.coding.specs.Value.{leafOctets}
+use Rattle.coding.specs.Content.{listed}
+use Rattle.coding.specs.Reading.{isListed, decode}
+use Rattle.reader.specs.Weights.{weight, leafWeight}
+
+length-masked : (n : ℕ) (c : List ℕ) → length (masked n c) ≡ length c
+unfolding masked
+length-masked n [] = refl
+length-masked n (x ∷ []) = refl
+length-masked n (x ∷ y ∷ c) = ap suc (length-masked n (y ∷ c))
+
+none-yes : (s : List ℕ) → length s ≡ 0 → none-left s ≡ true
+unfolding none-left
+none-yes [] h = refl
+none-yes (b ∷ s) h = absurd (omega arith)
+
+none-no : (s : List ℕ) → (length s ≡ 0 → ⊥) → none-left s ≡ false
+unfolding none-left
+none-no [] h = absurd (h refl)
+none-no (b ∷ s) h = refl
+
+some-left : (s : List ℕ) → none-left s ≡ false → 0 < length s
+unfolding none-left
+some-left [] h = absurd (true≢false h)
+some-left (b ∷ s) h = omega arith
+
+not-is : (t : Bool) → not t ≡ true → t ≡ false
+not-is true e = sym e
+not-is false e = refl
+
+listed-is : (ns : List ℕ) (z : ℤ) → listsNumber ns z ≡ isListed ns z
+unfolding isListed listed
+listed-is ns (pos k) = refl
+listed-is ns (negsuc k) = refl
+
+-- sizes by kinds
+module _ (b : List ℕ) (k p : ℕ) (c : List ℕ) where
+  pub boolean-wrong : k ≡ 1 → (length c ≡ 1 → ⊥) → 0 ≡ leafWeight (bodyAt b k p) c
+  unfolding leafWeight bodyAt weight decode if
+  boolean-wrong e h = rw (e, ne-eqb (length c) 1 h)
+
+  pub boolean-size : k ≡ 1 → length c ≡ 1 → 4 ≡ leafWeight (bodyAt b k p) c
+  unfolding leafWeight bodyAt weight decode if leafOctets
+  boolean-size e h = rw (e, eq-eqb (length c) 1 h)
+
+  pub integer-size : {r : Bool} → k ≡ 2 → r ≡ (minimal c && leb (length c) 8) → r ≡ true → 11 ≡ leafWeight (bodyAt b k p) c
+  unfolding leafWeight bodyAt weight decode if leafOctets eight
+  integer-size e f g = let t = both (minimal c) (leb (length c) 8) (sym f ∙ g) in rw (e, t .0, t .1)
+
+  pub integer-wrong : {r : Bool} → k ≡ 2 → r ≡ (minimal c && leb (length c) 8) → r ≡ false → 0 ≡ leafWeight (bodyAt b k p) c
+  unfolding leafWeight bodyAt weight decode if
+  integer-wrong e f g =
+      test (minimal c) (λ t. let u = sym (rw t at f) ∙ g in rw (e, t, u)) λ t. rw (e, t)
+
+  module _ {r : Bool} (e : k ≡ 3) (f : r ≡ (not (none-left c) && unused (getD c 0 0) (drop 1 c))) where
+    pub bits-size : r ≡ true → length c + 4 ≡ leafWeight (bodyAt b k p) c
+    unfolding leafWeight bodyAt weight decode if leafOctets
+    bits-size g =
+        let t = both (not (none-left c)) (unused (getD c 0 0) (drop 1 c)) (sym f ∙ g) in
+        let y = not-is (none-left c) (t .0) in
+        let o = some-left c y in
+        let q : length c + 4 ≡ suc (suc (suc (suc (suc (length (masked (getD c 0 0) (drop 1 c)))))))
+        = omega (arith, length-masked (getD c 0 0) (drop 1 c), length-drop 1 c) in
+        rw (e, y, t .1) q
+
+    pub bits-wrong : r ≡ false → 0 ≡ leafWeight (bodyAt b k p) c
+    unfolding leafWeight bodyAt weight decode if
+    bits-wrong g = test (none-left c) (λ t. rw (e, t)) λ t. let u = sym (rw t at f) ∙ g in rw (e, t, u)
+
+  pub string-size : k ≡ 4 → length c + 5 ≡ leafWeight (bodyAt b k p) c
+  unfolding leafWeight bodyAt weight decode leafOctets
+  string-size e = let q : length c + 5 ≡ suc (suc (suc (suc (suc (length c))))) = omega arith in rw e q
+
+  pub null-wrong : k ≡ 5 → (length c ≡ 0 → ⊥) → 0 ≡ leafWeight (bodyAt b k p) c
+  unfolding leafWeight bodyAt weight decode if
+  null-wrong e h = rw (e, none-no c h)
+
+  pub null-size : k ≡ 5 → length c ≡ 0 → 3 ≡ leafWeight (bodyAt b k p) c
+  unfolding leafWeight bodyAt weight decode if leafOctets
+  null-size e h = rw (e, none-yes c h)
+
+  -- ENUMERATED
+  pub number-wrong : {r : Bool} → k ≡ 10 → r ≡ (minimal c && leb (length c) 8) → r ≡ false → 0 ≡ leafWeight (bodyAt b k p) c
+  unfolding leafWeight bodyAt weight decode if
+  number-wrong e f g =
+      test (minimal c) (λ t. let u = sym (rw t at f) ∙ g in rw (e, t, u)) λ t. rw (e, t)
+
+  module _ {r : Bool} (e : k ≡ 10) (f : r ≡ (minimal c && leb (length c) 8)) (g : r ≡ true) (z : ℤ) (i : z ≡ integerIn c) {s : Bool}
+      (l : s ≡ isListed (numbersAt b (p + 1) (getD b p 0)) z) where
+    integer-is : z ≡ integerOf c
+    unfolding if
+    integer-is = let t = both (minimal c) (leb (length c) 8) (sym f ∙ g) in i ∙ rw (t .1) refl
+
+    pub number-size : s ≡ true → 5 ≡ leafWeight (bodyAt b k p) c
+    unfolding leafWeight bodyAt weight decode if leafOctets
+    number-size y = let t = both (minimal c) (leb (length c) 8) (sym f ∙ g) in rw (e, t .0, t .1, ← integer-is, ← l, y)
+
+    pub number-unlisted : s ≡ false → 0 ≡ leafWeight (bodyAt b k p) c
+    unfolding leafWeight bodyAt weight decode if
+    number-unlisted y = let t = both (minimal c) (leb (length c) 8) (sym f ∙ g) in rw (e, t .0, t .1, ← integer-is, ← l, y)
+
+  -- no simple kind
+  pub other-wrong : (k ≡ 1 → ⊥) → (k ≡ 2 → ⊥) → (k ≡ 3 → ⊥) → (k ≡ 4 → ⊥) → (k ≡ 5 → ⊥) → (k ≡ 10 → ⊥) → 0 ≡ leafWeight (bodyAt b k p) c
+  unfolding leafWeight bodyAt
+  other-wrong h₁ h₂ h₃ h₄ h₅ h₁₀ =
+      rw (ne-eqb k 1 h₁, ne-eqb k 2 h₂, ne-eqb k 3 h₃, ne-eqb k 4 h₄, ne-eqb k 5 h₅, ne-eqb k 10 h₁₀) (
+      test (eqb k 16) (λ e. rw e) λ e₁.
+      test (eqb k 17) (λ e. rw (e₁, e)) λ e₂.
+      test (eqb k 48) (λ e. rw (e₁, e₂, e)) λ e₃.
+      test (eqb k 49) (λ e. rw (e₁, e₂, e₃, e)) λ e₄.
+      rw (e₁, e₂, e₃, e₄))
+
+-- the numbers of an ENUMERATED are all there
+pub lists-all : {b : List ℕ} {e : Entry} {r : Record} → Entered b e r → e .kind ≡ 10 → (z : ℤ) (s : Bool)
+    → s ≡ (leb (e .own + 1 + 2 * getD b (e .own) 0) (length b) && listsNumber (numbersAt b (e .own + 1) (getD b (e .own) 0)) z)
+    → s ≡ isListed (numbersAt b (e .own + 1) (getD b (e .own) 0)) z
+unfolding bodyAt if
+lists-all {b} {e} {r} x q z s es =
+    let ns = numbersAt b (e .own + 1) (getD b (e .own) 0) in
+    let y : r .body ≡ Plain (Enumerated ns) = sym (x .body) ∙ rw q refl in
+    es ∙ rw (entered-enumerated x ns y .within) (listed-is ns z)

@@ -1,0 +1,23 @@
+-- How many octets the value of simple contents has (FORMATS, "Values"; X.690, 8.2 to 8.8).
+-- Assumes nothing.
+use mathlib.Core.List.{List, []}
+use Prim.Native.Nat.{ℕ}
+use lib.ListN.{length}
+use Rattle.octets.specs.Answer.{Answer, got, refused}
+use Rattle.table.specs.Syntax.{Body, Plain, Sequence, Set, SequenceOf, SetOf, Choice}
+use Rattle.coding.specs.Value.{Leaf, leafOctets}
+use Rattle.coding.specs.Reading.{decode}
+
+-- the size of a leaf; 0 where contents are wrong
+unfoldable pub weight : Answer Leaf → ℕ
+weight (got x s) = length (leafOctets x)
+weight (refused c l) = 0
+
+-- of a simple kind's contents c
+unfoldable pub leafWeight : Body → List ℕ → ℕ
+leafWeight (Plain k) c = weight (decode k 0 c [])
+leafWeight (Sequence ms) c = 0
+leafWeight (Set ms) c = 0
+leafWeight (SequenceOf t) c = 0
+leafWeight (SetOf t) c = 0
+leafWeight (Choice ts) c = 0

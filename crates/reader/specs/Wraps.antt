@@ -1,0 +1,94 @@
+-- Explicit tags that were opened one after another, and their closing (X.690, 8.14).
+-- A note for each: twice the end of the octets around its item, and 1 if its length is indefinite.
+-- Assumes nothing.
+use mathlib.Core.Bool.{Bool, true, false}
+use mathlib.Core.List.{List, [], _∷_, _++_}
+use mathlib.Core.Path.{_≡_}
+use Prim.Native.Nat.{ℕ, _+_, _-_, _*_, _/_, _%_, _≤_, _<_}
+use lib.Dec.{eqb}
+use lib.ListN.{length, getD, take, drop}
+use Rattle.octets.specs.Answer.{Answer, got, refused, then, if, behind}
+use Rattle.octets.specs.Lists.{same}
+use Rattle.ber.specs.Codes.{codeOf}
+use Rattle.ber.specs.Told.{mode}
+use Rattle.ber.specs.Reading.{readIdentifier, Mode, closed, open-ended, atEnd}
+use Rattle.table.specs.Syntax.{Record, isChoice}
+use Rattle.table.specs.Entries.{tableIn}
+use Rattle.coding.specs.Tags.{own, explicit}
+use Rattle.coding.specs.Value.{Value}
+use Rattle.coding.specs.Reading.{readKind, readValue}
+use Rattle.reader.specs.Answers.{causeNumber}
+use Rattle.reader.specs.Records.{readRecord}
+use Rattle.reader.specs.declared.answer.Cause.{Cause}
+use Rattle.reader.specs.declared.tags.Tag.{Tag}
+use Rattle.reader.specs.declared.tags.Tag.the-variants.{Read as ReadTag, Refused as NoTag}
+use Rattle.reader.specs.declared.tags.Opened.{Opened}
+use Rattle.reader.specs.declared.tags.Opened.the-variants.{Inside, Refused as NotOpened}
+
+-- behind the one item under a tag
+unfoldable pub ended : {A : Type 0} → Mode → Answer A → Answer A
+ended mode x = then x λ v w. atEnd mode w (λ y. got v y) λ _. refused 26 (length w)
+
+-- the tag's item, where x is what was read in its contents: those end at `inner`, if they are definite
+unfoldable pub shut : {A : Type 0} → List ℕ → ℕ → ℕ → Bool → Answer A → Answer A
+shut m outer inner true x = ended open-ended x
+shut m outer inner false x = then (behind (outer - inner) (ended closed x)) λ v r. got v (drop inner (take outer m))
+
+unfoldable pub innerEnd : List ℕ → ℕ → ℕ
+innerEnd [] e = e
+innerEnd (n ∷ ns) e = n / 2
+
+-- the tags of the notes, the outermost first; the contents of the innermost end at e
+unfoldable pub closing : {A : Type 0} → List ℕ → List ℕ → ℕ → Answer A → Answer A
+closing m [] e x = x
+closing m (n ∷ ns) e x = shut m (n / 2) (innerEnd ns e) (eqb (n % 2) 1) (closing m ns e x)
+
+abbrev pub noteOf : ℕ → Bool → ℕ
+noteOf e true = 2 * e + 1
+noteOf e false = 2 * e
+
+-- the octets around the tags end one within the other, those of the outermost at n, the contents of the innermost at e;
+-- under a tag of indefinite length the end is that of the octets around it
+unfoldable pub Around : ℕ → List ℕ → ℕ → Type 0
+Around n [] e = n ≡ e
+Around n (k ∷ ns) e = (k / 2 ≡ n) × (innerEnd ns e ≤ n) × (k % 2 ≡ 1 → innerEnd ns e ≡ n) × Around (innerEnd ns e) ns e
+
+-- an identifier at a place of m, where it ends, and its code
+pub record Headed (m : List ℕ) (at from code : ℕ) : Type 0 where
+  pub identifier : List ℕ
+  pub is : readIdentifier (drop at m) ≡ got identifier (drop from m)
+  pub coded : codeOf identifier ≡ code
+  pub further : at < from
+  pub low : from ≤ length m
+
+-- the identifiers of a record, the outermost first; a CHOICE has none of its own
+abbrev pub identifiers : Record → List (List ℕ)
+identifiers r = explicit r ++ if (isChoice (r .body)) [] λ _. own r ∷ []
+
+-- the item of a record under its explicit tags, where the values in it have n levels
+abbrev pub readBare : List ℕ → ℕ → Record → List ℕ → Answer Value
+readBare b n r s = readKind (tableIn b) (λ u w. readValue (tableIn b) n u w) (own r) (r .body) s
+
+-- the j-th identifier, which m must begin with: where it ends; behind the last there is none; or why it is refused
+pub data AwaitsTag (is : List (List ℕ)) (j : ℕ) (m : List ℕ) : Tag → Type 0 where
+  behind-last : length is ≤ j → AwaitsTag is j m (ReadTag 0)
+  is-tag : (end : ℕ) → j < length is → Headed m 0 end (codeOf (getD is j [])) → AwaitsTag is j m (ReadTag end)
+  no-tag : {c : Cause} → j < length is
+      → then (readIdentifier m) (λ i s. if (same (getD is j []) i) (got i s) λ _. refused 24 (length m)) ≡ refused (causeNumber c) (length m)
+      → AwaitsTag is j m (NoTag c)
+
+-- the same in the contents of a tag, which 00 00 closes if `marked`: over they may not be
+abbrev pub mustGoOn : Bool → List ℕ → Answer (List ℕ)
+mustGoOn marked m = atEnd (mode marked) m (λ u. refused 24 (length m)) λ _. got [] m
+
+pub data EntersTag (is : List (List ℕ)) (j : ℕ) (m : List ℕ) (marked : Bool) : Tag → Type 0 where
+  goes-on : {r : Tag} → mustGoOn marked m ≡ got [] m → 0 < length m → AwaitsTag is j m r → EntersTag is j m marked r
+  is-over : {c : Cause} → mustGoOn marked m ≡ refused (causeNumber c) (length m) → EntersTag is j m marked (NoTag c)
+
+-- What opening the tags of a record says of reading it, with however many levels.
+abbrev pub Opens : List ℕ → Record → List ℕ → ℕ → List ℕ → Opened → Type 0
+Opens b r m at ns (Inside x) =
+    (at < x .at) × (x .at < x .end) × (x .end ≤ length m) × Around (length m) ns (x .end)
+    × (isChoice (r .body) ≡ false → Headed (take (x .end) m) (x .at) (x .from) (codeOf (own r)))
+    × ((n : ℕ) → readRecord (tableIn b) n r (drop at m) ≡ closing m ns (x .end) (readBare b n r (drop (x .at) (take (x .end) m))))
+Opens b r m at ns (NotOpened c l) = (l ≤ length m) × ((n : ℕ) → readRecord (tableIn b) n r (drop at m) ≡ refused (causeNumber c) l)

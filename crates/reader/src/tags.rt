@@ -1,0 +1,189 @@
+// Explicit tags (X.690, 8.14), of which a record has at most four: they are opened from the outermost in, and closed from the innermost out.
+ghost use mathlib.Core.Path.{_≡_};
+ghost use mathlib.Core.List.{List};
+ghost use Prim.Native.Nat.{ℕ, _<_, _≤_};
+ghost use lib.ListN.{length, take, drop};
+ghost use Rattle.octets.specs.Answer.{got};
+ghost use Rattle.table.specs.Entries.{unpacked};
+ghost use Rattle.reader.specs.Answers.{told};
+ghost use Rattle.reader.specs.Records.{Ready, recordIn, IsRecord};
+ghost use Rattle.reader.specs.Wraps.{noteOf, Headed, identifiers, AwaitsTag, EntersTag, Opens, Around, closing};
+use crate::answer::Cause;
+use crate::answer::Judged;
+use crate::answer::cause_of;
+use ber::ending;
+use ber::ending::End;
+use ber::identifier;
+use ber::identifier::Identifier;
+use ber::length;
+use ber::length::Length;
+use table::entry::tag_code;
+use table::entry::tag_count;
+use table::entry::unpack;
+
+// The item under all tags: where it begins, where its identifier ends, and where what it stands in ends.
+pub struct Inner {
+    pub at: usize,
+    pub from: usize,
+    pub end: usize,
+}
+
+pub enum Opened {
+    Inside(Inner),
+    Refused { cause: Cause, left: usize },
+}
+
+// The note of a tag: twice the end of what it stands in, and 1 if 00 00 closes its contents.
+fn note(end: usize, marked: bool) -> u16
+    requires { ⌜ end ≤ 8192 ⌝ }
+    ensures { λ r. ⌜ r ≡ noteOf end marked ⌝ }
+{
+    let n = 2 * end;
+    if marked {
+        return (n + 1) as u16;
+    }
+    n as u16
+}
+
+// Where an identifier ends, or why it is refused.
+pub enum Tag {
+    Read { end: usize },
+    Refused { cause: Cause },
+}
+
+// Where the identifier of the j-th tag of w ends, which m must begin with; there is none if a CHOICE has no tag more.
+fn awaited(table: &[u8], w: u64, j: usize, m: &[u8]) -> Tag
+    requires { ⌜ ((index : List ℕ) × Ready (now table) index × IsRecord (now table) index w) ⌝ }
+    ensures { λ r. ⌜ AwaitsTag (identifiers (recordIn (now (table .entry)) (unpacked w))) j (now (m .entry)) r ⌝ }
+{
+    let e = unpack(w);
+    if tag_count(e) <= j {
+        return Tag::Read { end: 0 };
+    }
+    match identifier::read(m) {
+        Identifier::Refused { fault } => Tag::Refused {
+            cause: cause_of(fault),
+        },
+        Identifier::Read { code, end } => {
+            if code == tag_code(table, e, j) {
+                return Tag::Read { end };
+            }
+            Tag::Refused {
+                cause: Cause::NotAwaited,
+            }
+        }
+    }
+}
+
+// Whether an item follows in the contents m of a tag, which 00 00 closes if `marked`; then the j-th tag of w is awaited.
+fn enter(table: &[u8], w: u64, j: usize, m: &[u8], marked: bool) -> Tag
+    requires { ⌜ ((index : List ℕ) × Ready (now table) index × IsRecord (now table) index w) ⌝ }
+    ensures { λ r. ⌜ EntersTag (identifiers (recordIn (now (table .entry)) (unpacked w))) j (now (m .entry)) marked r ⌝ }
+{
+    match ending::read(m, 0, marked) {
+        End::Over { end: _ } => Tag::Refused {
+            cause: Cause::NotAwaited,
+        },
+        End::Broken { fault } => Tag::Refused {
+            cause: cause_of(fault),
+        },
+        End::More => awaited(table, w, j, m),
+    }
+}
+
+// Opens the explicit tags of w; the outermost begins at `at`, and its identifier ends at `from`.
+pub fn open(table: &[u8], w: u64, m: &[u8], at: usize, from: usize, notes: &mut [u16; 4]) -> Opened
+    requires { ⌜
+        ((index : List ℕ) × Ready (now table) index
+        × IsRecord (now table) index w
+        × (0 < unpacked w .explicit)
+        × Headed (now m) at from (unpacked w .code)
+        × (length (now m) ≤ 8192)
+        × (length (now notes) ≡ 4))
+        ⌝ }
+    ensures { λ r. ⌜
+        (length (now (notes .exit)) ≡ 4)
+        × Opens (now (table .entry)) (recordIn (now (table .entry)) (unpacked w)) (now (m .entry)) at (take (unpacked w .explicit) (now (notes .exit))) r
+        ⌝ }
+{
+    let e = unpack(w);
+    let count = e.explicit as usize;
+    let mut at = at;
+    let mut end = m.len();
+    let mut from = from;
+    let mut j: usize = 0;
+    while j < count {
+        let around = &m[..end];
+        match length::read(around, from) {
+            Length::Refused { fault } => {
+                return Opened::Refused {
+                    cause: cause_of(fault),
+                    left: m.len() - at,
+                };
+            }
+            Length::Read(x) => {
+                let marked = x.marked;
+                notes[j] = note(end, marked);
+                j += 1;
+                at = x.start;
+                end = x.end;
+                let inside = &m[at..end];
+                match enter(table, w, j, inside, marked) {
+                    Tag::Refused { cause } => {
+                        return Opened::Refused {
+                            cause,
+                            left: m.len() - at,
+                        };
+                    }
+                    Tag::Read { end: next } => {
+                        from = at + next;
+                    }
+                }
+            }
+        }
+    }
+    Opened::Inside(Inner { at, from, end })
+}
+
+// Closes the tags behind the item under them, which ends at `at`, and what that stands in at `end`; its value has `size` octets.
+pub fn close(m: &[u8], notes: &[u16; 4], count: usize, at: usize, end: usize, size: usize) -> Judged
+    requires { ⌜
+        (count ≤ 4)
+        × (length (now notes) ≡ 4)
+        × (at ≤ end)
+        × (length (now m) ≤ 8192)
+        × (size < 16386)
+        × Around (length (now m)) (take count (now notes)) end
+        ⌝ }
+    ensures { λ r. ⌜
+        r ≡ told (now (m .entry)) (λ (n : ℕ). n) (closing (now (m .entry)) (take count (now (notes .entry))) end (got size (drop at (take end (now (m .entry))))))
+        ⌝ }
+{
+    let mut at = at;
+    let mut end = end;
+    let mut j = count;
+    while 0 < j {
+        j -= 1;
+        let n = notes[j];
+        let around = &m[..end];
+        match ending::read(around, at, n % 2 == 1) {
+            End::More => {
+                return Judged::Refused {
+                    cause: Cause::Trailing,
+                    left: m.len() - at,
+                };
+            }
+            End::Broken { fault } => {
+                return Judged::Refused {
+                    cause: cause_of(fault),
+                    left: m.len() - at,
+                };
+            }
+            End::Over { end: x } => {
+                at = x;
+                end = n as usize / 2;
+            }
+        }
+    }
+    Judged::Done { end: at, size }
+}
