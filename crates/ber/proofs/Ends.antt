@@ -8,13 +8,13 @@ use native.Mathlib.Omega.{arith}
 use Prim.Native.Nat.{ℕ, _+_, _-_, _≤_, _<_}
 use lib.Dec.{leb, eqb}
 use lib.ListN.{length, getD, drop, length-drop}
+use Rattle.octets.specs.declared.cause.Cause.{Cause}
+use Rattle.octets.specs.declared.cause.Cause.the-variants.{Cut, Form}
 use Rattle.octets.specs.Answer.{Answer, refused, if, none-left}
 use Rattle.octets.proofs.Tests.{test}
 use Rattle.ber.proofs.Places.{none-at, some-at}
 use Rattle.ber.specs.Reading.{atEnd}
-use Rattle.ber.specs.Told.{faultNumber, mode, endOf}
-use Rattle.ber.specs.declared.Fault.{Fault}
-use Rattle.ber.specs.declared.Fault.the-variants.{Cut, Form}
+use Rattle.ber.specs.Told.{mode, endOf}
 use Rattle.ber.specs.declared.ending.End.{End}
 use Rattle.ber.specs.declared.ending.End.the-variants.{More, Over, Broken}
 
@@ -68,7 +68,7 @@ module _ {A : Type 0} (f : List ℕ → Answer A) (x : Unit {0} → Answer A) (m
   abbrev Tells : Bool → End → Type 0
   Tells k More = (atEnd (mode k) (drop at m) f x ≡ x tt) × (at < length m)
   Tells k (Over e) = (atEnd (mode k) (drop at m) f x ≡ f (drop e m)) × (at ≤ length m → at ≤ e) × (e ≤ length m)
-  Tells k (Broken c) = atEnd (mode k) (drop at m) f x ≡ refused (faultNumber c) (length (drop at m))
+  Tells k (Broken c) = atEnd (mode k) (drop at m) f x ≡ refused c (length (drop at m))
 
   tells-closed : Tells false (endOf false (length m) (drop at m))
   unfolding atEnd if none-left
@@ -110,6 +110,6 @@ module _ {A : Type 0} (f : List ℕ → Answer A) (x : Unit {0} → Answer A) (m
       → (atEnd (mode k) (drop at m) f x ≡ f (drop u m)) × (at ≤ u) × (u ≤ length m)
   end-over k r u h e d = let t : Tells k (Over u) = rw (← e, d) at (tells k) in (t .0, t .1 h, t .2)
 
-  pub end-broken : (k : Bool) (r : End) (c : Fault) → r ≡ endOf k (length m) (drop at m) → r ≡ Broken c
-      → atEnd (mode k) (drop at m) f x ≡ refused (faultNumber c) (length (drop at m))
+  pub end-broken : (k : Bool) (r : End) (c : Cause) → r ≡ endOf k (length m) (drop at m) → r ≡ Broken c
+      → atEnd (mode k) (drop at m) f x ≡ refused c (length (drop at m))
   end-broken k r c e d = rw (← e, d) at (tells k)

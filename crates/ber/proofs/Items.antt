@@ -7,6 +7,7 @@ use native.Mathlib.Omega.{arith}
 use Prim.Native.Nat.{ℕ, zero, suc, _+_, _-_, _^_, _≤_, _<_}
 use lib.ListN.{length, take, drop, length-append, take-append-drop}
 use lib.Seq.{length-take-le, take-append-seam, drop-append-seam}
+use Rattle.octets.specs.declared.cause.Cause.{Cause}
 use Rattle.octets.specs.Answer.{Answer, got, refused, if, then, behind, none-left}
 use Rattle.octets.specs.Permutations.{AllOctets}
 use Rattle.octets.specs.Lists.{same}
@@ -99,12 +100,12 @@ constructed-complete body {i = i} {c} s g b (in-marks e) =
     record { value = x .value; answer = rw (e, whole-marked i c s) (simp (run, header-marked i (c ++ (0 ∷ 0 ∷ s)) g, inside, x .answer)); alike = x .alike }
 
 -- a refusal inside a part is at the same octet of the whole: what stands behind the part is left as well
-pub part-place : {A : Type 0} (body : Mode → List ℕ → Answer A) {n l : ℕ} (c s : List ℕ) → body closed c ≡ refused n l
-    → inside body (definite (length c)) (c ++ s) ≡ refused n (l + length s)
+pub part-place : {A : Type 0} (body : Mode → List ℕ → Answer A) {k : Cause} {l : ℕ} (c s : List ℕ) → body closed c ≡ refused k l
+    → inside body (definite (length c)) (c ++ s) ≡ refused k (l + length s)
 unfolding inside behind then
-part-place body {n} {l} c s e =
-    let k : length (c ++ s) - length c ≡ length s = simp length-append (omega arith) in
-    rw (take-append-seam c s, e) (ap (λ (j : ℕ). refused n (l + j)) k)
+part-place body {k} {l} c s e =
+    let h : length (c ++ s) - length c ≡ length s = simp length-append (omega arith) in
+    rw (take-append-seam c s, e) (ap (λ (j : ℕ). refused k (l + j)) h)
 
 -- what a reader of the identifier and the length took
 pub header-sound : (i s : List ℕ) → Holds (λ z r. (u : List ℕ) × (s ≡ i ++ u) × Shape u z r) (readHeader i s)

@@ -9,13 +9,13 @@ use Prim.Native.Nat.{ℕ, zero, suc, _+_, _-_, _%_, _≤_, _<_}
 use lib.Dec.{ltb}
 use lib.ListN.{length, getD, drop, length-drop}
 use lib.Seq.{drop-drop, getD-drop}
+use Rattle.octets.specs.declared.cause.Cause.{Cause}
 use Rattle.octets.specs.Answer.{Answer, got, refused, then, if}
 use Rattle.octets.proofs.Answer.{refused≢got, got-value, got-rest}
 use Rattle.octets.proofs.Tests.{test}
 use Rattle.ber.specs.Reading.{readFollowing, readIdentifier, Size, definite, indefinite, readLength}
 use Rattle.ber.specs.Skipping.{headed, Passed, behind-all, closes, jumps, opens, Skips, sized, marked}
-use Rattle.ber.specs.Told.{faultNumber, toldIdentifier, toldLength}
-use Rattle.ber.specs.declared.Fault.{Fault}
+use Rattle.ber.specs.Told.{toldIdentifier, toldLength}
 use Rattle.ber.specs.declared.identifier.Identifier.{Identifier}
 use Rattle.ber.specs.declared.identifier.Identifier.the-variants.{Read, Refused as NoIdentifier}
 use Rattle.ber.specs.declared.length.Length.{Length}
@@ -69,14 +69,14 @@ pass-open (closes p) h f = absurd (h refl)
 pass-open (jumps z e p) h f = absurd (not-both e f)
 pass-open (opens z e p) h f = rw (got-rest (sym e ∙ f)) at p
 
-pass-headed : {k c l : ℕ} {s w : List ℕ} → Passed (suc k) s w → (getD s 0 0 ≡ 0 → ⊥) → headed s ≡ refused c l → ⊥
+pass-headed : {k l : ℕ} {c : Cause} {s w : List ℕ} → Passed (suc k) s w → (getD s 0 0 ≡ 0 → ⊥) → headed s ≡ refused c l → ⊥
 pass-headed (closes p) h f = h refl
 pass-headed (jumps z e p) h f = refused≢got (sym f ∙ e)
 pass-headed (opens z e p) h f = refused≢got (sym f ∙ e)
 
 -- the header at the front of s, by the code's answers
 module _ (s : List ℕ) (r : Identifier) (a : r ≡ toldIdentifier (length s) (readIdentifier s)) where
-  head-none : (f : Fault) → r ≡ NoIdentifier f → headed s ≡ refused (faultNumber f) (length s)
+  head-none : (f : Cause) → r ≡ NoIdentifier f → headed s ≡ refused f (length s)
   unfolding headed then
   head-none f d = rw (identifier-refused s r a f d)
 
@@ -85,7 +85,7 @@ module _ (s : List ℕ) (r : Identifier) (a : r ≡ toldIdentifier (length s) (r
     unfolding headed then
     behind-identifier = let (i, q, k, low, high) = identifier-read s r a c e d in rw q
 
-    head-refused : (f : Fault) → x ≡ NoLength f → headed s ≡ refused (faultNumber f) (length s)
+    head-refused : (f : Cause) → x ≡ NoLength f → headed s ≡ refused f (length s)
     head-refused f g = behind-identifier ∙ length-refused s e (length s) x (b (length s)) f g
 
     module _ (y : Extent) (g : x ≡ ReadLength y) where
@@ -121,11 +121,11 @@ module _ (m : List ℕ) (start at k : ℕ) (o : 0 < k) (S : Stands m start at k)
     other : getD (drop at m) 0 0 ≡ 0 → ⊥
     other e = z (sym octet-at ∙ e)
 
-    pub pass-none : (f : Fault) → r ≡ NoIdentifier f → (w : List ℕ) → Passed 1 (drop start m) w → drop (length m) m ≡ w
+    pub pass-none : (f : Cause) → r ≡ NoIdentifier f → (w : List ℕ) → Passed 1 (drop start m) w → drop (length m) m ≡ w
     pass-none f d w q = absurd (pass-headed (stands w q) other (head-none (drop at m) r a f d))
 
     module _ (c e : ℕ) (d : r ≡ Read c e) (x : Length) (b : (l : ℕ) → x ≡ toldLength (length (drop at m)) (readLength l (drop e (drop at m)))) where
-      pub pass-refused : (f : Fault) → x ≡ NoLength f → (w : List ℕ) → Passed 1 (drop start m) w → drop (length m) m ≡ w
+      pub pass-refused : (f : Cause) → x ≡ NoLength f → (w : List ℕ) → Passed 1 (drop start m) w → drop (length m) m ≡ w
       pass-refused f g w q = absurd (pass-headed (stands w q) other (head-refused (drop at m) r a c e d x b f g))
 
       module _ (y : Extent) (g : x ≡ ReadLength y) (in-m : at ≤ length m) where
@@ -154,7 +154,7 @@ pass-end m start at k S z w p = let e : k ≡ 0 = omega arith in over (rw e at (
 
 -- an item whose identifier ends at a place
 module _ (m : List ℕ) (from : ℕ) (x : Length) (b : (l : ℕ) → x ≡ toldLength (length m) (readLength l (drop from m))) where
-  pub skip-none : (f : Fault) → x ≡ NoLength f → (w : List ℕ) → Skips m from w → drop (length m) m ≡ w
+  pub skip-none : (f : Cause) → x ≡ NoLength f → (w : List ℕ) → Skips m from w → drop (length m) m ≡ w
   skip-none f d w (sized l n r e) = refused≢got (sym (length-refused m from l x (b l) f d) ∙ e)
   skip-none f d w (marked l e p) = refused≢got (sym (length-refused m from l x (b l) f d) ∙ e)
 

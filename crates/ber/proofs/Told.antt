@@ -9,15 +9,15 @@ use mathlib.Core.List.{List, [], _∷_, _++_}
 use mathlib.Core.Path.{_≡_, refl, sym, ap, _∙_}
 use native.Mathlib.Omega.{arith}
 use Prim.Native.Nat.{ℕ, suc, _+_, _-_, _*_, _/_, _%_, _≤_, _<_, min}
+use Rattle.octets.specs.declared.cause.Cause.{Cause}
+use Rattle.octets.specs.declared.cause.Cause.the-variants.{Cut, Form}
 use Rattle.octets.specs.Answer.{Answer, got, refused, then, if}
 use Rattle.octets.proofs.Answer.{got-holds, if-cases}
 use Rattle.octets.proofs.Lists.{behind, length-behind}
 use Rattle.ber.specs.Codes.{spelled, codeOf}
 use Rattle.ber.specs.Length.{number, Length as Octets, short, long}
 use Rattle.ber.specs.Reading.{readFollowing, readIdentifier, Size, definite, indefinite, readLength, readLong, fit}
-use Rattle.ber.specs.Told.{faultOf, faultNumber, toldIdentifier, toldLength, Again}
-use Rattle.ber.specs.declared.Fault.{Fault}
-use Rattle.ber.specs.declared.Fault.the-variants.{Cut, Form}
+use Rattle.ber.specs.Told.{toldIdentifier, toldLength, Again}
 use Rattle.ber.specs.declared.identifier.Identifier.{Identifier}
 use Rattle.ber.specs.declared.identifier.Identifier.the-variants.{Read, Refused as NoIdentifier}
 use Rattle.ber.specs.declared.length.Length.{Length}
@@ -32,7 +32,7 @@ abbrev Identified : List ℕ → Identifier → Type 0
 Identified m r = r ≡ toldIdentifier (length m) (readIdentifier m)
 
 pub identifier-none : (m : List ℕ) → length m ≡ 0 → Identified m (NoIdentifier Cut)
-unfolding toldIdentifier readIdentifier faultOf if
+unfolding toldIdentifier readIdentifier if
 identifier-none [] h = refl
 identifier-none (b ∷ s) h = absurd (omega arith)
 
@@ -73,20 +73,20 @@ follow-next m i n F h k =
 
 module _ (i n : ℕ) where
   pub long-cut : (m : List ℕ) → 0 < length m → 31 ≤ getD m 0 0 % 32 → Following m i n → length m ≤ i → Identified m (NoIdentifier Cut)
-  unfolding toldIdentifier readIdentifier readFollowing faultOf if then
+  unfolding toldIdentifier readIdentifier readFollowing if then
   long-cut [] h low F k = absurd (omega arith)
   long-cut (b ∷ s) h low F k = rw (le-ltb (b % 32) 31 low, F .whole _, none-at (b ∷ s) i k)
 
   pub long-zero : (m : List ℕ) → 0 < length m → 31 ≤ getD m 0 0 % 32 → Following m i n → i < length m → getD m i 0 < 128 → getD m 1 0 ≡ 128
       → Identified m (NoIdentifier Form)
-  unfolding toldIdentifier readIdentifier readFollowing faultOf if then
+  unfolding toldIdentifier readIdentifier readFollowing if then
   long-zero [] h low F k z e = absurd (omega arith)
   long-zero (b ∷ s) h low F k z e =
       rw (le-ltb (b % 32) 31 low, F .whole _, some-at (b ∷ s) i k, lt-ltb (getD (b ∷ s) i 0) 128 z, F .starts, eq-eqb (getD (b ∷ s) 1 0) 128 e)
 
   pub long-few : (m : List ℕ) → 0 < length m → 31 ≤ getD m 0 0 % 32 → Following m i n → i < length m → getD m i 0 < 128 → (getD m 1 0 ≡ 128 → ⊥)
       → getD m 1 0 < 31 → Identified m (NoIdentifier Form)
-  unfolding toldIdentifier readIdentifier readFollowing faultOf if then
+  unfolding toldIdentifier readIdentifier readFollowing if then
   long-few [] h low F k z e f = absurd (omega arith)
   long-few (b ∷ s) h low F k z e f =
       rw (
@@ -134,7 +134,7 @@ Here m at r = (l : ℕ) → r ≡ toldLength (length m) (readLength l (drop at m
 
 module _ (m : List ℕ) (at : ℕ) where
   pub length-none : length m ≤ at → Here m at (NoLength Cut)
-  unfolding toldLength readLength faultOf if
+  unfolding toldLength readLength if
   length-none k l = rw (none-at m at k)
 
   pub length-short : at < length m → getD m at 0 < 128 → at + 1 + getD m at 0 ≤ length m
@@ -145,7 +145,7 @@ module _ (m : List ℕ) (at : ℕ) where
       rw (some-at m at h, lt-ltb (getD m at 0) 128 l, le-leb (getD m at 0) (length (drop (at + 1) m)) g, left-at m (at + 1) (omega arith))
 
   pub length-short-no : at < length m → getD m at 0 < 128 → length m < at + 1 + getD m at 0 → Here m at (NoLength Cut)
-  unfolding toldLength readLength fit faultOf if
+  unfolding toldLength readLength fit if
   length-short-no h l f p =
       let g : length (drop (at + 1) m) < getD m at 0 = rw length-drop (omega arith) in
       rw (some-at m at h, lt-ltb (getD m at 0) 128 l, lt-leb (getD m at 0) (length (drop (at + 1) m)) g)
@@ -161,7 +161,7 @@ module _ (m : List ℕ) (at : ℕ) (some : 0 < at) (there : at ≤ length m) whe
   length-open e p = rw (from-before m at some there, e, left-at m at there)
 
   pub length-reserved : getD m (at - 1) 0 ≡ 255 → Here m (at - 1) (NoLength Form)
-  unfolding toldLength readLength faultOf if
+  unfolding toldLength readLength if
   length-reserved e p = rw (from-before m at some there, e)
 
   module _ (k : ℕ) (k-some : 0 < k) (k-few : k < 127) (says : getD m (at - 1) 0 ≡ 128 + k) where
@@ -179,7 +179,7 @@ module _ (m : List ℕ) (at : ℕ) (some : 0 < at) (there : at ≤ length m) whe
         )
 
     pub length-few : length m - at < k → Here m (at - 1) (NoLength Cut)
-    unfolding toldLength readLong faultOf if
+    unfolding toldLength readLong if
     length-few f l =
         let g : length (drop at m) < k = rw length-drop f in
         rw (long-form l, lt-leb k (length (drop at m)) g)
@@ -204,7 +204,7 @@ module _ (m : List ℕ) (at : ℕ) (some : 0 < at) (there : at ≤ length m) whe
           rw (whole-form l, q, behind-long, le-leb n (length m - at - k) g, behind-long, w)
 
       long-no : length m - at - k < number 0 (take k (drop at m)) → Here m (at - 1) (NoLength Cut)
-      unfolding toldLength fit faultOf if
+      unfolding toldLength fit if
       long-no w l = rw (whole-form l, behind-long, lt-leb _ _ w)
 
       pub length-long-no : (n i : ℕ) → Digits m at k n i → length m - at - k < n → Here m (at - 1) (NoLength Cut)
@@ -225,10 +225,10 @@ module _ (m : List ℕ) (at : ℕ) (some : 0 < at) (there : at ≤ length m) whe
           let q : i + 1 ≡ suc i = omega arith in
           d ∙ ap (number n) (drop-cons (take k (drop at m)) i 0 t) ∙ rw (e, q)
 
--- a refusal has one of the two numbers, and its place is where l octets are left
+-- the place of a refusal is where l octets are left
 abbrev Faulty : {A : Type 0} → ℕ → Answer A → Type 0
 Faulty l (got a s) = Unit {0}
-Faulty l (refused c k) = (c ≡ faultNumber (faultOf c)) × (k ≡ l)
+Faulty l (refused c k) = k ≡ l
 
 then-faulty : {A B : Type 0} (l : ℕ) (x : Answer A) (f : A → List ℕ → Answer B)
     → Faulty l x → ((a : A) (s : List ℕ) → Faulty l (f a s)) → Faulty l (then x f)
@@ -237,49 +237,49 @@ then-faulty l (got a s) f h k = k a s
 then-faulty l (refused c j) f h k = h
 
 following-faulty : (l : ℕ) (ds s : List ℕ) → Faulty l (readFollowing l ds s)
-unfolding readFollowing faultOf if
-following-faulty l ds [] = (refl, refl)
+unfolding readFollowing if
+following-faulty l ds [] = refl
 following-faulty l ds (d ∷ s) = if-cases (Faulty l) (ltb d 128) _ _ (λ e. tt) λ e. following-faulty l (ds ++ (d ∷ [])) s
 
 identifier-faulty : (m : List ℕ) → Faulty (length m) (readIdentifier m)
-unfolding readIdentifier faultOf if
-identifier-faulty [] = (refl, refl)
+unfolding readIdentifier if
+identifier-faulty [] = refl
 identifier-faulty (b ∷ s) =
     let l = suc (length s) in
     if-cases (Faulty l) (ltb (b % 32) 31) _ _ (λ e. tt) λ e.
     then-faulty l (readFollowing l [] s) _ (following-faulty l [] s) λ ds s₁.
-    if-cases (Faulty l) (eqb (getD ds 0 0) 128) _ _ (λ e. (refl, refl)) λ e.
-    if-cases (Faulty l) (ltb (getD ds 0 0) 31) _ _ (λ e. (refl, refl)) λ e. tt
+    if-cases (Faulty l) (eqb (getD ds 0 0) 128) _ _ (λ e. refl) λ e.
+    if-cases (Faulty l) (ltb (getD ds 0 0) 31) _ _ (λ e. refl) λ e. tt
 
 fit-faulty : (l n : ℕ) (s : List ℕ) → Faulty l (fit l n s)
-unfolding fit faultOf if
-fit-faulty l n s = if-cases (Faulty l) (leb n (length s)) _ _ (λ e. tt) λ e. (refl, refl)
+unfolding fit if
+fit-faulty l n s = if-cases (Faulty l) (leb n (length s)) _ _ (λ e. tt) λ e. refl
 
 long-faulty : (l k : ℕ) (s : List ℕ) → Faulty l (readLong l k s)
-unfolding readLong faultOf if
-long-faulty l k s = if-cases (Faulty l) (leb k (length s)) _ _ (λ e. fit-faulty l _ _) λ e. (refl, refl)
+unfolding readLong if
+long-faulty l k s = if-cases (Faulty l) (leb k (length s)) _ _ (λ e. fit-faulty l _ _) λ e. refl
 
 length-faulty : (l : ℕ) (s : List ℕ) → Faulty l (readLength l s)
-unfolding readLength faultOf if
-length-faulty l [] = (refl, refl)
+unfolding readLength if
+length-faulty l [] = refl
 length-faulty l (b ∷ s) =
     if-cases (Faulty l) (ltb b 128) _ _ (λ e. fit-faulty l b s) λ e.
     if-cases (Faulty l) (eqb b 128) _ _ (λ e. tt) λ e.
-    if-cases (Faulty l) (ltb b 255) _ _ (λ e. long-faulty l (b - 128) s) λ e. (refl, refl)
+    if-cases (Faulty l) (ltb b 255) _ _ (λ e. long-faulty l (b - 128) s) λ e. refl
 
-the-refusal : {A : Type 0} {l c k : ℕ} (x : Answer A) (f : Fault) → Faulty l x → x ≡ refused c k → faultOf c ≡ f → x ≡ refused (faultNumber f) l
-the-refusal {A} {l} {c} {k} x f h e g = let (p, q) : Faulty {A = A} l (refused c k) = rw e at h in e ∙ rw (q, ← g, ← p)
+the-refusal : {A : Type 0} {c : Cause} {l k : ℕ} (x : Answer A) → Faulty l x → x ≡ refused c k → x ≡ refused c l
+the-refusal {A} {c} {l} {k} x h e = let q : Faulty {A = A} l (refused c k) = rw e at h in e ∙ rw q
 
 -- what an answer says of an identifier
 module _ (n : ℕ) where
   abbrev Says : Answer (List ℕ) → Identifier → Type 0
   Says x (Read c e) = (i : List ℕ) × (w : List ℕ) × (x ≡ got i w) × (codeOf i ≡ c) × (n - length w ≡ e)
-  Says x (NoIdentifier f) = (c : ℕ) × (l : ℕ) × (x ≡ refused c l) × (faultOf c ≡ f)
+  Says x (NoIdentifier c) = (l : ℕ) × (x ≡ refused c l)
 
   says : (x : Answer (List ℕ)) → Says x (toldIdentifier n x)
   unfolding toldIdentifier
   says (got i w) = (i, w, refl, refl, refl)
-  says (refused c l) = (c, l, refl, refl)
+  says (refused c l) = (l, refl)
 
 module _ (m : List ℕ) (r : Identifier) (a : r ≡ toldIdentifier (length m) (readIdentifier m)) where
   its-some : (i w : List ℕ) → readIdentifier m ≡ got i w → 0 < length i
@@ -295,10 +295,10 @@ module _ (m : List ℕ) (r : Identifier) (a : r ≡ toldIdentifier (length m) (r
       let b : drop (length i) m ≡ w = ap (drop (length i)) y ∙ drop-append-seam i w in
       (i, x ∙ rw (← b, z), k, omega arith, omega arith)
 
-  pub identifier-refused : (f : Fault) → r ≡ NoIdentifier f → readIdentifier m ≡ refused (faultNumber f) (length m)
+  pub identifier-refused : (f : Cause) → r ≡ NoIdentifier f → readIdentifier m ≡ refused f (length m)
   identifier-refused f d =
-      let (c, l, x, y) : Says (length m) (readIdentifier m) (NoIdentifier f) = rw (← a, d) at (says (length m) (readIdentifier m)) in
-      the-refusal (readIdentifier m) f (identifier-faulty m) x y
+      let (l, x) : Says (length m) (readIdentifier m) (NoIdentifier f) = rw (← a, d) at (says (length m) (readIdentifier m)) in
+      the-refusal (readIdentifier m) (identifier-faulty m) x
 
 -- what an answer says of a length
 module _ (n : ℕ) (e : Extent) where
@@ -324,11 +324,11 @@ module _ (n : ℕ) (e : Extent) where
       (w, refl, ap (λ (x : Extent). x .start) h, ap (λ (x : Extent). x .end) h)
   says-open (refused c l) p q = let z : _≡_ {A = ℕ} 0 1 = cc in absurd (omega arith)
 
-says-no : (n : ℕ) (x : Answer Size) (f : Fault) → NoLength f ≡ toldLength n x → (c : ℕ) × (l : ℕ) × (x ≡ refused c l) × (faultOf c ≡ f)
+says-no : (n : ℕ) (x : Answer Size) (f : Cause) → NoLength f ≡ toldLength n x → (l : ℕ) × (x ≡ refused f l)
 unfolding toldLength
 says-no n (got (definite k) w) f e = let z : _≡_ {A = ℕ} 0 1 = cc in absurd (omega arith)
 says-no n (got indefinite w) f e = let z : _≡_ {A = ℕ} 0 1 = cc in absurd (omega arith)
-says-no n (refused c l) f e = (c, l, refl, cc)
+says-no n (refused c l) f e = let q : f ≡ c = cc in (l, rw q)
 
 octets-some : {n : ℕ} {m : List ℕ} → Octets n m → 0 < length m
 octets-some (short h e) = rw e (omega arith)
@@ -374,10 +374,10 @@ module _ (m : List ℕ) (at l : ℕ) where
           let ew : w ≡ drop (e .start) m = y ∙ ap (λ (j : ℕ). drop j m) (sym es) in
           (x ∙ rw ew, omega arith, omega arith, t)
 
-    pub length-refused : (f : Fault) → r ≡ NoLength f → readLength l (drop at m) ≡ refused (faultNumber f) l
+    pub length-refused : (f : Cause) → r ≡ NoLength f → readLength l (drop at m) ≡ refused f l
     length-refused f d =
-        let (c, j, x, y) = says-no (length m) (readLength l (drop at m)) f (sym d ∙ a) in
-        the-refusal (readLength l (drop at m)) f (length-faulty l (drop at m)) x y
+        let (j, x) = says-no (length m) (readLength l (drop at m)) f (sym d ∙ a) in
+        the-refusal (readLength l (drop at m)) (length-faulty l (drop at m)) x
 
 -- the length octets of contents that were read before
 module _ (n : ℕ) (x : Answer Size) where
@@ -393,9 +393,9 @@ module _ (n : ℕ) (x : Answer Size) where
       go (got z w) h = h
       go (refused c l) h = tt
 
-  pub again-no : (r : Length) (f : Fault) (e : Extent) → r ≡ toldLength n x → r ≡ NoLength f → Again n x e
+  pub again-no : (r : Length) (f : Cause) (e : Extent) → r ≡ toldLength n x → r ≡ NoLength f → Again n x e
   unfolding Again
-  again-no r f e a d = let (c, l, q, y) = says-no n x f (sym d ∙ a) in rw q tt
+  again-no r f e a d = let (l, q) = says-no n x f (sym d ∙ a) in rw q tt
 
 module _ (m : List ℕ) (at l : ℕ) where
   pub again-none : (e : Extent) → length m ≤ at → Again (length m) (readLength l (drop at m)) e

@@ -6,23 +6,24 @@ use mathlib.Core.Bool.{not}
 use Prim.Native.Nat.{ℕ, suc, _+_, _%_, _-_}
 use lib.Dec.{ltb, eqb, leb}
 use lib.ListN.{length, getD, take, drop}
+use Rattle.octets.specs.declared.cause.Cause.the-variants.{Cut, Form, NotAwaited}
 use Rattle.octets.specs.Answer.{Answer, got, refused, then, if, behind, none-left}
 use Rattle.ber.specs.Length.{number}
 use Rattle.octets.specs.Lists.{same}
 
 -- the octets up to and with the first below 128, after those in hand; l octets are left where the item begins
 unfoldable pub readFollowing : ℕ → List ℕ → List ℕ → Answer (List ℕ)
-readFollowing l ds [] = refused 22 l
+readFollowing l ds [] = refused Cut l
 readFollowing l ds (d ∷ s) = if (ltb d 128) (got (ds ++ (d ∷ [])) s) λ _. readFollowing l (ds ++ (d ∷ [])) s
 
 -- whole (22), then in a form that X.690 has (23): the long form begins with no 80, and its number is over 30
 unfoldable pub readIdentifier : List ℕ → Answer (List ℕ)
-readIdentifier [] = refused 22 0
+readIdentifier [] = refused Cut 0
 readIdentifier (b ∷ s) =
     if (ltb (b % 32) 31) (got (b ∷ []) s) λ _.
     then (readFollowing (suc (length s)) [] s) λ ds s₁.
-    if (eqb (getD ds 0 0) 128) (refused 23 (suc (length s))) λ _.
-    if (ltb (getD ds 0 0) 31) (refused 23 (suc (length s))) λ _.
+    if (eqb (getD ds 0 0) 128) (refused Form (suc (length s))) λ _.
+    if (ltb (getD ds 0 0) 31) (refused Form (suc (length s))) λ _.
     got (b ∷ ds) s₁
 
 pub data Size : Type 0 where
@@ -31,19 +32,19 @@ pub data Size : Type 0 where
 
 -- no longer than what is left around it (22); l octets are left where the item begins
 unfoldable pub fit : ℕ → ℕ → List ℕ → Answer Size
-fit l n s = if (leb n (length s)) (got (definite n) s) λ _. refused 22 l
+fit l n s = if (leb n (length s)) (got (definite n) s) λ _. refused Cut l
 
 unfoldable pub readLong : ℕ → ℕ → List ℕ → Answer Size
-readLong l k s = if (leb k (length s)) (fit l (number 0 (take k s)) (drop k s)) λ _. refused 22 l
+readLong l k s = if (leb k (length s)) (fit l (number 0 (take k s)) (drop k s)) λ _. refused Cut l
 
 -- the length octets are there (22); a first octet FF is refused as soon as it is read (23)
 unfoldable pub readLength : ℕ → List ℕ → Answer Size
-readLength l [] = refused 22 l
+readLength l [] = refused Cut l
 readLength l (b ∷ s) =
     if (ltb b 128) (fit l b s) λ _.
     if (eqb b 128) (got indefinite s) λ _.
     if (ltb b 255) (readLong l (b - 128) s) λ _.
-    refused 23 l
+    refused Form l
 
 -- contents that end where their octets do, or contents that 00 00 closes
 pub data Mode : Type 0 where
@@ -54,17 +55,17 @@ pub data Mode : Type 0 where
 unfoldable pub atEnd : {A : Type 0} → Mode → List ℕ → (List ℕ → Answer A) → (Unit {0} → Answer A) → Answer A
 atEnd closed s f x = if (none-left s) (f []) x
 atEnd open-ended s f x =
-    if (none-left s) (refused 22 0) λ _.
+    if (none-left s) (refused Cut 0) λ _.
     if (not (eqb (getD s 0 0) 0)) (x tt) λ _.
-    if (none-left (drop 1 s)) (refused 22 (length s)) λ _.
-    if (not (eqb (getD s 1 0) 0)) (refused 23 (length s)) λ _.
+    if (none-left (drop 1 s)) (refused Cut (length s)) λ _.
+    if (not (eqb (getD s 1 0) 0)) (refused Form (length s)) λ _.
     f (drop 2 s)
 
 -- the identifier octets (22, 23), awaited (24), the length octets (22, 23)
 unfoldable pub readHeader : List ℕ → List ℕ → Answer Size
 readHeader i s =
     then (readIdentifier s) λ j s₁.
-    if (not (same i j)) (refused 24 (length s)) λ _.
+    if (not (same i j)) (refused NotAwaited (length s)) λ _.
     readLength (length s) s₁
 
 -- contents of definite length are read as a part of their own; a place inside counts what stands behind that part
@@ -78,7 +79,7 @@ readConstructed i body s = then (readHeader i s) (inside body)
 -- a primitive item has no indefinite form (23); l octets are left where the item begins
 unfoldable pub contents : ℕ → Size → List ℕ → Answer (List ℕ)
 contents l (definite n) s = got (take n s) (drop n s)
-contents l indefinite s = refused 23 l
+contents l indefinite s = refused Form l
 
 unfoldable pub readPrimitive : List ℕ → List ℕ → Answer (List ℕ)
 readPrimitive i s = then (readHeader i s) (contents (length s))

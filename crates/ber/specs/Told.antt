@@ -8,12 +8,11 @@ use Prim.Native.Nat.{ℕ, zero, suc, _+_, _-_, _/_, _%_}
 use lib.Dec.{leb, eqb}
 use lib.IntN.{ℤ, pos}
 use lib.ListN.{length, getD, drop}
+use Rattle.octets.specs.declared.cause.Cause.the-variants.{Cut, Form}
 use Rattle.octets.specs.Answer.{Answer, got, refused, if, none-left}
 use Rattle.ber.specs.Codes.{codeOf}
 use Rattle.ber.specs.Integer.{integerOf}
 use Rattle.ber.specs.Reading.{Size, definite, indefinite, Mode, closed, open-ended}
-use Rattle.ber.specs.declared.Fault.{Fault}
-use Rattle.ber.specs.declared.Fault.the-variants.{Cut, Form}
 use Rattle.ber.specs.declared.identifier.Identifier.{Identifier}
 use Rattle.ber.specs.declared.identifier.Identifier.the-variants.{Read as ReadIdentifier, Refused as NoIdentifier}
 use Rattle.ber.specs.declared.length.Length.{Length}
@@ -22,23 +21,15 @@ use Rattle.ber.specs.declared.length.Extent.{Extent}
 use Rattle.ber.specs.declared.ending.End.{End}
 use Rattle.ber.specs.declared.ending.End.the-variants.{More, Over, Broken}
 
--- 22, or 23
-unfoldable pub faultOf : ℕ → Fault
-faultOf c = if (eqb c 22) Cut λ _. Form
-
-abbrev pub faultNumber : Fault → ℕ
-faultNumber Cut = 22
-faultNumber Form = 23
-
 unfoldable pub toldIdentifier : ℕ → Answer (List ℕ) → Identifier
 toldIdentifier n (got i s) = ReadIdentifier (codeOf i) (n - length s)
-toldIdentifier n (refused c l) = NoIdentifier (faultOf c)
+toldIdentifier n (refused c l) = NoIdentifier c
 
 -- indefinite contents may go to the end of what was lent
 unfoldable pub toldLength : ℕ → Answer Size → Length
 toldLength n (got (definite k) s) = ReadLength (record { start = n - length s; end = n - length s + k; marked = false })
 toldLength n (got indefinite s) = ReadLength (record { start = n - length s; end = n; marked = true })
-toldLength n (refused c l) = NoLength (faultOf c)
+toldLength n (refused c l) = NoLength c
 
 abbrev pub mode : Bool → Mode
 mode true = open-ended

@@ -5,13 +5,13 @@ ghost use lib.Dec.{eqb};
 ghost use lib.ListN.{length, getD, drop};
 ghost use Rattle.octets.specs.Answer.{none-left};
 ghost use Rattle.ber.specs.Told.{endOf};
-use crate::Fault;
+use octets::cause::Cause;
 
 // An item follows; or the contents are over, and what stands behind them begins at `end`; or neither.
 pub enum End {
     More,
     Over { end: usize },
-    Broken { fault: Fault },
+    Broken { cause: Cause },
 }
 
 // Whether contents that 00 00 closes are over at a place of m.
@@ -19,17 +19,17 @@ fn marked_end(m: &[u8], at: usize) -> End
     ensures { λ r. ⌜ r ≡ endOf true (length (now (m .entry))) (drop at (now (m .entry))) ⌝ }
 {
     if m.len() <= at {
-        return End::Broken { fault: Fault::Cut };
+        return End::Broken { cause: Cause::Cut };
     }
     if m[at] != 0 {
         return End::More;
     }
     let second = at + 1;
     if m.len() <= second {
-        return End::Broken { fault: Fault::Cut };
+        return End::Broken { cause: Cause::Cut };
     }
     if m[second] != 0 {
-        return End::Broken { fault: Fault::Form };
+        return End::Broken { cause: Cause::Form };
     }
     let end = at + 2;
     End::Over { end }

@@ -6,13 +6,13 @@ ghost use Rattle.octets.specs.Buffers.{put, putEnd};
 ghost use Rattle.ber.specs.Codes.{code, codeOctets};
 ghost use Rattle.ber.specs.Reading.{readIdentifier};
 ghost use Rattle.ber.specs.Told.{toldIdentifier};
-use crate::Fault;
+use octets::cause::Cause;
 use octets::holds;
 
 // A code, and where the octets end; or why there is none.
 pub enum Identifier {
     Read { code: u32, end: usize },
-    Refused { fault: Fault },
+    Refused { cause: Cause },
 }
 
 // The code of a tag, primitive or constructed.
@@ -53,16 +53,16 @@ fn read_long(m: &[u8], lead: u32) -> Identifier
         if d < 128 {
             let f = m[1];
             if f == 128 {
-                return Identifier::Refused { fault: Fault::Form };
+                return Identifier::Refused { cause: Cause::Form };
             }
             if f < 31 {
-                return Identifier::Refused { fault: Fault::Form };
+                return Identifier::Refused { cause: Cause::Form };
             }
             let code = lead + 256 * n;
             return Identifier::Read { code, end: i };
         }
     }
-    Identifier::Refused { fault: Fault::Cut }
+    Identifier::Refused { cause: Cause::Cut }
 }
 
 // The identifier that m begins with.
@@ -70,7 +70,7 @@ pub fn read(m: &[u8]) -> Identifier
     ensures { λ r. ⌜ r ≡ toldIdentifier (length (now (m .entry))) (readIdentifier (now (m .entry))) ⌝ }
 {
     if m.len() == 0 {
-        return Identifier::Refused { fault: Fault::Cut };
+        return Identifier::Refused { cause: Cause::Cut };
     }
     let lead = m[0] as u32;
     if lead % 32 < 31 {

@@ -35,11 +35,11 @@ fn open_end(m: &[u8], start: usize) -> usize
         } else {
             let rest = &m[at..];
             match identifier::read(rest) {
-                Identifier::Refused { fault: _ } => {
+                Identifier::Refused { cause: _ } => {
                     return m.len();
                 }
                 Identifier::Read { code: _, end } => match length::read(rest, end) {
-                    Length::Refused { fault: _ } => {
+                    Length::Refused { cause: _ } => {
                         return m.len();
                     }
                     Length::Read(x) => {
@@ -67,7 +67,7 @@ pub fn end(m: &[u8], from: usize) -> usize
         ⌝ }
 {
     match length::read(m, from) {
-        Length::Refused { fault: _ } => m.len(),
+        Length::Refused { cause: _ } => m.len(),
         Length::Read(x) => {
             if x.marked {
                 return open_end(m, x.start);

@@ -7,7 +7,7 @@ ghost use Rattle.octets.specs.Buffers.{put, putEnd};
 ghost use Rattle.ber.specs.Length.{lengthOctets};
 ghost use Rattle.ber.specs.Reading.{readLength};
 ghost use Rattle.ber.specs.Told.{toldLength, Again};
-use crate::Fault;
+use octets::cause::Cause;
 use octets::holds;
 
 // Where the contents begin and end, and whether 00 00 closes them; then their end is that of m.
@@ -19,7 +19,7 @@ pub struct Extent {
 
 pub enum Length {
     Read(Extent),
-    Refused { fault: Fault },
+    Refused { cause: Cause },
 }
 
 // The long form with k octets from `at` on. The number never grows beyond what is left.
@@ -29,20 +29,20 @@ fn read_long(m: &[u8], at: usize, k: usize) -> Length
 {
     let left = m.len() - at;
     if left < k {
-        return Length::Refused { fault: Fault::Cut };
+        return Length::Refused { cause: Cause::Cut };
     }
     let mut n: usize = 0;
     let mut i: usize = 0;
     while i < k {
         if left / 256 < n {
-            return Length::Refused { fault: Fault::Cut };
+            return Length::Refused { cause: Cause::Cut };
         }
         let p = at + i;
         n = n * 256 + m[p] as usize;
         i += 1;
     }
     if left - k < n {
-        return Length::Refused { fault: Fault::Cut };
+        return Length::Refused { cause: Cause::Cut };
     }
     let start = at + k;
     let end = start + n;
@@ -66,7 +66,7 @@ fn read_other(m: &[u8], at: usize, first: usize) -> Length
         });
     }
     if first == 255 {
-        return Length::Refused { fault: Fault::Form };
+        return Length::Refused { cause: Cause::Form };
     }
     read_long(m, at, first - 128)
 }
@@ -76,14 +76,14 @@ pub fn read(m: &[u8], at: usize) -> Length
     ensures { λ r. ⌜ ((l : ℕ) → r ≡ toldLength (length (now (m .entry))) (readLength l (drop at (now (m .entry))))) ⌝ }
 {
     if m.len() <= at {
-        return Length::Refused { fault: Fault::Cut };
+        return Length::Refused { cause: Cause::Cut };
     }
     let first = m[at] as usize;
     let start = at + 1;
     if first < 128 {
         let end = start + first;
         if m.len() < end {
-            return Length::Refused { fault: Fault::Cut };
+            return Length::Refused { cause: Cause::Cut };
         }
         return Length::Read(Extent {
             start,
@@ -118,7 +118,7 @@ pub fn again(m: &[u8], at: usize) -> Extent
     }
     match read_other(m, start, first) {
         Length::Read(x) => x,
-        Length::Refused { fault: _ } => none,
+        Length::Refused { cause: _ } => none,
     }
 }
 

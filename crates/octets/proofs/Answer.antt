@@ -4,15 +4,16 @@ use mathlib.Core.Bool.{Bool, true, false, true≢false}
 use mathlib.Core.List.{List, [], _∷_, _++_}
 use mathlib.Core.Path.{_≡_, refl, subst, sym}
 use Prim.Native.Nat.{ℕ, _+_}
+use Rattle.octets.specs.Causes.{Cause}
 use Rattle.octets.specs.Answer.{Answer, got, refused, then, if, behind, none-left}
 
 pub then-got : {A B : Type 0} (a : A) (s : List ℕ) (f : A → List ℕ → Answer B) → then (got a s) f ≡ f a s
 unfolding then
 then-got a s f = refl
 
-pub then-refused : {A B : Type 0} (n l : ℕ) (f : A → List ℕ → Answer B) → then (refused n l) f ≡ refused n l
+pub then-refused : {A B : Type 0} (c : Cause) (l : ℕ) (f : A → List ℕ → Answer B) → then (refused c l) f ≡ refused c l
 unfolding then
-then-refused n l f = refl
+then-refused c l f = refl
 
 pub if-true : {A : Type 0} (a : A) (k : Unit {0} → A) → if true a k ≡ a
 unfolding if
@@ -36,10 +37,10 @@ none-cons b s = refl
 
 unfoldable pub IsRefused : {A : Type 0} → Answer A → Type 0
 IsRefused (got a s) = ⊥
-IsRefused (refused n l) = Unit {0}
+IsRefused (refused c l) = Unit {0}
 
 -- accepted and refused exclude each other
-pub refused≢got : {A C : Type 0} {n l : ℕ} {a : A} {s : List ℕ} → refused n l ≡ got a s → C
+pub refused≢got : {A C : Type 0} {c : Cause} {l : ℕ} {a : A} {s : List ℕ} → refused c l ≡ got a s → C
 unfolding IsRefused
 refused≢got e = absurd (subst IsRefused e tt)
 
@@ -52,7 +53,7 @@ got-rest e = cc
 -- what is answered has P, if anything is
 pub data Holds {A : Type 0} (P : A → List ℕ → Type 0) : Answer A → Type 0 where
   yields : {a : A} {r : List ℕ} → P a r → Holds P (got a r)
-  refuses : {n l : ℕ} → Holds P (refused n l)
+  refuses : {c : Cause} {l : ℕ} → Holds P (refused c l)
 
 pub then-holds : {A B : Type 0} {P : A → List ℕ → Type 0} {Q : B → List ℕ → Type 0} {x : Answer A} {f : A → List ℕ → Answer B}
     → Holds P x → ((a : A) (r : List ℕ) → P a r → Holds Q (f a r)) → Holds Q (then x f)

@@ -6,5 +6,6 @@ pub mod Search
 pub mod Tabulate
 pub mod Members
 pub mod Answer
+pub mod Causes
 pub mod Permutations
 pub mod Buffers

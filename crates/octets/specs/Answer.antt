@@ -3,15 +3,16 @@
 use mathlib.Core.Bool.{Bool, true, false}
 use mathlib.Core.List.{List, [], _∷_}
 use Prim.Native.Nat.{ℕ, _+_}
+use Rattle.octets.specs.Causes.{Cause}
 
--- What was read, and what follows it. Or a refusal: its number, and how many octets are left from its place to the end of what was given.
+-- What was read, and what follows it. Or a refusal: its cause, and how many octets are left from its place to the end of what was given.
 pub data Answer (A : Type 0) : Type 0 where
   got : A → List ℕ → Answer A
-  refused : ℕ → ℕ → Answer A
+  refused : Cause → ℕ → Answer A
 
 unfoldable pub then : {A B : Type 0} → Answer A → (A → List ℕ → Answer B) → Answer B
 then (got a s) f = f a s
-then (refused n l) f = refused n l
+then (refused c l) f = refused c l
 
 -- x where the test holds; else what follows
 unfoldable pub if : {A : Type 0} → Bool → A → (Unit {0} → A) → A
@@ -21,7 +22,7 @@ if false a k = k tt
 -- an answer about a part, where k octets stand behind the part
 unfoldable pub behind : {A : Type 0} → ℕ → Answer A → Answer A
 behind k (got a s) = got a s
-behind k (refused n l) = refused n (l + k)
+behind k (refused c l) = refused c (l + k)
 
 -- no octet is left
 unfoldable pub none-left : List ℕ → Bool

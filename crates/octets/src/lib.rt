@@ -1,4 +1,7 @@
-// Octets: reads that are total, where what lies behind the last octet counts as 0; room for octets; a copy.
+// Octets: reads that are total, where what lies behind the last octet counts as 0; room for octets; a copy. And the
+// causes of refusal, which every crate names.
+pub mod cause;
+
 ghost use mathlib.Core.Path.{_≡_};
 ghost use Prim.Native.Nat.{_<_, _+_, _*_};
 ghost use lib.Dec.{leb};

@@ -9,17 +9,16 @@ use lib.Dec.{ltb, leb, eqb}
 use lib.ListN.{length, getD, take}
 use Rattle.octets.specs.Lists.{all}
 use Rattle.octets.specs.Numbers.{two}
+use Rattle.octets.specs.declared.cause.Cause.{Cause}
 use Rattle.table.specs.Syntax.{Tag, Member, Enumerated, Plain, Sequence, Set, SequenceOf, SetOf, Choice, Record, references, isChoice, universal, constructed}
 use Rattle.table.specs.Octets.{kind, recordShaped, bodyShaped}
 use Rattle.table.specs.Reading.{membersAt, everyAt, bodyAt, scan}
 use Rattle.table.specs.Fields.{formOf, universalOf, constructedOf, choiceOf, choiceBy, Viewed}
 use Rattle.table.specs.Index.{Indexed}
 use Rattle.table.specs.Entries.{tagCount, tagPlace, hasMembers, isList, spanOf, Entered, WithMembers, WithAlternatives, WithElements, WithNumbers}
-use Rattle.table.specs.Cause.{place}
 use Rattle.table.specs.Verdict.{verdict}
 use Rattle.table.specs.declared.entry.Entry.{Entry}
 use Rattle.table.specs.declared.index.Index.{Index}
-use Rattle.table.specs.declared.TableCause.{TableCause}
 use Rattle.table.specs.declared.Verdict.the-variants.{Passed, Refused}
 use Rattle.table.proofs.Pieces as pieces
 use Rattle.table.proofs.Reading as reading
@@ -31,7 +30,7 @@ use Rattle.table.proofs.Places as places
 
 -- The verdict, of any list: the place of a refusal, and the length of what passes.
 
-pub place-small : (b : List ℕ) (c : TableCause) → verdict b ≡ Refused c → place c ≤ 128
+pub place-small : (b : List ℕ) (c : Cause) (p : ℕ) → verdict b ≡ Refused c p → p ≤ 128
 place-small = places.place-small
 
 pub passed-short : (b : List ℕ) → verdict b ≡ Passed → length b ≤ 8192

@@ -11,21 +11,23 @@ use lib.ListN.{length, take}
 use borrow.Author.Tests.{ltb-true, ltb-false}
 use Rattle.octets.proofs.Tests.{test}
 use Rattle.octets.specs.Numbers.{Octets}
+use Rattle.octets.specs.declared.cause.Cause.{Cause}
+use Rattle.octets.specs.declared.cause.Cause.the-variants.{NoType}
+use Rattle.octets.specs.Causes.{causeNumber}
+use Rattle.octets.proofs.Causes.{same-cause}
 use Rattle.table.specs.Syntax.{Record, table}
 use Rattle.table.specs.Octets.{Spells, Misshapen}
 use Rattle.table.specs.Reading.{scan, look}
-use Rattle.table.specs.Cause.{number, place, Cause, FirstCause}
+use Rattle.table.specs.Cause.{Breaks, FirstCause}
 use Rattle.table.specs.Verdict.{verdict}
 use Rattle.table.specs.Index.{CheckedTable}
 use Rattle.table.specs.Passes.{Passes}
 use Rattle.table.specs.declared.Checked.{Checked}
-use Rattle.table.specs.declared.TableCause.{TableCause}
-use Rattle.table.specs.declared.TableCause.the-variants.{NoType}
 use Rattle.table.specs.declared.Verdict.{Verdict}
 use Rattle.table.specs.declared.Verdict.the-variants.{Passed, Refused}
 use Rattle.table.proofs.Scan.{scan-spells}
 use Rattle.table.proofs.Spelled.{unique, spells-scan, spells-not-misshapen, misshapen-unique}
-use Rattle.table.proofs.Causes.{same-cause, Right, looks, right, sound, keeps}
+use Rattle.table.proofs.Causes.{stage, Right, looks, right, sound, keeps}
 use Rattle.table.proofs.Filling.{index-places}
 
 -- Octets are those of one list of records at most.
@@ -53,43 +55,44 @@ told b o v e = subst (Right b) e (right b o)
 
 module _ (b : List ℕ) (o : Octets b) where
   -- The cause that the verdict names is the first: none with a lower number holds, nor the same at a lower record.
-  pub named-first : (c : TableCause) → verdict b ≡ Refused c → FirstCause b c
-  named-first c e = told b o (Refused c) e
+  pub named-first : (c : Cause) (p : ℕ) → verdict b ≡ Refused c p → FirstCause b c p
+  named-first c p e = told b o (Refused c p) e
 
   -- The verdict is passed where no cause holds, and nowhere else.
-  pub passed-none : verdict b ≡ Passed → (c : TableCause) → Cause b c → ⊥
+  pub passed-none : verdict b ≡ Passed → (c : Cause) (p : ℕ) → Breaks b p c → ⊥
   passed-none e = told b o Passed e
 
-  by-verdict : {X : Type 0} → (verdict b ≡ Passed → X) → ((c : TableCause) → verdict b ≡ Refused c → X) → X
+  by-verdict : {X : Type 0} → (verdict b ≡ Passed → X) → ((c : Cause) (p : ℕ) → verdict b ≡ Refused c p → X) → X
   by-verdict {X} f g = by (verdict b) refl
     where
       by : (v : Verdict) → verdict b ≡ v → X
       by Passed e = f e
-      by (Refused c) e = g c e
+      by (Refused c p) e = g c p e
 
-  pub none-passed : ((c : TableCause) → Cause b c → ⊥) → verdict b ≡ Passed
-  none-passed h = by-verdict (λ e. e) λ c e. absurd (h c (named-first c e .holds))
+  pub none-passed : ((c : Cause) (p : ℕ) → Breaks b p c → ⊥) → verdict b ≡ Passed
+  none-passed h = by-verdict (λ e. e) λ c p e. absurd (h c p (named-first c p e .holds))
 
-  one-first : (c d : TableCause) → FirstCause b c → FirstCause b d → c ≡ d
-  one-first c d x y =
-      test (ltb (number c) (number d)) (λ e. absurd (y .earlier c (ltb-true _ _ e) (x .holds))) λ e₁.
-      test (ltb (number d) (number c)) (λ e. absurd (x .earlier d (ltb-true _ _ e) (y .holds))) λ e₂.
-      let n : number c ≡ number d = omega (arith, ltb-false (number c) (number d) e₁, ltb-false (number d) (number c) e₂) in
-      test (ltb (place c) (place d)) (λ e. absurd (y .lower c n (ltb-true _ _ e) (x .holds))) λ e₃.
-      test (ltb (place d) (place c)) (λ e. absurd (x .lower d (sym n) (ltb-true _ _ e) (y .holds))) λ e₄.
-      same-cause c d n (omega (arith, ltb-false (place c) (place d) e₃, ltb-false (place d) (place c) e₄))
+  one-first : (c d : Cause) (p q : ℕ) → FirstCause b c p → FirstCause b d q → (c ≡ d) × (p ≡ q)
+  one-first c d p q x y =
+      test (ltb (causeNumber c) (causeNumber d)) (λ e. absurd (y .earlier c p (ltb-true _ _ e) (x .holds))) λ e₁.
+      test (ltb (causeNumber d) (causeNumber c)) (λ e. absurd (x .earlier d q (ltb-true _ _ e) (y .holds))) λ e₂.
+      let s : c ≡ d = same-cause c d (omega (arith, ltb-false (causeNumber c) (causeNumber d) e₁, ltb-false (causeNumber d) (causeNumber c) e₂)) in
+      test (ltb p q) (λ e. absurd (y .lower p (ltb-true _ _ e) (subst (Breaks b p) s (x .holds)))) λ e₃.
+      test (ltb q p) (λ e. absurd (x .lower q (ltb-true _ _ e) (subst (Breaks b q) (sym s) (y .holds)))) λ e₄.
+      (s, omega (arith, ltb-false p q e₃, ltb-false q p e₄))
 
   -- The first cause is the one that the verdict names.
-  pub first-named : (c : TableCause) → FirstCause b c → verdict b ≡ Refused c
-  first-named c x =
-      by-verdict (λ e. absurd (passed-none e c (x .holds))) λ d e. subst (λ k. verdict b ≡ Refused k) (one-first d c (named-first d e) x) e
+  pub first-named : (c : Cause) (p : ℕ) → FirstCause b c p → verdict b ≡ Refused c p
+  first-named c p x =
+      by-verdict (λ e. absurd (passed-none e c p (x .holds))) λ d q e.
+      let s = one-first d c q p (named-first d q e) x in e ∙ rw (s .0, s .1)
 
   -- 7 is no verdict on a table alone.
-  pub never-no-type : verdict b ≡ Refused NoType → ⊥
-  never-no-type e = named-first NoType e .holds
+  pub never-no-type : (p : ℕ) → verdict b ≡ Refused NoType p → ⊥
+  never-no-type p e = let h = stage (named-first NoType p e .holds) .1 in omega arith
 
   -- Of the octets of records of which no cause holds, all that the crates above rely on: by the rules alone.
-  pub rules-kept : {rs : List Record} → Spells b rs → ((c : TableCause) → Cause b c → ⊥) → Passes b (table rs) (length rs)
+  pub rules-kept : {rs : List Record} → Spells b rs → ((c : Cause) (p : ℕ) → Breaks b p c → ⊥) → Passes b (table rs) (length rs)
   rules-kept x h = keeps b o h x
 
   -- A table that passes is the octets of records, and reading finds them.

@@ -7,6 +7,7 @@ use Prim.Native.Nat.{ℕ, _≤_, _<_}
 use native.Mathlib.Omega.{arith}
 use borrow.Author.Tests.{lt-ltb, le-ltb}
 use lib.ListN.{length}
+use Rattle.octets.specs.declared.cause.Cause.the-variants.{TableShape}
 use Rattle.table.specs.Reading.{scan}
 use Rattle.table.specs.Verdict.{judge, verdict}
 use Rattle.table.specs.Index.{Indexed, noIndex, CheckedTable}
@@ -14,14 +15,13 @@ use Rattle.table.specs.Entries.{tableIn, countIn, Filled}
 use Rattle.table.specs.declared.index.Index.{Index}
 use Rattle.table.specs.declared.Verdict.{Verdict}
 use Rattle.table.specs.declared.Verdict.the-variants.{Refused}
-use Rattle.table.specs.declared.TableCause.the-variants.{Shape}
 
 module _ (b : List ℕ) where
-  verdict-long : 8192 < length b → Refused (Shape 0) ≡ verdict b
+  verdict-long : 8192 < length b → Refused TableShape 0 ≡ verdict b
   unfolding verdict
   verdict-long h = rw (lt-ltb 8192 (length b) h)
 
-  verdict-misshapen : length b ≤ 8192 → false ≡ scan b .whole → Refused (Shape (countIn b)) ≡ verdict b
+  verdict-misshapen : length b ≤ 8192 → false ≡ scan b .whole → Refused TableShape (countIn b) ≡ verdict b
   unfolding verdict
   verdict-misshapen h w = rw (le-ltb 8192 (length b) h, ← w)
 
@@ -33,18 +33,18 @@ module _ (b : List ℕ) where
   abbrev pub Into : List ℕ → List ℕ → Verdict → ℕ → Type 0
   Into before after v n = (v ≡ verdict b) × (length b ≤ 8192 → Filled b after n) × (8192 < length b → (n ≡ 0) × (after ≡ before))
 
-  pub into-long : (index : List ℕ) → 8192 < length b → Into index index (Refused (Shape 0)) 0
+  pub into-long : (index : List ℕ) → 8192 < length b → Into index index (Refused TableShape 0) 0
   into-long index h = (verdict-long h, λ l. absurd (omega arith), λ _. (refl, refl))
 
   module _ (before after : List ℕ) (n : ℕ) (h : length b ≤ 8192) (f : Filled b after n) where
-    pub into-misshapen : false ≡ scan b .whole → Into before after (Refused (Shape n)) n
+    pub into-misshapen : false ≡ scan b .whole → Into before after (Refused TableShape n) n
     into-misshapen w = (rw (f .count) (verdict-misshapen h w), λ _. f, λ l. absurd (omega arith))
 
     pub into-judged : (v : Verdict) → true ≡ scan b .whole → v ≡ judge (tableIn b) n → Into before after v n
     into-judged v w e = (e ∙ rw (f .count) (verdict-judged h w), λ _. f, λ l. absurd (omega arith))
 
   -- with the index of places
-  pub checked-long : 8192 < length b → CheckedTable b (record { verdict = Refused (Shape 0); index = noIndex })
+  pub checked-long : 8192 < length b → CheckedTable b (record { verdict = Refused TableShape 0; index = noIndex })
   checked-long h = record { is = verdict-long h; index = λ l. absurd (omega arith); over-long = λ _. refl }
 
   pub checked-indexed : (x : Index) (v : Verdict) → length b ≤ 8192 → Indexed b x → v ≡ verdict b → CheckedTable b (record { verdict = v; index = x })

@@ -10,33 +10,27 @@ use Rattle.octets.specs.Lists.{lowest}
 use Rattle.table.specs.Syntax.{Table}
 use Rattle.table.specs.Reading.{scan, look}
 use Rattle.table.specs.Decide.{dangling, mistagged, circular, sharing, infinite}
-use Rattle.table.specs.declared.TableCause.{TableCause}
-use Rattle.table.specs.declared.TableCause.the-variants.{Shape, NoRecord, WrongTag, ChoiceLoop, SharedTag, NoValue, NoType}
+use Rattle.octets.specs.declared.cause.Cause.{Cause}
+use Rattle.octets.specs.declared.cause.Cause.the-variants.{TableShape, NoRecord, WrongTag, ChoiceLoop, SharedTag, NoValue}
 use Rattle.table.specs.declared.Verdict.{Verdict}
 use Rattle.table.specs.declared.Verdict.the-variants.{Passed, Refused}
 
--- the test of a cause at its place, of n records; 1 and 7 are no causes of records
-abbrev pub breaks : Table → ℕ → TableCause → Bool
-breaks T n (Shape p) = false
-breaks T n (NoRecord p) = dangling T n p
-breaks T n (WrongTag p) = mistagged T p
-breaks T n (ChoiceLoop p) = circular T n p
-breaks T n (SharedTag p) = sharing T n p
-breaks T n (NoValue p) = infinite T n p
-breaks T n NoType = false
+-- a cause of records, and its test at a record: the table, how many records it has, and the record
+abbrev pub Test : Type 0
+Test = Cause × (Table → ℕ → ℕ → Bool)
 
 -- the causes in turn, each sought in all n records: refused by the first that is found, at the lowest record that has it (FORMATS, "Order of refusals")
-abbrev pub inTurn : Table → ℕ → List (ℕ → TableCause) → Verdict
+abbrev pub inTurn : Table → ℕ → List Test → Verdict
 inTurn T n [] = Passed
-inTurn T n (c ∷ cs) = if (ltb (lowest (λ p. breaks T n (c p)) n) n) (Refused (c (lowest (λ p. breaks T n (c p)) n))) λ _. inTurn T n cs
+inTurn T n (x ∷ xs) = if (ltb (lowest (x .1 T n) n) n) (Refused (x .0) (lowest (x .1 T n) n)) λ _. inTurn T n xs
 
 -- 4 to 6
-abbrev pub choiceCauses : List (ℕ → TableCause)
-choiceCauses = ChoiceLoop ∷ SharedTag ∷ NoValue ∷ []
+abbrev pub choiceCauses : List Test
+choiceCauses = (ChoiceLoop, circular) ∷ (SharedTag, sharing) ∷ (NoValue, infinite) ∷ []
 
 -- 2 to 6
-abbrev pub recordCauses : List (ℕ → TableCause)
-recordCauses = NoRecord ∷ WrongTag ∷ choiceCauses
+abbrev pub recordCauses : List Test
+recordCauses = (NoRecord, dangling) ∷ (WrongTag, λ T n p. mistagged T p) ∷ choiceCauses
 
 unfoldable pub judgeChoices : Table → ℕ → Verdict
 judgeChoices T n = inTurn T n choiceCauses
@@ -51,6 +45,6 @@ tooLong b = ltb 8192 (length b)
 -- Too many octets are refused by 1 at 0, whatever they are; then 1 at the first record that is not shaped; then the causes of records (FORMATS, "Order of refusals").
 unfoldable pub verdict : List ℕ → Verdict
 verdict b =
-    if (tooLong b) (Refused (Shape 0)) λ _.
-    if (not (scan b .whole)) (Refused (Shape (length (scan b .offsets)))) λ _.
+    if (tooLong b) (Refused TableShape 0) λ _.
+    if (not (scan b .whole)) (Refused TableShape (length (scan b .offsets))) λ _.
     judge (look b (scan b .offsets)) (length (scan b .offsets))

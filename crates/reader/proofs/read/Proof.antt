@@ -10,10 +10,10 @@ pub read-spec : {M : Type 1} → statement M
 read-spec =
     tie.close
     (tie.spec
-    (λ c κs. ?) -- check-into-requires
-    (λ c. ?) -- enum-known-verdict
-    (λ c. ?) -- enum-told
-    (λ c κs. ?) -- read-passed-requires
-    (λ c. ?) -- returns
-    (λ c. ?) -- same-length
-    (λ c. ?)) -- returns-2
+    (λ c κs. ?)  -- check-into-requires
+    (λ c. ?)  -- enum-known-verdict
+    (λ c. ?)  -- enum-told
+    (λ c κs. ?)  -- read-passed-requires
+    (λ c. ?)  -- returns
+    (λ c. ?)  -- same-length
+    (λ c. ?))  -- returns-2

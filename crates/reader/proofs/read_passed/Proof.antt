@@ -11,16 +11,16 @@ pub read-passed-spec : {M : Type 1} → statement M
 read-passed-spec =
     tie.close
     (tie.spec
-    (λ c. ?) -- returns
-    (λ c. ?) -- returns-2
-    (λ c κs. ?) -- judge-requires
-    (λ c. ?) -- enum-known-cause
-    (λ c. ?) -- sub-at
-    (λ c κs. ?) -- placed-requires
-    (λ c. ?) -- enum-known-size
-    (λ c. ?) -- returns-3
-    (λ c. ?) -- returns-4
-    (λ c κs. ?) -- place-requires
-    (λ c. ?) -- returns-5
-    (λ c. ?) -- same-length
-    (λ c. ?)) -- returns-6
+    (λ c. ?)  -- returns
+    (λ c. ?)  -- returns-2
+    (λ c κs. ?)  -- judge-requires
+    (λ c. ?)  -- enum-known-cause
+    (λ c. ?)  -- sub-at
+    (λ c κs. ?)  -- placed-requires
+    (λ c. ?)  -- enum-known-size
+    (λ c. ?)  -- returns-3
+    (λ c. ?)  -- returns-4
+    (λ c κs. ?)  -- place-requires
+    (λ c. ?)  -- returns-5
+    (λ c. ?)  -- same-length
+    (λ c. ?))  -- returns-6

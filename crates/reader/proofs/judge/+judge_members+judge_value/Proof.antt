@@ -92,63 +92,63 @@ pub +judge-members+judge-value-spec : {M : Type 1} → statement M
     judge-members.Post
     judge-members-Inv-loop
     judge-members-μ-loop
-    (λ c κs. ?) -- judge-members-unpack-requires
-    (λ c κs. ?) -- judge-members-parts-requires
-    (λ c κs. ?) -- judge-members-node-size-requires
-    (λ c. ?) -- judge-members-loop-holds
-    (λ c κs. ?) -- judge-members-next-requires
-    (λ c. ?) -- judge-members-enum-told
-    (λ c. ?) -- judge-members-enum-known-end
-    (λ c κs. ?) -- judge-members-done-requires
-    (λ c. ?) -- judge-members-returns
-    (λ c. ?) -- judge-members-enum-known-cause
-    (λ c. ?) -- judge-members-sub-refused
-    (λ c κs. ?) -- judge-members-refused-requires
-    (λ c. ?) -- judge-members-returns-2
-    (λ c. ?) -- judge-members-add-from
-    (λ c. ?) -- judge-members-mul-if2
-    (λ c. ?) -- judge-members-array-read-if2
-    (λ c. ?) -- judge-members-mul-octet
-    (λ c. ?) -- judge-members-add-octet
-    (λ c κs. ?) -- judge-members-octet-requires
-    (λ c. ?) -- judge-members-mul-first
-    (λ c. ?) -- judge-members-element-copy-out-first
-    (λ c κs. ?) -- judge-members-first-requires
-    (λ c. ?) -- judge-members-shared-slice-read-fits
-    (λ c. ?) -- judge-members-cast-fits
-    (λ c. ?) -- judge-members-sub-rest
-    (λ c. ?) -- judge-members-part-rest-start
-    (λ c. ?) -- judge-members-part-rest-end
-    (λ c κs. ?) -- judge-members-search-requires
-    (λ c. ?) -- judge-members-enum-known-cause-2
-    (λ c. ?) -- judge-members-sub-refused-2
-    (λ c κs. ?) -- judge-members-refused-requires-2
-    (λ c. ?) -- judge-members-returns-3
-    (λ c. ?) -- judge-members-enum-known-x
-    (λ c. ?) -- judge-members-add-from-2
-    (λ c. ?) -- judge-members-sub-refused-3
-    (λ c κs. ?) -- judge-members-refused-requires-3
-    (λ c. ?) -- judge-members-returns-4
-    (λ c. ?) -- judge-members-mul-came
-    (λ c. ?) -- judge-members-array-write-came
-    (λ c. ?) -- judge-members-add-j
-    (λ c. ?) -- judge-members-mul-found
-    (λ c. ?) -- judge-members-element-copy-out-found
-    (λ c. ?) -- judge-members-sub-below
-    (λ c. ?) -- judge-members-sub-below-2
-    (λ c κs. ?) -- judge-members-judge-value-requires
-    (λ c. ?) -- judge-members-enum-known-cause-3
-    (λ c κs. ?) -- judge-members-refused-requires-4
-    (λ c. ?) -- judge-members-returns-5
-    (λ c. ?) -- judge-members-enum-known-end-2
-    (λ c. ?) -- judge-members-mul-grow
-    (λ c. ?) -- judge-members-add-grow
-    (λ c κs. ?) -- judge-members-grow-requires
-    (λ c κs. ?) -- judge-members-holds-one-requires
-    (λ c κs. ?) -- judge-members-done-requires-2
-    (λ c. ?) -- judge-members-returns-6
-    (λ c. ?) -- judge-members-loop-less
-    (λ c. ?)) -- judge-members-loop-again
+    (λ c κs. ?)  -- judge-members-unpack-requires
+    (λ c κs. ?)  -- judge-members-parts-requires
+    (λ c κs. ?)  -- judge-members-node-size-requires
+    (λ c. ?)  -- judge-members-loop-holds
+    (λ c κs. ?)  -- judge-members-next-requires
+    (λ c. ?)  -- judge-members-enum-told
+    (λ c. ?)  -- judge-members-enum-known-end
+    (λ c κs. ?)  -- judge-members-done-requires
+    (λ c. ?)  -- judge-members-returns
+    (λ c. ?)  -- judge-members-enum-known-cause
+    (λ c. ?)  -- judge-members-sub-refused
+    (λ c κs. ?)  -- judge-members-refused-requires
+    (λ c. ?)  -- judge-members-returns-2
+    (λ c. ?)  -- judge-members-add-from
+    (λ c. ?)  -- judge-members-mul-if2
+    (λ c. ?)  -- judge-members-array-read-if2
+    (λ c. ?)  -- judge-members-mul-octet
+    (λ c. ?)  -- judge-members-add-octet
+    (λ c κs. ?)  -- judge-members-octet-requires
+    (λ c. ?)  -- judge-members-mul-first
+    (λ c. ?)  -- judge-members-element-copy-out-first
+    (λ c κs. ?)  -- judge-members-first-requires
+    (λ c. ?)  -- judge-members-shared-slice-read-fits
+    (λ c. ?)  -- judge-members-cast-fits
+    (λ c. ?)  -- judge-members-sub-rest
+    (λ c. ?)  -- judge-members-part-rest-start
+    (λ c. ?)  -- judge-members-part-rest-end
+    (λ c κs. ?)  -- judge-members-search-requires
+    (λ c. ?)  -- judge-members-enum-known-cause-2
+    (λ c. ?)  -- judge-members-sub-refused-2
+    (λ c κs. ?)  -- judge-members-refused-requires-2
+    (λ c. ?)  -- judge-members-returns-3
+    (λ c. ?)  -- judge-members-enum-known-x
+    (λ c. ?)  -- judge-members-add-from-2
+    (λ c. ?)  -- judge-members-sub-refused-3
+    (λ c κs. ?)  -- judge-members-refused-requires-3
+    (λ c. ?)  -- judge-members-returns-4
+    (λ c. ?)  -- judge-members-mul-came
+    (λ c. ?)  -- judge-members-array-write-came
+    (λ c. ?)  -- judge-members-add-j
+    (λ c. ?)  -- judge-members-mul-found
+    (λ c. ?)  -- judge-members-element-copy-out-found
+    (λ c. ?)  -- judge-members-sub-below
+    (λ c. ?)  -- judge-members-sub-below-2
+    (λ c κs. ?)  -- judge-members-judge-value-requires
+    (λ c. ?)  -- judge-members-enum-known-cause-3
+    (λ c κs. ?)  -- judge-members-refused-requires-4
+    (λ c. ?)  -- judge-members-returns-5
+    (λ c. ?)  -- judge-members-enum-known-end-2
+    (λ c. ?)  -- judge-members-mul-grow
+    (λ c. ?)  -- judge-members-add-grow
+    (λ c κs. ?)  -- judge-members-grow-requires
+    (λ c κs. ?)  -- judge-members-holds-one-requires
+    (λ c κs. ?)  -- judge-members-done-requires-2
+    (λ c. ?)  -- judge-members-returns-6
+    (λ c. ?)  -- judge-members-loop-less
+    (λ c. ?))  -- judge-members-loop-again
     λ t. judge-value-lts.spec (
       unpack-reads.Asked,
       unpack-reads.Learnt,
@@ -171,41 +171,41 @@ pub +judge-members+judge-value-spec : {M : Type 1} → statement M
     )
     (judge-value-at t)
     judge-value.Post
-    (λ c κs. ?) -- judge-value-unpack-requires
-    (λ c κs. ?) -- judge-value-open-requires
-    (λ c. ?) -- judge-value-enum-known-cause
-    (λ c κs. ?) -- judge-value-refused-requires
-    (λ c. ?) -- judge-value-returns
-    (λ c. ?) -- judge-value-enum-known-x
-    (λ c. ?) -- judge-value-sub-left
-    (λ c. ?) -- judge-value-slice-aggregate-around
-    (λ c κs. ?) -- judge-value-read-requires
-    (λ c. ?) -- judge-value-enum-known-fault
-    (λ c κs. ?) -- judge-value-cause-of-requires
-    (λ c κs. ?) -- judge-value-refused-requires-2
-    (λ c. ?) -- judge-value-returns-2
-    (λ c. ?) -- judge-value-enum-known-x-2
-    (λ c κs. ?) -- judge-value-refused-requires-3
-    (λ c. ?) -- judge-value-returns-3
-    (λ c. ?) -- judge-value-sub-c
-    (λ c. ?) -- judge-value-part-c-start
-    (λ c. ?) -- judge-value-part-c-end
-    (λ c κs. ?) -- judge-value-contents-size-requires
-    (λ c κs. ?) -- judge-value-refused-requires-4
-    (λ c. ?) -- judge-value-returns-4
-    (λ c. ?) -- judge-value-sub-c-2
-    (λ c. ?) -- judge-value-part-c-start-2
-    (λ c. ?) -- judge-value-part-c-end-2
-    (λ c κs. ?) -- judge-value-judge-members-requires
-    (λ c. ?) -- judge-value-enum-known-cause-2
-    (λ c. ?) -- judge-value-sub-refused
-    (λ c. ?) -- judge-value-add-refused
-    (λ c κs. ?) -- judge-value-refused-requires-5
-    (λ c. ?) -- judge-value-returns-5
-    (λ c. ?) -- judge-value-enum-known-x-3
-    (λ c. ?) -- judge-value-add-stop
-    (λ c. ?) -- judge-value-cast-close
-    (λ c κs. ?) -- judge-value-close-requires
-    (λ c. ?) -- judge-value-returns-6
-    (λ c κs. ?) -- judge-value-done-requires
-    (λ c. ?) -- judge-value-returns-7
+    (λ c κs. ?)  -- judge-value-unpack-requires
+    (λ c κs. ?)  -- judge-value-open-requires
+    (λ c. ?)  -- judge-value-enum-known-cause
+    (λ c κs. ?)  -- judge-value-refused-requires
+    (λ c. ?)  -- judge-value-returns
+    (λ c. ?)  -- judge-value-enum-known-x
+    (λ c. ?)  -- judge-value-sub-left
+    (λ c. ?)  -- judge-value-slice-aggregate-around
+    (λ c κs. ?)  -- judge-value-read-requires
+    (λ c. ?)  -- judge-value-enum-known-fault
+    (λ c κs. ?)  -- judge-value-cause-of-requires
+    (λ c κs. ?)  -- judge-value-refused-requires-2
+    (λ c. ?)  -- judge-value-returns-2
+    (λ c. ?)  -- judge-value-enum-known-x-2
+    (λ c κs. ?)  -- judge-value-refused-requires-3
+    (λ c. ?)  -- judge-value-returns-3
+    (λ c. ?)  -- judge-value-sub-c
+    (λ c. ?)  -- judge-value-part-c-start
+    (λ c. ?)  -- judge-value-part-c-end
+    (λ c κs. ?)  -- judge-value-contents-size-requires
+    (λ c κs. ?)  -- judge-value-refused-requires-4
+    (λ c. ?)  -- judge-value-returns-4
+    (λ c. ?)  -- judge-value-sub-c-2
+    (λ c. ?)  -- judge-value-part-c-start-2
+    (λ c. ?)  -- judge-value-part-c-end-2
+    (λ c κs. ?)  -- judge-value-judge-members-requires
+    (λ c. ?)  -- judge-value-enum-known-cause-2
+    (λ c. ?)  -- judge-value-sub-refused
+    (λ c. ?)  -- judge-value-add-refused
+    (λ c κs. ?)  -- judge-value-refused-requires-5
+    (λ c. ?)  -- judge-value-returns-5
+    (λ c. ?)  -- judge-value-enum-known-x-3
+    (λ c. ?)  -- judge-value-add-stop
+    (λ c. ?)  -- judge-value-cast-close
+    (λ c κs. ?)  -- judge-value-close-requires
+    (λ c. ?)  -- judge-value-returns-6
+    (λ c κs. ?)  -- judge-value-done-requires
+    (λ c. ?)  -- judge-value-returns-7

@@ -12,17 +12,17 @@ pub judge-spec : {M : Type 1} → statement M
 judge-spec =
     tie.close
     (tie.spec
-    (λ c κs. ?) -- refused-requires
-    (λ c. ?) -- returns
-    (λ c. ?) -- cast-whole
-    (λ c κs. ?) -- whole-requires
-    (λ c κs. ?) -- judge-members-requires
-    (λ c. ?) -- enum-known-cause
-    (λ c κs. ?) -- refused-requires-2
-    (λ c. ?) -- enum-known-end
-    (λ c. ?) -- sub-refused
-    (λ c κs. ?) -- refused-requires-3
-    (λ c. ?) -- returns-2
-    (λ c κs. ?) -- done-requires
-    (λ c. ?) -- returns-3
-    (λ c. ?)) -- returns-4
+    (λ c κs. ?)  -- refused-requires
+    (λ c. ?)  -- returns
+    (λ c. ?)  -- cast-whole
+    (λ c κs. ?)  -- whole-requires
+    (λ c κs. ?)  -- judge-members-requires
+    (λ c. ?)  -- enum-known-cause
+    (λ c κs. ?)  -- refused-requires-2
+    (λ c. ?)  -- enum-known-end
+    (λ c. ?)  -- sub-refused
+    (λ c κs. ?)  -- refused-requires-3
+    (λ c. ?)  -- returns-2
+    (λ c κs. ?)  -- done-requires
+    (λ c. ?)  -- returns-3
+    (λ c. ?))  -- returns-4

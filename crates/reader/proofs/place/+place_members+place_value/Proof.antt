@@ -106,55 +106,55 @@ pub +place-members+place-value-spec : {M : Type 1} → statement M
     place-members.Post
     place-members-Inv-loop
     place-members-μ-loop
-    (λ c κs. ?) -- place-members-unpack-requires
-    (λ c κs. ?) -- place-members-parts-requires
-    (λ c κs. ?) -- place-members-locate-requires
-    (λ c κs. ?) -- place-members-begin-requires
-    (λ c. ?) -- place-members-loop-holds
-    (λ c κs. ?) -- place-members-following-requires
-    (λ c κs. ?) -- place-members-put-absent-requires
-    (λ c. ?) -- place-members-same-length
-    (λ c. ?) -- place-members-returns
-    (λ c. ?) -- place-members-mul-at
-    (λ c. ?) -- place-members-array-read-at
-    (λ c. ?) -- place-members-cast-at
-    (λ c. ?) -- place-members-sub-at
-    (λ c κs. ?) -- place-members-holds-one-requires
-    (λ c κs. ?) -- place-members-is-over-requires
-    (λ c κs. ?) -- place-members-finish-requires
-    (λ c κs. ?) -- place-members-behind-requires
-    (λ c. ?) -- place-members-same-length-2
-    (λ c. ?) -- place-members-returns-2
-    (λ c. ?) -- place-members-add-from
-    (λ c. ?) -- place-members-mul-octet
-    (λ c. ?) -- place-members-add-octet
-    (λ c κs. ?) -- place-members-octet-requires
-    (λ c. ?) -- place-members-mul-first
-    (λ c. ?) -- place-members-element-copy-out-first
-    (λ c κs. ?) -- place-members-first-requires
-    (λ c. ?) -- place-members-shared-slice-read-fits
-    (λ c. ?) -- place-members-cast-fits
-    (λ c. ?) -- place-members-sub-rest
-    (λ c. ?) -- place-members-part-rest-start
-    (λ c. ?) -- place-members-part-rest-end
-    (λ c κs. ?) -- place-members-search-requires
-    (λ c. ?) -- place-members-enum-told
-    (λ c. ?) -- place-members-enum-known-x
-    (λ c. ?) -- place-members-add-from-2
-    (λ c κs. ?) -- place-members-put-way-requires
-    (λ c κs. ?) -- place-members-has-members-requires
-    (λ c κs. ?) -- place-members-put-absent-requires-2
-    (λ c κs. ?) -- place-members-put-place-requires
-    (λ c. ?) -- place-members-add-j
-    (λ c. ?) -- place-members-mul-place-value
-    (λ c. ?) -- place-members-element-copy-out-place-value
-    (λ c κs. ?) -- place-members-place-value-requires
-    (λ c. ?) -- place-members-add-count
-    (λ c κs. ?) -- place-members-holds-one-requires-2
-    (λ c. ?) -- place-members-same-length-3
-    (λ c. ?) -- place-members-returns-3
-    (λ c. ?) -- place-members-loop-less
-    (λ c. ?)) -- place-members-loop-again
+    (λ c κs. ?)  -- place-members-unpack-requires
+    (λ c κs. ?)  -- place-members-parts-requires
+    (λ c κs. ?)  -- place-members-locate-requires
+    (λ c κs. ?)  -- place-members-begin-requires
+    (λ c. ?)  -- place-members-loop-holds
+    (λ c κs. ?)  -- place-members-following-requires
+    (λ c κs. ?)  -- place-members-put-absent-requires
+    (λ c. ?)  -- place-members-same-length
+    (λ c. ?)  -- place-members-returns
+    (λ c. ?)  -- place-members-mul-at
+    (λ c. ?)  -- place-members-array-read-at
+    (λ c. ?)  -- place-members-cast-at
+    (λ c. ?)  -- place-members-sub-at
+    (λ c κs. ?)  -- place-members-holds-one-requires
+    (λ c κs. ?)  -- place-members-is-over-requires
+    (λ c κs. ?)  -- place-members-finish-requires
+    (λ c κs. ?)  -- place-members-behind-requires
+    (λ c. ?)  -- place-members-same-length-2
+    (λ c. ?)  -- place-members-returns-2
+    (λ c. ?)  -- place-members-add-from
+    (λ c. ?)  -- place-members-mul-octet
+    (λ c. ?)  -- place-members-add-octet
+    (λ c κs. ?)  -- place-members-octet-requires
+    (λ c. ?)  -- place-members-mul-first
+    (λ c. ?)  -- place-members-element-copy-out-first
+    (λ c κs. ?)  -- place-members-first-requires
+    (λ c. ?)  -- place-members-shared-slice-read-fits
+    (λ c. ?)  -- place-members-cast-fits
+    (λ c. ?)  -- place-members-sub-rest
+    (λ c. ?)  -- place-members-part-rest-start
+    (λ c. ?)  -- place-members-part-rest-end
+    (λ c κs. ?)  -- place-members-search-requires
+    (λ c. ?)  -- place-members-enum-told
+    (λ c. ?)  -- place-members-enum-known-x
+    (λ c. ?)  -- place-members-add-from-2
+    (λ c κs. ?)  -- place-members-put-way-requires
+    (λ c κs. ?)  -- place-members-has-members-requires
+    (λ c κs. ?)  -- place-members-put-absent-requires-2
+    (λ c κs. ?)  -- place-members-put-place-requires
+    (λ c. ?)  -- place-members-add-j
+    (λ c. ?)  -- place-members-mul-place-value
+    (λ c. ?)  -- place-members-element-copy-out-place-value
+    (λ c κs. ?)  -- place-members-place-value-requires
+    (λ c. ?)  -- place-members-add-count
+    (λ c κs. ?)  -- place-members-holds-one-requires-2
+    (λ c. ?)  -- place-members-same-length-3
+    (λ c. ?)  -- place-members-returns-3
+    (λ c. ?)  -- place-members-loop-less
+    (λ c. ?))  -- place-members-loop-again
     λ t. place-value-lts.spec (
       unpack-reads.Asked,
       unpack-reads.Learnt,
@@ -171,28 +171,28 @@ pub +place-members+place-value-spec : {M : Type 1} → statement M
     )
     (place-value-at t)
     place-value.Post
-    (λ c κs. ?) -- place-value-unpack-requires
-    (λ c κs. ?) -- place-value-open-requires
-    (λ c. ?) -- place-value-enum-told
-    (λ c. ?) -- place-value-enum-known-x
-    (λ c. ?) -- place-value-slice-aggregate-around
-    (λ c κs. ?) -- place-value-again-requires
-    (λ c. ?) -- place-value-sub-c
-    (λ c. ?) -- place-value-part-c-start
-    (λ c. ?) -- place-value-part-c-end
-    (λ c κs. ?) -- place-value-place-contents-requires
-    (λ c. ?) -- place-value-sub-c-2
-    (λ c. ?) -- place-value-part-c-start-2
-    (λ c. ?) -- place-value-part-c-end-2
-    (λ c κs. ?) -- place-value-place-members-requires
-    (λ c. ?) -- place-value-add-stop
-    (λ c. ?) -- place-value-cast-close
-    (λ c κs. ?) -- place-value-close-requires
-    (λ c. ?) -- place-value-enum-told-2
-    (λ c. ?) -- place-value-enum-known-x-2
-    (λ c. ?) -- place-value-same-length
-    (λ c. ?) -- place-value-returns
-    (λ c. ?) -- place-value-same-length-2
-    (λ c. ?) -- place-value-returns-2
-    (λ c. ?) -- place-value-same-length-3
-    (λ c. ?) -- place-value-returns-3
+    (λ c κs. ?)  -- place-value-unpack-requires
+    (λ c κs. ?)  -- place-value-open-requires
+    (λ c. ?)  -- place-value-enum-told
+    (λ c. ?)  -- place-value-enum-known-x
+    (λ c. ?)  -- place-value-slice-aggregate-around
+    (λ c κs. ?)  -- place-value-again-requires
+    (λ c. ?)  -- place-value-sub-c
+    (λ c. ?)  -- place-value-part-c-start
+    (λ c. ?)  -- place-value-part-c-end
+    (λ c κs. ?)  -- place-value-place-contents-requires
+    (λ c. ?)  -- place-value-sub-c-2
+    (λ c. ?)  -- place-value-part-c-start-2
+    (λ c. ?)  -- place-value-part-c-end-2
+    (λ c κs. ?)  -- place-value-place-members-requires
+    (λ c. ?)  -- place-value-add-stop
+    (λ c. ?)  -- place-value-cast-close
+    (λ c κs. ?)  -- place-value-close-requires
+    (λ c. ?)  -- place-value-enum-told-2
+    (λ c. ?)  -- place-value-enum-known-x-2
+    (λ c. ?)  -- place-value-same-length
+    (λ c. ?)  -- place-value-returns
+    (λ c. ?)  -- place-value-same-length-2
+    (λ c. ?)  -- place-value-returns-2
+    (λ c. ?)  -- place-value-same-length-3
+    (λ c. ?)  -- place-value-returns-3

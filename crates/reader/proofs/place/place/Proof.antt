@@ -9,8 +9,8 @@ use Rattle.table.proofs.entry.whole.Reads as whole-reads
 pub place-spec : {M : Type 1} → statement M
 place-spec =
     tie.close (tie.spec
-    (λ c. ?) -- cast-whole
-    (λ c κs. ?) -- whole-requires
-    (λ c κs. ?) -- place-members-requires
-    (λ c. ?) -- same-length
-    (λ c. ?)) -- returns
+    (λ c. ?)  -- cast-whole
+    (λ c κs. ?)  -- whole-requires
+    (λ c κs. ?)  -- place-members-requires
+    (λ c. ?)  -- same-length
+    (λ c. ?))  -- returns

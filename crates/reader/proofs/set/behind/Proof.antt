@@ -6,6 +6,6 @@ use Rattle.reader.proofs.set.behind.Lts as lts
 
 pub behind-spec : {M : Type 1} → statement M
 behind-spec = tie.close (tie.spec
-    (λ c. ?) -- add-result
-    (λ c. ?) -- returns
-    (λ c. ?)) -- returns-2
+    (λ c. ?)  -- add-result
+    (λ c. ?)  -- returns
+    (λ c. ?))  -- returns-2

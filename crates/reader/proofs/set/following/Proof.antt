@@ -16,11 +16,11 @@ following-spec =
     (tie.spec
     Inv-loop
     μ-loop
-    (λ c. ?) -- loop-holds
-    (λ c. ?) -- mul-if1
-    (λ c. ?) -- element-copy-out-if1
-    (λ c. ?) -- returns
-    (λ c. ?) -- add-k
-    (λ c. ?) -- loop-less
-    (λ c. ?) -- loop-again
-    (λ c. ?)) -- returns-2
+    (λ c. ?)  -- loop-holds
+    (λ c. ?)  -- mul-if1
+    (λ c. ?)  -- element-copy-out-if1
+    (λ c. ?)  -- returns
+    (λ c. ?)  -- add-k
+    (λ c. ?)  -- loop-less
+    (λ c. ?)  -- loop-again
+    (λ c. ?))  -- returns-2

@@ -20,22 +20,22 @@ locate-spec =
     (tie.spec
     Inv-loop
     μ-loop
-    (λ c. ?) -- loop-holds
-    (λ c κs. ?) -- is-over-requires
-    (λ c κs. ?) -- behind-requires
-    (λ c. ?) -- returns
-    (λ c. ?) -- sub-rest
-    (λ c. ?) -- part-rest-start
-    (λ c. ?) -- part-rest-end
-    (λ c κs. ?) -- search-requires
-    (λ c. ?) -- enum-told
-    (λ c. ?) -- returns-2
-    (λ c. ?) -- enum-known-x
-    (λ c. ?) -- add-began
-    (λ c. ?) -- cast-began
-    (λ c. ?) -- mul-began
-    (λ c. ?) -- element-write-began
-    (λ c κs. ?) -- end-requires
-    (λ c. ?) -- add-at
-    (λ c. ?) -- loop-less
-    (λ c. ?)) -- loop-again
+    (λ c. ?)  -- loop-holds
+    (λ c κs. ?)  -- is-over-requires
+    (λ c κs. ?)  -- behind-requires
+    (λ c. ?)  -- returns
+    (λ c. ?)  -- sub-rest
+    (λ c. ?)  -- part-rest-start
+    (λ c. ?)  -- part-rest-end
+    (λ c κs. ?)  -- search-requires
+    (λ c. ?)  -- enum-told
+    (λ c. ?)  -- returns-2
+    (λ c. ?)  -- enum-known-x
+    (λ c. ?)  -- add-began
+    (λ c. ?)  -- cast-began
+    (λ c. ?)  -- mul-began
+    (λ c. ?)  -- element-write-began
+    (λ c κs. ?)  -- end-requires
+    (λ c. ?)  -- add-at
+    (λ c. ?)  -- loop-less
+    (λ c. ?))  -- loop-again
