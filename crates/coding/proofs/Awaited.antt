@@ -9,6 +9,7 @@ use mathlib.Core.Path.{_≡_, refl, sym, ap, _∙_}
 use native.Mathlib.Omega.{arith}
 use Prim.Native.Nat.{ℕ, suc}
 use lib.ListN.{length}
+use Rattle.octets.specs.declared.cause.Cause.the-variants.{NotAwaited, Trailing}
 use Rattle.octets.specs.Answer.{Answer, got, refused, then, if, none-left}
 use Rattle.octets.specs.Lists.{any, same}
 use Rattle.octets.proofs.Lists.{same-refl, same-true}
@@ -34,7 +35,7 @@ or-none true = refl
 or-none false = refl
 
 -- an answer that was refused, whatever it is of
-refused-by : {A B : Type 0} (l : ℕ) (f : A → List ℕ → Answer B) (x : Answer (List ℕ)) → then (then {B = A} x (λ i r. refused 24 l)) f ≡ then x (λ i r. refused 24 l)
+refused-by : {A B : Type 0} (l : ℕ) (f : A → List ℕ → Answer B) (x : Answer (List ℕ)) → then (then {B = A} x (λ i r. refused NotAwaited l)) f ≡ then x (λ i r. refused NotAwaited l)
 unfolding then
 refused-by l f (got i r) = refl
 refused-by l f (refused c k) = refl
@@ -79,7 +80,7 @@ pub set-unwanted : (T : Table) (r : ℕ → List ℕ → Answer Value) (k : ℕ)
 unfolding readSet unwanted
 set-unwanted T r k ms os mode s g p e = goes-on _ _ g ∙ by (anything (notYetRead ms os)) (full-anything p) (place-unwanted T r s p e)
   where
-    by : (b : Bool) → full os ≡ not b → place T r ms os s ≡ notAwaited s → if (full os) (refused 26 (length s)) (λ _. then (place T r ms os s) λ us s₁. readSet T r k ms us mode s₁) ≡ unwanted b s
+    by : (b : Bool) → full os ≡ not b → place T r ms os s ≡ notAwaited s → if (full os) (refused Trailing (length s)) (λ _. then (place T r ms os s) λ us s₁. readSet T r k ms us mode s₁) ≡ unwanted b s
     by true f h = simp (run, f, h) (refused-on s _)
     by false f h = simp (run, f)
 
@@ -99,7 +100,7 @@ unfolding readHeader notAwaited passes then
 header-unwanted i s f e = by (readIdentifier s) e
   where
     by : (x : Answer (List ℕ)) → passes (λ j. same j i) x ≡ false
-        → then (then x λ j s₁. if (not (same i j)) (refused 24 (length s)) λ _. readLength (length s) s₁) f ≡ then x (λ j s₁. refused 24 (length s))
+        → then (then x λ j s₁. if (not (same i j)) (refused NotAwaited (length s)) λ _. readLength (length s) s₁) f ≡ then x (λ j s₁. refused NotAwaited (length s))
     by (got j u) q = simp (run, same-false i j q)
     by (refused c l) q = refl
 
@@ -140,9 +141,9 @@ module _ (T : Table) (r : ℕ → List ℕ → Answer Value) (i : List ℕ) wher
 
 abbrev pub underTag : {A : Type 0} → (List ℕ → Answer A) → Mode → List ℕ → Answer A
 underTag r mode u =
-    atEnd mode u (λ _. refused 24 (length u)) λ _.
+    atEnd mode u (λ _. refused NotAwaited (length u)) λ _.
     then (r u) λ v w.
-    atEnd mode w (λ y. got v y) λ _. refused 26 (length w)
+    atEnd mode w (λ y. got v y) λ _. refused Trailing (length w)
 
 pub wrapped-under : {A : Type 0} (i : List ℕ) (is : List (List ℕ)) (r : List ℕ → Answer A) (s : List ℕ) → readWrapped (i ∷ is) r s ≡ readConstructed i (underTag (readWrapped is r)) s
 unfolding readWrapped

@@ -5,18 +5,18 @@ use mathlib.Core.Path.{_≡_, sym, ap, _∙_}
 use native.Mathlib.Omega.{arith}
 use Prim.Native.Nat.{ℕ, _≤_}
 use lib.ListN.{length, take}
+use Rattle.octets.specs.declared.cause.Cause.{Cause}
 use Rattle.octets.specs.Numbers.{Octets}
 use Rattle.table.specs.Syntax.{Table}
 use Rattle.table.specs.Reading.{look}
 use Rattle.table.specs.Passes.{Passes}
 use Rattle.table.specs.Verdict.{verdict}
 use Rattle.table.specs.Index.{Indexed, CheckedTable}
-use Rattle.table.specs.declared.TableCause.{TableCause}
 use Rattle.table.specs.declared.Verdict.the-variants.{Passed, Refused}
 use Rattle.table.specs.declared.Checked.{Checked}
 use Rattle.table.proofs.Theorems.{checked-passes}
 use Rattle.table.proofs.Promises.{passed-short, index-size, index-places}
-use Rattle.coding.specs.Outcome.{Outcome, Told, refusal, of-table}
+use Rattle.coding.specs.Outcome.{Outcome, Told, refusal}
 use Rattle.coding.specs.Calls.{afterCheck}
 
 -- an outcome is what was answered and what the buffer holds
@@ -24,9 +24,9 @@ abbrev pub Says : Outcome → Told → List ℕ → Type 0
 Says x r buf = (r ≡ x .answer) × (buf ≡ x .buffer)
 
 module _ (b : List ℕ) (c : Checked) (x : CheckedTable b c) where
-  pub out-table : (buf : List ℕ) (f : Table → ℕ → Outcome) (k : TableCause) → c .verdict ≡ Refused k → Says (afterCheck b buf f (verdict b)) (refusal (of-table k)) buf
+  pub out-table : (buf : List ℕ) (f : Table → ℕ → Outcome) (k : Cause) (p : ℕ) → c .verdict ≡ Refused k p → Says (afterCheck b buf f (verdict b)) (refusal k p) buf
   unfolding afterCheck
-  out-table buf f k e = let q : verdict b ≡ Refused k = sym (x .is) ∙ e in (rw q, rw q)
+  out-table buf f k p e = let q : verdict b ≡ Refused k p = sym (x .is) ∙ e in (rw q, rw q)
 
   module _ (e : c .verdict ≡ Passed) where
     indexed : Indexed b (c .index)

@@ -9,6 +9,7 @@ use native.Mathlib.Omega.{arith}
 use Prim.Native.Nat.{ℕ, zero, suc, _+_, _<_}
 use lib.ListN.{length, getD, length-append}
 use lib.Seq.{append-snoc}
+use Rattle.octets.specs.declared.cause.Cause.the-variants.{NotAwaited, Trailing}
 use Rattle.octets.specs.Answer.{Answer, got, refused, then, if, none-left}
 use Rattle.octets.specs.Lists.{any, joined}
 use Rattle.octets.specs.Permutations.{Sel, Sel.here, Sel.there, Perm, Perm.none as none-p, Perm.next, Each, nil, cons, Order, Arranged, Every, every-cons}
@@ -334,7 +335,7 @@ wrapped-complete {Q = Q} {v = v} r f o s (every-cons p ps) (tagged {is = is} {c 
     let x = constructed-complete _ s (proper-readable p) (body (λ t. wrapped-complete r f o t ps w) (wrapped-opened o ps w)) h in record { value = x .value; answer = x .answer; alike = x .alike }
   where
     body : ((t : List ℕ) → Reads Q (readWrapped is r) v (c ++ t) t) → Opened c → (mode : Mode) (t u : List ℕ) → Ends mode t u
-        → Reads Q (λ y. atEnd mode y (λ _. refused 24 (length y)) λ _. then (readWrapped is r y) (λ v w. atEnd mode w (λ z. got v z) λ _. refused 26 (length w))) v (c ++ t) u
+        → Reads Q (λ y. atEnd mode y (λ _. refused NotAwaited (length y)) λ _. then (readWrapped is r y) (λ v w. atEnd mode w (λ z. got v z) λ _. refused Trailing (length w))) v (c ++ t) u
     body g (i, n, e, b) mode t u z = let x = g t in record { value = x .value; answer = begun-more n t mode _ _ b e ∙ simp (run, x .answer) (atEnd-end _ _ z); alike = x .alike }
 
 -- A permitted encoding with at most n levels, followed by anything, is read to its end, and what is read is equivalent to what was meant.

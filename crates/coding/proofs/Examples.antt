@@ -6,6 +6,7 @@ use mathlib.Core.List.{List, [], _∷_, _++_}
 use mathlib.Core.Path.{_≡_, refl}
 use Prim.Native.Nat.{ℕ, suc}
 use lib.ListN.{length, drop, replicate}
+use Rattle.octets.specs.Causes.{causeNumber}
 use Rattle.octets.specs.Answer.{if, then, behind, none-left}
 use Rattle.octets.specs.Lists.{any, all, joined, tabulate, lowestFrom, same}
 use Rattle.ber.specs.Identifier.{leading, following, identifier}
@@ -28,8 +29,8 @@ use Rattle.coding.specs.Form.{encode, element, alternatives, formMembers
 use Rattle.coding.specs.Judging.{need, flags, ownMembers, ownCount, ownBoolean, ownInteger, ownString, ownBits, ownEnumerated, ownChoice, readOwn, readNode, leafKind, nodeKind, numbers, leafAgrees, agreeing, counts, agrees, judgeMembers, judgeElements, judgeBelow, judgeValue, judgeWhole}
 use Rattle.coding.specs.Awaited.{beginsBody, beginsItem, beginsIn, begins}
 use Rattle.coding.specs.Reading.{isListed, decode, passes, begun, notAwaited, nothing, full, unwanted, readWrapped, readSequence, place, readSet, readMany, choose, readBody, readKind, readValue, readMessage}
-use Rattle.coding.specs.Calls.{valueCause, messageCause, afterReading, readOutcome, afterJudging, writeOutcome, afterCheck, wholeWrite, wholeRead, checkAnswer}
-use Rattle.coding.specs.Outcome.{Outcome, Told, done, refusal, numberOf, placeOf}
+use Rattle.coding.specs.Calls.{afterReading, readOutcome, afterJudging, writeOutcome, afterCheck, wholeWrite, wholeRead, checkAnswer}
+use Rattle.coding.specs.Outcome.{Outcome, Told, done, refusal}
 
 -- at most 64 octets as one hexadecimal number; the first is not 00
 abbrev hex : ℕ → List ℕ
@@ -85,7 +86,7 @@ said (Said.no n p) buf = 1 ∷ n ∷ p ∷ buf
 
 abbrev told : Told → List ℕ → List ℕ
 told (done n) buf = 0 ∷ n ∷ buf
-told (refusal r) buf = 1 ∷ numberOf r ∷ placeOf r ∷ buf
+told (refusal c p) buf = 1 ∷ causeNumber c ∷ p ∷ buf
 
 abbrev agree : Outcome → Said → List ℕ → Bool
 agree o x buf = same (told (o .answer) (o .buffer)) (said x buf)
@@ -206,5 +207,5 @@ examples =
 
 -- every row comes out as it is said
 pub examples-right : wrong 0 examples ≡ []
-unfolding if then behind none-left any all joined tabulate lowestFrom same leading following identifier number digits lengthOctets item negative pile integerOf spare minimal eight fewest unused masked readFollowing readIdentifier fit readLong readLength atEnd readHeader inside readConstructed contents readPrimitive references isChoice universal constructed kind rising bodyBelow tagsBelow parts members tagsAt numbersAt membersAt everyAt bodyAt recordAt countedEnd enumeratedEnd membersEnd ownEnd recordEnd scanFrom scan look round rounds found dangling wrongTags reachStep circular sameTag tagBegins firstStep firstOfBoth share pair sharing finiteBody finiteStep infinite judgeChoices judge verdict slots bag leafOctets count presence octets listed identifierOf last before explicitTags own explicit allowed encode element alternatives formMembers formElements formBody wrap formAt need flags ownMembers ownCount ownBoolean ownInteger ownString ownBits ownEnumerated ownChoice readOwn readNode leafKind nodeKind numbers leafAgrees agreeing counts agrees judgeMembers judgeElements judgeBelow judgeValue judgeWhole beginsBody beginsItem beginsIn begins isListed decode passes begun notAwaited nothing full unwanted readWrapped readSequence place readSet readMany choose readBody readKind readValue readMessage valueCause messageCause afterReading readOutcome afterJudging writeOutcome afterCheck wholeWrite wholeRead checkAnswer
+unfolding if then behind none-left any all joined tabulate lowestFrom same leading following identifier number digits lengthOctets item negative pile integerOf spare minimal eight fewest unused masked readFollowing readIdentifier fit readLong readLength atEnd readHeader inside readConstructed contents readPrimitive references isChoice universal constructed kind rising bodyBelow tagsBelow parts members tagsAt numbersAt membersAt everyAt bodyAt recordAt countedEnd enumeratedEnd membersEnd ownEnd recordEnd scanFrom scan look round rounds found dangling wrongTags reachStep circular sameTag tagBegins firstStep firstOfBoth share pair sharing finiteBody finiteStep infinite judgeChoices judge verdict slots bag leafOctets count presence octets listed identifierOf last before explicitTags own explicit allowed encode element alternatives formMembers formElements formBody wrap formAt need flags ownMembers ownCount ownBoolean ownInteger ownString ownBits ownEnumerated ownChoice readOwn readNode leafKind nodeKind numbers leafAgrees agreeing counts agrees judgeMembers judgeElements judgeBelow judgeValue judgeWhole beginsBody beginsItem beginsIn begins isListed decode passes begun notAwaited nothing full unwanted readWrapped readSequence place readSet readMany choose readBody readKind readValue readMessage afterReading readOutcome afterJudging writeOutcome afterCheck wholeWrite wholeRead checkAnswer
 examples-right = refl

@@ -1,4 +1,4 @@
--- Every refusal in reading and judging has one of the numbers of its stage, and a place within what was handed in.
+-- Every refusal in reading and judging has one of the causes of its stage, and a place within what was handed in.
 -- Assumes nothing.
 use mathlib.Core.Bool.{Bool, true, false}
 use mathlib.Core.List.{List, [], _∷_, _++_}
@@ -8,6 +8,7 @@ use native.Mathlib.Omega.{arith}
 use Prim.Native.Nat.{ℕ, zero, suc, _+_, _-_, _≤_, _<_}
 use lib.ListN.{length, take, drop, length-append}
 use lib.Seq.{length-take-le}
+use Rattle.octets.specs.declared.cause.Cause.{Cause}
 use Rattle.octets.specs.Answer.{Answer, got, refused, then, if, behind}
 use Rattle.octets.specs.Permutations.{AllOctets, Order, as-given}
 use Rattle.octets.proofs.Answer.{Holds, yields, if-holds, then-holds, map-holds, got-holds, Taken}
@@ -23,18 +24,17 @@ use Rattle.coding.specs.Reading.{decode, notAwaited, unwanted, nothing, 
 use Rattle.coding.specs.Tags.{own, explicit}
 use Rattle.coding.specs.Encodes.{Coding, Codes, is-plain, is-sequence, is-set, is-sequence-of, is-set-of, is-choice, Wrapped, bare, tagged, EncodesAt}
 use Rattle.coding.specs.Judging.{Node, a-leaf, a-sequence, a-set, a-sequence-of, a-set-of, a-choice, need, ownMembers, ownCount, ownBoolean, ownInteger, ownString, ownBits, ownEnumerated, ownChoice, readOwn, readNode, judgeMembers, judgeElements, judgeBelow, judgeValue, judgeWhole}
-use Rattle.coding.specs.Causes.{valueNumber, valuePlace, messageNumber, messagePlace, OfMessage, is-22, is-23, is-24, is-25, is-26, is-28, OfValue, is-11, is-12, is-13}
-use Rattle.coding.specs.Calls.{valueCause, messageCause}
+use Rattle.coding.specs.Causes.{OfMessage, is-22, is-23, is-24, is-25, is-26, is-28, OfValue, is-11, is-12, is-13}
 use Rattle.coding.proofs.Sound.{wrapped-sound, kind-sound, value-sound, not-awaited}
 use Rattle.coding.proofs.Nodes.{nodeOctets, node-sound}
 use Rattle.coding.proofs.Judging.{judge-sound}
 
--- An answer that refuses names a number that K allows, and a place where at most n octets are left.
-pub data Speaks {A : Type 0} (K : ℕ → Type 0) (n : ℕ) : Answer A → Type 0 where
+-- An answer that refuses names a cause that K allows, and a place where at most n octets are left.
+pub data Speaks {A : Type 0} (K : Cause → Type 0) (n : ℕ) : Answer A → Type 0 where
   answers : {a : A} {r : List ℕ} → Speaks K n (got a r)
-  names : {c l : ℕ} → K c → l ≤ n → Speaks K n (refused c l)
+  names : {c : Cause} {l : ℕ} → K c → l ≤ n → Speaks K n (refused c l)
 
-module _ {K : ℕ → Type 0} where
+module _ {K : Cause → Type 0} where
   then-speaks : {A B : Type 0} {n : ℕ} {x : Answer A} {f : A → List ℕ → Answer B} → Speaks K n x → ((a : A) (r : List ℕ) → x ≡ got a r → Speaks K n (f a r)) → Speaks K n (then x f)
   unfolding then
   then-speaks (answers {a = a} {r = r}) k = k a r refl
@@ -55,7 +55,7 @@ module _ {K : ℕ → Type 0} where
   wider (names {l = l} c k) h = names {l = l} c (omega arith)
 
   -- at the place itself
-  here : {A : Type 0} {n c : ℕ} → K c → Speaks {A = A} K n (refused c n)
+  here : {A : Type 0} {n : ℕ} {c : Cause} → K c → Speaks {A = A} K n (refused c n)
   here {n = n} c = names {l = n} c (omega arith)
 
 abbrev pub Says : {A : Type 0} → ℕ → Answer A → Type 0
@@ -388,20 +388,3 @@ whole-says T n t b o =
     then-speaks (judge-says T n t b o) λ v r e.
     let y = suffix (octets v) r (got-holds (judge-sound T n t b o) e .cut) o in
     if-speaks _ (λ f. names {l = length r} is-11 (y .1)) λ f _. answers
-
--- the enums say these numbers and places
-
-pub message-cause : {c : ℕ} (p : ℕ) → OfMessage c → (messageNumber (messageCause c p) ≡ c) × (messagePlace (messageCause c p) ≡ p)
-unfolding messageCause if
-message-cause p is-22 = (refl, refl)
-message-cause p is-23 = (refl, refl)
-message-cause p is-24 = (refl, refl)
-message-cause p is-25 = (refl, refl)
-message-cause p is-26 = (refl, refl)
-message-cause p is-28 = (refl, refl)
-
-pub value-cause : {c : ℕ} (p : ℕ) → OfValue c → (valueNumber (valueCause c p) ≡ c) × (valuePlace (valueCause c p) ≡ p)
-unfolding valueCause if
-value-cause p is-11 = (refl, refl)
-value-cause p is-12 = (refl, refl)
-value-cause p is-13 = (refl, refl)

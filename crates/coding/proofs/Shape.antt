@@ -9,6 +9,7 @@ use mathlib.Core.Path.{_≡_, refl, sym, ap, _∙_}
 use native.Mathlib.Omega.{arith}
 use Prim.Native.Nat.{ℕ, zero, suc, _≤_, _+_, _-_}
 use lib.ListN.{length, length-append}
+use Rattle.octets.specs.declared.cause.Cause.the-variants.{ValueShape}
 use Rattle.octets.specs.Answer.{Answer, got, none-left, refused, then, if}
 use Rattle.octets.specs.Numbers.{Octets}
 use Rattle.octets.specs.Lists.{any}
@@ -56,14 +57,14 @@ anyBody (a-choice i) = Choice (zeros i)
 
 -- a tree of at most n levels
 unfoldable pub shapeValue : ℕ → List ℕ → Answer Value
-shapeValue zero s = refused 11 (length s)
+shapeValue zero s = refused ValueShape (length s)
 shapeValue (suc n) s = then (readNode s) λ x s₁. judgeBelow (λ u w. shapeValue n w) (anyBody x) x s₁
 
 -- the whole, with nothing left behind it; a tree has no more levels than octets
 unfoldable pub shapeWhole : List ℕ → Answer Value
 shapeWhole s =
     then (shapeValue (length s) s) λ v r.
-    if (not (none-left r)) (refused 11 (length r)) λ _. got v r
+    if (not (none-left r)) (refused ValueShape (length r)) λ _. got v r
 
 any-agreeing : (bs : List Bool) → agreeing (anyMembers bs) bs ≡ true
 unfolding agreeing anyMembers

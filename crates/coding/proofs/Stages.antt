@@ -9,39 +9,37 @@ use native.Mathlib.Omega.{arith}
 use Prim.Native.Nat.{ℕ, _≤_, _<_}
 use lib.Dec.{ltb}
 use lib.ListN.{length}
+use Rattle.octets.specs.declared.cause.Cause.{Cause}
+use Rattle.octets.specs.declared.cause.Cause.the-variants.{NoType}
+use Rattle.octets.specs.Causes.{causeNumber}
 use Rattle.octets.specs.Answer.{if}
 use Rattle.octets.specs.Numbers.{Octets}
 use Rattle.octets.proofs.Answer.{run, if-cases}
 use Rattle.octets.proofs.Tests.{test}
 use Rattle.table.specs.Syntax.{Record, Table, table}
-use Rattle.table.specs.Cause.{number, Cause, FirstCause}
+use Rattle.table.specs.Cause.{FirstCause}
 use Rattle.table.specs.Reading.{scan, look}
 use Rattle.table.specs.Verdict.{verdict}
-use Rattle.table.specs.declared.TableCause.{TableCause}
-use Rattle.table.specs.declared.TableCause.the-variants.{NoType}
 use Rattle.table.specs.declared.Verdict.{Verdict}
 use Rattle.table.specs.declared.Verdict.the-variants.{Passed, Refused}
-use Rattle.table.proofs.Theorems.{records-found, named-first, first-named, passed-none, none-passed, passed-records}
-use Rattle.coding.specs.Outcome.{of-table, refusal, Outcome, refuse, Told}
+use Rattle.table.proofs.Theorems.{records-found, table-cause, named-first, first-named, passed-none, none-passed, passed-records}
+use Rattle.coding.specs.Outcome.{Outcome, refuse, Told}
 use Rattle.coding.specs.Calls.{afterCheck}
 use Rattle.coding.specs.Demands.{Accepted, NoSuchType, OfType}
-use Rattle.coding.proofs.Outcomes.{Beyond, Unchanged}
-
-same-table : {c d : TableCause} {b w : List ℕ} → refuse (of-table c) b ≡ refuse (of-table d) w → c ≡ d
-same-table e = let z : refusal (of-table _) ≡ refusal (of-table _) = ap (λ (o : Outcome). o .answer) e in cc
+use Rattle.coding.proofs.Outcomes.{Beyond, Unchanged, same-refusal}
 
 -- g is what a call does with the records by number, once it has found the type among them
 module _ (b : List ℕ) (t : ℕ) (buf : List ℕ) (g : Table → Outcome) where
   abbrev pub step : Table → ℕ → Outcome
-  step T n = if (not (ltb t n)) (refuse (of-table NoType) buf) λ _. g T
+  step T n = if (not (ltb t n)) (refuse NoType 0 buf) λ _. g T
 
   abbrev pub call : Outcome
   call = afterCheck b buf step (verdict b)
 
   module _ (o : Octets b) where
-    call-refused : (c : TableCause) → FirstCause b c → call ≡ refuse (of-table c) buf
+    call-refused : (c : Cause) (p : ℕ) → FirstCause b c p → call ≡ refuse c p buf
     unfolding afterCheck
-    call-refused c x = ap (afterCheck b buf step) (first-named b o c x)
+    call-refused c p x = ap (afterCheck b buf step) (first-named b o c p x)
 
     call-accepted : {rs : List Record} → Accepted b rs → call ≡ step (table rs) (length rs)
     unfolding afterCheck
@@ -49,7 +47,7 @@ module _ (b : List ℕ) (t : ℕ) (buf : List ℕ) (g : Table → Outcome) where
         let f = records-found o (a .spells) in
         ap (afterCheck b buf step) (none-passed b o (a .no-cause)) ∙ rw (f .2, f .1)
 
-    call-unknown : {rs : List Record} → Accepted b rs → length rs ≤ t → call ≡ refuse (of-table NoType) buf
+    call-unknown : {rs : List Record} → Accepted b rs → length rs ≤ t → call ≡ refuse NoType 0 buf
     call-unknown {rs} a h = call-accepted a ∙ simp (run, le-ltb t (length rs) h)
 
     pub call-found : {rs : List Record} → Accepted b rs → t < length rs → call ≡ g (table rs)
@@ -57,7 +55,7 @@ module _ (b : List ℕ) (t : ℕ) (buf : List ℕ) (g : Table → Outcome) where
 
     -- how far a call comes
     data Stage : Type 0 where
-      at-table : (c : TableCause) → FirstCause b c → Stage
+      at-table : (c : Cause) (p : ℕ) → FirstCause b c p → Stage
       at-type : NoSuchType b t → Stage
       at-records : (rs : List Record) → Accepted b rs → t < length rs → Stage
 
@@ -65,7 +63,7 @@ module _ (b : List ℕ) (t : ℕ) (buf : List ℕ) (g : Table → Outcome) where
     stage = by (verdict b) refl
       where
         by : (v : Verdict) → verdict b ≡ v → Stage
-        by (Refused c) e = at-table c (named-first b o c e)
+        by (Refused c p) e = at-table c p (named-first b o c p e)
         by Passed e =
             let x = passed-records b o e in
             let a : Accepted b (x .0) = record { spells = x .1; no-cause = passed-none b o e } in
@@ -77,8 +75,9 @@ module _ (b : List ℕ) (t : ℕ) (buf : List ℕ) (g : Table → Outcome) where
     found-exactly x far = (λ e. from stage e, λ r. call-found (r .accepted) (r .there) ∙ r .holds)
       where
         from : Stage → call ≡ x → OfType b t (λ T. g T ≡ x)
-        from (at-table c f) e = absurd (far c (ap (λ (o : Outcome). o .answer) (sym e ∙ call-refused c f)))
-        from (at-type f) e = absurd (far NoType (ap (λ (o : Outcome). o .answer) (sym e ∙ call-unknown (f .accepted) (f .beyond))))
+        from (at-table c p f) e =
+            let k = table-cause (f .holds) in absurd (far c p (omega arith) (ap (λ (o : Outcome). o .answer) (sym e ∙ call-refused c p f)))
+        from (at-type f) e = absurd (far NoType 0 (omega arith) (ap (λ (o : Outcome). o .answer) (sym e ∙ call-unknown (f .accepted) (f .beyond))))
         from (at-records rs a h) e = record { records = rs; accepted = a; there = h; holds = sym (call-found a h) ∙ e }
 
     -- an answer that none of the stages gives
@@ -93,33 +92,37 @@ module _ (b : List ℕ) (t : ℕ) (buf : List ℕ) (g : Table → Outcome) where
 
     module _ (far : (T : Table) → Beyond (g T)) where
       -- 1 to 6
-      pub table-exactly : (c : TableCause) → number c < 7 → (call ≡ refuse (of-table c) buf) ↔ FirstCause b c
-      table-exactly c k = (λ e. from stage e, call-refused c)
+      pub table-exactly : (c : Cause) (p : ℕ) → causeNumber c < 7 → (call ≡ refuse c p buf) ↔ FirstCause b c p
+      table-exactly c p k = (λ e. from stage e, call-refused c p)
         where
-          not-7 : NoType ≡ c → FirstCause b c
-          not-7 z = let h : 7 ≡ number c = ap number z in absurd (omega arith)
+          not-7 : NoType ≡ c → FirstCause b c p
+          not-7 z = let h : 7 ≡ causeNumber c = ap causeNumber z in absurd (omega arith)
 
-          from : Stage → call ≡ refuse (of-table c) buf → FirstCause b c
-          from (at-table d f) e = subst (FirstCause b) (same-table (sym (call-refused d f) ∙ e)) f
-          from (at-type f) e = not-7 (same-table (sym (call-unknown (f .accepted) (f .beyond)) ∙ e))
-          from (at-records rs a h) e = absurd (far (table rs) c (ap (λ (o : Outcome). o .answer) (sym (call-found a h) ∙ e)))
+          from : Stage → call ≡ refuse c p buf → FirstCause b c p
+          from (at-table d q f) e = let s = same-refusal (sym (call-refused d q f) ∙ e) in rw (← s .0, ← s .1) f
+          from (at-type f) e = not-7 (same-refusal (sym (call-unknown (f .accepted) (f .beyond)) ∙ e) .0)
+          from (at-records rs a h) e = absurd (far (table rs) c p (omega arith) (ap (λ (o : Outcome). o .answer) (sym (call-found a h) ∙ e)))
 
       -- 7
-      pub type-exactly : (call ≡ refuse (of-table NoType) buf) ↔ NoSuchType b t
-      type-exactly = (λ e. from stage e, λ x. call-unknown (x .accepted) (x .beyond))
+      pub type-exactly : (p : ℕ) → (call ≡ refuse NoType p buf) ↔ (NoSuchType b t × (p ≡ 0))
+      type-exactly p = (λ e. from stage e, λ x. call-unknown (x .0 .accepted) (x .0 .beyond) ∙ ap (λ (j : ℕ). refuse NoType j buf) (sym (x .1)))
         where
-          from : Stage → call ≡ refuse (of-table NoType) buf → NoSuchType b t
-          from (at-table d f) e = absurd (subst (Cause b) (same-table (sym (call-refused d f) ∙ e)) (f .holds))
-          from (at-type f) e = f
-          from (at-records rs a h) e = absurd (far (table rs) NoType (ap (λ (o : Outcome). o .answer) (sym (call-found a h) ∙ e)))
+          from : Stage → call ≡ refuse NoType p buf → NoSuchType b t × (p ≡ 0)
+          from (at-table d q f) e =
+              let s : d ≡ NoType = same-refusal (sym (call-refused d q f) ∙ e) .0 in
+              let h : causeNumber d ≡ 7 = ap causeNumber s in
+              let k = table-cause (f .holds) in
+              absurd (omega arith)
+          from (at-type f) e = (f, sym (same-refusal (sym (call-unknown (f .accepted) (f .beyond)) ∙ e) .1))
+          from (at-records rs a h) e = absurd (far (table rs) NoType p (omega arith) (ap (λ (o : Outcome). o .answer) (sym (call-found a h) ∙ e)))
 
   step-unchanged : ((T : Table) → Unchanged buf (g T)) → (T : Table) (n : ℕ) → Unchanged buf (step T n)
-  step-unchanged f T n = if-cases (Unchanged buf) (not (ltb t n)) _ _ (λ e r z. refl) λ e. f T
+  step-unchanged f T n = if-cases (Unchanged buf) (not (ltb t n)) _ _ (λ e c p z. refl) λ e. f T
 
   after-unchanged : ((T : Table) → Unchanged buf (g T)) → (v : Verdict) → Unchanged buf (afterCheck b buf step v)
   unfolding afterCheck
   after-unchanged f Passed = step-unchanged f (look b (scan b .offsets)) (length (scan b .offsets))
-  after-unchanged f (Refused c) = λ r z. refl
+  after-unchanged f (Refused c p) = λ d q z. refl
 
   -- a refusal leaves the buffer as it was, whatever the octets are
   pub call-unchanged : ((T : Table) → Unchanged buf (g T)) → Unchanged buf call

@@ -5,11 +5,12 @@ use mathlib.Core.List.{List, _++_}
 use mathlib.Core.Path.{_≡_}
 use Prim.Native.Nat.{ℕ, _-_, _≤_, _<_, min}
 use lib.ListN.{length, drop}
+use Rattle.octets.specs.declared.cause.Cause.{Cause}
+use Rattle.octets.specs.declared.cause.Cause.the-variants.{ValueShape, MessageRoom}
 use Rattle.octets.specs.Answer.{refused}
 use Rattle.table.specs.Syntax.{Record, Table, table}
 use Rattle.table.specs.Octets.{Spells}
-use Rattle.table.specs.Cause.{Cause}
-use Rattle.table.specs.declared.TableCause.{TableCause}
+use Rattle.table.specs.Cause.{Breaks}
 use Rattle.coding.specs.Value.{Value, octets, depth}
 use Rattle.coding.specs.Encodes.{Encodes, Arrives}
 use Rattle.coding.specs.Typed.{WellTyped}
@@ -18,16 +19,12 @@ use Rattle.coding.specs.Equivalent.{Equivalent}
 use Rattle.coding.specs.Form.{formAt}
 use Rattle.coding.specs.Judging.{judgeWhole}
 use Rattle.coding.specs.Reading.{readMessage}
-use Rattle.coding.specs.Causes.{valueNumber, valuePlace, messageNumber, messagePlace}
-use Rattle.coding.specs.Outcome.{levels, longestValue, longestMessage, Outcome, done, refuse, write-at-start, of-value}
-use Rattle.coding.specs.declared.ValueCause.{ValueCause}
-use Rattle.coding.specs.declared.ValueCause.the-variants.{Shape, Room as RoomV}
-use Rattle.coding.specs.declared.MessageCause.{MessageCause}
+use Rattle.coding.specs.Outcome.{levels, longestValue, longestMessage, Outcome, done, refuse, write-at-start}
 
 -- A table that is not refused: b are the octets of the records rs, and none of the causes 1 to 6 holds of b.
 pub record Accepted (b : List ℕ) (rs : List Record) : Type 0 where
   pub spells : Spells b rs
-  pub no-cause : (c : TableCause) → Cause b c → ⊥
+  pub no-cause : (c : Cause) (p : ℕ) → Breaks b p c → ⊥
 
 -- 7: the table is not refused, and the type is none of its records.
 pub record NoSuchType (b : List ℕ) (t : ℕ) : Type 0 where
@@ -42,13 +39,13 @@ pub record OfType (b : List ℕ) (t : ℕ) (P : Table → Type 0) : Type 0 where
   pub there : t < length records
   pub holds : P (table records)
 
--- 22 to 26, 28: the message is not over-long, and the reading of it refuses with this number, so many octets before its end.
-pub record MessageRefused (T : Table) (t : ℕ) (m : List ℕ) (k : MessageCause) : Type 0 where
+-- 22 to 26, 28: the message is not over-long, and the reading of it refuses for this cause, so many octets before its end.
+pub record MessageRefused (T : Table) (t : ℕ) (m : List ℕ) (c : Cause) (p : ℕ) : Type 0 where
   pub within : length m ≤ longestMessage
   pub left : ℕ
   pub inside : left ≤ length m
-  pub reading : readMessage T levels t m ≡ refused (messageNumber k) left
-  pub place : messagePlace k ≡ length m - left
+  pub reading : readMessage T levels t m ≡ refused c left
+  pub place : p ≡ length m - left
 
 -- 27: the message is accepted, and its value is longer than the buffer or 16,384 octets.
 pub record NoRoomForValue (T : Table) (t : ℕ) (m buf : List ℕ) : Type 0 where
@@ -72,10 +69,10 @@ pub record Read (T : Table) (t : ℕ) (m buf : List ℕ) (k : ℕ) (after : List
   pub told : k ≡ length (octets value)
   pub buffer : after ≡ octets value ++ drop (length (octets value)) buf
 
--- 11 to 13: the value is over-long, which is 11 at its first octet; or the judging of it refuses with this number, so many octets before its end.
-pub data ValueRefused (T : Table) (t : ℕ) (v : List ℕ) (k : ValueCause) : Type 0 where
-  over-long : longestValue < length v → k ≡ Shape 0 → ValueRefused T t v k
-  as-judged : (left : ℕ) → length v ≤ longestValue → left ≤ length v → judgeWhole T levels t v ≡ refused (valueNumber k) left → valuePlace k ≡ length v - left → ValueRefused T t v k
+-- 11 to 13: the value is over-long, which is 11 at its first octet; or the judging of it refuses for this cause, so many octets before its end.
+pub data ValueRefused (T : Table) (t : ℕ) (v : List ℕ) (c : Cause) (p : ℕ) : Type 0 where
+  over-long : longestValue < length v → c ≡ ValueShape → p ≡ 0 → ValueRefused T t v c p
+  as-judged : (left : ℕ) → length v ≤ longestValue → left ≤ length v → judgeWhole T levels t v ≡ refused c left → p ≡ length v - left → ValueRefused T t v c p
 
 -- 14: the octets are those of a value of the type, and its form is longer than the buffer or 8,192 octets.
 pub record NoRoomForMessage (T : Table) (t : ℕ) (v buf : List ℕ) : Type 0 where
@@ -119,5 +116,5 @@ pub record Received (T : Table) (t : ℕ) (v : Value) (m buf : List ℕ) (x : Ou
 -- length it tells, is that form, and one of the permitted encodings.
 pub record Sent (T : Table) (t : ℕ) (v : Value) (buf : List ℕ) (x : Outcome) : Type 0 where
   pub when-it-fits : length (formAt T levels t v) ≤ longestMessage → length (formAt T levels t v) ≤ length buf → x ≡ write-at-start (formAt T levels t v) buf
-  pub else-14 : min longestMessage (length buf) < length (formAt T levels t v) → x ≡ refuse (of-value RoomV) buf
+  pub else-14 : min longestMessage (length buf) < length (formAt T levels t v) → x ≡ refuse MessageRoom 0 buf
   pub encodes : length (formAt T levels t v) ≤ longestMessage → Encodes T t v (formAt T levels t v)

@@ -7,6 +7,7 @@ use mathlib.Core.Option.{Option, some, none}
 use Prim.Native.Nat.{ℕ, zero, suc, _+_, _-_, _*_, _/_}
 use lib.Dec.{ltb, leb, eqb}
 use lib.ListN.{length, getD, take, drop}
+use Rattle.octets.specs.declared.cause.Cause.the-variants.{ValueShape, IllTyped, ValueLevel}
 use Rattle.octets.specs.Answer.{Answer, got, refused, then, if, none-left}
 use Rattle.octets.specs.Numbers.{two}
 use Rattle.octets.specs.Lists.{all, same}
@@ -30,7 +31,7 @@ pub data Node : Type 0 where
 
 -- the first k octets, if so many are there; l octets are left where the node begins
 unfoldable pub need : {A : Type 0} → ℕ → ℕ → List ℕ → (Unit {0} → Answer A) → Answer A
-need l k s x = if (not (leb k (length s))) (refused 11 l) x
+need l k s x = if (not (leb k (length s))) (refused ValueShape l) x
 
 -- presence octets: 1 for a member that is there, 0 for one that is missing
 unfoldable pub flags : List ℕ → List Bool
@@ -41,7 +42,7 @@ unfoldable pub ownMembers : (List Bool → Node) → ℕ → List ℕ → Answer
 ownMembers f l s =
     need l 1 s λ _.
     need l (getD s 0 0) (drop 1 s) λ _.
-    if (not (all (λ b. ltb b 2) (take (getD s 0 0) (drop 1 s)))) (refused 11 l) λ _.
+    if (not (all (λ b. ltb b 2) (take (getD s 0 0) (drop 1 s)))) (refused ValueShape l) λ _.
     got (f (flags (take (getD s 0 0) (drop 1 s)))) (drop (getD s 0 0) (drop 1 s))
 
 unfoldable pub ownCount : (ℕ → Node) → ℕ → List ℕ → Answer Node
@@ -50,7 +51,7 @@ ownCount f l s = need l 2 s λ _. got (f (two s 0)) (drop 2 s)
 unfoldable pub ownBoolean : ℕ → List ℕ → Answer Node
 ownBoolean l s =
     need l 1 s λ _.
-    if (not (ltb (getD s 0 0) 2)) (refused 11 l) λ _.
+    if (not (ltb (getD s 0 0) 2)) (refused ValueShape l) λ _.
     got (a-leaf (boolean (eqb (getD s 0 0) 1))) (drop 1 s)
 
 unfoldable pub ownInteger : ℕ → List ℕ → Answer Node
@@ -74,7 +75,7 @@ unfoldable pub ownBits : ℕ → List ℕ → Answer Node
 ownBits l s =
     need l 2 s λ _.
     need l (octetsFor (two s 0)) (drop 2 s) λ _.
-    if (not (same (masked (spareIn (two s 0)) (take (octetsFor (two s 0)) (drop 2 s))) (take (octetsFor (two s 0)) (drop 2 s)))) (refused 11 l) λ _.
+    if (not (same (masked (spareIn (two s 0)) (take (octetsFor (two s 0)) (drop 2 s))) (take (octetsFor (two s 0)) (drop 2 s)))) (refused ValueShape l) λ _.
     got (a-leaf (bits (spareIn (two s 0)) (take (octetsFor (two s 0)) (drop 2 s)))) (drop (octetsFor (two s 0)) (drop 2 s))
 
 unfoldable pub ownEnumerated : ℕ → List ℕ → Answer Node
@@ -97,14 +98,14 @@ readOwn l k s =
     if (eqb k 48) (ownCount a-sequence-of l s) λ _.
     if (eqb k 49) (ownCount a-set-of l s) λ _.
     if (eqb k 50) (ownChoice l s) λ _.
-    refused 11 l
+    refused ValueShape l
 
 -- the mark 56 41, the kind, and the own part of that kind
 unfoldable pub readNode : List ℕ → Answer Node
 readNode s =
     need (length s) 3 s λ _.
-    if (not (eqb (getD s 0 0) 0x56)) (refused 11 (length s)) λ _.
-    if (not (eqb (getD s 1 0) 0x41)) (refused 11 (length s)) λ _.
+    if (not (eqb (getD s 0 0) 0x56)) (refused ValueShape (length s)) λ _.
+    if (not (eqb (getD s 1 0) 0x41)) (refused ValueShape (length s)) λ _.
     readOwn (length s) (getD s 2 0) (drop 3 s)
 
 unfoldable pub leafKind : Leaf → ℕ
@@ -188,14 +189,14 @@ module _ (r : ℕ → List ℕ → Answer Value) where
 
 -- the node's own octets first (11), then its level (13), then its type (12); n levels are left
 unfoldable pub judgeValue : Table → ℕ → ℕ → List ℕ → Answer Value
-judgeValue T zero t s = then (readNode s) λ x s₁. refused 13 (length s)
+judgeValue T zero t s = then (readNode s) λ x s₁. refused ValueLevel (length s)
 judgeValue T (suc n) t s =
     then (readNode s) λ x s₁.
-    if (not (agrees (T t .body) x)) (refused 12 (length s)) λ _.
+    if (not (agrees (T t .body) x)) (refused IllTyped (length s)) λ _.
     judgeBelow (λ u w. judgeValue T n u w) (T t .body) x s₁
 
 -- the whole: octets behind the tree are 11 at the first of them
 unfoldable pub judgeWhole : Table → ℕ → ℕ → List ℕ → Answer Value
 judgeWhole T n t s =
     then (judgeValue T n t s) λ v r.
-    if (not (none-left r)) (refused 11 (length r)) λ _. got v r
+    if (not (none-left r)) (refused ValueShape (length r)) λ _. got v r

@@ -1,12 +1,9 @@
 -- The outcomes of check, write and read: the answer, and what the lent buffer then holds (FORMATS, "Refusals" and "Limits").
 -- Assumes nothing.
 use mathlib.Core.List.{List, _++_}
-use Prim.Native.Nat.{ℕ, _-_}
+use Prim.Native.Nat.{ℕ}
 use lib.ListN.{length, drop}
-use Rattle.table.specs.Cause.{number as tableNumber, place as tablePlace}
-use Rattle.coding.specs.Causes.{valueNumber, valuePlace, messageNumber, messagePlace}
-pub use Rattle.coding.specs.declared.Refusal.{Refusal}
-pub use Rattle.coding.specs.declared.Refusal.the-variants.{Table as of-table, Value as of-value, Message as of-message}
+use Rattle.octets.specs.declared.cause.Cause.{Cause}
 pub use Rattle.coding.specs.declared.Answer.{Answer as Told}
 pub use Rattle.coding.specs.declared.Answer.the-variants.{Done as done, Refused as refusal}
 
@@ -20,24 +17,14 @@ longestValue = 16384
 abbrev pub longestMessage : ℕ
 longestMessage = 8192
 
-abbrev pub numberOf : Refusal → ℕ
-numberOf (of-table c) = tableNumber c
-numberOf (of-value c) = valueNumber c
-numberOf (of-message c) = messageNumber c
-
-abbrev pub placeOf : Refusal → ℕ
-placeOf (of-table c) = tablePlace c
-placeOf (of-value c) = valuePlace c
-placeOf (of-message c) = messagePlace c
-
 -- what is told, and what the lent buffer then holds; done tells the length written
 pub record Outcome : Type 0 where
   pub answer : Told
   pub buffer : List ℕ
 
 -- a refusal leaves the buffer as it was
-abbrev pub refuse : Refusal → List ℕ → Outcome
-refuse r buf = record { answer = refusal r; buffer = buf }
+abbrev pub refuse : Cause → ℕ → List ℕ → Outcome
+refuse c p buf = record { answer = refusal c p; buffer = buf }
 
 -- what is written stands at the start, and the rest is as it was
 abbrev pub write-at-start : List ℕ → List ℕ → Outcome

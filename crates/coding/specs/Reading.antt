@@ -8,6 +8,7 @@ use Prim.Native.Nat.{ℕ, zero, suc}
 use lib.ListN.{length, getD, drop}
 use lib.Dec.{leb, eqb}
 use lib.IntN.{ℤ, pos, negsuc}
+use Rattle.octets.specs.declared.cause.Cause.the-variants.{Cut, NotAwaited, Contents, Trailing, MessageLevel}
 use Rattle.octets.specs.Answer.{Answer, got, refused, then, if, none-left}
 use Rattle.ber.specs.Reading.{readIdentifier, Mode, atEnd, readConstructed, readPrimitive}
 use Rattle.ber.specs.Integer.{integerOf, minimal}
@@ -29,21 +30,21 @@ natural (negsuc k) = 0
 
 -- the leaf that contents carry, else 25; s stands behind the contents, and l octets are left where the item begins
 unfoldable pub decode : Simple → ℕ → List ℕ → List ℕ → Answer Leaf
-decode Boolean l c s = if (not (eqb (length c) 1)) (refused 25 l) λ _. got (boolean (not (eqb (getD c 0 0) 0))) s
+decode Boolean l c s = if (not (eqb (length c) 1)) (refused Contents l) λ _. got (boolean (not (eqb (getD c 0 0) 0))) s
 decode Integer l c s =
-    if (not (minimal c)) (refused 25 l) λ _.
-    if (not (leb (length c) 8)) (refused 25 l) λ _.
+    if (not (minimal c)) (refused Contents l) λ _.
+    if (not (leb (length c) 8)) (refused Contents l) λ _.
     got (integer (integerOf c)) s
 decode BitString l c s =
-    if (none-left c) (refused 25 l) λ _.
-    if (not (unused (getD c 0 0) (drop 1 c))) (refused 25 l) λ _.
+    if (none-left c) (refused Contents l) λ _.
+    if (not (unused (getD c 0 0) (drop 1 c))) (refused Contents l) λ _.
     got (bits (getD c 0 0) (masked (getD c 0 0) (drop 1 c))) s
 decode OctetString l c s = got (string c) s
-decode Null l c s = if (not (none-left c)) (refused 25 l) λ _. got null s
+decode Null l c s = if (not (none-left c)) (refused Contents l) λ _. got null s
 decode (Enumerated ns) l c s =
-    if (not (minimal c)) (refused 25 l) λ _.
-    if (not (leb (length c) 8)) (refused 25 l) λ _.
-    if (not (isListed ns (integerOf c))) (refused 25 l) λ _.
+    if (not (minimal c)) (refused Contents l) λ _.
+    if (not (leb (length c) 8)) (refused Contents l) λ _.
+    if (not (isListed ns (integerOf c))) (refused Contents l) λ _.
     got (enumerated (natural (integerOf c))) s
 
 -- the identifier octets that come next pass a test
@@ -57,7 +58,7 @@ begun T t s = passes (begins T t) (readIdentifier s)
 
 -- an item that is not awaited: 24, once its identifier octets are whole (22) and in form (23)
 unfoldable pub notAwaited : {A : Type 0} → List ℕ → Answer A
-notAwaited s = then (readIdentifier s) λ i s₁. refused 24 (length s)
+notAwaited s = then (readIdentifier s) λ i s₁. refused NotAwaited (length s)
 
 -- none of the members
 unfoldable pub nothing : List Member → List (Option Value)
@@ -73,16 +74,16 @@ full (some v ∷ os) = full os
 -- an item where those are awaited that the test says, or where nothing is
 unfoldable pub unwanted : {A : Type 0} → Bool → List ℕ → Answer A
 unwanted true s = notAwaited s
-unwanted false s = refused 26 (length s)
+unwanted false s = refused Trailing (length s)
 
 -- under an explicit tag stands one item, and nothing behind it
 unfoldable pub readWrapped : {A : Type 0} → List (List ℕ) → (List ℕ → Answer A) → List ℕ → Answer A
 readWrapped [] r s = r s
 readWrapped (i ∷ is) r s =
     readConstructed i (λ mode u.
-    atEnd mode u (λ _. refused 24 (length u)) λ _.
+    atEnd mode u (λ _. refused NotAwaited (length u)) λ _.
     then (readWrapped is r u) λ v w.
-    atEnd mode w (λ y. got v y) λ _. refused 26 (length w)) s
+    atEnd mode w (λ y. got v y) λ _. refused Trailing (length w)) s
 
 module _ (T : Table) (r : ℕ → List ℕ → Answer Value) where
   -- the members in the table's order; what comes may pass over optional ones, up to the next mandatory one. w: some were passed over
@@ -91,7 +92,7 @@ module _ (T : Table) (r : ℕ → List ℕ → Answer Value) where
   readSequence (m ∷ ms) os w mode s =
       if (begun T (m .type) s) (then (r (m .type) s) λ v s₁. readSequence ms (os ++ (some v ∷ [])) false mode s₁) λ _.
       if (m .optional) (readSequence ms (os ++ (none ∷ [])) true mode s) λ _.
-      atEnd mode s (λ u. refused 24 (length s)) λ _. notAwaited s
+      atEnd mode s (λ u. refused NotAwaited (length s)) λ _. notAwaited s
 
   -- one member of a SET, put where it belongs
   unfoldable pub place : List Member → List (Option Value) → List ℕ → Answer (List (Option Value))
@@ -104,15 +105,15 @@ module _ (T : Table) (r : ℕ → List ℕ → Answer Value) where
 
   -- the members in the order in which they come, each one once; os are those in hand
   unfoldable pub readSet : ℕ → List Member → List (Option Value) → Mode → List ℕ → Answer (List (Option Value))
-  readSet zero ms os mode s = refused 0 0
+  readSet zero ms os mode s = refused Cut 0
   readSet (suc k) ms os mode s =
-      atEnd mode s (λ u. if (allowed ms os) (got os u) λ _. refused 24 (length s)) λ _.
-      if (full os) (refused 26 (length s)) λ _.
+      atEnd mode s (λ u. if (allowed ms os) (got os u) λ _. refused NotAwaited (length s)) λ _.
+      if (full os) (refused Trailing (length s)) λ _.
       then (place ms os s) λ us s₁. readSet k ms us mode s₁
 
   -- the elements after those in hand: in a list one more is always awaited
   unfoldable pub readMany : ℕ → ℕ → Mode → List Value → List ℕ → Answer (List Value)
-  readMany zero t mode vs s = refused 0 0
+  readMany zero t mode vs s = refused Cut 0
   readMany (suc k) t mode vs s =
       atEnd mode s (λ u. got vs u) λ _.
       if (not (begun T t s)) (notAwaited s) λ _.
@@ -127,12 +128,12 @@ module _ (T : Table) (r : ℕ → List ℕ → Answer Value) where
 
   -- the contents of a constructed kind
   unfoldable pub readBody : Body → Mode → List ℕ → Answer Value
-  readBody (Plain k) mode s = refused 0 (length s)
+  readBody (Plain k) mode s = refused NotAwaited (length s)
   readBody (Sequence ms) mode s = then (readSequence ms [] false mode s) λ os s₁. got (sequence (slots os)) s₁
   readBody (Set ms) mode s = then (readSet (suc (length s)) ms (nothing ms) mode s) λ os s₁. got (set (slots os)) s₁
   readBody (SequenceOf t) mode s = then (readMany (suc (length s)) t mode [] s) λ vs s₁. got (sequenceOf (bag vs)) s₁
   readBody (SetOf t) mode s = then (readMany (suc (length s)) t mode [] s) λ vs s₁. got (setOf (bag vs)) s₁
-  readBody (Choice ts) mode s = refused 0 (length s)
+  readBody (Choice ts) mode s = refused NotAwaited (length s)
 
   -- the item of a kind, with the identifier octets i
   unfoldable pub readKind : List ℕ → Body → List ℕ → Answer Value
@@ -145,13 +146,13 @@ module _ (T : Table) (r : ℕ → List ℕ → Answer Value) where
 
 -- A value of a type where n levels are left. Its item has begun as its type does, so 28 comes after 24 and before the length.
 unfoldable pub readValue : Table → ℕ → ℕ → List ℕ → Answer Value
-readValue T zero t s = refused 28 (length s)
+readValue T zero t s = refused MessageLevel (length s)
 readValue T (suc n) t s = readWrapped (explicit (T t)) (readKind T (λ u w. readValue T n u w) (own (T t)) (T t .body)) s
 
 -- the message is one value: 22 if it is empty, 26 for octets behind the value
 unfoldable pub readMessage : Table → ℕ → ℕ → List ℕ → Answer Value
 readMessage T n t s =
-    if (none-left s) (refused 22 0) λ _.
+    if (none-left s) (refused Cut 0) λ _.
     if (not (begun T t s)) (notAwaited s) λ _.
     then (readValue T n t s) λ v r.
-    if (not (none-left r)) (refused 26 (length r)) λ _. got v r
+    if (not (none-left r)) (refused Trailing (length r)) λ _. got v r

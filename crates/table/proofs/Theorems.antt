@@ -4,7 +4,7 @@
 use mathlib.Core.Bool.{true}
 use mathlib.Core.List.{List}
 use mathlib.Core.Path.{_≡_, refl, sym, subst, _∙_}
-use Prim.Native.Nat.{ℕ, _≤_}
+use Prim.Native.Nat.{ℕ, _≤_, _<_}
 use native.Mathlib.Omega.{arith}
 use lib.Dec.{ltb}
 use lib.ListN.{length, take}
@@ -50,6 +50,10 @@ misshapen-once = misshapen-unique
 pub misshapen-no-records : {b : List ℕ} {rs : List Record} {p : ℕ} → Octets b → Spells b rs → Misshapen b p → ⊥
 misshapen-no-records = spells-not-misshapen
 
+-- The causes that hold of octets are 1 to 6.
+pub table-cause : {b : List ℕ} {p : ℕ} {c : Cause} → Breaks b p c → causeNumber c < 7
+table-cause x = stage x .1
+
 told : (b : List ℕ) → Octets b → (v : Verdict) → verdict b ≡ v → Right b v
 told b o v e = subst (Right b) e (right b o)
 
@@ -89,7 +93,7 @@ module _ (b : List ℕ) (o : Octets b) where
 
   -- 7 is no verdict on a table alone.
   pub never-no-type : (p : ℕ) → verdict b ≡ Refused NoType p → ⊥
-  never-no-type p e = let h = stage (named-first NoType p e .holds) .1 in omega arith
+  never-no-type p e = let h = table-cause (named-first NoType p e .holds) in omega arith
 
   -- Of the octets of records of which no cause holds, all that the crates above rely on: by the rules alone.
   pub rules-kept : {rs : List Record} → Spells b rs → ((c : Cause) (p : ℕ) → Breaks b p c → ⊥) → Passes b (table rs) (length rs)
