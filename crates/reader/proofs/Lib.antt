@@ -32,3 +32,4 @@ pub mod NodeStores
 pub mod LeafStores
 pub mod LeafKinds
 pub mod Locating
+pub mod Outcomes
