@@ -23,7 +23,8 @@ Says x r buf = (r ≡ x .answer) × (buf ≡ x .buffer)
 
 module _ (b : List ℕ) (x : Verdict) (is : x ≡ verdict b) where
   -- the table is refused
-  pub out-table : (buf : List ℕ) (f : Table → ℕ → Outcome) (k : TableCause) → x ≡ Refused k → Says (afterCheck b buf f (verdict b)) (refusal (of-table k)) buf
+  pub out-table : (buf : List ℕ) (f : Table → ℕ → Outcome) (k : TableCause) → x ≡ Refused k
+      → Says (afterCheck b buf f (verdict b)) (refusal (of-table k)) buf
   unfolding afterCheck
   out-table buf f k e = let q : verdict b ≡ Refused k = sym is ∙ e in (rw q, rw q)
 
@@ -39,6 +40,7 @@ module _ (b : List ℕ) (x : Verdict) (is : x ≡ verdict b) where
       pub table-ready : Octets b → Filled b index n × Passes b (tableIn b) n
       table-ready o = (filled, rw (filled .count) (passes b o passed))
 
-      pub out-passed : (buf : List ℕ) (f : Table → ℕ → Outcome) (r : Told) (w : List ℕ) → Says (f (tableIn b) n) r w → Says (afterCheck b buf f (verdict b)) r w
+      pub out-passed : (buf : List ℕ) (f : Table → ℕ → Outcome) (r : Told) (w : List ℕ) → Says (f (tableIn b) n) r w
+          → Says (afterCheck b buf f (verdict b)) r w
       unfolding afterCheck
       out-passed buf f r w s = let q = passed in let y = rw (filled .count) at s in (rw q (y .0), rw q (y .1))

@@ -2,26 +2,23 @@
 -- Assumes nothing.
 use mathlib.Core.Bool.{Bool, true, false, _&&_, _||_, true≢false}
 use mathlib.Core.List.{List}
-use mathlib.Core.Option.{some, none}
 use mathlib.Core.Path.{_≡_, refl, sym, ap, _∙_}
 use Prim.Native.Nat.{ℕ, _+_, _≤_, _<_, min}
 use native.Mathlib.Nat.{add-zero}
 use native.Mathlib.Omega.{arith}
 use borrow.Author.Tests.{eqb-true, eqb-false}
 use lib.Dec.{eqb}
-use lib.ListN.{length, getD, drop, set, length-drop}
+use lib.ListN.{length, getD, drop, set}
 use lib.Seq.{getD-drop}
-use Rattle.octets.specs.Answer.{got, none-left}
+use Rattle.octets.specs.Answer.{none-left}
 use Rattle.octets.proofs.Tests.{test}
-use Rattle.ber.specs.Reading.{readIdentifier}
 use Rattle.ber.specs.Skipping.{Skips}
 use Rattle.table.specs.Syntax.{Member, Plain, Sequence, Set, SequenceOf, SetOf, Choice, Table}
 use Rattle.table.specs.Entries.{unpacked, tableIn, countIn}
-use Rattle.coding.specs.Value.{Value}
 use Rattle.coding.specs.Reading.{readValue}
-use Rattle.coding.proofs.FirstTags.{Good, good}
+use Rattle.coding.proofs.FirstTags.{good}
 use Rattle.reader.specs.Items.{Holder, inside, message, Manner, in-turn, each-once, repeated, single, manner, partsOf, since, next, blank}
-use Rattle.reader.specs.Records.{Ready, Known, holderIn}
+use Rattle.reader.specs.Records.{Ready, Known}
 use Rattle.reader.specs.Sought.{held, Sound, tabledCount, Sought}
 use Rattle.reader.specs.Placing.{endAt, Spotted}
 use Rattle.reader.specs.declared.answer.Cause.{Cause}
@@ -33,7 +30,8 @@ use Rattle.reader.proofs.PlacedTurns.{overAt, awaited}
 use Rattle.reader.proofs.PlacedSpots.{Spotting, spotting-first, spotted, spotted-none, spotting-turn}
 
 -- one more of the members that did not come
-pub passed-more : (ns : List ℕ) (j k : ℕ) → ((i : ℕ) → j ≤ i → i < k → getD ns i 0 ≡ 0) → getD ns k 0 ≡ 0 → (i : ℕ) → j ≤ i → i < k + 1 → getD ns i 0 ≡ 0
+pub passed-more : (ns : List ℕ) (j k : ℕ) → ((i : ℕ) → j ≤ i → i < k → getD ns i 0 ≡ 0) → getD ns k 0 ≡ 0
+    → (i : ℕ) → j ≤ i → i < k + 1 → getD ns i 0 ≡ 0
 passed-more ns j k f z i l h =
     test (eqb i k) (λ e. rw (eqb-true i k e) z) λ e. f i l (omega (arith, eqb-false i k e))
 
@@ -49,7 +47,8 @@ module _ {b index : List ℕ} (R : Ready b index) {w : ℕ} (known : Known b ind
   its = entry-of R w known
 
   pub set-once : unpacked w .kind ≡ 17 → manner (held b w) ≡ each-once
-  set-once k = once-is (manner (held b w)) (sym (its .sequence) ∙ ap (λ (n : ℕ). eqb n 16) k) (sym (its .members) ∙ ap (λ (n : ℕ). eqb n 16 || eqb n 17) k)
+  set-once k =
+      once-is (manner (held b w)) (sym (its .sequence) ∙ ap (λ (n : ℕ). eqb n 16) k) (sym (its .members) ∙ ap (λ (n : ℕ). eqb n 16 || eqb n 17) k)
 
   -- what the search relies on
   pub set-sound : unpacked w .kind ≡ 17 → (came : List ℕ) → length came ≡ 16 → Sound b index w came
@@ -92,7 +91,8 @@ module _ {b index : List ℕ} (R : Ready b index) {w : ℕ} (known : Known b ind
   place-low k =
       let (ms, h) = the-members (held b w) (set-once R known k) in
       let (part, i, n, d, f, g, y) = found-is in
-      let A = awaited (tableIn b) (readValue (tableIn b) 24) (inside (Set ms)) 0 ns s (x .place, part) (omega arith) (sym (next-is b ns s (held b w) ms h) ∙ n) in
+      let z = sym (next-is b ns s (held b w) ms h) ∙ n in
+      let A = awaited (tableIn b) (readValue (tableIn b) 24) (inside (Set ms)) 0 ns s (x .place, part) (omega arith) z in
       omega (arith, A .most, set-few R known ms h)
 
   pub end-further : (end : ℕ) → min (x .from) (length s) ≤ end → 0 < end

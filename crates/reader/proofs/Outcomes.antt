@@ -30,7 +30,7 @@ use Rattle.coding.proofs.Refusals.{Speaks, answers, names, message-says}
 use Rattle.reader.specs.Answers.{cap, causeOf, causeNumber, told, size}
 use Rattle.reader.specs.Items.{message, readHeld}
 use Rattle.reader.specs.Records.{Ready}
-use Rattle.reader.specs.Placed.{Fits, heldIn}
+use Rattle.reader.specs.Placed.{Fits}
 use Rattle.reader.specs.declared.answer.Cause.{Cause}
 use Rattle.reader.specs.declared.answer.Judged.{Judged}
 use Rattle.reader.specs.declared.answer.Judged.the-variants.{Done, Refused}
@@ -91,7 +91,9 @@ module _ (T : Table) (n t : ℕ) (m buf : List ℕ) where
 
 module _ (T : Table) (t : ℕ) (m : List ℕ) (r : Judged) (p : r ≡ told m size (readMessage T 24 t m)) where
   pub refused-within : (c : Cause) (l : ℕ) → r ≡ Refused c l → l ≤ length m
-  refused-within c l e = let (k, x, y) = rw (← p, e) at (tells m (readMessage T 24 t m)) in speaks-low (readMessage T 24 t m) (message-says T 24 t m) k l x
+  refused-within c l e =
+      let (k, x, y) = rw (← p, e) at (tells m (readMessage T 24 t m)) in
+      speaks-low (readMessage T 24 t m) (message-says T 24 t m) k l x
 
   module _ (n : ℕ) (buf : List ℕ) (h : t < n) (l : length m ≤ 8192) where
     -- the outcome once the message is read

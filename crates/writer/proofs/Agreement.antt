@@ -1,181 +1,226 @@
--- A node against a record, by the node's kind.
+-- A constructed node against a record: its kind, the count and the presence of its members, its alternative.
 -- Assumes nothing.
-use mathlib.Core.Bool.{Bool, true, false, not, _&&_, _||_}
+use mathlib.Core.Bool.{Bool, true, false, _&&_, _||_, false≢true}
 use mathlib.Core.List.{List}
-use mathlib.Core.Logic.{_⊎_, inl, inr, ⊎-elim}
 use mathlib.Core.Path.{_≡_, refl, sym, ap, _∙_}
-use Prim.Native.Nat.{ℕ, zero, suc, _+_, _-_, _<_}
+use Prim.Native.Nat.{ℕ, zero, suc, _+_, _-_, _*_, _≤_, _<_}
 use native.Mathlib.Omega.{arith}
-use borrow.Author.Tests.{ne-eqb}
-use lib.Dec.{ltb, eqb}
+use borrow.Author.Tests.{eq-eqb, ne-eqb, eqb-true, eqb-false}
+use lib.Dec.{ltb, leb, eqb}
+use lib.IntN.{ℤ, pos}
 use lib.ListN.{length, getD}
-use Rattle.octets.proofs.Tests.{test, at}
-use Rattle.octets.specs.Numbers.{two}
-use Rattle.table.specs.Syntax.{Boolean, Integer, BitString, OctetString, Null, Enumerated, Body}
+use Rattle.octets.proofs.Tests.{test, at, or-by, or-false}
+use Rattle.octets.specs.Numbers.{Octets, two}
+use Rattle.table.specs.Syntax.{Enumerated, Plain}
 use Rattle.table.specs.Octets.{kind}
 use Rattle.table.specs.Rules.{members}
-use Rattle.table.specs.Reading.{numbersAt, membersAt, everyAt, bodyAt, ownAt, recordAt}
-use Rattle.table.specs.Fields.{formOf, Viewed, plain, sequence, set, sequence-of, set-of, choice}
-use Rattle.table.specs.declared.kind.Form.{Form}
-use Rattle.table.specs.declared.kind.Form.the-variants.{Simple as FSimple, Members as FMembers, Of as FOf, Choice as FChoice}
-use Rattle.table.proofs.Promises.{viewed}
+use Rattle.table.specs.Reading.{numbersAt, membersAt, everyAt, bodyAt}
+use Rattle.table.specs.Entries.{spanOf, counted, listsNumber}
+use Rattle.table.specs.declared.entry.Entry.{Entry}
+use Rattle.table.specs.declared.entry.Span.{Span}
+use Rattle.table.proofs.Promises.{entered-kind, entered-enumerated}
 use Rattle.coding.specs.Form.{alternatives}
 use Rattle.coding.specs.Content.{listed}
-use Rattle.coding.specs.Judging.{a-choice, flags, leafKind, nodeKind, numbers, leafAgrees, agreeing, counts, agrees}
-use Rattle.writer.specs.Nodes.{ownEnd, endAt, leafOf, nodeOf, nodeAt}
+use Rattle.coding.specs.Judging.{flags, leafKind, nodeKind, numbers, leafAgrees, agreeing, counts, agrees}
+use Rattle.writer.specs.Nodes.{ownEnd, leafOf, nodeOf}
+use Rattle.writer.specs.Known.{recordIn, Known}
+use Rattle.writer.specs.Standing.{partsOf}
+use Rattle.writer.proofs.Nodes.{node-kind, fixed-is, members-is}
 
--- a node that is shaped has a shaped own part
-pub own-shaped : (v : List ℕ) (p : ℕ) → 0 < endAt v p → 0 < ownEnd (getD v (p + 2) 0) v (p + 3)
-unfolding endAt
-own-shaped v p h =
-    test (ltb (length v) (p + 3)) (λ e. absurd (none (rw e at h))) λ e.
-    test (not (eqb (getD v p 0) 0x56)) (λ f. absurd (none (rw (e, f) at h))) λ f.
-    test (not (eqb (getD v (p + 1) 0) 0x41)) (λ g. absurd (none (rw (e, f, g) at h))) λ g. rw (e, f, g) at h
-  where
-    none : 0 < 0 → ⊥
-    none h = omega arith
+-- the mandatory members are present
+module _ (b : List ℕ) (p n : ℕ) (v : List ℕ) (q : ℕ) (w : Bool) (e : agreeing (membersAt b p n) (flags (everyAt 1 v q n)) ≡ w) where
+  more : 0 < n → n ≡ suc (n - 1)
+  more h = omega arith
 
--- the kinds by their numbers
-abbrev pub KindAt : List ℕ → ℕ → ℕ → Type 0
-KindAt b p k = (kind (bodyAt b k p) ≡ k) ⊎ (kind (bodyAt b k p) ≡ 50)
+  abbrev Next : Type 0
+  Next = agreeing (membersAt b (p + 2) (n - 1)) (flags (everyAt 1 v (q + 1) (n - 1))) ≡ w
 
-pub kind-of : (b : List ℕ) (k p : ℕ) → KindAt b p k
-unfolding bodyAt kind
-kind-of b k p =
-    at k 1 (KindAt b p) (inl refl) λ e₁.
-    at k 2 (KindAt b p) (inl refl) λ e₂.
-    at k 3 (KindAt b p) (inl refl) λ e₃.
-    at k 4 (KindAt b p) (inl refl) λ e₄.
-    at k 5 (KindAt b p) (inl refl) λ e₅.
-    at k 10 (KindAt b p) (inl refl) λ e₁₀.
-    at k 16 (KindAt b p) (inl refl) λ e₁₆.
-    at k 17 (KindAt b p) (inl refl) λ e₁₇.
-    at k 48 (KindAt b p) (inl refl) λ e₄₈.
-    at k 49 (KindAt b p) (inl refl) λ e₄₉.
-    rw (e₁, e₂, e₃, e₄, e₅, e₁₀, e₁₆, e₁₇, e₄₈, e₄₉) (inr refl)
+  pub complete-ends : n ≤ 0 → true ≡ w
+  unfolding membersAt everyAt flags agreeing
+  complete-ends h = let s : n ≡ 0 = omega arith in rw s at e
 
-abbrev NodeKindAt : List ℕ → ℕ → ℕ → Type 0
-NodeKindAt v p k = 0 < ownEnd k v p → nodeKind (nodeOf k v p) ≡ k
+  pub complete-present : 0 < n → getD v q 0 ≡ 1 → Next
+  unfolding membersAt everyAt flags agreeing
+  complete-present h f = rw (more h, eq-eqb (getD v q 0) 1 f) at e
 
-pub node-kind : (k : ℕ) (v : List ℕ) (p : ℕ) → NodeKindAt v p k
-unfolding nodeOf leafOf nodeKind leafKind ownEnd
-node-kind k v p =
-    at k 1 (NodeKindAt v p) (λ h. refl) λ e₁.
-    at k 2 (NodeKindAt v p) (λ h. refl) λ e₂.
-    at k 3 (NodeKindAt v p) (λ h. refl) λ e₃.
-    at k 4 (NodeKindAt v p) (λ h. refl) λ e₄.
-    at k 5 (NodeKindAt v p) (λ h. refl) λ e₅.
-    at k 10 (NodeKindAt v p) (λ h. refl) λ e₁₀.
-    at k 16 (NodeKindAt v p) (λ h. refl) λ e₁₆.
-    at k 17 (NodeKindAt v p) (λ h. refl) λ e₁₇.
-    at k 48 (NodeKindAt v p) (λ h. refl) λ e₄₈.
-    at k 49 (NodeKindAt v p) (λ h. refl) λ e₄₉.
-    at k 50 (NodeKindAt v p) (λ h. refl) λ e₅₀ h.
-    absurd (none (rw (e₁, e₂, e₃, e₄, e₅, e₁₀, e₁₆, e₁₇, e₄₈, e₄₉, e₅₀) at h))
-  where
-    none : 0 < 0 → ⊥
-    none h = omega arith
+  module _ (h : 0 < n) (f : getD v q 0 ≡ 1 → ⊥) (t : Bool) (et : t ≡ eqb (getD b (p + 1) 0) 1) where
+    pub complete-stops : t ≡ false → false ≡ w
+    unfolding membersAt everyAt flags agreeing
+    complete-stops g = rw (more h, ne-eqb (getD v q 0) 1 f, sym et ∙ g) at e
 
--- an alternative
-abbrev pub choiceAgrees : Form → ℕ → ℕ → Bool
-choiceAgrees FSimple i n = false
-choiceAgrees FMembers i n = false
-choiceAgrees FOf i n = false
-choiceAgrees FChoice i n = ltb i n
+    pub complete-optional : t ≡ true → Next
+    unfolding membersAt everyAt flags agreeing
+    complete-optional g = rw (more h, ne-eqb (getD v q 0) 1 f, sym et ∙ g) at e
 
-length-every : (step : ℕ) (b : List ℕ) (p n : ℕ) → length (everyAt step b p n) ≡ n
-unfolding everyAt
-length-every step b p zero = refl
-length-every step b p (suc n) = ap suc (length-every step b (p + step) n)
-
-choice-view : {b : List ℕ} {p : ℕ} {f : Form} {x : Body} → Viewed b p f x → (i : ℕ) → agrees x (a-choice i) ≡ choiceAgrees f i (getD b p 0)
-unfolding agrees nodeKind counts kind alternatives
-choice-view (plain Boolean) i = refl
-choice-view (plain Integer) i = refl
-choice-view (plain BitString) i = refl
-choice-view (plain OctetString) i = refl
-choice-view (plain Null) i = refl
-choice-view (plain (Enumerated ns)) i = refl
-choice-view sequence i = refl
-choice-view set i = refl
-choice-view sequence-of i = refl
-choice-view set-of i = refl
-choice-view {b} {p} choice i = ap (ltb i) (length-every 1 b (p + 1) (getD b p 0))
-
+-- a node and a body of one kind k, whose own parts are at p and at own
 and-false : (a : Bool) → (a && false) ≡ false
 and-false true = refl
 and-false false = refl
 
-pub agreeing-long : (b : List ℕ) (p n : ℕ) (v : List ℕ) (q k : ℕ) → (k ≡ n → ⊥) → agreeing (membersAt b p n) (flags (everyAt 1 v q k)) ≡ false
+agreeing-long : (b : List ℕ) (p n : ℕ) (v : List ℕ) (q k : ℕ) → (k ≡ n → ⊥) → agreeing (membersAt b p n) (flags (everyAt 1 v q k)) ≡ false
 unfolding membersAt everyAt flags agreeing
 agreeing-long b p zero v q zero h = absurd (h refl)
 agreeing-long b p zero v q (suc k) h = refl
 agreeing-long b p (suc n) v q zero h = refl
-agreeing-long b p (suc n) v q (suc k) h = rw (agreeing-long b (p + 2) n v (q + 1) k (λ e. h (ap suc e))) (and-false (eqb (getD v q 0) 1 || eqb (getD b (p + 1) 0) 1))
+agreeing-long b p (suc n) v q (suc k) h = rw (agreeing-long b (p + 2) n v (q + 1) k (λ e. h (ap suc e))) (and-false (eqb (getD v q 0) 1 || eqb (getD b (p + 1)
+    0) 1))
 
-module _ (b v : List ℕ) (o p k rk own count : ℕ) (ek : k ≡ getD v (p + 2) 0) (er : rk ≡ getD b (o + 2) 0) (eo : own ≡ ownAt b o) (ec : count ≡ getD b own 0) where
-  abbrev Whole : Bool
-  Whole = agrees (recordAt b o .body) (nodeAt v p)
+pub same-count : (b : List ℕ) (p n : ℕ) (v : List ℕ) (q k : ℕ) → agreeing (membersAt b p n) (flags (everyAt 1 v q k)) ≡ true → k ≡ n
+same-count b p n v q k h = test (eqb k n) (λ e. eqb-true k n e) λ e. absurd (false≢true (sym (agreeing-long b p n v q k (eqb-false k n e)) ∙ h))
 
-  whole : agrees (bodyAt b rk own) (nodeOf k v (p + 3)) ≡ Whole
-  unfolding recordAt
-  whole = rw (ek, er, eo) refl
+module _ (b v : List ℕ) (own p : ℕ) where
+  abbrev pub WithMembers : ℕ → Type 0
+  WithMembers k =
+      (agrees (bodyAt b k own) (nodeOf k v p) ≡ agreeing (membersAt b (own + 1) (getD b own 0)) (flags (everyAt 1 v (p + 1) (getD v p 0))))
+      × (spanOf b k own ≡ counted b own 2)
 
-  pub agrees-choice : (f r : Form) → r ≡ f → r ≡ formOf rk → k ≡ 50 → (i : ℕ) → i ≡ getD v (p + 3) 0 → choiceAgrees f i count ≡ Whole
-  unfolding nodeOf
-  agrees-choice f r e d h i ei =
-      rw (ec, ei, ← e, d) (sym (choice-view (viewed b rk own) (getD v (p + 3) 0)) ∙ ap (agrees (bodyAt b rk own)) (rw h refl) ∙ whole)
+  pub with-members : (k : ℕ) → (eqb k 16 || eqb k 17) ≡ true → WithMembers k
+  unfolding agrees bodyAt nodeOf nodeKind kind counts members spanOf
+  with-members k h =
+      or-by (eqb k 16) (eqb k 17) h (λ a. rw (eqb-true k 16 a) (refl, refl)) λ a. rw (eqb-true k 17 a) (refl, refl)
 
-  pub agrees-not : (k ≡ 50 → ⊥) → (k ≡ rk → ⊥) → 0 < endAt v p → false ≡ Whole
+  length-every : (q n : ℕ) → length (everyAt 1 b q n) ≡ n
+  unfolding everyAt
+  length-every q zero = refl
+  length-every q (suc n) = ap suc (length-every (q + 1) n)
+
+  pub with-choice : (k : ℕ) → k ≡ 50 → (agrees (bodyAt b k own) (nodeOf k v p) ≡ ltb (getD v p 0) (getD b own 0)) × (spanOf b k own ≡ counted b own 1)
+  unfolding agrees bodyAt nodeOf nodeKind kind counts alternatives spanOf
+  with-choice k h = rw h (ap (ltb (getD v p 0)) (length-every (own + 1) (getD b own 0)), refl)
+
+  abbrev WithRest : ℕ → Type 0
+  WithRest k = 16 ≤ k → eqb k 16 ≡ false → eqb k 17 ≡ false → eqb k 50 ≡ false → 0 < ownEnd k v p → agrees (bodyAt b k own) (nodeOf k v p) ≡ true
+
+  with-rest : (k : ℕ) → WithRest k
+  unfolding agrees bodyAt nodeOf nodeKind kind counts ownEnd
+  with-rest k =
+      at k 1 WithRest (λ g. absurd (omega arith)) λ e₁.
+      at k 2 WithRest (λ g. absurd (omega arith)) λ e₂.
+      at k 3 WithRest (λ g. absurd (omega arith)) λ e₃.
+      at k 4 WithRest (λ g. absurd (omega arith)) λ e₄.
+      at k 5 WithRest (λ g. absurd (omega arith)) λ e₅.
+      at k 10 WithRest (λ g. absurd (omega arith)) λ e₁₀.
+      at k 48 WithRest (λ g _ _ _ _. refl) λ e₄₈.
+      at k 49 WithRest (λ g _ _ _ _. refl) λ e₄₉ g e₁₆ e₁₇ e₅₀ h.
+      absurd (none (rw (e₁, e₂, e₃, e₄, e₅, e₁₀, e₁₆, e₁₇, e₄₈, e₄₉, e₅₀) at h))
+    where
+      none : 0 < 0 → ⊥
+      none h = omega arith
+
+-- an entry against a node of kind k: the ways out
+module _ (b : List ℕ) (e : Entry) (K : Known b e) (v : List ℕ) (k p : ℕ) where
+  abbrev Agrees : Bool
+  Agrees = agrees (recordIn b e .body) (nodeOf k v p)
+
+  pub agrees-not : 0 < ownEnd k v p → (k ≡ e .kind → ⊥) → false ≡ Agrees
   unfolding agrees
-  agrees-not h g s =
-      let n : nodeKind (nodeOf k v (p + 3)) ≡ k = node-kind k v (p + 3) (rw ek (own-shaped v p s)) in
-      let d : eqb k (kind (bodyAt b rk own)) ≡ false = ne-eqb _ _ (λ e. ⊎-elim (λ f. g (e ∙ f)) (λ f. h (e ∙ f)) (kind-of b rk own)) in
-      let y : agrees (bodyAt b rk own) (nodeOf k v (p + 3)) ≡ false = rw (n, d) refl in
-      sym y ∙ whole
+  agrees-not h f =
+      let n : nodeKind (nodeOf k v p) ≡ k = node-kind k v p h in
+      let d : eqb k (kind (recordIn b e .body)) ≡ false = ne-eqb k (kind (recordIn b e .body)) (λ z. f (z ∙ sym (entered-kind (K .entered)))) in
+      rw (n, d) refl
 
-  pub agrees-listed : (x : ℕ) → k ≡ 10 → k ≡ rk → x ≡ two v (p + 3) → (r : Bool) → r ≡ listed (numbersAt b (own + 1) count) x → r ≡ Whole
-  unfolding agrees nodeOf leafOf nodeKind leafKind kind bodyAt counts leafAgrees numbers
-  agrees-listed x h g ex r e = e ∙ rw (ex, ec) (rw (sym g ∙ h, h) refl) ∙ whole
+  module _ (ek : k ≡ e .kind) where
+    by-kind : agrees (bodyAt b k (e .own)) (nodeOf k v p) ≡ Agrees
+    by-kind = rw ek refl
 
-  pub agrees-sequence : k ≡ 16 → k ≡ rk → (m : ℕ) → m ≡ getD v (p + 3) 0 → m ≡ count → (r : Bool) → r ≡ agreeing (membersAt b (own + 1) count) (flags (everyAt 1 v (p + 3 + 1) count)) → r ≡ Whole
-  unfolding agrees nodeOf nodeKind kind bodyAt counts members
-  agrees-sequence h g m em e r d = d ∙ rw (sym e ∙ em) (rw (sym g ∙ h, h, ← ec, ← e, em) refl) ∙ whole
+    -- members; s are the parts of the entry's record
+    module _ (s : Span) (es : s ≡ partsOf b e) (t : Bool) (et : t ≡ (eqb k 16 || eqb k 17)) where
+      module _ (h : t ≡ true) where
+        with : WithMembers b v (e .own) p k
+        with = with-members b v (e .own) p k (sym et ∙ h)
 
-  pub agrees-set : k ≡ 17 → k ≡ rk → (m : ℕ) → m ≡ getD v (p + 3) 0 → m ≡ count → (r : Bool) → r ≡ agreeing (membersAt b (own + 1) count) (flags (everyAt 1 v (p + 3 + 1) count)) → r ≡ Whole
-  unfolding agrees nodeOf nodeKind kind bodyAt counts members
-  agrees-set h g m em e r d = d ∙ rw (sym e ∙ em) (rw (sym g ∙ h, h, ← ec, ← e, em) refl) ∙ whole
+        span : s ≡ counted b (e .own) 2
+        span = es ∙ rw (← ek) (with .1)
 
-  pub agrees-sequence-not : k ≡ 16 → k ≡ rk → (m : ℕ) → m ≡ getD v (p + 3) 0 → (m ≡ count → ⊥) → false ≡ Whole
-  unfolding agrees nodeOf nodeKind kind bodyAt counts members
-  agrees-sequence-not h g m em e =
-      sym (agreeing-long b (own + 1) (getD b own 0) v (p + 3 + 1) (getD v (p + 3) 0) (λ d. e (em ∙ d ∙ sym ec))) ∙ rw (sym g ∙ h, h) refl ∙ whole
+        pub members-there : 0 < ownEnd k v p → p + 1 + getD v p 0 ≤ length v
+        unfolding ownEnd
+        members-there g = or-by (eqb k 16) (eqb k 17) (sym et ∙ h) (λ a. members-is v p (rw (eqb-true k 16 a) at g) .1) λ a. members-is v p
+            (rw (eqb-true k 17 a) at g) .1
 
-  pub agrees-set-not : k ≡ 17 → k ≡ rk → (m : ℕ) → m ≡ getD v (p + 3) 0 → (m ≡ count → ⊥) → false ≡ Whole
-  unfolding agrees nodeOf nodeKind kind bodyAt counts members
-  agrees-set-not h g m em e =
-      sym (agreeing-long b (own + 1) (getD b own 0) v (p + 3 + 1) (getD v (p + 3) 0) (λ d. e (em ∙ d ∙ sym ec))) ∙ rw (sym g ∙ h, h) refl ∙ whole
+        pub agrees-count : (getD v p 0 ≡ s .count → ⊥) → false ≡ Agrees
+        agrees-count f =
+            sym (agreeing-long b (e .own + 1) (getD b (e .own) 0) v (p + 1) (getD v p 0) (λ z. f (z ∙ sym (ap (λ (x : Span). x .count) span))))
+            ∙ sym (with .0) ∙ by-kind
 
-abbrev RestAt : List ℕ → List ℕ → ℕ → ℕ → ℕ → Type 0
-RestAt b v own p k = eqb k 50 ≡ false → eqb k 10 ≡ false → eqb k 16 ≡ false → eqb k 17 ≡ false → 0 < ownEnd k v p → agrees (bodyAt b k own) (nodeOf k v p) ≡ true
+        pub agrees-complete : getD v p 0 ≡ s .count → (r : Bool)
+            → r ≡ agreeing (membersAt b (s .first) (s .count)) (flags (everyAt 1 v (p + 1) (s .count))) → r ≡ Agrees
+        agrees-complete f r er =
+            let q : agreeing (membersAt b (s .first) (s .count)) (flags (everyAt 1 v (p + 1) (s .count))) ≡ agreeing (membersAt b (e .own + 1) (getD b (e
+            .own) 0)) (flags (everyAt 1 v (p + 1) (getD v p 0))) = rw (f, span) refl in
+            er ∙ q ∙ sym (with .0) ∙ by-kind
 
-rest-agrees : (b v : List ℕ) (own p k : ℕ) → RestAt b v own p k
+        pub members-near : Octets b → e .own < 65536 → (s .first < 70000) × (s .count < 256)
+        members-near o l = rw span (omega arith, o (e .own))
+
+      module _ (h : t ≡ false) where
+        -- an alternative
+        pub choice-there : k ≡ 50 → 0 < ownEnd k v p → p < length v
+        unfolding ownEnd
+        choice-there f g = let z = fixed-is v (p + 1) (rw f at g) .1 in omega arith
+
+        pub agrees-choice : k ≡ 50 → ltb (getD v p 0) (s .count) ≡ Agrees
+        agrees-choice f =
+            let z = with-choice b v (e .own) p k f in
+            let x : s ≡ counted b (e .own) 1 = es ∙ rw (← ek) (z .1) in
+            let q : s .count ≡ getD b (e .own) 0 = ap (λ (y : Span). y .count) x in
+            rw q (sym (z .0)) ∙ by-kind
+
+        -- elements
+        pub agrees-list : (k ≡ 50 → ⊥) → 16 ≤ k → 0 < ownEnd k v p → true ≡ Agrees
+        agrees-list f g i =
+            let z = or-false (eqb k 16) (eqb k 17) (sym et ∙ h) in
+            sym (with-rest b v (e .own) p k g (z .0) (z .1) (ne-eqb k 50 f) i) ∙ by-kind
+
+-- a leaf of kind k against an entry
+abbrev LeafRest : List ℕ → List ℕ → ℕ → ℕ → ℕ → Type 0
+LeafRest b v own p k = k < 16 → eqb k 10 ≡ false → 0 < ownEnd k v p → agrees (bodyAt b k own) (nodeOf k v p) ≡ true
+
+leaf-rest : (b v : List ℕ) (own p k : ℕ) → LeafRest b v own p k
 unfolding agrees nodeOf leafOf nodeKind leafKind kind bodyAt counts leafAgrees ownEnd
-rest-agrees b v own p k =
-    at k 1 (RestAt b v own p) (λ _ _ _ _ _. refl) λ e₁.
-    at k 2 (RestAt b v own p) (λ _ _ _ _ _. refl) λ e₂.
-    at k 3 (RestAt b v own p) (λ _ _ _ _ _. refl) λ e₃.
-    at k 4 (RestAt b v own p) (λ _ _ _ _ _. refl) λ e₄.
-    at k 5 (RestAt b v own p) (λ _ _ _ _ _. refl) λ e₅.
-    at k 48 (RestAt b v own p) (λ _ _ _ _ _. refl) λ e₄₈.
-    at k 49 (RestAt b v own p) (λ _ _ _ _ _. refl) λ e₄₉ e₅₀ e₁₀ e₁₆ e₁₇ h.
-    absurd (none (rw (e₁, e₂, e₃, e₄, e₅, e₁₀, e₁₆, e₁₇, e₄₈, e₄₉, e₅₀) at h))
-  where
-    none : 0 < 0 → ⊥
-    none h = omega arith
+leaf-rest b v own p k =
+    at k 1 (LeafRest b v own p) (λ _ _ _. refl) λ e₁.
+    at k 2 (LeafRest b v own p) (λ _ _ _. refl) λ e₂.
+    at k 3 (LeafRest b v own p) (λ _ _ _. refl) λ e₃.
+    at k 4 (LeafRest b v own p) (λ _ _ _. refl) λ e₄.
+    at k 5 (LeafRest b v own p) (λ _ _ _. refl) λ e₅ g e₁₀ h.
+    absurd (omega (
+      arith,
+      rw (
+        e₁,
+        e₂,
+        e₃,
+        e₄,
+        e₅,
+        e₁₀,
+        ne-eqb k 16 (λ z. omega arith),
+        ne-eqb k 17 (λ z. omega arith),
+        ne-eqb k 48 (λ z. omega arith),
+        ne-eqb
+            k 49 (λ z. omega arith),
+        ne-eqb k 50 (λ z. omega arith),
+      ) at h,
+    ))
 
-pub agrees-rest : (b v : List ℕ) (o p k rk own : ℕ) → k ≡ getD v (p + 2) 0 → rk ≡ getD b (o + 2) 0 → own ≡ ownAt b o
-    → (k ≡ 50 → ⊥) → k ≡ rk → (k ≡ 10 → ⊥) → (k ≡ 16 → ⊥) → (k ≡ 17 → ⊥) → 0 < endAt v p → true ≡ agrees (recordAt b o .body) (nodeAt v p)
-unfolding recordAt
-agrees-rest b v o p k rk own ek er eo h g h₁₀ h₁₆ h₁₇ s =
-    sym (rest-agrees b v own (p + 3) k (ne-eqb _ _ h) (ne-eqb _ _ h₁₀) (ne-eqb _ _ h₁₆) (ne-eqb _ _ h₁₇) (rw ek (own-shaped v p s))) ∙ rw (← eo, ← er, ← g, ← ek) refl
+module _ (b : List ℕ) (e : Entry) (K : Known b e) (v : List ℕ) (k p : ℕ) (ek : k ≡ e .kind) where
+  pub leaf-agrees : k < 16 → (k ≡ 10 → ⊥) → 0 < ownEnd k v p → true ≡ agrees (recordIn b e .body) (nodeOf k v p)
+  leaf-agrees g f h = sym (leaf-rest b v (e .own) p k g (ne-eqb k 10 f) h) ∙ by-kind b e K v k p ek
+
+  pub number-there : k ≡ 10 → 0 < ownEnd k v p → p + 2 ≤ length v
+  unfolding ownEnd
+  number-there f h = fixed-is v (p + 2) (rw f at h) .1
+
+  -- a number that is listed
+  module _ (f : k ≡ 10) (n : ℕ) (en : n ≡ two v p) (z : ℤ) (ez : z ≡ pos n) where
+    numbers-of : recordIn b e .body ≡ Plain (Enumerated (numbersAt b (e .own + 1) (getD b (e .own) 0)))
+    unfolding bodyAt
+    numbers-of = rw (sym ek ∙ f) refl
+
+    listed-is : listsNumber (numbersAt b (e .own + 1) (getD b (e .own) 0)) (pos (two v p)) ≡ agrees (bodyAt b k (e .own)) (nodeOf k v p)
+    unfolding agrees nodeOf leafOf nodeKind leafKind kind bodyAt counts leafAgrees numbers listed
+    listed-is = rw f refl
+
+    pub number-agrees : (r : Bool) → r ≡ (leb (e .own + 1 + 2 * getD b (e .own) 0) (length b) && listsNumber (numbersAt b (e .own + 1) (getD b (e .own) 0)) z)
+        → r ≡ agrees (recordIn b e .body) (nodeOf k v p)
+    number-agrees r er =
+        let w = entered-enumerated (K .entered) (numbersAt b (e .own + 1) (getD b (e .own) 0)) numbers-of .within in
+        er ∙ rw (w, ez, en) (listed-is ∙ by-kind b e K v k p ek)

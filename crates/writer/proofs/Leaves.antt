@@ -1,18 +1,20 @@
 -- A leaf by its kind: where its own part ends, its contents octets, and the octets of v that they come from.
 -- Assumes nothing.
-use mathlib.Core.Bool.{false, not}
+use mathlib.Core.Bool.{Bool, true, false, not}
 use mathlib.Core.List.{List, [], _∷_}
 use mathlib.Core.Path.{_≡_, refl, sym, ap, _∙_}
-use Prim.Native.Nat.{ℕ, suc, _+_, _-_, _*_, _≤_, _<_}
+use Prim.Native.Nat.{ℕ, suc, _+_, _-_, _*_, _/_, _%_, _^_, _≤_, _<_}
+use native.Mathlib.Nat.{div-add-mod'}
 use native.Mathlib.Omega.{arith}
-use borrow.Author.Tests.{eq-eqb, ne-eqb, ltb-true, ltb-false}
+use borrow.Author.Tests.{lt-ltb, le-ltb, le-leb, lt-leb, eq-eqb, ne-eqb, eqb-true, eqb-false, ltb-true, ltb-false}
 use lib.Dec.{ltb, leb, eqb}
 use lib.IntN.{ℤ, pos}
 use lib.ListN.{length, getD, take, drop, set, length-drop}
 use lib.Seq.{sets, length-take-le}
 use Rattle.octets.proofs.Tests.{test, at}
 use Rattle.octets.specs.Numbers.{two}
-use Rattle.ber.specs.Integer.{integerOf, fewestOf}
+use Rattle.octets.specs.Buffers.{filled}
+use Rattle.ber.specs.Integer.{integerOf, fewestOf, eight}
 use Rattle.coding.specs.Form.{encode, truth}
 use Rattle.coding.specs.Judging.{octetsFor, spareIn}
 use Rattle.writer.specs.Nodes.{fixedEnd, booleanEnd, stringEnd, bitsEnd, clearAt, ownEnd, leafOf}
@@ -23,37 +25,137 @@ use Rattle.writer.proofs.Nodes.{fixed-is}
 none : {X : Type 0} → 0 < 0 → X
 none h = absurd (omega arith)
 
-boolean-is : (v : List ℕ) (p : ℕ) → 0 < booleanEnd v p → booleanEnd v p ≡ p + 1
-unfolding booleanEnd
-boolean-is v p h =
-    test (ltb (length v) (p + 1)) (λ t. none (rw t at h)) λ t.
-    test (leb 2 (getD v p 0)) (λ s. none (rw (t, s) at h)) λ s. rw (t, s) refl
-
-string-is : (v : List ℕ) (p : ℕ) → 0 < stringEnd v p → (stringEnd v p ≡ p + 2 + two v p) × (p + 2 + two v p ≤ length v)
-unfolding stringEnd
-string-is v p h =
-    test (ltb (length v) (p + 2)) (λ t. none (rw t at h)) λ t.
-    test (ltb (length v) (p + 2 + two v p)) (λ s. none (rw (t, s) at h)) λ s. (rw (t, s) refl, ltb-false _ _ s)
-
-bits-is : (v : List ℕ) (p : ℕ) → 0 < bitsEnd v p → (bitsEnd v p ≡ p + 2 + octetsFor (two v p)) × (p + 2 + octetsFor (two v p) ≤ length v)
-unfolding bitsEnd
-bits-is v p h =
-    test (ltb (length v) (p + 2)) (λ t. none (rw t at h)) λ t.
-    test (ltb (length v) (p + 2 + octetsFor (two v p))) (λ s. none (rw (t, s) at h)) λ s.
-    test (not (clearAt v (p + 2) (two v p))) (λ c. none (rw (t, s, c) at h)) λ c. (rw (t, s, c) refl, ltb-false _ _ s)
-
 -- n octets from p on
 part-length : (v : List ℕ) (p n : ℕ) → p + n ≤ length v → length (take n (drop p v)) ≡ n
 part-length v p n h = length-take-le n (drop p v) (let l = length-drop p v in omega arith)
 
-positive : (e : ℕ) → (e ≡ 0 → ⊥) → 0 < e
-positive e h = test (ltb 0 e) (λ t. ltb-true 0 e t) λ t. absurd (h (let k : e ≤ 0 = ltb-false 0 e t in omega arith))
+-- the bits behind the last one
+clear-test : (a m x : ℕ) → a + m ≡ x → eqb m 0 ≡ eqb a x
+clear-test a m x e =
+    test (eqb m 0) (λ t. let z = eqb-true m 0 t in rw (t, eq-eqb a x (omega arith)) refl) λ t.
+    let z = eqb-false m 0 t in rw (t, ne-eqb a x (λ y. z (omega arith))) refl
 
-pub bits-past : (v : List ℕ) (p e : ℕ) → e ≡ bitsEnd v p → (e ≡ 0 → ⊥) → p + 2 ≤ e
-bits-past v p e ee h = let w = bits-is v p (rw (← ee) (positive e h)) .0 in omega arith
+module _ (v : List ℕ) (p n : ℕ) where
+  pub clear-whole : n % 8 ≡ 0 → true ≡ clearAt v p n
+  unfolding clearAt
+  clear-whole h =
+      test (eqb n 0) (λ t. rw t refl) λ t.
+      let s : spareIn n ≡ 0 = omega arith in
+      let x = getD v (p + octetsFor n - 1) 0 in
+      let y : x / 1 * 1 ≡ x = omega arith in
+      rw (t, s) (sym (eq-eqb _ _ y))
 
-pub string-past : (v : List ℕ) (p e : ℕ) → e ≡ stringEnd v p → (e ≡ 0 → ⊥) → p + 2 ≤ e
-string-past v p e ee h = let w = string-is v p (rw (← ee) (positive e h)) .0 in omega arith
+  pub clear-part : (e u : ℕ) → (n % 8 ≡ 0 → ⊥) → e ≡ p + (n + 7) / 8 → u ≡ 2 ^ ((8 - n % 8) % 8) → eqb (getD v (e - 1) 0 % u) 0 ≡ clearAt v p n
+  unfolding clearAt
+  clear-part e u h ee eu =
+      let z : n ≡ 0 → ⊥ = λ q. h (omega arith) in
+      let m : n % 8 < 8 = omega arith in
+      let s : (8 - n % 8) % 8 ≡ spareIn n = omega (arith, ne-mod) in
+      rw (ne-eqb n 0 z, ← s, ← eu, ← ee) (clear-test (getD v (e - 1) 0 / u * u) (getD v (e - 1) 0 % u) (getD v (e - 1) 0) (div-add-mod' (getD v (e - 1) 0) u))
+    where
+      ne-mod : 0 < n % 8
+      ne-mod = test (ltb 0 (n % 8)) (λ t. ltb-true 0 (n % 8) t) λ t. absurd (h (let k : n % 8 ≤ 0 = ltb-false 0 (n % 8) t in omega arith))
+
+-- what is measured: `none` is told where the own part is not shaped
+abbrev Nothing : Extent → Type 0
+Nothing r = (r .end ≡ 0) × (r .size ≡ 0)
+
+module _ (v : List ℕ) (p : ℕ) (r : Extent) where
+  none-measured : (k : ℕ) → ownEnd k v p ≡ 0 → Nothing r → Measures k v p r
+  none-measured k e z = record { ends = z .0 ∙ sym e; sized = λ h. none (rw e at h); small = rw (z .1) (omega arith) }
+
+  pub boolean-short : length v ≤ p → Nothing r → Measures 1 v p r
+  unfolding ownEnd booleanEnd
+  boolean-short h z = none-measured 1 (rw (lt-ltb (length v) (p + 1) (omega arith)) refl) z
+
+  pub boolean-other : p < length v → 2 ≤ getD v p 0 → Nothing r → Measures 1 v p r
+  unfolding ownEnd booleanEnd
+  boolean-other h g z = none-measured 1 (rw (le-ltb (length v) (p + 1) (omega arith), le-leb 2 (getD v p 0) g) refl) z
+
+  pub boolean-measured : p < length v → getD v p 0 < 2 → r .end ≡ p + 1 → r .size ≡ 1 → Measures 1 v p r
+  unfolding ownEnd booleanEnd leafOf encode
+  boolean-measured h g e s =
+      record {
+        ends = e ∙ rw (le-ltb (length v) (p + 1) (omega arith), lt-leb 2 (getD v p 0) g) refl;
+        sized = λ _. s;
+        small = omega arith;
+      }
+
+  fixed-short : (e : ℕ) → length v < e → fixedEnd v e ≡ 0
+  unfolding fixedEnd
+  fixed-short e h = rw (lt-ltb (length v) e h) refl
+
+  fixed-long : (e : ℕ) → e ≤ length v → fixedEnd v e ≡ e
+  unfolding fixedEnd
+  fixed-long e h = rw (le-ltb (length v) e h) refl
+
+  pub integer-short : length v < p + 8 → Nothing r → Measures 2 v p r
+  unfolding ownEnd
+  integer-short h z = none-measured 2 (fixed-short (p + 8) h) z
+
+  pub integer-measured : p + 8 ≤ length v → (z y : ℤ) (n : ℕ) → y ≡ z → z ≡ integerOf (take 8 (drop p v)) → n ≡ length (fewestOf y) → n ≤ 8
+      → r .end ≡ p + 8 → r .size ≡ n → Measures 2 v p r
+  unfolding ownEnd leafOf encode
+  integer-measured h z y n ey ez en g e s =
+      record { ends = e ∙ sym (fixed-long (p + 8) h); sized = λ _. s ∙ en ∙ ap (λ (i : ℤ). length (fewestOf i)) (ey ∙ ez); small = omega arith }
+
+  pub bits-short : length v < p + 2 → Nothing r → Measures 3 v p r
+  unfolding ownEnd bitsEnd
+  bits-short h z = none-measured 3 (rw (lt-ltb (length v) (p + 2) h) refl) z
+
+  module _ (h : p + 2 ≤ length v) (n : ℕ) (en : n ≡ two v p) where
+    pub bits-cut : length v < p + 2 + (n + 7) / 8 → Nothing r → Measures 3 v p r
+    unfolding ownEnd bitsEnd
+    bits-cut g z = none-measured 3 (rw (le-ltb (length v) (p + 2) h, lt-ltb (length v) (p + 2 + octetsFor (two v p)) (rw (← en) g)) refl) z
+
+    module _ (g : p + 2 + (n + 7) / 8 ≤ length v) (t : Bool) (et : t ≡ clearAt v (p + 2) n) where
+      pub bits-unclear : t ≡ false → Nothing r → Measures 3 v p r
+      unfolding ownEnd bitsEnd
+      bits-unclear f z =
+          let c : clearAt v (p + 2) (two v p) ≡ false = rw (← en) (sym et ∙ f) in
+          none-measured 3 (rw (le-ltb (length v) (p + 2) h, le-ltb (length v) (p + 2 + octetsFor (two v p)) (rw (← en) g), c) refl) z
+
+      pub bits-measured : t ≡ true → n < 65536 → r .end ≡ p + 2 + (n + 7) / 8 → r .size ≡ (n + 7) / 8 + 1 → Measures 3 v p r
+      unfolding ownEnd bitsEnd leafOf encode
+      bits-measured f l e s =
+          let c : clearAt v (p + 2) (two v p) ≡ true = rw (← en) (sym et ∙ f) in
+          let w : p + 2 + octetsFor (two v p) ≤ length v = rw (← en) g in
+          record {
+            ends = e ∙ rw (le-ltb (length v) (p + 2) h, le-ltb (length v) (p + 2 + octetsFor (two v p)) w, c, ← en) refl;
+            sized = λ _. s ∙ rw (en, part-length v (p + 2) (octetsFor (two v p)) w) (omega arith);
+            small = omega arith;
+          }
+
+  pub string-short : length v < p + 2 → Nothing r → Measures 4 v p r
+  unfolding ownEnd stringEnd
+  string-short h z = none-measured 4 (rw (lt-ltb (length v) (p + 2) h) refl) z
+
+  module _ (h : p + 2 ≤ length v) (n : ℕ) (en : n ≡ two v p) where
+    pub string-cut : length v < p + 2 + n → Nothing r → Measures 4 v p r
+    unfolding ownEnd stringEnd
+    string-cut g z = none-measured 4 (rw (le-ltb (length v) (p + 2) h, lt-ltb (length v) (p + 2 + two v p) (rw (← en) g)) refl) z
+
+    pub string-measured : p + 2 + n ≤ length v → n < 65536 → r .end ≡ p + 2 + n → r .size ≡ n → Measures 4 v p r
+    unfolding ownEnd stringEnd leafOf encode
+    string-measured g l e s =
+        let w : p + 2 + two v p ≤ length v = rw (← en) g in
+        record {
+          ends = e ∙ rw (le-ltb (length v) (p + 2) h, le-ltb (length v) (p + 2 + two v p) w, ← en) refl;
+          sized = λ _. s ∙ en ∙ sym (part-length v (p + 2) (two v p) w);
+          small = omega arith;
+        }
+
+  pub null-measured : (k : ℕ) → k ≡ 5 → r .end ≡ p → r .size ≡ 0 → Measures k v p r
+  unfolding ownEnd leafOf encode
+  null-measured k ek e s = rw ek (record { ends = e; sized = λ _. s; small = omega arith })
+
+  pub number-short : length v < p + 2 → Nothing r → Measures 10 v p r
+  unfolding ownEnd
+  number-short h z = none-measured 10 (fixed-short (p + 2) h) z
+
+  pub number-measured : p + 2 ≤ length v → (n s : ℕ) → n ≡ two v p → s ≡ length (fewestOf (pos n)) → s ≤ 8 → r .end ≡ p + 2 → r .size ≡ s → Measures 10 v p r
+  unfolding ownEnd leafOf encode
+  number-measured h n s en es g e f = record { ends = e ∙ sym (fixed-long (p + 2) h); sized = λ _. f ∙ es ∙ rw en refl; small = omega arith }
 
 -- the kinds that are no leaves, below 16
 abbrev NoLeaf : List ℕ → ℕ → ℕ → Type 0
@@ -76,197 +178,175 @@ last-leaf : (v : List ℕ) (p k : ℕ) → LastLeaf v p k
 last-leaf v p k = at k 10 (LastLeaf v p) (λ h g _ _ _ _ _. refl) λ e₁₀ h g e₁ e₂ e₃ e₄ e₅. none (rw (no-leaf v p k h e₁ e₂ e₃ e₄ e₅ e₁₀) at g)
 
 module _ (k : ℕ) (v : List ℕ) (p : ℕ) where
-  -- where the own part ends, by the kind
-  own-boolean : k ≡ 1 → ownEnd k v p ≡ booleanEnd v p
-  unfolding ownEnd
-  own-boolean e = rw e refl
+  pub same-kind : (i : ℕ) (r : Extent) → k ≡ i → Measures i v p r → Measures k v p r
+  same-kind i r e m = rw e m
 
-  own-integer : k ≡ 2 → ownEnd k v p ≡ fixedEnd v (p + 8)
-  unfolding ownEnd
-  own-integer e = rw e refl
+  pub no-kind : (r : Extent) → k < 16 → (k ≡ 1 → ⊥) → (k ≡ 2 → ⊥) → (k ≡ 3 → ⊥) → (k ≡ 4 → ⊥) → (k ≡ 5 → ⊥) → (k ≡ 10 → ⊥) → Nothing r → Measures k v p r
+  no-kind r h e₁ e₂ e₃ e₄ e₅ e₁₀ z =
+      none-measured v p r k (no-leaf v p k h (ne-eqb k 1 e₁) (ne-eqb k 2 e₂) (ne-eqb k 3 e₃) (ne-eqb k 4 e₄) (ne-eqb k 5 e₅) (ne-eqb k 10 e₁₀)) z
 
-  own-bits : k ≡ 3 → ownEnd k v p ≡ bitsEnd v p
-  unfolding ownEnd
-  own-bits e = rw e refl
+-- a leaf that is shaped, by its kind: where it ends, and its contents octets
+module _ (k : ℕ) (v : List ℕ) (p : ℕ) (h : 0 < ownEnd k v p) where
+  module _ (e : k ≡ 1) where
+    own-boolean : ownEnd k v p ≡ booleanEnd v p
+    unfolding ownEnd
+    own-boolean = rw e refl
 
-  own-string : k ≡ 4 → ownEnd k v p ≡ stringEnd v p
-  unfolding ownEnd
-  own-string e = rw e refl
+    boolean-is : (booleanEnd v p ≡ p + 1) × (p < length v)
+    unfolding booleanEnd
+    boolean-is =
+        let g = rw own-boolean at h in
+        test (ltb (length v) (p + 1)) (λ t. none (rw t at g)) λ t.
+        test (leb 2 (getD v p 0)) (λ s. none (rw (t, s) at g)) λ s. (rw (t, s) refl, (let w : p + 1 ≤ length v = ltb-false _ _ t in omega arith))
 
-  own-null : k ≡ 5 → ownEnd k v p ≡ p
-  unfolding ownEnd
-  own-null e = rw e refl
+    pub boolean-there : p < length v
+    boolean-there = boolean-is .1
 
-  own-enumerated : k ≡ 10 → ownEnd k v p ≡ fixedEnd v (p + 2)
-  unfolding ownEnd
-  own-enumerated e = rw e refl
+    pub boolean-end : p + 1 ≡ ownEnd k v p
+    boolean-end = sym (own-boolean ∙ boolean-is .0)
 
-  -- the contents octets
-  encode-boolean : k ≡ 1 → encode (leafOf k v p) ≡ truth (eqb (getD v p 0) 1) ∷ []
-  unfolding encode leafOf
-  encode-boolean e = rw e refl
+    encode-boolean : encode (leafOf k v p) ≡ truth (eqb (getD v p 0) 1) ∷ []
+    unfolding encode leafOf
+    encode-boolean = rw e refl
 
-  pub encode-true : (x : ℕ) → k ≡ 1 → x ≡ getD v p 0 → x ≡ 1 → encode (leafOf k v p) ≡ 255 ∷ []
-  encode-true x e f g = encode-boolean e ∙ rw (eq-eqb (getD v p 0) 1 (sym f ∙ g)) refl
+    pub boolean-size : 1 ≡ length (encode (leafOf k v p))
+    boolean-size = sym (ap length encode-boolean)
 
-  pub encode-false : (x : ℕ) → k ≡ 1 → x ≡ getD v p 0 → (x ≡ 1 → ⊥) → encode (leafOf k v p) ≡ 0 ∷ []
-  encode-false x e f g = encode-boolean e ∙ rw (ne-eqb (getD v p 0) 1 (λ h. g (f ∙ h))) refl
+    pub encode-true : getD v p 0 ≡ 1 → encode (leafOf k v p) ≡ 255 ∷ []
+    encode-true g = encode-boolean ∙ rw (eq-eqb (getD v p 0) 1 g) refl
 
-  integer-within : k ≡ 2 → 0 < ownEnd k v p → p + 8 ≤ length v
-  integer-within e h = fixed-is v (p + 8) (rw (own-integer e) at h) .1
+    pub encode-false : (getD v p 0 ≡ 1 → ⊥) → encode (leafOf k v p) ≡ 0 ∷ []
+    encode-false g = encode-boolean ∙ rw (ne-eqb (getD v p 0) 1 g) refl
 
-  pub encode-integer : (z y : ℤ) (e : ℕ) → k ≡ 2 → e ≡ p + 8 → y ≡ z → z ≡ integerOf (take (e - p) (drop p v)) → fewestOf y ≡ encode (leafOf k v p)
-  unfolding encode leafOf
-  encode-integer z y e ek ee f g = let q : e - p ≡ 8 = omega arith in ap fewestOf (f ∙ g ∙ ap (λ (n : ℕ). integerOf (take n (drop p v))) q) ∙ rw ek refl
+  module _ (e : k ≡ 2) where
+    own-integer : ownEnd k v p ≡ fixedEnd v (p + 8)
+    unfolding ownEnd
+    own-integer = rw e refl
 
-  encode-bits : k ≡ 3 → encode (leafOf k v p) ≡ spareIn (two v p) ∷ take (octetsFor (two v p)) (drop (p + 2) v)
-  unfolding encode leafOf
-  encode-bits e = rw e refl
+    pub integer-there : p + 8 ≤ length v
+    integer-there = fixed-is v (p + 8) (rw own-integer at h) .1
 
-  encode-string : k ≡ 4 → encode (leafOf k v p) ≡ take (two v p) (drop (p + 2) v)
-  unfolding encode leafOf
-  encode-string e = rw e refl
+    pub integer-end : p + 8 ≡ ownEnd k v p
+    integer-end = sym (own-integer ∙ fixed-is v (p + 8) (rw own-integer at h) .0)
 
-  encode-null : k ≡ 5 → encode (leafOf k v p) ≡ []
-  unfolding encode leafOf
-  encode-null e = rw e refl
+    pub encode-integer : (z y : ℤ) → y ≡ z → z ≡ integerOf (take 8 (drop p v)) → fewestOf y ≡ encode (leafOf k v p)
+    unfolding encode leafOf
+    encode-integer z y f g = ap fewestOf (f ∙ g) ∙ rw e refl
 
-  encode-enumerated : k ≡ 10 → encode (leafOf k v p) ≡ fewestOf (pos (two v p))
-  unfolding encode leafOf
-  encode-enumerated e = rw e refl
+  module _ (e : k ≡ 3) where
+    own-bits : ownEnd k v p ≡ bitsEnd v p
+    unfolding ownEnd
+    own-bits = rw e refl
 
-  bits-size : k ≡ 3 → 0 < ownEnd k v p → length (encode (leafOf k v p)) ≡ 1 + octetsFor (two v p)
-  bits-size e h = let w = bits-is v p (rw (own-bits e) at h) .1 in rw (encode-bits e, part-length v (p + 2) (octetsFor (two v p)) w) (omega arith)
+    bits-is : (bitsEnd v p ≡ p + 2 + octetsFor (two v p)) × (p + 2 + octetsFor (two v p) ≤ length v)
+    unfolding bitsEnd
+    bits-is =
+        let g = rw own-bits at h in
+        test (ltb (length v) (p + 2)) (λ t. none (rw t at g)) λ t.
+        test (ltb (length v) (p + 2 + octetsFor (two v p))) (λ s. none (rw (t, s) at g)) λ s.
+        test (not (clearAt v (p + 2) (two v p))) (λ c. none (rw (t, s, c) at g)) λ c. (rw (t, s, c) refl, ltb-false _ _ s)
 
-  string-size : k ≡ 4 → 0 < ownEnd k v p → length (encode (leafOf k v p)) ≡ two v p
-  string-size e h = let w = string-is v p (rw (own-string e) at h) .1 in rw (encode-string e) (part-length v (p + 2) (two v p) w)
+    pub bits-there : p + 2 ≤ length v
+    bits-there = let w = bits-is .1 in omega arith
 
-  -- what is measured
-  module _ (r : Extent) where
-    none-measured : ownEnd k v p ≡ 0 → r .end ≡ 0 → r .size ≡ 0 → Measures k v p r
-    none-measured e f g = record { ends = f ∙ sym e; sized = λ h. none (rw e at h); small = rw g (omega arith) }
+    encode-bits : encode (leafOf k v p) ≡ spareIn (two v p) ∷ take (octetsFor (two v p)) (drop (p + 2) v)
+    unfolding encode leafOf
+    encode-bits = rw e refl
 
-    pub measured-boolean : k ≡ 1 → r .end ≡ booleanEnd v p → r .size ≡ 1 → Measures k v p r
-    measured-boolean e f g = record { ends = f ∙ sym (own-boolean e); sized = λ h. g ∙ sym (ap length (encode-boolean e)); small = rw g (omega arith) }
+    pub bits-size : (n : ℕ) → n ≡ two v p → (n + 7) / 8 + 1 ≡ length (encode (leafOf k v p))
+    bits-size n en = let w = bits-is .1 in rw (encode-bits, part-length v (p + 2) (octetsFor (two v p)) w, en) (omega arith)
 
-    pub no-integer : k ≡ 2 → (x : ℕ) → x ≡ fixedEnd v (p + 8) → x ≡ 0 → r .end ≡ 0 → r .size ≡ 0 → Measures k v p r
-    no-integer e x ex z f g = none-measured (own-integer e ∙ sym ex ∙ z) f g
+    module _ (n : ℕ) (en : n ≡ length (encode (leafOf k v p))) where
+      pub bits-one : n ≡ octetsFor (two v p) + 1
+      bits-one = en ∙ sym (bits-size (two v p) refl)
 
-    pub no-bits : k ≡ 3 → (x : ℕ) → x ≡ bitsEnd v p → x ≡ 0 → r .end ≡ 0 → r .size ≡ 0 → Measures k v p r
-    no-bits e x ex z f g = none-measured (own-bits e ∙ sym ex ∙ z) f g
+      pub bits-within : p + 2 + (n - 1) ≤ length v
+      bits-within = let w = bits-one in omega (arith, bits-is .1)
 
-    pub no-string : k ≡ 4 → (x : ℕ) → x ≡ stringEnd v p → x ≡ 0 → r .end ≡ 0 → r .size ≡ 0 → Measures k v p r
-    no-string e x ex z f g = none-measured (own-string e ∙ sym ex ∙ z) f g
+      pub bits-end : p + 2 + (n - 1) ≡ ownEnd k v p
+      bits-end = let w = bits-one in let q : p + 2 + (n - 1) ≡ p + 2 + octetsFor (two v p) = omega arith in q ∙ sym (own-bits ∙ bits-is .0)
 
-    pub measured-bits : k ≡ 3 → r .end ≡ bitsEnd v p → r .size ≡ r .end - p - 1 → two v p < 65536 → Measures k v p r
-    measured-bits e f g s =
-        record {
-          ends = f ∙ sym (own-bits e);
-          sized = λ h. let w = bits-is v p (rw (own-bits e) at h) .0 in let l = bits-size e h in omega arith;
-          small = test (ltb 0 (bitsEnd v p)) (λ t. let w = bits-is v p (ltb-true _ _ t) .0 in omega arith) λ t. let w : bitsEnd v p ≤ 0 = ltb-false _ _ t in omega arith;
-        }
-
-    pub measured-string : k ≡ 4 → r .end ≡ stringEnd v p → r .size ≡ r .end - p - 2 → two v p < 65536 → Measures k v p r
-    measured-string e f g s =
-        record {
-          ends = f ∙ sym (own-string e);
-          sized = λ h. let w = string-is v p (rw (own-string e) at h) .0 in let l = string-size e h in omega arith;
-          small = test (ltb 0 (stringEnd v p)) (λ t. let w = string-is v p (ltb-true _ _ t) .0 in omega arith) λ t. let w : stringEnd v p ≤ 0 = ltb-false _ _ t in omega arith;
-        }
-
-    pub measured-null : k ≡ 5 → r .end ≡ p → r .size ≡ 0 → Measures k v p r
-    measured-null e f g = record { ends = f ∙ sym (own-null e); sized = λ h. g ∙ sym (ap length (encode-null e)); small = rw g (omega arith) }
-
-    pub measured-number : k ≡ 10 → r .end ≡ fixedEnd v (p + 2) → (n : ℕ) → n ≡ two v p → r .size ≡ length (fewestOf (pos n)) → r .size < 4 → Measures k v p r
-    measured-number e f n en g s = record { ends = f ∙ sym (own-enumerated e); sized = λ h. g ∙ rw en (sym (ap length (encode-enumerated e))); small = omega arith }
-
-    pub no-kind : k < 16 → (k ≡ 1 → ⊥) → (k ≡ 2 → ⊥) → (k ≡ 3 → ⊥) → (k ≡ 4 → ⊥) → (k ≡ 5 → ⊥) → (k ≡ 10 → ⊥) → r .end ≡ 0 → r .size ≡ 0 → Measures k v p r
-    no-kind h e₁ e₂ e₃ e₄ e₅ e₁₀ f g =
-        none-measured (no-leaf v p k h (ne-eqb k 1 e₁) (ne-eqb k 2 e₂) (ne-eqb k 3 e₃) (ne-eqb k 4 e₄) (ne-eqb k 5 e₅) (ne-eqb k 10 e₁₀)) f g
-
-    -- eight octets that are there
-    module _ (e : ℕ) (ek : k ≡ 2) (ee : e ≡ fixedEnd v (p + 8)) (h : e ≡ 0 → ⊥) where
-      pub eight-there : (e ≡ p + 8) × (p + 8 ≤ length v)
-      eight-there = let w = fixed-is v (p + 8) (rw (← ee) (positive e h)) in (ee ∙ w .0, w .1)
-
-      pub eight-part : length (take (e - p) (drop p v)) ≡ 8
-      eight-part = let w = eight-there in let q : e - p ≡ 8 = omega (arith, w .0) in rw q (part-length v p 8 (w .1))
-
-      pub measured-integer : (z y : ℤ) (n : ℕ) → y ≡ z → z ≡ integerOf (take (e - p) (drop p v)) → n ≡ length (fewestOf y) → n ≤ 8 → r .end ≡ e → r .size ≡ n → Measures k v p r
-      measured-integer z y n f g i s j l =
-          record { ends = j ∙ ee ∙ sym (own-integer ek); sized = λ x. l ∙ i ∙ ap length (encode-integer z y e ek (eight-there .0) f g); small = omega arith }
-
-  -- what is put
-  module _ (h : 0 < ownEnd k v p) (n : ℕ) (en : n ≡ length (encode (leafOf k v p))) where
-    pub end-boolean : k ≡ 1 → p + 1 ≡ ownEnd k v p
-    end-boolean e = sym (own-boolean e ∙ boolean-is v p (rw (own-boolean e) at h))
-
-    pub end-integer : k ≡ 2 → p + 8 ≡ ownEnd k v p
-    end-integer e = sym (own-integer e ∙ fixed-is v (p + 8) (rw (own-integer e) at h) .0)
-
-    pub integer-there : k ≡ 2 → (p + 8 ≤ length v) × (length (take (p + 8 - p) (drop p v)) ≡ 8)
-    integer-there e =
-        let w = integer-within e h in
-        let q : p + 8 - p ≡ 8 = omega arith in
-        (w, rw q (part-length v p 8 w))
-
-    module _ (e : k ≡ 3) where
-      bits-at : (bitsEnd v p ≡ p + 2 + octetsFor (two v p)) × (p + 2 + octetsFor (two v p) ≤ length v)
-      bits-at = bits-is v p (rw (own-bits e) at h)
-
-      pub bits-one : n ≡ 1 + octetsFor (two v p)
-      bits-one = en ∙ bits-size e h
-
-      pub bits-there : p + 2 + (n - 1) ≤ length v
-      bits-there = let w = bits-one in omega (arith, bits-at .1)
-
-      pub end-bits : p + 2 + (n - 1) ≡ ownEnd k v p
-      end-bits = let w = bits-one in let q : p + 2 + (n - 1) ≡ p + 2 + octetsFor (two v p) = omega arith in q ∙ sym (own-bits e ∙ bits-at .0)
-
-      pub bits-copied : (x to : ℕ) (first last : List ℕ) → x ≡ two v p → last ≡ sets (set first to (8 * (n - 1) - x)) (to + 1) (take (n - 1) (drop (p + 2) v)) → last ≡ sets first to (encode (leafOf k v p))
-      bits-copied x to first last ex d =
+      pub bits-put : (x to : ℕ) (first last : List ℕ) → x ≡ two v p → last ≡ sets (set first to (8 * (n - 1) - x)) (to + 1) (take (n - 1) (drop (p + 2) v))
+          → last ≡ sets first to (encode (leafOf k v p))
+      bits-put x to first last ex d =
           let w = bits-one in
           let q : n - 1 ≡ octetsFor (two v p) = omega arith in
           let z : to + 1 ≡ suc to = omega arith in
-          rw (encode-bits e) (rw (ex, q, z) at d)
+          rw encode-bits (rw (ex, q, z) at d)
 
-    module _ (e : k ≡ 4) where
-      string-at : (stringEnd v p ≡ p + 2 + two v p) × (p + 2 + two v p ≤ length v)
-      string-at = string-is v p (rw (own-string e) at h)
+  module _ (e : k ≡ 4) where
+    own-string : ownEnd k v p ≡ stringEnd v p
+    unfolding ownEnd
+    own-string = rw e refl
 
+    string-is : (stringEnd v p ≡ p + 2 + two v p) × (p + 2 + two v p ≤ length v)
+    unfolding stringEnd
+    string-is =
+        let g = rw own-string at h in
+        test (ltb (length v) (p + 2)) (λ t. none (rw t at g)) λ t.
+        test (ltb (length v) (p + 2 + two v p)) (λ s. none (rw (t, s) at g)) λ s. (rw (t, s) refl, ltb-false _ _ s)
+
+    pub string-there : p + 2 ≤ length v
+    string-there = let w = string-is .1 in omega arith
+
+    encode-string : encode (leafOf k v p) ≡ take (two v p) (drop (p + 2) v)
+    unfolding encode leafOf
+    encode-string = rw e refl
+
+    pub string-size : (n : ℕ) → n ≡ two v p → n ≡ length (encode (leafOf k v p))
+    string-size n en = en ∙ sym (ap length encode-string ∙ part-length v (p + 2) (two v p) (string-is .1))
+
+    module _ (n : ℕ) (en : n ≡ length (encode (leafOf k v p))) where
       string-long : n ≡ two v p
-      string-long = en ∙ string-size e h
+      string-long = en ∙ sym (string-size (two v p) refl)
 
-      pub string-there : p + 2 + n ≤ length v
-      string-there = let w = string-long in omega (arith, string-at .1)
+      pub string-within : p + 2 + n ≤ length v
+      string-within = let w = string-long in omega (arith, string-is .1)
 
-      pub end-string : p + 2 + n ≡ ownEnd k v p
-      end-string = rw string-long (sym (own-string e ∙ string-at .0))
+      pub string-end : p + 2 + n ≡ ownEnd k v p
+      string-end = rw string-long (sym (own-string ∙ string-is .0))
 
-      pub string-copied : take n (drop (p + 2) v) ≡ encode (leafOf k v p)
-      string-copied = rw string-long (sym (encode-string e))
+      pub string-put : take n (drop (p + 2) v) ≡ encode (leafOf k v p)
+      string-put = rw string-long (sym encode-string)
 
-    pub end-null : k ≡ 5 → p ≡ ownEnd k v p
-    end-null e = sym (own-null e)
+  module _ (e : k ≡ 5) where
+    pub null-end : p ≡ ownEnd k v p
+    unfolding ownEnd
+    null-end = rw e refl
 
-    pub null-copied : (to : ℕ) (first : List ℕ) → k ≡ 5 → first ≡ sets first to (encode (leafOf k v p))
-    null-copied to first e = rw (encode-null e) refl
+    encode-null : encode (leafOf k v p) ≡ []
+    unfolding encode leafOf
+    encode-null = rw e refl
 
-    module _ (g : k < 16) (e₁ : k ≡ 1 → ⊥) (e₂ : k ≡ 2 → ⊥) (e₃ : k ≡ 3 → ⊥) (e₄ : k ≡ 4 → ⊥) (e₅ : k ≡ 5 → ⊥) where
-      last-kind : k ≡ 10
-      last-kind = last-leaf v p k g h (ne-eqb k 1 e₁) (ne-eqb k 2 e₂) (ne-eqb k 3 e₃) (ne-eqb k 4 e₄) (ne-eqb k 5 e₅)
+    pub null-size : 0 ≡ length (encode (leafOf k v p))
+    null-size = sym (ap length encode-null)
 
-      number-at : (fixedEnd v (p + 2) ≡ p + 2) × (p + 2 ≤ length v)
-      number-at = fixed-is v (p + 2) (rw (own-enumerated last-kind) at h)
+    pub null-put : (to : ℕ) (first : List ℕ) → first ≡ sets first to (encode (leafOf k v p))
+    null-put to first = rw encode-null refl
 
-      pub number-there : p + 2 ≤ length v
-      number-there = number-at .1
+  module _ (g : k < 16) (e₁ : k ≡ 1 → ⊥) (e₂ : k ≡ 2 → ⊥) (e₃ : k ≡ 3 → ⊥) (e₄ : k ≡ 4 → ⊥) (e₅ : k ≡ 5 → ⊥) where
+    last-kind : k ≡ 10
+    last-kind = last-leaf v p k g h (ne-eqb k 1 e₁) (ne-eqb k 2 e₂) (ne-eqb k 3 e₃) (ne-eqb k 4 e₄) (ne-eqb k 5 e₅)
 
-      pub number-size : n ≡ length (fewestOf (pos (two v p)))
-      number-size = en ∙ ap length (encode-enumerated last-kind)
+    own-number : ownEnd k v p ≡ fixedEnd v (p + 2)
+    unfolding ownEnd
+    own-number = rw last-kind refl
 
-      pub end-number : p + 2 ≡ ownEnd k v p
-      end-number = sym (own-enumerated last-kind ∙ number-at .0)
+    pub number-there : p + 2 ≤ length v
+    number-there = fixed-is v (p + 2) (rw own-number at h) .1
 
-      pub number-copied : encode (leafOf k v p) ≡ fewestOf (pos (two v p))
-      number-copied = encode-enumerated last-kind
+    pub number-end : p + 2 ≡ ownEnd k v p
+    number-end = sym (own-number ∙ fixed-is v (p + 2) (rw own-number at h) .0)
+
+    pub encode-number : (n : ℕ) → n ≡ two v p → fewestOf (pos n) ≡ encode (leafOf k v p)
+    unfolding encode leafOf
+    encode-number n en = rw (last-kind, en) refl
+
+-- eight octets that are all there
+pub eight-is : (v : List ℕ) (p : ℕ) → p + 8 ≤ length v → (z : ℤ) → z ≡ integerOf (filled (eight 0) (take (p + 8 - p) (drop p v)))
+    → z ≡ integerOf (take 8 (drop p v))
+unfolding eight
+eight-is v p h z e =
+    let q : p + 8 - p ≡ 8 = omega arith in
+    let l : eqb (length (take 8 (drop p v))) 8 ≡ true = eq-eqb _ _ (part-length v p 8 h) in
+    e ∙ rw (q, l) refl

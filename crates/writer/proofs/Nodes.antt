@@ -1,115 +1,28 @@
--- Loops over a node's octets and a record's own part, with a place and how many are left: what is left to test decides the whole test.
+-- Nodes by their kinds: where they end, and which are leaves.
 -- Assumes nothing.
-use mathlib.Core.Bool.{Bool, true, false, not, _||_, false≢true}
-use mathlib.Core.List.{List, [], _∷_}
-use mathlib.Core.Path.{_≡_, refl, sym, _∙_}
-use Prim.Native.Nat.{ℕ, zero, suc, _+_, _-_, _^_, _≤_, _<_}
+use mathlib.Core.Bool.{Bool, true, false, not, _&&_, _||_, false≢true}
+use mathlib.Core.List.{List}
+use mathlib.Core.Path.{_≡_, refl, sym, ap, _∙_}
+use Prim.Native.Nat.{ℕ, _+_, _≤_, _<_}
 use native.Mathlib.Omega.{arith}
-use borrow.Author.Tests.{lt-ltb, le-ltb, eq-eqb, ne-eqb, ltb-false}
-use lib.Dec.{ltb, eqb}
+use borrow.Author.Tests.{lt-ltb, le-ltb, le-leb, eq-eqb, ne-eqb, ltb-false, leb-true, leb-false}
+use lib.Dec.{ltb, leb, eqb}
 use lib.ListN.{length, getD}
-use Rattle.octets.proofs.Tests.{test, at}
-use Rattle.octets.specs.Lists.{any, all}
-use Rattle.octets.specs.Numbers.{two}
-use Rattle.table.specs.Reading.{numbersAt, membersAt, everyAt}
-use Rattle.coding.specs.Content.{listed}
-use Rattle.coding.specs.Judging.{flags, agreeing}
-use Rattle.writer.specs.Nodes.{fixedEnd, membersEnd, ownEnd, endAt, Marked}
-
--- the units of the last octet's spare bits
-abbrev powers : List ℕ
-powers = 1 ∷ 2 ∷ 4 ∷ 8 ∷ 16 ∷ 32 ∷ 64 ∷ 128 ∷ []
-
-pub power : (n : ℕ) → n < 8 → getD powers n 0 ≡ 2 ^ n
-power zero h = refl
-power (suc zero) h = refl
-power (suc (suc zero)) h = refl
-power (suc (suc (suc zero))) h = refl
-power (suc (suc (suc (suc zero)))) h = refl
-power (suc (suc (suc (suc (suc zero))))) h = refl
-power (suc (suc (suc (suc (suc (suc zero)))))) h = refl
-power (suc (suc (suc (suc (suc (suc (suc zero))))))) h = refl
-power (suc (suc (suc (suc (suc (suc (suc (suc n)))))))) h = absurd (omega arith)
-
-pub power-small : (n : ℕ) → n < 8 → (0 < getD powers n 0) × (getD powers n 0 < 256)
-power-small zero h = (omega arith, omega arith)
-power-small (suc zero) h = (omega arith, omega arith)
-power-small (suc (suc zero)) h = (omega arith, omega arith)
-power-small (suc (suc (suc zero))) h = (omega arith, omega arith)
-power-small (suc (suc (suc (suc zero)))) h = (omega arith, omega arith)
-power-small (suc (suc (suc (suc (suc zero))))) h = (omega arith, omega arith)
-power-small (suc (suc (suc (suc (suc (suc zero)))))) h = (omega arith, omega arith)
-power-small (suc (suc (suc (suc (suc (suc (suc zero))))))) h = (omega arith, omega arith)
-power-small (suc (suc (suc (suc (suc (suc (suc (suc n)))))))) h = absurd (omega arith)
-
--- a number is listed
-module _ (b : List ℕ) (p n x : ℕ) (w : Bool) where
-  pub listed-stops : listed (numbersAt b p n) x ≡ w → 0 < n → two b p ≡ x → true ≡ w
-  unfolding numbersAt listed any
-  listed-stops e h t = let q : n ≡ suc (n - 1) = omega arith in rw (q, eq-eqb (two b p) x t) at e
-
-  pub listed-goes : listed (numbersAt b p n) x ≡ w → 0 < n → (two b p ≡ x → ⊥) → listed (numbersAt b (p + 2) (n - 1)) x ≡ w
-  unfolding numbersAt listed any
-  listed-goes e h t = let q : n ≡ suc (n - 1) = omega arith in rw (q, ne-eqb (two b p) x t) at e
-
-  pub listed-ends : listed (numbersAt b p n) x ≡ w → n ≤ 0 → false ≡ w
-  unfolding numbersAt listed any
-  listed-ends e h = let q : n ≡ 0 = omega arith in rw q at e
-
--- the mandatory members are present
-module _ (b : List ℕ) (p n : ℕ) (v : List ℕ) (q : ℕ) (w : Bool) where
-  abbrev Agreeing : Type 0
-  Agreeing = agreeing (membersAt b p n) (flags (everyAt 1 v q n)) ≡ w
-
-  pub agreeing-stops : Agreeing → 0 < n → (eqb (getD v q 0) 1 || eqb (getD b (p + 1) 0) 1) ≡ false → false ≡ w
-  unfolding membersAt everyAt flags agreeing
-  agreeing-stops e h t = let s : n ≡ suc (n - 1) = omega arith in rw (s, t) at e
-
-  pub agreeing-goes : Agreeing → 0 < n → (eqb (getD v q 0) 1 || eqb (getD b (p + 1) 0) 1) ≡ true → agreeing (membersAt b (p + 2) (n - 1)) (flags (everyAt 1 v (q + 1) (n - 1))) ≡ w
-  unfolding membersAt everyAt flags agreeing
-  agreeing-goes e h t = let s : n ≡ suc (n - 1) = omega arith in rw (s, t) at e
-
-  pub agreeing-ends : Agreeing → n ≤ 0 → true ≡ w
-  unfolding membersAt everyAt flags agreeing
-  agreeing-ends e h = let s : n ≡ 0 = omega arith in rw s at e
-
--- a member's mark and whether it is optional, in the order that they are looked at
-pub neither : {y z : ℕ} (m o : ℕ) → m ≡ y → o ≡ z → (m ≡ 1 → ⊥) → (o ≡ 1 → ⊥) → (eqb y 1 || eqb z 1) ≡ false
-neither m o em eo h k = rw (← em, ← eo, ne-eqb m 1 h, ne-eqb o 1 k) refl
-
-pub present : {y : ℕ} (z m : ℕ) → m ≡ y → m ≡ 1 → (eqb y 1 || eqb z 1) ≡ true
-present z m em h = rw (← em, eq-eqb m 1 h) refl
-
-or-true : (b : Bool) → (b || true) ≡ true
-or-true true = refl
-or-true false = refl
-
-pub absent-optional : {z : ℕ} (y o : ℕ) → o ≡ z → o ≡ 1 → (eqb y 1 || eqb z 1) ≡ true
-absent-optional y o eo h = rw (← eo, eq-eqb o 1 h) (or-true (eqb y 1))
-
--- the mark of a node
-module _ (v : List ℕ) (at : ℕ) where
-  pub unmarked-short : length v < at + 3 → Marked v at false
-  unfolding endAt
-  unmarked-short h = record { yes = λ e. absurd (false≢true e); no = λ e. rw (lt-ltb (length v) (at + 3) h) refl }
-
-  module _ (h : at + 3 ≤ length v) (x : ℕ) (ex : x ≡ getD v at 0) where
-    pub unmarked-first : (x ≡ 0x56 → ⊥) → Marked v at false
-    unfolding endAt
-    unmarked-first f = record { yes = λ e. absurd (false≢true e); no = λ e. rw (le-ltb (length v) (at + 3) h, ← ex, ne-eqb x 0x56 f) refl }
-
-    pub marked-second : (y : ℕ) → x ≡ 0x56 → y ≡ getD v (at + 1) 0 → Marked v at (eqb y 0x41)
-    unfolding endAt
-    marked-second y f ey =
-        record {
-          yes = λ e. (h, rw (le-ltb (length v) (at + 3) h, ← ex, eq-eqb x 0x56 f, ← ey, e) refl);
-          no = λ e. rw (le-ltb (length v) (at + 3) h, ← ex, eq-eqb x 0x56 f, ← ey, e) refl;
-        }
+use Rattle.octets.proofs.Tests.{test, at, or-by, or-false}
+use Rattle.octets.proofs.Lists.{both}
+use Rattle.octets.specs.Lists.{all}
+use Rattle.table.specs.Syntax.{Boolean, Integer, BitString, OctetString, Null, Enumerated, Body, Plain, Sequence, Set, SequenceOf, SetOf, Choice, constructed}
+use Rattle.table.specs.Octets.{kind}
+use Rattle.table.specs.Reading.{everyAt, bodyAt}
+use Rattle.table.specs.Fields.{constructedOf}
+use Rattle.coding.specs.Judging.{a-leaf, leafKind, nodeKind, agrees}
+use Rattle.writer.specs.Nodes.{fixedEnd, membersEnd, ownEnd, endAt, leafOf, nodeOf, nodeAt, Marked}
+use Rattle.writer.proofs.Forms.{agreed-kind}
 
 none : {X : Type 0} → 0 < 0 → X
 none h = absurd (omega arith)
 
--- where the own part ends of a node that is shaped
+-- a node that is shaped has a shaped own part
 pub own-end-is : (v : List ℕ) (p : ℕ) → 0 < endAt v p → endAt v p ≡ ownEnd (getD v (p + 2) 0) v (p + 3)
 unfolding endAt
 own-end-is v p h =
@@ -117,71 +30,199 @@ own-end-is v p h =
     test (not (eqb (getD v p 0) 0x56)) (λ f. none (rw (e, f) at h)) λ f.
     test (not (eqb (getD v (p + 1) 0) 0x41)) (λ g. none (rw (e, f, g) at h)) λ g. rw (e, f, g) refl
 
+pub own-shaped : (v : List ℕ) (p : ℕ) → 0 < endAt v p → 0 < ownEnd (getD v (p + 2) 0) v (p + 3)
+own-shaped v p h = rw (own-end-is v p h) at h
+
+abbrev NodeKindAt : List ℕ → ℕ → ℕ → Type 0
+NodeKindAt v p k = 0 < ownEnd k v p → nodeKind (nodeOf k v p) ≡ k
+
+pub node-kind : (k : ℕ) (v : List ℕ) (p : ℕ) → NodeKindAt v p k
+unfolding nodeOf leafOf nodeKind leafKind ownEnd
+node-kind k v p =
+    at k 1 (NodeKindAt v p) (λ h. refl) λ e₁.
+    at k 2 (NodeKindAt v p) (λ h. refl) λ e₂.
+    at k 3 (NodeKindAt v p) (λ h. refl) λ e₃.
+    at k 4 (NodeKindAt v p) (λ h. refl) λ e₄.
+    at k 5 (NodeKindAt v p) (λ h. refl) λ e₅.
+    at k 10 (NodeKindAt v p) (λ h. refl) λ e₁₀.
+    at k 16 (NodeKindAt v p) (λ h. refl) λ e₁₆.
+    at k 17 (NodeKindAt v p) (λ h. refl) λ e₁₇.
+    at k 48 (NodeKindAt v p) (λ h. refl) λ e₄₈.
+    at k 49 (NodeKindAt v p) (λ h. refl) λ e₄₉.
+    at k 50 (NodeKindAt v p) (λ h. refl) λ e₅₀ h.
+    none (rw (e₁, e₂, e₃, e₄, e₅, e₁₀, e₁₆, e₁₇, e₄₈, e₄₉, e₅₀) at h)
+
+-- a kind below 16 is a leaf's
+pub leaf-node : (k : ℕ) (v : List ℕ) (p : ℕ) → k < 16 → nodeOf k v p ≡ a-leaf (leafOf k v p)
+unfolding nodeOf
+leaf-node k v p h =
+    rw (
+      ne-eqb k 16 (λ e. omega arith),
+      ne-eqb k 17 (λ e. omega arith),
+      ne-eqb k 48 (λ e. omega arith),
+      ne-eqb k 49 (λ e. omega arith),
+      ne-eqb k 50 (λ e.
+          omega arith),
+    ) refl
+
+-- and one of 16 or more is constructed
+constructed-kind : (c : Body) → constructed c ≡ leb 16 (kind c)
+unfolding constructed kind
+constructed-kind (Plain Boolean) = refl
+constructed-kind (Plain Integer) = refl
+constructed-kind (Plain BitString) = refl
+constructed-kind (Plain OctetString) = refl
+constructed-kind (Plain Null) = refl
+constructed-kind (Plain (Enumerated ns)) = refl
+constructed-kind (Sequence ms) = refl
+constructed-kind (Set ms) = refl
+constructed-kind (SequenceOf t) = refl
+constructed-kind (SetOf t) = refl
+constructed-kind (Choice ts) = refl
+
+module _ (c : Body) (v : List ℕ) (p : ℕ) (h : 0 < endAt v p) (a : agrees c (nodeAt v p) ≡ true) where
+  agreed-octet : getD v (p + 2) 0 ≡ kind c
+  agreed-octet = sym (node-kind (getD v (p + 2) 0) v (p + 3) (own-shaped v p h)) ∙ agreed-kind c (nodeAt v p) a
+
+  pub constructed-node : constructed c ≡ leb 16 (getD v (p + 2) 0)
+  constructed-node = constructed-kind c ∙ ap (leb 16) (sym agreed-octet)
+
+  pub built-kind : constructed c ≡ true → 16 ≤ nodeKind (nodeAt v p)
+  built-kind e = rw (agreed-kind c (nodeAt v p) a) (leb-true 16 (kind c) (sym (constructed-kind c) ∙ e))
+
+  pub leaf-kind : constructed c ≡ false → getD v (p + 2) 0 < 16
+  leaf-kind e = rw agreed-octet (leb-false 16 (kind c) (sym (constructed-kind c) ∙ e))
+
 pub fixed-is : (v : List ℕ) (e : ℕ) → 0 < fixedEnd v e → (fixedEnd v e ≡ e) × (e ≤ length v)
 unfolding fixedEnd
 fixed-is v e h = test (ltb (length v) e) (λ t. none (rw t at h)) λ t. (rw t refl, ltb-false (length v) e t)
 
-pub members-is : (v : List ℕ) (p : ℕ) → 0 < membersEnd v p → membersEnd v p ≡ p + 1 + getD v p 0
+pub members-is : (v : List ℕ) (p : ℕ) → 0 < membersEnd v p
+    → (membersEnd v p ≡ p + 1 + getD v p 0) × (p + 1 + getD v p 0 ≤ length v) × (all (λ b. ltb b 2) (everyAt 1 v (p + 1) (getD v p 0)) ≡ true)
 unfolding membersEnd
 members-is v p h =
     test (ltb (length v) (p + 1)) (λ e. none (rw e at h)) λ e.
     test (ltb (length v) (p + 1 + getD v p 0)) (λ f. none (rw (e, f) at h)) λ f.
-    test (not (all (λ b. ltb b 2) (everyAt 1 v (p + 1) (getD v p 0)))) (λ g. none (rw (e, f, g) at h)) λ g. rw (e, f, g) refl
+    test (all (λ b. ltb b 2) (everyAt 1 v (p + 1) (getD v p 0))) (λ g. (rw (e, f, g) refl, ltb-false _ _ f, g)) λ g. none (rw (e, f, g) at h)
 
--- a constructed kind, by ranges
-abbrev ConstructedEnd : List ℕ → ℕ → ℕ → Type 0
-ConstructedEnd v p k = 16 ≤ k → 0 < ownEnd k v p → (k < 18 → ownEnd k v p ≡ p + 1 + getD v p 0) × (18 ≤ k → k < 50 → ownEnd k v p ≡ p + 2) × (50 ≤ k → (k ≡ 50) × (ownEnd k v p ≡ p + 1))
+-- a constructed node has an octet behind its kind
+abbrev LongEnd : List ℕ → ℕ → ℕ → Type 0
+LongEnd v p k = 16 ≤ k → 0 < ownEnd k v p → p + 1 ≤ ownEnd k v p
 
-constructed-end : (v : List ℕ) (p k : ℕ) → ConstructedEnd v p k
+long-end : (v : List ℕ) (p k : ℕ) → LongEnd v p k
 unfolding ownEnd
-constructed-end v p k =
-    at k 1 (ConstructedEnd v p) (λ g. absurd (omega arith)) λ e₁.
-    at k 2 (ConstructedEnd v p) (λ g. absurd (omega arith)) λ e₂.
-    at k 3 (ConstructedEnd v p) (λ g. absurd (omega arith)) λ e₃.
-    at k 4 (ConstructedEnd v p) (λ g. absurd (omega arith)) λ e₄.
-    at k 5 (ConstructedEnd v p) (λ g. absurd (omega arith)) λ e₅.
-    at k 10 (ConstructedEnd v p) (λ g. absurd (omega arith)) λ e₁₀.
-    at k 16 (ConstructedEnd v p) (λ g h. ((λ i. members-is v p h), (λ i j. absurd (omega arith)), λ i. absurd (omega arith))) λ e₁₆.
-    at k 17 (ConstructedEnd v p) (λ g h. ((λ i. members-is v p h), (λ i j. absurd (omega arith)), λ i. absurd (omega arith))) λ e₁₇.
-    at k 48 (ConstructedEnd v p) (λ g h. ((λ i. absurd (omega arith)), (λ i j. fixed-is v (p + 2) h .0), λ i. absurd (omega arith))) λ e₄₈.
-    at k 49 (ConstructedEnd v p) (λ g h. ((λ i. absurd (omega arith)), (λ i j. fixed-is v (p + 2) h .0), λ i. absurd (omega arith))) λ e₄₉.
-    at k 50 (ConstructedEnd v p) (λ g h. ((λ i. absurd (omega arith)), (λ i j. absurd (omega arith)), λ i. (refl, fixed-is v (p + 1) h .0))) λ e₅₀ g h.
+long-end v p k =
+    at k 1 (LongEnd v p) (λ g. absurd (omega arith)) λ e₁.
+    at k 2 (LongEnd v p) (λ g. absurd (omega arith)) λ e₂.
+    at k 3 (LongEnd v p) (λ g. absurd (omega arith)) λ e₃.
+    at k 4 (LongEnd v p) (λ g. absurd (omega arith)) λ e₄.
+    at k 5 (LongEnd v p) (λ g. absurd (omega arith)) λ e₅.
+    at k 10 (LongEnd v p) (λ g. absurd (omega arith)) λ e₁₀.
+    at k 16 (LongEnd v p) (λ g h. let w = members-is v p h .0 in omega arith) λ e₁₆.
+    at k 17 (LongEnd v p) (λ g h. let w = members-is v p h .0 in omega arith) λ e₁₇.
+    at k 48 (LongEnd v p) (λ g h. let w = fixed-is v (p + 2) h .0 in omega arith) λ e₄₈.
+    at k 49 (LongEnd v p) (λ g h. let w = fixed-is v (p + 2) h .0 in omega arith) λ e₄₉.
+    at k 50 (LongEnd v p) (λ g h. let w = fixed-is v (p + 1) h .0 in omega arith) λ e₅₀ g h.
     none (rw (e₁, e₂, e₃, e₄, e₅, e₁₀, e₁₆, e₁₇, e₄₈, e₄₉, e₅₀) at h)
 
-abbrev LastKind : List ℕ → ℕ → ℕ → Type 0
-LastKind v p k = 16 ≤ k → 0 < ownEnd k v p → eqb k 16 ≡ false → eqb k 17 ≡ false → eqb k 48 ≡ false → eqb k 49 ≡ false → k ≡ 50
+pub built-long : (v : List ℕ) (p : ℕ) → 0 < endAt v p → 16 ≤ getD v (p + 2) 0 → p + 4 ≤ endAt v p
+built-long v p h g = let w = long-end v (p + 3) (getD v (p + 2) 0) g (own-shaped v p h) in rw (own-end-is v p h) (omega arith)
 
-last-kind : (v : List ℕ) (p k : ℕ) → LastKind v p k
+-- the mark of a node
+module _ (v : List ℕ) (at : ℕ) where
+  pub unmarked-short : length v < at + 3 → Marked v at false
+  unfolding endAt
+  unmarked-short h = record { yes = λ e. absurd (false≢true e); no = λ e. rw (lt-ltb (length v) (at + 3) h) refl }
+
+  module _ (h : at + 3 ≤ length v) where
+    pub unmarked-first : (getD v at 0 ≡ 0x56 → ⊥) → Marked v at false
+    unfolding endAt
+    unmarked-first f = record { yes = λ e. absurd (false≢true e); no = λ e. rw (le-ltb (length v) (at + 3) h, ne-eqb (getD v at 0) 0x56 f) refl }
+
+    pub marked-second : getD v at 0 ≡ 0x56 → Marked v at (eqb (getD v (at + 1) 0) 0x41)
+    unfolding endAt
+    marked-second f =
+        record {
+          yes = λ e. (h, rw (le-ltb (length v) (at + 3) h, eq-eqb (getD v at 0) 0x56 f, e) refl);
+          no = λ e. rw (le-ltb (length v) (at + 3) h, eq-eqb (getD v at 0) 0x56 f, e) refl;
+        }
+
+-- presence octets, with the test of their room
+module _ (v : List ℕ) (p : ℕ) (t : Bool) (et : t ≡ (leb (p + 1 + getD v p 0) (length v) && all (λ x. ltb x 2) (everyAt 1 v (p + 1) (getD v p 0)))) where
+  pub members-shaped : t ≡ true → p + 1 + getD v p 0 ≡ membersEnd v p
+  unfolding membersEnd
+  members-shaped f =
+      let z = both (leb (p + 1 + getD v p 0) (length v)) (all (λ x. ltb x 2) (everyAt 1 v (p + 1) (getD v p 0))) (sym et ∙ f) in
+      let l = leb-true (p + 1 + getD v p 0) (length v) (z .0) in
+      rw (le-ltb (length v) (p + 1) (omega arith), le-ltb (length v) (p + 1 + getD v p 0) l, z .1) refl
+
+  pub members-shapeless : t ≡ false → 0 ≡ membersEnd v p
+  unfolding membersEnd
+  members-shapeless f =
+      test (ltb (length v) (p + 1)) (λ a. rw a refl) λ a.
+      test (ltb (length v) (p + 1 + getD v p 0)) (λ c. rw (a, c) refl) λ c.
+      let l : leb (p + 1 + getD v p 0) (length v) ≡ true = le-leb (p + 1 + getD v p 0) (length v) (ltb-false (length v) (p + 1 + getD v p 0) c) in
+      let g : all (λ x. ltb x 2) (everyAt 1 v (p + 1) (getD v p 0)) ≡ false = sym (rw l at et) ∙ f in
+      rw (a, c, g) refl
+
+-- where the own part of a constructed kind ends
+abbrev SimpleNot : ℕ → Type 0
+SimpleNot k = constructedOf k ≡ true → (eqb k 1 ≡ false) × (eqb k 2 ≡ false) × (eqb k 3 ≡ false) × (eqb k 4 ≡ false) × (eqb k 5 ≡ false) × (eqb k 10 ≡ false)
+
+not-simple : (k : ℕ) → SimpleNot k
+unfolding bodyAt constructed
+not-simple k =
+    at k 1 SimpleNot (λ h. absurd (false≢true h)) λ e₁.
+    at k 2 SimpleNot (λ h. absurd (false≢true h)) λ e₂.
+    at k 3 SimpleNot (λ h. absurd (false≢true h)) λ e₃.
+    at k 4 SimpleNot (λ h. absurd (false≢true h)) λ e₄.
+    at k 5 SimpleNot (λ h. absurd (false≢true h)) λ e₅.
+    at k 10 SimpleNot (λ h. absurd (false≢true h)) λ e₁₀ h. (e₁, e₂, e₃, e₄, e₅, e₁₀)
+
+module _ (v : List ℕ) (k p : ℕ) (c : constructedOf k ≡ true) where
+  module _ (t : Bool) (et : t ≡ (eqb k 16 || eqb k 17)) where
+    pub end-members : t ≡ true → membersEnd v p ≡ ownEnd k v p
+    unfolding ownEnd
+    end-members h =
+        let (e₁, e₂, e₃, e₄, e₅, e₁₀) = not-simple k c in
+        rw (e₁, e₂, e₃, e₄, e₅, e₁₀) (or-by (eqb k 16) (eqb k 17) (sym et ∙ h) (λ a. rw a refl) λ a. test (eqb k 16) (λ d. rw d refl) λ d. rw (d, a) refl)
+
+    module _ (h : t ≡ false) (s : Bool) (es : s ≡ (eqb k 48 || eqb k 49)) where
+      none-of : (eqb k 16 ≡ false) × (eqb k 17 ≡ false)
+      none-of = or-false (eqb k 16) (eqb k 17) (sym et ∙ h)
+
+      pub end-list : s ≡ true → fixedEnd v (p + 2) ≡ ownEnd k v p
+      unfolding ownEnd
+      end-list g =
+          let (e₁, e₂, e₃, e₄, e₅, e₁₀) = not-simple k c in
+          rw (e₁, e₂, e₃, e₄, e₅, e₁₀, none-of .0, none-of .1) (or-by (eqb k 48) (eqb k 49) (sym es
+          ∙ g) (λ a. rw a refl) λ a. test (eqb k 48) (λ d. rw d refl) λ d. rw (d, a) refl)
+
+      module _ (g : s ≡ false) where
+        no-list : (eqb k 48 ≡ false) × (eqb k 49 ≡ false)
+        no-list = or-false (eqb k 48) (eqb k 49) (sym es ∙ g)
+
+        pub end-choice : k ≡ 50 → fixedEnd v (p + 1) ≡ ownEnd k v p
+        unfolding ownEnd
+        end-choice f = rw f refl
+
+        pub end-none : (k ≡ 50 → ⊥) → 0 ≡ ownEnd k v p
+        unfolding ownEnd
+        end-none f =
+            let (e₁, e₂, e₃, e₄, e₅, e₁₀) = not-simple k c in
+            rw (e₁, e₂, e₃, e₄, e₅, e₁₀, none-of .0, none-of .1, no-list .0, no-list .1, ne-eqb k 50 f) refl
+
+-- a constructed kind that is shaped is 16 or more
+abbrev Big : List ℕ → ℕ → ℕ → Type 0
+Big v p k = constructedOf k ≡ true → 0 < ownEnd k v p → 16 ≤ k
+
+pub built-big : (v : List ℕ) (p k : ℕ) → Big v p k
 unfolding ownEnd
-last-kind v p k =
-    at k 1 (LastKind v p) (λ g. absurd (omega arith)) λ e₁.
-    at k 2 (LastKind v p) (λ g. absurd (omega arith)) λ e₂.
-    at k 3 (LastKind v p) (λ g. absurd (omega arith)) λ e₃.
-    at k 4 (LastKind v p) (λ g. absurd (omega arith)) λ e₄.
-    at k 5 (LastKind v p) (λ g. absurd (omega arith)) λ e₅.
-    at k 10 (LastKind v p) (λ g. absurd (omega arith)) λ e₁₀.
-    at k 50 (LastKind v p) (λ g h _ _ _ _. refl) λ e₅₀ g h e₁₆ e₁₇ e₄₈ e₄₉.
+built-big v p k =
+    at k 16 (Big v p) (λ c h. omega arith) λ e₁₆.
+    at k 17 (Big v p) (λ c h. omega arith) λ e₁₇.
+    at k 48 (Big v p) (λ c h. omega arith) λ e₄₈.
+    at k 49 (Big v p) (λ c h. omega arith) λ e₄₉.
+    at k 50 (Big v p) (λ c h. omega arith) λ e₅₀ c h.
+    let (e₁, e₂, e₃, e₄, e₅, e₁₀) = not-simple k c in
     none (rw (e₁, e₂, e₃, e₄, e₅, e₁₀, e₁₆, e₁₇, e₄₈, e₄₉, e₅₀) at h)
-
-module _ (v : List ℕ) (p k : ℕ) (h : 0 < endAt v p) (ek : k ≡ getD v (p + 2) 0) (g : 16 ≤ getD v (p + 2) 0) where
-  by-kind : ConstructedEnd v (p + 3) k
-  by-kind = constructed-end v (p + 3) k
-
-  own-of : 0 < ownEnd k v (p + 3)
-  own-of = rw ek (rw (own-end-is v p h) at h)
-
-  end-of : endAt v p ≡ ownEnd k v (p + 3)
-  end-of = rw ek (own-end-is v p h)
-
-  pub end-members : (c : ℕ) → k < 18 → c ≡ getD v (p + 3) 0 → p + 3 + 1 + c ≡ endAt v p
-  end-members c i ec = rw ec (sym (end-of ∙ by-kind (omega arith) own-of .0 i))
-
-  pub end-elements : 18 ≤ k → k < 50 → p + 3 + 2 ≡ endAt v p
-  end-elements i j = sym (end-of ∙ by-kind (omega arith) own-of .1 i j)
-
-  pub end-choice : 50 ≤ k → p + 3 + 1 ≡ endAt v p
-  end-choice i = sym (end-of ∙ by-kind (omega arith) own-of .2 i .1)
-
-  -- the last of the constructed kinds
-  pub kind-choice : (k ≡ 16 → ⊥) → (k ≡ 17 → ⊥) → (k ≡ 48 → ⊥) → (k ≡ 49 → ⊥) → k ≡ 50
-  kind-choice h₁₆ h₁₇ h₄₈ h₄₉ = last-kind v (p + 3) k (omega arith) own-of (ne-eqb k 16 h₁₆) (ne-eqb k 17 h₁₇) (ne-eqb k 48 h₄₈) (ne-eqb k 49 h₄₉)

@@ -19,7 +19,8 @@ use Rattle.ber.specs.BitString.{masked}
 use Rattle.ber.specs.Integer.{integerOf}
 use Rattle.table.specs.Reading.{everyAt}
 use Rattle.coding.specs.Value.{boolean, integer, bits, string, enumerated}
-use Rattle.coding.specs.Judging.{Node, a-leaf, a-sequence, a-set, a-sequence-of, a-set-of, a-choice, need, flags, ownMembers, ownCount, ownBoolean, ownInteger, ownString, octetsFor, spareIn, ownBits, ownEnumerated, ownChoice, readOwn, readNode}
+use Rattle.coding.specs.Judging.{Node, a-leaf, a-sequence, a-set, a-sequence-of, a-set-of, a-choice, need, flags, ownMembers, ownCount, ownBoolean, ownInteger}
+use Rattle.coding.specs.Judging.{ownString, octetsFor, spareIn, ownBits, ownEnumerated, ownChoice, readOwn, readNode}
 use Rattle.writer.specs.Nodes.{fixedEnd, booleanEnd, stringEnd, clearAt, bitsEnd, membersEnd, ownEnd, endAt, leafOf, nodeOf, nodeAt}
 
 -- e is the end of the own part at p of the node x, where a is read; 0 if it is refused; l octets are left where the node begins
@@ -42,7 +43,7 @@ first-at v p = getD-drop p v 0 0 ∙ ap (λ (i : ℕ). getD v i 0) (add-zero p)
 two-at : (v : List ℕ) (p : ℕ) → two (drop p v) 0 ≡ two v p
 two-at v p = rw (first-at, getD-drop p v 1 0) refl
 
-pub every-take : (v : List ℕ) (p n : ℕ) → p + n ≤ length v → take n (drop p v) ≡ everyAt 1 v p n
+every-take : (v : List ℕ) (p n : ℕ) → p + n ≤ length v → take n (drop p v) ≡ everyAt 1 v p n
 unfolding everyAt
 every-take v p zero h = refl
 every-take v p (suc n) h =
@@ -87,7 +88,12 @@ module _ (v : List ℕ) (l p : ℕ) (h : p ≤ length v) where
       rw (t, need-yes l 2 (drop p v) _ (omega arith), two-at, drop-drop 2 p v)
       (test (ltb (length v) (p + 2 + two v p))
       (λ u. let w : length v < p + 2 + two v p = ltb-true _ _ u in rw (u, need-no l (two v p) (drop (p + 2) v) _ (omega arith)) bad)
-      (λ u. let w : p + 2 + two v p ≤ length v = ltb-false _ _ u in rw (u, need-yes l (two v p) (drop (p + 2) v) _ (omega arith), drop-drop (two v p) (p + 2) v) (good (p + 2 + two v p) (omega arith) w))))
+      (λ u. let w : p + 2 + two v p ≤ length v = ltb-false _ _ u in rw (
+        u,
+        need-yes l (two v p) (drop (p + 2) v) _ (omega arith),
+        drop-drop (two v p) (p + 2)
+            v,
+      ) (good (p + 2 + two v p) (omega arith) w))))
 
 and-true : (b : Bool) → (b && true) ≡ b
 and-true true = refl
@@ -103,7 +109,8 @@ masked-last s (suc m) v q h =
     let i = masked-last s m v (suc q) (omega arith) in
     rw (e, ← i, drop-cons v q 0 (omega arith), drop-cons v (suc q) 0 (omega arith), eq-eqb (getD v q 0) (getD v q 0) refl) refl
 
-clear-is : (v : List ℕ) (q n : ℕ) → q + octetsFor n ≤ length v → same (masked (spareIn n) (take (octetsFor n) (drop q v))) (take (octetsFor n) (drop q v)) ≡ clearAt v q n
+clear-is : (v : List ℕ) (q n : ℕ) → q + octetsFor n ≤ length v
+    → same (masked (spareIn n) (take (octetsFor n) (drop q v))) (take (octetsFor n) (drop q v)) ≡ clearAt v q n
 unfolding clearAt same masked
 clear-is v q zero h = refl
 clear-is v q (suc n) h =
@@ -144,7 +151,8 @@ module _ (v : List ℕ) (l p : ℕ) (h : p ≤ length v) where
       (λ u.
       let w : p + 1 + getD v p 0 ≤ length v = ltb-false _ _ u in
       rw (u, need-yes l (getD v p 0) (drop (p + 1) v) _ (omega arith), every-take v (p + 1) (getD v p 0) w, drop-drop (getD v p 0) (p + 1) v)
-      (test (all (λ b. ltb b 2) (everyAt 1 v (p + 1) (getD v p 0))) (λ c. rw c (simp run (good (p + 1 + getD v p 0) (omega arith) w))) λ c. rw c (simp run bad)))))
+      (test (all (λ b. ltb b 2) (everyAt 1 v (p + 1) (getD v p 0))) (λ c. rw c (simp run (good (p + 1 + getD v p 0) (omega arith) w))) λ c. rw c (simp run
+      bad)))))
 
   count-reads : (f : ℕ → Node) → Reads v l p (f (two v p)) (fixedEnd v (p + 2)) (ownCount f l (drop p v))
   unfolding ownCount
@@ -192,5 +200,6 @@ node-reads v p h =
     let s : p + 3 ≤ length v = ltb-false _ _ t in
     rw (t, need-yes (length (drop p v)) 3 (drop p v) _ (omega arith), first-at, getD-drop p v 1 0, getD-drop p v 2 0, drop-drop 3 p v)
     (test (eqb (getD v p 0) 0x56)
-    (λ a. rw a (simp run (test (eqb (getD v (p + 1) 0) 0x41) (λ b. rw b (simp run (own-reads v (length (drop p v)) (p + 3) s (getD v (p + 2) 0)))) λ b. rw b (simp run bad))))
+    (λ a. rw a (simp run (test (eqb (getD v (p + 1) 0) 0x41) (λ b. rw b (simp run (own-reads v (length (drop p v)) (p + 3) s (getD v (p + 2) 0)))) λ b. rw b
+    (simp run bad))))
     (λ a. rw a (simp run bad))))

@@ -1,45 +1,45 @@
--- Runs of stores, one after another.
+-- Runs of stores, one after another, and a part of a buffer that comes back.
 -- Assumes nothing.
-use mathlib.Core.List.{List, [], _∷_, _++_}
+use mathlib.Core.List.{List, append-assoc}
 use mathlib.Core.Path.{_≡_, refl, sym, _∙_}
-use Prim.Native.Nat.{ℕ, suc, _+_, _-_, _≤_, _<_}
-use native.Mathlib.Nat.{add-zero, add-suc, suc-add}
-use native.Mathlib.Numerals.{add-one}
+use Prim.Native.Nat.{ℕ, _+_, _-_, _≤_}
 use native.Mathlib.Omega.{arith}
-use lib.ListN.{length, getD, take, drop, set, drop-of-length-le}
-use lib.Seq.{sets, drop-cons}
+use borrow.Author.Tests.{eq-eqb}
+use borrow.Rule.Slice.PartMut.{putMid}
+use lib.IntN.{ℤ}
+use lib.ListN.{length, take, drop, length-drop}
+use lib.Seq.{sets, sets-eq, drop-drop, length-take-le}
+use mir.Syntax.{w64}
+use mir.Val.{ofZ, SFits}
+use Rattle.octets.specs.Buffers.{filled}
+use Rattle.ber.specs.Integer.{fewestOf}
+use Rattle.ber.specs.Told.{lastOctets}
+use Rattle.ber.proofs.Integers.{last-fewest}
 
-pub sets-append : (vs d : List ℕ) (i : ℕ) (ws : List ℕ) → sets d i (vs ++ ws) ≡ sets (sets d i vs) (i + length vs) ws
-sets-append [] d i ws = rw add-zero refl
-sets-append (v ∷ vs) d i ws = rw (sets-append vs (set d i v) (suc i) ws, add-suc, suc-add) refl
+-- a part of n octets from a on that comes back as w
+part-put : (buf part w : List ℕ) (a n : ℕ) → part ≡ w → length w ≡ n → a + n ≤ length buf → putMid a n buf part ≡ sets buf a w
+part-put buf part w a n e l h = rw (e, drop-drop n a buf) (sym (rw (l, append-assoc) at (sets-eq w buf a (omega arith))))
 
-pub two : (n : ℕ) → n + 2 ≡ suc (suc n)
-two n = omega arith
+-- a part that a copy was put over, and one that an integer was put over
+module _ (buf : List ℕ) (to n : ℕ) (h : to + n ≤ length buf) where
+  count : to + n - to ≡ n
+  count = omega arith
 
-pub three : (n : ℕ) → n + 3 ≡ suc (suc (suc n))
-three n = omega arith
+  part-long : length (take (to + n - to) (drop to buf)) ≡ n
+  part-long = let l = length-drop to buf in rw count (length-take-le n (drop to buf) (omega arith))
 
--- the loop of a copy: what is still to be stored
-pub stores-turn : (w buf o : List ℕ) (at i : ℕ) → i < length o → w ≡ sets buf at (drop i o) → w ≡ sets (set buf at (getD o i 0)) (at + 1) (drop (i + 1) o)
-stores-turn w buf o at i h e = e ∙ rw (drop-cons o i 0 h, add-one, add-one) refl
+  pub copy-put : (v : List ℕ) (p : ℕ) (last : List ℕ) → p + n ≤ length v → last ≡ filled (take (to + n - to) (drop to buf)) (take (p + n - p) (drop p v))
+      → putMid to (to + n - to) buf last ≡ sets buf to (take n (drop p v))
+  copy-put v p last g e =
+      let q : p + n - p ≡ n = omega arith in
+      let l = length-drop p v in
+      let k : length (take n (drop p v)) ≡ n = length-take-le n (drop p v) (omega arith) in
+      let f : last ≡ take n (drop p v) = e ∙ rw (q, eq-eqb (length (take n (drop p v))) (length (take (to + n - to) (drop to buf))) (k ∙ sym part-long)) refl in
+      rw count (part-put buf last (take n (drop p v)) to n f k h)
 
-pub stores-end : (w buf o : List ℕ) (at i : ℕ) → length o ≤ i → w ≡ sets buf at (drop i o) → buf ≡ w
-stores-end w buf o at i h e = sym (rw (drop-of-length-le o h) at e)
-
-pub copies-none : (b l : List ℕ) (to p n : ℕ) → sets b to (take n (drop p l)) ≡ sets b (to + 0) (take (n - 0) (drop (p + 0) l))
-copies-none b l to p n =
-    let e : to + 0 ≡ to = omega arith in
-    let f : n - 0 ≡ n = omega arith in
-    let g : p + 0 ≡ p = omega arith in
-    rw (e, f, g) refl
-
-pub copies-turn : (w buf v : List ℕ) (to p n i : ℕ) → i < n → p + i < length v → w ≡ sets buf (to + i) (take (n - i) (drop (p + i) v))
-    → w ≡ sets (set buf (to + i) (getD v (p + i) 0)) (to + (i + 1)) (take (n - (i + 1)) (drop (p + (i + 1)) v))
-copies-turn w buf v to p n i h k e =
-    let a : n - i ≡ suc (n - (i + 1)) = omega arith in
-    let b : p + (i + 1) ≡ suc (p + i) = omega arith in
-    let c : to + (i + 1) ≡ suc (to + i) = omega arith in
-    rw (b, c) (rw (drop-cons v (p + i) 0 k, a) at e)
-
-pub copies-end : (w buf s : List ℕ) (at n i : ℕ) → n ≤ i → w ≡ sets buf at (take (n - i) s) → buf ≡ w
-copies-end w buf s at n i h e = let a : n - i ≡ 0 = omega arith in sym (rw a at e)
+  pub integer-put : (z y : ℤ) (last : List ℕ) → SFits w64 z → y ≡ z → n ≡ length (fewestOf z)
+      → last ≡ lastOctets (length (take (to + n - to) (drop to buf))) (ofZ w64 y)
+      → putMid to (to + n - to) buf last ≡ sets buf to (fewestOf z)
+  integer-put z y last s ey en e =
+      let f : last ≡ fewestOf z = e ∙ rw (part-long, en, ey) (last-fewest z s) in
+      rw count (part-put buf last (fewestOf z) to n f (sym en) h)

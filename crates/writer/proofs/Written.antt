@@ -1,74 +1,45 @@
 -- The ways through the writer of a whole value.
 -- Assumes nothing.
-use mathlib.Core.Bool.{Bool, true, false}
-use mathlib.Core.List.{List, [], _∷_, _++_}
+use mathlib.Core.Bool.{true, false}
+use mathlib.Core.List.{List, [], _∷_, _++_, append-assoc}
 use mathlib.Core.Path.{_≡_, refl, sym, ap, _∙_}
 use Prim.Native.Nat.{ℕ, _+_, _-_, _≤_, _<_, min}
 use native.Mathlib.Nat.{zero-add}
 use native.Mathlib.Omega.{arith}
-use borrow.Author.Tests.{lt-ltb, le-ltb, le-leb, lt-leb, ltb-true, ltb-false, eqb-true, eqb-false}
+use borrow.Author.Tests.{lt-ltb, le-ltb, le-leb, lt-leb, leb-true, eqb-true, eqb-false}
 use lib.Dec.{ltb, leb, eqb}
-use lib.ListN.{length, take, drop}
-use lib.Seq.{sets, sets-eq}
+use lib.ListN.{length, take, drop, take-append-drop}
+use lib.Seq.{sets, sets-eq, length-take-le, drop-append-le}
 use Rattle.octets.proofs.Tests.{test}
-use Rattle.octets.specs.Lists.{all}
 use Rattle.octets.specs.Answer.{Answer, got, refused, then, if, none-left}
 use Rattle.octets.proofs.Answer.{run, refused≢got, then-refused}
-use Rattle.table.specs.Syntax.{Table, Record, isChoice}
-use Rattle.table.specs.Rules.{missing}
+use Rattle.table.specs.Syntax.{Table}
+use Rattle.table.specs.Entries.{tableIn, Filled}
 use Rattle.table.specs.Passes.{Passes}
-use Rattle.table.proofs.Promises.{shaped-classes}
 use Rattle.table.specs.declared.TableCause.the-variants.{NoType}
 use Rattle.coding.specs.Value.{Value}
 use Rattle.coding.specs.Form.{formAt}
 use Rattle.coding.specs.Judging.{need, readNode, judgeValue, judgeWhole}
+use Rattle.coding.specs.Outcome.{Outcome, refuse, write-at-start}
 use Rattle.coding.specs.Calls.{valueCause, afterJudging, writeOutcome}
 use Rattle.coding.specs.declared.ValueCause.{ValueCause}
 use Rattle.coding.specs.declared.ValueCause.the-variants.{Shape, Room}
+use Rattle.coding.specs.declared.Refusal.{Refusal}
 use Rattle.coding.specs.declared.Refusal.the-variants.{Table as OfTable, Value as OfValue}
+use Rattle.coding.specs.declared.Answer.{Answer as Told}
 use Rattle.coding.specs.declared.Answer.the-variants.{Done as TDone, Refused as TRefused}
 use Rattle.coding.proofs.Checked.{Says}
-use Rattle.writer.specs.Frames.{cap, Tagged}
+use Rattle.writer.specs.Frames.{cap}
+use Rattle.writer.specs.Ready.{Ready}
 use Rattle.writer.specs.Told.{told, written, IsDone}
 use Rattle.writer.specs.Putting.{Fits, IsPut}
 use Rattle.writer.specs.declared.judge.Judged.{Judged}
 use Rattle.writer.specs.declared.judge.Judged.the-variants.{Done, Refused}
 use Rattle.writer.specs.declared.put.Placed.{Placed}
+use Rattle.writer.proofs.Judging.{done, no}
 
--- what the check of a table promises of tags
-pub passes-tagged : (b : List ℕ) (T : Table) (n : ℕ) → Passes b T n → Tagged T
-unfolding isChoice all
-passes-tagged b T n p = record { some-tag = λ t e. by t e (isChoice (T t .body)) refl; classes = cls }
-  where
-    by : (t : ℕ) → T t .tags ≡ [] → (c : Bool) → isChoice (T t .body) ≡ c → isChoice (T t .body) ≡ true
-    by t e true f = f
-    by t e false f =
-        test (ltb t n) (λ h. absurd (p .tagged t (ltb-true t n h) (missing e f)))
-        (λ h. ap (λ (r : Record). isChoice (r .body)) (p .no-more t (ltb-false t n h)))
-
-    cls : (t : ℕ) → all (λ g. leb (g .class) 3) (T t .tags) ≡ true
-    cls t =
-        test (ltb t n) (λ h. shaped-classes (T t) (p .shaped t (ltb-true t n h)))
-        (λ h. ap (λ (r : Record). all (λ g. leb (g .class) 3) (r .tags)) (p .no-more t (ltb-false t n h)))
-
--- what the judge told
-told-done : {A : Type 0} (f : A → List ℕ) (v : List ℕ) (x : Answer A) (r : Judged) (e s : ℕ) → r ≡ told f v x → r ≡ Done e s
-    → (a : A) × (w : List ℕ) × (x ≡ got a w) × (length v - length w ≡ e) × (cap (length (f a)) ≡ s)
-unfolding told
-told-done f v (got a w) r e s p q = let z = sym p ∙ q in (a, w, refl, cc, cc)
-told-done f v (refused c l) r e s p q = absurd (clash (sym p ∙ q))
-  where
-    clash : Refused c (length v - l) ≡ Done e s → ⊥
-    clash z = let o : _≡_ {A = ℕ} 0 1 = cc in omega arith
-
-told-refused : {A : Type 0} (f : A → List ℕ) (v : List ℕ) (x : Answer A) (r : Judged) (c p : ℕ) → r ≡ told f v x → r ≡ Refused c p
-    → (l : ℕ) × (x ≡ refused c l) × (length v - l ≡ p)
-unfolding told
-told-refused f v (got a w) r c p e q = absurd (clash (sym e ∙ q))
-  where
-    clash : Done (length v - length w) (cap (length (f a))) ≡ Refused c p → ⊥
-    clash z = let o : _≡_ {A = ℕ} 0 1 = cc in omega arith
-told-refused f v (refused d l) r c p e q = let z = sym e ∙ q in let h : d ≡ c = cc in (l, ap (λ (k : ℕ). refused k l) h, cc)
+pub ready : (b index v : List ℕ) (n : ℕ) → Filled b index n → Passes b (tableIn b) n → length v ≤ 16384 → Ready b index v
+ready b index v n F P l = let q = F .count in record { filled = rw q at F; passes = rw q at P; little = l }
 
 none-nil : (w : List ℕ) → length w ≡ 0 → none-left w ≡ true
 unfolding none-left
@@ -90,12 +61,12 @@ never-empty T t [] a w h e = refused≢got (sym (empty T t) ∙ e)
 never-empty T t (x ∷ v) a w h e = omega arith
 
 -- the value that was accepted, and the length of its form
-pub record Accepted (T : Table) (t : ℕ) (v : List ℕ) (s : ℕ) : Type 0 where
-  pub value : Value
-  pub rest : List ℕ
-  pub is : judgeValue T 24 t v ≡ got value rest
-  pub none : length rest ≡ 0
-  pub size : cap (length (formAt T 24 t value)) ≡ s
+record Accepted (T : Table) (t : ℕ) (v : List ℕ) (s : ℕ) : Type 0 where
+  value : Value
+  rest : List ℕ
+  is : judgeValue T 24 t v ≡ got value rest
+  none : length rest ≡ 0
+  size : cap (length (formAt T 24 t value)) ≡ s
 
 module _ (T : Table) (n t : ℕ) (v buf : List ℕ) where
   pub out-type : n ≤ t → Says (writeOutcome T n t v buf) (TRefused (OfTable NoType)) buf
@@ -130,24 +101,24 @@ module _ (T : Table) (n t : ℕ) (v buf : List ℕ) where
   whole-got a w q h = simp (run, q, none-nil w h)
 
   module _ (h : t < n) (l : length v ≤ 16384) (r : Judged) (p : r ≡ told (formAt T 24 t) v (judgeValue T 24 t v)) where
-    pub out-refused : (c q : ℕ) (k : ValueCause) → r ≡ Refused c q → k ≡ valueCause c q → Says (writeOutcome T n t v buf) (TRefused (OfValue k)) buf
+    pub out-refused : (k : ValueCause) → r ≡ Refused k → Says (writeOutcome T n t v buf) (TRefused (OfValue k)) buf
     unfolding afterJudging
-    out-refused c q k e f =
-        let (i, x, y) = told-refused (formAt T 24 t) v (judgeValue T 24 t v) r c q p e in
+    out-refused k e =
+        let (c, i, x, y) = no (formAt T 24 t) v (judgeValue T 24 t v) r k p e in
         let o = judged h l (refused c i) (whole-refused c i x) in
-        (rw (o, f, y), rw o)
+        (rw o (ap (λ (z : ValueCause). TRefused (OfValue z)) y), rw o)
 
     module _ (e s : ℕ) (d : r ≡ Done e s) where
       pub out-left : e < length v → Says (writeOutcome T n t v buf) (TRefused (OfValue (Shape e))) buf
       unfolding afterJudging valueCause
       out-left g =
-          let (a, w, x, y, z) = told-done (formAt T 24 t) v (judgeValue T 24 t v) r e s p d in
+          let (a, w, x, y, z) = done (formAt T 24 t) v (judgeValue T 24 t v) r e s p d in
           let o = judged h l (refused 11 (length w)) (whole-left a w x (omega arith)) in
           (rw o (simp (run, y)), rw o)
 
-      pub accepted : length v ≤ e → Accepted T t v s
+      accepted : length v ≤ e → Accepted T t v s
       accepted g =
-          let (a, w, x, y, z) = told-done (formAt T 24 t) v (judgeValue T 24 t v) r e s p d in
+          let (a, w, x, y, z) = done (formAt T 24 t) v (judgeValue T 24 t v) r e s p d in
           test (eqb (length w) 0)
           (λ i. record { value = a; rest = w; is = x; none = eqb-true (length w) 0 i; size = z })
           (λ i. absurd (never-empty T t v a w (omega (arith, eqb-false (length w) 0 i)) x))
@@ -156,36 +127,81 @@ module _ (T : Table) (n t : ℕ) (v buf : List ℕ) where
         whole : (x : Accepted T t v s) → writeOutcome T n t v buf ≡ afterJudging (formAt T 24 t) v buf (got (x .value) (x .rest))
         whole x = judged h l (got (x .value) (x .rest)) (whole-got (x .value) (x .rest) (x .is) (x .none))
 
-        lacks : (x : Accepted T t v s) → min 8192 (length buf) < length (formAt T 24 t (x .value)) → Says (writeOutcome T n t v buf) (TRefused (OfValue Room)) buf
-        unfolding afterJudging
-        lacks x k =
-            let o = whole x in
-            let f : leb (length (formAt T 24 t (x .value))) (min 8192 (length buf)) ≡ false = lt-leb _ _ k in
-            (rw o (simp (run, f)), rw o (simp (run, f)))
-
-        pub out-over : 8192 < s → Says (writeOutcome T n t v buf) (TRefused (OfValue Room)) buf
-        out-over k = let x = accepted g in lacks x (omega (arith, x .size))
-
-        pub out-room : s ≤ 8192 → length buf < s → Says (writeOutcome T n t v buf) (TRefused (OfValue Room)) buf
-        out-room j k = let x = accepted g in lacks x (omega (arith, x .size))
-
-        module _ (j : s ≤ 8192) (k : s ≤ length buf) where
-          length-is : (x : Accepted T t v s) → length (formAt T 24 t (x .value)) ≡ s
-          length-is x = omega (arith, x .size)
-
-          pub fits : Fits (formAt T 24 t) (judgeValue T 24 t v) 0 buf
-          unfolding IsDone written
-          fits = let x = accepted g in let y = length-is x in
-              record { done = rw (x .is) tt; short = rw (x .is) (omega arith); room = rw (x .is) (omega arith) }
-
-          pub out-done : (u w : List ℕ) (q : Placed) → IsPut (formAt T 24 t) (judgeValue T 24 t v) u 0 buf w q → Says (writeOutcome T n t v buf) (TDone s) w
-          unfolding afterJudging written
-          out-done u w q b =
+        module _ (room : length buf ≤ 8192) where
+          pub out-room : length buf < s → Says (writeOutcome T n t v buf) (TRefused (OfValue Room)) buf
+          unfolding afterJudging
+          out-room k =
               let x = accepted g in
-              let y = length-is x in
-              let m = formAt T 24 t (x .value) in
               let o = whole x in
-              let f : leb (length m) (min 8192 (length buf)) ≡ true = le-leb (length m) (min 8192 (length buf)) (omega arith) in
-              let c : w ≡ sets buf 0 m = rw (x .is) at (b .buffer) in
-              let z : sets buf 0 m ≡ take 0 buf ++ m ++ drop (0 + length m) buf = sets-eq m buf 0 (omega arith) in
-              (rw o (simp (run, f) (ap TDone (sym y))), c ∙ z ∙ rw o (simp (run, f, zero-add)))
+              let f : leb (length (formAt T 24 t (x .value))) (min 8192 (length buf)) ≡ false = lt-leb (length (formAt T 24 t (x .value))) (min 8192 (length
+              buf)) (omega (arith, x .size)) in
+              (rw o (simp (run, f)), rw o (simp (run, f)))
+
+          module _ (k : s ≤ length buf) where
+            length-is : (x : Accepted T t v s) → length (formAt T 24 t (x .value)) ≡ s
+            length-is x = omega (arith, x .size)
+
+            pub fits : Fits (formAt T 24 t) (judgeValue T 24 t v) 0 buf
+            unfolding IsDone written
+            fits = let x = accepted g in let y = length-is x in
+                record { done = rw (x .is) tt; short = rw (x .is) (omega arith); room = rw (x .is) (omega arith) }
+
+            pub out-done : (w : List ℕ) (q : Placed) → IsPut (formAt T 24 t) (judgeValue T 24 t v) v 0 buf w q → Says (writeOutcome T n t v buf) (TDone s) w
+            unfolding afterJudging written
+            out-done w q b =
+                let x = accepted g in
+                let y = length-is x in
+                let m = formAt T 24 t (x .value) in
+                let o = whole x in
+                let f : leb (length m) (min 8192 (length buf)) ≡ true = le-leb (length m) (min 8192 (length buf)) (omega arith) in
+                let c : w ≡ sets buf 0 m = rw (x .is) at (b .buffer) in
+                let z : sets buf 0 m ≡ take 0 buf ++ m ++ drop (0 + length m) buf = sets-eq m buf 0 (omega arith) in
+                (rw o (simp (run, f) (ap TDone (sym y))), c ∙ z ∙ rw o (simp (run, f, zero-add)))
+
+-- a buffer of more than 8,192 octets: only the first so many are written
+module _ (buf : List ℕ) (long : 8192 < length buf) where
+  abbrev Front : List ℕ
+  Front = take 8192 buf
+
+  front-length : length Front ≡ 8192
+  front-length = length-take-le 8192 buf (omega arith)
+
+  abbrev Grown : Outcome → Outcome → Type 0
+  Grown x y = (x .answer ≡ y .answer) × (x .buffer ++ drop 8192 buf ≡ y .buffer)
+
+  grown-refuse : (r : Refusal) → Grown (refuse r Front) (refuse r buf)
+  grown-refuse r = (refl, take-append-drop 8192 buf)
+
+  grown-write : (w : List ℕ) → length w ≤ 8192 → Grown (write-at-start w Front) (write-at-start w buf)
+  grown-write w h =
+      let l = front-length in
+      let q : drop (length w) Front ++ drop 8192 buf ≡ drop (length w) buf = sym (drop-append-le (length w) Front (drop 8192 buf) (omega arith))
+      ∙ ap (drop (length w)) (take-append-drop 8192 buf) in
+      (refl, append-assoc w (drop (length w) Front) (drop 8192 buf) ∙ ap (λ (l : List ℕ). w ++ l) q)
+
+  grown-judged : (f : Value → List ℕ) (v : List ℕ) (a : Answer Value) → Grown (afterJudging f v Front a) (afterJudging f v buf a)
+  unfolding afterJudging if
+  grown-judged f v (got x r) =
+      let l = front-length in
+      let m : min 8192 (length Front) ≡ 8192 = omega arith in
+      let k : min 8192 (length buf) ≡ 8192 = omega arith in
+      rw (m, k) (test (leb (length (f x)) 8192) (λ t. rw t (grown-write (f x) (leb-true _ _ t))) λ t. rw t (grown-refuse (OfValue Room)))
+  grown-judged f v (refused c l) = grown-refuse (OfValue (valueCause c (length v - l)))
+
+  grown : (T : Table) (n t : ℕ) (v : List ℕ) → Grown (writeOutcome T n t v Front) (writeOutcome T n t v buf)
+  unfolding writeOutcome if
+  grown T n t v =
+      test (ltb t n)
+      (λ a. test (leb (length v) 16384) (λ c. rw (a, c) (grown-judged (formAt T 24 t) v (judgeWhole T 24 t v))) λ c. rw (a, c) (grown-refuse (OfValue (Shape
+      0))))
+      (λ a. rw a (grown-refuse (OfTable NoType)))
+
+  pub out-front : (T : Table) (n t : ℕ) (v : List ℕ) (r : Told) (w : List ℕ) → Says (writeOutcome T n t v Front) r w
+      → Says (writeOutcome T n t v buf) r (w ++ drop 8192 buf)
+  out-front T n t v r w S = let g = grown T n t v in (S .0 ∙ g .0, ap (λ (l : List ℕ). l ++ drop 8192 buf) (S .1) ∙ g .1)
+
+  pub front-room : length Front ≤ 8192
+  front-room = let l = front-length in omega arith
+
+  pub front-count : 8192 ≡ length Front
+  front-count = sym front-length

@@ -98,7 +98,11 @@ nodeOf k v p =
 abbrev pub nodeAt : List ℕ → ℕ → Node
 nodeAt v at = nodeOf (getD v (at + 2) 0) v (at + 3)
 
--- whether the mark of a node is at a place, and its kind behind it
+-- the mark of a node is at a place, and its kind behind it
+abbrev pub IsMarked : List ℕ → ℕ → Type 0
+IsMarked v at = (at + 3 ≤ length v) × (endAt v at ≡ ownEnd (getD v (at + 2) 0) v (at + 3))
+
+-- whether it is
 pub record Marked (v : List ℕ) (at : ℕ) (r : Bool) : Type 0 where
-  pub yes : r ≡ true → (at + 3 ≤ length v) × (endAt v at ≡ ownEnd (getD v (at + 2) 0) v (at + 3))
+  pub yes : r ≡ true → IsMarked v at
   pub no : r ≡ false → endAt v at ≡ 0

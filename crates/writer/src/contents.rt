@@ -1,16 +1,32 @@
-// The contents octets of the simple kinds.
+// The contents octets of the simple kinds (X.690, 8.2 to 8.4, 8.6 to 8.8). A leaf's own part is at p.
 ghost use mathlib.Core.Path.{_≡_};
-ghost use Prim.Native.Nat.{_<_, _≤_, _+_};
-ghost use lib.IntN.{pos};
+ghost use Prim.Native.Nat.{_<_, _≤_, _+_, _/_};
 ghost use lib.ListN.{length, take, drop};
 ghost use lib.Seq.{sets};
+ghost use lib.IntN.{pos};
 ghost use Rattle.octets.specs.Numbers.{two};
-ghost use Rattle.ber.specs.Integer.{fewestOf};
+ghost use Rattle.ber.specs.Integer.{integerOf, fewestOf};
 ghost use Rattle.coding.specs.Form.{encode};
-ghost use Rattle.writer.specs.Nodes.{ownEnd, leafOf};
+ghost use Rattle.writer.specs.Nodes.{ownEnd, leafOf, clearAt};
 ghost use Rattle.writer.specs.Leaves.{Measures};
-use octets::number;
-use octets::octet;
+use ber::bit_string;
+use ber::integer;
+use octets::copy;
+use table::kind::BIT_STRING;
+use table::kind::BOOLEAN;
+use table::kind::ENUMERATED;
+use table::kind::INTEGER;
+use table::kind::NULL;
+use table::kind::OCTET_STRING;
+
+// The number that two octets at p stand for.
+pub fn number(v: &[u8], p: usize) -> usize
+    requires { ⌜ p + 2 ≤ length (now v) ⌝ }
+    ensures { λ r. ⌜ (r ≡ two (now (v .entry)) p) × (r < 65536) ⌝ }
+{
+    let q = p + 1;
+    v[p] as usize * 256 + v[q] as usize
+}
 
 // Where the own part of a leaf ends, and how many contents octets it has; an end of 0 if it is not shaped.
 pub struct Extent {
@@ -18,140 +34,230 @@ pub struct Extent {
     pub size: usize,
 }
 
-// How many octets a number of two octets has as an integer.
-fn number_size(n: usize) -> usize
-    requires { ⌜ n < 65536 ⌝ }
-    ensures { λ r. ⌜ (r ≡ length (fewestOf (pos n))) × (r < 4) ⌝ }
+// A leaf that is not shaped.
+fn none() -> Extent
+    ensures { λ r. ⌜ (r .end ≡ 0) × (r .size ≡ 0) ⌝ }
 {
-    if n < 128 {
-        return 1;
-    }
-    if n < 32768 {
-        return 2;
-    }
-    3
-}
-
-// The leaf of kind k whose own part is at p.
-pub fn measure(k: usize, v: &[u8], p: usize) -> Extent
-    requires { ⌜ (p < 20000) × (k < 16) ⌝ }
-    ensures { λ r. ⌜ Measures k (now (v .entry)) p r ⌝ }
-{
-    if k == 1 {
-        let end = crate::node::boolean_end(v, p);
-        return Extent { end, size: 1 };
-    }
-    if k == 2 {
-        let end = crate::node::fixed_end(v, p + 8);
-        if end == 0 {
-            return Extent { end: 0, size: 0 };
-        }
-        let z = crate::integer::of(&v[p..end]);
-        let size = crate::integer::size(z);
-        return Extent { end, size };
-    }
-    if k == 3 {
-        let end = crate::node::bits_end(v, p);
-        if end == 0 {
-            return Extent { end: 0, size: 0 };
-        }
-        return Extent {
-            end,
-            size: end - p - 1,
-        };
-    }
-    if k == 4 {
-        let end = crate::node::string_end(v, p);
-        if end == 0 {
-            return Extent { end: 0, size: 0 };
-        }
-        return Extent {
-            end,
-            size: end - p - 2,
-        };
-    }
-    if k == 5 {
-        return Extent { end: p, size: 0 };
-    }
-    if k == 10 {
-        let end = crate::node::fixed_end(v, p + 2);
-        let size = number_size(number(v, p));
-        return Extent { end, size };
-    }
     Extent { end: 0, size: 0 }
 }
 
-// Copies n octets of v from p on.
-fn copy(v: &[u8], p: usize, n: usize, buf: &mut [u8], to: usize) -> usize
+// The integer of the eight octets at p.
+fn eight(v: &[u8], p: usize) -> i64
+    requires { ⌜ p + 8 ≤ length (now v) ⌝ }
+    ensures { λ r. ⌜ r ≡ integerOf (take 8 (drop p (now (v .entry)))) ⌝ }
+{
+    let end = p + 8;
+    integer::of_eight(&v[p..end])
+}
+
+// How many contents octets an ENUMERATED number has.
+fn number_size(n: usize) -> usize
+    requires { ⌜ n < 65536 ⌝ }
+    ensures { λ r. ⌜ (r ≡ length (fewestOf (pos n))) × (r ≤ 8) ⌝ }
+{
+    integer::size(n as i64)
+}
+
+// Whether n bits from p on have 0 behind them to the end of their last octet, the one before e.
+fn clear(v: &[u8], p: usize, e: usize, n: usize) -> bool
+    requires { ⌜ (p < 30000) × (n < 65536) × (e ≡ p + (n + 7) / 8) × (e ≤ length (now v)) ⌝ }
+    ensures { λ r. ⌜ r ≡ clearAt (now (v .entry)) p n ⌝ }
+{
+    if n % 8 == 0 {
+        return true;
+    }
+    let unit = bit_string::unit(8 - n % 8);
+    let last = e - 1;
+    v[last] % unit == 0
+}
+
+fn boolean(v: &[u8], p: usize) -> Extent
+    requires { ⌜ p < 20000 ⌝ }
+    ensures { λ r. ⌜ Measures 1 (now (v .entry)) p r ⌝ }
+{
+    if v.len() <= p {
+        return none();
+    }
+    if 2 <= v[p] {
+        return none();
+    }
+    Extent {
+        end: p + 1,
+        size: 1,
+    }
+}
+
+fn integer(v: &[u8], p: usize) -> Extent
+    requires { ⌜ p < 20000 ⌝ }
+    ensures { λ r. ⌜ Measures 2 (now (v .entry)) p r ⌝ }
+{
+    let end = p + 8;
+    if v.len() < end {
+        return none();
+    }
+    let size = integer::size(eight(v, p));
+    Extent { end, size }
+}
+
+fn bits(v: &[u8], p: usize) -> Extent
+    requires { ⌜ p < 20000 ⌝ }
+    ensures { λ r. ⌜ Measures 3 (now (v .entry)) p r ⌝ }
+{
+    let start = p + 2;
+    if v.len() < start {
+        return none();
+    }
+    let n = number(v, p);
+    let size = (n + 7) / 8;
+    let end = start + size;
+    if v.len() < end {
+        return none();
+    }
+    if !clear(v, start, end, n) {
+        return none();
+    }
+    Extent {
+        end,
+        size: size + 1,
+    }
+}
+
+fn string(v: &[u8], p: usize) -> Extent
+    requires { ⌜ p < 20000 ⌝ }
+    ensures { λ r. ⌜ Measures 4 (now (v .entry)) p r ⌝ }
+{
+    let start = p + 2;
+    if v.len() < start {
+        return none();
+    }
+    let size = number(v, p);
+    let end = start + size;
+    if v.len() < end {
+        return none();
+    }
+    Extent { end, size }
+}
+
+fn enumerated(v: &[u8], p: usize) -> Extent
+    requires { ⌜ p < 20000 ⌝ }
+    ensures { λ r. ⌜ Measures 10 (now (v .entry)) p r ⌝ }
+{
+    let end = p + 2;
+    if v.len() < end {
+        return none();
+    }
+    let size = number_size(number(v, p));
+    Extent { end, size }
+}
+
+// The leaf of a kind.
+pub fn measure(kind: u8, v: &[u8], p: usize) -> Extent
+    requires { ⌜ (p < 20000) × (kind < 16) ⌝ }
+    ensures { λ r. ⌜ Measures kind (now (v .entry)) p r ⌝ }
+{
+    if kind == BOOLEAN {
+        return boolean(v, p);
+    }
+    if kind == INTEGER {
+        return integer(v, p);
+    }
+    if kind == BIT_STRING {
+        return bits(v, p);
+    }
+    if kind == OCTET_STRING {
+        return string(v, p);
+    }
+    if kind == NULL {
+        return Extent { end: p, size: 0 };
+    }
+    if kind == ENUMERATED {
+        return enumerated(v, p);
+    }
+    none()
+}
+
+// How many contents octets the shaped leaf of a kind has.
+pub fn size(kind: u8, v: &[u8], p: usize) -> usize
+    requires { ⌜ (p < 20000) × (kind < 16) × (0 < ownEnd kind (now v) p) ⌝ }
+    ensures { λ r. ⌜ (r ≡ length (encode (leafOf kind (now (v .entry)) p))) × (r < 65536) ⌝ }
+{
+    if kind == BOOLEAN {
+        return 1;
+    }
+    if kind == INTEGER {
+        return integer::size(eight(v, p));
+    }
+    if kind == BIT_STRING {
+        return (number(v, p) + 7) / 8 + 1;
+    }
+    if kind == OCTET_STRING {
+        return number(v, p);
+    }
+    if kind == NULL {
+        return 0;
+    }
+    number_size(number(v, p))
+}
+
+// Copies n octets of v from p on into the buffer.
+fn put_part(v: &[u8], p: usize, n: usize, buf: &mut [u8], to: usize)
     requires { ⌜ (p + n ≤ length (now v)) × (to + n ≤ length (now buf)) ⌝ }
-    ensures { λ r. ⌜ (r ≡ to + n) × (now (buf .exit) ≡ sets (now (buf .entry)) to (take n (drop p (now (v .entry))))) ⌝ }
+    ensures { λ _. ⌜ now (buf .exit) ≡ sets (now (buf .entry)) to (take n (drop p (now (v .entry)))) ⌝ }
 {
-    let mut i = 0;
-    while i < n {
-        let from = p + i;
-        let at = to + i;
-        buf[at] = v[from];
-        i += 1;
-    }
-    to + n
+    let end = p + n;
+    let last = to + n;
+    let c = &v[p..end];
+    copy(c, &mut buf[to..last]);
 }
 
-// The number of two octets at p, as an integer of `size` octets.
-fn put_number(size: usize, v: &[u8], p: usize, buf: &mut [u8], to: usize) -> usize
-    requires { ⌜ (p + 2 ≤ length (now v)) × (size ≡ length (fewestOf (pos (two (now v) p)))) × (to + size ≤ length (now buf)) ⌝ }
-    ensures { λ r. ⌜ (r ≡ p + 2) × (now (buf .exit) ≡ sets (now (buf .entry)) to (fewestOf (pos (two (now (v .entry)) p)))) ⌝ }
+// Puts the `size` contents octets of an integer.
+fn put_integer(z: i64, size: usize, buf: &mut [u8], to: usize)
+    requires { ⌜ (size ≡ length (fewestOf z)) × (to + size ≤ length (now buf)) ⌝ }
+    ensures { λ _. ⌜ now (buf .exit) ≡ sets (now (buf .entry)) to (fewestOf z) ⌝ }
 {
-    let q = p + 1;
-    if size == 1 {
-        buf[to] = v[q];
-        return p + 2;
-    }
-    let b = to + 1;
-    if size == 2 {
-        buf[to] = v[p];
-        buf[b] = v[q];
-        return p + 2;
-    }
-    let c = to + 2;
-    buf[to] = 0;
-    buf[b] = v[p];
-    buf[c] = v[q];
-    p + 2
+    let last = to + size;
+    integer::put(z, &mut buf[to..last]);
 }
 
-// The contents octets, `size` of them, of the leaf of kind k whose own part is at p; gives the end of that part.
-pub fn put(k: usize, size: usize, v: &[u8], p: usize, buf: &mut [u8], to: usize) -> usize
-    requires { ⌜ (p < 20000) × (k < 16) × (0 < ownEnd k (now v) p) × (size ≡ length (encode (leafOf k (now v) p))) × (to + size ≤ length (now buf)) ⌝ }
-    ensures { λ r. ⌜ (r ≡ ownEnd k (now (v .entry)) p) × (now (buf .exit) ≡ sets (now (buf .entry)) to (encode (leafOf k (now (v .entry)) p))) ⌝ }
+// Puts the contents octets, `size` of them, of the shaped leaf of a kind; where its own part ends.
+pub fn put(kind: u8, size: usize, v: &[u8], p: usize, buf: &mut [u8], to: usize) -> usize
+    requires { ⌜
+        (p < 20000)
+        × (kind < 16)
+        × (0 < ownEnd kind (now v) p)
+        × (size ≡ length (encode (leafOf kind (now v) p)))
+        × (to + size ≤ length (now buf))
+        ⌝ }
+    ensures { λ r. ⌜
+        (r ≡ ownEnd kind (now (v .entry)) p)
+        × (now (buf .exit) ≡ sets (now (buf .entry)) to (encode (leafOf kind (now (v .entry)) p)))
+        ⌝ }
 {
-    if k == 1 {
-        if octet(v, p) == 1 {
-            buf[to] = 255;
-            return p + 1;
-        }
-        buf[to] = 0;
+    if kind == BOOLEAN {
+        buf[to] = if v[p] == 1 { 255 } else { 0 };
         return p + 1;
     }
-    if k == 2 {
-        let e = p + 8;
-        let z = crate::integer::of(&v[p..e]);
-        crate::integer::put(z, buf, to);
-        return e;
+    if kind == INTEGER {
+        put_integer(eight(v, p), size, buf, to);
+        return p + 8;
     }
-    if k == 3 {
+    if kind == BIT_STRING {
+        let count = number(v, p);
         let n = size - 1;
-        let spare = 8 * n - number(v, p);
-        buf[to] = spare as u8;
+        buf[to] = (8 * n - count) as u8;
         let next = to + 1;
-        copy(v, p + 2, n, buf, next);
-        return p + 2 + n;
+        let start = p + 2;
+        put_part(v, start, n, buf, next);
+        return start + n;
     }
-    if k == 4 {
-        copy(v, p + 2, size, buf, to);
-        return p + 2 + size;
+    if kind == OCTET_STRING {
+        let start = p + 2;
+        put_part(v, start, size, buf, to);
+        return start + size;
     }
-    if k == 5 {
+    if kind == NULL {
         return p;
     }
-    put_number(size, v, p, buf, to)
+    put_integer(number(v, p) as i64, size, buf, to);
+    p + 2
 }

@@ -1,22 +1,23 @@
-// The items around the contents of a value, by the tags of the record at o.
+// The items around the contents of a value, by the tags of a record (X.690, 8.14): definite, in the shortest form.
 ghost use mathlib.Core.Path.{_≡_};
-ghost use mathlib.Core.Bool.{true, false, _||_};
-ghost use Prim.Native.Nat.{_<_, _≤_, _+_, _*_, _-_};
-ghost use lib.Dec.{ltb, leb};
-ghost use lib.ListN.{length, getD};
+ghost use mathlib.Core.Bool.{true};
+ghost use Prim.Native.Nat.{_<_, _≤_, _+_};
+ghost use lib.ListN.{length};
 ghost use lib.Seq.{sets};
-ghost use Rattle.octets.specs.Lists.{all};
 ghost use Rattle.table.specs.Syntax.{constructed};
-ghost use Rattle.table.specs.Reading.{tagsAt, recordAt};
-ghost use Rattle.writer.specs.Frames.{cap, framed, heads, Short};
-use octets::number;
-use octets::octet;
-use table::record;
+ghost use Rattle.table.specs.Entries.{unpacked};
+ghost use Rattle.writer.specs.Frames.{cap, framed, heads};
+ghost use Rattle.writer.specs.Known.{tagsFrom, recordIn, Known, Short};
+use ber::item;
+use table::entry::first;
+use table::entry::tag_code;
+use table::entry::tag_count;
+use table::entry::unpack;
 
 // The sum; 8,193 if it is over 8,192.
 pub fn grow(a: usize, b: usize) -> usize
     requires { ⌜ (a < 100000) × (b < 100000) ⌝ }
-    ensures { λ r. ⌜ r ≡ cap (a + b) ⌝ }
+    ensures { λ r. ⌜ (r ≡ cap (a + b)) × (r < 8194) ⌝ }
 {
     let c = a + b;
     if 8193 < c {
@@ -25,99 +26,95 @@ pub fn grow(a: usize, b: usize) -> usize
     c
 }
 
-// The length of the items by the tags from the j-th on, around contents of `inner` octets.
-pub fn size(table: &[u8], o: u16, j: usize, inner: usize) -> usize
-    requires { ⌜ (inner < 8194) × (j ≤ getD (now table) (o + 3) 0) ⌝ }
-    ensures { λ r. ⌜ (r ≡ framed (tagsAt (now (table .entry)) (o + 4 + 3 * j) (getD (now (table .entry)) (o + 3) 0 - j)) inner) × (r < 8194) ⌝ }
+// The length of the items by the tags from the j-th on, around n contents octets.
+fn size_from(table: &[u8], w: u64, j: usize, n: usize) -> usize
+    requires { ⌜ Known (now table) (unpacked w) × (n < 8194) ⌝ }
+    ensures { λ r. ⌜ (r ≡ framed (tagsFrom (now (table .entry)) (unpacked w) j) n) × (r < 8194) ⌝ }
 {
-    let mut i = record::tag_count(table, o);
-    let mut total = inner;
+    let e = unpack(w);
+    let mut i = tag_count(e);
+    let mut total = n;
     while j < i {
         i -= 1;
-        let p = o as usize + 5 + 3 * i;
-        let head = crate::identifier::size(number(table, p)) + crate::length::size(total);
+        let head = item::header_size(tag_code(table, e, i), total as u16);
         total = grow(head, total);
     }
     total
 }
 
-// Whether the item of a tag is constructed: i tags of n come up to it, and `last` says it of the last.
-fn built(i: usize, n: usize, last: bool) -> bool
-    ensures { λ r. ⌜ r ≡ (ltb i n || last) ⌝ }
+// Whether there is one tag, and its code and the length n take an octet each.
+fn is_short(w: u64, n: usize) -> bool
+    ensures { λ r. ⌜ (r ≡ true → Short (unpacked w) n) ⌝ }
 {
-    if i < n {
-        return true;
+    let e = unpack(w);
+    if e.explicit != 0 {
+        return false;
     }
-    last
+    if 256 <= e.code {
+        return false;
+    }
+    n < 128
 }
 
-// Their identifier and length octets; `last` says whether the innermost is constructed.
-pub fn put(table: &[u8], o: u16, inner: usize, last: bool, buf: &mut [u8], to: usize) -> usize
-    requires { ⌜ (inner < 8194) × (last ≡ constructed (recordAt (now table) o .body)) × (all (λ g. leb (g .class) 3) (recordAt (now table) o .tags) ≡ true) × (to + length (heads (constructed (recordAt (now table) o .body)) (recordAt (now table) o .tags) inner) ≤ length (now buf)) ⌝ }
-    ensures { λ r. ⌜ (r ≡ to + length (heads (constructed (recordAt (now (table .entry)) o .body)) (recordAt (now (table .entry)) o .tags) inner)) × (now (buf .exit) ≡ sets (now (buf .entry)) to (heads (constructed (recordAt (now (table .entry)) o .body)) (recordAt (now (table .entry)) o .tags) inner)) ⌝ }
+// The length of all items, around n contents octets.
+pub fn size(table: &[u8], w: u64, n: usize) -> usize
+    requires { ⌜ Known (now table) (unpacked w) × (n < 8194) ⌝ }
+    ensures { λ r. ⌜ (r ≡ framed (recordIn (now (table .entry)) (unpacked w) .tags) n) × (r < 8194) ⌝ }
 {
-    let n = record::tag_count(table, o);
+    if is_short(w, n) {
+        return n + 2;
+    }
+    size_from(table, w, 0, n)
+}
+
+// Their identifier and length octets.
+fn put_all(table: &[u8], w: u64, n: usize, buf: &mut [u8], to: usize) -> usize
+    requires { ⌜
+        (let r = recordIn (now table) (unpacked w) in
+        Known (now table) (unpacked w)
+        × (n < 8194)
+        × (to + length (heads (constructed (r .body)) (r .tags) n) ≤ length (now buf)))
+        ⌝ }
+    ensures { λ r. ⌜
+        (let x = recordIn (now (table .entry)) (unpacked w) in
+        let h = heads (constructed (x .body)) (x .tags) n in
+        (r ≡ to + length h)
+        × (now (buf .exit) ≡ sets (now (buf .entry)) to h))
+        ⌝ }
+{
+    let e = unpack(w);
+    let count = tag_count(e);
+    let mut next = to;
     let mut i = 0;
-    let mut at = to;
-    while i < n {
-        let p = o as usize + 4 + 3 * i;
-        let class = octet(table, p);
-        let number = number(table, p + 1);
+    while i < count {
+        let code = tag_code(table, e, i);
         i += 1;
-        let constructed = built(i, n, last);
-        at = crate::identifier::put(class, constructed, number, buf, at);
-        let inside = size(table, o, i, inner);
-        at = crate::length::put(inside, buf, at);
+        let inner = size_from(table, w, i, n);
+        next = item::put_header(code, inner as u16, buf, next);
     }
-    at
+    next
 }
 
-// Whether the record has one tag, and that and the length of contents of `inner` octets take an octet each.
-fn short(table: &[u8], o: u16, inner: usize) -> bool
-    ensures { λ r. ⌜ (r ≡ true → Short (now (table .entry)) o inner) ⌝ }
+// Puts the octets before the n contents octets; where they end.
+pub fn put(table: &[u8], w: u64, n: usize, buf: &mut [u8], to: usize) -> usize
+    requires { ⌜
+        (let r = recordIn (now table) (unpacked w) in
+        Known (now table) (unpacked w)
+        × (n < 8194)
+        × (to + length (heads (constructed (r .body)) (r .tags) n) ≤ length (now buf)))
+        ⌝ }
+    ensures { λ r. ⌜
+        (let x = recordIn (now (table .entry)) (unpacked w) in
+        let h = heads (constructed (x .body)) (x .tags) n in
+        (r ≡ to + length h)
+        × (now (buf .exit) ≡ sets (now (buf .entry)) to h))
+        ⌝ }
 {
-    let e = o as usize + 7;
-    if table.len() < e {
-        return false;
-    }
-    let a = o as usize + 3;
-    if table[a] != 1 {
-        return false;
-    }
-    let b = o as usize + 5;
-    if table[b] != 0 {
-        return false;
-    }
-    let c = o as usize + 6;
-    if 31 <= table[c] {
-        return false;
-    }
-    inner < 128
-}
-
-// The length of all items, the short ones first.
-pub fn leaf_size(table: &[u8], o: u16, inner: usize) -> usize
-    requires { ⌜ inner < 8194 ⌝ }
-    ensures { λ r. ⌜ (r ≡ framed (recordAt (now (table .entry)) o .tags) inner) × (r < 8194) ⌝ }
-{
-    if short(table, o, inner) {
-        return inner + 2;
-    }
-    size(table, o, 0, inner)
-}
-
-// The octets in front of the contents of a simple kind, the short ones first.
-pub fn leaf_put(table: &[u8], o: u16, inner: usize, buf: &mut [u8], to: usize) -> usize
-    requires { ⌜ (inner < 8194) × (constructed (recordAt (now table) o .body) ≡ false) × (all (λ g. leb (g .class) 3) (recordAt (now table) o .tags) ≡ true) × (to + length (heads false (recordAt (now table) o .tags) inner) ≤ length (now buf)) ⌝ }
-    ensures { λ r. ⌜ (r ≡ to + length (heads false (recordAt (now (table .entry)) o .tags) inner)) × (now (buf .exit) ≡ sets (now (buf .entry)) to (heads false (recordAt (now (table .entry)) o .tags) inner)) ⌝ }
-{
-    if short(table, o, inner) {
-        let p = o as usize + 4;
-        let first = octet(table, p) * 64 + octet(table, p + 2);
-        buf[to] = first as u8;
+    if is_short(w, n) {
+        buf[to] = first(w) as u8;
         let next = to + 1;
-        buf[next] = inner as u8;
+        buf[next] = n as u8;
         return to + 2;
     }
-    put(table, o, inner, false, buf, to)
+    put_all(table, w, n, buf, to)
 }

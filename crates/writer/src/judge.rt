@@ -1,264 +1,220 @@
-// Judges a value's octets, and measures the form of what is accepted; the length of the contents of each node is noted at a third of its place.
+// Judges a value's octets, and measures the form of what is accepted; the length of the contents of each constructed node is noted at a
+// quarter of its place (FORMATS, "Values").
 ghost use mathlib.Core.Path.{_≡_};
-ghost use mathlib.Core.Bool.{true};
-ghost use mathlib.Core.List.{List, []};
-ghost use Prim.Native.Nat.{ℕ, _<_, _≤_, _+_, _*_};
+ghost use mathlib.Core.Bool.{true, not};
+ghost use Prim.Native.Nat.{ℕ, _<_, _≤_, _+_, _-_};
 ghost use lib.ListN.{length, getD, drop};
-ghost use Rattle.table.specs.Reading.{look, recordAt, membersAt, everyAt};
+ghost use mathlib.Core.List.{[], _∷_};
+ghost use Rattle.table.specs.Syntax.{Table};
+ghost use Rattle.table.specs.Fields.{constructedOf};
+ghost use Rattle.table.specs.Entries.{unpacked, tableIn, countIn};
 ghost use Rattle.coding.specs.Form.{formAt};
-ghost use Rattle.coding.specs.Judging.{flags, judgeMembers, judgeElements, judgeBelow, judgeValue, agrees};
-ghost use Rattle.writer.specs.Nodes.{endAt, nodeAt};
-ghost use Rattle.writer.specs.Frames.{Tagged};
-ghost use Rattle.writer.specs.Told.{told, membersForm, elementsForm, contentsForm};
-ghost use Rattle.writer.specs.Notes.{Noted, NotedBelow, NotedMembers, NotedElements, Noting};
-use octets::number;
-use octets::octet;
-use table::record;
+ghost use Rattle.coding.specs.Judging.{agrees, judgeValue};
+ghost use Rattle.writer.specs.Nodes.{ownEnd, nodeOf, IsMarked};
+ghost use Rattle.writer.specs.Known.{recordIn, Known};
+ghost use Rattle.writer.specs.Standing.{startAt, rowIn, Standing};
+ghost use Rattle.writer.specs.Ready.{Ready};
+ghost use Rattle.writer.specs.Rows.{judgeRow, rowForm, contentsForm};
+ghost use Rattle.writer.specs.Told.{told};
+ghost use Rattle.writer.specs.Notes.{Noted, NotedRow, Noting};
+use crate::contents;
+use crate::contents::number;
+use crate::frame;
+use crate::node;
+use coding::ValueCause;
+use table::entry::Entry;
+use table::entry::lists;
+use table::entry::parts;
+use table::entry::unpack;
+use table::entry::whole;
+use table::kind::ENUMERATED;
+use table::kind::constructed;
 
 // Where a part of the value ends, and how many octets are written of it, to 8,193; or why it is refused.
 pub enum Judged {
     Done { end: usize, size: usize },
-    Refused { cause: u8, at: usize },
+    Refused(ValueCause),
 }
 
-// A value of type t.
-pub fn value(
-    table: &[u8],
-    offsets: &[u16],
-    t: usize,
-    v: &[u8],
-    at: usize,
-    level: u8,
-    lens: &mut [u16],
-) -> Judged
-    requires { ⌜ (length (now v) ≤ 16384) × (at ≤ length (now v)) × Tagged (look (now table) (now offsets)) × (length (now v) ≤ 3 * length (now lens)) ⌝ }
-    ensures { λ r. ⌜ (r ≡ told (formAt (look (now (table .entry)) (now (offsets .entry))) level t) (now (v .entry)) (judgeValue (look (now (table .entry)) (now (offsets .entry))) level t (drop at (now (v .entry))))) × Noting at (now (lens .entry)) (now (lens .exit)) r (λ m. Noted (now (table .entry)) (now (offsets .entry)) (now (v .entry)) m level t at) ⌝ }
+// Whether the shaped leaf of a kind with its own part at p agrees with a record.
+fn suits(table: &[u8], e: Entry, v: &[u8], kind: u8, p: usize) -> bool
+    requires { ⌜ (p < 20000) × (kind < 16) × (0 < ownEnd kind (now v) p) × Known (now table) e ⌝ }
+    ensures { λ r. ⌜ r ≡ agrees (recordIn (now (table .entry)) e .body) (nodeOf kind (now (v .entry)) p) ⌝ }
 {
-    if octet(v, at + 2) < 16 {
-        return leaf(table, record::offset(offsets, t), v, at, level, lens);
+    if kind != e.kind {
+        return false;
     }
-    built(table, offsets, t, v, at, level, lens)
+    if kind == ENUMERATED {
+        return lists(table, e, number(v, p) as i64);
+    }
+    true
 }
 
-// A value whose node is constructed.
-pub fn built(
-    table: &[u8],
-    offsets: &[u16],
-    t: usize,
-    v: &[u8],
-    at: usize,
-    level: u8,
-    lens: &mut [u16],
-) -> Judged
-    requires { ⌜ (length (now v) ≤ 16384) × (at ≤ length (now v)) × Tagged (look (now table) (now offsets)) × (length (now v) ≤ 3 * length (now lens)) × (16 ≤ getD (now v) (at + 2) 0) ⌝ }
-    ensures { λ r. ⌜ (r ≡ told (formAt (look (now (table .entry)) (now (offsets .entry))) level t) (now (v .entry)) (judgeValue (look (now (table .entry)) (now (offsets .entry))) level t (drop at (now (v .entry))))) × Noting at (now (lens .entry)) (now (lens .exit)) r (λ m. Noted (now (table .entry)) (now (offsets .entry)) (now (v .entry)) m level t at) ⌝ }
+// A leaf: where it ends, and how many contents octets it has.
+fn judge_leaf(table: &[u8], e: Entry, v: &[u8], at: usize, level: usize) -> Judged
+    requires { ⌜ (length (now v) ≤ 16384) × IsMarked (now v) at × (getD (now v) (at + 2) 0 < 16) × Known (now table) e ⌝ }
+    ensures { λ r. ⌜
+        ((T : Table) (t : ℕ) → T t .body ≡ recordIn (now (table .entry)) e .body →
+        r ≡ told (contentsForm T (level - 1) (T t .body)) (now (v .entry)) (judgeValue T level t (drop at (now (v .entry)))))
+        ⌝ }
 {
-    let e = crate::node::end(v, at);
-    if e == 0 {
-        return Judged::Refused { cause: 11, at };
-    }
-    if level == 0 {
-        return Judged::Refused { cause: 13, at };
-    }
-    let o = record::offset(offsets, t);
-    if !crate::node::agrees(table, o, v, at) {
-        return Judged::Refused { cause: 12, at };
-    }
-    match contents(table, offsets, o, v, at, e, level - 1, lens) {
-        Judged::Done { end, size } => {
-            let i = at / 3;
-            lens[i] = size as u16;
-            let total = crate::frame::size(table, o, 0, size);
-            Judged::Done { end, size: total }
-        }
-        Judged::Refused { cause, at: place } => Judged::Refused { cause, at: place },
-    }
-}
-
-// A whole value: the same at its first octet, where all levels are left. (A second caller of `leaf` keeps that a function apart, out of the recursion.)
-pub fn whole(table: &[u8], offsets: &[u16], t: usize, v: &[u8], lens: &mut [u16]) -> Judged
-    requires { ⌜ (length (now v) ≤ 16384) × Tagged (look (now table) (now offsets)) × (length (now v) ≤ 3 * length (now lens)) ⌝ }
-    ensures { λ r. ⌜ (r ≡ told (formAt (look (now (table .entry)) (now (offsets .entry))) 24 t) (now (v .entry)) (judgeValue (look (now (table .entry)) (now (offsets .entry))) 24 t (now (v .entry)))) × Noting 0 (now (lens .entry)) (now (lens .exit)) r (λ m. Noted (now (table .entry)) (now (offsets .entry)) (now (v .entry)) m 24 t 0) ⌝ }
-{
-    if octet(v, 2) < 16 {
-        return leaf(table, record::offset(offsets, t), v, 0, 24, lens);
-    }
-    built(table, offsets, t, v, 0, 24, lens)
-}
-
-// A value whose node is a leaf, of any type whose record is at o.
-pub fn leaf(table: &[u8], o: u16, v: &[u8], at: usize, level: u8, lens: &mut [u16]) -> Judged
-    requires { ⌜ (length (now v) ≤ 16384) × (at ≤ length (now v)) × (length (now v) ≤ 3 * length (now lens)) × (getD (now v) (at + 2) 0 < 16) ⌝ }
-    ensures { λ r. ⌜ ((offs : List ℕ) (t : ℕ) → o ≡ getD offs t 65535 → Tagged (look (now (table .entry)) offs) → ((r ≡ told (formAt (look (now (table .entry)) offs) level t) (now (v .entry)) (judgeValue (look (now (table .entry)) offs) level t (drop at (now (v .entry))))) × Noting at (now (lens .entry)) (now (lens .exit)) r (λ m. Noted (now (table .entry)) offs (now (v .entry)) m level t at))) ⌝ }
-{
-    if !crate::node::marked(v, at) {
-        return Judged::Refused { cause: 11, at };
-    }
-    let k = octet(v, at + 2);
-    let x = crate::contents::measure(k, v, at + 3);
+    let mark = at + 2;
+    let kind = v[mark];
+    let p = at + 3;
+    let x = contents::measure(kind, v, p);
     let end = x.end;
     if end == 0 {
-        return Judged::Refused { cause: 11, at };
+        return Judged::Refused(ValueCause::Shape(at));
     }
     if level == 0 {
-        return Judged::Refused { cause: 13, at };
+        return Judged::Refused(ValueCause::Level(at));
     }
-    if !crate::node::suits(table, o, k, v, at) {
-        return Judged::Refused { cause: 12, at };
+    if !suits(table, e, v, kind, p) {
+        return Judged::Refused(ValueCause::IllTyped(at));
     }
-    let size = crate::frame::grow(x.size, 0);
-    let i = at / 3;
-    lens[i] = size as u16;
-    let total = crate::frame::leaf_size(table, o, size);
-    Judged::Done { end, size: total }
+    let size = frame::grow(0, x.size);
+    Judged::Done { end, size }
 }
 
-// What stands below the constructed node at a place, which ends at e and agrees with the record at o.
-pub fn contents(
-    table: &[u8],
-    offsets: &[u16],
-    o: u16,
-    v: &[u8],
-    at: usize,
-    e: usize,
-    level: u8,
-    lens: &mut [u16],
-) -> Judged
-    requires { ⌜ (length (now v) ≤ 16384) × (at ≤ length (now v)) × (e ≡ endAt (now v) at) × (0 < e) × (agrees (recordAt (now table) o .body) (nodeAt (now v) at) ≡ true) × Tagged (look (now table) (now offsets)) × (length (now v) ≤ 3 * length (now lens)) × (16 ≤ getD (now v) (at + 2) 0) ⌝ }
-    ensures { λ r. ⌜ (r ≡ told (contentsForm (look (now (table .entry)) (now (offsets .entry))) level (recordAt (now (table .entry)) o .body)) (now (v .entry)) (judgeBelow (λ u w. judgeValue (look (now (table .entry)) (now (offsets .entry))) level u w) (recordAt (now (table .entry)) o .body) (nodeAt (now (v .entry)) at) (drop e (now (v .entry))))) × Noting e (now (lens .entry)) (now (lens .exit)) r (λ m. NotedBelow (now (table .entry)) (now (offsets .entry)) (now (v .entry)) m level o at e) ⌝ }
+// Whether a kind, for which r is awaited, is simple.
+fn is_simple(r: Entry, kind: u8) -> bool
+    requires { ⌜ r .simple ≡ not (constructedOf (r .kind)) ⌝ }
+    ensures { λ t. ⌜ t ≡ not (constructedOf kind) ⌝ }
 {
-    let k = octet(v, at + 2);
-    let p = at + 3;
-    let own = record::own(table, o);
-    if k == 16 {
-        return judge_members(
-            table,
-            offsets,
-            own + 1,
-            octet(table, own),
-            v,
-            p + 1,
-            e,
-            level,
-            lens,
-        );
+    if kind == r.kind {
+        return r.simple;
     }
-    if k == 17 {
-        return judge_members(
-            table,
-            offsets,
-            own + 1,
-            octet(table, own),
-            v,
-            p + 1,
-            e,
-            level,
-            lens,
-        );
-    }
-    if k == 48 {
-        return judge_elements(
-            table,
-            offsets,
-            octet(table, own),
-            number(v, p),
-            v,
-            e,
-            level,
-            lens,
-        );
-    }
-    if k == 49 {
-        return judge_elements(
-            table,
-            offsets,
-            octet(table, own),
-            number(v, p),
-            v,
-            e,
-            level,
-            lens,
-        );
-    }
-    let q = own + 1 + octet(v, p);
-    value(table, offsets, octet(table, q), v, e, level, lens)
+    !constructed(kind as usize)
 }
 
-// The present ones of the n members from p on; which are present says v, from q on.
-pub fn judge_members(
+// A constructed node of type t: where its value ends, and how many contents octets it has.
+fn judge_built(
     table: &[u8],
-    offsets: &[u16],
-    p: usize,
-    n: usize,
-    v: &[u8],
-    q: usize,
-    at: usize,
-    level: u8,
-    lens: &mut [u16],
-) -> Judged
-    requires { ⌜ (length (now v) ≤ 16384) × (at ≤ length (now v)) × (p < 70000) × (n < 256) × (q < 20000) × Tagged (look (now table) (now offsets)) × (length (now v) ≤ 3 * length (now lens)) ⌝ }
-    ensures { λ r. ⌜ (r ≡ told (membersForm (look (now (table .entry)) (now (offsets .entry))) level (membersAt (now (table .entry)) p n)) (now (v .entry)) (judgeMembers (λ u w. judgeValue (look (now (table .entry)) (now (offsets .entry))) level u w) (membersAt (now (table .entry)) p n) (flags (everyAt 1 (now (v .entry)) q n)) [] (drop at (now (v .entry))))) × Noting at (now (lens .entry)) (now (lens .exit)) r (λ m. NotedMembers (now (table .entry)) (now (offsets .entry)) (now (v .entry)) m level p q n at) ⌝ }
-{
-    let mut i = p;
-    let mut mark = q;
-    let mut left = n;
-    let mut next = at;
-    let mut total = 0;
-    while 0 < left {
-        let present = octet(v, mark);
-        let entry = i;
-        i += 2;
-        mark += 1;
-        left -= 1;
-        if present == 1 {
-            match value(table, offsets, octet(table, entry), v, next, level, lens) {
-                Judged::Done { end, size } => {
-                    next = end;
-                    total = crate::frame::grow(total, size);
-                }
-                Judged::Refused { cause, at: place } => {
-                    return Judged::Refused { cause, at: place };
-                }
-            }
-        }
-    }
-    Judged::Done {
-        end: next,
-        size: total,
-    }
-}
-
-// n elements of type t.
-pub fn judge_elements(
-    table: &[u8],
-    offsets: &[u16],
+    index: &[u64; 128],
     t: usize,
-    n: usize,
     v: &[u8],
     at: usize,
-    level: u8,
-    lens: &mut [u16],
+    level: usize,
+    notes: &mut [u16; 4096],
 ) -> Judged
-    requires { ⌜ (length (now v) ≤ 16384) × (at ≤ length (now v)) × Tagged (look (now table) (now offsets)) × (length (now v) ≤ 3 * length (now lens)) ⌝ }
-    ensures { λ r. ⌜ (r ≡ told (elementsForm (look (now (table .entry)) (now (offsets .entry))) level t) (now (v .entry)) (judgeElements (λ u w. judgeValue (look (now (table .entry)) (now (offsets .entry))) level u w) n t [] (drop at (now (v .entry))))) × Noting at (now (lens .entry)) (now (lens .exit)) r (λ m. NotedElements (now (table .entry)) (now (offsets .entry)) (now (v .entry)) m level t n at) ⌝ }
+    requires { ⌜
+        Ready (now table) (now index) (now v)
+        × (t < countIn (now table))
+        × IsMarked (now v) at
+        × (constructedOf (getD (now v) (at + 2) 0) ≡ true)
+        × (length (now notes) ≡ 4096)
+        ⌝ }
+    ensures { λ r. ⌜
+        (let T = tableIn (now (table .entry)) in
+        let o = now (v .entry) in
+        (r ≡ told (contentsForm T (level - 1) (T t .body)) o (judgeValue T level t (drop at o)))
+        × Noting at (now (notes .entry)) (now (notes .exit)) r (λ m. Noted T o m level t at))
+        ⌝ }
 {
-    let mut left = n;
-    let mut next = at;
+    let mark = at + 2;
+    let kind = v[mark];
+    let p = at + 3;
+    if node::own_end(v, kind, p) == 0 {
+        return Judged::Refused(ValueCause::Shape(at));
+    }
+    if level == 0 {
+        return Judged::Refused(ValueCause::Level(at));
+    }
+    let w = index[t];
+    if !node::agrees(table, unpack(w), v, kind, p) {
+        return Judged::Refused(ValueCause::IllTyped(at));
+    }
+    match judge_members(table, index, w, v, p, level - 1, notes) {
+        Judged::Refused(cause) => Judged::Refused(cause),
+        Judged::Done { end, size } => {
+            let i = at / 4;
+            notes[i] = size as u16;
+            Judged::Done { end, size }
+        }
+    }
+}
+
+// The values in w, whose node has its own part at p.
+fn judge_members(
+    table: &[u8],
+    index: &[u64; 128],
+    w: u64,
+    v: &[u8],
+    p: usize,
+    level: usize,
+    notes: &mut [u16; 4096],
+) -> Judged
+    requires { ⌜
+        Ready (now table) (now index) (now v)
+        × Standing (now table) (now v) (unpacked w) p
+        × (length (now notes) ≡ 4096)
+        ⌝ }
+    ensures { λ r. ⌜
+        (let T = tableIn (now (table .entry)) in
+        let o = now (v .entry) in
+        let row = rowIn (now (table .entry)) (unpacked w) o p in
+        let start = startAt (unpacked w) o p in
+        (r ≡ told (rowForm T level row) o (judgeRow T level row (drop start o)))
+        × Noting start (now (notes .entry)) (now (notes .exit)) r (λ m. NotedRow T o m level row start))
+        ⌝ }
+{
+    let e = unpack(w);
+    let s = parts(table, e);
+    let n = node::count(e, v, p);
+    let mut at = node::start(e, v, p);
     let mut total = 0;
-    while 0 < left {
-        match value(table, offsets, t, v, next, level, lens) {
-            Judged::Done { end, size } => {
-                next = end;
-                total = crate::frame::grow(total, size);
-                left -= 1;
+    let mut i = 0;
+    while i < n {
+        let t = node::below(table, e, s, v, p, i);
+        i += 1;
+        if t < 256 {
+            if !node::marked(v, at) {
+                return Judged::Refused(ValueCause::Shape(at));
             }
-            Judged::Refused { cause, at: place } => {
-                return Judged::Refused { cause, at: place };
+            let x = index[t];
+            let r = unpack(x);
+            let mark = at + 2;
+            let judged = if is_simple(r, v[mark]) {
+                judge_leaf(table, r, v, at, level)
+            } else {
+                judge_built(table, index, t, v, at, level, notes)
+            };
+            match judged {
+                Judged::Refused(cause) => {
+                    return Judged::Refused(cause);
+                }
+                Judged::Done { end, size } => {
+                    at = end;
+                    total = frame::grow(total, frame::size(table, x, size));
+                }
             }
         }
     }
     Judged::Done {
-        end: next,
+        end: at,
         size: total,
     }
+}
+
+// A whole value of type t.
+pub fn judge(
+    table: &[u8],
+    index: &[u64; 128],
+    t: usize,
+    v: &[u8],
+    notes: &mut [u16; 4096],
+) -> Judged
+    requires { ⌜
+        Ready (now table) (now index) (now v)
+        × (t < countIn (now table))
+        × (length (now notes) ≡ 4096)
+        ⌝ }
+    ensures { λ r. ⌜
+        (let T = tableIn (now (table .entry)) in
+        let o = now (v .entry) in
+        (r ≡ told (formAt T 24 t) o (judgeValue T 24 t o))
+        × Noting 0 (now (notes .entry)) (now (notes .exit)) r (λ m. NotedRow T o m 24 (t ∷ []) 0))
+        ⌝ }
+{
+    judge_members(table, index, whole(t as u16), v, 0, 24, notes)
 }

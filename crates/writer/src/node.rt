@@ -1,177 +1,27 @@
-// The nodes of a value: their shape, and whether they agree with a record.
+// The constructed nodes of a value (FORMATS, "Values"): their shape, whether they agree with a record, and what stands in them. A node's
+// own part is at p. A message counts as a node without an own part, in which one value stands.
 ghost use mathlib.Core.Path.{_≡_};
-ghost use Prim.Native.Nat.{_<_, _≤_, _+_, _^_, _/_};
-ghost use lib.Dec.{ltb};
-ghost use lib.ListN.{getD};
+ghost use mathlib.Core.Bool.{true, _&&_};
+ghost use Prim.Native.Nat.{_<_, _≤_, _+_};
+ghost use lib.Dec.{leb, ltb};
+ghost use lib.ListN.{length, getD};
 ghost use Rattle.octets.specs.Lists.{all};
-ghost use Rattle.table.specs.Reading.{everyAt, numbersAt, membersAt, recordAt};
-ghost use Rattle.coding.specs.Content.{listed};
-ghost use Rattle.coding.specs.Judging.{flags, agreeing};
-ghost use Rattle.writer.specs.Nodes.{fixedEnd, booleanEnd, stringEnd, clearAt, bitsEnd, membersEnd, ownEnd, endAt, nodeAt, Marked};
-use octets::number;
+ghost use Rattle.table.specs.Fields.{constructedOf};
+ghost use Rattle.table.specs.Reading.{everyAt, membersAt};
+ghost use Rattle.coding.specs.Judging.{flags, agreeing, agrees as Judging·agrees};
+ghost use Rattle.writer.specs.Nodes.{membersEnd, fixedEnd, ownEnd, nodeOf, Marked};
+ghost use Rattle.writer.specs.Known.{recordIn, Known};
+ghost use Rattle.writer.specs.Standing.{startAt, countAt, partsOf, placeOf, belowAt, Standing};
 use octets::octet;
-use table::kind::Form;
-
-// e, if v has so many octets; else 0.
-pub fn fixed_end(v: &[u8], e: usize) -> usize
-    ensures { λ r. ⌜ r ≡ fixedEnd (now (v .entry)) e ⌝ }
-{
-    if v.len() < e {
-        return 0;
-    }
-    e
-}
-
-pub fn boolean_end(v: &[u8], p: usize) -> usize
-    requires { ⌜ p < 20000 ⌝ }
-    ensures { λ r. ⌜ r ≡ booleanEnd (now (v .entry)) p ⌝ }
-{
-    let e = p + 1;
-    if v.len() < e {
-        return 0;
-    }
-    if 2 <= octet(v, p) {
-        return 0;
-    }
-    e
-}
-
-pub fn string_end(v: &[u8], p: usize) -> usize
-    requires { ⌜ p < 20000 ⌝ }
-    ensures { λ r. ⌜ r ≡ stringEnd (now (v .entry)) p ⌝ }
-{
-    let q = p + 2;
-    if v.len() < q {
-        return 0;
-    }
-    let e = q + number(v, p);
-    if v.len() < e {
-        return 0;
-    }
-    e
-}
-
-const POWERS: [u8; 8] = [1, 2, 4, 8, 16, 32, 64, 128];
-
-// 2 to the n.
-fn unit(n: usize) -> usize
-    requires { ⌜ n < 8 ⌝ }
-    ensures { λ r. ⌜ (r ≡ 2 ^ n) × (0 < r) × (r < 256) ⌝ }
-{
-    POWERS[n] as usize
-}
-
-// Whether n bits that begin at p have 0 behind them to the end of their last octet.
-fn clear(v: &[u8], p: usize, n: usize) -> bool
-    requires { ⌜ (p < 20010) × (n < 65536) ⌝ }
-    ensures { λ r. ⌜ r ≡ clearAt (now (v .entry)) p n ⌝ }
-{
-    if n == 0 {
-        return true;
-    }
-    let size = (n + 7) / 8;
-    let spare = 8 * size - n;
-    let unit = unit(spare);
-    let last = octet(v, p + size - 1);
-    last / unit * unit == last
-}
-
-pub fn bits_end(v: &[u8], p: usize) -> usize
-    requires { ⌜ p < 20000 ⌝ }
-    ensures { λ r. ⌜ r ≡ bitsEnd (now (v .entry)) p ⌝ }
-{
-    let q = p + 2;
-    if v.len() < q {
-        return 0;
-    }
-    let n = number(v, p);
-    let e = q + (n + 7) / 8;
-    if v.len() < e {
-        return 0;
-    }
-    if !clear(v, q, n) {
-        return 0;
-    }
-    e
-}
-
-// Whether n octets from p on are 0 or 1.
-fn marks(v: &[u8], p: usize, n: usize) -> bool
-    requires { ⌜ (p < 20001) × (n < 256) ⌝ }
-    ensures { λ r. ⌜ r ≡ all (λ b. ltb b 2) (everyAt 1 (now (v .entry)) p n) ⌝ }
-{
-    let mut at = p;
-    let mut left = n;
-    while 0 < left {
-        let b = octet(v, at);
-        if 2 <= b {
-            return false;
-        }
-        at += 1;
-        left -= 1;
-    }
-    true
-}
-
-fn members_end(v: &[u8], p: usize) -> usize
-    requires { ⌜ p < 20000 ⌝ }
-    ensures { λ r. ⌜ r ≡ membersEnd (now (v .entry)) p ⌝ }
-{
-    let q = p + 1;
-    if v.len() < q {
-        return 0;
-    }
-    let n = octet(v, p);
-    let e = q + n;
-    if v.len() < e {
-        return 0;
-    }
-    if !marks(v, q, n) {
-        return 0;
-    }
-    e
-}
-
-// The end of the own part at p of a node of kind k; 0 if it is not shaped.
-fn own_end(k: usize, v: &[u8], p: usize) -> usize
-    requires { ⌜ p < 20000 ⌝ }
-    ensures { λ r. ⌜ r ≡ ownEnd k (now (v .entry)) p ⌝ }
-{
-    if k == 1 {
-        return boolean_end(v, p);
-    }
-    if k == 2 {
-        return fixed_end(v, p + 8);
-    }
-    if k == 3 {
-        return bits_end(v, p);
-    }
-    if k == 4 {
-        return string_end(v, p);
-    }
-    if k == 5 {
-        return p;
-    }
-    if k == 10 {
-        return fixed_end(v, p + 2);
-    }
-    if k == 16 {
-        return members_end(v, p);
-    }
-    if k == 17 {
-        return members_end(v, p);
-    }
-    if k == 48 {
-        return fixed_end(v, p + 2);
-    }
-    if k == 49 {
-        return fixed_end(v, p + 2);
-    }
-    if k == 50 {
-        return fixed_end(v, p + 1);
-    }
-    0
-}
+use table::entry::Entry;
+use table::entry::Span;
+use table::entry::optional;
+use table::entry::parts;
+use table::kind::CHOICE;
+use table::kind::MESSAGE;
+use table::kind::has_members;
+use table::kind::holds_one;
+use table::kind::is_list;
 
 // Whether the octets of a node with its mark are there, to its kind.
 pub fn marked(v: &[u8], at: usize) -> bool
@@ -181,67 +31,83 @@ pub fn marked(v: &[u8], at: usize) -> bool
     if v.len() < at + 3 {
         return false;
     }
-    if octet(v, at) != 0x56 {
+    if v[at] != 0x56 {
         return false;
     }
-    octet(v, at + 1) == 0x41
+    let second = at + 1;
+    v[second] == 0x41
 }
 
-// Where the own part of the node at a place ends; 0 if it is not shaped.
-pub fn end(v: &[u8], at: usize) -> usize
-    requires { ⌜ at ≤ 16384 ⌝ }
-    ensures { λ r. ⌜ r ≡ endAt (now (v .entry)) at ⌝ }
+// Whether n octets from p on are there, each 0 or 1.
+fn are_flags(v: &[u8], p: usize, n: usize) -> bool
+    requires { ⌜ (p < 30000) × (n < 256) ⌝ }
+    ensures { λ r. ⌜ (let o = now (v .entry) in r ≡ (leb (p + n) (length o) && all (λ x. ltb x 2) (everyAt 1 o p n))) ⌝ }
 {
-    if !marked(v, at) {
+    let end = p + n;
+    if v.len() < end {
+        return false;
+    }
+    let mut at = p;
+    while at < end {
+        if 2 <= v[at] {
+            return false;
+        }
+        at += 1;
+    }
+    true
+}
+
+// Where the presence of members ends; 0 if it is not shaped.
+fn members_end(v: &[u8], p: usize) -> usize
+    requires { ⌜ p < 20000 ⌝ }
+    ensures { λ r. ⌜ r ≡ membersEnd (now (v .entry)) p ⌝ }
+{
+    let n = octet(v, p);
+    let start = p + 1;
+    if !are_flags(v, start, n) {
         return 0;
     }
-    own_end(octet(v, at + 2), v, at + 3)
+    start + n
 }
 
-// The same of a node that is shaped and constructed.
-pub fn shaped_end(v: &[u8], at: usize) -> usize
-    requires { ⌜ (at ≤ 16384) × (0 < endAt (now v) at) × (16 ≤ getD (now v) (at + 2) 0) ⌝ }
-    ensures { λ r. ⌜ r ≡ endAt (now (v .entry)) at ⌝ }
+// e, if so many octets are there; else 0.
+fn fixed_end(v: &[u8], e: usize) -> usize
+    ensures { λ r. ⌜ r ≡ fixedEnd (now (v .entry)) e ⌝ }
 {
-    let k = octet(v, at + 2);
-    let p = at + 3;
-    if k < 18 {
-        return p + 1 + octet(v, p);
+    if v.len() < e {
+        return 0;
     }
-    if k < 50 {
-        return p + 2;
-    }
-    p + 1
+    e
 }
 
-// Whether x is one of the n numbers of two octets from p on.
-fn lists(table: &[u8], p: usize, n: usize, x: usize) -> bool
-    requires { ⌜ (p < 70000) × (n < 256) ⌝ }
-    ensures { λ r. ⌜ r ≡ listed (numbersAt (now (table .entry)) p n) x ⌝ }
+// Where the own part of a node of a constructed kind ends; 0 if it is not shaped.
+pub fn own_end(v: &[u8], kind: u8, p: usize) -> usize
+    requires { ⌜ (p < 20000) × (constructedOf kind ≡ true) ⌝ }
+    ensures { λ r. ⌜ r ≡ ownEnd kind (now (v .entry)) p ⌝ }
 {
-    let mut at = p;
-    let mut left = n;
-    while 0 < left {
-        if number(table, at) == x {
-            return true;
-        }
-        at += 2;
-        left -= 1;
+    if has_members(kind) {
+        return members_end(v, p);
     }
-    false
+    if is_list(kind) {
+        return fixed_end(v, p + 2);
+    }
+    if kind == CHOICE {
+        return fixed_end(v, p + 1);
+    }
+    0
 }
 
 // Whether the mandatory ones of the n members from p on are present; which are present says v, from q on.
-fn mandatory(table: &[u8], p: usize, n: usize, v: &[u8], q: usize) -> bool
-    requires { ⌜ (p < 70000) × (n < 256) × (q < 20001) ⌝ }
+fn is_complete(table: &[u8], p: usize, n: usize, v: &[u8], q: usize) -> bool
+    requires { ⌜ (p < 70000) × (n < 256) × (q + n ≤ length (now v)) ⌝ }
     ensures { λ r. ⌜ r ≡ agreeing (membersAt (now (table .entry)) p n) (flags (everyAt 1 (now (v .entry)) q n)) ⌝ }
 {
     let mut at = p;
     let mut mark = q;
     let mut left = n;
     while 0 < left {
-        if octet(v, mark) != 1 {
-            if octet(table, at + 1) != 1 {
+        if v[mark] != 1 {
+            if !optional(table, at) {
                 return false;
             }
         }
@@ -252,56 +118,85 @@ fn mandatory(table: &[u8], p: usize, n: usize, v: &[u8], q: usize) -> bool
     true
 }
 
-// Whether the node at a place agrees with the record at o.
-pub fn agrees(table: &[u8], o: u16, v: &[u8], at: usize) -> bool
-    requires { ⌜ (at ≤ 16384) × (0 < endAt (now v) at) ⌝ }
-    ensures { λ r. ⌜ r ≡ Rattle.coding.specs.Judging.agrees (recordAt (now (table .entry)) o .body) (nodeAt (now (v .entry)) at) ⌝ }
+// Whether the shaped node of a constructed kind agrees with a record.
+pub fn agrees(table: &[u8], e: Entry, v: &[u8], kind: u8, p: usize) -> bool
+    requires { ⌜ (p < 20000) × (16 ≤ kind) × (0 < ownEnd kind (now v) p) × Known (now table) e ⌝ }
+    ensures { λ r. ⌜ r ≡ Judging·agrees (recordIn (now (table .entry)) e .body) (nodeOf kind (now (v .entry)) p) ⌝ }
 {
-    let k = octet(v, at + 2);
-    let p = at + 3;
-    let kind = table::record::kind(table, o);
-    let own = table::record::own(table, o);
-    let count = octet(table, own);
-    if k == 50 {
-        return match table::kind::form_of(kind) {
-            Form::Simple => false,
-            Form::Members => false,
-            Form::Of => false,
-            Form::Choice => octet(v, p) < count,
-        };
-    }
-    if k != kind {
+    if kind != e.kind {
         return false;
     }
-    if k == 10 {
-        return lists(table, own + 1, count, number(v, p));
-    }
-    if k == 16 {
-        if octet(v, p) != count {
+    let s = parts(table, e);
+    let count = s.count;
+    if has_members(kind) {
+        if v[p] as usize != count {
             return false;
         }
-        return mandatory(table, own + 1, count, v, p + 1);
+        return is_complete(table, s.first, count, v, p + 1);
     }
-    if k == 17 {
-        if octet(v, p) != count {
-            return false;
-        }
-        return mandatory(table, own + 1, count, v, p + 1);
+    if kind == CHOICE {
+        return (v[p] as usize) < count;
     }
     true
 }
 
-// The same for a node of a simple kind k.
-pub fn suits(table: &[u8], o: u16, k: usize, v: &[u8], at: usize) -> bool
-    requires { ⌜ (at ≤ 16384) × (0 < endAt (now v) at) × (k ≡ getD (now v) (at + 2) 0) × (k < 16) ⌝ }
-    ensures { λ r. ⌜ r ≡ Rattle.coding.specs.Judging.agrees (recordAt (now (table .entry)) o .body) (nodeAt (now (v .entry)) at) ⌝ }
+// Where the first value begins that stands in a node.
+pub fn start(e: Entry, v: &[u8], p: usize) -> usize
+    requires { ⌜ startAt e (now v) p ≤ length (now v) ⌝ }
+    ensures { λ r. ⌜ r ≡ startAt e (now (v .entry)) p ⌝ }
 {
-    if k != table::record::kind(table, o) {
-        return false;
+    if e.kind == MESSAGE {
+        return p;
     }
-    if k == 10 {
-        let own = table::record::own(table, o);
-        return lists(table, own + 1, octet(table, own), number(v, at + 3));
+    if has_members(e.kind) {
+        return p + 1 + v[p] as usize;
     }
-    true
+    if e.kind == CHOICE {
+        return p + 1;
+    }
+    p + 2
+}
+
+// How many values stand in it, at most.
+pub fn count(e: Entry, v: &[u8], p: usize) -> usize
+    requires { ⌜ startAt e (now v) p ≤ length (now v) ⌝ }
+    ensures { λ r. ⌜ (r ≡ countAt e (now (v .entry)) p) × (r < 65536) ⌝ }
+{
+    if has_members(e.kind) {
+        return v[p] as usize;
+    }
+    if holds_one(e.kind) {
+        return 1;
+    }
+    crate::contents::number(v, p)
+}
+
+// The record number of the j-th part.
+fn part(table: &[u8], s: Span, j: usize) -> usize
+    requires { ⌜ placeOf s j < length (now table) ⌝ }
+    ensures { λ r. ⌜ (r ≡ getD (now (table .entry)) (placeOf s j) 0) × (r < 256) ⌝ }
+{
+    let q = s.first + s.step * j;
+    table[q] as usize
+}
+
+// The record number of the i-th of them, where s are the parts of e; 256 for a member that is not present.
+pub fn below(table: &[u8], e: Entry, s: Span, v: &[u8], p: usize, i: usize) -> usize
+    requires { ⌜ (s ≡ partsOf (now table) e) × Standing (now table) (now v) e p × (i < countAt e (now v) p) ⌝ }
+    ensures { λ r. ⌜ r ≡ belowAt (now (table .entry)) e (now (v .entry)) p i ⌝ }
+{
+    if has_members(e.kind) {
+        let mark = p + 1 + i;
+        if v[mark] != 1 {
+            return 256;
+        }
+        return part(table, s, i);
+    }
+    if e.kind == CHOICE {
+        return part(table, s, v[p] as usize);
+    }
+    if e.kind == MESSAGE {
+        return e.own as usize;
+    }
+    part(table, s, 0)
 }

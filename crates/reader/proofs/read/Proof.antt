@@ -20,8 +20,11 @@ read-spec =
     let a = c .before .before .before .before .before .before .before .before .before .args in
     let b = now (a .table) in
     table-ready b _ (c .before .before .before .before .check-into .ensures .0) (c .before .before .enum-told .given .1) _ _ (c .before .before
-    .before .before .check-into .ensures .1) (λ k. omega (arith, c .before .before .before .before .before .before .before .before
-    .shared-slice-known .given k)))  -- read-passed-requires
+    .before .before .check-into .ensures .1) (λ k. omega (
+      arith,
+      c .before .before .before .before .before .before .before .before
+          .shared-slice-known .given k,
+    )))  -- read-passed-requires
     (λ c.
     let a = c .before .before .before .before .before .before .before .before .args in
     let b = now (a .table) in

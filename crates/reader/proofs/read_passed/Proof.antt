@@ -32,9 +32,12 @@ read-passed-spec =
     let q = c .before .before .before .before .before .before .pre in
     let T = tableIn (now (a .table)) in
     let m = now (a .message) in
-    let w = now (a .buf) in
-    (ready (now (a .table)) (now (a .index)) (a .n) (q .0) (q .1), omega (arith, c .before .before .if1 .left, q .0 .count), c .before .if2 .left,
-    refl))  -- judge-requires
+    let w = now (a .buf) in (
+      ready (now (a .table)) (now (a .index)) (a .n) (q .0) (q .1),
+      omega (arith, c .before .before .if1 .left, q .0 .count),
+      c .before .if2 .left,
+      refl,
+    ))  -- judge-requires
     (λ c. search needs)  -- enum-known-cause
     (λ c.
     let a = c .before .before .before .before .before .before .before .before .before .before .args in
@@ -67,13 +70,22 @@ read-passed-spec =
     let q = c .before .before .before .before .before .before .before .before .before .before .before .before .before .before .pre in
     let T = tableIn (now (a .table)) in
     let m = now (a .message) in
-    let w = now (a .buf) in
-    (ready (now (a .table)) (now (a .index)) (a .n) (q .0) (q .1), omega (arith, c .before .before .before .before .before .before .before .before
-    .before .before .if1 .left, q .0 .count), c .before .before .before .before .before .before .before .before .before .if2 .left, c .before .before
-    .before .before .before .before .before .judge .ensures .0, fits T (a .t) m _ (c .before .before .before .before .before .before .before .judge
-    .ensures .1) (a .n) w (c .before .before .before .before .before .before .before .before .before .before .if1 .left) (c .before .before .before
-    .before .before .before .before .before .before .if2 .left) _ _ (c .before .before .before .before .before .size .given .1) (c .before .before
-    .before .if3 .left) (c .before .before .if4 .left)))  -- place-requires
+    let w = now (a .buf) in (
+      ready (now (a .table)) (now (a .index)) (a .n) (q .0) (q .1),
+      omega (
+        arith,
+        c .before .before .before .before .before .before .before .before
+            .before .before .if1 .left,
+        q .0 .count,
+      ),
+      c .before .before .before .before .before .before .before .before .before .if2 .left,
+      c .before .before
+          .before .before .before .before .before .judge .ensures .0,
+      fits T (a .t) m _ (c .before .before .before .before .before .before .before .judge
+          .ensures .1) (a .n) w (c .before .before .before .before .before .before .before .before .before .before .if1 .left) (c .before .before .before
+          .before .before .before .before .before .before .if2 .left) _ _ (c .before .before .before .before .before .size .given .1) (c .before .before
+          .before .if3 .left) (c .before .before .if4 .left),
+    ))  -- place-requires
     (λ c.
     let a = c .before .before .before .before .before .before .before .before .before .before .before .args in
     let q = c .before .before .before .before .before .before .before .before .before .before .before .pre in

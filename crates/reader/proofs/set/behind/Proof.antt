@@ -1,6 +1,5 @@
 -- `reader::set::behind` meets its contract.
 -- Assumes nothing.
-use borrow.Author.Needs.{needs}
 use native.Mathlib.Omega.{arith}
 use Rattle.reader.proofs.set.behind.Statement.{statement}
 use Rattle.reader.proofs.set.behind.Tie as tie

@@ -1,14 +1,18 @@
-use mathlib.Core.Path.{sym, ap}
+-- `writer::contents::number_size` meets its contract.
+-- Assumes nothing.
+use mathlib.Core.Path.{ap, _∙_}
 use native.Mathlib.Omega.{arith}
+use lib.IntN.{ℤ}
 use lib.ListN.{length}
-use Rattle.writer.proofs.Integers.{few-one, few-two, few-three}
+use mir.Syntax.{w64}
+use mir.ValLaws.{toZ-pos}
+use Rattle.ber.specs.Integer.{fewestOf}
+use borrow.Author.Needs.{needs}
 use Rattle.writer.proofs.contents.number_size.Statement.{statement}
 use Rattle.writer.proofs.contents.number_size.Tie as tie
-use Rattle.writer.proofs.contents.number_size.Reads as reads
-use Rattle.writer.proofs.contents.number_size.Lts as lts
 
 pub number-size-spec : {M : Type 1} → statement M
 number-size-spec = tie.close (tie.spec
-    (λ c. (sym (ap length (few-one (c .before .args .n) (c .if1 .taken))), omega arith))  -- returns
-    (λ c. (sym (ap length (few-two (c .before .before .args .n) (c .before .if1 .left) (c .if2 .taken))), omega arith))  -- returns-2
-    (λ c. (sym (ap length (few-three (c .before .before .args .n) (c .if2 .left) (c .before .before .pre))), omega arith)))  -- returns-3
+    (λ c. search needs)  -- cast-size
+    (λ c κs. search needs)  -- size-requires
+    (λ c. (c .size .ensures .0 ∙ ap (λ (z : ℤ). length (fewestOf z)) (toZ-pos w64 (c .before .args .n) (omega arith)), c .size .ensures .2)))  -- returns

@@ -1,20 +1,24 @@
-use Prim.Native.Nat.{_-_}
-use Rattle.octets.proofs.Search.{tests}
-use Rattle.writer.specs.Nodes.{membersEnd}
+-- `writer::node::members_end` meets its contract.
+-- Assumes nothing.
+use borrow.Author.Tests.{not-true, not-false}
+use denote.Ref.{now}
+use Rattle.writer.proofs.Nodes.{members-shaped, members-shapeless}
 use borrow.Author.Needs.{needs}
 use Rattle.writer.proofs.node.members_end.Statement.{statement}
 use Rattle.writer.proofs.node.members_end.Tie as tie
 
 pub members-end-spec : {M : Type 1} → statement M
-unfolding membersEnd
 members-end-spec =
-    tie.close
-    (tie.spec
-    (λ c. search needs)  -- add-q
-    (λ c. search tests)  -- returns
+    tie.close (tie.spec
     (λ c κs. search needs)  -- octet-requires
-    (λ c. search needs)  -- add-e
-    (λ c. rw (← c .before .octet .ensures .0) (search tests))  -- returns-2
-    (λ c κs. search needs)  -- marks-requires
-    (λ c. rw (← c .before .before .before .octet .ensures .0, ← c .before .marks .ensures, c .if3 .taken) (search tests))  -- returns-3
-    (λ c. rw (← c .before .before .before .octet .ensures .0, ← c .before .marks .ensures, c .if3 .left) (search tests)))  -- returns-4
+    (λ c. search needs)  -- add-start
+    (λ c κs. search needs)  -- are-flags-requires
+    (λ c.
+    let a = c .before .before .before .before .args in
+    members-shapeless (now (a .v)) (a .p) _ (rw (c .before .before .octet .ensures .0) at (c .before .are-flags
+    .ensures)) (not-true _ (c .if1 .taken)))  -- returns
+    (λ c. search needs)  -- add-result
+    (λ c.
+    let a = c .before .before .before .before .args in
+    rw (c .before .before .octet .ensures .0) (members-shaped (now (a .v)) (a .p) _ (rw (c .before .before .octet .ensures .0) at (c .before .are-flags
+    .ensures)) (not-false _ (c .if1 .left)))))  -- returns-2
