@@ -61,10 +61,10 @@ cause-is c p =
     rw (a, b, d, f, g) refl
 
 -- a message that is accepted holds one item of its type
-message-held : (T : Table) (n t : ℕ) (m : List ℕ) (v : Value) (w : List ℕ) → readMessage T n t m ≡ got v w
+accepted-held : (T : Table) (n t : ℕ) (m : List ℕ) (v : Value) (w : List ℕ) → readMessage T n t m ≡ got v w
     → readHeld T (readValue T n) (message t) (mode false) m ≡ got v w
 unfolding then if
-message-held T n t m v w e =
+accepted-held T n t m v w e =
     let z = sym (message-whole T n t (mode false) m) ∙ e in
     test (none-left m) (λ y. absurd (refused≢got (rw y at z))) λ y. go (readHeld T (readValue T n) (message t) (mode false) m) (rw y at z)
   where
@@ -142,7 +142,7 @@ module _ (T : Table) (t : ℕ) (m : List ℕ) (r : Judged) (p : r ≡ told m siz
         size-is = omega (arith, accepted .size)
 
         held-is : readHeld T (readValue T 24) (message t) (mode false) m ≡ got (accepted .value) (accepted .rest)
-        held-is = message-held T 24 t m (accepted .value) (accepted .rest) (accepted .is)
+        held-is = accepted-held T 24 t m (accepted .value) (accepted .rest) (accepted .is)
 
         pub fits : Fits (readHeld T (readValue T 24) (message t) (mode false) m) 0 buf
         fits = record { value = accepted .value; rest = accepted .rest; is = held-is; room = omega (arith, size-is) }
