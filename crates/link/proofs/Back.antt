@@ -1,46 +1,23 @@
--- A packed answer comes apart into that very answer: no two answers share a number.
+-- A packed answer tells that very answer, and no other.
 -- Assumes nothing.
-use mathlib.Core.Path.{_≡_, refl, _∙_}
-use Prim.Native.Nat.{ℕ, _+_, _*_, _/_, _%_, _<_}
+use mathlib.Core.Path.{_≡_, refl, sym, ap, _∙_}
+use Prim.Native.Nat.{ℕ, _<_}
 use native.Mathlib.Omega.{arith}
-use Rattle.table.specs.declared.TableCause.the-variants.{Shape, NoRecord, WrongTag, ChoiceLoop, SharedTag, NoValue, NoType}
-use Rattle.coding.specs.declared.ValueCause.the-variants.{Shape as ShapeV, IllTyped, Level as LevelV, Room as RoomV}
-use Rattle.coding.specs.declared.MessageCause.the-variants.{TooLong, Cut, Form, NotAwaited, Contents, Trailing, Room, Level}
-use Rattle.coding.specs.declared.Refusal.the-variants.{Table, Value, Message}
+use Rattle.octets.specs.Causes.{causeNumber}
+use Rattle.octets.proofs.Causes.{same-cause, never-0}
 use Rattle.coding.specs.declared.Answer.{Answer}
 use Rattle.coding.specs.declared.Answer.the-variants.{Done, Refused}
-use Rattle.link.specs.Pack.{number, place, packed, answerOf, unpacked}
+use Rattle.link.specs.Pack.{number, place, packed, Tells}
 
-apart : (k p : ℕ) → p < 65536 → unpacked (k * 65536 + p) ≡ answerOf k p
-unfolding unpacked
-apart k p h =
-    let d : (k * 65536 + p) / 65536 ≡ k = omega arith in
-    let m : (k * 65536 + p) % 65536 ≡ p = omega arith in
-    rw (d, m)
+pub told : (a : Answer) → place a < 65536 → Tells (packed a) a
+told a h = record { high = omega arith; low = omega arith }
 
-which : (a : Answer) → answerOf (number a) (place a) ≡ a
-unfolding answerOf
-which (Done n) = refl
-which (Refused (Table (Shape p))) = refl
-which (Refused (Table (NoRecord p))) = refl
-which (Refused (Table (WrongTag p))) = refl
-which (Refused (Table (ChoiceLoop p))) = refl
-which (Refused (Table (SharedTag p))) = refl
-which (Refused (Table (NoValue p))) = refl
-which (Refused (Table NoType)) = refl
-which (Refused (Value (ShapeV p))) = refl
-which (Refused (Value (IllTyped p))) = refl
-which (Refused (Value (LevelV p))) = refl
-which (Refused (Value RoomV)) = refl
-which (Refused (Message TooLong)) = refl
-which (Refused (Message (Cut p))) = refl
-which (Refused (Message (Form p))) = refl
-which (Refused (Message (NotAwaited p))) = refl
-which (Refused (Message (Contents p))) = refl
-which (Refused (Message (Trailing p))) = refl
-which (Refused (Message Room)) = refl
-which (Refused (Message (Level p))) = refl
+-- no two answers share a number and a place
+same-answer : (a b : Answer) → number a ≡ number b → place a ≡ place b → a ≡ b
+same-answer (Done n) (Done m) e f = ap Done f
+same-answer (Done n) (Refused c p) e f = absurd (never-0 c (sym e))
+same-answer (Refused c p) (Done m) e f = absurd (never-0 c e)
+same-answer (Refused c p) (Refused d q) e f = let s = same-cause c d e in rw (s, f)
 
--- a packed answer comes apart again: no two answers share a number
-pub back : (a : Answer) → place a < 65536 → unpacked (packed a) ≡ a
-back a h = apart (number a) (place a) h ∙ which a
+pub one-told : {u : ℕ} {a b : Answer} → Tells u a → Tells u b → a ≡ b
+one-told {u} {a} {b} x y = same-answer a b (sym (x .high) ∙ y .high) (sym (x .low) ∙ y .low)

@@ -2,10 +2,10 @@
 -- (`coding/proofs/Demands`). r is what the function returns, `after` what the lent buffer then holds; the premises are the functions' contracts.
 -- Assumes nothing.
 use mathlib.Core.List.{List}
-use mathlib.Core.Path.{_≡_, sym, ap, subst, _∙_}
-use Prim.Native.Nat.{ℕ, _/_, _%_, _≤_, _<_}
+use mathlib.Core.Logic.{_↔_}
+use mathlib.Core.Path.{_≡_, sym, ap, subst}
+use Prim.Native.Nat.{ℕ, _≤_, _<_}
 use lib.ListN.{length}
-use native.Mathlib.Omega.{arith}
 use Rattle.octets.specs.Numbers.{Octets}
 use Rattle.table.specs.Verdict.{verdict}
 use Rattle.table.specs.Syntax.{Record, table}
@@ -18,30 +18,48 @@ use Rattle.coding.specs.Outcome.{levels, longestValue, longestMessage, Outcome}
 use Rattle.coding.specs.declared.Answer.{Answer as Told}
 use Rattle.coding.specs.Calls.{checkAnswer, wholeRead, wholeWrite}
 use Rattle.coding.proofs.Demands.{what-was-sent-arrives, what-is-sent-is-permitted}
-use Rattle.link.specs.Pack.{number, place, packed, unpacked}
-use Rattle.link.proofs.Back.{back}
+use Rattle.link.specs.Pack.{place, packed, Tells}
+use Rattle.link.proofs.Back.{told, one-told}
 use Rattle.link.proofs.Small.{check-within, read-small, write-small}
 
--- the high part is the number, 0 for done; the low part is the place or the length
-pub parts-of : (a : Told) → place a < 65536 → (packed a / 65536 ≡ number a) × (packed a % 65536 ≡ place a)
-parts-of a h = (omega arith, omega arith)
+tells-exactly : {r : ℕ} {x : Told} → r ≡ packed x → place x < 65536 → (a : Told) → Tells r a ↔ (a ≡ x)
+tells-exactly {r} {x} e h a =
+    let y : Tells r x = rw e (told x h) in
+    (λ z. one-told z y, λ q. rw q y)
 
-pub link-checks : (b : List ℕ) (r : ℕ) → r ≡ packed (checkAnswer (verdict b)) → unpacked r ≡ checkAnswer (verdict b)
-link-checks b r e = ap unpacked e ∙ back (checkAnswer (verdict b)) (check-within b)
+outcome-told : {r : ℕ} {x : Outcome} {after : List ℕ} → r ≡ packed (x .answer) → after ≡ x .buffer → place (x .answer) < 65536
+    → (a : Told) → Tells r a ↔ (record { answer = a; buffer = after } ≡ x)
+outcome-told e f h a =
+    let y = tells-exactly e h a in
+    (λ z. let q = y .0 z in rw (q, f), λ q. y .1 (ap (λ (o : Outcome). o .answer) q))
+
+-- the answer that the returned number tells is the outcome's, and it tells one
+
+pub link-checks : (b : List ℕ) (r : ℕ) → r ≡ packed (checkAnswer (verdict b)) → (a : Told) → Tells r a ↔ (a ≡ checkAnswer (verdict b))
+link-checks b r e = tells-exactly e (check-within b)
 
 module _ (b : List ℕ) (t : ℕ) (m buf : List ℕ) (o : Octets m) (r : ℕ) (after : List ℕ) where
-  pub link-reads : (r ≡ packed (wholeRead b t m buf .answer)) × (after ≡ wholeRead b t m buf .buffer) → _≡_ {A = Outcome} (record { answer = unpacked r; buffer = after }) (wholeRead b t m buf)
-  link-reads (e, f) = let q : unpacked r ≡ wholeRead b t m buf .answer = ap unpacked e ∙ back (wholeRead b t m buf .answer) (read-small b t m buf o) in rw (q, f)
+  pub link-reads : (r ≡ packed (wholeRead b t m buf .answer)) × (after ≡ wholeRead b t m buf .buffer)
+      → (a : Told) → Tells r a ↔ (record { answer = a; buffer = after } ≡ wholeRead b t m buf)
+  link-reads (e, f) = outcome-told e f (read-small b t m buf o)
 
-  pub link-writes : (r ≡ packed (wholeWrite b t m buf .answer)) × (after ≡ wholeWrite b t m buf .buffer) → _≡_ {A = Outcome} (record { answer = unpacked r; buffer = after }) (wholeWrite b t m buf)
-  link-writes (e, f) = let q : unpacked r ≡ wholeWrite b t m buf .answer = ap unpacked e ∙ back (wholeWrite b t m buf .answer) (write-small b t m buf o) in rw (q, f)
+  pub link-writes : (r ≡ packed (wholeWrite b t m buf .answer)) × (after ≡ wholeWrite b t m buf .buffer)
+      → (a : Told) → Tells r a ↔ (record { answer = a; buffer = after } ≡ wholeWrite b t m buf)
+  link-writes (e, f) = outcome-told e f (write-small b t m buf o)
 
 -- Demand 3 in C, for a table that is not refused and a type in it; the other theorems of the page carry over in the same way.
-module _ (b : List ℕ) (o : Octets b) (rs : List Record) (a : Accepted b rs) (t : ℕ) (lt : t < length rs) (v : Value) (buf : List ℕ) (r : ℕ) (after : List ℕ) where
-  pub receives : (m : List ℕ) → depth v ≤ levels → length (octets v) ≤ longestValue → Octets m → Encodes (table rs) t v m → length m ≤ longestMessage → length (octets v) ≤ length buf
-      → (r ≡ packed (wholeRead b t m buf .answer)) × (after ≡ wholeRead b t m buf .buffer) → Received (table rs) t v m buf (record { answer = unpacked r; buffer = after })
-  receives m d l p e h k c = subst (λ (x : Outcome). Received (table rs) t v m buf x) (sym (link-reads b t m buf p r after c)) (what-was-sent-arrives b o rs a t lt v m buf d l p e h k)
+module _ (b : List ℕ) (o : Octets b) (rs : List Record) (ok : Accepted b rs) (t : ℕ) (lt : t < length rs) (v : Value) (buf : List ℕ)
+    (r : ℕ) (after : List ℕ) (a : Told) (tells : Tells r a) where
+  pub receives : (m : List ℕ) → depth v ≤ levels → length (octets v) ≤ longestValue → Octets m → Encodes (table rs) t v m → length m ≤ longestMessage
+      → length (octets v) ≤ length buf → (r ≡ packed (wholeRead b t m buf .answer)) × (after ≡ wholeRead b t m buf .buffer)
+      → Received (table rs) t v m buf (record { answer = a; buffer = after })
+  receives m d l p e h k c =
+      subst (λ (x : Outcome). Received (table rs) t v m buf x) (sym (link-reads b t m buf p r after c a .0 tells))
+      (what-was-sent-arrives b o rs ok t lt v m buf d l p e h k)
 
   pub sends : WellTyped (table rs) t v → depth v ≤ levels → Shaped v → length (octets v) ≤ longestValue → Octets (octets v)
-      → (r ≡ packed (wholeWrite b t (octets v) buf .answer)) × (after ≡ wholeWrite b t (octets v) buf .buffer) → Sent (table rs) t v buf (record { answer = unpacked r; buffer = after })
-  sends w d s h p c = subst (λ (x : Outcome). Sent (table rs) t v buf x) (sym (link-writes b t (octets v) buf p r after c)) (what-is-sent-is-permitted b o rs a t lt v buf w d s h)
+      → (r ≡ packed (wholeWrite b t (octets v) buf .answer)) × (after ≡ wholeWrite b t (octets v) buf .buffer)
+      → Sent (table rs) t v buf (record { answer = a; buffer = after })
+  sends w d s h p c =
+      subst (λ (x : Outcome). Sent (table rs) t v buf x) (sym (link-writes b t (octets v) buf p r after c a .0 tells))
+      (what-is-sent-is-permitted b o rs ok t lt v buf w d s h)

@@ -13,13 +13,12 @@ use Rattle.table.specs.Verdict.{verdict}
 use Rattle.table.specs.declared.Verdict.{Verdict}
 use Rattle.table.specs.declared.Verdict.the-variants.{Passed, Refused}
 use Rattle.table.proofs.Promises.{place-small}
+use Rattle.octets.specs.Causes.{Cause}
 use Rattle.octets.specs.Numbers.{Octets}
 use Rattle.coding.specs.declared.Answer.{Answer as Told}
 use Rattle.coding.specs.Outcome.{Outcome}
 use Rattle.coding.specs.Calls.{readOutcome, writeOutcome, afterCheck, wholeRead, wholeWrite, checkAnswer}
-use Rattle.coding.specs.Causes.{valuePlace}
 use Rattle.coding.specs.Demands.{ValueRefused, over-long, as-judged}
-use Rattle.coding.specs.declared.ValueCause.{ValueCause}
 use Rattle.coding.proofs.Outcomes.{reading, ReadStage, too-long, is-read, read-stage, writing, WriteStage, is-written, write-stage}
 use Rattle.coding.proofs.Stages.{step}
 use Rattle.octets.proofs.Answer.{if-cases}
@@ -31,7 +30,7 @@ check-within b = by (verdict b) refl
   where
     by : (v : Verdict) → verdict b ≡ v → place (checkAnswer v) < 65536
     by Passed e = omega arith
-    by (Refused c) e = omega (arith, place-small b c e)
+    by (Refused c p) e = omega (arith, place-small b c p e)
 
 -- the place of a refusal in reading, and the length of what was read
 
@@ -40,16 +39,16 @@ placed e h = rw e h
 
 read-place : (T : Table) (t : ℕ) (m buf : List ℕ) {x : Outcome} → ReadStage T t m buf x → place (x .answer) < 65536
 read-place T t m buf (too-long h e) = placed (ap (λ (o : Outcome). o .answer) e) (omega arith)
-read-place T t m buf (ReadStage.refused-at k i x e) = placed (ap (λ (o : Outcome). o .answer) e) (omega (arith, x .place, x .within))
+read-place T t m buf (ReadStage.refused-at c p i x e) = placed (ap (λ (o : Outcome). o .answer) e) (omega (arith, x .place, x .within))
 read-place T t m buf (ReadStage.no-room x e) = placed (ap (λ (o : Outcome). o .answer) e) (omega arith)
 read-place T t m buf (is-read k after x e) = placed (ap (λ (o : Outcome). o .answer) e) (omega (arith, x .told, x .short))
 
-value-place : (T : Table) (t : ℕ) (v : List ℕ) (k : ValueCause) → ValueRefused T t v k → valuePlace k < 65536
-value-place T t v k (over-long h q) = rw q (omega arith)
-value-place T t v k (as-judged l h g e p) = omega arith
+value-place : (T : Table) (t : ℕ) (v : List ℕ) (c : Cause) (p : ℕ) → ValueRefused T t v c p → p < 65536
+value-place T t v c p (over-long h q r) = omega arith
+value-place T t v c p (as-judged l h g e r) = omega arith
 
 write-place : (T : Table) (t : ℕ) (v buf : List ℕ) {x : Outcome} → WriteStage T t v buf x → place (x .answer) < 65536
-write-place T t v buf (WriteStage.refused-at k i x e) = placed (ap (λ (o : Outcome). o .answer) e) (value-place T t v k x)
+write-place T t v buf (WriteStage.refused-at c p i x e) = placed (ap (λ (o : Outcome). o .answer) e) (value-place T t v c p x)
 write-place T t v buf (WriteStage.no-room x e) = placed (ap (λ (o : Outcome). o .answer) e) (omega arith)
 write-place T t v buf (is-written k after x e) = placed (ap (λ (o : Outcome). o .answer) e) (omega (arith, x .told, x .within))
 
@@ -60,7 +59,7 @@ module _ (b : List ℕ) (t : ℕ) (buf : List ℕ) (g : Table → Outcome) (h : 
   after-check : (v : Verdict) → verdict b ≡ v → place (afterCheck b buf (step b t buf g) v .answer) < 65536
   unfolding afterCheck
   after-check Passed e = step-place (look b (scan b .offsets)) (length (scan b .offsets))
-  after-check (Refused c) e = omega (arith, place-small b c e)
+  after-check (Refused c p) e = omega (arith, place-small b c p e)
 
 pub read-small : (b : List ℕ) (t : ℕ) (m buf : List ℕ) → Octets m → place (wholeRead b t m buf .answer) < 65536
 unfolding wholeRead readOutcome

@@ -5,6 +5,7 @@ ghost use Rattle.table.specs.Verdict.{verdict};
 ghost use Rattle.coding.specs.Calls.{checkAnswer, wholeWrite, wholeRead};
 ghost use Rattle.link.specs.Pack.{place, packed};
 use coding::Answer;
+use octets::cause::cause_number;
 
 fn join(number: u64, place: usize) -> u64
     requires { ⌜ (number < 29) × (place < 65536) ⌝ }
@@ -20,10 +21,7 @@ fn pack(a: Answer) -> u64
 {
     match a {
         Answer::Done(n) => join(0, n),
-        Answer::Refused(r) => {
-            let p = engine::refusal::parts_of(r);
-            join(p.number, p.place)
-        }
+        Answer::Refused { cause, place: p } => join(cause_number(cause), p),
     }
 }
 
@@ -36,14 +34,22 @@ pub extern "C" fn yinscarf_check(table: &[u8]) -> u64
 
 #[no_mangle]
 pub extern "C" fn yinscarf_write(table: &[u8], t: usize, value: &[u8], buf: &mut [u8]) -> u64
-    ensures { λ r. ⌜ (r ≡ packed (wholeWrite (now (table .entry)) t (now (value .entry)) (now (buf .entry)) .answer)) × (now (buf .exit) ≡ wholeWrite (now (table .entry)) t (now (value .entry)) (now (buf .entry)) .buffer) ⌝ }
+    ensures { λ r. ⌜
+        (let x = wholeWrite (now (table .entry)) t (now (value .entry)) (now (buf .entry)) in
+        (r ≡ packed (x .answer))
+        × (now (buf .exit) ≡ x .buffer))
+        ⌝ }
 {
     pack(engine::write(table, t, value, buf))
 }
 
 #[no_mangle]
 pub extern "C" fn yinscarf_read(table: &[u8], t: usize, message: &[u8], buf: &mut [u8]) -> u64
-    ensures { λ r. ⌜ (r ≡ packed (wholeRead (now (table .entry)) t (now (message .entry)) (now (buf .entry)) .answer)) × (now (buf .exit) ≡ wholeRead (now (table .entry)) t (now (message .entry)) (now (buf .entry)) .buffer) ⌝ }
+    ensures { λ r. ⌜
+        (let x = wholeRead (now (table .entry)) t (now (message .entry)) (now (buf .entry)) in
+        (r ≡ packed (x .answer))
+        × (now (buf .exit) ≡ x .buffer))
+        ⌝ }
 {
     pack(engine::read(table, t, message, buf))
 }

@@ -1,7 +1,8 @@
--- No two causes have one number.
+-- No two causes have one number, and none has 0.
 -- Assumes nothing.
 use mathlib.Core.Path.{_≡_, refl, sym, ap, _∙_}
 use Prim.Native.Nat.{ℕ}
+use native.Mathlib.Omega.{arith}
 use lib.Dec.{eqb}
 use Rattle.octets.specs.Answer.{if}
 use Rattle.octets.specs.Causes.{Cause, causeNumber}
@@ -55,3 +56,11 @@ numbered-back MessageLevel = refl
 
 pub same-cause : (c d : Cause) → causeNumber c ≡ causeNumber d → c ≡ d
 same-cause c d e = sym (numbered-back c) ∙ ap numbered e ∙ numbered-back d
+
+-- 0 is no cause's
+pub never-0 : (c : Cause) → causeNumber c ≡ 0 → ⊥
+unfolding numbered if
+never-0 c e =
+    let s : MessageLevel ≡ c = sym (ap numbered e) ∙ numbered-back c in
+    let h : 28 ≡ causeNumber c = ap causeNumber s in
+    omega arith

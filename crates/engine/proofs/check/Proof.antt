@@ -4,15 +4,12 @@ use borrow.Author.Needs.{needs}
 use Rattle.coding.specs.Calls.{checkAnswer}
 use Rattle.engine.proofs.check.Statement.{statement}
 use Rattle.engine.proofs.check.Tie as tie
-use Rattle.engine.proofs.check.Reads as reads
-use Rattle.engine.proofs.check.Lts as lts
-use Rattle.table.proofs.check.Reads as check-reads
 
 pub check-spec : {M : Type 1} → statement M
 unfolding checkAnswer
 check-spec = tie.close (tie.spec
     (λ c κs. search needs)  -- check-requires
     (λ c. search needs)  -- enum-told
-    (λ c. search needs)  -- enum-known-c
+    (λ c. search needs)  -- enum-known-cause
     (λ c. rw (← c .before .before .check .ensures, c .enum-told .given .1))  -- returns
-    (λ c. rw (← c .before .before .before .check .ensures, c .before .c .given .1)))  -- returns-2
+    (λ c. rw (← c .before .before .before .check .ensures, c .before .cause .given .1)))  -- returns-2
