@@ -1,21 +1,19 @@
 -- From the check of a table to the outcome of a call that is given the table.
 -- Assumes nothing.
 use mathlib.Core.List.{List}
-use mathlib.Core.Path.{_≡_, sym, ap, _∙_}
-use native.Mathlib.Omega.{arith}
+use mathlib.Core.Path.{_≡_, sym, _∙_}
 use Prim.Native.Nat.{ℕ, _≤_}
-use lib.ListN.{length, take}
+use lib.ListN.{length}
 use Rattle.octets.specs.Numbers.{Octets}
 use Rattle.table.specs.Syntax.{Table}
-use Rattle.table.specs.Reading.{look}
+use Rattle.table.specs.Entries.{tableIn, Filled}
 use Rattle.table.specs.Passes.{Passes}
 use Rattle.table.specs.Verdict.{verdict}
-use Rattle.table.specs.Index.{Indexed, CheckedTable}
 use Rattle.table.specs.declared.TableCause.{TableCause}
+use Rattle.table.specs.declared.Verdict.{Verdict}
 use Rattle.table.specs.declared.Verdict.the-variants.{Passed, Refused}
-use Rattle.table.specs.declared.Checked.{Checked}
-use Rattle.table.proofs.Theorems.{checked-passes}
-use Rattle.table.proofs.Promises.{passed-short, index-size, index-places}
+use Rattle.table.proofs.Theorems.{passes}
+use Rattle.table.proofs.Promises.{passed-short}
 use Rattle.coding.specs.Outcome.{Outcome, Told, refusal, of-table}
 use Rattle.coding.specs.Calls.{afterCheck}
 
@@ -23,30 +21,26 @@ use Rattle.coding.specs.Calls.{afterCheck}
 abbrev pub Says : Outcome → Told → List ℕ → Type 0
 Says x r buf = (r ≡ x .answer) × (buf ≡ x .buffer)
 
-module _ (b : List ℕ) (c : Checked) (x : CheckedTable b c) where
-  pub out-table : (buf : List ℕ) (f : Table → ℕ → Outcome) (k : TableCause) → c .verdict ≡ Refused k → Says (afterCheck b buf f (verdict b)) (refusal (of-table k)) buf
+module _ (b : List ℕ) (x : Verdict) (is : x ≡ verdict b) where
+  -- the table is refused
+  pub out-table : (buf : List ℕ) (f : Table → ℕ → Outcome) (k : TableCause) → x ≡ Refused k
+      → Says (afterCheck b buf f (verdict b)) (refusal (of-table k)) buf
   unfolding afterCheck
-  out-table buf f k e = let q : verdict b ≡ Refused k = sym (x .is) ∙ e in (rw q, rw q)
+  out-table buf f k e = let q : verdict b ≡ Refused k = sym is ∙ e in (rw q, rw q)
 
-  module _ (e : c .verdict ≡ Passed) where
-    indexed : Indexed b (c .index)
-    indexed = x .index (passed-short b (sym (x .is) ∙ e))
+  -- or passes: its index is filled, and what follows is by its records
+  module _ (e : x ≡ Passed) where
+    passed : verdict b ≡ Passed
+    passed = sym is ∙ e
 
-    abbrev places : List ℕ
-    places = take (c .index .count) (c .index .offsets)
+    module _ (index : List ℕ) (n : ℕ) (fill : length b ≤ 8192 → Filled b index n) where
+      filled : Filled b index n
+      filled = fill (passed-short b passed)
 
-    pub count-within : c .index .count ≤ length (c .index .offsets)
-    count-within = omega (arith, indexed .few, index-size indexed)
+      pub table-ready : Octets b → Filled b index n × Passes b (tableIn b) n
+      table-ready o = (filled, rw (filled .count) (passes b o passed))
 
-    pub count-is : c .index .count ≡ length places
-    count-is = indexed .count ∙ ap length (sym (index-places indexed))
-
-    pub passed : Octets b → Passes b (look b places) (length places)
-    passed o = rw (← count-is) (checked-passes b o c x e)
-
-    pub out-passed : (buf : List ℕ) (f : Table → ℕ → Outcome) (r : Told) (w : List ℕ) → Says (f (look b places) (length places)) r w → Says (afterCheck b buf f (verdict b)) r w
-    unfolding afterCheck
-    out-passed buf f r w s =
-        let q : verdict b ≡ Passed = sym (x .is) ∙ e in
-        let y = rw (index-places indexed) at s in
-        (rw q (y .0), rw q (y .1))
+      pub out-passed : (buf : List ℕ) (f : Table → ℕ → Outcome) (r : Told) (w : List ℕ) → Says (f (tableIn b) n) r w
+          → Says (afterCheck b buf f (verdict b)) r w
+      unfolding afterCheck
+      out-passed buf f r w s = let q = passed in let y = rw (filled .count) at s in (rw q (y .0), rw q (y .1))

@@ -31,3 +31,5 @@ pub mod PlacedLoop
 pub mod NodeStores
 pub mod LeafStores
 pub mod LeafKinds
+pub mod Locating
+pub mod Outcomes

@@ -5,7 +5,7 @@ ghost use mathlib.Core.List.{List};
 ghost use Prim.Native.Nat.{ℕ, _≤_};
 ghost use lib.ListN.{length};
 ghost use Rattle.table.specs.Syntax.{Member, Set};
-ghost use Rattle.table.specs.Entries.{tableIn};
+ghost use Rattle.table.specs.Entries.{unpacked, tableIn};
 ghost use Rattle.reader.specs.Items.{inside, blank};
 ghost use Rattle.reader.specs.Records.{Ready, Known};
 ghost use Rattle.reader.specs.Sought.{held};
@@ -55,6 +55,7 @@ pub fn locate(
     requires { ⌜
         Ready (now table) (now index)
         × Known (now table) (now index) w
+        × (unpacked w .kind ≡ 17)
         × (length (now m) ≤ 8192)
         × (now began ≡ blank)
         × (length (now way) ≡ 128)

@@ -11,24 +11,17 @@ use lib.Dec.{ltb, leb, eqb}
 use lib.ListN.{length, take, drop, take-append-drop}
 use lib.Seq.{sets, sets-eq, length-take-le, drop-append-le}
 use Rattle.octets.proofs.Tests.{test}
-use Rattle.octets.specs.Numbers.{Octets}
 use Rattle.octets.specs.Answer.{Answer, got, refused, then, if, none-left}
 use Rattle.octets.proofs.Answer.{run, refused≢got, then-refused}
 use Rattle.table.specs.Syntax.{Table}
 use Rattle.table.specs.Entries.{tableIn, Filled}
 use Rattle.table.specs.Passes.{Passes}
-use Rattle.table.specs.Verdict.{verdict}
-use Rattle.table.specs.declared.TableCause.{TableCause}
 use Rattle.table.specs.declared.TableCause.the-variants.{NoType}
-use Rattle.table.specs.declared.Verdict.{Verdict}
-use Rattle.table.specs.declared.Verdict.the-variants.{Passed, Refused as VRefused}
-use Rattle.table.proofs.Theorems.{passes}
-use Rattle.table.proofs.Promises.{passed-short}
 use Rattle.coding.specs.Value.{Value}
 use Rattle.coding.specs.Form.{formAt}
 use Rattle.coding.specs.Judging.{need, readNode, judgeValue, judgeWhole}
 use Rattle.coding.specs.Outcome.{Outcome, refuse, write-at-start}
-use Rattle.coding.specs.Calls.{valueCause, afterJudging, writeOutcome, afterCheck, wholeWrite}
+use Rattle.coding.specs.Calls.{valueCause, afterJudging, writeOutcome}
 use Rattle.coding.specs.declared.ValueCause.{ValueCause}
 use Rattle.coding.specs.declared.ValueCause.the-variants.{Shape, Room}
 use Rattle.coding.specs.declared.Refusal.{Refusal}
@@ -212,21 +205,3 @@ module _ (buf : List ℕ) (long : 8192 < length buf) where
 
   pub front-count : 8192 ≡ length Front
   front-count = sym front-length
-
--- by the verdict on the table
-module _ (b : List ℕ) (x : Verdict) (is : x ≡ verdict b) (t : ℕ) (v buf : List ℕ) where
-  pub out-table : (k : TableCause) → x ≡ VRefused k → Says (wholeWrite b t v buf) (TRefused (OfTable k)) buf
-  unfolding wholeWrite afterCheck
-  out-table k e = let q : verdict b ≡ VRefused k = sym is ∙ e in (rw q, rw q)
-
-  module _ (e : x ≡ Passed) where
-    passed : verdict b ≡ Passed
-    passed = sym is ∙ e
-
-    pub table-ready : (o : Octets b) (index : List ℕ) (n : ℕ) → (length b ≤ 8192 → Filled b index n) → Filled b index n × Passes b (tableIn b) n
-    table-ready o index n f = let F = f (passed-short b passed) in (F, rw (F .count) (passes b o passed))
-
-    pub out-passed : (index : List ℕ) (n : ℕ) → (length b ≤ 8192 → Filled b index n) → (r : Told) (w : List ℕ)
-        → Says (writeOutcome (tableIn b) n t v buf) r w → Says (wholeWrite b t v buf) r w
-    unfolding wholeWrite afterCheck
-    out-passed index n f r w S = let q = passed in let Q = rw (f (passed-short b q) .count) at S in (rw q (Q .0), rw q (Q .1))

@@ -1,19 +1,41 @@
+-- `reader::read` meets its contract: the verdict on the table, then the outcome by its records.
+-- Assumes nothing.
+use native.Mathlib.Omega.{arith}
+use denote.Ref.{now}
+use Rattle.coding.specs.Calls.{readOutcome, wholeRead}
+use Rattle.coding.proofs.Checked.{out-table, table-ready, out-passed}
 use borrow.Author.Needs.{needs}
 use Rattle.reader.proofs.read.Statement.{statement}
 use Rattle.reader.proofs.read.Tie as tie
-use Rattle.reader.proofs.read.Reads as reads
-use Rattle.reader.proofs.read.Lts as lts
-use Rattle.reader.proofs.read_passed.Reads as read-passed-reads
-use Rattle.table.proofs.check_into.Reads as check-into-reads
 
 pub read-spec : {M : Type 1} → statement M
+unfolding wholeRead
 read-spec =
     tie.close
     (tie.spec
-    (λ c κs. ?) -- check-into-requires
-    (λ c. ?) -- enum-known-verdict
-    (λ c. ?) -- enum-told
-    (λ c κs. ?) -- read-passed-requires
-    (λ c. ?) -- returns
-    (λ c. ?) -- same-length
-    (λ c. ?)) -- returns-2
+    (λ c κs. search needs)  -- check-into-requires
+    (λ c. search needs)  -- enum-known-verdict
+    (λ c. search needs)  -- enum-told
+    (λ c κs.
+    let a = c .before .before .before .before .before .before .before .before .before .args in
+    let b = now (a .table) in
+    table-ready b _ (c .before .before .before .before .check-into .ensures .0) (c .before .before .enum-told .given .1) _ _ (c .before .before
+    .before .before .check-into .ensures .1) (λ k. omega (
+      arith,
+      c .before .before .before .before .before .before .before .before
+          .shared-slice-known .given k,
+    )))  -- read-passed-requires
+    (λ c.
+    let a = c .before .before .before .before .before .before .before .before .args in
+    let b = now (a .table) in
+    let v = now (a .buf) in
+    out-table b _ (c .before .before .before .check-into .ensures .0) v (λ T n. readOutcome T n (a .t) (now (a .message)) v) _ (c .before .verdict
+    .given .1))  -- returns
+    (λ c. search needs)  -- same-length
+    (λ c.
+    let a = c .before .before .before .before .before .before .before .before .before .before .before .before .args in
+    let b = now (a .table) in
+    let v = now (a .buf) in
+    out-passed b _ (c .before .before .before .before .before .before .before .check-into .ensures .0) (c .before .before .before .before .before
+    .enum-told .given .1) _ _ (c .before .before .before .before .before .before .before .check-into .ensures .1) v (λ T n. readOutcome T n (a .t)
+    (now (a .message)) v) _ _ (c .before .before .read-passed .ensures)))  -- returns-2

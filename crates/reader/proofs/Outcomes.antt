@@ -1,0 +1,160 @@
+-- The ways through the reading of a whole message.
+-- Assumes nothing.
+use mathlib.Core.Bool.{true, false, not}
+use mathlib.Core.List.{List, _++_}
+use mathlib.Core.Path.{_≡_, refl, sym, ap, _∙_}
+use Prim.Native.Nat.{ℕ, _+_, _-_, _≤_, _<_, min}
+use native.Mathlib.Nat.{zero-add}
+use native.Mathlib.Omega.{arith}
+use borrow.Author.Tests.{lt-ltb, le-ltb, le-leb, lt-leb}
+use lib.Dec.{ltb, leb, eqb}
+use lib.ListN.{length, take, drop}
+use lib.Seq.{sets, sets-eq}
+use Rattle.octets.specs.Answer.{Answer, got, refused, then, if, none-left}
+use Rattle.octets.proofs.Answer.{run, refused≢got}
+use Rattle.octets.proofs.Tests.{test}
+use Rattle.ber.specs.Told.{mode}
+use Rattle.table.specs.Syntax.{Table}
+use Rattle.table.specs.Entries.{tableIn, Filled}
+use Rattle.table.specs.Passes.{Passes}
+use Rattle.table.specs.declared.TableCause.the-variants.{NoType}
+use Rattle.coding.specs.Value.{Value, octets}
+use Rattle.coding.specs.Reading.{readValue, readMessage}
+use Rattle.coding.specs.Calls.{messageCause, afterReading, readOutcome}
+use Rattle.coding.specs.declared.MessageCause.{MessageCause}
+use Rattle.coding.specs.declared.MessageCause.the-variants.{TooLong, Room}
+use Rattle.coding.specs.declared.Refusal.the-variants.{Table as of-table, Message as of-message}
+use Rattle.coding.specs.declared.Answer.the-variants.{Done as done, Refused as refusal}
+use Rattle.coding.proofs.Checked.{Says}
+use Rattle.coding.proofs.Refusals.{Speaks, answers, names, message-says}
+use Rattle.reader.specs.Answers.{cap, causeOf, causeNumber, told, size}
+use Rattle.reader.specs.Items.{message, readHeld}
+use Rattle.reader.specs.Records.{Ready}
+use Rattle.reader.specs.Placed.{Fits}
+use Rattle.reader.specs.declared.answer.Cause.{Cause}
+use Rattle.reader.specs.declared.answer.Judged.{Judged}
+use Rattle.reader.specs.declared.answer.Judged.the-variants.{Done, Refused}
+use Rattle.reader.proofs.ItemsKinds.{message-whole}
+
+pub ready : (b index : List ℕ) (n : ℕ) → Filled b index n → Passes b (tableIn b) n → Ready b index
+ready b index n F P = let q = F .count in record { passes = rw q at P; filled = rw q at F }
+
+-- what the judge told
+abbrev Tells : Answer Value → Judged → Type 0
+Tells x (Done e s) = (v : Value) × (w : List ℕ) × (x ≡ got v w) × (cap (size v) ≡ s)
+Tells x (Refused c l) = (k : ℕ) × (x ≡ refused k l) × (causeOf k ≡ c)
+
+tells : (m : List ℕ) (x : Answer Value) → Tells x (told m size x)
+unfolding told
+tells m (got v w) = (v, w, refl, refl)
+tells m (refused c l) = (c, refl, refl)
+
+-- a cause stands for its number
+cause-is : (c p : ℕ) → messageCause (causeNumber (causeOf c)) p ≡ messageCause c p
+unfolding messageCause causeOf if
+cause-is c p =
+    test (eqb c 22) (λ e. rw e refl) λ a.
+    test (eqb c 23) (λ e. rw (a, e) refl) λ b.
+    test (eqb c 24) (λ e. rw (a, b, e) refl) λ d.
+    test (eqb c 25) (λ e. rw (a, b, d, e) refl) λ f.
+    test (eqb c 26) (λ e. rw (a, b, d, f, e) refl) λ g.
+    rw (a, b, d, f, g) refl
+
+-- a message that is accepted holds one item of its type
+accepted-held : (T : Table) (n t : ℕ) (m : List ℕ) (v : Value) (w : List ℕ) → readMessage T n t m ≡ got v w
+    → readHeld T (readValue T n) (message t) (mode false) m ≡ got v w
+unfolding then if
+accepted-held T n t m v w e =
+    let z = sym (message-whole T n t (mode false) m) ∙ e in
+    test (none-left m) (λ y. absurd (refused≢got (rw y at z))) λ y. go (readHeld T (readValue T n) (message t) (mode false) m) (rw y at z)
+  where
+    go : (x : Answer Value) → then x (λ a r. if (not (none-left r)) (refused 26 (length r)) λ _. got a r) ≡ got v w → x ≡ got v w
+    go (got a r) z = test (none-left r) (λ y. rw y at z) λ y. absurd (refused≢got (rw y at z))
+    go (refused c l) z = absurd (refused≢got z)
+
+-- the place of a refusal lies in the message
+speaks-low : {K : ℕ → Type 0} {n : ℕ} (x : Answer Value) → Speaks K n x → (c l : ℕ) → x ≡ refused c l → l ≤ n
+speaks-low (got a r) answers c l e = absurd (refused≢got (sym e))
+speaks-low (refused d k) (names h i) c l e = let q : k ≡ l = cc in omega arith
+
+module _ (T : Table) (n t : ℕ) (m buf : List ℕ) where
+  pub out-type : n ≤ t → Says (readOutcome T n t m buf) (refusal (of-table NoType)) buf
+  unfolding readOutcome
+  out-type h = let e : ltb t n ≡ false = le-ltb t n h in (simp (run, e), simp (run, e))
+
+  pub out-long : t < n → 8192 < length m → Says (readOutcome T n t m buf) (refusal (of-message TooLong)) buf
+  unfolding readOutcome
+  out-long h l =
+      let e : ltb t n ≡ true = lt-ltb t n h in
+      let f : leb (length m) 8192 ≡ false = lt-leb (length m) 8192 l in
+      (simp (run, e, f), simp (run, e, f))
+
+module _ (T : Table) (t : ℕ) (m : List ℕ) (r : Judged) (p : r ≡ told m size (readMessage T 24 t m)) where
+  pub refused-within : (c : Cause) (l : ℕ) → r ≡ Refused c l → l ≤ length m
+  refused-within c l e =
+      let (k, x, y) = rw (← p, e) at (tells m (readMessage T 24 t m)) in
+      speaks-low (readMessage T 24 t m) (message-says T 24 t m) k l x
+
+  module _ (n : ℕ) (buf : List ℕ) (h : t < n) (l : length m ≤ 8192) where
+    -- the outcome once the message is read
+    whole : (x : Answer Value) → readMessage T 24 t m ≡ x → readOutcome T n t m buf ≡ afterReading m buf x
+    unfolding readOutcome
+    whole x q =
+        let e : ltb t n ≡ true = lt-ltb t n h in
+        let f : leb (length m) 8192 ≡ true = le-leb (length m) 8192 l in
+        simp (run, e, f, q)
+
+    pub out-refused : (c : Cause) (i : ℕ) → r ≡ Refused c i → (k : MessageCause) → k ≡ messageCause (causeNumber c) (length m - i)
+        → Says (readOutcome T n t m buf) (refusal (of-message k)) buf
+    unfolding afterReading
+    out-refused c i e k f =
+        let (d, x, y) = rw (← p, e) at (tells m (readMessage T 24 t m)) in
+        let o = whole (refused d i) x in
+        let q : k ≡ messageCause d (length m - i) = f ∙ rw (← y) (cause-is d (length m - i)) in
+        (rw (o, q), rw o)
+
+    module _ (e s : ℕ) (d : r ≡ Done e s) where
+      -- the value that was read, and how many octets it has
+      record Accepted : Type 0 where
+        value : Value
+        rest : List ℕ
+        is : readMessage T 24 t m ≡ got value rest
+        size : cap (size value) ≡ s
+
+      accepted : Accepted
+      accepted = let (v, w, x, y) = rw (← p, d) at (tells m (readMessage T 24 t m)) in record { value = v; rest = w; is = x; size = y }
+
+      lacks : min 16384 (length buf) < size (accepted .value) → Says (readOutcome T n t m buf) (refusal (of-message Room)) buf
+      unfolding afterReading
+      lacks k =
+          let o = whole (got (accepted .value) (accepted .rest)) (accepted .is) in
+          let f : leb (size (accepted .value)) (min 16384 (length buf)) ≡ false = lt-leb _ _ k in
+          (rw o (simp (run, f)), rw o (simp (run, f)))
+
+      pub out-over : 16384 < s → Says (readOutcome T n t m buf) (refusal (of-message Room)) buf
+      out-over k = lacks (omega (arith, accepted .size))
+
+      pub out-room : s ≤ 16384 → length buf < s → Says (readOutcome T n t m buf) (refusal (of-message Room)) buf
+      out-room j k = lacks (omega (arith, accepted .size))
+
+      module _ (j : s ≤ 16384) (k : s ≤ length buf) where
+        size-is : size (accepted .value) ≡ s
+        size-is = omega (arith, accepted .size)
+
+        held-is : readHeld T (readValue T 24) (message t) (mode false) m ≡ got (accepted .value) (accepted .rest)
+        held-is = accepted-held T 24 t m (accepted .value) (accepted .rest) (accepted .is)
+
+        pub fits : Fits (readHeld T (readValue T 24) (message t) (mode false) m) 0 buf
+        fits = record { value = accepted .value; rest = accepted .rest; is = held-is; room = omega (arith, size-is) }
+
+        pub out-done : (w : List ℕ)
+            → ((v : Value) → (rest : List ℕ) → readHeld T (readValue T 24) (message t) (mode false) m ≡ got v rest → w ≡ sets buf 0 (octets v))
+            → Says (readOutcome T n t m buf) (done s) w
+        unfolding afterReading
+        out-done w a =
+            let v = octets (accepted .value) in
+            let o = whole (got (accepted .value) (accepted .rest)) (accepted .is) in
+            let f : leb (length v) (min 16384 (length buf)) ≡ true = le-leb (length v) (min 16384 (length buf)) (omega (arith, size-is)) in
+            let b : w ≡ sets buf 0 v = a (accepted .value) (accepted .rest) held-is in
+            let z : sets buf 0 v ≡ take 0 buf ++ v ++ drop (0 + length v) buf = sets-eq v buf 0 (omega (arith, size-is)) in
+            (rw o (simp (run, f) (ap done (sym size-is))), b ∙ z ∙ rw o (simp (run, f, zero-add)))
