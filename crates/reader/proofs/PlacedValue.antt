@@ -61,7 +61,7 @@ use Rattle.reader.specs.declared.tags.Opened.{Opened}
 use Rattle.reader.specs.declared.tags.Opened.the-variants.{Inside, Refused as NotOpened}
 use Rattle.reader.proofs.Begun.{Fit}
 use Rattle.reader.proofs.Items.{Ending, over, broken, more, ending}
-use Rattle.reader.proofs.ItemsKinds.{kind-held}
+use Rattle.reader.proofs.ItemsKinds.{Kind, kind-held}
 use Rattle.reader.proofs.Opening.{part-is, slice-is, its-count, its-first, its-few}
 use Rattle.reader.proofs.Spans.{held-body}
 use Rattle.reader.proofs.Tagging.{zeros, count-identifiers, code-at, its-entry, its-record, its-fit}
@@ -455,3 +455,279 @@ module _ {b index : List ℕ} {w : ℕ} {m : List ℕ} {at from : ℕ} {buf : Li
           is = g .1;
           closes = g .2;
         }
+
+  -- what reading the item says, by its body
+  abbrev T : Table
+  T = tableIn b
+
+  abbrev Reads-on : ℕ → List ℕ → Answer Value
+  Reads-on t s = readValue T 24 t s
+
+  held-is : held b w ≡ inside-of (R .body)
+  held-is = held-body its (P .ready .filled .short) ∙ ap inside-of (sym same-body)
+
+  by-items : (y : Body) → R .body ≡ y → (s : List ℕ) → Kind T Reads-on (good b T (countIn b) (P .ready .passes)) (λ t u. value-shorter T 24 t u) (own R) s y (readBare b 24 R s)
+  by-items y e s =
+      subst
+      (λ (z : Body). Kind T Reads-on (good b T (countIn b) (P .ready .passes)) (λ t u. value-shorter T 24 t u) (own R) s y (readKind T Reads-on (own R) z s))
+      (sym e)
+      (kind-held T Reads-on (good b T (countIn b) (P .ready .passes)) (λ t u. value-shorter T 24 t u) (own R) s y (few-members its y (sym same-body ∙ e)))
+
+  built-items : (y : Body) → R .body ≡ y → isChoice y ≡ false → constructed y ≡ true → (s : List ℕ)
+      → readBare b 24 R s ≡ readConstructed (own R) (readHeld T Reads-on (inside-of y)) s
+  unfolding isChoice constructed
+  built-items (Plain q) e c d s = absurd (false≢true d)
+  built-items (Sequence ms) e c d s = by-items (Sequence ms) e s
+  built-items (Set ms) e c d s = by-items (Set ms) e s
+  built-items (SequenceOf t) e c d s = by-items (SequenceOf t) e s
+  built-items (SetOf t) e c d s = by-items (SetOf t) e s
+  built-items (Choice ts) e c d s = absurd (true≢false c)
+
+  many-items : (y : Body) → isChoice y ≡ false → constructed y ≡ true → isSingle (manner (inside-of y)) ≡ false
+  unfolding isChoice constructed isSingle manner
+  many-items (Plain q) c d = absurd (false≢true d)
+  many-items (Sequence ms) c d = refl
+  many-items (Set ms) c d = refl
+  many-items (SequenceOf t) c d = refl
+  many-items (SetOf t) c d = refl
+  many-items (Choice ts) c d = absurd (true≢false c)
+
+  plain-body : (y : Body) → constructed y ≡ false → (q : Simple) × (y ≡ Plain q)
+  unfolding constructed
+  plain-body (Plain q) d = (q, refl)
+  plain-body (Sequence ms) d = absurd (true≢false d)
+  plain-body (Set ms) d = absurd (true≢false d)
+  plain-body (SequenceOf t) d = absurd (true≢false d)
+  plain-body (SetOf t) d = absurd (true≢false d)
+  plain-body (Choice ts) d = absurd (true≢false d)
+
+  simple-is : unpacked w .simple ≡ not (constructed (R .body))
+  simple-is = its .simple ∙ ap (λ (y : Body). not (constructed y)) (sym same-body)
+
+  module _ {notes : List ℕ} {at₁ from₁ end : ℕ} (U : Under b w m at Val Rest notes at₁ from₁ end) where
+    abbrev A : List ℕ
+    A = take end m
+
+    size-around : length A ≡ end
+    size-around = length-take-le end m (U .high)
+
+    -- a CHOICE stands in no item of its own
+    pub choice-contents : unpacked w .kind ≡ 50 → Contents b w m at end Val (U .left) at₁ end false
+    unfolding constructed
+    choice-contents k =
+        let c : isChoice (R .body) ≡ true = sym choice-is ∙ eq-eqb (unpacked w .kind) 50 k in
+        let (ts, e) = choice-body (R .body) c in
+        let q = slice-is at₁ end m (omega (arith, U .some)) (U .high) in
+        let n : length (take (end - at₁) (drop at₁ m)) ≡ end - at₁
+        = ap length q ∙ length-drop at₁ A ∙ ap (λ (i : ℕ). i - at₁) size-around in
+        record {
+          low = U .deeper c;
+          order = omega (arith, U .some);
+          high = omega arith;
+          simple = λ z. absurd (true≢false (sym z ∙ simple-is ∙ rw e refl));
+          holds = λ _. (
+            U .left,
+            ap (λ (h : Holder). heldIn b h false (take (end - at₁) (drop at₁ m))) (held-is ∙ ap inside-of e)
+            ∙ ap (λ (s : List ℕ). heldIn b (inside-of (Choice ts)) false s) q ∙ sym (by-items (Choice ts) e (drop at₁ A) closed) ∙ U .is,
+            λ p l z. (omega (arith, n, U .some), z ∙ ap (drop p) q ∙ drop-drop p at₁ A),
+          );
+        }
+
+    -- an item whose length is read again
+    module _ (other : unpacked w .kind ≡ 50 → ⊥) (x : Extent) (again : (l : ℕ) → Again (length A) (readLength l (drop from₁ A)) x) where
+      no-choice : isChoice (R .body) ≡ false
+      no-choice = sym choice-is ∙ ne-eqb (unpacked w .kind) 50 other
+
+      abbrev H : Headed A at₁ from₁ (codeOf (own R))
+      H = U .headed no-choice
+
+      abbrev C : List ℕ
+      C = take (x .end - x .start) (drop (x .start) m)
+
+      inner-is : x .start ≤ x .end → x .end ≤ length A → drop (x .start) (take (x .end) A) ≡ C
+      inner-is h k =
+          let l : x .end ≤ end = omega (arith, size-around) in
+          let g : x .end ≤ length m = omega (arith, U .high) in
+          ap (drop (x .start)) (take-take (x .end) end m l) ∙ sym (slice-is (x .start) (x .end) m h g)
+
+      size-inner : x .start ≤ x .end → x .end ≤ length A → length C ≡ x .end - x .start
+      size-inner h k =
+          let g : x .end ≤ length m = omega (arith, U .high, size-around) in
+          ap length (slice-is (x .start) (x .end) m h g) ∙ length-drop (x .start) (take (x .end) m)
+          ∙ ap (λ (i : ℕ). i - x .start) (length-take-le (x .end) m g)
+
+      built-contents : constructed (R .body) ≡ true → Contents b w m at end Val (U .left) (x .start) (x .end) (x .marked)
+      built-contents d =
+          let f = readHeld T Reads-on (inside-of (R .body)) in
+          let B = built-part A at₁ from₁ (H .identifier) (H .is) (own R) x again f Val (U .left) (sym (built-items (R .body) refl no-choice d (drop at₁ A)) ∙ U .is) in
+          let q = inner-is (B .order) (B .high) in
+          let n = size-inner (B .order) (B .high) in
+          let read : f (mode (x .marked)) C ≡ got Val (B .left) = ap (f (mode (x .marked))) (sym q) ∙ B .read in
+          record {
+            low = omega (arith, U .low, H .further, B .further);
+            order = B .order;
+            high = omega (arith, B .high, size-around);
+            simple = λ z. absurd (true≢false (sym z ∙ simple-is ∙ ap not d));
+            holds = λ _. (
+              B .left,
+              ap (λ (h : Holder). heldIn b h (x .marked) C) held-is ∙ read,
+              λ p l z.
+                  test (x .marked)
+                  (λ t.
+                  let (g, k) = B .closes t in
+                  let y : drop (x .start) (take (x .end) A) ≡ drop (x .start) A = ap (drop (x .start)) (ap (λ (i : ℕ). take i A) g ∙ take-length A) in
+                  (omega (arith, n, B .order, g, size-around), k ∙ z ∙ ap (drop p) (sym q ∙ y) ∙ drop-drop p (x .start) A))
+                  λ t.
+                  let y = held-closed T Reads-on (inside-of (R .body)) (many-items (R .body) no-choice d) C Val (B .left)
+                      (ap (λ (k : Bool). f (mode k) C) (sym t) ∙ read) in
+                  let g : x .start + p ≡ x .end = omega (arith, n, B .order, ap length (sym y ∙ z), length-drop p C) in
+                  (omega (arith, g, B .high, size-around), B .sized t ∙ ap (λ (i : ℕ). drop i A) (sym g)),
+            );
+          }
+
+      plain-contents : Octets b → constructed (R .body) ≡ false → Contents b w m at end Val (U .left) (x .start) (x .end) (x .marked)
+      unfolding readKind
+      plain-contents ob d =
+          let (q, e) = plain-body (R .body) d in
+          let read : readKind T Reads-on (own R) (Plain q) (drop at₁ A) ≡ got Val (U .left)
+          = ap (λ (y : Body). readKind T Reads-on (own R) y (drop at₁ A)) (sym e) ∙ U .is in
+          let B = plain-part A at₁ from₁ (H .identifier) (H .is) (own R) x again q Val (U .left) read in
+          let k : unpacked w .kind ≡ kind (Plain q) = entered-kind its ∙ ap kind (sym same-body ∙ e) in
+          let g = inner-is (B .order) (B .high) in
+          let y = content-leaf (B .content) (entered-small its ob q (sym same-body ∙ e)) in
+          record {
+            low = omega (arith, U .low, H .further, B .further);
+            order = B .order;
+            high = omega (arith, B .high, size-around);
+            simple = λ _. (
+              subst (λ (i : ℕ). Lawful i C) (sym k) (subst (λ (c : List ℕ). Lawful (kind (Plain q)) c) g (y .0)),
+              B .is ∙ ap leaf (y .1 ∙ ap (leafOf (kind (Plain q))) g ∙ ap (λ (i : ℕ). leafOf i C) (sym k)),
+              B .behind,
+            );
+            holds = λ z. absurd (false≢true (sym z ∙ simple-is ∙ ap not d));
+          }
+
+      pub read-contents : Octets b → Contents b w m at end Val (U .left) (x .start) (x .end) (x .marked)
+      read-contents ob = test (constructed (R .body)) built-contents (plain-contents ob)
+
+    -- what is placed of the contents
+    module _ {start stop : ℕ} {marked : Bool} (X : Contents b w m at end Val (U .left) start stop marked) where
+      abbrev Part : List ℕ
+      Part = take (stop - start) (drop start m)
+
+      part-size : length Part ≡ stop - start
+      part-size =
+          let g : stop ≤ length m = omega (arith, X .high, U .high) in
+          ap length (slice-is start stop m (X .order) g) ∙ length-drop start (take stop m) ∙ ap (λ (i : ℕ). i - start) (length-take-le stop m g)
+
+      pub part-less : length Part < length m
+      part-less = omega (arith, part-size, X .low, X .order, X .high, U .high)
+
+      pub part-high : stop ≤ length m
+      part-high = omega (arith, X .high, U .high)
+
+      -- a leaf
+      module _ (simple : unpacked w .simple ≡ true) where
+        abbrev Its-leaf : Leaf
+        Its-leaf = leafOf (unpacked w .kind) Part
+
+        pub leaf-asks : Lawful (unpacked w .kind) Part × (length Part ≤ 8192) × (to + length (leafOctets Its-leaf) ≤ length buf)
+        unfolding octets
+        leaf-asks =
+            let (l, e, r) = X .simple simple in
+            let room : to + length (octets (leaf Its-leaf)) ≤ length buf = subst (λ (v : Value). to + length (octets v) ≤ length buf) e (P .fits .room) in
+            (l, omega (arith, part-less, P .short), room)
+
+        pub leaf-stored : (buf₁ : List ℕ) (next : ℕ) → next ≡ to + length (leafOctets Its-leaf) → buf₁ ≡ sets buf to (leafOctets Its-leaf)
+            → Stored Val m end (U .left) buf to buf₁ stop next way
+        unfolding octets
+        leaf-stored buf₁ next en eb =
+            let (l, e, r) = X .simple simple in
+            record {
+              ends = en ∙ ap (λ (v : Value). to + length (octets v)) (sym e);
+              buffer = eb ∙ ap (λ (v : Value). sets buf to (octets v)) (sym e);
+              within = X .high;
+              behind = r;
+              ways = P .ways;
+            }
+
+      -- items
+      module _ (holds : unpacked w .simple ≡ false) where
+        pub items-ask : ToPlace b index w Part marked buf to way
+        items-ask =
+            let (u, e, f) = X .holds holds in
+            record {
+              ready = P .ready;
+              known = of-record (P .number) (P .low) (P .entry);
+              holds = holds;
+              short = omega (arith, part-less, P .short);
+              ways = P .ways;
+              fits = record { value = Val; rest = u; is = e; room = P .fits .room };
+            }
+
+        module _ (buf₁ way₁ : List ℕ) (r : Placed) (placed : IsPlaced (heldIn b (held b w) marked Part) Part to buf buf₁ r) where
+          abbrev Its-final : Final Val (X .holds holds .0) Part buf to buf₁ (r .end) (r .next)
+          Its-final = placed Val (X .holds holds .0) (X .holds holds .1)
+
+          pub items-end : start + r .end ≤ 8192
+          items-end = omega (arith, X .holds holds .2 (r .end) (Its-final .within) (Its-final .behind) .0, U .high, P .short)
+
+          pub items-stored : length way₁ ≡ 128 → Stored Val m end (U .left) buf to buf₁ (start + r .end) (r .next) way₁
+          items-stored l =
+              let q = X .holds holds .2 (r .end) (Its-final .within) (Its-final .behind) in
+              record { ends = Its-final .ends; buffer = Its-final .buffer; within = q .0; behind = q .1; ways = l }
+
+    -- the value's end
+    module _ {buf₁ : List ℕ} {stop next : ℕ} {way₁ : List ℕ} (S : Stored Val m end (U .left) buf to buf₁ stop next way₁) where
+      pub stored-length : length buf₁ ≡ length buf
+      stored-length = ap length (S .buffer) ∙ length-sets buf to (octets Val)
+
+      ended-placed : (e : ℕ) → e ≤ length m → Rest ≡ drop e m → IsPlaced (valueIn b w (drop at m)) m to buf buf₁ (record { end = e; next = next })
+      ended-placed e l q v rest z =
+          let k = sym (P .fits .is) ∙ z in
+          record {
+            ends = S .ends ∙ ap (λ (x : Value). to + length (octets x)) (got-value k);
+            buffer = S .buffer ∙ ap (λ (x : Value). sets buf to (octets x)) (got-value k);
+            within = l;
+            behind = sym (got-rest k) ∙ q;
+          }
+
+      pub bare-placed : unpacked w .explicit ≤ 0 → IsPlaced (valueIn b w (drop at m)) m to buf buf₁ (record { end = stop; next = next })
+      unfolding Around closing
+      bare-placed none =
+          let z : unpacked w .explicit ≡ 0 = omega arith in
+          let n : length m ≡ end = subst (λ (i : ℕ). Around (length m) (take i notes) end) z (U .around) in
+          let r : _≡_ {A = Answer ℕ} (got 0 (U .left)) (got 0 Rest)
+          = subst (λ (i : ℕ). _≡_ {A = Answer ℕ} (closing m (take i notes) end (got 0 (U .left))) (got 0 Rest)) z (U .closes 0) in
+          let q : Rest ≡ drop stop m = sym (got-rest r) ∙ S .behind ∙ ap (drop stop) (ap (λ (i : ℕ). take i m) (sym n) ∙ take-length m) in
+          ended-placed stop (omega (arith, S .within)) q
+
+      module _ (y : Judged)
+          (ey : y ≡ told m (λ (n : ℕ). n) (closing m (take (unpacked w .explicit) notes) end (got 0 (drop stop (take end m))))) where
+        closed-told : y ≡ told m (λ (n : ℕ). n) (got 0 Rest)
+        closed-told =
+            ey ∙ ap (λ (u : List ℕ). told m (λ (n : ℕ). n) (closing m (take (unpacked w .explicit) notes) end (got 0 u))) (sym (S .behind))
+            ∙ ap (told m (λ (n : ℕ). n)) (U .closes 0)
+
+        pub must-close : (c : Cause) (l : ℕ) → y ≡ Refused c l → ⊥
+        unfolding told
+        must-close c l e = let q = sym e ∙ closed-told in let z : _≡_ {A = ℕ} 0 1 = cc in omega arith
+
+        rest-behind : Rest ≡ drop (length m - length Rest) m
+        unfolding readRecord readValue
+        rest-behind =
+            let e : readValue T 25 (P .number) (drop at m) ≡ got Val Rest
+            = subst (λ (r : Record). readRecord T 24 r (drop at m) ≡ got Val Rest) same-record (P .fits .is) in
+            let q = got-holds (value-sound as-given T 25 (P .number) (drop at m)) e in
+            let low : at ≤ length m = omega (arith, P .headed .further, P .headed .low) in
+            let f = behind-part m at (q .piece) Rest (q .cut) in
+            let g = length-behind m at (q .piece) Rest low (q .cut) in
+            let u : at + length (q .piece) ≡ length m - length Rest = omega (arith, length-drop (at + length (q .piece)) m, ap length f) in
+            sym f ∙ ap (λ (i : ℕ). drop i m) u
+
+        pub closed-placed : (e n : ℕ) → y ≡ Done e n → IsPlaced (valueIn b w (drop at m)) m to buf buf₁ (record { end = e; next = next })
+        unfolding told
+        closed-placed e n d =
+            let q = sym d ∙ closed-told in
+            let z : e ≡ length m - length Rest = cc in
+            ended-placed e (omega arith) (rest-behind ∙ ap (λ (i : ℕ). drop i m) (sym z))
