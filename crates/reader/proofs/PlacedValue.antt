@@ -376,6 +376,19 @@ pub record Stored (v : Value) (m : List ℕ) (end : ℕ) (left first : List ℕ)
   pub behind : left ≡ drop stop (take end m)
   pub ways : length way ≡ 128
 
+-- the same by other names
+pub under-as : {b : List ℕ} {w : ℕ} {m : List ℕ} {at : ℕ} {v : Value} {rest n n₁ : List ℕ} {a f e a₁ f₁ e₁ : ℕ} → Under b w m at v rest n a f e
+    → n₁ ≡ n → a₁ ≡ a → f₁ ≡ f → e₁ ≡ e → Under b w m at v rest n₁ a₁ f₁ e₁
+under-as U en ea ef ee = rw (en, ea, ef, ee) U
+
+pub contents-as : {b : List ℕ} {w : ℕ} {m : List ℕ} {at end : ℕ} {v : Value} {left : List ℕ} {s e s₁ e₁ : ℕ} {k k₁ : Bool} → Contents b w m at end v left s e k
+    → s₁ ≡ s → e₁ ≡ e → k₁ ≡ k → Contents b w m at end v left s₁ e₁ k₁
+contents-as X es ee ek = rw (es, ee, ek) X
+
+pub stored-as : {v : Value} {m : List ℕ} {end : ℕ} {left first : List ℕ} {to : ℕ} {b b₁ : List ℕ} {s n s₁ n₁ : ℕ} {w w₁ : List ℕ}
+    → Stored v m end left first to b s n w → b₁ ≡ b → w₁ ≡ w → s₁ ≡ s → n₁ ≡ n → Stored v m end left first to b₁ s₁ n₁ w₁
+stored-as S eb ew es en = rw (eb, ew, es, en) S
+
 module _ {b index : List ℕ} {w : ℕ} {m : List ℕ} {at from : ℕ} {buf : List ℕ} {to : ℕ} {way : List ℕ} (P : ToPlaceValue b index w m at from buf to way) where
   abbrev R : Record
   R = recordIn b (unpacked w)
@@ -627,27 +640,32 @@ module _ {b index : List ℕ} {w : ℕ} {m : List ℕ} {at from : ℕ} {buf : Li
       part-high = omega (arith, X .high, U .high)
 
       -- a leaf
-      module _ (simple : unpacked w .simple ≡ true) where
+      module _ (e : Entry) (ee : e ≡ unpacked w) (simple : e .simple ≡ true) where
         abbrev Its-leaf : Leaf
-        Its-leaf = leafOf (unpacked w .kind) Part
+        Its-leaf = leafOf (e .kind) Part
 
-        pub leaf-asks : Lawful (unpacked w .kind) Part × (length Part ≤ 8192) × (to + length (leafOctets Its-leaf) ≤ length buf)
+        abbrev Its-facts : Lawful (e .kind) Part × (Val ≡ leaf Its-leaf) × (U .left ≡ drop stop (take end m))
+        Its-facts =
+            let k : e .kind ≡ unpacked w .kind = ap (λ (x : Entry). x .kind) ee in
+            let (l, v, r) = X .simple (ap (λ (x : Entry). x .simple) (sym ee) ∙ simple) in
+            (subst (λ (i : ℕ). Lawful i Part) (sym k) l, v ∙ ap (λ (i : ℕ). leaf (leafOf i Part)) (sym k), r)
+
+        pub leaf-asks : Lawful (e .kind) Part × (length Part ≤ 8192) × (to + length (leafOctets Its-leaf) ≤ length buf)
         unfolding octets
         leaf-asks =
-            let (l, e, r) = X .simple simple in
-            let room : to + length (octets (leaf Its-leaf)) ≤ length buf = subst (λ (v : Value). to + length (octets v) ≤ length buf) e (P .fits .room) in
-            (l, omega (arith, part-less, P .short), room)
+            let room : to + length (octets (leaf Its-leaf)) ≤ length buf
+            = subst (λ (v : Value). to + length (octets v) ≤ length buf) (Its-facts .1) (P .fits .room) in
+            (Its-facts .0, omega (arith, part-less, P .short), room)
 
         pub leaf-stored : (buf₁ : List ℕ) (next : ℕ) → next ≡ to + length (leafOctets Its-leaf) → buf₁ ≡ sets buf to (leafOctets Its-leaf)
             → Stored Val m end (U .left) buf to buf₁ stop next way
         unfolding octets
         leaf-stored buf₁ next en eb =
-            let (l, e, r) = X .simple simple in
             record {
-              ends = en ∙ ap (λ (v : Value). to + length (octets v)) (sym e);
-              buffer = eb ∙ ap (λ (v : Value). sets buf to (octets v)) (sym e);
+              ends = en ∙ ap (λ (v : Value). to + length (octets v)) (sym (Its-facts .1));
+              buffer = eb ∙ ap (λ (v : Value). sets buf to (octets v)) (sym (Its-facts .1));
               within = X .high;
-              behind = r;
+              behind = Its-facts .2;
               ways = P .ways;
             }
 
@@ -665,15 +683,15 @@ module _ {b index : List ℕ} {w : ℕ} {m : List ℕ} {at from : ℕ} {buf : Li
               fits = record { value = Val; rest = u; is = e; room = P .fits .room };
             }
 
-        module _ (buf₁ way₁ : List ℕ) (r : Placed) (placed : IsPlaced (heldIn b (held b w) marked Part) Part to buf buf₁ r) where
+        module _ (buf₁ : List ℕ) (r : Placed) (placed : IsPlaced (heldIn b (held b w) marked Part) Part to buf buf₁ r) where
           abbrev Its-final : Final Val (X .holds holds .0) Part buf to buf₁ (r .end) (r .next)
           Its-final = placed Val (X .holds holds .0) (X .holds holds .1)
 
           pub items-end : start + r .end ≤ 8192
           items-end = omega (arith, X .holds holds .2 (r .end) (Its-final .within) (Its-final .behind) .0, U .high, P .short)
 
-          pub items-stored : length way₁ ≡ 128 → Stored Val m end (U .left) buf to buf₁ (start + r .end) (r .next) way₁
-          items-stored l =
+          pub items-stored : (way₁ : List ℕ) → length way₁ ≡ 128 → Stored Val m end (U .left) buf to buf₁ (start + r .end) (r .next) way₁
+          items-stored way₁ l =
               let q = X .holds holds .2 (r .end) (Its-final .within) (Its-final .behind) in
               record { ends = Its-final .ends; buffer = Its-final .buffer; within = q .0; behind = q .1; ways = l }
 
@@ -702,16 +720,30 @@ module _ {b index : List ℕ} {w : ℕ} {m : List ℕ} {at from : ℕ} {buf : Li
           let q : Rest ≡ drop stop m = sym (got-rest r) ∙ S .behind ∙ ap (drop stop) (ap (λ (i : ℕ). take i m) (sym n) ∙ take-length m) in
           ended-placed stop (omega (arith, S .within)) q
 
-      module _ (y : Judged)
-          (ey : y ≡ told m (λ (n : ℕ). n) (closing m (take (unpacked w .explicit) notes) end (got 0 (drop stop (take end m))))) where
+      pub close-asks : (e : Entry) → e ≡ unpacked w
+          → (e .explicit ≤ 4) × (length notes ≡ 4) × (stop ≤ end) × (length m ≤ 8192) × (0 < 16386) × Around (length m) (take (e .explicit) notes) end
+      close-asks e ee =
+          let k : e .explicit ≡ unpacked w .explicit = ap (λ (x : Entry). x .explicit) ee in
+          (
+            omega (arith, its-count (P .ready) its-own, its-few (P .ready) its-own),
+            U .sized,
+            S .within,
+            P .short,
+            omega arith,
+            subst (λ (i : ℕ). Around (length m) (take i notes) end) (sym k) (U .around),
+          )
+
+      module _ (e : Entry) (ee : e ≡ unpacked w) (y : Judged)
+          (ey : y ≡ told m (λ (n : ℕ). n) (closing m (take (e .explicit) notes) end (got 0 (drop stop (take end m))))) where
         closed-told : y ≡ told m (λ (n : ℕ). n) (got 0 Rest)
         closed-told =
-            ey ∙ ap (λ (u : List ℕ). told m (λ (n : ℕ). n) (closing m (take (unpacked w .explicit) notes) end (got 0 u))) (sym (S .behind))
+            ey ∙ ap (λ (x : Entry). told m (λ (n : ℕ). n) (closing m (take (x .explicit) notes) end (got 0 (drop stop (take end m))))) ee
+            ∙ ap (λ (u : List ℕ). told m (λ (n : ℕ). n) (closing m (take (unpacked w .explicit) notes) end (got 0 u))) (sym (S .behind))
             ∙ ap (told m (λ (n : ℕ). n)) (U .closes 0)
 
         pub must-close : (c : Cause) (l : ℕ) → y ≡ Refused c l → ⊥
         unfolding told
-        must-close c l e = let q = sym e ∙ closed-told in let z : _≡_ {A = ℕ} 0 1 = cc in omega arith
+        must-close c l d = let q = sym d ∙ closed-told in let z : _≡_ {A = ℕ} 0 1 = cc in omega arith
 
         rest-behind : Rest ≡ drop (length m - length Rest) m
         unfolding readRecord readValue
@@ -725,9 +757,9 @@ module _ {b index : List ℕ} {w : ℕ} {m : List ℕ} {at from : ℕ} {buf : Li
             let u : at + length (q .piece) ≡ length m - length Rest = omega (arith, length-drop (at + length (q .piece)) m, ap length f) in
             sym f ∙ ap (λ (i : ℕ). drop i m) u
 
-        pub closed-placed : (e n : ℕ) → y ≡ Done e n → IsPlaced (valueIn b w (drop at m)) m to buf buf₁ (record { end = e; next = next })
+        pub closed-placed : (last n : ℕ) → y ≡ Done last n → IsPlaced (valueIn b w (drop at m)) m to buf buf₁ (record { end = last; next = next })
         unfolding told
-        closed-placed e n d =
+        closed-placed last n d =
             let q = sym d ∙ closed-told in
-            let z : e ≡ length m - length Rest = cc in
-            ended-placed e (omega arith) (rest-behind ∙ ap (λ (i : ℕ). drop i m) (sym z))
+            let z : last ≡ length m - length Rest = cc in
+            ended-placed last (omega arith) (rest-behind ∙ ap (λ (i : ℕ). drop i m) (sym z))
