@@ -46,10 +46,10 @@ use Rattle.coding.proofs.Refusals.{value-shorter}
 use Rattle.coding.proofs.Sound.{value-sound}
 use Rattle.reader.specs.Answers.{cap, causeOf, causeNumber, told}
 use Rattle.reader.specs.Codes.{firstOf, untagged}
-use Rattle.reader.specs.Items.{Holder, inside as inside-of, manner, isSingle, Hand, Placed as PartPlaced, next, readPart, readItems, readHeld, following, noted, blank}
+use Rattle.reader.specs.Items.{Holder, inside as inside-of, message, manner, isSingle, Hand, Placed as PartPlaced, next, readPart, readItems, readHeld, following, noted, blank}
 use Rattle.reader.specs.Leaves.{leafOf, Lawful, one-octet, one-to-eight, some-unused, any-octets, no-octet, small-number}
 use Rattle.reader.specs.Placed.{Fits, Final, IsPlaced, heldIn, valueIn, ToPlace, ToPlaceValue}
-use Rattle.reader.specs.Records.{Ready, Known, of-record, recordIn, holderIn, IsRecord, readRecord}
+use Rattle.reader.specs.Records.{Ready, of-record, of-message, recordIn, holderIn, IsRecord, readRecord}
 use Rattle.reader.specs.Sought.{held}
 use Rattle.reader.specs.Wraps.{ended, shut, innerEnd, closing, Around, Headed, identifiers, readBare, Opens}
 use Rattle.reader.specs.declared.answer.Cause.{Cause}
@@ -763,3 +763,25 @@ module _ {b index : List ℕ} {w : ℕ} {m : List ℕ} {at from : ℕ} {buf : Li
             let q = sym d ∙ closed-told in
             let z : last ≡ length m - length Rest = cc in
             ended-placed last (omega arith) (rest-behind ∙ ap (λ (i : ℕ). drop i m) (sym z))
+
+-- a whole message
+module _ (b : List ℕ) (w t : ℕ) (whole : unpacked w ≡ record { code = 0; own = t; kind = 51; explicit = 0; simple = false }) (m : List ℕ) where
+  whole-held : held b w ≡ message t
+  unfolding holderIn if
+  whole-held = rw whole refl
+
+  pub whole-asks : {index buf way : List ℕ} {to : ℕ} → Ready b index → t < countIn b → length m ≤ 8192 → length way ≡ 128
+      → Fits (heldIn b (message t) false m) to buf → ToPlace b index w m false buf to way
+  whole-asks {buf = buf} {to = to} R h l y F =
+      record {
+        ready = R;
+        known = of-message t h whole;
+        holds = ap (λ (e : Entry). e .simple) whole;
+        short = l;
+        ways = y;
+        fits = subst (λ (x : Holder). Fits (heldIn b x false m) to buf) (sym whole-held) F;
+      }
+
+  pub whole-placed : {buf buf₁ : List ℕ} {to : ℕ} {r : Placed} → IsPlaced (heldIn b (held b w) false m) m to buf buf₁ r
+      → (v : Value) (rest : List ℕ) → heldIn b (message t) false m ≡ got v rest → buf₁ ≡ sets buf to (octets v)
+  whole-placed placed v rest e = placed v rest (ap (λ (x : Holder). heldIn b x false m) whole-held ∙ e) .buffer
