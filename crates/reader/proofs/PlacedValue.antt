@@ -1,36 +1,35 @@
 -- A value that was accepted, taken apart as the code places it: explicit tags that were opened, a length that was read before, contents that
 -- hold one leaf or items, and the tags closed again.
 -- Assumes nothing.
-use borrow.Author.Tests.{eq-eqb, ne-eqb, eqb-true, eqb-false, leb-true, lt-ltb}
-use lib.Dec.{eqb, ltb, leb}
-use lib.IntN.{ℤ, pos, negsuc}
-use lib.ListN.{length, getD, take, drop, length-take, length-drop, length-append, length-map, drop-of-length-le}
-use lib.Seq.{sets, length-sets, take-length, take-take, length-take-le, drop-drop, getD-take, getD-drop}
+use borrow.Author.Tests.{eq-eqb, ne-eqb, eqb-true, lt-ltb}
+use lib.Dec.{eqb, ltb}
+use lib.ListN.{length, getD, take, drop, length-drop}
+use lib.Seq.{sets, length-sets, take-length, take-take, length-take-le, drop-drop}
 use mathlib.Core.Bool.{Bool, true, false, not, _||_, true≢false, false≢true}
 use mathlib.Core.List.{List, [], _∷_, _++_}
-use mathlib.Core.Logic.{_⊎_, inl, inr}
+use mathlib.Core.Logic.{inl, inr}
 use mathlib.Core.Path.{_≡_, refl, sym, ap, subst, _∙_}
 use native.Mathlib.Omega.{arith}
-use Prim.Native.Nat.{ℕ, zero, suc, _+_, _-_, _*_, _/_, _%_, _≤_, _<_}
-use Rattle.octets.specs.Answer.{Answer, got, refused, then, if, behind, none-left}
+use Prim.Native.Nat.{ℕ, zero, suc, _+_, _-_, _/_, _%_, _≤_, _<_}
+use Rattle.octets.specs.Answer.{Answer, got, refused, then, if, behind}
 use Rattle.octets.specs.Lists.{same, any}
 use Rattle.octets.specs.Numbers.{Octets, two}
 use Rattle.octets.specs.Permutations.{as-given}
 use Rattle.octets.proofs.Answer.{Holds, yields, refuses, then-holds, if-holds, got-holds, refused≢got, got-value, got-rest}
 use Rattle.octets.proofs.Lists.{behind as behind-part, length-behind}
 use Rattle.octets.proofs.Tests.{test}
-use Rattle.ber.specs.BitString.{unused}
 use Rattle.ber.specs.Codes.{codeOf, code as codeBy}
-use Rattle.ber.specs.Integer.{integerOf, minimal}
-use Rattle.ber.specs.Reading.{Mode, closed, open-ended, Size, definite, indefinite, readIdentifier, readLength, readHeader, contents, inside, readConstructed, readPrimitive, atEnd}
+use Rattle.ber.specs.Integer.{minimal}
+use Rattle.ber.specs.Reading.{Mode, closed, open-ended, Size, definite, indefinite, readIdentifier, readLength, readHeader}
+use Rattle.ber.specs.Reading.{contents, inside, readConstructed, readPrimitive}
 use Rattle.ber.specs.Told.{toldLength, mode, Again}
 use Rattle.ber.specs.declared.length.Length.the-variants.{Read as ReadLength}
 use Rattle.ber.specs.declared.length.Extent.{Extent}
 use Rattle.ber.proofs.Items.{Ends, no-more, atEnd-holds}
 use Rattle.ber.proofs.Told.{length-definite, length-indefinite, again-told}
-use Rattle.table.specs.Syntax.{Tag, Simple, Boolean, Integer, BitString, OctetString, Null, Enumerated}
+use Rattle.table.specs.Syntax.{Tag, Simple, Enumerated}
 use Rattle.table.specs.Syntax.{Body, Plain, Sequence, Set, SequenceOf, SetOf, Choice, Record, Table, isChoice, constructed}
-use Rattle.table.specs.Reading.{numbersAt, bodyAt}
+use Rattle.table.specs.Reading.{numbersAt}
 use Rattle.table.specs.Octets.{kind}
 use Rattle.table.specs.Rules.{members}
 use Rattle.table.specs.Entries.{unpacked, tableIn, countIn, Entered, firstCode, outermostCode, explicitCount}
@@ -39,14 +38,14 @@ use Rattle.table.proofs.Promises.{entered-kind, kind-choice, entered-members, e
 use Rattle.coding.specs.Content.{listed, Content, c-boolean, c-integer, c-bits, c-string, c-null, c-enumerated}
 use Rattle.coding.specs.Tags.{own, explicit}
 use Rattle.coding.specs.Value.{Leaf, Value, leaf, leafOctets, octets}
-use Rattle.coding.specs.Reading.{isListed, decode, readWrapped, readKind, readValue}
+use Rattle.coding.specs.Reading.{decode, readWrapped, readKind, readValue}
 use Rattle.coding.proofs.Content.{content-sound}
-use Rattle.coding.proofs.FirstTags.{Good, good}
+use Rattle.coding.proofs.FirstTags.{good}
 use Rattle.coding.proofs.Refusals.{value-shorter}
 use Rattle.coding.proofs.Sound.{value-sound}
-use Rattle.reader.specs.Answers.{cap, causeOf, causeNumber, told}
-use Rattle.reader.specs.Codes.{firstOf, untagged}
-use Rattle.reader.specs.Items.{Holder, inside as inside-of, message, manner, isSingle, Hand, Placed as PartPlaced, next, readPart, readItems, readHeld, following, noted, blank}
+use Rattle.reader.specs.Answers.{told}
+use Rattle.reader.specs.Items.{Holder, inside as inside-of, message, manner, isSingle, Hand, next, following, noted, blank}
+use Rattle.reader.specs.Items.{readPart, readItems, readHeld}
 use Rattle.reader.specs.Leaves.{leafOf, Lawful, one-octet, one-to-eight, some-unused, any-octets, no-octet, small-number}
 use Rattle.reader.specs.Placed.{Fits, Final, IsPlaced, heldIn, valueIn, ToPlace, ToPlaceValue}
 use Rattle.reader.specs.Records.{Ready, of-record, of-message, recordIn, holderIn, IsRecord, readRecord}
@@ -62,10 +61,9 @@ use Rattle.reader.specs.declared.tags.Opened.the-variants.{Inside, Refus
 use Rattle.reader.proofs.Begun.{Fit}
 use Rattle.reader.proofs.Items.{Ending, over, broken, more, ending}
 use Rattle.reader.proofs.ItemsKinds.{Kind, kind-held}
-use Rattle.reader.proofs.Opening.{part-is, slice-is, its-count, its-first, its-few}
+use Rattle.reader.proofs.Opening.{slice-is, its-count, its-first, its-few}
 use Rattle.reader.proofs.Spans.{held-body}
 use Rattle.reader.proofs.Tagging.{zeros, count-identifiers, code-at, its-entry, its-record, its-fit}
-use Rattle.reader.proofs.Wrapping.{around-end}
 
 -- Through closed tags: what they close was accepted with the same value, and a number that ends where it ends is closed alike.
 abbrev Alike : {A : Type 0} → (Answer ℕ → Answer ℕ) → Answer A → A → List ℕ → Type 0
@@ -192,7 +190,8 @@ module _ (A : List ℕ) (at from : ℕ) (j : List ℕ) (ej : readIdentifier (dro
       let y = length-definite A from (length S) (ReadLength x) its-length x refl q in
       (sym eh ∙ header-length ∙ y .0, y .1, y .2, y .3)
 
-  pub header-open : x .marked ≡ true → (got z w ≡ got indefinite (drop (x .start) A)) × (from < x .start) × (x .start ≤ length A) × (x .end ≡ length A)
+  pub header-open : x .marked ≡ true
+      → (got z w ≡ got indefinite (drop (x .start) A)) × (from < x .start) × (x .start ≤ length A) × (x .end ≡ length A)
   header-open q =
       let y = length-indefinite A from (length S) (ReadLength x) its-length x refl q in
       (sym eh ∙ header-length ∙ y .0, y .1, y .2, y .3)
@@ -381,15 +380,16 @@ pub under-as : {b : List ℕ} {w : ℕ} {m : List ℕ} {at : ℕ} {v : Value} {r
     → n₁ ≡ n → a₁ ≡ a → f₁ ≡ f → e₁ ≡ e → Under b w m at v rest n₁ a₁ f₁ e₁
 under-as U en ea ef ee = rw (en, ea, ef, ee) U
 
-pub contents-as : {b : List ℕ} {w : ℕ} {m : List ℕ} {at end : ℕ} {v : Value} {left : List ℕ} {s e s₁ e₁ : ℕ} {k k₁ : Bool} → Contents b w m at end v left s e k
-    → s₁ ≡ s → e₁ ≡ e → k₁ ≡ k → Contents b w m at end v left s₁ e₁ k₁
+pub contents-as : {b : List ℕ} {w : ℕ} {m : List ℕ} {at end : ℕ} {v : Value} {left : List ℕ} {s e s₁ e₁ : ℕ} {k k₁ : Bool}
+    → Contents b w m at end v left s e k → s₁ ≡ s → e₁ ≡ e → k₁ ≡ k → Contents b w m at end v left s₁ e₁ k₁
 contents-as X es ee ek = rw (es, ee, ek) X
 
 pub stored-as : {v : Value} {m : List ℕ} {end : ℕ} {left first : List ℕ} {to : ℕ} {b b₁ : List ℕ} {s n s₁ n₁ : ℕ} {w w₁ : List ℕ}
     → Stored v m end left first to b s n w → b₁ ≡ b → w₁ ≡ w → s₁ ≡ s → n₁ ≡ n → Stored v m end left first to b₁ s₁ n₁ w₁
 stored-as S eb ew es en = rw (eb, ew, es, en) S
 
-module _ {b index : List ℕ} {w : ℕ} {m : List ℕ} {at from : ℕ} {buf : List ℕ} {to : ℕ} {way : List ℕ} (P : ToPlaceValue b index w m at from buf to way) where
+module _ {b index : List ℕ} {w : ℕ} {m : List ℕ} {at from : ℕ} {buf : List ℕ} {to : ℕ} {way : List ℕ}
+    (P : ToPlaceValue b index w m at from buf to way) where
   abbrev R : Record
   R = recordIn b (unpacked w)
 
@@ -450,12 +450,15 @@ module _ {b index : List ℕ} {w : ℕ} {m : List ℕ} {at from : ℕ} {buf : Li
   -- explicit tags were opened
   module _ (notes : List ℕ) (y : Opened) (O : Opens b R m at (take (unpacked w .explicit) notes) y) where
     pub must-open : (c : Cause) (l : ℕ) → y ≡ NotOpened c l → ⊥
-    must-open c l e = let q : Opens b R m at (take (unpacked w .explicit) notes) (NotOpened c l) = rw e at O in refused≢got (sym (q .1 24) ∙ P .fits .is)
+    must-open c l e =
+        let q : Opens b R m at (take (unpacked w .explicit) notes) (NotOpened c l) = rw e at O in
+        refused≢got (sym (q .1 24) ∙ P .fits .is)
 
     pub under-open : length notes ≡ 4 → (x : Inner) → y ≡ Inside x → Under b w m at Val Rest notes (x .at) (x .from) (x .end)
     under-open l x e =
         let q : Opens b R m at (take (unpacked w .explicit) notes) (Inside x) = rw e at O in
-        let g = closing-through m (take (unpacked w .explicit) notes) (x .end) (readBare b 24 R (drop (x .at) (take (x .end) m))) Val Rest (sym (q .5 24) ∙ P .fits .is) in
+        let y = readBare b 24 R (drop (x .at) (take (x .end) m)) in
+        let g = closing-through m (take (unpacked w .explicit) notes) (x .end) y Val Rest (sym (q .5 24) ∙ P .fits .is) in
         record {
           sized = l;
           low = omega (arith, q .0);
@@ -479,12 +482,13 @@ module _ {b index : List ℕ} {w : ℕ} {m : List ℕ} {at from : ℕ} {buf : Li
   held-is : held b w ≡ inside-of (R .body)
   held-is = held-body its (P .ready .filled .short) ∙ ap inside-of (sym same-body)
 
-  by-items : (y : Body) → R .body ≡ y → (s : List ℕ) → Kind T Reads-on (good b T (countIn b) (P .ready .passes)) (λ t u. value-shorter T 24 t u) (own R) s y (readBare b 24 R s)
+  abbrev By-items : List ℕ → Body → Answer Value → Type 0
+  By-items s y x = Kind T Reads-on (good b T (countIn b) (P .ready .passes)) (λ t u. value-shorter T 24 t u) (own R) s y x
+
+  by-items : (y : Body) → R .body ≡ y → (s : List ℕ) → By-items s y (readBare b 24 R s)
   by-items y e s =
-      subst
-      (λ (z : Body). Kind T Reads-on (good b T (countIn b) (P .ready .passes)) (λ t u. value-shorter T 24 t u) (own R) s y (readKind T Reads-on (own R) z s))
-      (sym e)
-      (kind-held T Reads-on (good b T (countIn b) (P .ready .passes)) (λ t u. value-shorter T 24 t u) (own R) s y (few-members its y (sym same-body ∙ e)))
+      let k = kind-held T Reads-on (good b T (countIn b) (P .ready .passes)) (λ t u. value-shorter T 24 t u) (own R) s y in
+      subst (λ (z : Body). By-items s y (readKind T Reads-on (own R) z s)) (sym e) (k (few-members its y (sym same-body ∙ e)))
 
   built-items : (y : Body) → R .body ≡ y → isChoice y ≡ false → constructed y ≡ true → (s : List ℕ)
       → readBare b 24 R s ≡ readConstructed (own R) (readHeld T Reads-on (inside-of y)) s
@@ -541,7 +545,7 @@ module _ {b index : List ℕ} {w : ℕ} {m : List ℕ} {at from : ℕ} {buf : Li
           holds = λ _. (
             U .left,
             ap (λ (h : Holder). heldIn b h false (take (end - at₁) (drop at₁ m))) (held-is ∙ ap inside-of e)
-            ∙ ap (λ (s : List ℕ). heldIn b (inside-of (Choice ts)) false s) q ∙ sym (by-items (Choice ts) e (drop at₁ A) closed) ∙ U .is,
+                ∙ ap (λ (s : List ℕ). heldIn b (inside-of (Choice ts)) false s) q ∙ sym (by-items (Choice ts) e (drop at₁ A) closed) ∙ U .is,
             λ p l z. (omega (arith, n, U .some), z ∙ ap (drop p) q ∙ drop-drop p at₁ A),
           );
         }
@@ -572,7 +576,8 @@ module _ {b index : List ℕ} {w : ℕ} {m : List ℕ} {at from : ℕ} {buf : Li
       built-contents : constructed (R .body) ≡ true → Contents b w m at end Val (U .left) (x .start) (x .end) (x .marked)
       built-contents d =
           let f = readHeld T Reads-on (inside-of (R .body)) in
-          let B = built-part A at₁ from₁ (H .identifier) (H .is) (own R) x again f Val (U .left) (sym (built-items (R .body) refl no-choice d (drop at₁ A)) ∙ U .is) in
+          let y = sym (built-items (R .body) refl no-choice d (drop at₁ A)) ∙ U .is in
+          let B = built-part A at₁ from₁ (H .identifier) (H .is) (own R) x again f Val (U .left) y in
           let q = inner-is (B .order) (B .high) in
           let n = size-inner (B .order) (B .high) in
           let read : f (mode (x .marked)) C ≡ got Val (B .left) = ap (f (mode (x .marked))) (sym q) ∙ B .read in
@@ -592,7 +597,7 @@ module _ {b index : List ℕ} {w : ℕ} {m : List ℕ} {at from : ℕ} {buf : Li
                   (omega (arith, n, B .order, g, size-around), k ∙ z ∙ ap (drop p) (sym q ∙ y) ∙ drop-drop p (x .start) A))
                   λ t.
                   let y = held-closed T Reads-on (inside-of (R .body)) (many-items (R .body) no-choice d) C Val (B .left)
-                      (ap (λ (k : Bool). f (mode k) C) (sym t) ∙ read) in
+                  (ap (λ (k : Bool). f (mode k) C) (sym t) ∙ read) in
                   let g : x .start + p ≡ x .end = omega (arith, n, B .order, ap length (sym y ∙ z), length-drop p C) in
                   (omega (arith, g, B .high, size-around), B .sized t ∙ ap (λ (i : ℕ). drop i A) (sym g)),
             );
@@ -723,8 +728,7 @@ module _ {b index : List ℕ} {w : ℕ} {m : List ℕ} {at from : ℕ} {buf : Li
       pub close-asks : (e : Entry) → e ≡ unpacked w
           → (e .explicit ≤ 4) × (length notes ≡ 4) × (stop ≤ end) × (length m ≤ 8192) × (0 < 16386) × Around (length m) (take (e .explicit) notes) end
       close-asks e ee =
-          let k : e .explicit ≡ unpacked w .explicit = ap (λ (x : Entry). x .explicit) ee in
-          (
+          let k : e .explicit ≡ unpacked w .explicit = ap (λ (x : Entry). x .explicit) ee in (
             omega (arith, its-count (P .ready) its-own, its-few (P .ready) its-own),
             U .sized,
             S .within,
