@@ -33,3 +33,4 @@ pub mod LeafStores
 pub mod LeafKinds
 pub mod Locating
 pub mod Outcomes
+pub mod PlacedValue
