@@ -1,5 +1,24 @@
+-- `reader::place::place_members` and `reader::place::place_value` meet their contracts. A value stands in contents that are no longer than
+-- those of its items, and items stand in contents that are shorter than the value.
+-- Assumes nothing.
 use borrow.Author.Needs.{needs}
-use Prim.Native.Nat.{ℕ, _<_}
+use borrow.Author.Tests.{not-true, not-false}
+use denote.Ref.{now}
+use mathlib.Core.List.{List}
+use mathlib.Core.Logic.{⊎-elim}
+use mathlib.Core.Path.{_≡_, refl, sym, ap, _∙_}
+use Prim.Native.Nat.{ℕ, _+_, _-_, _*_, _<_, _≤_}
+use native.Mathlib.Omega.{arith}
+use lib.Dec.{eqb}
+use lib.ListN.{length, getD}
+use Rattle.octets.specs.Answer.{if}
+use Rattle.table.specs.Syntax.{Member, Set}
+use Rattle.table.specs.Entries.{tableIn}
+use Rattle.reader.specs.Items.{inside}
+use Rattle.reader.specs.Sought.{held}
+use Rattle.reader.specs.Placing.{Spotted}
+use Rattle.reader.proofs.PlacedMembers.{Given, Started, State, its-few, begin-room, no-members, state-first}
+use Rattle.reader.proofs.PlacedMembers.{set-low, set-room, set-over, set-came, set-comes, other-low, finish-room, other-over, other-comes, one-comes}
 use borrow.Fn.Kinds.{In}
 use borrow.Fn.PlainCycle.{Measures, is, falls, and}
 use Rattle.reader.proofs.place.place_members.Reads as place-members
@@ -32,10 +51,10 @@ use Rattle.reader.proofs.place.+place_members+place_value.{statement}
 use Rattle.reader.proofs.place.+place_members+place_value.Tie.{close}
 
 abbrev μ-place-members : Measures 5 place-members-kinds.ps ℕ
-μ-place-members κs a = ?
+μ-place-members κs a = 2 * length (a .1 .1 .1 .0 .now) + 1
 
 abbrev μ-place-value : Measures 5 place-value-kinds.ps ℕ
-μ-place-value κs a = ?
+μ-place-value κs a = 2 * length (a .1 .1 .1 .0 .now)
 
 abbrev place-members-at : ℕ → In 5 place-members-kinds.ps
 place-members-at t =
@@ -59,14 +78,16 @@ place-value-below t =
 
 abbrev place-members-Inv-loop : place-members-lts.InvT-loop
 place-members-Inv-loop table index w m marked buf₀ to way₀ e s none began last next₀ at₀ j₀ count₀ buf way next at j count =
-    ?
+    (length way ≡ 128)
+    × (length buf ≡ length buf₀)
+    × ((first : List ℕ) (X : Started table index w m marked first to e s began last buf₀) → State X buf at next j count)
 
 abbrev place-members-μ-loop : place-members-lts.MeasureT-loop
 place-members-μ-loop table index w m marked buf₀ to way₀ e s none began last next₀ at₀ j₀ count₀ buf way next at j count =
-    ?
+    if (eqb (e .kind) 17) (s .count - j) λ _. length m - at
 
-pub +place-members+place-value-spec : {M : Type 1} → statement M
-+place-members+place-value-spec = close μ-place-members μ-place-value (λ t. place-members-lts.spec (
+abbrev place-members-claims : ℕ → place-members-lts.Claims
+place-members-claims t = (
   unpack-reads.Asked,
   unpack-reads.Learnt,
   parts-reads.Asked,
@@ -102,29 +123,171 @@ pub +place-members+place-value-spec : {M : Type 1} → statement M
   place-value-below t,
   place-value.Post,
 )
+
+place-members-unpack-requires : (t : ℕ) → place-members-lts.Need-unpack-requires (place-members-claims t) (place-members-at t) place-members.Post place-members-Inv-loop
+    place-members-μ-loop
+place-members-unpack-requires t c κs = tt
+
+place-members-parts-requires : (t : ℕ) → place-members-lts.Need-parts-requires (place-members-claims t) (place-members-at t) place-members.Post place-members-Inv-loop
+    place-members-μ-loop
+place-members-parts-requires t c κs = tt
+
+place-members-locate-requires : (t : ℕ) → place-members-lts.Need-locate-requires (place-members-claims t) (place-members-at t) place-members.Post place-members-Inv-loop
+    place-members-μ-loop
+place-members-locate-requires t c κs =
+    let p = c .before .before .before .before .before .before .before .before .before .pre .1 in
+    (p .ready, p .known, p .short, refl, p .ways)
+
+-- what is required, once the parts are known
+at-given : (t : ℕ) (c : place-members-lts.After-parts (place-members-claims t) (place-members-at t) place-members.Post place-members-Inv-loop
+    place-members-μ-loop) →
+    let a = c .before .before .before .before .before .args in
+    Given (now (a .table)) (now (a .index)) (a .w) (now (a .m)) (a .marked) (now (a .buf)) (a .to) (c .before .unpack .result) (c .parts .result)
+at-given t c =
+    let p = c .before .before .before .before .before .pre .1 in
+    record {
+      ready = p .ready;
+      known = p .known;
+      holds = p .holds;
+      octets = λ k. omega (arith, c .before .before .before .shared-slice-known2 .given k);
+      short = p .short;
+      fits = p .fits;
+      entry = c .before .unpack .ensures;
+      span = c .parts .ensures;
+    }
+
+place-members-begin-requires : (t : ℕ) → place-members-lts.Need-begin-requires (place-members-claims t) (place-members-at t) place-members.Post place-members-Inv-loop
+    place-members-μ-loop
+place-members-begin-requires t c κs = begin-room (at-given t (c .before .before .before))
+
+-- where the members of a SET begin
+at-located : (t : ℕ) (c : place-members-lts.Joined1 (place-members-claims t) (place-members-at t) place-members.Post place-members-Inv-loop
+    place-members-μ-loop) →
+    let a = c .before .before .before .before .before .before .before .args in
+    (length (c .if1 .way) ≡ 128) × (length (c .if1 .began) ≡ 16)
+    × ((ms : List Member) → held (now (a .table)) (a .w) ≡ inside (Set ms) → Spotted (tableIn (now (a .table))) ms (a .marked) (now (a .m)) (c .if1 .began)
+    (c .if1 .last))
+at-located t c =
+    let p = c .before .before .before .before .before .before .before .pre .1 in
+    ⊎-elim
+    (λ x. (rw (x .4) (x .3 .ensures .1), rw (x .5) (x .3 .ensures .0), rw (x .5, x .6) (x .3 .ensures .2)))
+    (λ x. (rw (x .1) (p .ways), rw (x .2) refl, λ ms q. absurd (no-members (at-given t (c .before .before)) (x .0 .left) ms q)))
+    (c .if1 .came)
+
+-- what is known before the loop
+at-started : (t : ℕ) (c : place-members-lts.After-begin (place-members-claims t) (place-members-at t) place-members.Post place-members-Inv-loop
+    place-members-μ-loop) →
+    let a = c .before .before .before .before .before .before .before .before .before .args in
+    Started (now (a .table)) (now (a .index)) (a .w) (now (a .m)) (a .marked) (now (a .buf)) (a .to) (c .before .before .before .before .before .unpack .result) (c .before .before .before .before .parts .result) (c .before .before .if1 .began) (c .before .before .if1 .last)
+    (c .begin .last .1 .1 .0)
+at-started t c = record { given = at-given t (c .before .before .before .before); spotted = at-located t (c .before .before) .2; opening = c .begin .ensures .1 }
+
+place-members-loop-holds : (t : ℕ) → place-members-lts.Need-loop-holds (place-members-claims t) (place-members-at t) place-members.Post place-members-Inv-loop
+    place-members-μ-loop
+place-members-loop-holds t c = (at-located t (c .before .before .before .before) .0, refl, λ first X. state-first X _ (c .before .before .begin .ensures .0))
+
+place-members-following-requires : (t : ℕ) → place-members-lts.Need-following-requires (place-members-claims t) (place-members-at t) place-members.Post place-members-Inv-loop
+    place-members-μ-loop
+place-members-following-requires t c κs =
+    let X = at-started t (c .before .before .before .before .before .before) in
+    (set-low X (c .before .before .before .loop .inv .2 _ X) (c .before .if2 .taken), its-few (X .given), at-located t (c .before .before .before .before .before .before .before .before) .1)
+
+place-members-put-absent-requires : (t : ℕ) → place-members-lts.Need-put-absent-requires (place-members-claims t) (place-members-at t) place-members.Post place-members-Inv-loop
+    place-members-μ-loop
+place-members-put-absent-requires t c κs =
+    let X = at-started t (c .before .before .before .before .before .before .before .before) in
+    set-room X (c .before .before .before .before .before .loop .inv .2 _ X) (c .before .before .before .if2 .taken) _ (c .before .following .ensures .most)
+
+place-members-same-length : (t : ℕ) → place-members-lts.Need-same-length (place-members-claims t) (place-members-at t) place-members.Post place-members-Inv-loop
+    place-members-μ-loop
+place-members-same-length t c = c .before .before .before .before .put-absent .kept .0 ∙ c .before .before .before .before .before .before .before .before .before .before .loop .inv .1 ∙ c .before .before .before .before .before .before .before .before .before .before .before .before .before .begin .kept .1 .1 .0
+
+place-members-returns : (t : ℕ) → place-members-lts.Need-returns (place-members-claims t) (place-members-at t) place-members.Post place-members-Inv-loop
+    place-members-μ-loop
+place-members-returns t c =
+    let X = at-started t (c .before .before .before .before .before .before .before .before .before .before .before .before .before) in
+    (c .before .before .before .before .before .before .before .before .before .before .loop .inv .0, set-over X (c .before .before .before .before .before .before .before .before .before .before .loop .inv .2 _ X) (c .before .before .before .before .before .before .before .before .if2 .taken) _ (c .before .before .before .before .before .before .following .ensures) (c .before .before .before .before .put-absent .ensures) (c .if3 .taken))
+
+-- a member that came
+at-came : (t : ℕ) (c : place-members-lts.Else3 (place-members-claims t) (place-members-at t) place-members.Post place-members-Inv-loop
+    place-members-μ-loop) → (c .before .before .before .before .before .before .following .result < 16) × (1 ≤ getD (c .before .before .before .before .before .before .before .before .before .before .before .before .before .before .before .if1 .began) (c .before .before .before .before .before .before .following .result) 0)
+    × (getD (c .before .before .before .before .before .before .before .before .before .before .before .before .before .before .before .if1 .began) (c .before .before .before .before .before .before .following .result) 0 ≤ 8193)
+at-came t c =
+    let X = at-started t (c .before .before .before .before .before .before .before .before .before .before .before .before .before) in
+    let z = set-came X (c .before .before .before .before .before .before .before .before .before .before .loop .inv .2 _ X) (c .before .before .before .before .before .before .before .before .if2 .taken) _ (c .before .before .before .before .before .before .following .ensures) (c .before .before .before .before .put-absent .ensures) (c .if3 .left) in
+    (omega (arith, z .0, its-few (X .given)), z .1, omega (arith, z .1, z .2, X .given .short))
+
+place-members-mul-at : (t : ℕ) → place-members-lts.Need-mul-at (place-members-claims t) (place-members-at t) place-members.Post place-members-Inv-loop
+    place-members-μ-loop
+place-members-mul-at t c = let z = at-came t c in omega arith
+
+place-members-array-read-at : (t : ℕ) → place-members-lts.Need-array-read-at (place-members-claims t) (place-members-at t) place-members.Post place-members-Inv-loop
+    place-members-μ-loop
+place-members-array-read-at t c = let z = at-came t c in omega arith
+
+place-members-cast-at : (t : ℕ) → place-members-lts.Need-cast-at (place-members-claims t) (place-members-at t) place-members.Post place-members-Inv-loop
+    place-members-μ-loop
+place-members-cast-at t c = let z = at-came t c in omega arith
+
+place-members-sub-at : (t : ℕ) → place-members-lts.Need-sub-at (place-members-claims t) (place-members-at t) place-members.Post place-members-Inv-loop
+    place-members-μ-loop
+place-members-sub-at t c = let z = at-came t c in omega arith
+
+place-members-holds-one-requires : (t : ℕ) → place-members-lts.Need-holds-one-requires (place-members-claims t) (place-members-at t) place-members.Post place-members-Inv-loop
+    place-members-μ-loop
+place-members-holds-one-requires t c κs = tt
+
+place-members-is-over-requires : (t : ℕ) → place-members-lts.Need-is-over-requires (place-members-claims t) (place-members-at t) place-members.Post place-members-Inv-loop
+    place-members-μ-loop
+place-members-is-over-requires t c κs = tt
+
+place-members-finish-requires : (t : ℕ) → place-members-lts.Need-finish-requires (place-members-claims t) (place-members-at t) place-members.Post place-members-Inv-loop
+    place-members-μ-loop
+place-members-finish-requires t c κs =
+    let X = at-started t (c .before .before .before .before .before .before .before .before .before .before) in
+    finish-room X (c .before .before .before .before .before .before .before .loop .inv .2 _ X) (c .before .before .before .before .before .if2 .left) _ (c .before .before .before .before .holds-one .ensures) (not-true _ (c .before .before .before .if4 .taken)) _ (c .before .before .is-over .ensures)
+
+place-members-behind-requires : (t : ℕ) → place-members-lts.Need-behind-requires (place-members-claims t) (place-members-at t) place-members.Post place-members-Inv-loop
+    place-members-μ-loop
+place-members-behind-requires t c κs =
+    let X = at-started t (c .before .before .before .before .before .before .before .before .before .before .before .before .before) in
+    omega (arith, other-low X (c .before .before .before .before .before .before .before .before .before .before .loop .inv .2 _ X) (c .before .before .before .before .before .before .before .before .if2 .left), X .given .short)
+
+place-members-same-length-2 : (t : ℕ) → place-members-lts.Need-same-length-2 (place-members-claims t) (place-members-at t) place-members.Post place-members-Inv-loop
+    place-members-μ-loop
+place-members-same-length-2 t c = c .before .before .before .finish .kept .1 .1 .1 .1 .0 ∙ c .before .before .before .before .before .before .before .before .before .before .before .loop .inv .1 ∙ c .before .before .before .before .before .before .before .before .before .before .before .before .before .before .begin .kept .1 .1 .0
+
+place-members-returns-2 : (t : ℕ) → place-members-lts.Need-returns-2 (place-members-claims t) (place-members-at t) place-members.Post place-members-Inv-loop
+    place-members-μ-loop
+place-members-returns-2 t c =
+    let X = at-started t (c .before .before .before .before .before .before .before .before .before .before .before .before .before .before) in
+    (c .before .before .before .before .before .before .before .before .before .before .before .loop .inv .0, other-over X (c .before .before .before .before .before .before .before .before .before .before .before .loop .inv .2 _ X) (c .before .before .before .before .before .before .before .before .before .if2 .left) _ (c .before .before .before .before .before .before .before .before .holds-one .ensures) (not-true _ (c .before .before .before .before .before .before .before .if4 .taken)) _ (c .before .before .before .before .before .before .is-over .ensures) (c .before .before .before .before .before .if5 .taken) (c .before .before .before .finish .ensures) (c .behind .ensures))
+
+pub +place-members+place-value-spec : {M : Type 1} → statement M
++place-members+place-value-spec = close μ-place-members μ-place-value (λ t. place-members-lts.spec (place-members-claims t)
     (place-members-at t)
     place-members.Post
     place-members-Inv-loop
     place-members-μ-loop
-    (λ c κs. ?) -- place-members-unpack-requires
-    (λ c κs. ?) -- place-members-parts-requires
-    (λ c κs. ?) -- place-members-locate-requires
-    (λ c κs. ?) -- place-members-begin-requires
-    (λ c. ?) -- place-members-loop-holds
-    (λ c κs. ?) -- place-members-following-requires
-    (λ c κs. ?) -- place-members-put-absent-requires
-    (λ c. ?) -- place-members-same-length
-    (λ c. ?) -- place-members-returns
-    (λ c. ?) -- place-members-mul-at
-    (λ c. ?) -- place-members-array-read-at
-    (λ c. ?) -- place-members-cast-at
-    (λ c. ?) -- place-members-sub-at
-    (λ c κs. ?) -- place-members-holds-one-requires
-    (λ c κs. ?) -- place-members-is-over-requires
-    (λ c κs. ?) -- place-members-finish-requires
-    (λ c κs. ?) -- place-members-behind-requires
-    (λ c. ?) -- place-members-same-length-2
-    (λ c. ?) -- place-members-returns-2
+    (place-members-unpack-requires t) -- place-members-unpack-requires
+    (place-members-parts-requires t) -- place-members-parts-requires
+    (place-members-locate-requires t) -- place-members-locate-requires
+    (place-members-begin-requires t) -- place-members-begin-requires
+    (place-members-loop-holds t) -- place-members-loop-holds
+    (place-members-following-requires t) -- place-members-following-requires
+    (place-members-put-absent-requires t) -- place-members-put-absent-requires
+    (place-members-same-length t) -- place-members-same-length
+    (place-members-returns t) -- place-members-returns
+    (place-members-mul-at t) -- place-members-mul-at
+    (place-members-array-read-at t) -- place-members-array-read-at
+    (place-members-cast-at t) -- place-members-cast-at
+    (place-members-sub-at t) -- place-members-sub-at
+    (place-members-holds-one-requires t) -- place-members-holds-one-requires
+    (place-members-is-over-requires t) -- place-members-is-over-requires
+    (place-members-finish-requires t) -- place-members-finish-requires
+    (place-members-behind-requires t) -- place-members-behind-requires
+    (place-members-same-length-2 t) -- place-members-same-length-2
+    (place-members-returns-2 t) -- place-members-returns-2
     (λ c. ?) -- place-members-add-from
     (λ c. ?) -- place-members-mul-octet
     (λ c. ?) -- place-members-add-octet

@@ -1,0 +1,373 @@
+-- The placing of the items in an entry's contents: what is known before its loop, and one law for each way through it.
+-- Assumes nothing.
+use mathlib.Core.Bool.{Bool, true, false, not, _||_, _&&_, true≢false, false≢true}
+use mathlib.Core.List.{List, [], _∷_, _++_}
+use mathlib.Core.Option.{Option, some, none}
+use mathlib.Core.Path.{_≡_, refl, sym, ap, _∙_}
+use Prim.Native.Nat.{ℕ, zero, suc, _+_, _-_, _*_, _/_, _%_, _≤_, _<_}
+use native.Mathlib.Omega.{arith}
+use borrow.Author.Tests.{eq-eqb, ne-eqb, eqb-true, eqb-false, lt-ltb}
+use lib.Dec.{eqb, ltb}
+use lib.ListN.{length, getD, take, drop, replicate, length-append, length-drop, length-map}
+use lib.Seq.{sets, length-sets, drop-drop, getD-drop}
+use Rattle.octets.specs.Answer.{Answer, got, refused, then, if, none-left}
+use Rattle.octets.specs.Numbers.{Octets}
+use Rattle.octets.proofs.Answer.{refused≢got, got-value, got-rest}
+use Rattle.octets.proofs.Tests.{test, or-by, or-false}
+use Rattle.ber.specs.Codes.{code, codeOf}
+use Rattle.ber.specs.Reading.{readIdentifier}
+use Rattle.ber.specs.Told.{mode}
+use Rattle.ber.proofs.Codes.{code-short, code-long, read-code-small}
+use Rattle.table.specs.Syntax.{Tag, Member, Body, Plain, Sequence, Set, SequenceOf, SetOf, Choice, Record, Table, constructed}
+use Rattle.table.specs.Octets.{kind}
+use Rattle.table.specs.Entries.{unpacked, spanOf, outermostCode, tableIn, countIn}
+use Rattle.table.specs.declared.entry.Entry.{Entry}
+use Rattle.table.specs.declared.entry.Span.{Span}
+use Rattle.table.proofs.Promises.{entered-kind}
+use Rattle.coding.specs.Value.{Value, octets}
+use Rattle.coding.specs.Value as Value-of
+use Rattle.coding.specs.Reading.{begun, nothing, readValue}
+use Rattle.coding.proofs.FirstTags.{good}
+use Rattle.reader.specs.Codes.{firstOf, untagged}
+use Rattle.reader.specs.Items.{Holder, inside, message, manner, partsOf, Placed, since, Hand, next as nextPart, readItems, filled, assemble}
+use Rattle.reader.specs.Items.{nodeSize, blank, readHeld}
+use Rattle.reader.specs.Records.{Ready, Known, of-record, of-message, holderIn, recordIn, readRecord, Finds}
+use Rattle.reader.specs.Sought.{held, Sound, tabledCount}
+use Rattle.reader.specs.Placing.{kindOf, countOf, hasMembers, isList, holdsOne, onward, nodeOf, openingOf, absentIn, finishedIn, notedIn, said, flags, endAt, Spotted}
+use Rattle.reader.specs.Placed.{Fits, Final, IsPlaced, heldIn, valueIn, ToPlaceValue, Following}
+use Rattle.reader.proofs.Finding.{good-held}
+use Rattle.reader.proofs.ItemsKinds.{blank-clear}
+use Rattle.reader.proofs.PlacedNodes.{slots-flags, nothing-is, row-length, members-size, opening-is, node-is}
+use Rattle.reader.proofs.PlacedTurns.{overAt}
+use Rattle.reader.proofs.PlacedLoop.{Loop, Comes, Goes, loop-first, arriving-comes, arriving-over, sorted-comes, sorted-end}
+use Rattle.reader.proofs.PlacedTurns.{Placing}
+use Rattle.reader.proofs.PlacedSets.{Filling, filling-skip}
+use Rattle.reader.proofs.Spans.{Spanned, held-body, its as spanned-of}
+
+-- the kind of an entry that is not simple
+body-kind : (y : Body) → not (constructed y) ≡ false → kindOf (inside y) ≡ kind y
+unfolding constructed kindOf kind
+body-kind (Plain k) e = absurd (true≢false e)
+body-kind (Sequence ms) e = refl
+body-kind (Set ms) e = refl
+body-kind (SequenceOf t) e = refl
+body-kind (SetOf t) e = refl
+body-kind (Choice ts) e = refl
+
+body-some : (y : Body) → not (constructed y) ≡ false → kindOf (inside y) ≡ 0 → ⊥
+unfolding constructed kindOf
+body-some (Plain k) e z = true≢false e
+body-some (Sequence ms) e z = omega arith
+body-some (Set ms) e z = omega arith
+body-some (SequenceOf t) e z = omega arith
+body-some (SetOf t) e z = omega arith
+body-some (Choice ts) e z = omega arith
+
+module _ {b index : List ℕ} (R : Ready b index) where
+  kind-held : (w : ℕ) → Known b index w → unpacked w .simple ≡ false → kindOf (held b w) ≡ unpacked w .kind
+  unfolding holderIn if kindOf
+  kind-held w (of-record t h q) e =
+      let x = R .filled .entered t h in
+      let f = rw q at e in
+      rw (q, held-body x (R .filled .short)) (body-kind (tableIn b t .body) (sym (x .simple) ∙ f) ∙ sym (entered-kind x))
+  kind-held w (of-message t h q) e = rw q refl
+
+  kind-some : (w : ℕ) → Known b index w → unpacked w .simple ≡ false → kindOf (held b w) ≡ 0 → ⊥
+  unfolding holderIn if kindOf
+  kind-some w (of-record t h q) e =
+      let x = R .filled .entered t h in
+      let f = rw q at e in
+      rw (q, held-body x (R .filled .short)) (body-some (tableIn b t .body) (sym (x .simple) ∙ f))
+  kind-some w (of-message t h q) e = rw q (λ z. omega arith)
+
+-- how many parts the table has for it
+count-is : (h : Holder) → tabledCount h ≡ countOf h
+unfolding tabledCount countOf partsOf
+count-is (inside (Plain k)) = refl
+count-is (inside (Sequence ms)) = refl
+count-is (inside (Set ms)) = refl
+count-is (inside (SequenceOf t)) = refl
+count-is (inside (SetOf t)) = refl
+count-is (inside (Choice ts)) = length-map ts _
+count-is (message t) = refl
+
+set-is : (h : Holder) → kindOf h ≡ 17 → (ms : List Member) × (h ≡ inside (Set ms))
+unfolding kindOf
+set-is (inside (Plain k)) e = absurd (omega arith)
+set-is (inside (Sequence ms)) e = absurd (omega arith)
+set-is (inside (Set ms)) e = (ms, refl)
+set-is (inside (SequenceOf t)) e = absurd (omega arith)
+set-is (inside (SetOf t)) e = absurd (omega arith)
+set-is (inside (Choice ts)) e = absurd (omega arith)
+set-is (message t) e = absurd (omega arith)
+
+count-parts : (h : Holder) → holdsOne (kindOf h) ≡ false → countOf h ≡ length (partsOf h)
+unfolding kindOf countOf partsOf
+count-parts (inside (Plain k)) e = refl
+count-parts (inside (Sequence ms)) e = refl
+count-parts (inside (Set ms)) e = refl
+count-parts (inside (SequenceOf t)) e = refl
+count-parts (inside (SetOf t)) e = refl
+count-parts (inside (Choice ts)) e = absurd (true≢false e)
+count-parts (message t) e = absurd (true≢false e)
+
+-- the node of elements
+list-node : (h : Holder) → (kindOf h ≡ 0 → ⊥) → holdsOne (kindOf h) ≡ false → hasMembers (kindOf h) ≡ false → nodeSize h ≡ 5
+unfolding kindOf nodeSize
+list-node (inside (Plain k)) n e c = absurd (n refl)
+list-node (inside (Sequence ms)) n e c = absurd (true≢false c)
+list-node (inside (Set ms)) n e c = absurd (true≢false c)
+list-node (inside (SequenceOf t)) n e c = refl
+list-node (inside (SetOf t)) n e c = refl
+list-node (inside (Choice ts)) n e c = absurd (true≢false e)
+list-node (message t) n e c = absurd (true≢false e)
+
+-- the octet at a place
+first-at : (m : List ℕ) (at : ℕ) → getD (drop at m) 0 0 ≡ getD m at 0
+first-at m at = getD-drop at m 0 0 ∙ ap (λ (i : ℕ). getD m i 0) (omega arith)
+
+-- behind a part
+onward-is : (b : List ℕ) (k p place : ℕ) → place + spanOf b k p .step / 2 ≡ onward k place
+unfolding spanOf onward if
+onward-is b k p place =
+    test (hasMembers k)
+    (λ c. rw c (omega arith))
+    λ c. test (eqb k 50) (λ d. rw (c, d) (omega arith)) λ d.
+    test (isList k) (λ f. rw (c, d, f) (omega arith)) λ f. rw (c, d, f) (omega arith)
+
+-- the node of a value is a part of its octets
+node-fits : (h : Holder) (hand : Hand) → (kindOf h ≡ 0 → ⊥) → nodeSize h ≤ length (octets (assemble h hand))
+unfolding kindOf assemble nodeSize octets
+node-fits (inside (Plain k)) hand n = absurd (n refl)
+node-fits (inside (Sequence ms)) hand n =
+    let os = filled hand (nothing ms) in
+    let l : length os ≡ length ms = ap (λ (z : List (Option Value)). length (filled hand z)) (nothing-is ms) ∙ row-length hand (length ms) in
+    omega (arith, length-append (Value-of.presence (Value-of.slots os)) (Value-of.parts (Value-of.slots os)), slots-flags os)
+node-fits (inside (Set ms)) hand n =
+    let os = filled hand (nothing ms) in
+    let l : length os ≡ length ms = ap (λ (z : List (Option Value)). length (filled hand z)) (nothing-is ms) ∙ row-length hand (length ms) in
+    omega (arith, length-append (Value-of.presence (Value-of.slots os)) (Value-of.parts (Value-of.slots os)), slots-flags os)
+node-fits (inside (SequenceOf t)) hand n = omega arith
+node-fits (inside (SetOf t)) hand n = omega arith
+node-fits (inside (Choice ts)) hand n = omega arith
+node-fits (message t) hand n = omega arith
+
+said-long : (h : Holder) → length (said h 0 []) ≤ nodeSize h
+unfolding said nodeSize flags filled Value-of.slots Value-of.presence
+said-long (inside (Plain k)) = omega arith
+said-long (inside (Sequence ms)) = omega arith
+said-long (inside (Set ms)) = omega arith
+said-long (inside (SequenceOf t)) = omega arith
+said-long (inside (SetOf t)) = omega arith
+said-long (inside (Choice ts)) = omega arith
+said-long (message t) = omega arith
+
+-- what is required, with the entry and where its parts stand
+pub record Given (b index : List ℕ) (w : ℕ) (m : List ℕ) (marked : Bool) (first : List ℕ) (to : ℕ) (e : Entry) (s : Span) : Type 0 where
+  pub ready : Ready b index
+  pub known : Known b index w
+  pub holds : unpacked w .simple ≡ false
+  pub octets : Octets m
+  pub short : length m ≤ 8192
+  pub fits : Fits (heldIn b (held b w) marked m) to first
+  pub entry : e ≡ unpacked w
+  pub span : s ≡ spanOf b (e .kind) (e .own)
+
+-- and what is known before the loop: where the members of a SET begin and where they end, and the buffer once the node was begun
+pub record Started (b index : List ℕ) (w : ℕ) (m : List ℕ) (marked : Bool) (first : List ℕ) (to : ℕ) (e : Entry) (s : Span) (ns : List ℕ) (last : ℕ)
+    (opened : List ℕ) : Type 0 where
+  pub given : Given b index w m marked first to e s
+  pub spotted : (ms : List Member) → held b w ≡ inside (Set ms) → Spotted (tableIn b) ms marked m ns last
+  pub opening : opened ≡ sets first to (openingOf (e .kind) (s .count))
+
+module _ {b index : List ℕ} {w : ℕ} {m : List ℕ} {marked : Bool} {first : List ℕ} {to : ℕ} {e : Entry} {s : Span}
+    (G : Given b index w m marked first to e s) where
+  abbrev H : Holder
+  H = held b w
+
+  abbrev T : Table
+  T = tableIn b
+
+  pub its-kind : e .kind ≡ kindOf H
+  its-kind = ap (λ (x : Entry). x .kind) (G .entry) ∙ sym (kind-held (G .ready) w (G .known) (G .holds))
+
+  its-some : kindOf H ≡ 0 → ⊥
+  its-some = kind-some (G .ready) w (G .known) (G .holds)
+
+  -- all the items
+  pub record Items : Type 0 where
+    pub all : Hand
+    pub read : readItems T (readValue T 24) H (suc (length m)) 0 blank [] (mode marked) m ≡ got all (G .fits .rest)
+    pub value : assemble H all ≡ G .fits .value
+
+  pub items : Items
+  unfolding readHeld then
+  items = go (readItems T (readValue T 24) H (suc (length m)) 0 blank [] (mode marked) m) refl (G .fits .is)
+    where
+      go : (x : Answer Hand) → readItems T (readValue T 24) H (suc (length m)) 0 blank [] (mode marked) m ≡ x
+          → then x (λ hand u. got (assemble H hand) u) ≡ got (G .fits .value) (G .fits .rest)
+          → Items
+      go (got all u) q f = record { all = all; read = q ∙ ap (got all) (got-rest f); value = got-value f }
+      go (refused c l) q f = refused≢got f
+
+  its-spanned : Spanned b H (unpacked w .kind) s
+  its-spanned = spanned-of (G .ready) w (G .known) s (G .span ∙ ap (λ (x : Entry). spanOf b (x .kind) (x .own)) (G .entry))
+
+  its-count : s .count ≡ countOf H
+  its-count = its-spanned .count ∙ count-is H
+
+  pub its-few : s .count ≤ 16
+  its-few = its-spanned .few
+
+  its-onward : (place : ℕ) → place + s .step / 2 ≡ onward (kindOf H) place
+  its-onward place = rw (G .span, ← its-kind) (onward-is b (e .kind) (e .own) place)
+
+  its-node : nodeOf (e .kind) (s .count) ≡ nodeSize H
+  its-node = rw (its-kind, its-count) (node-is H its-some)
+
+  its-opening : openingOf (e .kind) (s .count) ≡ said H 0 []
+  its-opening = rw (its-kind, its-count) (opening-is H its-some)
+
+  its-room : to + length (octets (assemble H (items .all))) ≤ length first
+  its-room = rw (items .value) (G .fits .room)
+
+  -- the node has room
+  pub begin-room : (s .count < 256) × (to + length (openingOf (e .kind) (s .count)) ≤ length first) × (to + nodeOf (e .kind) (s .count) ≤ length first)
+  begin-room =
+      let l = node-fits H (items .all) its-some in
+      (omega (arith, its-few), rw its-opening (omega (arith, said-long H, its-room)), rw its-node (omega (arith, its-room)))
+
+  pub no-members : (e .kind ≡ 17 → ⊥) → (ms : List Member) → held b w ≡ inside (Set ms) → ⊥
+  unfolding kindOf
+  no-members n ms q = n (its-kind ∙ ap kindOf q)
+
+  -- what was placed is the value
+  placed : {buf : List ℕ} {end next : ℕ} → Final (assemble H (items .all)) (G .fits .rest) m first to buf end next → (v : Value) (rest : List ℕ)
+      → heldIn b H marked m ≡ got v rest
+      → Final v rest m first to buf end next
+  placed F v rest f =
+      let q = sym (G .fits .is) ∙ f in
+      let x : assemble H (items .all) ≡ v = items .value ∙ got-value q in
+      let y : G .fits .rest ≡ rest = got-rest q in
+      rw (x, y) at F
+
+module _ {b index : List ℕ} {w : ℕ} {m : List ℕ} {marked : Bool} {first : List ℕ} {to : ℕ} {e : Entry} {s : Span} {ns : List ℕ} {last : ℕ} {opened : List ℕ}
+    (X : Started b index w m marked first to e s ns last opened) where
+  abbrev S-holder : Holder
+  S-holder = held b w
+
+  abbrev All : Hand
+  All = items (X .given) .all
+
+  -- before an item
+  abbrev pub State : List ℕ → ℕ → ℕ → ℕ → ℕ → Type 0
+  State buf at next j count = Loop (tableIn b) 24 (held b w) marked m All (X .given .fits .rest) ns first to buf at next j count
+
+  -- the item that comes
+  abbrev pub Coming : ℕ → List ℕ → ℕ → ℕ → ℕ → Type 0
+  Coming count buf at next j =
+      Comes (tableIn b) 24 (held b w) m first to (Goes (tableIn b) 24 (held b w) marked m All (X .given .fits .rest) ns first to count) buf at next j
+
+  pub state-first : (next : ℕ) → next ≡ to + nodeOf (e .kind) (s .count) → State opened 0 next 0 0
+  state-first next en =
+      let G = X .given in
+      loop-first ns last (its-some G) (items G .read) (its-room G) (X .spotted)
+      (rw (its-kind G, its-count G) at (X .opening)) (rw (its-kind G, its-count G) at en)
+
+  module _ {buf : List ℕ} {at next j count : ℕ} (L : State buf at next j count) where
+    -- a SET
+    module _ (k17 : e .kind ≡ 17) where
+      its-set : (ms : List Member) × (held b w ≡ inside (Set ms))
+      its-set = set-is (held b w) (sym (its-kind (X .given)) ∙ k17)
+
+      set-count : s .count ≡ length (its-set .0)
+      unfolding countOf
+      set-count = its-count (X .given) ∙ ap countOf (its-set .1)
+
+      its-filling : Filling (tableIn b) 24 (its-set .0) m ns (filled All (nothing (its-set .0))) first to buf next j
+      its-filling = L .sorted (its-set .0) (its-set .1)
+
+      pub set-low : j ≤ s .count
+      unfolding partsOf
+      set-low = omega (arith, its-filling .stands .within, set-count)
+
+      pub set-room : (k : ℕ) → k ≤ s .count → to + 4 + k ≤ length buf
+      unfolding kindOf assemble nodeSize
+      set-room k l =
+          let z = node-fits (inside (Set (its-set .0))) All (λ y. omega arith) in
+          omega (arith, its-filling .room, set-count)
+
+      module _ (k : ℕ) (F : Following ns j (s .count) k) {buf₁ : List ℕ} (e₁ : buf₁ ≡ absentIn j k buf to) where
+        its-skipped : Filling (tableIn b) 24 (its-set .0) m ns (filled All (nothing (its-set .0))) first to buf₁ next k
+        its-skipped = filling-skip its-filling k (F .least) (omega (arith, F .most, set-count)) (F .none) buf₁ e₁
+
+        pub set-over : k ≡ s .count → (v : Value) (rest : List ℕ) → heldIn b (held b w) marked m ≡ got v rest → Final v rest m first to buf₁ last next
+        set-over q =
+            let G = X .given in
+            placed G (rw (its-set .1) (sorted-end marked its-skipped (q ∙ set-count) (rw (its-set .1) at (items G .read)) (X .spotted (its-set .0) (its-set .1))))
+
+        pub set-comes : (k ≡ s .count → ⊥) → Coming count buf₁ (getD ns k 0 - 1) next k
+        set-comes q =
+            let G = X .given in
+            let l : k < s .count = omega (arith, F .most) in
+            let low : count ≤ j = L .few (sym (its-kind G) ∙ k17) in
+            rw (its-set .1)
+            (sorted-comes (good b (tableIn b) (countIn b) (G .ready .passes)) (rw (its-set .1) at (good-held (G .ready) w (G .known))) its-skipped
+            (omega (arith, set-count)) (F .came l) count (omega (arith, F .least)))
+
+        pub set-came : (k ≡ s .count → ⊥) → (k < s .count) × (1 ≤ getD ns k 0) × (getD ns k 0 - 1 ≤ length m)
+        set-came q =
+            let l : k < s .count = omega (arith, F .most) in
+            let c = F .came l in
+            (l, omega arith, set-comes q .low)
+
+    -- the others
+    module _ (no-set : e .kind ≡ 17 → ⊥) where
+      other : kindOf (held b w) ≡ 17 → ⊥
+      other z = no-set (its-kind (X .given) ∙ z)
+
+      its-placing : Placing (tableIn b) 24 (held b w) marked m All (X .given .fits .rest) first to buf at next j count
+      its-placing = L .arriving other
+
+      pub other-low : at ≤ length m
+      other-low = its-placing .low
+
+      pub other-count : count ≤ at
+      other-count = its-placing .few
+
+      over-is : (o : Bool) → o ≡ (none-left (drop at m) || (marked && eqb (getD m at 0) 0)) → o ≡ overAt marked (drop at m)
+      over-is o q = q ∙ ap (λ (x : ℕ). none-left (drop at m) || (marked && eqb x 0)) (sym (first-at m at))
+
+      -- contents are over
+      module _ (h : Bool) (eh : h ≡ holdsOne (e .kind)) (no : h ≡ false) (o : Bool) (eo : o ≡ (none-left (drop at m) || (marked && eqb (getD m at 0) 0))) where
+        not-one : holdsOne (kindOf (held b w)) ≡ false
+        not-one = ap holdsOne (sym (its-kind (X .given))) ∙ sym eh ∙ no
+
+        its-parts : s .count ≡ length (partsOf (held b w))
+        its-parts = its-count (X .given) ∙ count-parts (held b w) not-one
+
+        pub finish-room : (hasMembers (e .kind) ≡ true → to + 4 + s .count ≤ length buf)
+            × (hasMembers (e .kind) ≡ false → (to + 5 ≤ length buf) × (count < 65536))
+        finish-room =
+            let G = X .given in
+            let q = its-kind G in (
+              λ c. let z = members-size (held b w) (rw q at c) in omega (arith, its-placing .room, its-parts),
+              λ c.
+                  let z = list-node (held b w) (its-some G) not-one (rw q at c) in
+                  (omega (arith, its-placing .room), omega (arith, other-count, other-low, G .short)),
+            )
+
+        pub other-over : o ≡ true → {buf₁ : List ℕ} → buf₁ ≡ finishedIn (e .kind) j (s .count) count buf to → {end : ℕ} → end ≡ endAt marked at
+            → (v : Value) (rest : List ℕ) → heldIn b (held b w) marked m ≡ got v rest → Final v rest m first to buf₁ end next
+        other-over y {buf₁} e₁ e₂ =
+            let G = X .given in
+            placed G (rw e₂ (arriving-over other (its-some G) its-placing not-one (sym (over-is o eo) ∙ y) buf₁ (rw (its-kind G, its-parts) at e₁)))
+
+        pub other-comes : o ≡ false → Coming count buf at next j
+        other-comes y = arriving-comes other (its-some (X .given)) its-placing ns (λ z. sym (over-is o eo) ∙ y)
+
+      -- one item
+      pub one-comes : (h : Bool) → h ≡ holdsOne (e .kind) → h ≡ true → Coming count buf at next j
+      one-comes h eh y =
+          let z = ap holdsOne (sym (its-kind (X .given))) ∙ sym eh ∙ y in
+          arriving-comes other (its-some (X .given)) its-placing ns (λ x. absurd (true≢false (sym z ∙ x)))
