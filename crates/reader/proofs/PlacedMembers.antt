@@ -6,13 +6,15 @@ use mathlib.Core.Option.{Option, some, none}
 use mathlib.Core.Path.{_≡_, refl, sym, ap, _∙_}
 use Prim.Native.Nat.{ℕ, zero, suc, _+_, _-_, _*_, _/_, _%_, _≤_, _<_}
 use native.Mathlib.Omega.{arith}
-use borrow.Author.Tests.{eq-eqb, ne-eqb, eqb-true, eqb-false, lt-ltb}
+use native.Mathlib.Nat.{mul-comm}
+use native.Mathlib.Numerals.{add-one}
+use borrow.Author.Tests.{eq-eqb, ne-eqb, eqb-true, eqb-false, lt-ltb, ltb-true, ltb-false}
 use lib.Dec.{eqb, ltb}
 use lib.ListN.{length, getD, take, drop, replicate, length-append, length-drop, length-map}
-use lib.Seq.{sets, length-sets, drop-drop, getD-drop}
+use lib.Seq.{sets, length-sets, drop-drop, drop-cons, getD-drop}
 use Rattle.octets.specs.Answer.{Answer, got, refused, then, if, none-left}
 use Rattle.octets.specs.Numbers.{Octets}
-use Rattle.octets.proofs.Answer.{refused≢got, got-value, got-rest}
+use Rattle.octets.proofs.Answer.{refused≢got, got-value, got-rest, got-holds}
 use Rattle.octets.proofs.Tests.{test, or-by, or-false}
 use Rattle.ber.specs.Codes.{code, codeOf}
 use Rattle.ber.specs.Reading.{readIdentifier}
@@ -20,7 +22,7 @@ use Rattle.ber.specs.Told.{mode}
 use Rattle.ber.proofs.Codes.{code-short, code-long, read-code-small}
 use Rattle.table.specs.Syntax.{Tag, Member, Body, Plain, Sequence, Set, SequenceOf, SetOf, Choice, Record, Table, constructed}
 use Rattle.table.specs.Octets.{kind}
-use Rattle.table.specs.Entries.{unpacked, spanOf, outermostCode, tableIn, countIn}
+use Rattle.table.specs.Entries.{unpacked, spanOf, more, outermostCode, tableIn, countIn}
 use Rattle.table.specs.declared.entry.Entry.{Entry}
 use Rattle.table.specs.declared.entry.Span.{Span}
 use Rattle.table.proofs.Promises.{entered-kind}
@@ -28,18 +30,26 @@ use Rattle.coding.specs.Value.{Value, octets}
 use Rattle.coding.specs.Value as Value-of
 use Rattle.coding.specs.Reading.{begun, nothing, readValue}
 use Rattle.coding.proofs.FirstTags.{good}
-use Rattle.reader.specs.Codes.{firstOf, untagged}
+use Rattle.coding.proofs.Refusals.{value-shorter}
+use Rattle.reader.specs.Codes.{firstOf, untagged, peeked, hit}
 use Rattle.reader.specs.Items.{Holder, inside, message, manner, partsOf, Placed, since, Hand, next as nextPart, readItems, filled, assemble}
 use Rattle.reader.specs.Items.{nodeSize, blank, readHeld}
 use Rattle.reader.specs.Records.{Ready, Known, of-record, of-message, holderIn, recordIn, readRecord, Finds}
 use Rattle.reader.specs.Sought.{held, Sound, tabledCount}
 use Rattle.reader.specs.Placing.{kindOf, countOf, hasMembers, isList, holdsOne, onward, nodeOf, openingOf, absentIn, finishedIn, notedIn, said, flags, endAt, Spotted}
 use Rattle.reader.specs.Placed.{Fits, Final, IsPlaced, heldIn, valueIn, ToPlaceValue, Following}
+use Rattle.reader.specs.Wraps.{Headed}
+use Rattle.reader.proofs.Begun.{fit, nested-all}
+use Rattle.reader.proofs.ItemsSearch.{Tells, tells, search-itself}
+use Rattle.reader.proofs.Searching.{type-low}
+use Rattle.reader.proofs.Tagging.{record-is}
+use Rattle.reader.proofs.PlacedLevels.{kept-got, value-kept}
 use Rattle.reader.proofs.Finding.{good-held}
 use Rattle.reader.proofs.ItemsKinds.{blank-clear}
 use Rattle.reader.proofs.PlacedNodes.{slots-flags, nothing-is, row-length, members-size, opening-is, node-is}
 use Rattle.reader.proofs.PlacedTurns.{overAt}
-use Rattle.reader.proofs.PlacedLoop.{Loop, Comes, Goes, loop-first, arriving-comes, arriving-over, sorted-comes, sorted-end}
+use Rattle.reader.proofs.PlacedLoop.{Loop, Comes, Goes, Ready as Prepared, ready-here, ready-found, ready-node, ready-room, ready-placed, ready-further}
+use Rattle.reader.proofs.PlacedLoop.{loop-first, arriving-comes, arriving-over, sorted-comes, sorted-end}
 use Rattle.reader.proofs.PlacedTurns.{Placing}
 use Rattle.reader.proofs.PlacedSets.{Filling, filling-skip}
 use Rattle.reader.proofs.Spans.{Spanned, held-body, its as spanned-of}
@@ -371,3 +381,97 @@ module _ {b index : List ℕ} {w : ℕ} {m : List ℕ} {marked : Bool} {first : 
       one-comes h eh y =
           let z = ap holdsOne (sym (its-kind (X .given))) ∙ sym eh ∙ y in
           arriving-comes other (its-some (X .given)) its-placing ns (λ x. absurd (true≢false (sym z ∙ x)))
+
+-- a first identifier of one octet
+short-code : (r : Record) → firstOf r < 256 → firstOf r % 32 < 31
+unfolding outermostCode
+short-code r = go (r .tags) (r .body)
+  where
+    go : (gs : List Tag) (y : Body) → outermostCode gs y < 256 → outermostCode gs y % 32 < 31
+    go [] y h = absurd (omega arith)
+    go (g ∷ gs) y h =
+        let c = g .class in
+        let d = more gs || constructed y in
+        let n = g .number in
+        test (ltb n 31)
+        (λ q. let z = code-short c d n (ltb-true n 31 q) in omega (arith, ltb-true n 31 q))
+        λ q. let z = code-long c d n (ltb-false n 31 q) in absurd (omega (arith, ltb-false n 31 q))
+
+one-octet : (m : List ℕ) (at : ℕ) → at < length m → getD m at 0 % 32 < 31 → readIdentifier (drop at m) ≡ got (getD m at 0 ∷ []) (drop (at + 1) m)
+unfolding readIdentifier if
+one-octet m at l h = rw (drop-cons m at 0 l, lt-ltb (getD m at 0 % 32) 31 h, add-one) refl
+
+octets-from : (m : List ℕ) (at : ℕ) → Octets m → Octets (drop at m)
+octets-from m at o i = rw (getD-drop at m i 0) (o (at + i))
+
+-- the item by its code
+module _ {b index : List ℕ} (R : Ready b index) where
+  record-code : (u : ℕ) → u < countIn b → unpacked (getD index u 0) .code ≡ firstOf (tableIn b u)
+  record-code u l = R .filled .entered u l .code
+
+  code-tells : (s i u : List ℕ) → Octets s → readIdentifier s ≡ got i u → Tells (tableIn b) s (codeOf i)
+  unfolding peeked
+  code-tells s i u o e = rw e at (tells (tableIn b) (fit b (tableIn b) (countIn b) (R .passes)) s o)
+
+  begins-so : (s i u : List ℕ) → Octets s → readIdentifier s ≡ got i u → (t : ℕ) → firstOf (tableIn b t) ≡ codeOf i → begun (tableIn b) t s ≡ true
+  begins-so s i u o e t q =
+      code-tells s i u o e t ∙ ap hit (search-itself (tableIn b) s (codeOf i) (code-tells s i u o e) t (eq-eqb (firstOf (tableIn b t)) (codeOf i) q))
+
+  record-read : (u : ℕ) → u < countIn b → (s : List ℕ) (v : Value) (w : List ℕ) → readValue (tableIn b) 24 u s ≡ got v w → valueIn b (getD index u 0) s ≡ got v w
+  unfolding readRecord readValue
+  record-read u l s v w e = rw (record-is (R .filled .entered u l)) (kept-got (value-kept (tableIn b) 24 25 u s (omega arith)) e)
+
+module _ {b index : List ℕ} {w : ℕ} {m : List ℕ} {marked : Bool} {first : List ℕ} {to : ℕ} {e : Entry} {s : Span} {ns : List ℕ} {last : ℕ} {opened : List ℕ}
+    (X : Started b index w m marked first to e s ns last opened) (count : ℕ) where
+  -- the record that the item begins, on a way from the part at `place`; its first identifier ends at `from`
+  pub record Chosen (j : ℕ) (buf : List ℕ) (at next place u from : ℕ) : Type 0 where
+    pub prepared : Prepared (tableIn b) 24 (held b w) m first to (Goes (tableIn b) 24 (held b w) marked m (items (X .given) .all) (X .given .fits .rest) ns first to count)
+        buf at next place u
+    pub least : j ≤ place
+    pub low : u < countIn b
+    pub tagged : firstOf (tableIn b u) ≡ untagged → ⊥
+    pub headed : Headed m at from (firstOf (tableIn b u))
+
+  pub sound : Sound b index w blank
+  sound = record { ready = X .given .ready; known = X .given .known; noted = refl; clear = λ z p. blank-clear p }
+
+  module _ {buf : List ℕ} {at next j : ℕ} (C : Coming X count buf at next j) where
+    pub coming-low : at < length m
+    coming-low = omega (arith, got-holds (value-shorter (tableIn b) 24 (C .part .1 .type) (drop at m)) (C .read), length-drop at m)
+
+    -- the part at hand, as it stands in the table
+    module _ (l : j < s .count) (t : ℕ) (et : t ≡ getD b (s .first + j * s .step) 0) where
+      part-place : s .first + j * s .step ≡ s .first + s .step * j
+      part-place = ap (λ (z : ℕ). s .first + z) (mul-comm j (s .step))
+
+      part-type : t ≡ getD b (s .first + s .step * j) 0
+      part-type = et ∙ ap (λ (z : ℕ). getD b z 0) part-place
+
+      pub part-low : t < countIn b
+      part-low = type-low sound e (X .given .entry) s (X .given .span) j l t part-type
+
+      -- the item begins it with one octet
+      module _ (f : ℕ) (ef : f ≡ unpacked (getD index t 0) .code) (q : f ≡ getD m at 0) where
+        its-code : firstOf (tableIn b t) ≡ getD m at 0
+        its-code = sym (record-code (X .given .ready) t part-low) ∙ sym ef ∙ q
+
+        its-octet : readIdentifier (drop at m) ≡ got (getD m at 0 ∷ []) (drop (at + 1) m)
+        its-octet =
+            let o = X .given .octets at in
+            one-octet m at coming-low (rw its-code at (short-code (tableIn b t) (rw its-code o)))
+
+        pub chosen-here : Chosen j buf at next j t (at + 1)
+        unfolding codeOf
+        chosen-here =
+            let G = X .given in
+            let P = its-spanned G .at j l in
+            let r = P .type in
+            let y : t ≡ P .part .type = part-type ∙ r in
+            let g = begins-so (G .ready) (drop at m) (getD m at 0 ∷ []) (drop (at + 1) m) (octets-from m at (G .octets)) its-octet t its-code in
+            record {
+              prepared = rw y (ready-here C (P .part) (drop (suc j) (partsOf (held b w))) (P .is) (rw y at g));
+              least = omega arith;
+              low = part-low;
+              tagged = λ z. omega (arith, G .octets at, its-code);
+              headed = record { identifier = getD m at 0 ∷ []; is = its-octet; coded = sym its-code; further = omega arith; low = omega (arith, coming-low) };
+            }
