@@ -11,7 +11,7 @@ use native.Mathlib.Numerals.{add-one}
 use borrow.Author.Tests.{eq-eqb, ne-eqb, eqb-true, eqb-false, lt-ltb, ltb-true, ltb-false}
 use lib.Dec.{eqb, ltb}
 use lib.ListN.{length, getD, take, drop, replicate, length-append, length-drop, length-map}
-use lib.Seq.{sets, length-sets, drop-drop, drop-cons, getD-drop}
+use lib.Seq.{sets, length-sets, length-take-le, drop-drop, drop-cons, getD-drop}
 use Rattle.octets.specs.Answer.{Answer, got, refused, then, if, none-left}
 use Rattle.octets.specs.Numbers.{Octets}
 use Rattle.octets.proofs.Answer.{refused≢got, got-value, got-rest, got-holds}
@@ -22,6 +22,7 @@ use Rattle.ber.specs.Told.{mode}
 use Rattle.ber.proofs.Codes.{code-short, code-long, read-code-small}
 use Rattle.table.specs.Syntax.{Tag, Member, Body, Plain, Sequence, Set, SequenceOf, SetOf, Choice, Record, Table, constructed}
 use Rattle.table.specs.Octets.{kind}
+use Rattle.table.specs.Passes.{Nested}
 use Rattle.table.specs.Entries.{unpacked, spanOf, more, outermostCode, tableIn, countIn}
 use Rattle.table.specs.declared.entry.Entry.{Entry}
 use Rattle.table.specs.declared.entry.Span.{Span}
@@ -33,13 +34,20 @@ use Rattle.coding.proofs.FirstTags.{good}
 use Rattle.coding.proofs.Refusals.{value-shorter}
 use Rattle.reader.specs.Codes.{firstOf, untagged, peeked, hit}
 use Rattle.reader.specs.Items.{Holder, inside, message, manner, partsOf, Placed, since, Hand, next as nextPart, readItems, filled, assemble}
-use Rattle.reader.specs.Items.{nodeSize, blank, readHeld}
+use Rattle.reader.specs.Items.{optionals, nodeSize, blank, readHeld}
 use Rattle.reader.specs.Records.{Ready, Known, of-record, of-message, holderIn, recordIn, readRecord, Finds}
-use Rattle.reader.specs.Sought.{held, Sound, tabledCount}
-use Rattle.reader.specs.Placing.{kindOf, countOf, hasMembers, isList, holdsOne, onward, nodeOf, openingOf, absentIn, finishedIn, notedIn, said, flags, endAt, Spotted}
+use Rattle.reader.specs.Sought.{held, Sound, Sought, tabledCount}
+use Rattle.reader.specs.Ways.{wrapped}
+use Rattle.reader.specs.declared.search.Choice.{Choice as Choice-found}
+use Rattle.reader.specs.declared.search.Found.the-variants.{Part, Refused}
+use Rattle.reader.specs.declared.answer.Cause.{Cause}
+use Rattle.reader.specs.declared.place.Placed.{Placed as Spot}
+use Rattle.reader.specs.Placing.{kindOf, countOf, hasMembers, isList, holdsOne, onward, nodeOf, openingOf, absentIn, finishedIn, notedIn, said, flags, wayOctets, endAt, Spotted}
 use Rattle.reader.specs.Placed.{Fits, Final, IsPlaced, heldIn, valueIn, ToPlaceValue, Following}
 use Rattle.reader.specs.Wraps.{Headed}
-use Rattle.reader.proofs.Begun.{fit, nested-all}
+use Rattle.reader.proofs.Begun.{Fit, fit, nested-all}
+use Rattle.reader.proofs.ItemsWay.{way-level, way-value}
+use Rattle.reader.proofs.PlacedWays.{way-length, inner-under}
 use Rattle.reader.proofs.ItemsSearch.{Tells, tells, search-itself}
 use Rattle.reader.proofs.Searching.{type-low}
 use Rattle.reader.proofs.Tagging.{record-is}
@@ -132,6 +140,26 @@ list-node (inside (SetOf t)) n e c = refl
 list-node (inside (Choice ts)) n e c = absurd (true≢false e)
 list-node (message t) n e c = absurd (true≢false e)
 
+choice-node : (h : Holder) → kindOf h ≡ 50 → nodeSize h ≡ 4
+unfolding kindOf nodeSize
+choice-node (inside (Plain k)) e = absurd (omega arith)
+choice-node (inside (Sequence ms)) e = absurd (omega arith)
+choice-node (inside (Set ms)) e = absurd (omega arith)
+choice-node (inside (SequenceOf t)) e = absurd (omega arith)
+choice-node (inside (SetOf t)) e = absurd (omega arith)
+choice-node (inside (Choice ts)) e = refl
+choice-node (message t) e = absurd (omega arith)
+
+few-parts : (h : Holder) → countOf h ≤ 16 → length (partsOf h) ≤ 16
+unfolding countOf partsOf
+few-parts (inside (Plain k)) l = omega arith
+few-parts (inside (Sequence ms)) l = l
+few-parts (inside (Set ms)) l = l
+few-parts (inside (SequenceOf t)) l = omega arith
+few-parts (inside (SetOf t)) l = omega arith
+few-parts (inside (Choice ts)) l = let z : length (optionals ts) ≡ length ts = length-map ts _ in omega arith
+few-parts (message t) l = omega arith
+
 -- the octet at a place
 first-at : (m : List ℕ) (at : ℕ) → getD (drop at m) 0 0 ≡ getD m at 0
 first-at m at = getD-drop at m 0 0 ∙ ap (λ (i : ℕ). getD m i 0) (omega arith)
@@ -144,6 +172,10 @@ onward-is b k p place =
     (λ c. rw c (omega arith))
     λ c. test (eqb k 50) (λ d. rw (c, d) (omega arith)) λ d.
     test (isList k) (λ f. rw (c, d, f) (omega arith)) λ f. rw (c, d, f) (omega arith)
+
+set-onward : (k p : ℕ) → k ≡ 17 → onward k p ≡ suc p
+unfolding onward if
+set-onward k p q = rw q refl
 
 -- the node of a value is a part of its octets
 node-fits : (h : Holder) (hand : Hand) → (kindOf h ≡ 0 → ⊥) → nodeSize h ≤ length (octets (assemble h hand))
@@ -475,3 +507,177 @@ module _ {b index : List ℕ} {w : ℕ} {m : List ℕ} {marked : Bool} {first : 
               tagged = λ z. omega (arith, G .octets at, its-code);
               headed = record { identifier = getD m at 0 ∷ []; is = its-octet; coded = sym its-code; further = omega arith; low = omega (arith, coming-low) };
             }
+
+    -- the part that the search found
+    module _ (x : Choice-found) (way : List ℕ) (ways : length way ≡ 128) (F : Sought b (held b w) (since (manner (held b w)) j) blank (drop at m) way (Part x)) where
+      abbrev its-member : Member
+      its-member = F .0
+
+      its-next : nextPart (tableIn b) (held b w) (since (manner (held b w)) j) blank (drop at m) ≡ some (x .place, its-member)
+      its-next = F .2
+
+      its-part : C .part ≡ (x .place, its-member)
+      its-part = same-part (C .part) (x .place, its-member) (sym (C .found) ∙ its-next)
+        where
+          same-part : (x y : Placed) → some x ≡ some y → x ≡ y
+          same-part x y e = cc
+
+      found-code : codeOf (F .1) < untagged
+      found-code = omega (arith, read-code-small (drop at m) (F .1) (drop (x .from) (drop at m)) (octets-from m at (X .given .octets)) (F .3))
+
+      found-read : readValue (tableIn b) 24 (its-member .type) (drop at m) ≡ got (C .value) (C .behind)
+      found-read = rw its-part at (C .read)
+
+      found-tells : Tells (tableIn b) (drop at m) (codeOf (F .1))
+      found-tells = code-tells (X .given .ready) (drop at m) (F .1) (drop (x .from) (drop at m)) (octets-from m at (X .given .octets)) (F .3)
+
+      its-fit : (t : ℕ) → Fit (tableIn b t)
+      its-fit = fit b (tableIn b) (countIn b) (X .given .ready .passes)
+
+      its-nested : (t : ℕ) → Nested (tableIn b) 128 t
+      its-nested = nested-all b (tableIn b) (countIn b) (X .given .ready .passes)
+
+      pub found-deep : x .depth ≤ 24
+      found-deep =
+          test (ltb 24 (x .depth))
+          (λ q. refused≢got (sym (way-level (tableIn b) its-fit its-nested (codeOf (F .1)) (λ z. omega (arith, found-code)) (drop at m) found-tells (F .6 .1) (F .6 .2)
+          24 (omega (arith, ltb-true 24 (x .depth) q))) ∙ found-read))
+          λ q. ltb-false 24 (x .depth) q
+
+      found-value : readValue (tableIn b) 24 (its-member .type) (drop at m)
+          ≡ then (readValue (tableIn b) (24 - x .depth) (x .record) (drop at m)) λ v s₁. got (wrapped way (x .depth) v) s₁
+      found-value =
+          way-value (tableIn b) its-fit its-nested (codeOf (F .1)) (λ z. omega (arith, found-code)) (drop at m) found-tells (F .6 .1) (F .6 .2) 24 found-deep
+
+      pub found-room : next + 4 * x .depth ≤ length buf
+      found-room =
+          let I = inner-under (tableIn b) 24 (its-member .type) (drop at m) way (x .depth) (x .record) (C .value) (C .behind) (omega (arith, found-deep))
+          found-value found-read in
+          let z = way-length (take (x .depth) way) ∙ ap (λ (k : ℕ). 4 * k) (length-take-le (x .depth) way (omega (arith, found-deep))) in
+          omega (arith, C .room, ap length (I .octets), length-append (wayOctets (take (x .depth) way)) (octets (I .value)))
+
+      pub found-least : j ≤ x .place
+      found-least = rw its-part at (C .least)
+
+      pub found-most : x .place < length (partsOf (held b w))
+      found-most = rw its-part at (C .most)
+
+      -- with the nodes of the way, and those between told of
+      pub chosen-found : {buf₁ buf₂ : List ℕ} {next₁ from : ℕ} → buf₁ ≡ sets buf next (wayOctets (take (x .depth) way)) → next₁ ≡ next + 4 * x .depth
+          → from ≡ at + x .from → (hasMembers (e .kind) ≡ true → buf₂ ≡ absentIn j (x .place) buf₁ to) → (hasMembers (e .kind) ≡ false → buf₂ ≡ buf₁)
+          → Chosen j buf₂ at next₁ (x .place) (x .record) from
+      chosen-found {buf₁} {buf₂} e₁ en ef e₂ e₃ =
+          let G = X .given in
+          let k = its-kind G in
+          let g = F .6 .2 in
+          rw (en, ef)
+          (record {
+            prepared = ready-found C way (x .depth) (x .record) (x .place, its-member) its-next (omega (arith, found-deep)) found-value buf₁ buf₂ e₁
+                (rw k at e₂) (rw k at e₃);
+            least = found-least;
+            low = F .6 .3;
+            tagged = λ z. omega (arith, found-code, g);
+            headed = record {
+                identifier = F .1;
+                is = F .3 ∙ ap (got (F .1)) (drop-drop (x .from) at m);
+                coded = sym g;
+                further = omega (arith, F .4);
+                low = omega (arith, F .5, length-drop at m, C .low);
+            };
+          })
+
+    -- it finds one
+    pub found-some : (way : List ℕ) (c : Cause) → Sought b (held b w) (since (manner (held b w)) j) blank (drop at m) way (Refused c) → ⊥
+    found-some way c F = clash (C .part) (sym (C .found) ∙ F .0)
+      where
+        clash : (x : Placed) → some x ≡ none → ⊥
+        clash x e = let q : _≡_ {A = ℕ} 0 1 = cc in omega arith
+
+    -- the node has room for what is said of members in front
+    pub absent-room : (place : ℕ) → place < length (partsOf (held b w)) → hasMembers (e .kind) ≡ true → to + 4 + place ≤ length buf
+    absent-room place l c =
+        let z = members-size (held b w) (rw (its-kind (X .given)) at c) in
+        omega (arith, C .room, C .stands .reaches)
+
+  module _ {j : ℕ} {buf : List ℕ} {at next place u from : ℕ} (R : Chosen j buf at next place u from) where
+    pub chosen-node : (hasMembers (e .kind) ≡ true → to + 4 + place < length buf) × (e .kind ≡ 50 → (to + 3 < length buf) × (place < 256))
+    chosen-node =
+        let G = X .given in
+        let k = its-kind G in
+        let l = ready-node (R .prepared) in
+        let p = R .prepared .most in (
+          λ c. let z = members-size (held b w) (rw k at c) in omega arith,
+          λ c.
+              let z = choice-node (held b w) (sym k ∙ c) in
+              let q = its-count G in
+              (omega arith, omega (arith, few-parts (held b w) (omega (arith, its-few G)))),
+        )
+
+    pub chosen-few : place < 16
+    chosen-few =
+        let G = X .given in
+        let q = its-count G in
+        omega (arith, R .prepared .most, few-parts (held b w) (omega (arith, its-few G)))
+
+    module _ {buf₁ : List ℕ} (e₁ : buf₁ ≡ notedIn (e .kind) place buf to) where
+      its-noted : buf₁ ≡ notedIn (kindOf (held b w)) place buf to
+      its-noted = rw (its-kind (X .given)) at e₁
+
+      its-value : valueIn b (getD index u 0) (drop at m) ≡ got (R .prepared .inner .value) (R .prepared .behind)
+      its-value = record-read (X .given .ready) u (R .low) (drop at m) (R .prepared .inner .value) (R .prepared .behind) (R .prepared .inner .read)
+
+      -- the value is placed
+      pub chosen-asks : (way : List ℕ) → length way ≡ 128 → ToPlaceValue b index (getD index u 0) m at from buf₁ next way
+      chosen-asks way ways =
+          let G = X .given in
+          record {
+            ready = G .ready;
+            number = u;
+            low = R .low;
+            entry = refl;
+            tagged = R .tagged;
+            short = G .short;
+            headed = rw (record-code (G .ready) u (R .low)) (R .headed);
+            ways = ways;
+            fits = record { value = R .prepared .inner .value; rest = R .prepared .behind; is = its-value; room = ready-room (R .prepared) its-noted };
+          }
+
+      -- and was
+      module _ {buf₂ : List ℕ} {r : Spot} (P : IsPlaced (valueIn b (getD index u 0) (drop at m)) m next buf₁ buf₂ r) where
+        its-final : Final (R .prepared .inner .value) (R .prepared .behind) m buf₁ next buf₂ (r .end) (r .next)
+        its-final = P (R .prepared .inner .value) (R .prepared .behind) its-value
+
+        pub chosen-within : r .end ≤ length m
+        chosen-within = its-final .within
+
+        pub chosen-further : at < r .end
+        chosen-further = ready-further (R .prepared) (its-final .within) (its-final .behind)
+
+        pub chosen-next : (h : Bool) → h ≡ holdsOne (e .kind) → h ≡ false → State X buf₂ (r .end) (r .next) (place + s .step / 2) (count + 1)
+        chosen-next h eh z =
+            let G = X .given in
+            rw (its-onward G place) (ready-placed (R .prepared) its-noted its-final .0 (ap holdsOne (sym (its-kind G)) ∙ sym eh ∙ z))
+
+        pub chosen-one : (h : Bool) → h ≡ holdsOne (e .kind) → h ≡ true → (v : Value) (rest : List ℕ) → heldIn b (held b w) marked m ≡ got v rest
+            → Final v rest m first to buf₂ (r .end) (r .next)
+        chosen-one h eh z =
+            let G = X .given in
+            placed G (ready-placed (R .prepared) its-noted its-final .1 (ap holdsOne (sym (its-kind G)) ∙ sym eh ∙ z))
+
+        -- fewer members are left of a SET, or fewer octets
+        pub chosen-fewer : (at₀ j₀ : ℕ) → (e .kind ≡ 17 → j₀ ≤ j) → ((e .kind ≡ 17 → ⊥) → at ≡ at₀)
+            → if (eqb (e .kind) 17) (s .count - (place + s .step / 2)) (λ _. length m - r .end)
+            < if (eqb (e .kind) 17) (s .count - j₀) (λ _. length m - at₀)
+        unfolding if
+        chosen-fewer at₀ j₀ f g =
+            let G = X .given in
+            test (eqb (e .kind) 17)
+            (λ q.
+            let z = eqb-true (e .kind) 17 q in
+            let c = set-parts (sym (its-kind G) ∙ z) in
+            let o = its-onward G place ∙ set-onward (kindOf (held b w)) place (sym (its-kind G) ∙ z) in
+            rw q (omega (arith, R .prepared .most, R .least, f z)))
+            λ q. let z = eqb-false (e .kind) 17 q in rw q (omega (arith, chosen-within, chosen-further, g z))
+          where
+            set-parts : kindOf (held b w) ≡ 17 → s .count ≡ length (partsOf (held b w))
+            set-parts q = its-count (X .given) ∙ count-parts (held b w) (rw q refl)
