@@ -471,6 +471,9 @@ module _ {b index : List ℕ} {w : ℕ} {m : List ℕ} {marked : Bool} {first : 
     pub coming-low : at < length m
     coming-low = omega (arith, got-holds (value-shorter (tableIn b) 24 (C .part .1 .type) (drop at m)) (C .read), length-drop at m)
 
+    pub part-near : j < s .count → s .first + j * s .step < 8192
+    part-near l = let z = mul-comm j (s .step) in omega (arith, its-spanned (X .given) .near j l)
+
     -- the part at hand, as it stands in the table
     module _ (l : j < s .count) (t : ℕ) (et : t ≡ getD b (s .first + j * s .step) 0) where
       part-place : s .first + j * s .step ≡ s .first + s .step * j
@@ -593,11 +596,26 @@ module _ {b index : List ℕ} {w : ℕ} {m : List ℕ} {marked : Bool} {first : 
         clash : (x : Placed) → some x ≡ none → ⊥
         clash x e = let q : _≡_ {A = ℕ} 0 1 = cc in omega arith
 
-    -- the node has room for what is said of members in front
-    pub absent-room : (place : ℕ) → place < length (partsOf (held b w)) → hasMembers (e .kind) ≡ true → to + 4 + place ≤ length buf
+    -- a part was found, and the nodes of the way stand there
+    abbrev pub Picked : List ℕ → ℕ → ℕ → ℕ → ℕ → Type 0
+    Picked buf₁ next₁ place u from =
+        (length buf₁ ≡ length buf)
+        × (hasMembers (e .kind) ≡ true → to + 4 + place ≤ length buf₁)
+        × ((buf₂ : List ℕ) → (hasMembers (e .kind) ≡ true → buf₂ ≡ absentIn j place buf₁ to) → (hasMembers (e .kind) ≡ false → buf₂ ≡ buf₁)
+        → Chosen j buf₂ at next₁ place u from)
+
+    absent-room : (place : ℕ) → place < length (partsOf (held b w)) → hasMembers (e .kind) ≡ true → to + 4 + place ≤ length buf
     absent-room place l c =
         let z = members-size (held b w) (rw (its-kind (X .given)) at c) in
         omega (arith, C .room, C .stands .reaches)
+
+    pub picked : (x : Choice-found) (way : List ℕ) → length way ≡ 128 → Sought b (held b w) (since (manner (held b w)) j) blank (drop at m) way (Part x)
+        → {buf₁ : List ℕ} {next₁ place u from : ℕ} → buf₁ ≡ sets buf next (wayOctets (take (x .depth) way)) → next₁ ≡ next + 4 * x .depth
+        → place ≡ x .place → u ≡ x .record → from ≡ at + x .from → Picked buf₁ next₁ place u from
+    picked x way ways F {buf₁} e₁ en ep eu ef =
+        let l : length buf₁ ≡ length buf = ap length e₁ ∙ length-sets buf next (wayOctets (take (x .depth) way)) in
+        rw (ep, eu)
+        (l, λ c. omega (arith, absent-room (x .place) (found-most x way ways F) c), λ buf₂ e₂ e₃. chosen-found x way ways F e₁ en ef e₂ e₃)
 
   module _ {j : ℕ} {buf : List ℕ} {at next place u from : ℕ} (R : Chosen j buf at next place u from) where
     pub chosen-node : (hasMembers (e .kind) ≡ true → to + 4 + place < length buf) × (e .kind ≡ 50 → (to + 3 < length buf) × (place < 256))

@@ -19,6 +19,7 @@ use Rattle.reader.specs.Sought.{held}
 use Rattle.reader.specs.Placing.{Spotted}
 use Rattle.reader.proofs.PlacedMembers.{Given, Started, State, its-few, begin-room, no-members, state-first}
 use Rattle.reader.proofs.PlacedMembers.{set-low, set-room, set-over, set-came, set-comes, other-low, finish-room, other-over, other-comes, one-comes}
+use Rattle.reader.proofs.PlacedMembers.{Coming, sound, coming-low, part-near, part-low, Chosen, chosen-here, Picked, picked, found-some, found-deep, found-room}
 use borrow.Fn.Kinds.{In}
 use borrow.Fn.PlainCycle.{Measures, is, falls, and}
 use Rattle.reader.proofs.place.place_members.Reads as place-members
@@ -182,6 +183,12 @@ at-started : (t : ℕ) (c : place-members-lts.After-begin (place-members-claims 
     (c .begin .last .1 .1 .0)
 at-started t c = record { given = at-given t (c .before .before .before .before); spotted = at-located t (c .before .before) .2; opening = c .begin .ensures .1 }
 
+abbrev Starts : (t : ℕ) → place-members-lts.After-begin (place-members-claims t) (place-members-at t) place-members.Post place-members-Inv-loop
+    place-members-μ-loop → List ℕ → Type 0
+Starts t c first = let a = c .before .before .before .before .before .before .before .before .before .args in
+    Started (now (a .table)) (now (a .index)) (a .w) (now (a .m)) (a .marked) first (a .to) (c .before .before .before .before .before .unpack .result) (c .before .before .before .before .parts .result) (c .before .before .if1 .began) (c .before .before .if1 .last)
+    (c .begin .last .1 .1 .0)
+
 place-members-loop-holds : (t : ℕ) → place-members-lts.Need-loop-holds (place-members-claims t) (place-members-at t) place-members.Post place-members-Inv-loop
     place-members-μ-loop
 place-members-loop-holds t c = (at-located t (c .before .before .before .before) .0, refl, λ first X. state-first X _ (c .before .before .begin .ensures .0))
@@ -263,6 +270,118 @@ place-members-returns-2 t c =
     let X = at-started t (c .before .before .before .before .before .before .before .before .before .before .before .before .before .before) in
     (c .before .before .before .before .before .before .before .before .before .before .before .loop .inv .0, other-over X (c .before .before .before .before .before .before .before .before .before .before .before .loop .inv .2 _ X) (c .before .before .before .before .before .before .before .before .before .if2 .left) _ (c .before .before .before .before .before .before .before .before .holds-one .ensures) (not-true _ (c .before .before .before .before .before .before .before .if4 .taken)) _ (c .before .before .before .before .before .before .is-over .ensures) (c .before .before .before .before .before .if5 .taken) (c .before .before .before .finish .ensures) (c .behind .ensures))
 
+-- the item that comes
+at-item : (t : ℕ) (c : place-members-lts.Joined2 (place-members-claims t) (place-members-at t) place-members.Post place-members-Inv-loop
+    place-members-μ-loop) {first : List ℕ} (X : Starts t (c .before .before .before .before .before) first) →
+    Coming X (c .before .before .loop .count) (c .if2 .buf) (c .if2 .at) (c .before .before .loop .next) (c .if2 .j)
+at-item t c X =
+    let L = c .before .before .loop .inv .2 _ X in
+    ⊎-elim
+    (λ x. rw (x .9, x .10, x .11) (set-comes X L (x .0 .taken) _ (x .2 .ensures) (x .4 .ensures) (x .8 .left)))
+    (⊎-elim
+    (λ x. rw (x .5, x .6, x .7) (other-comes X L (x .0 .left) _ (x .1 .ensures) (not-true _ (x .2 .taken)) _ (x .3 .ensures) ?))
+    λ x. rw (x .3, x .4, x .5) (one-comes X L (x .0 .left) _ (x .1 .ensures) (not-false _ (x .2 .left))))
+    (c .if2 .came)
+
+-- how far it stands
+at-turn : (t : ℕ) (c : place-members-lts.Joined2 (place-members-claims t) (place-members-at t) place-members.Post place-members-Inv-loop
+    place-members-μ-loop) →
+    (length (c .if2 .buf) ≡ length (c .before .before .loop .buf)) × (c .before .before .before .before .before .before .before .before .before .before .unpack .result .kind ≡ 17 → c .before .before .loop .j ≤ c .if2 .j)
+    × ((c .before .before .before .before .before .before .before .before .before .before .unpack .result .kind ≡ 17 → ⊥) → c .if2 .at ≡ c .before .before .loop .at)
+at-turn t c =
+    ⊎-elim
+    (λ x. (ap length (x .9) ∙ x .4 .kept .0, λ z. rw (x .11) (x .2 .ensures .least), λ n. absurd (n (x .0 .taken))))
+    (⊎-elim
+    (λ x. (ap length (x .5), λ z. absurd (x .0 .left z), λ n. x .6))
+    λ x. (ap length (x .3), λ z. absurd (x .0 .left z), λ n. x .4))
+    (c .if2 .came)
+
+at-low : (t : ℕ) (c : place-members-lts.Joined2 (place-members-claims t) (place-members-at t) place-members.Post place-members-Inv-loop
+    place-members-μ-loop) → (c .if2 .at < length (now (c .before .before .before .before .before .before .before .before .before .before .before .before .before .before .args .m))) × (c .if2 .at < 8192)
+at-low t c =
+    let X = at-started t (c .before .before .before .before .before) in
+    let l = coming-low X _ (at-item t c X) in
+    (l, omega (arith, l, X .given .short))
+
+place-members-add-from : (t : ℕ) → place-members-lts.Need-add-from (place-members-claims t) (place-members-at t) place-members.Post place-members-Inv-loop
+    place-members-μ-loop
+place-members-add-from t c = let l = at-low t (c .before) in omega arith
+
+place-members-mul-octet : (t : ℕ) → place-members-lts.Need-mul-octet (place-members-claims t) (place-members-at t) place-members.Post place-members-Inv-loop
+    place-members-μ-loop
+place-members-mul-octet t c = omega (arith, part-near (at-started t (c .before .before .before .before .before .before .before .before .before .before)) _ (at-item t (c .before .before .before .before .before) (at-started t (c .before .before .before .before .before .before .before .before .before .before))) (c .before .before .if6 .taken))
+
+place-members-add-octet : (t : ℕ) → place-members-lts.Need-add-octet (place-members-claims t) (place-members-at t) place-members.Post place-members-Inv-loop
+    place-members-μ-loop
+place-members-add-octet t c = omega (arith, part-near (at-started t (c .before .before .before .before .before .before .before .before .before .before .before)) _ (at-item t (c .before .before .before .before .before .before) (at-started t (c .before .before .before .before .before .before .before .before .before .before .before))) (c .before .before .before .if6 .taken))
+
+place-members-octet-requires : (t : ℕ) → place-members-lts.Need-octet-requires (place-members-claims t) (place-members-at t) place-members.Post place-members-Inv-loop
+    place-members-μ-loop
+place-members-octet-requires t c κs = tt
+
+-- the type of the part at hand
+at-type : (t : ℕ) (c : place-members-lts.After-octet (place-members-claims t) (place-members-at t) place-members.Post place-members-Inv-loop
+    place-members-μ-loop) → c .octet .result < 128
+at-type t c =
+    let X = at-started t (c .before .before .before .before .before .before .before .before .before .before .before .before) in
+    omega (arith, part-low X _ (at-item t (c .before .before .before .before .before .before .before) X) (c .before .before .before .before .if6 .taken) _ (c .octet .ensures .0), X .given .ready .passes .few)
+
+place-members-mul-first : (t : ℕ) → place-members-lts.Need-mul-first (place-members-claims t) (place-members-at t) place-members.Post place-members-Inv-loop
+    place-members-μ-loop
+place-members-mul-first t c = let l = at-type t c in omega arith
+
+place-members-element-copy-out-first : (t : ℕ) → place-members-lts.Need-element-copy-out-first (place-members-claims t) (place-members-at t) place-members.Post place-members-Inv-loop
+    place-members-μ-loop
+place-members-element-copy-out-first t c = at-type t c
+
+place-members-first-requires : (t : ℕ) → place-members-lts.Need-first-requires (place-members-claims t) (place-members-at t) place-members.Post place-members-Inv-loop
+    place-members-μ-loop
+place-members-first-requires t c κs = tt
+
+place-members-shared-slice-read-fits : (t : ℕ) → place-members-lts.Need-shared-slice-read-fits (place-members-claims t) (place-members-at t) place-members.Post place-members-Inv-loop
+    place-members-μ-loop
+place-members-shared-slice-read-fits t c = at-low t (c .before .before .before .before .before .before .before .before .before .before) .0
+
+place-members-cast-fits : (t : ℕ) → place-members-lts.Need-cast-fits (place-members-claims t) (place-members-at t) place-members.Post place-members-Inv-loop
+    place-members-μ-loop
+place-members-cast-fits t c = omega (arith, c .before .before .before .before .before .before .before .before .before .before .before .before .before .before .before .before .before .before .before .before .before .before .shared-slice-known2 .given (c .before .before .before .before .before .before .before .before .before .before .if2 .at))
+
+place-members-sub-rest : (t : ℕ) → place-members-lts.Need-sub-rest (place-members-claims t) (place-members-at t) place-members.Post place-members-Inv-loop
+    place-members-μ-loop
+place-members-sub-rest t c = let l = at-low t (c .before .before .before .before) in omega arith
+
+place-members-part-rest-start : (t : ℕ) → place-members-lts.Need-part-rest-start (place-members-claims t) (place-members-at t) place-members.Post place-members-Inv-loop
+    place-members-μ-loop
+place-members-part-rest-start t c = let l = at-low t (c .before .before .before .before) in omega arith
+
+place-members-part-rest-end : (t : ℕ) → place-members-lts.Need-part-rest-end (place-members-claims t) (place-members-at t) place-members.Post place-members-Inv-loop
+    place-members-μ-loop
+place-members-part-rest-end t c = let l = at-low t (c .before .before .before .before) in omega arith
+
+place-members-search-requires : (t : ℕ) → place-members-lts.Need-search-requires (place-members-claims t) (place-members-at t) place-members.Post place-members-Inv-loop
+    place-members-μ-loop
+place-members-search-requires t c κs = (sound (at-started t (c .before .before .before .before .before .before .before .before .before .before .before .before)) 0, c .before .before .before .before .before .before .before .before .before .loop .inv .0)
+
+place-members-enum-told : (t : ℕ) → place-members-lts.Need-enum-told (place-members-claims t) (place-members-at t) place-members.Post place-members-Inv-loop
+    place-members-μ-loop
+place-members-enum-told t c = search needs
+
+place-members-enum-known-x : (t : ℕ) → place-members-lts.Need-enum-known-x (place-members-claims t) (place-members-at t) place-members.Post place-members-Inv-loop
+    place-members-μ-loop
+place-members-enum-known-x t c = search needs
+
+place-members-has-members-requires : (t : ℕ) → place-members-lts.Need-has-members-requires (place-members-claims t) (place-members-at t) place-members.Post place-members-Inv-loop
+    place-members-μ-loop
+place-members-has-members-requires t c κs = tt
+
+-- the part that the search found
+at-picked : (t : ℕ) (c : place-members-lts.At-match-came (place-members-claims t) (place-members-at t) place-members.Post place-members-Inv-loop
+    place-members-μ-loop) {first : List ℕ} (X : Starts t (c .before .before .before .before .before .before .before .before .before .before .before .before .before .before) first) →
+    Picked X _ (at-item t (c .before .before .before .before .before .before .before .before .before) X) (c .match .buf) (c .match .next) (c .match .place) (c .match .«record») (c .match .from)
+at-picked t c X =
+    let S = c .before .search .ensures in
+    ?
+
 pub +place-members+place-value-spec : {M : Type 1} → statement M
 +place-members+place-value-spec = close μ-place-members μ-place-value (λ t. place-members-lts.spec (place-members-claims t)
     (place-members-at t)
@@ -288,24 +407,24 @@ pub +place-members+place-value-spec : {M : Type 1} → statement M
     (place-members-behind-requires t) -- place-members-behind-requires
     (place-members-same-length-2 t) -- place-members-same-length-2
     (place-members-returns-2 t) -- place-members-returns-2
-    (λ c. ?) -- place-members-add-from
-    (λ c. ?) -- place-members-mul-octet
-    (λ c. ?) -- place-members-add-octet
-    (λ c κs. ?) -- place-members-octet-requires
-    (λ c. ?) -- place-members-mul-first
-    (λ c. ?) -- place-members-element-copy-out-first
-    (λ c κs. ?) -- place-members-first-requires
-    (λ c. ?) -- place-members-shared-slice-read-fits
-    (λ c. ?) -- place-members-cast-fits
-    (λ c. ?) -- place-members-sub-rest
-    (λ c. ?) -- place-members-part-rest-start
-    (λ c. ?) -- place-members-part-rest-end
-    (λ c κs. ?) -- place-members-search-requires
-    (λ c. ?) -- place-members-enum-told
-    (λ c. ?) -- place-members-enum-known-x
+    (place-members-add-from t) -- place-members-add-from
+    (place-members-mul-octet t) -- place-members-mul-octet
+    (place-members-add-octet t) -- place-members-add-octet
+    (place-members-octet-requires t) -- place-members-octet-requires
+    (place-members-mul-first t) -- place-members-mul-first
+    (place-members-element-copy-out-first t) -- place-members-element-copy-out-first
+    (place-members-first-requires t) -- place-members-first-requires
+    (place-members-shared-slice-read-fits t) -- place-members-shared-slice-read-fits
+    (place-members-cast-fits t) -- place-members-cast-fits
+    (place-members-sub-rest t) -- place-members-sub-rest
+    (place-members-part-rest-start t) -- place-members-part-rest-start
+    (place-members-part-rest-end t) -- place-members-part-rest-end
+    (place-members-search-requires t) -- place-members-search-requires
+    (place-members-enum-told t) -- place-members-enum-told
+    (place-members-enum-known-x t) -- place-members-enum-known-x
     (λ c. ?) -- place-members-add-from-2
     (λ c κs. ?) -- place-members-put-way-requires
-    (λ c κs. ?) -- place-members-has-members-requires
+    (place-members-has-members-requires t) -- place-members-has-members-requires
     (λ c κs. ?) -- place-members-put-absent-requires-2
     (λ c κs. ?) -- place-members-put-place-requires
     (λ c. ?) -- place-members-add-j
