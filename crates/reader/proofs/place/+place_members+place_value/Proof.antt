@@ -3,6 +3,7 @@
 -- Assumes nothing.
 use borrow.Author.Needs.{needs}
 use borrow.Author.Tests.{not-true, not-false}
+use borrow.Rule.Slice.PartAt.{part-to-end}
 use denote.Ref.{now}
 use mathlib.Core.List.{List}
 use mathlib.Core.Logic.{⊎-elim}
@@ -10,12 +11,12 @@ use mathlib.Core.Path.{_≡_, refl, sym, ap, _∙_}
 use Prim.Native.Nat.{ℕ, _+_, _-_, _*_, _<_, _≤_}
 use native.Mathlib.Omega.{arith}
 use lib.Dec.{eqb}
-use lib.ListN.{length, getD}
+use lib.ListN.{length, getD, drop}
 use Rattle.octets.specs.Answer.{if}
 use Rattle.table.specs.Syntax.{Member, Set}
 use Rattle.table.specs.Entries.{tableIn}
-use Rattle.reader.specs.Items.{inside}
-use Rattle.reader.specs.Sought.{held}
+use Rattle.reader.specs.Items.{inside, manner, since, blank}
+use Rattle.reader.specs.Sought.{held, Sought}
 use Rattle.reader.specs.Placing.{Spotted}
 use Rattle.reader.proofs.PlacedMembers.{Given, Started, State, its-few, begin-room, no-members, state-first}
 use Rattle.reader.proofs.PlacedMembers.{set-low, set-room, set-over, set-came, set-comes, other-low, finish-room, other-over, other-comes, one-comes}
@@ -279,7 +280,7 @@ at-item t c X =
     ⊎-elim
     (λ x. rw (x .9, x .10, x .11) (set-comes X L (x .0 .taken) _ (x .2 .ensures) (x .4 .ensures) (x .8 .left)))
     (⊎-elim
-    (λ x. rw (x .5, x .6, x .7) (other-comes X L (x .0 .left) _ (x .1 .ensures) (not-true _ (x .2 .taken)) _ (x .3 .ensures) ?))
+    (λ x. rw (x .5, x .6, x .7) (other-comes X L (x .0 .left) _ (x .1 .ensures) (not-true _ (x .2 .taken)) _ (x .3 .ensures) (x .4 .left)))
     λ x. rw (x .3, x .4, x .5) (one-comes X L (x .0 .left) _ (x .1 .ensures) (not-false _ (x .2 .left))))
     (c .if2 .came)
 
@@ -374,13 +375,25 @@ place-members-has-members-requires : (t : ℕ) → place-members-lts.Need-has-me
     place-members-μ-loop
 place-members-has-members-requires t c κs = tt
 
+-- what the search answers
+at-sought : (t : ℕ) (c : place-members-lts.After-search (place-members-claims t) (place-members-at t) place-members.Post place-members-Inv-loop
+    place-members-μ-loop) →
+    let a = c .before .before .before .before .before .before .before .before .before .before .before .before .before .before .before .before .before .before .before .before .before .before .args in
+    let b = now (a .table) in
+    Sought b (held b (a .w)) (since (manner (held b (a .w))) (c .before .before .before .before .before .before .before .before .if2 .j)) blank (drop (c .before .before .before .before .before .before .before .before .if2 .at) (now (a .m))) (c .search .last .1 .1 .1 .1 .1 .1 .0) (c .search .result)
+at-sought t c = rw (part-to-end (now (c .before .before .before .before .before .before .before .before .before .before .before .before .before .before .before .before .before .before .before .before .before .before .args .m)) (c .before .before .before .before .before .before .before .before .if2 .at)) at (c .search .ensures .1)
+
 -- the part that the search found
 at-picked : (t : ℕ) (c : place-members-lts.At-match-came (place-members-claims t) (place-members-at t) place-members.Post place-members-Inv-loop
     place-members-μ-loop) {first : List ℕ} (X : Starts t (c .before .before .before .before .before .before .before .before .before .before .before .before .before .before) first) →
     Picked X _ (at-item t (c .before .before .before .before .before .before .before .before .before) X) (c .match .buf) (c .match .next) (c .match .place) (c .match .«record») (c .match .from)
 at-picked t c X =
-    let S = c .before .search .ensures in
-    ?
+    let S = at-sought t (c .before) in
+    ⊎-elim
+    (λ x. absurd (found-some X _ (at-item t (c .before .before .before .before .before .before .before .before .before) X) _ _ (rw (x .1 .given .1) at S)))
+    (λ x. picked X _ (at-item t (c .before .before .before .before .before .before .before .before .before) X) (x .1 .given .0 .0) _ (c .before .search .ensures .0) (rw (x .1 .given .1) at S) (x .9 ∙ x .6 .ensures .1)
+    (x .10 ∙ x .6 .ensures .0) (x .11) (x .12) (x .13))
+    (c .match .came)
 
 pub +place-members+place-value-spec : {M : Type 1} → statement M
 +place-members+place-value-spec = close μ-place-members μ-place-value (λ t. place-members-lts.spec (place-members-claims t)
