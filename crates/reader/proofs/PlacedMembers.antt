@@ -39,8 +39,7 @@ use Rattle.reader.specs.Records.{Ready, Known, of-record, of-message, ho
 use Rattle.reader.specs.Sought.{held, Sound, Sought, tabledCount}
 use Rattle.reader.specs.Ways.{wrapped}
 use Rattle.reader.specs.declared.search.Choice.{Choice as Choice-found}
-use Rattle.reader.specs.declared.search.Found.the-variants.{Part, Refused}
-use Rattle.reader.specs.declared.answer.Cause.{Cause}
+use Rattle.reader.specs.declared.search.Found.the-variants.{Part}
 use Rattle.reader.specs.declared.place.Placed.{Placed as Spot}
 use Rattle.reader.specs.Placing.{kindOf, countOf, hasMembers, isList, holdsOne, onward, nodeOf, openingOf, absentIn, finishedIn, notedIn, said, flags, wayOctets, endAt, Spotted}
 use Rattle.reader.specs.Placed.{Fits, Final, IsPlaced, heldIn, valueIn, ToPlaceValue, Following}
@@ -172,6 +171,10 @@ onward-is b k p place =
     (λ c. rw c (omega arith))
     λ c. test (eqb k 50) (λ d. rw (c, d) (omega arith)) λ d.
     test (isList k) (λ f. rw (c, d, f) (omega arith)) λ f. rw (c, d, f) (omega arith)
+
+onward-most : (k p : ℕ) → onward k p ≤ suc p
+unfolding onward if
+onward-most k p = test (hasMembers k) (λ c. rw c (omega arith)) λ c. rw c (omega arith)
 
 set-onward : (k p : ℕ) → k ≡ 17 → onward k p ≡ suc p
 unfolding onward if
@@ -362,6 +365,17 @@ module _ {b index : List ℕ} {w : ℕ} {m : List ℕ} {marked : Bool} {first : 
             let l : k < s .count = omega (arith, F .most) in
             let c = F .came l in
             (l, omega arith, set-comes q .low)
+
+    pub state-count : count ≤ 8192
+    state-count =
+        let G = X .given in
+        test (eqb (e .kind) 17)
+        (λ q.
+        let z = eqb-true (e .kind) 17 q in
+        omega (arith, L .few (sym (its-kind G) ∙ z), set-low z, its-few G))
+        λ q.
+        let S = L .arriving (λ z. eqb-false (e .kind) 17 q (its-kind G ∙ z)) in
+        omega (arith, S .few, S .low, G .short)
 
     -- the others
     module _ (no-set : e .kind ≡ 17 → ⊥) where
@@ -559,6 +573,9 @@ module _ {b index : List ℕ} {w : ℕ} {m : List ℕ} {marked : Bool} {first : 
           let z = way-length (take (x .depth) way) ∙ ap (λ (k : ℕ). 4 * k) (length-take-le (x .depth) way (omega (arith, found-deep))) in
           omega (arith, C .room, ap length (I .octets), length-append (wayOctets (take (x .depth) way)) (octets (I .value)))
 
+      pub found-low : at + x .from ≤ length m
+      found-low = omega (arith, F .5, length-drop at m, C .low)
+
       pub found-least : j ≤ x .place
       found-least = rw its-part at (C .least)
 
@@ -585,13 +602,13 @@ module _ {b index : List ℕ} {w : ℕ} {m : List ℕ} {marked : Bool} {first : 
                 is = F .3 ∙ ap (got (F .1)) (drop-drop (x .from) at m);
                 coded = sym g;
                 further = omega (arith, F .4);
-                low = omega (arith, F .5, length-drop at m, C .low);
+                low = found-low;
             };
           })
 
     -- it finds one
-    pub found-some : (way : List ℕ) (c : Cause) → Sought b (held b w) (since (manner (held b w)) j) blank (drop at m) way (Refused c) → ⊥
-    found-some way c F = clash (C .part) (sym (C .found) ∙ F .0)
+    pub found-some : nextPart (tableIn b) (held b w) (since (manner (held b w)) j) blank (drop at m) ≡ none → ⊥
+    found-some z = clash (C .part) (sym (C .found) ∙ z)
       where
         clash : (x : Placed) → some x ≡ none → ⊥
         clash x e = let q : _≡_ {A = ℕ} 0 1 = cc in omega arith
@@ -631,11 +648,12 @@ module _ {b index : List ℕ} {w : ℕ} {m : List ℕ} {marked : Bool} {first : 
               (omega arith, omega (arith, few-parts (held b w) (omega (arith, its-few G)))),
         )
 
-    pub chosen-few : place < 16
-    chosen-few =
+    pub chosen-onward : place + s .step / 2 ≤ 16
+    chosen-onward =
         let G = X .given in
         let q = its-count G in
-        omega (arith, R .prepared .most, few-parts (held b w) (omega (arith, its-few G)))
+        rw (its-onward G place)
+        (omega (arith, onward-most (kindOf (held b w)) place, R .prepared .most, few-parts (held b w) (omega (arith, its-few G))))
 
     module _ {buf₁ : List ℕ} (e₁ : buf₁ ≡ notedIn (e .kind) place buf to) where
       its-noted : buf₁ ≡ notedIn (kindOf (held b w)) place buf to

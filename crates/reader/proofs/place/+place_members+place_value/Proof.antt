@@ -2,9 +2,10 @@
 -- those of its items, and items stand in contents that are shorter than the value.
 -- Assumes nothing.
 use borrow.Author.Needs.{needs}
-use borrow.Author.Tests.{not-true, not-false}
+use borrow.Author.Tests.{not-true, not-false, eqb-true}
 use borrow.Rule.Slice.PartAt.{part-to-end}
 use denote.Ref.{now}
+use mathlib.Core.Bool.{true, false, true≢false, false≢true}
 use mathlib.Core.List.{List}
 use mathlib.Core.Logic.{⊎-elim}
 use mathlib.Core.Path.{_≡_, refl, sym, ap, _∙_}
@@ -14,13 +15,13 @@ use lib.Dec.{eqb}
 use lib.ListN.{length, getD, drop}
 use Rattle.octets.specs.Answer.{if}
 use Rattle.table.specs.Syntax.{Member, Set}
-use Rattle.table.specs.Entries.{tableIn}
+use Rattle.table.specs.Entries.{unpacked, tableIn}
 use Rattle.reader.specs.Items.{inside, manner, since, blank}
 use Rattle.reader.specs.Sought.{held, Sought}
-use Rattle.reader.specs.Placing.{Spotted}
+use Rattle.reader.specs.Placing.{hasMembers, Spotted}
 use Rattle.reader.proofs.PlacedMembers.{Given, Started, State, its-few, begin-room, no-members, state-first}
 use Rattle.reader.proofs.PlacedMembers.{set-low, set-room, set-over, set-came, set-comes, other-low, finish-room, other-over, other-comes, one-comes}
-use Rattle.reader.proofs.PlacedMembers.{Coming, sound, coming-low, part-near, part-low, Chosen, chosen-here, Picked, picked, found-some, found-deep, found-room}
+use Rattle.reader.proofs.PlacedMembers.{Coming, sound, coming-low, part-near, part-low, Chosen, chosen-here, Picked, picked, found-some, found-deep, found-room, found-low}
 use borrow.Fn.Kinds.{In}
 use borrow.Fn.PlainCycle.{Measures, is, falls, and}
 use Rattle.reader.proofs.place.place_members.Reads as place-members
@@ -390,10 +391,72 @@ at-picked : (t : ℕ) (c : place-members-lts.At-match-came (place-members-claims
 at-picked t c X =
     let S = at-sought t (c .before) in
     ⊎-elim
-    (λ x. absurd (found-some X _ (at-item t (c .before .before .before .before .before .before .before .before .before) X) _ _ (rw (x .1 .given .1) at S)))
+    (λ x. absurd (found-some X _ (at-item t (c .before .before .before .before .before .before .before .before .before) X) ((rw (x .1 .given .1) at S) .0)))
     (λ x. picked X _ (at-item t (c .before .before .before .before .before .before .before .before .before) X) (x .1 .given .0 .0) _ (c .before .search .ensures .0) (rw (x .1 .given .1) at S) (x .9 ∙ x .6 .ensures .1)
     (x .10 ∙ x .6 .ensures .0) (x .11) (x .12) (x .13))
     (c .match .came)
+
+place-members-add-from-2 : (t : ℕ) → place-members-lts.Need-add-from-2 (place-members-claims t) (place-members-at t) place-members.Post place-members-Inv-loop
+    place-members-μ-loop
+place-members-add-from-2 t c =
+    let X = at-started t (c .before .before .before .before .before .before .before .before .before .before .before .before .before .before .before .before .before) in
+    let l = found-low X _ (at-item t (c .before .before .before .before .before .before .before .before .before .before .before .before) X) _ _ (c .before .before .before .before .search .ensures .0) (rw (c .before .before .x .given .1) at (at-sought t (c .before .before .before .before))) in
+    omega (arith, l, X .given .short)
+
+place-members-put-way-requires : (t : ℕ) → place-members-lts.Need-put-way-requires (place-members-claims t) (place-members-at t) place-members.Post place-members-Inv-loop
+    place-members-μ-loop
+place-members-put-way-requires t c κs =
+    let X = at-started t (c .before .before .before .before .before .before .before .before .before .before .before .before .before .before .before .before .before .before .before) in
+    let F = rw (c .before .before .before .before .x .given .1) at (at-sought t (c .before .before .before .before .before .before)) in
+    let C = at-item t (c .before .before .before .before .before .before .before .before .before .before .before .before .before .before) X in
+    let w = c .before .before .before .before .before .before .search .ensures .0 in
+    (omega (arith, found-deep X _ C _ _ w F, w), w, found-room X _ C _ _ w F)
+
+place-members-put-absent-requires-2 : (t : ℕ) → place-members-lts.Need-put-absent-requires-2 (place-members-claims t) (place-members-at t) place-members.Post place-members-Inv-loop
+    place-members-μ-loop
+place-members-put-absent-requires-2 t c κs = at-picked t (c .before .before .before) (at-started t (c .before .before .before .before .before .before .before .before .before .before .before .before .before .before .before .before .before)) .1 (sym (c .before .before .has-members .ensures) ∙ c .before .if8 .taken)
+
+-- the part at hand, if the item begins it with one octet
+at-fits : (t : ℕ) (c : place-members-lts.Joined6 (place-members-claims t) (place-members-at t) place-members.Post place-members-Inv-loop
+    place-members-μ-loop) → c .if6 .fits ≡ true →
+    let a = c .before .before .before .before .before .before .before .before .before .before .before .before .before .before .before .before .before .args in
+    (c .before .before .before .if2 .j < c .before .before .before .before .before .before .before .before .before .before .before .before .parts .result .count) × (c .if6 .«record» ≡ getD (now (a .table)) (c .before .before .before .before .before .before .before .before .before .before .before .before .parts .result .first + c .before .before .before .if2 .j * c .before .before .before .before .before .before .before .before .before .before .before .before .parts .result .step) 0)
+    × (getD (now (a .m)) (c .before .before .before .if2 .at) 0 ≡ unpacked (getD (now (a .index)) (c .if6 .«record») 0) .code)
+at-fits t c z =
+    ⊎-elim
+    (λ x. (x .0 .taken, x .8 ∙ x .4 .ensures .0, rw (x .8) (sym (eqb-true _ _ (sym (x .9) ∙ z)) ∙ x .6 .ensures)))
+    (λ x. absurd (false≢true (sym (x .2) ∙ z)))
+    (c .if6 .came)
+
+-- the record that the item begins
+at-chosen : (t : ℕ) (c : place-members-lts.Joined7 (place-members-claims t) (place-members-at t) place-members.Post place-members-Inv-loop
+    place-members-μ-loop) {first : List ℕ} (X : Starts t (c .before .before .before .before .before .before .before .before .before) first) →
+    Chosen X (c .before .before .before .before .before .before .loop .count) (c .before .before .before .before .if2 .j) (c .if7 .buf) (c .before .before .before .before .if2 .at) (c .if7 .next) (c .if7 .place) (c .if7 .«record») (c .if7 .from)
+at-chosen t c X =
+    ⊎-elim
+    (λ x.
+    let h = sym (x .6 .ensures) ∙ x .7 .taken in
+    rw (x .14, x .15, x .16, x .17) (at-picked t (record {
+      before = record {
+        before = record { before = record { before = record { before = record { before = c .before; if7 = x .0 }; rest = x .1 }; none = x .2 }; search-arg = x .3 };
+        search = x .4;
+      };
+      match = x .5;
+    }) X .2 _ (λ z. x .12 ∙ x .9 .ensures) (λ z. absurd (true≢false (sym h ∙ z)))))
+    (⊎-elim
+    (λ x.
+    let h = sym (x .6 .ensures) ∙ x .7 .left in
+    rw (x .10, x .11, x .12, x .13) (at-picked t (record {
+      before = record {
+        before = record { before = record { before = record { before = record { before = c .before; if7 = x .0 }; rest = x .1 }; none = x .2 }; search-arg = x .3 };
+        search = x .4;
+      };
+      match = x .5;
+    }) X .2 _ (λ z. absurd (true≢false (sym z ∙ h))) (λ z. x .8)))
+    λ x.
+    let f = at-fits t (c .before) (not-false _ (x .0 .left)) in
+    rw (x .1, x .3, x .4, x .5, x .6) (chosen-here X _ (at-item t (c .before .before .before .before) X) (f .0) _ (f .1) _ (f .2) refl))
+    (c .if7 .came)
 
 pub +place-members+place-value-spec : {M : Type 1} → statement M
 +place-members+place-value-spec = close μ-place-members μ-place-value (λ t. place-members-lts.spec (place-members-claims t)
@@ -435,10 +498,10 @@ pub +place-members+place-value-spec : {M : Type 1} → statement M
     (place-members-search-requires t) -- place-members-search-requires
     (place-members-enum-told t) -- place-members-enum-told
     (place-members-enum-known-x t) -- place-members-enum-known-x
-    (λ c. ?) -- place-members-add-from-2
-    (λ c κs. ?) -- place-members-put-way-requires
+    (place-members-add-from-2 t) -- place-members-add-from-2
+    (place-members-put-way-requires t) -- place-members-put-way-requires
     (place-members-has-members-requires t) -- place-members-has-members-requires
-    (λ c κs. ?) -- place-members-put-absent-requires-2
+    (place-members-put-absent-requires-2 t) -- place-members-put-absent-requires-2
     (λ c κs. ?) -- place-members-put-place-requires
     (λ c. ?) -- place-members-add-j
     (λ c. ?) -- place-members-mul-place-value
