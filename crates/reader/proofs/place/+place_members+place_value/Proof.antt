@@ -22,6 +22,7 @@ use Rattle.reader.specs.Placing.{hasMembers, Spotted}
 use Rattle.reader.proofs.PlacedMembers.{Given, Started, State, its-few, begin-room, no-members, state-first}
 use Rattle.reader.proofs.PlacedMembers.{set-low, set-room, set-over, set-came, set-comes, other-low, finish-room, other-over, other-comes, one-comes}
 use Rattle.reader.proofs.PlacedMembers.{Coming, sound, coming-low, part-near, part-low, Chosen, chosen-here, Picked, picked, found-some, found-deep, found-room, found-low}
+use Rattle.reader.proofs.PlacedMembers.{state-count, chosen-node, chosen-onward, chosen-asks, chosen-one, chosen-fewer, chosen-next}
 use borrow.Fn.Kinds.{In}
 use borrow.Fn.PlainCycle.{Measures, is, falls, and}
 use Rattle.reader.proofs.place.place_members.Reads as place-members
@@ -458,6 +459,95 @@ at-chosen t c X =
     rw (x .1, x .3, x .4, x .5, x .6) (chosen-here X _ (at-item t (c .before .before .before .before) X) (f .0) _ (f .1) _ (f .2) refl))
     (c .if7 .came)
 
+-- lengths stay
+at-grown : (t : ℕ) (c : place-members-lts.Joined7 (place-members-claims t) (place-members-at t) place-members.Post place-members-Inv-loop
+    place-members-μ-loop) → (length (c .if7 .buf) ≡ length (c .before .before .before .before .before .before .loop .buf)) × (length (c .if7 .way) ≡ 128)
+at-grown t c =
+    let X = at-started t (c .before .before .before .before .before .before .before .before .before) in
+    let l = at-turn t (c .before .before .before .before) .0 in
+    ⊎-elim
+    (λ x. (ap length (x .12) ∙ x .9 .kept .0 ∙ at-picked t (record {
+      before = record {
+        before = record { before = record { before = record { before = record { before = c .before; if7 = x .0 }; rest = x .1 }; none = x .2 }; search-arg = x .3 };
+        search = x .4;
+      };
+      match = x .5;
+    }) X .0 ∙ l, rw (x .13) (x .4 .ensures .0)))
+    (⊎-elim
+    (λ x. (ap length (x .8) ∙ at-picked t (record {
+      before = record {
+        before = record { before = record { before = record { before = record { before = c .before; if7 = x .0 }; rest = x .1 }; none = x .2 }; search-arg = x .3 };
+        search = x .4;
+      };
+      match = x .5;
+    }) X .0 ∙ l, rw (x .9) (x .4 .ensures .0)))
+    λ x. (ap length (x .1) ∙ l, rw (x .2) (c .before .before .before .before .before .before .loop .inv .0)))
+    (c .if7 .came)
+
+place-members-put-place-requires : (t : ℕ) → place-members-lts.Need-put-place-requires (place-members-claims t) (place-members-at t) place-members.Post place-members-Inv-loop
+    place-members-μ-loop
+place-members-put-place-requires t c κs = chosen-node (at-started t (c .before .before .before .before .before .before .before .before .before .before)) _ (at-chosen t (c .before) (at-started t (c .before .before .before .before .before .before .before .before .before .before)))
+
+place-members-add-j : (t : ℕ) → place-members-lts.Need-add-j (place-members-claims t) (place-members-at t) place-members.Post place-members-Inv-loop
+    place-members-μ-loop
+place-members-add-j t c =
+    let X = at-started t (c .before .before .before .before .before .before .before .before .before .before .before .before .before .before .before) in
+    omega (arith, chosen-onward X _ (at-chosen t (c .before .before .before .before .before .before) X))
+
+place-members-mul-place-value : (t : ℕ) → place-members-lts.Need-mul-place-value (place-members-claims t) (place-members-at t) place-members.Post place-members-Inv-loop
+    place-members-μ-loop
+place-members-mul-place-value t c =
+    let X = at-started t (c .before .before .before .before .before .before .before .before .before .before .before .before .before .before .before .before) in
+    omega (arith, at-chosen t (c .before .before .before .before .before .before .before) X .low, X .given .ready .passes .few)
+
+place-members-element-copy-out-place-value : (t : ℕ) → place-members-lts.Need-element-copy-out-place-value (place-members-claims t) (place-members-at t) place-members.Post place-members-Inv-loop
+    place-members-μ-loop
+place-members-element-copy-out-place-value t c =
+    let X = at-started t (c .before .before .before .before .before .before .before .before .before .before .before .before .before .before .before .before) in
+    omega (arith, at-chosen t (c .before .before .before .before .before .before .before) X .low, X .given .ready .passes .few)
+
+place-members-place-value-requires : (t : ℕ) → place-members-lts.Need-place-value-requires (place-members-claims t) (place-members-at t) place-members.Post place-members-Inv-loop
+    place-members-μ-loop
+place-members-place-value-requires t c κs =
+    let X = at-started t (c .before .before .before .before .before .before .before .before .before .before .before .before .before .before .before .before .before .before .before) in
+    (omega (arith, c .before .before .before .before .before .before .before .before .before .before .before .before .before .before .before .before .before .before .before .before .before .before .before .before .before .before .before .before .pre .0), chosen-asks X _ (at-chosen t (c .before .before .before .before .before .before .before .before .before .before) X) (c .before .before .before .before .before .before .before .before .put-place .ensures) _ (at-grown t (c .before .before .before .before .before .before .before .before .before .before) .1))
+
+place-members-add-count : (t : ℕ) → place-members-lts.Need-add-count (place-members-claims t) (place-members-at t) place-members.Post place-members-Inv-loop
+    place-members-μ-loop
+place-members-add-count t c =
+    let X = at-started t (c .before .before .before .before .before .before .before .before .before .before .before .before .before .before .before .before .before .before .before .before .before .before) in
+    omega (arith, state-count X (c .before .before .before .before .before .before .before .before .before .before .before .before .before .before .before .before .before .before .before .loop .inv .2 _ X))
+
+place-members-holds-one-requires-2 : (t : ℕ) → place-members-lts.Need-holds-one-requires-2 (place-members-claims t) (place-members-at t) place-members.Post place-members-Inv-loop
+    place-members-μ-loop
+place-members-holds-one-requires-2 t c κs = tt
+
+place-members-same-length-3 : (t : ℕ) → place-members-lts.Need-same-length-3 (place-members-claims t) (place-members-at t) place-members.Post place-members-Inv-loop
+    place-members-μ-loop
+place-members-same-length-3 t c =
+    c .before .before .before .before .place-value .kept .1 .1 .1 .1 .1 .1 .0 ∙ c .before .before .before .before .before .before .before .before .before .before .before .before .before .put-place .kept .1 .1 .0 ∙ at-grown t (c .before .before .before .before .before .before .before .before .before .before .before .before .before .before .before) .0 ∙ c .before .before .before .before .before .before .before .before .before .before .before .before .before .before .before .before .before .before .before .before .before .loop .inv .1 ∙ c .before .before .before .before .before .before .before .before .before .before .before .before .before .before .before .before .before .before .before .before .before .before .before .before .begin .kept .1 .1 .0
+
+place-members-returns-3 : (t : ℕ) → place-members-lts.Need-returns-3 (place-members-claims t) (place-members-at t) place-members.Post place-members-Inv-loop
+    place-members-μ-loop
+place-members-returns-3 t c =
+    let X = at-started t (c .before .before .before .before .before .before .before .before .before .before .before .before .before .before .before .before .before .before .before .before .before .before .before .before) in
+    (c .before .before .before .before .place-value .ensures .0, chosen-one X _ (at-chosen t (c .before .before .before .before .before .before .before .before .before .before .before .before .before .before .before) X) (c .before .before .before .before .before .before .before .before .before .before .before .before .before .put-place .ensures) (c .before .before .before .before .place-value .ensures .1) _ (c .before .holds-one2 .ensures) (c .if9 .taken))
+
+place-members-loop-less : (t : ℕ) → place-members-lts.Need-loop-less (place-members-claims t) (place-members-at t) place-members.Post place-members-Inv-loop
+    place-members-μ-loop
+place-members-loop-less t c =
+    let X = at-started t (c .before .before .before .before .before .before .before .before .before .before .before .before .before .before .before .before .before .before .before .before .before .before .before .before) in
+    let l = at-turn t (c .before .before .before .before .before .before .before .before .before .before .before .before .before .before .before .before .before .before .before) in
+    chosen-fewer X _ (at-chosen t (c .before .before .before .before .before .before .before .before .before .before .before .before .before .before .before) X) (c .before .before .before .before .before .before .before .before .before .before .before .before .before .put-place .ensures) (c .before .before .before .before .place-value .ensures .1) _ _ (l .1) (l .2)
+
+place-members-loop-again : (t : ℕ) → place-members-lts.Need-loop-again (place-members-claims t) (place-members-at t) place-members.Post place-members-Inv-loop
+    place-members-μ-loop
+place-members-loop-again t c = (
+  c .before .before .before .before .place-value .ensures .0,
+  c .before .before .before .before .place-value .kept .1 .1 .1 .1 .1 .1 .0 ∙ c .before .before .before .before .before .before .before .before .before .before .before .before .before .put-place .kept .1 .1 .0 ∙ at-grown t (c .before .before .before .before .before .before .before .before .before .before .before .before .before .before .before) .0 ∙ c .before .before .before .before .before .before .before .before .before .before .before .before .before .before .before .before .before .before .before .before .before .loop .inv .1,
+  λ first X. chosen-next X _ (at-chosen t (c .before .before .before .before .before .before .before .before .before .before .before .before .before .before .before) X) (c .before .before .before .before .before .before .before .before .before .before .before .before .before .put-place .ensures) (c .before .before .before .before .place-value .ensures .1) _ (c .before .holds-one2 .ensures) (c .if9 .left),
+)
+
 pub +place-members+place-value-spec : {M : Type 1} → statement M
 +place-members+place-value-spec = close μ-place-members μ-place-value (λ t. place-members-lts.spec (place-members-claims t)
     (place-members-at t)
@@ -502,17 +592,17 @@ pub +place-members+place-value-spec : {M : Type 1} → statement M
     (place-members-put-way-requires t) -- place-members-put-way-requires
     (place-members-has-members-requires t) -- place-members-has-members-requires
     (place-members-put-absent-requires-2 t) -- place-members-put-absent-requires-2
-    (λ c κs. ?) -- place-members-put-place-requires
-    (λ c. ?) -- place-members-add-j
-    (λ c. ?) -- place-members-mul-place-value
-    (λ c. ?) -- place-members-element-copy-out-place-value
-    (λ c κs. ?) -- place-members-place-value-requires
-    (λ c. ?) -- place-members-add-count
-    (λ c κs. ?) -- place-members-holds-one-requires-2
-    (λ c. ?) -- place-members-same-length-3
-    (λ c. ?) -- place-members-returns-3
-    (λ c. ?) -- place-members-loop-less
-    (λ c. ?)) -- place-members-loop-again
+    (place-members-put-place-requires t) -- place-members-put-place-requires
+    (place-members-add-j t) -- place-members-add-j
+    (place-members-mul-place-value t) -- place-members-mul-place-value
+    (place-members-element-copy-out-place-value t) -- place-members-element-copy-out-place-value
+    (place-members-place-value-requires t) -- place-members-place-value-requires
+    (place-members-add-count t) -- place-members-add-count
+    (place-members-holds-one-requires-2 t) -- place-members-holds-one-requires-2
+    (place-members-same-length-3 t) -- place-members-same-length-3
+    (place-members-returns-3 t) -- place-members-returns-3
+    (place-members-loop-less t) -- place-members-loop-less
+    (place-members-loop-again t)) -- place-members-loop-again
     λ t. place-value-lts.spec (
       unpack-reads.Asked,
       unpack-reads.Learnt,
