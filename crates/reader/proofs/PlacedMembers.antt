@@ -1,22 +1,22 @@
 -- The placing of the items in an entry's contents: what is known before its loop, and one law for each way through it.
 -- Assumes nothing.
-use mathlib.Core.Bool.{Bool, true, false, not, _||_, _&&_, true≢false, false≢true}
-use mathlib.Core.List.{List, [], _∷_, _++_}
+use mathlib.Core.Bool.{Bool, true, false, not, _||_, _&&_, true≢false}
+use mathlib.Core.List.{List, [], _∷_}
 use mathlib.Core.Option.{Option, some, none}
 use mathlib.Core.Path.{_≡_, refl, sym, ap, _∙_}
-use Prim.Native.Nat.{ℕ, zero, suc, _+_, _-_, _*_, _/_, _%_, _≤_, _<_}
+use Prim.Native.Nat.{ℕ, suc, _+_, _-_, _*_, _/_, _%_, _≤_, _<_}
 use native.Mathlib.Omega.{arith}
 use native.Mathlib.Nat.{mul-comm}
 use native.Mathlib.Numerals.{add-one}
-use borrow.Author.Tests.{eq-eqb, ne-eqb, eqb-true, eqb-false, lt-ltb, ltb-true, ltb-false}
+use borrow.Author.Tests.{eq-eqb, eqb-true, eqb-false, lt-ltb, ltb-true, ltb-false}
 use lib.Dec.{eqb, ltb}
-use lib.ListN.{length, getD, take, drop, replicate, length-append, length-drop, length-map}
+use lib.ListN.{length, getD, take, drop, length-append, length-drop, length-map}
 use lib.Seq.{sets, length-sets, length-take-le, drop-drop, drop-cons, getD-drop}
 use Rattle.octets.specs.Answer.{Answer, got, refused, then, if, none-left}
 use Rattle.octets.specs.Numbers.{Octets}
 use Rattle.octets.proofs.Answer.{refused≢got, got-value, got-rest, got-holds}
-use Rattle.octets.proofs.Tests.{test, or-by, or-false}
-use Rattle.ber.specs.Codes.{code, codeOf}
+use Rattle.octets.proofs.Tests.{test}
+use Rattle.ber.specs.Codes.{codeOf}
 use Rattle.ber.specs.Reading.{readIdentifier}
 use Rattle.ber.specs.Told.{mode}
 use Rattle.ber.proofs.Codes.{code-short, code-long, read-code-small}
@@ -35,13 +35,14 @@ use Rattle.coding.proofs.Refusals.{value-shorter}
 use Rattle.reader.specs.Codes.{firstOf, untagged, peeked, hit}
 use Rattle.reader.specs.Items.{Holder, inside, message, manner, partsOf, Placed, since, Hand, next as nextPart, readItems, filled, assemble}
 use Rattle.reader.specs.Items.{optionals, nodeSize, blank, readHeld}
-use Rattle.reader.specs.Records.{Ready, Known, of-record, of-message, holderIn, recordIn, readRecord, Finds}
+use Rattle.reader.specs.Records.{Ready, Known, of-record, of-message, holderIn, readRecord}
 use Rattle.reader.specs.Sought.{held, Sound, Sought, tabledCount}
 use Rattle.reader.specs.Ways.{wrapped}
 use Rattle.reader.specs.declared.search.Choice.{Choice as Choice-found}
 use Rattle.reader.specs.declared.search.Found.the-variants.{Part}
 use Rattle.reader.specs.declared.place.Placed.{Placed as Spot}
-use Rattle.reader.specs.Placing.{kindOf, countOf, hasMembers, isList, holdsOne, onward, nodeOf, openingOf, absentIn, finishedIn, notedIn, said, flags, wayOctets, endAt, Spotted}
+use Rattle.reader.specs.Placing.{kindOf, countOf, hasMembers, isList, holdsOne, onward, nodeOf, openingOf, absentIn, finishedIn, notedIn, said}
+use Rattle.reader.specs.Placing.{flags, wayOctets, endAt, Spotted}
 use Rattle.reader.specs.Placed.{Fits, Final, IsPlaced, heldIn, valueIn, ToPlaceValue, Following}
 use Rattle.reader.specs.Wraps.{Headed}
 use Rattle.reader.proofs.Begun.{Fit, fit, nested-all}
@@ -55,7 +56,8 @@ use Rattle.reader.proofs.Finding.{good-held}
 use Rattle.reader.proofs.ItemsKinds.{blank-clear}
 use Rattle.reader.proofs.PlacedNodes.{slots-flags, nothing-is, row-length, members-size, opening-is, node-is}
 use Rattle.reader.proofs.PlacedTurns.{overAt}
-use Rattle.reader.proofs.PlacedLoop.{Loop, Comes, Goes, Ready as Prepared, ready-here, ready-found, ready-node, ready-room, ready-placed, ready-further}
+use Rattle.reader.proofs.PlacedLoop.{Loop, Comes, Goes, Ready as Prepared, ready-here, ready-found, ready-node, ready-room, ready-placed}
+use Rattle.reader.proofs.PlacedLoop.{ready-further}
 use Rattle.reader.proofs.PlacedLoop.{loop-first, arriving-comes, arriving-over, sorted-comes, sorted-end}
 use Rattle.reader.proofs.PlacedTurns.{Placing}
 use Rattle.reader.proofs.PlacedSets.{Filling, filling-skip}
@@ -277,7 +279,8 @@ module _ {b index : List ℕ} {w : ℕ} {m : List ℕ} {marked : Bool} {first : 
   its-room = rw (items .value) (G .fits .room)
 
   -- the node has room
-  pub begin-room : (s .count < 256) × (to + length (openingOf (e .kind) (s .count)) ≤ length first) × (to + nodeOf (e .kind) (s .count) ≤ length first)
+  pub begin-room : (s .count < 256) × (to + length (openingOf (e .kind) (s .count)) ≤ length first)
+      × (to + nodeOf (e .kind) (s .count) ≤ length first)
   begin-room =
       let l = node-fits H (items .all) its-some in
       (omega (arith, its-few), rw its-opening (omega (arith, said-long H, its-room)), rw its-node (omega (arith, its-room)))
@@ -296,8 +299,8 @@ module _ {b index : List ℕ} {w : ℕ} {m : List ℕ} {marked : Bool} {first : 
       let y : G .fits .rest ≡ rest = got-rest q in
       rw (x, y) at F
 
-module _ {b index : List ℕ} {w : ℕ} {m : List ℕ} {marked : Bool} {first : List ℕ} {to : ℕ} {e : Entry} {s : Span} {ns : List ℕ} {last : ℕ} {opened : List ℕ}
-    (X : Started b index w m marked first to e s ns last opened) where
+module _ {b index : List ℕ} {w : ℕ} {m : List ℕ} {marked : Bool} {first : List ℕ} {to : ℕ} {e : Entry} {s : Span} {ns : List ℕ} {last : ℕ}
+    {opened : List ℕ} (X : Started b index w m marked first to e s ns last opened) where
   abbrev S-holder : Holder
   S-holder = held b w
 
@@ -349,7 +352,8 @@ module _ {b index : List ℕ} {w : ℕ} {m : List ℕ} {marked : Bool} {first : 
         pub set-over : k ≡ s .count → (v : Value) (rest : List ℕ) → heldIn b (held b w) marked m ≡ got v rest → Final v rest m first to buf₁ last next
         set-over q =
             let G = X .given in
-            placed G (rw (its-set .1) (sorted-end marked its-skipped (q ∙ set-count) (rw (its-set .1) at (items G .read)) (X .spotted (its-set .0) (its-set .1))))
+            let W = rw (its-set .1) at (items G .read) in
+            placed G (rw (its-set .1) (sorted-end marked its-skipped (q ∙ set-count) W (X .spotted (its-set .0) (its-set .1))))
 
         pub set-comes : (k ≡ s .count → ⊥) → Coming count buf₁ (getD ns k 0 - 1) next k
         set-comes q =
@@ -395,7 +399,8 @@ module _ {b index : List ℕ} {w : ℕ} {m : List ℕ} {marked : Bool} {first : 
       over-is o q = q ∙ ap (λ (x : ℕ). none-left (drop at m) || (marked && eqb x 0)) (sym (first-at m at))
 
       -- contents are over
-      module _ (h : Bool) (eh : h ≡ holdsOne (e .kind)) (no : h ≡ false) (o : Bool) (eo : o ≡ (none-left (drop at m) || (marked && eqb (getD m at 0) 0))) where
+      module _ (h : Bool) (eh : h ≡ holdsOne (e .kind)) (no : h ≡ false) (o : Bool)
+          (eo : o ≡ (none-left (drop at m) || (marked && eqb (getD m at 0) 0))) where
         not-one : holdsOne (kindOf (held b w)) ≡ false
         not-one = ap holdsOne (sym (its-kind (X .given))) ∙ sym eh ∙ no
 
@@ -463,16 +468,17 @@ module _ {b index : List ℕ} (R : Ready b index) where
   begins-so s i u o e t q =
       code-tells s i u o e t ∙ ap hit (search-itself (tableIn b) s (codeOf i) (code-tells s i u o e) t (eq-eqb (firstOf (tableIn b t)) (codeOf i) q))
 
-  record-read : (u : ℕ) → u < countIn b → (s : List ℕ) (v : Value) (w : List ℕ) → readValue (tableIn b) 24 u s ≡ got v w → valueIn b (getD index u 0) s ≡ got v w
+  record-read : (u : ℕ) → u < countIn b → (s : List ℕ) (v : Value) (w : List ℕ) → readValue (tableIn b) 24 u s ≡ got v w
+      → valueIn b (getD index u 0) s ≡ got v w
   unfolding readRecord readValue
   record-read u l s v w e = rw (record-is (R .filled .entered u l)) (kept-got (value-kept (tableIn b) 24 25 u s (omega arith)) e)
 
-module _ {b index : List ℕ} {w : ℕ} {m : List ℕ} {marked : Bool} {first : List ℕ} {to : ℕ} {e : Entry} {s : Span} {ns : List ℕ} {last : ℕ} {opened : List ℕ}
-    (X : Started b index w m marked first to e s ns last opened) (count : ℕ) where
+module _ {b index : List ℕ} {w : ℕ} {m : List ℕ} {marked : Bool} {first : List ℕ} {to : ℕ} {e : Entry} {s : Span} {ns : List ℕ} {last : ℕ}
+    {opened : List ℕ} (X : Started b index w m marked first to e s ns last opened) (count : ℕ) where
   -- the record that the item begins, on a way from the part at `place`; its first identifier ends at `from`
   pub record Chosen (j : ℕ) (buf : List ℕ) (at next place u from : ℕ) : Type 0 where
-    pub prepared : Prepared (tableIn b) 24 (held b w) m first to (Goes (tableIn b) 24 (held b w) marked m (items (X .given) .all) (X .given .fits .rest) ns first to count)
-        buf at next place u
+    pub prepared : Prepared (tableIn b) 24 (held b w) m first to
+        (Goes (tableIn b) 24 (held b w) marked m (items (X .given) .all) (X .given .fits .rest) ns first to count) buf at next place u
     pub least : j ≤ place
     pub low : u < countIn b
     pub tagged : firstOf (tableIn b u) ≡ untagged → ⊥
@@ -522,11 +528,20 @@ module _ {b index : List ℕ} {w : ℕ} {m : List ℕ} {marked : Bool} {first : 
               least = omega arith;
               low = part-low;
               tagged = λ z. omega (arith, G .octets at, its-code);
-              headed = record { identifier = getD m at 0 ∷ []; is = its-octet; coded = sym its-code; further = omega arith; low = omega (arith, coming-low) };
+              headed = record {
+                identifier = getD m at 0 ∷ [];
+                is = its-octet;
+                coded = sym its-code;
+                further = omega arith;
+                low = omega (arith, coming-low);
+              };
             }
 
     -- the part that the search found
-    module _ (x : Choice-found) (way : List ℕ) (ways : length way ≡ 128) (F : Sought b (held b w) (since (manner (held b w)) j) blank (drop at m) way (Part x)) where
+    abbrev pub Finds-part : Choice-found → List ℕ → Type 0
+    Finds-part x way = Sought b (held b w) (since (manner (held b w)) j) blank (drop at m) way (Part x)
+
+    module _ (x : Choice-found) (way : List ℕ) (ways : length way ≡ 128) (F : Finds-part x way) where
       abbrev its-member : Member
       its-member = F .0
 
@@ -541,6 +556,9 @@ module _ {b index : List ℕ} {w : ℕ} {m : List ℕ} {marked : Bool} {first : 
 
       found-code : codeOf (F .1) < untagged
       found-code = omega (arith, read-code-small (drop at m) (F .1) (drop (x .from) (drop at m)) (octets-from m at (X .given .octets)) (F .3))
+
+      found-tag : codeOf (F .1) ≡ untagged → ⊥
+      found-tag z = omega (arith, found-code)
 
       found-read : readValue (tableIn b) 24 (its-member .type) (drop at m) ≡ got (C .value) (C .behind)
       found-read = rw its-part at (C .read)
@@ -557,19 +575,19 @@ module _ {b index : List ℕ} {w : ℕ} {m : List ℕ} {marked : Bool} {first : 
       pub found-deep : x .depth ≤ 24
       found-deep =
           test (ltb 24 (x .depth))
-          (λ q. refused≢got (sym (way-level (tableIn b) its-fit its-nested (codeOf (F .1)) (λ z. omega (arith, found-code)) (drop at m) found-tells (F .6 .1) (F .6 .2)
+          (λ q. refused≢got (sym (way-level (tableIn b) its-fit its-nested (codeOf (F .1)) found-tag (drop at m) found-tells (F .6 .1) (F .6 .2)
           24 (omega (arith, ltb-true 24 (x .depth) q))) ∙ found-read))
           λ q. ltb-false 24 (x .depth) q
 
       found-value : readValue (tableIn b) 24 (its-member .type) (drop at m)
           ≡ then (readValue (tableIn b) (24 - x .depth) (x .record) (drop at m)) λ v s₁. got (wrapped way (x .depth) v) s₁
       found-value =
-          way-value (tableIn b) its-fit its-nested (codeOf (F .1)) (λ z. omega (arith, found-code)) (drop at m) found-tells (F .6 .1) (F .6 .2) 24 found-deep
+          way-value (tableIn b) its-fit its-nested (codeOf (F .1)) found-tag (drop at m) found-tells (F .6 .1) (F .6 .2) 24 found-deep
 
       pub found-room : next + 4 * x .depth ≤ length buf
       found-room =
-          let I = inner-under (tableIn b) 24 (its-member .type) (drop at m) way (x .depth) (x .record) (C .value) (C .behind) (omega (arith, found-deep))
-          found-value found-read in
+          let I = inner-under (tableIn b) 24 (its-member .type) (drop at m) way (x .depth) (x .record) (C .value) (C .behind)
+          (omega (arith, found-deep)) found-value found-read in
           let z = way-length (take (x .depth) way) ∙ ap (λ (k : ℕ). 4 * k) (length-take-le (x .depth) way (omega (arith, found-deep))) in
           omega (arith, C .room, ap length (I .octets), length-append (wayOctets (take (x .depth) way)) (octets (I .value)))
 
@@ -598,11 +616,11 @@ module _ {b index : List ℕ} {w : ℕ} {m : List ℕ} {marked : Bool} {first : 
             low = F .6 .3;
             tagged = λ z. omega (arith, found-code, g);
             headed = record {
-                identifier = F .1;
-                is = F .3 ∙ ap (got (F .1)) (drop-drop (x .from) at m);
-                coded = sym g;
-                further = omega (arith, F .4);
-                low = found-low;
+              identifier = F .1;
+              is = F .3 ∙ ap (got (F .1)) (drop-drop (x .from) at m);
+              coded = sym g;
+              further = omega (arith, F .4);
+              low = found-low;
             };
           })
 
@@ -626,7 +644,7 @@ module _ {b index : List ℕ} {w : ℕ} {m : List ℕ} {marked : Bool} {first : 
         let z = members-size (held b w) (rw (its-kind (X .given)) at c) in
         omega (arith, C .room, C .stands .reaches)
 
-    pub picked : (x : Choice-found) (way : List ℕ) → length way ≡ 128 → Sought b (held b w) (since (manner (held b w)) j) blank (drop at m) way (Part x)
+    pub picked : (x : Choice-found) (way : List ℕ) → length way ≡ 128 → Finds-part x way
         → {buf₁ : List ℕ} {next₁ place u from : ℕ} → buf₁ ≡ sets buf next (wayOctets (take (x .depth) way)) → next₁ ≡ next + 4 * x .depth
         → place ≡ x .place → u ≡ x .record → from ≡ at + x .from → Picked buf₁ next₁ place u from
     picked x way ways F {buf₁} e₁ en ep eu ef =
@@ -675,7 +693,12 @@ module _ {b index : List ℕ} {w : ℕ} {m : List ℕ} {marked : Bool} {first : 
             short = G .short;
             headed = rw (record-code (G .ready) u (R .low)) (R .headed);
             ways = ways;
-            fits = record { value = R .prepared .inner .value; rest = R .prepared .behind; is = its-value; room = ready-room (R .prepared) its-noted };
+            fits = record {
+              value = R .prepared .inner .value;
+              rest = R .prepared .behind;
+              is = its-value;
+              room = ready-room (R .prepared) its-noted;
+            };
           }
 
       -- and was

@@ -65,7 +65,7 @@ module _ {b index : List ℕ} (R : Ready b index) where
       test (ltb (m .type) (countIn b)) (λ z. ltb-true (m .type) (countIn b) z)
       λ z. absurd (R .passes .there t h (record { number = m .type; named = rw (named-types y) at i; beyond = ltb-false (m .type) (countIn b) z }))
 
-  pub part-low : (w : ℕ) → Known b index w → (k : ℕ) (m : Member) (l : List Member) → drop k (partsOf (held b w)) ≡ m ∷ l → m .type < countIn b
+  part-low : (w : ℕ) → Known b index w → (k : ℕ) (m : Member) (l : List Member) → drop k (partsOf (held b w)) ≡ m ∷ l → m .type < countIn b
   unfolding holderIn if partsOf
   part-low w (of-record t h q) k m l e =
       let x = R .filled .entered t h in
