@@ -34,3 +34,4 @@ pub mod LeafKinds
 pub mod Locating
 pub mod Outcomes
 pub mod PlacedValue
+pub mod PlacedMembers
