@@ -33,3 +33,5 @@ pub mod LeafStores
 pub mod LeafKinds
 pub mod Locating
 pub mod Outcomes
+pub mod PlacedValue
+pub mod PlacedMembers

@@ -1,5 +1,31 @@
+-- `reader::place::place_members` and `reader::place::place_value` meet their contracts. Members hand the octets on as they are, and a value
+-- hands on fewer. The invariant of the loop: for each buffer from which the node was begun, what `State` says of the items so far.
+-- Assumes nothing.
 use borrow.Author.Needs.{needs}
-use Prim.Native.Nat.{ℕ, _<_}
+use borrow.Author.Tests.{not-true, not-false, eqb-true}
+use borrow.Rule.Slice.PartAt.{part-to-end}
+use denote.Ref.{now}
+use mathlib.Core.Bool.{true, true≢false, false≢true}
+use mathlib.Core.List.{List}
+use mathlib.Core.Logic.{⊎-elim}
+use mathlib.Core.Path.{_≡_, refl, sym, ap, _∙_}
+use Prim.Native.Nat.{ℕ, _+_, _-_, _*_, _<_, _≤_}
+use native.Mathlib.Omega.{arith}
+use lib.Dec.{eqb}
+use lib.ListN.{length, getD, drop}
+use Rattle.octets.specs.Answer.{if}
+use Rattle.table.specs.Syntax.{Member, Set}
+use Rattle.table.specs.declared.entry.Entry.{Entry}
+use Rattle.table.specs.Entries.{unpacked, tableIn}
+use Rattle.reader.specs.Items.{inside, manner, since, blank}
+use Rattle.reader.specs.Sought.{held, Sought}
+use Rattle.reader.specs.Placing.{Spotted}
+use Rattle.reader.proofs.PlacedMembers.{Given, Started, State, its-few, begin-room, no-members, state-first}
+use Rattle.reader.proofs.PlacedMembers.{set-low, set-room, set-over, set-came, set-comes, other-low, finish-room, other-over, other-comes}
+use Rattle.reader.proofs.PlacedMembers.{one-comes}
+use Rattle.reader.proofs.PlacedMembers.{Coming, sound, coming-low, part-near, part-low, Chosen, chosen-here, Picked, picked, found-some}
+use Rattle.reader.proofs.PlacedMembers.{found-deep, found-room, found-low}
+use Rattle.reader.proofs.PlacedMembers.{state-count, chosen-node, chosen-onward, chosen-asks, chosen-one, chosen-fewer, chosen-next}
 use borrow.Fn.Kinds.{In}
 use borrow.Fn.PlainCycle.{Measures, is, falls, and}
 use Rattle.reader.proofs.place.place_members.Reads as place-members
@@ -30,12 +56,17 @@ use Rattle.table.proofs.kind.has_members.Reads as has-members-reads
 use Rattle.table.proofs.kind.holds_one.Reads as holds-one-reads
 use Rattle.reader.proofs.place.+place_members+place_value.{statement}
 use Rattle.reader.proofs.place.+place_members+place_value.Tie.{close}
+use lib.Seq.{length-take-le}
+use Rattle.reader.proofs.PlacedValue.{Under, Contents, Stored, under-as, contents-as, stored-as, under-none, must-open, under-open}
+use Rattle.reader.proofs.PlacedValue.{read-contents, choice-contents, part-less, part-high, leaf-asks, leaf-stored}
+use Rattle.reader.proofs.PlacedValue.{items-ask, items-end, items-stored}
+use Rattle.reader.proofs.PlacedValue.{stored-length, bare-placed, close-asks, must-close, closed-placed}
 
 abbrev μ-place-members : Measures 5 place-members-kinds.ps ℕ
-μ-place-members κs a = ?
+μ-place-members κs a = 2 * length (a .1 .1 .1 .0 .now) + 1
 
 abbrev μ-place-value : Measures 5 place-value-kinds.ps ℕ
-μ-place-value κs a = ?
+μ-place-value κs a = 2 * length (a .1 .1 .1 .0 .now)
 
 abbrev place-members-at : ℕ → In 5 place-members-kinds.ps
 place-members-at t =
@@ -59,14 +90,16 @@ place-value-below t =
 
 abbrev place-members-Inv-loop : place-members-lts.InvT-loop
 place-members-Inv-loop table index w m marked buf₀ to way₀ e s none began last next₀ at₀ j₀ count₀ buf way next at j count =
-    ?
+    (length way ≡ 128)
+    × (length buf ≡ length buf₀)
+    × ((first : List ℕ) (X : Started table index w m marked first to e s began last buf₀) → State X buf at next j count)
 
 abbrev place-members-μ-loop : place-members-lts.MeasureT-loop
 place-members-μ-loop table index w m marked buf₀ to way₀ e s none began last next₀ at₀ j₀ count₀ buf way next at j count =
-    ?
+    if (eqb (e .kind) 17) (s .count - j) λ _. length m - at
 
-pub +place-members+place-value-spec : {M : Type 1} → statement M
-+place-members+place-value-spec = close μ-place-members μ-place-value (λ t. place-members-lts.spec (
+abbrev place-members-claims : ℕ → place-members-lts.Claims
+place-members-claims t = (
   unpack-reads.Asked,
   unpack-reads.Learnt,
   parts-reads.Asked,
@@ -102,97 +135,813 @@ pub +place-members+place-value-spec : {M : Type 1} → statement M
   place-value-below t,
   place-value.Post,
 )
+
+place-members-unpack-requires : (t : ℕ) → place-members-lts.Need-unpack-requires (place-members-claims t) (place-members-at t)
+    place-members.Post place-members-Inv-loop place-members-μ-loop
+place-members-unpack-requires t c κs = tt
+
+place-members-parts-requires : (t : ℕ) → place-members-lts.Need-parts-requires (place-members-claims t) (place-members-at t)
+    place-members.Post place-members-Inv-loop place-members-μ-loop
+place-members-parts-requires t c κs = tt
+
+place-members-locate-requires : (t : ℕ) → place-members-lts.Need-locate-requires (place-members-claims t) (place-members-at t)
+    place-members.Post place-members-Inv-loop place-members-μ-loop
+place-members-locate-requires t c κs =
+    let p = c .before .before .before .before .before .before .before .before .before .pre .1 in
+    let k = ap (λ (e : Entry). e .kind) (c .before .before .before .before .before .unpack .ensures) in
+    (p .ready, p .known, sym k ∙ c .before .before .if1 .taken, p .short, refl, p .ways)
+
+-- what is required, once the parts are known
+at-given : (t : ℕ) (c : place-members-lts.After-parts (place-members-claims t) (place-members-at t)
+    place-members.Post place-members-Inv-loop place-members-μ-loop) →
+    let a = c .before .before .before .before .before .args in
+    Given (now (a .table)) (now (a .index)) (a .w) (now (a .m)) (a .marked) (now (a .buf)) (a .to) (c .before .unpack .result) (c .parts .result)
+at-given t c =
+    let p = c .before .before .before .before .before .pre .1 in
+    record {
+      ready = p .ready;
+      known = p .known;
+      holds = p .holds;
+      octets = λ k. omega (arith, c .before .before .before .shared-slice-known2 .given k);
+      short = p .short;
+      fits = p .fits;
+      entry = c .before .unpack .ensures;
+      span = c .parts .ensures;
+    }
+
+place-members-begin-requires : (t : ℕ) → place-members-lts.Need-begin-requires (place-members-claims t) (place-members-at t)
+    place-members.Post place-members-Inv-loop place-members-μ-loop
+place-members-begin-requires t c κs = begin-room (at-given t (c .before .before .before))
+
+-- where the members of a SET begin
+at-located : (t : ℕ) (c : place-members-lts.Joined1 (place-members-claims t) (place-members-at t)
+    place-members.Post place-members-Inv-loop place-members-μ-loop) →
+    let a = c .before .before .before .before .before .before .before .args in
+    (length (c .if1 .way) ≡ 128) × (length (c .if1 .began) ≡ 16)
+    × ((ms : List Member) → held (now (a .table)) (a .w) ≡ inside (Set ms) → Spotted (tableIn (now (a .table))) ms (a .marked) (now (a .m))
+    (c .if1 .began)
+    (c .if1 .last))
+at-located t c =
+    let p = c .before .before .before .before .before .before .before .pre .1 in
+    ⊎-elim
+    (λ x. (rw (x .4) (x .3 .ensures .1), rw (x .5) (x .3 .ensures .0), rw (x .5, x .6) (x .3 .ensures .2)))
+    (λ x. (rw (x .1) (p .ways), rw (x .2) refl, λ ms q. absurd (no-members (at-given t (c .before .before)) (x .0 .left) ms q)))
+    (c .if1 .came)
+
+-- what is known before the loop
+at-started : (t : ℕ) (c : place-members-lts.After-begin (place-members-claims t) (place-members-at t)
+    place-members.Post place-members-Inv-loop place-members-μ-loop) →
+    let a = c .before .before .before .before .before .before .before .before .before .args in
+    Started (now (a .table)) (now (a .index)) (a .w) (now (a .m)) (a .marked) (now (a .buf)) (a .to)
+    (c .before .before .before .before .before .unpack .result) (c .before .before .before .before .parts .result) (c .before .before .if1 .began)
+    (c .before .before .if1 .last)
+    (c .begin .last .1 .1 .0)
+at-started t c = record {
+  given = at-given t (c .before .before .before .before);
+  spotted = at-located t
+      (c .before .before) .2;
+  opening = c .begin .ensures .1;
+}
+
+abbrev Starts : (t : ℕ) → place-members-lts.After-begin (place-members-claims t) (place-members-at t)
+    place-members.Post place-members-Inv-loop place-members-μ-loop → List ℕ → Type 0
+Starts t c first = let a = c .before .before .before .before .before .before .before .before .before .args in
+    Started (now (a .table)) (now (a .index)) (a .w) (now (a .m)) (a .marked) first (a .to)
+    (c .before .before .before .before .before .unpack .result) (c .before .before .before .before .parts .result) (c .before .before .if1 .began)
+    (c .before .before .if1 .last)
+    (c .begin .last .1 .1 .0)
+
+place-members-loop-holds : (t : ℕ) → place-members-lts.Need-loop-holds (place-members-claims t) (place-members-at t)
+    place-members.Post place-members-Inv-loop place-members-μ-loop
+place-members-loop-holds t c = (
+  at-located t (c .before .before .before .before) .0,
+  refl,
+  λ first X. state-first X _
+      (c .before .before .begin .ensures .0),
+)
+
+place-members-following-requires : (t : ℕ) → place-members-lts.Need-following-requires (place-members-claims t) (place-members-at t)
+    place-members.Post place-members-Inv-loop place-members-μ-loop
+place-members-following-requires t c κs =
+    let X = at-started t (c .before .before .before .before .before .before) in (
+      set-low X (c .before .before .before .loop .inv .2 _ X) (c .before .if2 .taken),
+      its-few (X .given),
+      at-located t
+          (c .before .before .before .before .before .before .before .before) .1,
+    )
+
+place-members-put-absent-requires : (t : ℕ) → place-members-lts.Need-put-absent-requires (place-members-claims t) (place-members-at t)
+    place-members.Post place-members-Inv-loop place-members-μ-loop
+place-members-put-absent-requires t c κs =
+    let X = at-started t (c .before .before .before .before .before .before .before .before) in
+    set-room X (c .before .before .before .before .before .loop .inv .2 _ X) (c .before .before .before .if2 .taken) _
+    (c .before .following .ensures .most)
+
+place-members-same-length : (t : ℕ) → place-members-lts.Need-same-length (place-members-claims t) (place-members-at t)
+    place-members.Post place-members-Inv-loop place-members-μ-loop
+place-members-same-length t c = c .before .before .before .before .put-absent .kept .0 ∙ c .before .before .before .before .before .before .before
+    .before .before .before .loop .inv .1 ∙ c .before .before .before .before .before .before .before .before .before .before .before .before
+    .before .begin .kept .1 .1 .0
+
+place-members-returns : (t : ℕ) → place-members-lts.Need-returns (place-members-claims t) (place-members-at t)
+    place-members.Post place-members-Inv-loop place-members-μ-loop
+place-members-returns t c =
+    let X = at-started t (c .before .before .before .before .before .before .before .before .before .before .before .before .before) in (
+      c .before .before .before .before .before .before .before .before .before .before .loop .inv .0,
+      set-over X
+          (c .before .before .before .before .before .before .before .before .before .before .loop .inv .2 _ X)
+          (c .before .before .before .before .before .before .before .before .if2 .taken) _
+          (c .before .before .before .before .before .before .following .ensures) (c .before .before .before .before .put-absent .ensures)
+          (c .if3 .taken),
+    )
+
+-- a member that came
+at-came : (t : ℕ) (c : place-members-lts.Else3 (place-members-claims t) (place-members-at t)
+    place-members.Post place-members-Inv-loop place-members-μ-loop) → (c .before .before .before .before .before .before .following .result < 16) ×
+    (1 ≤ getD (c .before .before .before .before .before .before .before .before .before .before .before .before .before .before .before .if1
+    .began) (c .before .before .before .before .before .before .following .result) 0)
+    × (getD (c .before .before .before .before .before .before .before .before .before .before .before .before .before .before .before .if1 .began)
+    (c .before .before .before .before .before .before .following .result) 0 ≤ 8193)
+at-came t c =
+    let X = at-started t (c .before .before .before .before .before .before .before .before .before .before .before .before .before) in
+    let z = set-came X (c .before .before .before .before .before .before .before .before .before .before .loop .inv .2 _ X)
+    (c .before .before .before .before .before .before .before .before .if2 .taken) _
+    (c .before .before .before .before .before .before .following .ensures) (c .before .before .before .before .put-absent .ensures)
+    (c .if3 .left) in
+    (omega (arith, z .0, its-few (X .given)), z .1, omega (arith, z .1, z .2, X .given .short))
+
+place-members-mul-at : (t : ℕ) → place-members-lts.Need-mul-at (place-members-claims t) (place-members-at t)
+    place-members.Post place-members-Inv-loop place-members-μ-loop
+place-members-mul-at t c = let z = at-came t c in omega arith
+
+place-members-array-read-at : (t : ℕ) → place-members-lts.Need-array-read-at (place-members-claims t) (place-members-at t)
+    place-members.Post place-members-Inv-loop place-members-μ-loop
+place-members-array-read-at t c = let z = at-came t c in omega arith
+
+place-members-cast-at : (t : ℕ) → place-members-lts.Need-cast-at (place-members-claims t) (place-members-at t)
+    place-members.Post place-members-Inv-loop place-members-μ-loop
+place-members-cast-at t c = let z = at-came t c in omega arith
+
+place-members-sub-at : (t : ℕ) → place-members-lts.Need-sub-at (place-members-claims t) (place-members-at t)
+    place-members.Post place-members-Inv-loop place-members-μ-loop
+place-members-sub-at t c = let z = at-came t c in omega arith
+
+place-members-holds-one-requires : (t : ℕ) → place-members-lts.Need-holds-one-requires (place-members-claims t) (place-members-at t)
+    place-members.Post place-members-Inv-loop place-members-μ-loop
+place-members-holds-one-requires t c κs = tt
+
+place-members-is-over-requires : (t : ℕ) → place-members-lts.Need-is-over-requires (place-members-claims t) (place-members-at t)
+    place-members.Post place-members-Inv-loop place-members-μ-loop
+place-members-is-over-requires t c κs = tt
+
+place-members-finish-requires : (t : ℕ) → place-members-lts.Need-finish-requires (place-members-claims t) (place-members-at t)
+    place-members.Post place-members-Inv-loop place-members-μ-loop
+place-members-finish-requires t c κs =
+    let X = at-started t (c .before .before .before .before .before .before .before .before .before .before) in
+    finish-room X (c .before .before .before .before .before .before .before .loop .inv .2 _ X)
+    (c .before .before .before .before .before .if2 .left) _ (c .before .before .before .before .holds-one .ensures) (not-true _
+    (c .before .before .before .if4 .taken)) _ (c .before .before .is-over .ensures)
+
+place-members-behind-requires : (t : ℕ) → place-members-lts.Need-behind-requires (place-members-claims t) (place-members-at t)
+    place-members.Post place-members-Inv-loop place-members-μ-loop
+place-members-behind-requires t c κs =
+    let X = at-started t (c .before .before .before .before .before .before .before .before .before .before .before .before .before) in
+    omega (
+      arith,
+      other-low X (c .before .before .before .before .before .before .before .before .before .before .loop .inv .2 _ X)
+          (c .before .before .before .before .before .before .before .before .if2 .left),
+      X .given .short,
+    )
+
+place-members-same-length-2 : (t : ℕ) → place-members-lts.Need-same-length-2 (place-members-claims t) (place-members-at t)
+    place-members.Post place-members-Inv-loop place-members-μ-loop
+place-members-same-length-2 t c = c .before .before .before .finish .kept .1 .1 .1 .1 .0 ∙ c .before .before .before .before .before .before
+    .before .before .before .before .before .loop .inv .1 ∙ c .before .before .before .before .before .before .before .before .before .before
+    .before .before .before .before .begin .kept .1 .1 .0
+
+place-members-returns-2 : (t : ℕ) → place-members-lts.Need-returns-2 (place-members-claims t) (place-members-at t)
+    place-members.Post place-members-Inv-loop place-members-μ-loop
+place-members-returns-2 t c =
+    let X = at-started t (c .before .before .before .before .before .before .before .before .before .before .before .before .before .before) in (
+      c .before .before .before .before .before .before .before .before .before .before .before .loop .inv .0,
+      other-over X
+          (c .before .before .before .before .before .before .before .before .before .before .before .loop .inv .2 _ X)
+          (c .before .before .before .before .before .before .before .before .before .if2 .left) _
+          (c .before .before .before .before .before .before .before .before .holds-one .ensures) (not-true _
+          (c .before .before .before .before .before .before .before .if4 .taken)) _
+          (c .before .before .before .before .before .before .is-over .ensures) (c .before .before .before .before .before .if5 .taken)
+          (c .before .before .before .finish .ensures) (c .behind .ensures),
+    )
+
+-- the item that comes
+at-item : (t : ℕ) (c : place-members-lts.Joined2 (place-members-claims t) (place-members-at t)
+    place-members.Post place-members-Inv-loop place-members-μ-loop) {first : List ℕ} (X : Starts t
+    (c .before .before .before .before .before) first) →
+    Coming X (c .before .before .loop .count) (c .if2 .buf) (c .if2 .at) (c .before .before .loop .next) (c .if2 .j)
+at-item t c X =
+    let L = c .before .before .loop .inv .2 _ X in
+    ⊎-elim
+    (λ x. rw (x .9, x .10, x .11) (set-comes X L (x .0 .taken) _ (x .2 .ensures) (x .4 .ensures) (x .8 .left)))
+    (⊎-elim
+    (λ x. rw (x .5, x .6, x .7) (other-comes X L (x .0 .left) _ (x .1 .ensures) (not-true _ (x .2 .taken)) _ (x .3 .ensures) (x .4 .left)))
+    λ x. rw (x .3, x .4, x .5) (one-comes X L (x .0 .left) _ (x .1 .ensures) (not-false _ (x .2 .left))))
+    (c .if2 .came)
+
+-- how far it stands
+at-turn : (t : ℕ) (c : place-members-lts.Joined2 (place-members-claims t) (place-members-at t)
+    place-members.Post place-members-Inv-loop place-members-μ-loop) →
+    (length (c .if2 .buf) ≡ length (c .before .before .loop .buf)) ×
+    (c .before .before .before .before .before .before .before .before .before .before .unpack .result .kind ≡ 17 → c .before .before .loop .j ≤ c
+    .if2 .j)
+    × ((c .before .before .before .before .before .before .before .before .before .before .unpack .result .kind ≡ 17 → ⊥) → c .if2 .at ≡ c .before
+    .before .loop .at)
+at-turn t c =
+    ⊎-elim
+    (λ x. (ap length (x .9) ∙ x .4 .kept .0, λ z. rw (x .11) (x .2 .ensures .least), λ n. absurd (n (x .0 .taken))))
+    (⊎-elim
+    (λ x. (ap length (x .5), λ z. absurd (x .0 .left z), λ n. x .6))
+    λ x. (ap length (x .3), λ z. absurd (x .0 .left z), λ n. x .4))
+    (c .if2 .came)
+
+at-low : (t : ℕ) (c : place-members-lts.Joined2 (place-members-claims t) (place-members-at t)
+    place-members.Post place-members-Inv-loop place-members-μ-loop) → (c .if2 .at < length (now
+    (c .before .before .before .before .before .before .before .before .before .before .before .before .before .before .args .m))) ×
+    (c .if2 .at < 8192)
+at-low t c =
+    let X = at-started t (c .before .before .before .before .before) in
+    let l = coming-low X _ (at-item t c X) in
+    (l, omega (arith, l, X .given .short))
+
+place-members-add-from : (t : ℕ) → place-members-lts.Need-add-from (place-members-claims t) (place-members-at t)
+    place-members.Post place-members-Inv-loop place-members-μ-loop
+place-members-add-from t c = let l = at-low t (c .before) in omega arith
+
+place-members-mul-octet : (t : ℕ) → place-members-lts.Need-mul-octet (place-members-claims t) (place-members-at t)
+    place-members.Post place-members-Inv-loop place-members-μ-loop
+place-members-mul-octet t c = omega (
+  arith,
+  part-near (at-started t
+      (c .before .before .before .before .before .before .before .before .before .before)) _ (at-item t (c .before .before .before .before .before)
+      (at-started t (c .before .before .before .before .before .before .before .before .before .before))) (c .before .before .if6 .taken),
+)
+
+place-members-add-octet : (t : ℕ) → place-members-lts.Need-add-octet (place-members-claims t) (place-members-at t)
+    place-members.Post place-members-Inv-loop place-members-μ-loop
+place-members-add-octet t c = omega (
+  arith,
+  part-near (at-started t
+      (c .before .before .before .before .before .before .before .before .before .before .before)) _ (at-item t
+      (c .before .before .before .before .before .before) (at-started t
+      (c .before .before .before .before .before .before .before .before .before .before .before))) (c .before .before .before .if6 .taken),
+)
+
+place-members-octet-requires : (t : ℕ) → place-members-lts.Need-octet-requires (place-members-claims t) (place-members-at t)
+    place-members.Post place-members-Inv-loop place-members-μ-loop
+place-members-octet-requires t c κs = tt
+
+-- the type of the part at hand
+at-type : (t : ℕ) (c : place-members-lts.After-octet (place-members-claims t) (place-members-at t)
+    place-members.Post place-members-Inv-loop place-members-μ-loop) → c .octet .result < 128
+at-type t c =
+    let X = at-started t (c .before .before .before .before .before .before .before .before .before .before .before .before) in
+    omega (
+      arith,
+      part-low X _ (at-item t (c .before .before .before .before .before .before .before) X)
+          (c .before .before .before .before .if6 .taken) _ (c .octet .ensures .0),
+      X .given .ready .passes .few,
+    )
+
+place-members-mul-first : (t : ℕ) → place-members-lts.Need-mul-first (place-members-claims t) (place-members-at t)
+    place-members.Post place-members-Inv-loop place-members-μ-loop
+place-members-mul-first t c = let l = at-type t c in omega arith
+
+place-members-element-copy-out-first : (t : ℕ) → place-members-lts.Need-element-copy-out-first (place-members-claims t) (place-members-at t)
+    place-members.Post place-members-Inv-loop place-members-μ-loop
+place-members-element-copy-out-first t c = at-type t c
+
+place-members-first-requires : (t : ℕ) → place-members-lts.Need-first-requires (place-members-claims t) (place-members-at t)
+    place-members.Post place-members-Inv-loop place-members-μ-loop
+place-members-first-requires t c κs = tt
+
+place-members-shared-slice-read-fits : (t : ℕ) → place-members-lts.Need-shared-slice-read-fits (place-members-claims t) (place-members-at t)
+    place-members.Post place-members-Inv-loop place-members-μ-loop
+place-members-shared-slice-read-fits t c = at-low t (c .before .before .before .before .before .before .before .before .before .before) .0
+
+place-members-cast-fits : (t : ℕ) → place-members-lts.Need-cast-fits (place-members-claims t) (place-members-at t)
+    place-members.Post place-members-Inv-loop place-members-μ-loop
+place-members-cast-fits t c = omega (
+  arith,
+  c .before .before .before .before .before .before .before .before .before .before .before .before
+      .before .before .before .before .before .before .before .before .before .before .shared-slice-known2 .given
+      (c .before .before .before .before .before .before .before .before .before .before .if2 .at),
+)
+
+place-members-sub-rest : (t : ℕ) → place-members-lts.Need-sub-rest (place-members-claims t) (place-members-at t)
+    place-members.Post place-members-Inv-loop place-members-μ-loop
+place-members-sub-rest t c = let l = at-low t (c .before .before .before .before) in omega arith
+
+place-members-part-rest-start : (t : ℕ) → place-members-lts.Need-part-rest-start (place-members-claims t) (place-members-at t)
+    place-members.Post place-members-Inv-loop place-members-μ-loop
+place-members-part-rest-start t c = let l = at-low t (c .before .before .before .before) in omega arith
+
+place-members-part-rest-end : (t : ℕ) → place-members-lts.Need-part-rest-end (place-members-claims t) (place-members-at t)
+    place-members.Post place-members-Inv-loop place-members-μ-loop
+place-members-part-rest-end t c = let l = at-low t (c .before .before .before .before) in omega arith
+
+place-members-search-requires : (t : ℕ) → place-members-lts.Need-search-requires (place-members-claims t) (place-members-at t)
+    place-members.Post place-members-Inv-loop place-members-μ-loop
+place-members-search-requires t c κs = (
+  sound (at-started t (c .before .before .before .before .before .before .before .before .before .before
+      .before .before)) 0,
+  c .before .before .before .before .before .before .before .before .before .loop .inv .0,
+)
+
+place-members-enum-told : (t : ℕ) → place-members-lts.Need-enum-told (place-members-claims t) (place-members-at t)
+    place-members.Post place-members-Inv-loop place-members-μ-loop
+place-members-enum-told t c = search needs
+
+place-members-enum-known-x : (t : ℕ) → place-members-lts.Need-enum-known-x (place-members-claims t) (place-members-at t)
+    place-members.Post place-members-Inv-loop place-members-μ-loop
+place-members-enum-known-x t c = search needs
+
+place-members-has-members-requires : (t : ℕ) → place-members-lts.Need-has-members-requires (place-members-claims t) (place-members-at t)
+    place-members.Post place-members-Inv-loop place-members-μ-loop
+place-members-has-members-requires t c κs = tt
+
+-- what the search answers
+at-sought : (t : ℕ) (c : place-members-lts.After-search (place-members-claims t) (place-members-at t)
+    place-members.Post place-members-Inv-loop place-members-μ-loop) →
+    let a = c .before .before .before .before .before .before .before .before .before .before .before .before .before .before .before .before
+    .before .before .before .before .before .before .args in
+    let b = now (a .table) in
+    Sought b (held b (a .w)) (since (manner (held b (a .w))) (c .before .before .before .before .before .before .before .before .if2 .j)) blank
+    (drop (c .before .before .before .before .before .before .before .before .if2 .at) (now (a .m))) (c .search .last .1 .1 .1 .1 .1 .1 .0)
+    (c .search .result)
+at-sought t c = rw (part-to-end (now (c .before .before .before .before .before .before .before .before .before .before .before .before .before
+    .before .before .before .before .before .before .before .before .before .args .m))
+    (c .before .before .before .before .before .before .before .before .if2 .at)) at (c .search .ensures .1)
+
+-- the part that the search found
+at-picked : (t : ℕ) (c : place-members-lts.At-match-came (place-members-claims t) (place-members-at t)
+    place-members.Post place-members-Inv-loop place-members-μ-loop) {first : List ℕ} (X : Starts t
+    (c .before .before .before .before .before .before .before .before .before .before .before .before .before .before) first) →
+    Picked X _ (at-item t (c .before .before .before .before .before .before .before .before .before) X) (c .match .buf) (c .match .next)
+    (c .match .place) (c .match .«record») (c .match .from)
+at-picked t c X =
+    let S = at-sought t (c .before) in
+    ⊎-elim
+    (λ x. absurd (found-some X _ (at-item t (c .before .before .before .before .before .before .before .before .before) X) ((rw
+    (x .1 .given .1) at S) .0)))
+    (λ x. picked X _ (at-item t (c .before .before .before .before .before .before .before .before .before) X) (x .1 .given .0 .0) _
+    (c .before .search .ensures .0) (rw (x .1 .given .1) at S) (x .9 ∙ x .6 .ensures .1)
+    (x .10 ∙ x .6 .ensures .0) (x .11) (x .12) (x .13))
+    (c .match .came)
+
+place-members-add-from-2 : (t : ℕ) → place-members-lts.Need-add-from-2 (place-members-claims t) (place-members-at t)
+    place-members.Post place-members-Inv-loop place-members-μ-loop
+place-members-add-from-2 t c =
+    let X = at-started t (c .before .before .before .before .before .before .before .before .before .before .before .before .before .before .before
+    .before .before) in
+    let l = found-low X _ (at-item t (c .before .before .before .before .before .before .before .before .before .before .before .before) X) _ _
+    (c .before .before .before .before .search .ensures .0) (rw (c .before .before .x .given .1) at (at-sought t
+    (c .before .before .before .before))) in
+    omega (arith, l, X .given .short)
+
+place-members-put-way-requires : (t : ℕ) → place-members-lts.Need-put-way-requires (place-members-claims t) (place-members-at t)
+    place-members.Post place-members-Inv-loop place-members-μ-loop
+place-members-put-way-requires t c κs =
+    let X = at-started t (c .before .before .before .before .before .before .before .before .before .before .before .before .before .before .before
+    .before .before .before .before) in
+    let F = rw (c .before .before .before .before .x .given .1) at (at-sought t (c .before .before .before .before .before .before)) in
+    let C = at-item t (c .before .before .before .before .before .before .before .before .before .before .before .before .before .before) X in
+    let w = c .before .before .before .before .before .before .search .ensures .0 in
+    (omega (arith, found-deep X _ C _ _ w F, w), w, found-room X _ C _ _ w F)
+
+place-members-put-absent-requires-2 : (t : ℕ) → place-members-lts.Need-put-absent-requires-2 (place-members-claims t) (place-members-at t)
+    place-members.Post place-members-Inv-loop place-members-μ-loop
+place-members-put-absent-requires-2 t c κs = at-picked t (c .before .before .before) (at-started t
+    (c .before .before .before .before .before .before .before .before .before .before .before .before .before .before .before .before .before)) .1
+    (sym (c .before .before .has-members .ensures) ∙ c .before .if8 .taken)
+
+-- the part at hand, if the item begins it with one octet
+at-fits : (t : ℕ) (c : place-members-lts.Joined6 (place-members-claims t) (place-members-at t)
+    place-members.Post place-members-Inv-loop place-members-μ-loop) → c .if6 .fits ≡ true →
+    let a = c .before .before .before .before .before .before .before .before .before .before .before .before .before .before .before .before
+    .before .args in
+    (c .before .before .before .if2 .j < c .before .before .before .before .before .before .before .before .before .before .before .before .parts
+    .result .count) × (c .if6 .«record» ≡ getD (now (a .table)) (c .before .before .before .before .before .before .before .before .before .before
+    .before .before .parts .result .first + c .before .before .before .if2 .j * c .before .before .before .before .before .before .before .before
+    .before .before .before .before .parts .result .step) 0)
+    × (getD (now (a .m)) (c .before .before .before .if2 .at) 0 ≡ unpacked (getD (now (a .index)) (c .if6 .«record») 0) .code)
+at-fits t c z =
+    ⊎-elim
+    (λ x. (x .0 .taken, x .8 ∙ x .4 .ensures .0, rw (x .8) (sym (eqb-true _ _ (sym (x .9) ∙ z)) ∙ x .6 .ensures)))
+    (λ x. absurd (false≢true (sym (x .2) ∙ z)))
+    (c .if6 .came)
+
+-- the record that the item begins
+at-chosen : (t : ℕ) (c : place-members-lts.Joined7 (place-members-claims t) (place-members-at t)
+    place-members.Post place-members-Inv-loop place-members-μ-loop) {first : List ℕ} (X : Starts t
+    (c .before .before .before .before .before .before .before .before .before) first) →
+    Chosen X (c .before .before .before .before .before .before .loop .count) (c .before .before .before .before .if2 .j) (c .if7 .buf)
+    (c .before .before .before .before .if2 .at) (c .if7 .next) (c .if7 .place) (c .if7 .«record») (c .if7 .from)
+at-chosen t c X =
+    ⊎-elim
+    (λ x.
+    let h = sym (x .6 .ensures) ∙ x .7 .taken in
+    rw (x .14, x .15, x .16, x .17) (at-picked t (record {
+      before = record {
+        before = record {
+          before = record { before = record { before = record { before = c .before; if7 = x .0 }; rest = x .1 }; none = x .2 };
+          search-arg = x .3;
+        };
+        search = x .4;
+      };
+      match = x .5;
+    }) X .2 _ (λ z. x .12 ∙ x .9 .ensures) (λ z. absurd (true≢false (sym h ∙ z)))))
+    (⊎-elim
+    (λ x.
+    let h = sym (x .6 .ensures) ∙ x .7 .left in
+    rw (x .10, x .11, x .12, x .13) (at-picked t (record {
+      before = record {
+        before = record {
+          before = record { before = record { before = record { before = c .before; if7 = x .0 }; rest = x .1 }; none = x .2 };
+          search-arg = x .3;
+        };
+        search = x .4;
+      };
+      match = x .5;
+    }) X .2 _ (λ z. absurd (true≢false (sym z ∙ h))) (λ z. x .8)))
+    λ x.
+    let f = at-fits t (c .before) (not-false _ (x .0 .left)) in
+    rw (x .1, x .3, x .4, x .5, x .6) (chosen-here X _ (at-item t (c .before .before .before .before) X) (f .0) _ (f .1) _ (f .2) refl))
+    (c .if7 .came)
+
+-- lengths stay
+at-grown : (t : ℕ) (c : place-members-lts.Joined7 (place-members-claims t) (place-members-at t)
+    place-members.Post place-members-Inv-loop place-members-μ-loop) → (length (c .if7 .buf) ≡ length
+    (c .before .before .before .before .before .before .loop .buf)) × (length (c .if7 .way) ≡ 128)
+at-grown t c =
+    let X = at-started t (c .before .before .before .before .before .before .before .before .before) in
+    let l = at-turn t (c .before .before .before .before) .0 in
+    ⊎-elim
+    (λ x. (
+      ap length (x .12) ∙ x .9 .kept .0 ∙ at-picked t (record {
+        before = record {
+          before = record {
+            before = record { before = record { before = record { before = c .before; if7 = x .0 }; rest = x .1 }; none = x .2 };
+            search-arg = x .3;
+          };
+          search = x .4;
+        };
+        match = x .5;
+      }) X .0 ∙ l,
+      rw (x .13) (x .4 .ensures .0),
+    ))
+    (⊎-elim
+    (λ x. (
+      ap length (x .8) ∙ at-picked t (record {
+        before = record {
+          before = record {
+            before = record { before = record { before = record { before = c .before; if7 = x .0 }; rest = x .1 }; none = x .2 };
+            search-arg = x .3;
+          };
+          search = x .4;
+        };
+        match = x .5;
+      }) X .0 ∙ l,
+      rw (x .9) (x .4 .ensures .0),
+    ))
+    λ x. (ap length (x .1) ∙ l, rw (x .2) (c .before .before .before .before .before .before .loop .inv .0)))
+    (c .if7 .came)
+
+place-members-put-place-requires : (t : ℕ) → place-members-lts.Need-put-place-requires (place-members-claims t) (place-members-at t)
+    place-members.Post place-members-Inv-loop place-members-μ-loop
+place-members-put-place-requires t c κs = chosen-node (at-started t
+    (c .before .before .before .before .before .before .before .before .before .before)) _ (at-chosen t (c .before) (at-started t
+    (c .before .before .before .before .before .before .before .before .before .before)))
+
+place-members-add-j : (t : ℕ) → place-members-lts.Need-add-j (place-members-claims t) (place-members-at t)
+    place-members.Post place-members-Inv-loop place-members-μ-loop
+place-members-add-j t c =
+    let X = at-started t (c .before .before .before .before .before .before .before .before .before .before .before .before .before .before
+    .before) in
+    omega (arith, chosen-onward X _ (at-chosen t (c .before .before .before .before .before .before) X))
+
+place-members-mul-place-value : (t : ℕ) → place-members-lts.Need-mul-place-value (place-members-claims t) (place-members-at t)
+    place-members.Post place-members-Inv-loop place-members-μ-loop
+place-members-mul-place-value t c =
+    let X = at-started t (c .before .before .before .before .before .before .before .before .before .before .before .before .before .before .before
+    .before) in
+    omega (arith, at-chosen t (c .before .before .before .before .before .before .before) X .low, X .given .ready .passes .few)
+
+place-members-element-copy-out-place-value : (t : ℕ) → place-members-lts.Need-element-copy-out-place-value (place-members-claims t)
+    (place-members-at t)
+    place-members.Post place-members-Inv-loop place-members-μ-loop
+place-members-element-copy-out-place-value t c =
+    let X = at-started t (c .before .before .before .before .before .before .before .before .before .before .before .before .before .before .before
+    .before) in
+    omega (arith, at-chosen t (c .before .before .before .before .before .before .before) X .low, X .given .ready .passes .few)
+
+place-members-place-value-requires : (t : ℕ) → place-members-lts.Need-place-value-requires (place-members-claims t) (place-members-at t)
+    place-members.Post place-members-Inv-loop place-members-μ-loop
+place-members-place-value-requires t c κs =
+    let X = at-started t (c .before .before .before .before .before .before .before .before .before .before .before .before .before .before .before
+    .before .before .before .before) in (
+      omega (
+        arith,
+        c .before .before .before .before .before .before .before .before .before .before .before .before .before .before .before
+            .before .before .before .before .before .before .before .before .before .before .before .before .before .pre .0,
+      ),
+      chosen-asks X _ (at-chosen t
+          (c .before .before .before .before .before .before .before .before .before .before) X)
+          (c .before .before .before .before .before .before .before .before .put-place .ensures) _ (at-grown t
+          (c .before .before .before .before .before .before .before .before .before .before) .1),
+    )
+
+place-members-add-count : (t : ℕ) → place-members-lts.Need-add-count (place-members-claims t) (place-members-at t)
+    place-members.Post place-members-Inv-loop place-members-μ-loop
+place-members-add-count t c =
+    let X = at-started t (c .before .before .before .before .before .before .before .before .before .before .before .before .before .before .before
+    .before .before .before .before .before .before .before) in
+    omega (
+      arith,
+      state-count X (c .before .before .before .before .before .before .before .before .before .before .before .before .before .before
+          .before .before .before .before .before .loop .inv .2 _ X),
+    )
+
+place-members-holds-one-requires-2 : (t : ℕ) → place-members-lts.Need-holds-one-requires-2 (place-members-claims t) (place-members-at t)
+    place-members.Post place-members-Inv-loop place-members-μ-loop
+place-members-holds-one-requires-2 t c κs = tt
+
+place-members-same-length-3 : (t : ℕ) → place-members-lts.Need-same-length-3 (place-members-claims t) (place-members-at t)
+    place-members.Post place-members-Inv-loop place-members-μ-loop
+place-members-same-length-3 t c =
+    c .before .before .before .before .place-value .kept .1 .1 .1 .1 .1 .1 .0 ∙ c .before .before .before .before .before .before .before .before
+    .before .before .before .before .before .put-place .kept .1 .1 .0 ∙ at-grown t
+    (c .before .before .before .before .before .before .before .before .before .before .before .before .before .before .before) .0 ∙ c .before
+    .before .before .before .before .before .before .before .before .before .before .before .before .before .before .before .before .before .before
+    .before .before .loop .inv .1 ∙ c .before .before .before .before .before .before .before .before .before .before .before .before .before
+    .before .before .before .before .before .before .before .before .before .before .before .begin .kept .1 .1 .0
+
+place-members-returns-3 : (t : ℕ) → place-members-lts.Need-returns-3 (place-members-claims t) (place-members-at t)
+    place-members.Post place-members-Inv-loop place-members-μ-loop
+place-members-returns-3 t c =
+    let X = at-started t (c .before .before .before .before .before .before .before .before .before .before .before .before .before .before .before
+    .before .before .before .before .before .before .before .before .before) in (
+      c .before .before .before .before .place-value .ensures .0,
+      chosen-one X _ (at-chosen t
+          (c .before .before .before .before .before .before .before .before .before .before .before .before .before .before .before) X)
+          (c .before .before .before .before .before .before .before .before .before .before .before .before .before .put-place .ensures)
+          (c .before .before .before .before .place-value .ensures .1) _ (c .before .holds-one2 .ensures) (c .if9 .taken),
+    )
+
+place-members-loop-less : (t : ℕ) → place-members-lts.Need-loop-less (place-members-claims t) (place-members-at t)
+    place-members.Post place-members-Inv-loop place-members-μ-loop
+place-members-loop-less t c =
+    let X = at-started t (c .before .before .before .before .before .before .before .before .before .before .before .before .before .before .before
+    .before .before .before .before .before .before .before .before .before) in
+    let l = at-turn t (c .before .before .before .before .before .before .before .before .before .before .before .before .before .before .before
+    .before .before .before .before) in
+    chosen-fewer X _ (at-chosen t (c .before .before .before .before .before .before .before .before .before .before .before .before .before
+    .before .before) X) (c .before .before .before .before .before .before .before .before .before .before .before .before .before .put-place
+    .ensures) (c .before .before .before .before .place-value .ensures .1) _ _ (l .1) (l .2)
+
+place-members-loop-again : (t : ℕ) → place-members-lts.Need-loop-again (place-members-claims t) (place-members-at t)
+    place-members.Post place-members-Inv-loop place-members-μ-loop
+place-members-loop-again t c = (
+  c .before .before .before .before .place-value .ensures .0,
+  c .before .before .before .before .place-value .kept .1 .1 .1 .1 .1 .1 .0 ∙ c .before .before .before .before .before .before .before .before
+      .before .before .before .before .before .put-place .kept .1 .1 .0 ∙ at-grown t
+      (c .before .before .before .before .before .before .before .before .before .before .before .before .before .before .before) .0 ∙ c .before
+      .before .before .before .before .before .before .before .before .before .before .before .before .before .before .before .before .before .before
+      .before .before .loop .inv .1,
+  λ first X. chosen-next X _ (at-chosen t (c .before .before .before .before .before .before .before .before .before .before .before .before
+      .before .before .before) X) (c .before .before .before .before .before .before .before .before .before .before .before .before .before
+      .put-place .ensures) (c .before .before .before .before .place-value .ensures .1) _ (c .before .holds-one2 .ensures) (c .if9 .left),
+)
+
+abbrev place-value-claims : ℕ → place-value-lts.Claims
+place-value-claims t = (
+  unpack-reads.Asked,
+  unpack-reads.Learnt,
+  open-reads.Asked,
+  open-reads.Learnt,
+  again-reads.Asked,
+  again-reads.Learnt,
+  place-contents-reads.Asked,
+  place-contents-reads.Learnt,
+  place-members-below t,
+  place-members.Post,
+  close-reads.Asked,
+  close-reads.Learnt,
+)
+
+-- under the tags
+at-under : (t : ℕ) (c : place-value-lts.Joined1 (place-value-claims t) (place-value-at t) place-value.Post) →
+    let s = c .before .before .before .before .before .before in
+    let a = s .args in
+    Under (now (a .table)) (a .w) (now (a .m)) (a .at) (s .pre .1 .fits .value) (s .pre .1 .fits .rest) (c .if1 .notes) (c .if1 .at)
+    (c .if1 .from) (c .if1 .end)
+at-under t c =
+    let s = c .before .before .before .before .before .before in
+    let P = s .pre .1 in
+    let e = c .before .before .unpack .ensures in
+    ⊎-elim
+    (λ x. absurd (must-open P _ _ (x .2 .ensures .1) _ _ (x .4 .given .1)))
+    (⊎-elim
+    (λ x. under-as (under-open P _ _ (x .2 .ensures .1) (x .2 .ensures .0) _ (x .4 .given .1)) (x .6) (x .7) (x .9) (x .8))
+    λ x. under-as (under-none P (rw e at (x .0 .left)) _ refl) (x .1) (x .2) (x .4) (x .3))
+    (c .if1 .came)
+
+-- its contents
+at-contents : (t : ℕ) (c : place-value-lts.Joined2 (place-value-claims t) (place-value-at t) place-value.Post) →
+    let j = c .before .before .before in
+    let s = j .before .before .before .before .before .before in
+    let a = s .args in
+    Contents (now (a .table)) (a .w) (now (a .m)) (a .at) (j .if1 .end) (s .pre .1 .fits .value) (at-under t j .left) (c .if2 .start)
+    (c .if2 .stop) (c .if2 .marked)
+at-contents t c =
+    let j = c .before .before .before in
+    let s = j .before .before .before .before .before .before in
+    let P = s .pre .1 in
+    let e = j .before .before .unpack .ensures in
+    let U = at-under t j in
+    let o = j .before .before .before .before .before .shared-slice-known .given in
+    ⊎-elim
+    (λ x.
+    contents-as
+    (read-contents P U (rw e at (x .0 .taken)) (x .1 .result) (x .1 .ensures) (λ k. omega (arith, o k)))
+    (x .2)
+    (x .3)
+    (x .4))
+    (λ x. contents-as (choice-contents P U (rw e at (x .0 .left))) (x .1) (x .2) (x .3))
+    (c .if2 .came)
+
+-- what was placed
+at-stored : (t : ℕ) (c : place-value-lts.Joined3 (place-value-claims t) (place-value-at t) place-value.Post) →
+    let j = c .before .before .before .before in
+    let s = j .before .before .before .before .before .before in
+    let a = s .args in
+    Stored (s .pre .1 .fits .value) (now (a .m)) (j .if1 .end) (at-under t j .left) (now (a .buf)) (a .to) (c .if3 .buf) (c .if3 .stop)
+    (c .if3 .next) (c .if3 .way)
+at-stored t c =
+    let j = c .before .before .before .before in
+    let s = j .before .before .before .before .before .before in
+    let P = s .pre .1 in
+    let e = j .before .before .unpack .ensures in
+    let U = at-under t j in
+    let X = at-contents t (c .before) in
+    ⊎-elim
+    (λ x. stored-as (leaf-stored P U X _ e (x .0 .taken) _ _ (x .5 .ensures .0) (x .5 .ensures .1)) (x .8) (x .9) (x .10) (x .11))
+    (λ x. stored-as (items-stored P U X (rw e at (x .0 .left)) _ _ (x .6 .ensures .1) _ (x .6 .ensures .0)) (x .10) (x .11) (x .12) (x .13))
+    (c .if3 .came)
+
+pub +place-members+place-value-spec : {M : Type 1} → statement M
++place-members+place-value-spec = close μ-place-members μ-place-value (λ t. place-members-lts.spec (place-members-claims t)
     (place-members-at t)
     place-members.Post
     place-members-Inv-loop
     place-members-μ-loop
-    (λ c κs. ?)  -- place-members-unpack-requires
-    (λ c κs. ?)  -- place-members-parts-requires
-    (λ c κs. ?)  -- place-members-locate-requires
-    (λ c κs. ?)  -- place-members-begin-requires
-    (λ c. ?)  -- place-members-loop-holds
-    (λ c κs. ?)  -- place-members-following-requires
-    (λ c κs. ?)  -- place-members-put-absent-requires
-    (λ c. ?)  -- place-members-same-length
-    (λ c. ?)  -- place-members-returns
-    (λ c. ?)  -- place-members-mul-at
-    (λ c. ?)  -- place-members-array-read-at
-    (λ c. ?)  -- place-members-cast-at
-    (λ c. ?)  -- place-members-sub-at
-    (λ c κs. ?)  -- place-members-holds-one-requires
-    (λ c κs. ?)  -- place-members-is-over-requires
-    (λ c κs. ?)  -- place-members-finish-requires
-    (λ c κs. ?)  -- place-members-behind-requires
-    (λ c. ?)  -- place-members-same-length-2
-    (λ c. ?)  -- place-members-returns-2
-    (λ c. ?)  -- place-members-add-from
-    (λ c. ?)  -- place-members-mul-octet
-    (λ c. ?)  -- place-members-add-octet
-    (λ c κs. ?)  -- place-members-octet-requires
-    (λ c. ?)  -- place-members-mul-first
-    (λ c. ?)  -- place-members-element-copy-out-first
-    (λ c κs. ?)  -- place-members-first-requires
-    (λ c. ?)  -- place-members-shared-slice-read-fits
-    (λ c. ?)  -- place-members-cast-fits
-    (λ c. ?)  -- place-members-sub-rest
-    (λ c. ?)  -- place-members-part-rest-start
-    (λ c. ?)  -- place-members-part-rest-end
-    (λ c κs. ?)  -- place-members-search-requires
-    (λ c. ?)  -- place-members-enum-told
-    (λ c. ?)  -- place-members-enum-known-x
-    (λ c. ?)  -- place-members-add-from-2
-    (λ c κs. ?)  -- place-members-put-way-requires
-    (λ c κs. ?)  -- place-members-has-members-requires
-    (λ c κs. ?)  -- place-members-put-absent-requires-2
-    (λ c κs. ?)  -- place-members-put-place-requires
-    (λ c. ?)  -- place-members-add-j
-    (λ c. ?)  -- place-members-mul-place-value
-    (λ c. ?)  -- place-members-element-copy-out-place-value
-    (λ c κs. ?)  -- place-members-place-value-requires
-    (λ c. ?)  -- place-members-add-count
-    (λ c κs. ?)  -- place-members-holds-one-requires-2
-    (λ c. ?)  -- place-members-same-length-3
-    (λ c. ?)  -- place-members-returns-3
-    (λ c. ?)  -- place-members-loop-less
-    (λ c. ?))  -- place-members-loop-again
-    λ t. place-value-lts.spec (
-      unpack-reads.Asked,
-      unpack-reads.Learnt,
-      open-reads.Asked,
-      open-reads.Learnt,
-      again-reads.Asked,
-      again-reads.Learnt,
-      place-contents-reads.Asked,
-      place-contents-reads.Learnt,
-      place-members-below t,
-      place-members.Post,
-      close-reads.Asked,
-      close-reads.Learnt,
-    )
+    (place-members-unpack-requires t)  -- place-members-unpack-requires
+    (place-members-parts-requires t)  -- place-members-parts-requires
+    (place-members-locate-requires t)  -- place-members-locate-requires
+    (place-members-begin-requires t)  -- place-members-begin-requires
+    (place-members-loop-holds t)  -- place-members-loop-holds
+    (place-members-following-requires t)  -- place-members-following-requires
+    (place-members-put-absent-requires t)  -- place-members-put-absent-requires
+    (place-members-same-length t)  -- place-members-same-length
+    (place-members-returns t)  -- place-members-returns
+    (place-members-mul-at t)  -- place-members-mul-at
+    (place-members-array-read-at t)  -- place-members-array-read-at
+    (place-members-cast-at t)  -- place-members-cast-at
+    (place-members-sub-at t)  -- place-members-sub-at
+    (place-members-holds-one-requires t)  -- place-members-holds-one-requires
+    (place-members-is-over-requires t)  -- place-members-is-over-requires
+    (place-members-finish-requires t)  -- place-members-finish-requires
+    (place-members-behind-requires t)  -- place-members-behind-requires
+    (place-members-same-length-2 t)  -- place-members-same-length-2
+    (place-members-returns-2 t)  -- place-members-returns-2
+    (place-members-add-from t)  -- place-members-add-from
+    (place-members-mul-octet t)  -- place-members-mul-octet
+    (place-members-add-octet t)  -- place-members-add-octet
+    (place-members-octet-requires t)  -- place-members-octet-requires
+    (place-members-mul-first t)  -- place-members-mul-first
+    (place-members-element-copy-out-first t)  -- place-members-element-copy-out-first
+    (place-members-first-requires t)  -- place-members-first-requires
+    (place-members-shared-slice-read-fits t)  -- place-members-shared-slice-read-fits
+    (place-members-cast-fits t)  -- place-members-cast-fits
+    (place-members-sub-rest t)  -- place-members-sub-rest
+    (place-members-part-rest-start t)  -- place-members-part-rest-start
+    (place-members-part-rest-end t)  -- place-members-part-rest-end
+    (place-members-search-requires t)  -- place-members-search-requires
+    (place-members-enum-told t)  -- place-members-enum-told
+    (place-members-enum-known-x t)  -- place-members-enum-known-x
+    (place-members-add-from-2 t)  -- place-members-add-from-2
+    (place-members-put-way-requires t)  -- place-members-put-way-requires
+    (place-members-has-members-requires t)  -- place-members-has-members-requires
+    (place-members-put-absent-requires-2 t)  -- place-members-put-absent-requires-2
+    (place-members-put-place-requires t)  -- place-members-put-place-requires
+    (place-members-add-j t)  -- place-members-add-j
+    (place-members-mul-place-value t)  -- place-members-mul-place-value
+    (place-members-element-copy-out-place-value t)  -- place-members-element-copy-out-place-value
+    (place-members-place-value-requires t)  -- place-members-place-value-requires
+    (place-members-add-count t)  -- place-members-add-count
+    (place-members-holds-one-requires-2 t)  -- place-members-holds-one-requires-2
+    (place-members-same-length-3 t)  -- place-members-same-length-3
+    (place-members-returns-3 t)  -- place-members-returns-3
+    (place-members-loop-less t)  -- place-members-loop-less
+    (place-members-loop-again t))  -- place-members-loop-again
+    λ t. place-value-lts.spec (place-value-claims t)
     (place-value-at t)
     place-value.Post
-    (λ c κs. ?)  -- place-value-unpack-requires
-    (λ c κs. ?)  -- place-value-open-requires
-    (λ c. ?)  -- place-value-enum-told
-    (λ c. ?)  -- place-value-enum-known-x
-    (λ c. ?)  -- place-value-slice-aggregate-around
-    (λ c κs. ?)  -- place-value-again-requires
-    (λ c. ?)  -- place-value-sub-c
-    (λ c. ?)  -- place-value-part-c-start
-    (λ c. ?)  -- place-value-part-c-end
-    (λ c κs. ?)  -- place-value-place-contents-requires
-    (λ c. ?)  -- place-value-sub-c-2
-    (λ c. ?)  -- place-value-part-c-start-2
-    (λ c. ?)  -- place-value-part-c-end-2
-    (λ c κs. ?)  -- place-value-place-members-requires
-    (λ c. ?)  -- place-value-add-stop
-    (λ c. ?)  -- place-value-cast-close
-    (λ c κs. ?)  -- place-value-close-requires
-    (λ c. ?)  -- place-value-enum-told-2
-    (λ c. ?)  -- place-value-enum-known-x-2
-    (λ c. ?)  -- place-value-same-length
-    (λ c. ?)  -- place-value-returns
-    (λ c. ?)  -- place-value-same-length-2
-    (λ c. ?)  -- place-value-returns-2
-    (λ c. ?)  -- place-value-same-length-3
-    (λ c. ?)  -- place-value-returns-3
+    (λ c κs. search needs)  -- place-value-unpack-requires
+    (λ c κs.
+    let P = c .before .before .before .before .before .before .before .pre .1 in
+    let e = rw (c .before .before .before .unpack .ensures) at (c .before .if1 .taken) in
+    (_, P .ready, (P .number, P .low, P .entry), e, P .headed, P .short, refl))  -- place-value-open-requires
+    (λ c. search needs)  -- place-value-enum-told
+    (λ c. search needs)  -- place-value-enum-known-x
+    (λ c. sym (length-take-le _ _ (at-under t (c .before) .high)))  -- place-value-slice-aggregate-around
+    (λ c κs. search needs)  -- place-value-again-requires
+    (λ c. at-contents t (c .before .before .before) .order)  -- place-value-sub-c
+    (λ c. let h = at-contents t (c .before .before .before) .order in search needs)  -- place-value-part-c-start
+    (λ c.
+    let x = c .before .before .before in
+    let j = x .before .before .before in
+    let s = j .before .before .before .before .before .before in
+    let h = part-high (s .pre .1) (at-under t j) (at-contents t x) in
+    search needs)  -- place-value-part-c-end
+    (λ c κs.
+    let x = c .before .before .before .before .before in
+    let j = x .before .before .before in
+    let s = j .before .before .before .before .before .before in
+    let e = j .before .before .unpack .ensures in
+    let f = c .before .before .before .before .if3 .taken in
+    leaf-asks (s .pre .1) (at-under t j) (at-contents t x) _ e f)  -- place-value-place-contents-requires
+    (λ c. at-contents t (c .before .before .before) .order)  -- place-value-sub-c-2
+    (λ c. let h = at-contents t (c .before .before .before) .order in search needs)  -- place-value-part-c-start-2
+    (λ c.
+    let x = c .before .before .before in
+    let j = x .before .before .before in
+    let s = j .before .before .before .before .before .before in
+    let h = part-high (s .pre .1) (at-under t j) (at-contents t x) in
+    search needs)  -- place-value-part-c-end-2
+    (λ c κs.
+    let x = c .before .before .before .before .before .before in
+    let j = x .before .before .before in
+    let s = j .before .before .before .before .before .before in
+    let e = rw (j .before .before .unpack .ensures) at (c .before .before .before .before .before .if3 .left) in (
+      omega (arith, s .pre .0, part-less (s .pre .1) (at-under t j) (at-contents t x)),
+      items-ask (s .pre .1) (at-under t j) (at-contents t x) e,
+    ))  -- place-value-place-members-requires
+    (λ c.
+    let x = c .before .before .before .before .before .before .before .before .before .before in
+    let j = x .before .before .before in
+    let s = j .before .before .before .before .before .before in
+    let f = c .before .before .before .before .before .before .before .before .before .if3 .left in
+    let e = rw (j .before .before .unpack .ensures) at f in
+    let q = c .before .before .before .place-members .ensures .1 in
+    omega (arith, items-end (s .pre .1) (at-under t j) (at-contents t x) e _ _ q))  -- place-value-add-stop
+    (λ c. search needs)  -- place-value-cast-close
+    (λ c κs.
+    let x = c .before .before .before .before in
+    let j = x .before .before .before .before in
+    let s = j .before .before .before .before .before .before in
+    close-asks (s .pre .1) (at-under t j) (at-stored t x) _ (j .before .before .unpack .ensures))  -- place-value-close-requires
+    (λ c. search needs)  -- place-value-enum-told-2
+    (λ c. search needs)  -- place-value-enum-known-x-2
+    (λ c.
+    let x = c .before .before .before .before .before .before .before in
+    let j = x .before .before .before .before in
+    let s = j .before .before .before .before .before .before in
+    stored-length (s .pre .1) (at-under t j) (at-stored t x))  -- place-value-same-length
+    (λ c.
+    let x = c .before .before .before .before .before .before .before in
+    let j = x .before .before .before .before in
+    let s = j .before .before .before .before .before .before in
+    let d = must-close (s .pre .1) (at-under t j) (at-stored t x) _ (j .before .before .unpack .ensures) _ (c .before .before .close .ensures) in
+    absurd (d _ _ (c .enum-told2 .given .1)))  -- place-value-returns
+    (λ c.
+    let x = c .before .before .before .before .before .before .before .before in
+    let j = x .before .before .before .before in
+    let s = j .before .before .before .before .before .before in
+    stored-length (s .pre .1) (at-under t j) (at-stored t x))  -- place-value-same-length-2
+    (λ c.
+    let x = c .before .before .before .before .before .before .before .before in
+    let j = x .before .before .before .before in
+    let s = j .before .before .before .before .before .before in
+    let e = j .before .before .unpack .ensures in
+    let d = closed-placed (s .pre .1) (at-under t j) (at-stored t x) _ e _ (c .before .before .before .close .ensures) in
+    (at-stored t x .ways, d _ _ (c .before .x2 .given .1)))  -- place-value-returns-2
+    (λ c.
+    let x = c .before .before in
+    let j = x .before .before .before .before in
+    let s = j .before .before .before .before .before .before in
+    stored-length (s .pre .1) (at-under t j) (at-stored t x))  -- place-value-same-length-3
+    (λ c.
+    let x = c .before .before in
+    let j = x .before .before .before .before in
+    let s = j .before .before .before .before .before .before in
+    let e = rw (j .before .before .unpack .ensures) at (c .if4 .left) in
+    (at-stored t x .ways, bare-placed (s .pre .1) (at-under t j) (at-stored t x) e))  -- place-value-returns-3
