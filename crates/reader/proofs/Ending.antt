@@ -7,11 +7,11 @@ use mathlib.Core.Bool.{Bool, true, false, not, _||_, true≢false, false≢true}
 use mathlib.Core.List.{List, [], _∷_}
 use mathlib.Core.Path.{_≡_, refl, sym, ap, _∙_}
 use Prim.Native.Nat.{ℕ, zero, suc}
+use Rattle.octets.specs.declared.cause.Cause.{Cause}
+use Rattle.octets.specs.declared.cause.Cause.the-variants.{NotAwaited}
 use Rattle.octets.specs.Answer.{if}
 use Rattle.octets.specs.Lists.{any}
 use Rattle.octets.proofs.Tests.{test}
-use Rattle.ber.specs.Told.{faultNumber}
-use Rattle.ber.specs.declared.Fault.{Fault}
 use Rattle.ber.specs.declared.ending.End.{End}
 use Rattle.ber.specs.declared.ending.End.the-variants.{More, Over as EndsAt, Broken}
 use Rattle.table.specs.Syntax.{Simple, Body, Plain, Sequence, Set, SequenceOf, SetOf, Choice, constructed}
@@ -19,13 +19,10 @@ use Rattle.table.specs.Octets.{kind}
 use Rattle.table.specs.Entries.{unpacked, tableIn, countIn}
 use Rattle.table.specs.declared.entry.Entry.{Entry}
 use Rattle.table.proofs.Promises.{entered-kind}
-use Rattle.reader.specs.Answers.{causeOf}
 use Rattle.reader.specs.Items.{Holder, inside, message, manner, isSingle, partsOf, optionals, pending, left, lacks}
 use Rattle.reader.specs.Records.{Ready, Known, of-record, of-message, holderIn}
 use Rattle.reader.specs.Sought.{held, Sound}
 use Rattle.reader.specs.Standing.{atEnding, standing}
-use Rattle.reader.specs.declared.answer.Cause.{Cause}
-use Rattle.reader.specs.declared.answer.Cause.the-variants.{NotAwaited}
 use Rattle.reader.specs.declared.judge.Standing.the-variants.{Item, Over, Refused}
 use Rattle.reader.proofs.Items.{pending-free, pending-come}
 use Rattle.reader.proofs.Spans.{by-member, entry-of, held-body}
@@ -95,9 +92,9 @@ module _ {b index : List ℕ} {w : ℕ} {came : List ℕ} (Z : Sound b index w c
     unfolding atEnding
     stands-more d = sym (at-ending ∙ rw d refl)
 
-    pub stands-broken : (f : Fault) → z ≡ Broken f → (c : Cause) → c ≡ causeOf (faultNumber f) → Refused c ≡ standing H i came y
+    pub stands-broken : (c : Cause) → z ≡ Broken c → Refused c ≡ standing H i came y
     unfolding atEnding
-    stands-broken f d c ec = sym (at-ending ∙ rw (d, ec) refl)
+    stands-broken c d = sym (at-ending ∙ rw d refl)
 
     module _ (u : ℕ) (d : z ≡ EndsAt u) (k : Bool) (ek : k ≡ (eqb (e .kind) 16 || eqb (e .kind) 17)) where
       pub stands-list : k ≡ false → Over u ≡ standing H i came y

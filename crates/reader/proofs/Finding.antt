@@ -10,13 +10,14 @@ use mathlib.Core.Option.{Option, some, none}
 use mathlib.Core.Path.{_≡_, refl, sym, ap, _∙_}
 use native.Mathlib.Omega.{arith}
 use Prim.Native.Nat.{ℕ, zero, suc, _+_, _*_, _≤_, _<_}
+use Rattle.octets.specs.declared.cause.Cause.{Cause}
+use Rattle.octets.specs.declared.cause.Cause.the-variants.{NotAwaited}
 use Rattle.octets.specs.Answer.{Answer, got, refused, if, then}
 use Rattle.octets.specs.Numbers.{Octets}
 use Rattle.octets.proofs.Tests.{test}
 use Rattle.ber.specs.Codes.{codeOf}
 use Rattle.ber.specs.Reading.{readIdentifier}
-use Rattle.ber.specs.Told.{toldIdentifier, faultNumber}
-use Rattle.ber.specs.declared.Fault.{Fault}
+use Rattle.ber.specs.Told.{toldIdentifier}
 use Rattle.ber.specs.declared.identifier.Identifier.{Identifier}
 use Rattle.ber.specs.declared.identifier.Identifier.the-variants.{Read, Refused as NoIdentifier}
 use Rattle.ber.proofs.Codes.{read-code-small}
@@ -28,14 +29,11 @@ use Rattle.table.specs.declared.entry.Span.{Span}
 use Rattle.coding.specs.Awaited.{begins}
 use Rattle.coding.specs.Reading.{passes, begun, notAwaited}
 use Rattle.coding.proofs.FirstTags.{good}
-use Rattle.reader.specs.Answers.{causeOf, causeNumber}
 use Rattle.reader.specs.Codes.{firstOf, untagged, peeked, searchIn, hit}
 use Rattle.reader.specs.Items.{Holder, inside, message, Manner, in-turn, each-once, manner, partsOf, Placed, awaits, remains, since, isSingle, first, next}
 use Rattle.reader.specs.Records.{Ready, Known, of-record, of-message, holderIn, Finds}
 use Rattle.reader.specs.Sought.{held, Sound, placeOf, tabled, tabledCount, direct, unfit, unfitCause, Indirect, Sought}
 use Rattle.reader.specs.Ways.{here}
-use Rattle.reader.specs.declared.answer.Cause.{Cause}
-use Rattle.reader.specs.declared.answer.Cause.the-variants.{NotAwaited, Trailing}
 use Rattle.reader.specs.declared.search.Found.{Found}
 use Rattle.reader.specs.declared.search.Found.the-variants.{Part, Refused}
 use Rattle.reader.specs.declared.search.Under.the-variants.{At}
@@ -43,12 +41,11 @@ use Rattle.reader.proofs.Begun.{fit}
 use Rattle.reader.proofs.Items.{found-of, awaits-found}
 use Rattle.reader.proofs.ItemsSearch.{GoodHolder, Tells, tells, search-itself, direct-next, indirect-next}
 use Rattle.reader.proofs.Searching.{spanned, type-low, clear-turn}
-use Rattle.reader.proofs.Wrapping.{cause-fault}
 use Rattle.reader.proofs.Spans.{PartAt, held-body, tabled-some}
 
 -- the refusal of an item that begins no part that is awaited
-pub unfit-is : (h : Holder) (i : ℕ) (came s : List ℕ) (c : Cause) → notAwaited {A = List ℕ} s ≡ refused (causeNumber c) (length s)
-    → unfit {A = List ℕ} h i came s ≡ refused (causeNumber (unfitCause h i came c)) (length s)
+pub unfit-is : (h : Holder) (i : ℕ) (came s : List ℕ) (c : Cause) → notAwaited {A = List ℕ} s ≡ refused c (length s)
+    → unfit {A = List ℕ} h i came s ≡ refused ((unfitCause h i came c)) (length s)
 unfolding unfit unfitCause if
 unfit-is h i came s c e =
     test (isSingle (manner h)) (λ q. rw q e) λ q.
@@ -94,21 +91,21 @@ module _ {b index : List ℕ} {w : ℕ} {came : List ℕ} (Z : Sound b index w c
   T = tableIn b
 
   -- no identifier
-  module _ (f : Fault) (q : y ≡ NoIdentifier f) where
-    none-read : readIdentifier m ≡ refused (faultNumber f) (length m)
+  module _ (f : Cause) (q : y ≡ NoIdentifier f) where
+    none-read : readIdentifier m ≡ refused f (length m)
     none-read = identifier-refused m y ey f q
 
-    unread : notAwaited {A = List ℕ} m ≡ refused (causeNumber (causeOf (faultNumber f))) (length m)
+    unread : notAwaited {A = List ℕ} m ≡ refused f (length m)
     unfolding notAwaited then
-    unread = rw (none-read, cause-fault f) refl
+    unread = rw none-read refl
 
     none-begun : (x : Placed) → begun T (x .1 .type) m ≡ false
     unfolding begun passes
     none-begun x = rw none-read refl
 
-    pub sought-unread : (c : Cause) → c ≡ causeOf (faultNumber f) → (r : Found) → r ≡ Refused (unfitCause H i came c) → Sought b H i came m way r
-    sought-unread c ec r er =
-        rw (er, ec) (first-none (λ x. begun T (x .1 .type) m) (awaits H i came) none-begun, unfit-is H i came m (causeOf (faultNumber f)) unread)
+    pub sought-unread : (r : Found) → r ≡ Refused (unfitCause H i came f) → Sought b H i came m way r
+    sought-unread r er =
+        rw er (first-none (λ x. begun T (x .1 .type) m) (awaits H i came) none-begun, unfit-is H i came m f unread)
 
   -- an identifier
   module _ (code end : ℕ) (q : y ≡ Read code end) where
@@ -122,7 +119,7 @@ module _ {b index : List ℕ} {w : ℕ} {came : List ℕ} (Z : Sound b index w c
     unfolding peeked
     its-tells = rw (Is .1, Is .2) at (tells T (fit b T (countIn b) (Z .ready .passes)) m o)
 
-    all-unawaited : notAwaited {A = List ℕ} m ≡ refused (causeNumber NotAwaited) (length m)
+    all-unawaited : notAwaited {A = List ℕ} m ≡ refused NotAwaited (length m)
     unfolding notAwaited then
     all-unawaited = rw (Is .1) refl
 

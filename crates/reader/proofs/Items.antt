@@ -12,6 +12,7 @@ use native.Mathlib.Nat.{add-zero}
 use native.Mathlib.Numerals.{add-one}
 use native.Mathlib.Omega.{arith}
 use Prim.Native.Nat.{ℕ, zero, suc, _+_, _-_, _≤_, _<_}
+use Rattle.octets.specs.declared.cause.Cause.the-variants.{Cut, Form, NotAwaited, Trailing}
 use Rattle.octets.specs.Answer.{Answer, got, refused, then, if, none-left}
 use Rattle.octets.specs.Lists.{any}
 use Rattle.octets.proofs.Answer.{Holds}
@@ -81,10 +82,10 @@ pub ending : (mode : Mode) (s : List ℕ) → Ending mode s
 unfolding atEnd if none-left
 ending closed [] = over [] refl (λ A f x. refl)
 ending closed (b ∷ s) = more (λ A f x. refl)
-ending open-ended [] = broken 22 0 refl (λ A f x. refl)
-ending open-ended (zero ∷ []) = broken 22 1 refl (λ A f x. refl)
+ending open-ended [] = broken Cut 0 refl (λ A f x. refl)
+ending open-ended (zero ∷ []) = broken Cut 1 refl (λ A f x. refl)
 ending open-ended (zero ∷ zero ∷ s) = over s refl (λ A f x. refl)
-ending open-ended (zero ∷ suc b ∷ s) = broken 23 (suc (suc (length s))) refl (λ A f x. rw (ne-eqb (suc b) 0 (λ e. omega arith)) refl)
+ending open-ended (zero ∷ suc b ∷ s) = broken Form (suc (suc (length s))) refl (λ A f x. rw (ne-eqb (suc b) 0 (λ e. omega arith)) refl)
 ending open-ended (suc b ∷ s) = more (λ A f x. rw (ne-eqb (suc b) 0 (λ e. omega arith)) refl)
 
 -- no item begins with 00
@@ -117,7 +118,7 @@ pub unawaited-on : {A B : Type 0} (s : List ℕ) (f : A → List ℕ → Answer 
 unfolding notAwaited then
 unawaited-on {A} {B} s f = go (readIdentifier s)
   where
-    go : (x : Answer (List ℕ)) → then (then {B = A} x λ i s₁. refused 24 (length s)) f ≡ then x λ i s₁. refused 24 (length s)
+    go : (x : Answer (List ℕ)) → then (then {B = A} x λ i s₁. refused NotAwaited (length s)) f ≡ then x λ i s₁. refused NotAwaited (length s)
     go (got i w) = refl
     go (refused c l) = refl
 
@@ -219,7 +220,7 @@ module _ (T : Table) (r : ℕ → List ℕ → Answer Value) (h : Holder) (k j :
       unfolding readItems if
       items-over e = rw (many, end, e) refl
 
-      pub items-lacking : lacks h j came ≡ true → Whole ≡ refused 24 (length s)
+      pub items-lacking : lacks h j came ≡ true → Whole ≡ refused NotAwaited (length s)
       unfolding readItems if
       items-lacking e = rw (many, end, e) refl
 
@@ -229,7 +230,7 @@ module _ (T : Table) (r : ℕ → List ℕ → Answer Value) (h : Holder) (k j :
 
     -- an item: where no part is left, of none that is awaited, and of one
     module _ (end : More mode s) where
-      pub items-full : remains h j came ≡ false → Whole ≡ refused 26 (length s)
+      pub items-full : remains h j came ≡ false → Whole ≡ refused Trailing (length s)
       unfolding readItems if
       items-full e = rw (many, end, e) refl
 

@@ -11,6 +11,7 @@ use mathlib.Core.Path.{_≡_, refl, sym, ap, subst, _∙_}
 use native.Mathlib.Nat.{add-zero}
 use native.Mathlib.Omega.{arith}
 use Prim.Native.Nat.{ℕ, zero, suc, _+_, _-_, _≤_, _<_}
+use Rattle.octets.specs.declared.cause.Cause.the-variants.{Trailing}
 use Rattle.octets.specs.Answer.{Answer, got, refused, then, if}
 use Rattle.octets.specs.Lists.{any}
 use Rattle.octets.proofs.Tests.{test}
@@ -135,7 +136,7 @@ module _ (T : Table) (r : ℕ → List ℕ → Answer Value) (ms : List Member) 
     at-broken c l end = rw (end, items-broken T r H k 0 came hand mode s refl c l end) refl
 
     module _ (end : More mode s) where
-      set-full : some-of (pending came 0 ms) ≡ false → readSet T r (suc k) ms (Slots hand) mode s ≡ refused 26 (length s)
+      set-full : some-of (pending came 0 ms) ≡ false → readSet T r (suc k) ms (Slots hand) mode s ≡ refused Trailing (length s)
       unfolding readSet if
       set-full e = rw (end, full-marked came d, e) refl
 

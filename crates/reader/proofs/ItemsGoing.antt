@@ -7,6 +7,7 @@ use mathlib.Core.Option.{Option, some, none}
 use mathlib.Core.Path.{_≡_, refl, sym, ap, _∙_}
 use native.Mathlib.Omega.{arith}
 use Prim.Native.Nat.{ℕ, zero, suc, _+_, _-_, _*_, _≤_, _<_}
+use Rattle.octets.specs.declared.cause.Cause.the-variants.{NotAwaited, Trailing}
 use Rattle.octets.specs.Answer.{Answer, got, refused, then, if}
 use Rattle.ber.specs.Reading.{Mode}
 use Rattle.table.specs.Syntax.{Table}
@@ -105,15 +106,15 @@ module _ (W : Answer Value) (T : Table) (r : ℕ → List ℕ → Answer Value) 
           size = S .sized ∙ ap cap (sym (assemble-size h (S .hand) (sofar-over h j came (S .hand) many (S .sofar))));
         }
 
-    pub going-lacking : (u : List ℕ) → Over mode Rest u → lacks h j came ≡ true → W ≡ refused 24 (length Rest)
-    going-lacking u end e = gives-refused 24 (length Rest) (items-lacking T r h (S .fuel) j came (S .hand) mode Rest many u end e)
+    pub going-lacking : (u : List ℕ) → Over mode Rest u → lacks h j came ≡ true → W ≡ refused NotAwaited (length Rest)
+    going-lacking u end e = gives-refused NotAwaited (length Rest) (items-lacking T r h (S .fuel) j came (S .hand) mode Rest many u end e)
 
     pub going-broken : (c l : ℕ) → Broken mode Rest c l → W ≡ refused c l
     going-broken c l end = gives-refused c l (items-broken T r h (S .fuel) j came (S .hand) mode Rest many c l end)
 
     module _ (end : More mode Rest) where
-      pub going-full : remains h j came ≡ false → W ≡ refused 26 (length Rest)
-      going-full e = gives-refused 26 (length Rest) (items-full T r h (S .fuel) j came (S .hand) mode Rest many end e)
+      pub going-full : remains h j came ≡ false → W ≡ refused Trailing (length Rest)
+      going-full e = gives-refused Trailing (length Rest) (items-full T r h (S .fuel) j came (S .hand) mode Rest many end e)
 
       pub going-unawaited : remains h j came ≡ true → next T h j came Rest ≡ none → W ≡ notAwaited Rest
       going-unawaited e f = gives-unawaited (items-unawaited T r h (S .fuel) j came (S .hand) mode Rest many end e f)

@@ -9,6 +9,7 @@ use mathlib.Core.Path.{_≡_, refl, sym, ap, _∙_}
 use native.Mathlib.Nat.{add-zero}
 use native.Mathlib.Omega.{arith}
 use Prim.Native.Nat.{ℕ, zero, suc, _+_, _-_, _≤_, _<_}
+use Rattle.octets.specs.declared.cause.Cause.the-variants.{NotAwaited}
 use Rattle.octets.specs.Answer.{Answer, got, refused, then, if}
 use Rattle.octets.specs.Lists.{any}
 use Rattle.octets.proofs.Answer.{Holds, got-holds}
@@ -51,7 +52,7 @@ module _ (T : Table) (r : ℕ → List ℕ → Answer Value) (came : List ℕ) (
   -- at the end of the contents
   module _ (none-begun : (t : ℕ) → begun T t s ≡ false) where
     sequence-over : (u : List ℕ) → Over mode s u → (l : List Member) (j : ℕ) (os : List (Option Value)) (w : Bool)
-        → readSequence T r l os w mode s ≡ if (any (λ x. not (x .1 .optional)) (pending came j l)) (refused 24 (length s)) λ _. got (os ++ nothing l) u
+        → readSequence T r l os w mode s ≡ if (any (λ x. not (x .1 .optional)) (pending came j l)) (refused NotAwaited (length s)) λ _. got (os ++ nothing l) u
     unfolding readSequence pending any nothing if
     sequence-over u end [] j os w = rw (end, append-none) refl
     sequence-over u end (m ∷ l) j os w =

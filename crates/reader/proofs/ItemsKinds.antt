@@ -8,6 +8,7 @@ use mathlib.Core.Option.{Option, some, none}
 use mathlib.Core.Path.{_≡_, refl, sym, ap, _∙_}
 use native.Mathlib.Omega.{arith}
 use Prim.Native.Nat.{ℕ, zero, suc, _+_, _-_, _≤_, _<_}
+use Rattle.octets.specs.declared.cause.Cause.the-variants.{Cut, Trailing}
 use Rattle.octets.specs.Answer.{Answer, got, refused, then, if, none-left}
 use Rattle.octets.specs.Lists.{any}
 use Rattle.octets.proofs.Answer.{Holds}
@@ -254,15 +255,15 @@ module _ (T : Table) (r : ℕ → List ℕ → Answer Value) where
 -- a whole message
 pub message-whole : (T : Table) (n t : ℕ) (mode : Mode) (s : List ℕ)
     → readMessage T n t s
-    ≡ if (none-left s) (refused 22 0) λ _.
-    then (readHeld T (readValue T n) (message t) mode s) λ v r. if (not (none-left r)) (refused 26 (length r)) λ _. got v r
+    ≡ if (none-left s) (refused Cut 0) λ _.
+    then (readHeld T (readValue T n) (message t) mode s) λ v r. if (not (none-left r)) (refused Trailing (length r)) λ _. got v r
 unfolding readMessage if
 message-whole T n t mode s =
-    ap (λ (x : Unit {0} → Answer Value). if (none-left s) (refused 22 0) x)
+    ap (λ (x : Unit {0} → Answer Value). if (none-left s) (refused Cut 0) x)
     (λ i _. (regroup (begun T t s) ∙ ap (λ (x : Answer Value). then x Behind) (message-held T (readValue T n) mode s t)) i)
   where
     Behind : Value → List ℕ → Answer Value
-    Behind v r = if (not (none-left r)) (refused 26 (length r)) λ _. got v r
+    Behind v r = if (not (none-left r)) (refused Trailing (length r)) λ _. got v r
 
     regroup : (b : Bool) → if (not b) (notAwaited s) (λ _. then (readValue T n t s) Behind) ≡ then (if (not b) (notAwaited s) λ _. readValue T n t s) Behind
     regroup true = refl

@@ -9,6 +9,7 @@ use mathlib.Core.List.{List, [], _∷_, List·Memᴰ as In, List·Memᴰ·not-ni
 use mathlib.Core.Path.{_≡_, refl, sym, ap, subst, _∙_}
 use native.Mathlib.Omega.{arith}
 use Prim.Native.Nat.{ℕ, zero, suc, _+_, _-_, _*_, _/_, _%_, _≤_, _<_}
+use Rattle.octets.specs.declared.cause.Cause.the-variants.{MessageLevel}
 use Rattle.octets.specs.Answer.{Answer, got, refused, then, if}
 use Rattle.octets.proofs.Members.{place-in}
 use Rattle.octets.proofs.Tests.{test}
@@ -292,7 +293,7 @@ module _ (T : Table) (F : (t : ℕ) → Fit (T t)) (N : (t : ℕ) → Nested T 1
 
   -- the value of t, under d CHOICEs of which each takes a level
   module _ {way : List ℕ} {t d u : ℕ} (l : Leads T code way t d u) (its : firstOf (T u) ≡ code) where
-    pub way-level : (n : ℕ) → n ≤ d → readValue T n t s ≡ refused 28 (length s)
+    pub way-level : (n : ℕ) → n ≤ d → readValue T n t s ≡ refused MessageLevel (length s)
     unfolding readValue then
     way-level n h =
         let (y, i, m, g) = leads-prefix l u 0 (search-here T F N code tag u its) n h in

@@ -10,6 +10,7 @@ use borrow.Author.Tests.{eqb-true, eqb-false}
 use lib.Dec.{eqb}
 use lib.ListN.{length, getD, drop, set}
 use lib.Seq.{getD-drop}
+use Rattle.octets.specs.declared.cause.Cause.{Cause}
 use Rattle.octets.specs.Answer.{none-left}
 use Rattle.octets.proofs.Tests.{test}
 use Rattle.ber.specs.Skipping.{Skips}
@@ -21,7 +22,6 @@ use Rattle.reader.specs.Items.{Holder, inside, message, Manner, in-turn,
 use Rattle.reader.specs.Records.{Ready, Known}
 use Rattle.reader.specs.Sought.{held, Sound, tabledCount, Sought}
 use Rattle.reader.specs.Placing.{endAt, Spotted}
-use Rattle.reader.specs.declared.answer.Cause.{Cause}
 use Rattle.reader.specs.declared.search.Choice.{Choice as Chosen}
 use Rattle.reader.specs.declared.search.Found.{Found}
 use Rattle.reader.specs.declared.search.Found.the-variants.{Part, Refused}

@@ -11,14 +11,15 @@ use mathlib.Core.Path.{_≡_, refl, sym, ap, _∙_}
 use native.Mathlib.Numerals.{add-one}
 use native.Mathlib.Omega.{arith}
 use Prim.Native.Nat.{ℕ, zero, suc, _+_, _-_, _*_, _/_, _%_, _≤_, _<_}
+use Rattle.octets.specs.declared.cause.Cause.{Cause}
+use Rattle.octets.specs.declared.cause.Cause.the-variants.{NotAwaited}
 use Rattle.octets.specs.Answer.{Answer, got, refused, then, if, behind, none-left}
 use Rattle.octets.specs.Lists.{same}
 use Rattle.octets.specs.Numbers.{Octets}
 use Rattle.octets.proofs.Tests.{test}
 use Rattle.ber.specs.Codes.{codeOf, code as codeBy}
 use Rattle.ber.specs.Reading.{Mode, closed, open-ended, Size, definite, indefinite, readIdentifier, readLength, readHeader, inside, readConstructed, readPrimitive, atEnd}
-use Rattle.ber.specs.Told.{toldLength, faultNumber, mode}
-use Rattle.ber.specs.declared.Fault.{Fault}
+use Rattle.ber.specs.Told.{toldLength, mode}
 use Rattle.ber.specs.declared.length.Length.{Length}
 use Rattle.ber.specs.declared.length.Length.the-variants.{Read as ReadLength, Refused as NoLength}
 use Rattle.ber.specs.declared.length.Extent.{Extent}
@@ -28,16 +29,14 @@ use Rattle.table.specs.Entries.{unpacked, tableIn, countIn, Entered, firstCode,
 use Rattle.coding.specs.Tags.{identifierOf, before, explicitTags, own, explicit}
 use Rattle.coding.specs.Value.{Value}
 use Rattle.coding.specs.Reading.{readWrapped, readKind}
-use Rattle.reader.specs.Answers.{causeOf, causeNumber}
 use Rattle.reader.specs.Records.{Ready, recordIn, IsRecord, readRecord}
 use Rattle.reader.specs.Wraps.{ended, shut, closing, noteOf, Around, identifiers, Headed, readBare, AwaitsTag, behind-last, is-tag, no-tag, mustGoOn, EntersTag, goes-on, is-over, Opens}
-use Rattle.reader.specs.declared.answer.Cause.{Cause}
 use Rattle.reader.specs.declared.tags.Tag.{Tag as TagRead}
 use Rattle.reader.specs.declared.tags.Tag.the-variants.{Read as ReadTag, Refused as NoTag}
 use Rattle.reader.specs.declared.tags.Opened.the-variants.{Inside, Refused as NotOpened}
 use Rattle.reader.proofs.Begun.{Fit}
 use Rattle.reader.proofs.Tagging.{zeros, count-identifiers, code-at, same-at, its-entry, its-record, its-fit}
-use Rattle.reader.proofs.Wrapping.{cause-fault, closing-last, around-more, closing-refused, note-half, note-mark}
+use Rattle.reader.proofs.Wrapping.{closing-last, around-more, closing-refused, note-half, note-mark}
 
 -- octets of a part
 octets-drop : (m : List ℕ) → Octets m → (n : ℕ) → Octets (drop n m)
@@ -106,11 +105,11 @@ clash a s c l e = let z : _≡_ {A = ℕ} 0 1 = cc in omega arith
 
 module _ (A B : Type 0) (s : List ℕ) (l : ℕ) where
   abbrev Goes : Mode → Type 0
-  Goes k = ((x : Unit {0} → Answer A) → atEnd k s (λ _. refused 24 l) x ≡ x tt) × ((y : Unit {0} → Answer B) → atEnd k s (λ _. refused 24 l) y ≡ y tt)
+  Goes k = ((x : Unit {0} → Answer A) → atEnd k s (λ _. refused NotAwaited l) x ≡ x tt) × ((y : Unit {0} → Answer B) → atEnd k s (λ _. refused NotAwaited l) y ≡ y tt)
 
   abbrev Stops : Mode → Type 0
   Stops k =
-      (c : ℕ) × (n : ℕ) × ((x : Unit {0} → Answer A) → atEnd k s (λ _. refused 24 l) x ≡ refused c n) × ((y : Unit {0} → Answer B) → atEnd k s (λ _. refused 24 l) y ≡ refused c n)
+      (c : ℕ) × (n : ℕ) × ((x : Unit {0} → Answer A) → atEnd k s (λ _. refused NotAwaited l) x ≡ refused c n) × ((y : Unit {0} → Answer B) → atEnd k s (λ _. refused NotAwaited l) y ≡ refused c n)
 
   either : (k : Mode) → Goes k ⊎ Stops k
   unfolding atEnd if
@@ -124,22 +123,22 @@ module _ (A B : Type 0) (s : List ℕ) (l : ℕ) where
       λ g. inr (23, length s, (λ x. rw (a, d, f, g) refl), λ y. rw (a, d, f, g) refl))
       λ d. inl ((λ x. rw (a, d) refl), λ y. rw (a, d) refl)
 
-going : {B : Type 0} (k : Mode) (s u : List ℕ) (l : ℕ) → atEnd k s (λ _. refused 24 l) (λ _. got u s) ≡ got u s → (y : Unit {0} → Answer B)
-    → atEnd k s (λ _. refused 24 l) y ≡ y tt
+going : {B : Type 0} (k : Mode) (s u : List ℕ) (l : ℕ) → atEnd k s (λ _. refused NotAwaited l) (λ _. got u s) ≡ got u s → (y : Unit {0} → Answer B)
+    → atEnd k s (λ _. refused NotAwaited l) y ≡ y tt
 going {B} k s u l e y = go (either (List ℕ) B s l k)
   where
-    go : Goes (List ℕ) B s l k ⊎ Stops (List ℕ) B s l k → atEnd k s (λ _. refused 24 l) y ≡ y tt
+    go : Goes (List ℕ) B s l k ⊎ Stops (List ℕ) B s l k → atEnd k s (λ _. refused NotAwaited l) y ≡ y tt
     go (inl h) = h .1 y
     go (inr h) = absurd (clash u s (h .0) (h .1) (sym e ∙ h .2 (λ _. got u s)))
 
-stopping : {B : Type 0} (k : Mode) (s u : List ℕ) (l c n : ℕ) → atEnd k s (λ _. refused 24 l) (λ _. got u s) ≡ refused c n → (y : Unit {0} → Answer B)
-    → atEnd k s (λ _. refused 24 l) y ≡ refused c n
+stopping : {B : Type 0} (k : Mode) (s u : List ℕ) (l c n : ℕ) → atEnd k s (λ _. refused NotAwaited l) (λ _. got u s) ≡ refused c n → (y : Unit {0} → Answer B)
+    → atEnd k s (λ _. refused NotAwaited l) y ≡ refused c n
 stopping {B} k s u l c n e y = go (either (List ℕ) B s l k)
   where
     same-refusal : (a b p q : ℕ) → _≡_ {A = Answer (List ℕ)} (refused a b) (refused p q) → _≡_ {A = Answer B} (refused a b) (refused p q)
     same-refusal a b p q z = let v : a ≡ p = cc in let w : b ≡ q = cc in rw (v, w) refl
 
-    go : Goes (List ℕ) B s l k ⊎ Stops (List ℕ) B s l k → atEnd k s (λ _. refused 24 l) y ≡ refused c n
+    go : Goes (List ℕ) B s l k ⊎ Stops (List ℕ) B s l k → atEnd k s (λ _. refused NotAwaited l) y ≡ refused c n
     go (inl h) = absurd (clash u s c n (sym (h .0 (λ _. got u s)) ∙ e))
     go (inr h) = h .3 y ∙ same-refusal (h .0) (h .1) c n (sym (h .2 (λ _. got u s)) ∙ e)
 
@@ -175,13 +174,13 @@ wrapped-refused : {A : Type 0} (i : List ℕ) (is : List (List ℕ)) (r : List �
 unfolding readWrapped readConstructed then
 wrapped-refused i is r s c l e = rw e refl
 
-header-none : (i s : List ℕ) (c : ℕ) → then (readIdentifier s) (λ j u. if (same i j) (got j u) λ _. refused 24 (length s)) ≡ refused c (length s)
+header-none : (i s : List ℕ) (c : ℕ) → then (readIdentifier s) (λ j u. if (same i j) (got j u) λ _. refused NotAwaited (length s)) ≡ refused c (length s)
     → readHeader i s ≡ refused c (length s)
 unfolding readHeader then if
 header-none i s c e = go (readIdentifier s) e
   where
-    go : (x : Answer (List ℕ)) → then x (λ j u. if (same i j) (got j u) λ _. refused 24 (length s)) ≡ refused c (length s)
-        → then x (λ j u. if (not (same i j)) (refused 24 (length s)) λ _. readLength (length s) u) ≡ refused c (length s)
+    go : (x : Answer (List ℕ)) → then x (λ j u. if (same i j) (got j u) λ _. refused NotAwaited (length s)) ≡ refused c (length s)
+        → then x (λ j u. if (not (same i j)) (refused NotAwaited (length s)) λ _. readLength (length s) u) ≡ refused c (length s)
     go (got j u) e = test (same i j) (λ t. absurd (clash j u c (length s) (rw t at e))) λ t. rw t (let k = rw t at e in let v : 24 ≡ c = cc in rw v refl)
     go (refused a n) e = let v : a ≡ c = cc in let w : n ≡ length s = cc in rw (v, w) refl
 
@@ -293,19 +292,18 @@ module _ (b : List ℕ) (r : Record) (F : Fit r) (m : List ℕ) (om : Octets m) 
       under : (n : ℕ) → readRecord (tableIn b) n r (drop first m) ≡ closing m (take j notes) end (readWrapped (Id ∷ Rest) (readBare b n r) (drop at P))
       under n = S .whole n ∙ ap (λ (z : List (List ℕ)). closing m (take j notes) end (readWrapped z (readBare b n r) (drop at P))) (wraps-at j l)
 
-      refused-all : (c : Cause) (k n₁ : ℕ) (ns : List ℕ) → ((n : ℕ) → readWrapped (Id ∷ Rest) (readBare b n r) (drop at P) ≡ refused (causeNumber c) k)
+      refused-all : (c : Cause) (k n₁ : ℕ) (ns : List ℕ) → ((n : ℕ) → readWrapped (Id ∷ Rest) (readBare b n r) (drop at P) ≡ refused c k)
           → k + (length m - end) ≡ n₁ → n₁ ≤ length m → Opens b r m first ns (NotOpened c n₁)
       refused-all c k n₁ ns e q h =
-          (h, λ n. under n ∙ ap (closing m (take j notes) end) (e n) ∙ closing-refused m (length m) (take j notes) end (causeNumber c) k (S .around) ∙ ap (refused (causeNumber c)) q)
+          (h, λ n. under n ∙ ap (closing m (take j notes) end) (e n) ∙ closing-refused m (length m) (take j notes) end c k (S .around) ∙ ap (refused c) q)
 
       module _ (z : Length) (az : (k : ℕ) → z ≡ toldLength (length P) (readLength k (drop from P))) where
-        pub open-unread : (f : Fault) → z ≡ NoLength f → (c : Cause) → c ≡ causeOf (faultNumber f) → (ns : List ℕ)
+        pub open-unread : (c : Cause) → z ≡ NoLength c → (ns : List ℕ)
             → Opens b r m first ns (NotOpened c (length m - at))
-        open-unread f q c ec ns =
+        open-unread c q ns =
             let k = length (drop at P) in
-            let v : faultNumber f ≡ causeNumber c = sym (ap causeNumber ec ∙ cause-fault f) in
-            let y = header-is ∙ length-refused P from k z (az k) f q ∙ ap (λ (i : ℕ). refused i k) v in
-            refused-all c k (length m - at) ns (λ n. wrapped-refused Id Rest (readBare b n r) (drop at P) (causeNumber c) k y) (omega (arith, left-part, S .some, S .high)) (omega arith)
+            let y = header-is ∙ length-refused P from k z (az k) c q in
+            refused-all c k (length m - at) ns (λ n. wrapped-refused Id Rest (readBare b n r) (drop at P) c k y) (omega (arith, left-part, S .some, S .high)) (omega arith)
 
         module _ (x : Extent) (q : z ≡ ReadLength x) where
           abbrev K : ℕ
@@ -325,7 +323,7 @@ module _ (b : List ℕ) (r : Record) (F : Fit r) (m : List ℕ) (om : Octets m) 
           size-inside = length-drop (x .start) (take (x .end) m) ∙ ap (λ (i : ℕ). i - x .start) (length-take-le (x .end) m (omega (arith, extent .2, S .high)))
 
           abbrev Contents : Answer Value → Answer Value
-          Contents y = atEnd (mode (x .marked)) U (λ _. refused 24 (length U)) λ _. ended (mode (x .marked)) y
+          Contents y = atEnd (mode (x .marked)) U (λ _. refused NotAwaited (length U)) λ _. ended (mode (x .marked)) y
 
           tag-inside : (f : List ℕ → Answer Value) → readWrapped (Id ∷ Rest) f (drop at P) ≡ sealed m end (x .end) (x .marked) (Contents (readWrapped Rest f U))
           unfolding readWrapped readConstructed then inside sealed ended
@@ -345,29 +343,29 @@ module _ (b : List ℕ) (r : Record) (F : Fit r) (m : List ℕ) (om : Octets m) 
               rw (header-is, y .0, t, a, d, h) refl
 
           -- the identifier that is awaited next
-          rest-refused : (c : Cause) → AwaitsTag Ids (suc j) U (NoTag c) → (n : ℕ) → readWrapped Rest (readBare b n r) U ≡ refused (causeNumber c) (length U)
+          rest-refused : (c : Cause) → AwaitsTag Ids (suc j) U (NoTag c) → (n : ℕ) → readWrapped Rest (readBare b n r) U ≡ refused c (length U)
           unfolding readWrapped
           rest-refused c (no-tag w e) n =
               test (ltb (suc j) Count)
               (λ t.
               let k = ltb-true (suc j) Count t in
               ap (λ (y : List (List ℕ)). readWrapped y (readBare b n r) U) (wraps-at (suc j) k)
-              ∙ wrapped-refused (getD Ids (suc j) []) (drop (suc (suc j)) (explicit r)) (readBare b n r) U (causeNumber c) (length U) (header-none (getD Ids (suc j) []) U (causeNumber c) e))
+              ∙ wrapped-refused (getD Ids (suc j) []) (drop (suc (suc j)) (explicit r)) (readBare b n r) U c (length U) (header-none (getD Ids (suc j) []) U c e))
               λ t.
               let k : suc j ≡ Count = omega (arith, ltb-false (suc j) Count t) in
               let v = is-last (omega (arith, w, k)) in
               let u : getD Ids (suc j) [] ≡ own r = ap (λ (i : ℕ). getD Ids i []) k ∙ own-last v in
-              let y = header-none (own r) U (causeNumber c) (rw u at e) in
+              let y = header-none (own r) U c (rw u at e) in
               ap (λ (a : List (List ℕ)). readWrapped a (readBare b n r) U) (ap (λ (i : ℕ). drop i (explicit r)) k ∙ drop-length (explicit r))
-              ∙ item-refused (tableIn b) _ (own r) (r .body) U (causeNumber c) (length U) v y
+              ∙ item-refused (tableIn b) _ (own r) (r .body) U c (length U) v y
 
           no-entry : (c : Cause) → EntersTag Ids (suc j) U (x .marked) (NoTag c) → (n : ℕ)
-              → Contents (readWrapped Rest (readBare b n r) U) ≡ refused (causeNumber c) (length U)
+              → Contents (readWrapped Rest (readBare b n r) U) ≡ refused c (length U)
           unfolding ended then
           no-entry c (goes-on g h a) n =
               going (mode (x .marked)) U [] (length U) g (λ _. ended (mode (x .marked)) (readWrapped Rest (readBare b n r) U)) ∙ rw (rest-refused c a n) refl
           no-entry c (is-over h) n =
-              stopping (mode (x .marked)) U [] (length U) (causeNumber c) (length U) h (λ _. ended (mode (x .marked)) (readWrapped Rest (readBare b n r) U))
+              stopping (mode (x .marked)) U [] (length U) c (length U) h (λ _. ended (mode (x .marked)) (readWrapped Rest (readBare b n r) U))
 
           entry : (next : ℕ) → EntersTag Ids (suc j) U (x .marked) (ReadTag next)
               → (mustGoOn (x .marked) U ≡ got [] U) × (0 < length U) × AwaitsTag Ids (suc j) U (ReadTag next)
@@ -386,7 +384,7 @@ module _ (b : List ℕ) (r : Record) (F : Fit r) (m : List ℕ) (om : Octets m) 
             open-refused c e ns =
                 let k = length U + (end - x .end) in
                 refused-all c k (length m - x .start) ns
-                (λ n. tag-inside (readBare b n r) ∙ ap (sealed m end (x .end) (x .marked)) (no-entry c (its (NoTag c) e) n) ∙ sealed-refused m end (x .end) (x .marked) (causeNumber c) (length U) (extent .3))
+                (λ n. tag-inside (readBare b n r) ∙ ap (sealed m end (x .end) (x .marked)) (no-entry c (its (NoTag c) e) n) ∙ sealed-refused m end (x .end) (x .marked) c (length U) (extent .3))
                 (omega (arith, size-inside, extent .1, extent .2, S .high)) (omega arith)
 
             module _ (next : ℕ) (e : y ≡ ReadTag next) where

@@ -10,6 +10,8 @@ use borrow.Author.Tests.{lt-ltb, le-ltb, le-leb, lt-leb}
 use lib.Dec.{ltb, leb, eqb}
 use lib.ListN.{length, take, drop}
 use lib.Seq.{sets, sets-eq}
+use Rattle.octets.specs.declared.cause.Cause.{Cause}
+use Rattle.octets.specs.declared.cause.Cause.the-variants.{Trailing}
 use Rattle.octets.specs.Answer.{Answer, got, refused, then, if, none-left}
 use Rattle.octets.proofs.Answer.{run, refused≢got}
 use Rattle.octets.proofs.Tests.{test}
@@ -17,21 +19,16 @@ use Rattle.ber.specs.Told.{mode}
 use Rattle.table.specs.Syntax.{Table}
 use Rattle.table.specs.Entries.{tableIn, Filled}
 use Rattle.table.specs.Passes.{Passes}
-use Rattle.table.specs.declared.TableCause.the-variants.{NoType}
 use Rattle.coding.specs.Value.{Value, octets}
 use Rattle.coding.specs.Reading.{readValue, readMessage}
-use Rattle.coding.specs.Calls.{messageCause, afterReading, readOutcome}
-use Rattle.coding.specs.declared.MessageCause.{MessageCause}
-use Rattle.coding.specs.declared.MessageCause.the-variants.{TooLong, Room}
-use Rattle.coding.specs.declared.Refusal.the-variants.{Table as of-table, Message as of-message}
+use Rattle.coding.specs.Calls.{afterReading, readOutcome}
 use Rattle.coding.specs.declared.Answer.the-variants.{Done as done, Refused as refusal}
 use Rattle.coding.proofs.Checked.{Says}
 use Rattle.coding.proofs.Refusals.{Speaks, answers, names, message-says}
-use Rattle.reader.specs.Answers.{cap, causeOf, causeNumber, told, size}
+use Rattle.reader.specs.Answers.{cap, told, size}
 use Rattle.reader.specs.Items.{message, readHeld}
 use Rattle.reader.specs.Records.{Ready}
 use Rattle.reader.specs.Placed.{Fits}
-use Rattle.reader.specs.declared.answer.Cause.{Cause}
 use Rattle.reader.specs.declared.answer.Judged.{Judged}
 use Rattle.reader.specs.declared.answer.Judged.the-variants.{Done, Refused}
 use Rattle.reader.proofs.ItemsKinds.{message-whole}
@@ -42,23 +39,12 @@ ready b index n F P = let q = F .count in record { passes = rw q at P; filled = 
 -- what the judge told
 abbrev Tells : Answer Value → Judged → Type 0
 Tells x (Done e s) = (v : Value) × (w : List ℕ) × (x ≡ got v w) × (cap (size v) ≡ s)
-Tells x (Refused c l) = (k : ℕ) × (x ≡ refused k l) × (causeOf k ≡ c)
+Tells x (Refused c l) = x ≡ refused c l
 
 tells : (m : List ℕ) (x : Answer Value) → Tells x (told m size x)
 unfolding told
 tells m (got v w) = (v, w, refl, refl)
-tells m (refused c l) = (c, refl, refl)
-
--- a cause stands for its number
-cause-is : (c p : ℕ) → messageCause (causeNumber (causeOf c)) p ≡ messageCause c p
-unfolding messageCause causeOf if
-cause-is c p =
-    test (eqb c 22) (λ e. rw e refl) λ a.
-    test (eqb c 23) (λ e. rw (a, e) refl) λ b.
-    test (eqb c 24) (λ e. rw (a, b, e) refl) λ d.
-    test (eqb c 25) (λ e. rw (a, b, d, e) refl) λ f.
-    test (eqb c 26) (λ e. rw (a, b, d, f, e) refl) λ g.
-    rw (a, b, d, f, g) refl
+tells m (refused c l) = refl
 
 -- a message that is accepted holds one item of its type
 accepted-held : (T : Table) (n t : ℕ) (m : List ℕ) (v : Value) (w : List ℕ) → readMessage T n t m ≡ got v w
@@ -68,21 +54,21 @@ accepted-held T n t m v w e =
     let z = sym (message-whole T n t (mode false) m) ∙ e in
     test (none-left m) (λ y. absurd (refused≢got (rw y at z))) λ y. go (readHeld T (readValue T n) (message t) (mode false) m) (rw y at z)
   where
-    go : (x : Answer Value) → then x (λ a r. if (not (none-left r)) (refused 26 (length r)) λ _. got a r) ≡ got v w → x ≡ got v w
+    go : (x : Answer Value) → then x (λ a r. if (not (none-left r)) (refused Trailing (length r)) λ _. got a r) ≡ got v w → x ≡ got v w
     go (got a r) z = test (none-left r) (λ y. rw y at z) λ y. absurd (refused≢got (rw y at z))
     go (refused c l) z = absurd (refused≢got z)
 
 -- the place of a refusal lies in the message
-speaks-low : {K : ℕ → Type 0} {n : ℕ} (x : Answer Value) → Speaks K n x → (c l : ℕ) → x ≡ refused c l → l ≤ n
+speaks-low : {K : Cause → Type 0} {n : ℕ} (x : Answer Value) → Speaks K n x → (c : Cause) (l : ℕ) → x ≡ refused c l → l ≤ n
 speaks-low (got a r) answers c l e = absurd (refused≢got (sym e))
 speaks-low (refused d k) (names h i) c l e = let q : k ≡ l = cc in omega arith
 
 module _ (T : Table) (n t : ℕ) (m buf : List ℕ) where
-  pub out-type : n ≤ t → Says (readOutcome T n t m buf) (refusal (of-table NoType)) buf
+  pub out-type : n ≤ t → Says (readOutcome T n t m buf) (refusal NoType 0) buf
   unfolding readOutcome
   out-type h = let e : ltb t n ≡ false = le-ltb t n h in (simp (run, e), simp (run, e))
 
-  pub out-long : t < n → 8192 < length m → Says (readOutcome T n t m buf) (refusal (of-message TooLong)) buf
+  pub out-long : t < n → 8192 < length m → Says (readOutcome T n t m buf) (refusal MessageLength 0) buf
   unfolding readOutcome
   out-long h l =
       let e : ltb t n ≡ true = lt-ltb t n h in
@@ -92,8 +78,8 @@ module _ (T : Table) (n t : ℕ) (m buf : List ℕ) where
 module _ (T : Table) (t : ℕ) (m : List ℕ) (r : Judged) (p : r ≡ told m size (readMessage T 24 t m)) where
   pub refused-within : (c : Cause) (l : ℕ) → r ≡ Refused c l → l ≤ length m
   refused-within c l e =
-      let (k, x, y) = rw (← p, e) at (tells m (readMessage T 24 t m)) in
-      speaks-low (readMessage T 24 t m) (message-says T 24 t m) k l x
+      let x = rw (← p, e) at (tells m (readMessage T 24 t m)) in
+      speaks-low (readMessage T 24 t m) (message-says T 24 t m) c l x
 
   module _ (n : ℕ) (buf : List ℕ) (h : t < n) (l : length m ≤ 8192) where
     -- the outcome once the message is read
@@ -104,14 +90,12 @@ module _ (T : Table) (t : ℕ) (m : List ℕ) (r : Judged) (p : r ≡ told m siz
         let f : leb (length m) 8192 ≡ true = le-leb (length m) 8192 l in
         simp (run, e, f, q)
 
-    pub out-refused : (c : Cause) (i : ℕ) → r ≡ Refused c i → (k : MessageCause) → k ≡ messageCause (causeNumber c) (length m - i)
-        → Says (readOutcome T n t m buf) (refusal (of-message k)) buf
+    pub out-refused : (c : Cause) (i : ℕ) → r ≡ Refused c i → Says (readOutcome T n t m buf) (refusal c (length m - i)) buf
     unfolding afterReading
-    out-refused c i e k f =
-        let (d, x, y) = rw (← p, e) at (tells m (readMessage T 24 t m)) in
-        let o = whole (refused d i) x in
-        let q : k ≡ messageCause d (length m - i) = f ∙ rw (← y) (cause-is d (length m - i)) in
-        (rw (o, q), rw o)
+    out-refused c i e =
+        let x = rw (← p, e) at (tells m (readMessage T 24 t m)) in
+        let o = whole (refused c i) x in
+        (rw o, rw o)
 
     module _ (e s : ℕ) (d : r ≡ Done e s) where
       -- the value that was read, and how many octets it has
@@ -124,17 +108,17 @@ module _ (T : Table) (t : ℕ) (m : List ℕ) (r : Judged) (p : r ≡ told m siz
       accepted : Accepted
       accepted = let (v, w, x, y) = rw (← p, d) at (tells m (readMessage T 24 t m)) in record { value = v; rest = w; is = x; size = y }
 
-      lacks : min 16384 (length buf) < size (accepted .value) → Says (readOutcome T n t m buf) (refusal (of-message Room)) buf
+      lacks : min 16384 (length buf) < size (accepted .value) → Says (readOutcome T n t m buf) (refusal ValueRoom 0) buf
       unfolding afterReading
       lacks k =
           let o = whole (got (accepted .value) (accepted .rest)) (accepted .is) in
           let f : leb (size (accepted .value)) (min 16384 (length buf)) ≡ false = lt-leb _ _ k in
           (rw o (simp (run, f)), rw o (simp (run, f)))
 
-      pub out-over : 16384 < s → Says (readOutcome T n t m buf) (refusal (of-message Room)) buf
+      pub out-over : 16384 < s → Says (readOutcome T n t m buf) (refusal ValueRoom 0) buf
       out-over k = lacks (omega (arith, accepted .size))
 
-      pub out-room : s ≤ 16384 → length buf < s → Says (readOutcome T n t m buf) (refusal (of-message Room)) buf
+      pub out-room : s ≤ 16384 → length buf < s → Says (readOutcome T n t m buf) (refusal ValueRoom 0) buf
       out-room j k = lacks (omega (arith, accepted .size))
 
       module _ (j : s ≤ 16384) (k : s ≤ length buf) where

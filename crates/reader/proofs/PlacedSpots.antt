@@ -11,6 +11,7 @@ use borrow.Author.Tests.{ne-eqb}
 use lib.Dec.{eqb}
 use lib.ListN.{length, getD, drop, set, length-drop}
 use lib.Seq.{drop-drop}
+use Rattle.octets.specs.declared.cause.Cause.the-variants.{NotAwaited, Trailing}
 use Rattle.octets.specs.Answer.{Answer, got, refused, then, if}
 use Rattle.octets.proofs.Answer.{got-holds}
 use Rattle.octets.specs.Permutations.{Each, nil, cons}
@@ -66,8 +67,8 @@ noted-alike h single p = h
 abbrev Step : Table → (ℕ → List ℕ → Answer Value) → Holder → Hand → Mode → List ℕ → List Placed → (ℕ × Value → List ℕ → Answer Hand) → Answer Hand
 Step T r h hand md s l f =
     if (isSingle (manner h)) (then (readPart T r (first (λ x. begun T (x .1 .type) s) (within (manner h) l)) s) λ x s₁. got (hand ++ (x ∷ [])) s₁) λ _.
-    atEnd md s (λ u. if (any (λ x. not (x .1 .optional)) l) (refused 24 (length s)) λ _. got hand u) λ _.
-    if (not (some-of l)) (refused 26 (length s)) λ _.
+    atEnd md s (λ u. if (any (λ x. not (x .1 .optional)) l) (refused NotAwaited (length s)) λ _. got hand u) λ _.
+    if (not (some-of l)) (refused Trailing (length s)) λ _.
     then (readPart T r (first (λ x. begun T (x .1 .type) s) (within (manner h) l)) s) f
 
 items-alike : (T : Table) (r : ℕ → List ℕ → Answer Value) (h : Holder) (k j : ℕ) {l q : List ℕ} → Alike l q → (hand : Hand) (md : Mode) (s : List ℕ)

@@ -10,6 +10,7 @@ use borrow.Author.Tests.{ne-eqb}
 use lib.Dec.{eqb}
 use lib.ListN.{length, getD, drop, length-append, length-drop}
 use lib.Seq.{append-snoc, sets, length-sets, drop-drop}
+use Rattle.octets.specs.declared.cause.Cause.the-variants.{NotAwaited, Trailing}
 use Rattle.octets.specs.Answer.{Answer, got, refused, then, if, none-left}
 use Rattle.octets.proofs.Answer.{Holds, yields, refuses, then-holds, if-holds, map-holds, got-holds, refused≢got, got-value, got-rest}
 use Rattle.octets.proofs.Tests.{test}
@@ -142,11 +143,11 @@ module _ (T : Table) (r : ℕ → List ℕ → Answer Value) (h : Holder) (j : �
         }
 
     abbrev Ended : List ℕ → Answer Hand
-    Ended u = if (lacks h j came) (refused 24 (length s)) λ _. got hand u
+    Ended u = if (lacks h j came) (refused NotAwaited (length s)) λ _. got hand u
 
     abbrev More : Unit {0} → Answer Hand
     More _ =
-        if (not (remains h j came)) (refused 26 (length s)) λ _.
+        if (not (remains h j came)) (refused Trailing (length s)) λ _.
         then (readPart T r (next T h j came s) s) λ x s₁.
         readItems T r h k (following (manner h) (x .0)) (noted (manner h) came (x .0)) (hand ++ (x ∷ [])) (mode b) s₁
 

@@ -11,6 +11,8 @@ use mathlib.Core.Logic.{inl, inr}
 use mathlib.Core.Path.{_≡_, refl, sym, ap, subst, _∙_}
 use native.Mathlib.Omega.{arith}
 use Prim.Native.Nat.{ℕ, zero, suc, _+_, _-_, _/_, _%_, _≤_, _<_}
+use Rattle.octets.specs.declared.cause.Cause.{Cause}
+use Rattle.octets.specs.declared.cause.Cause.the-variants.{NotAwaited, Trailing}
 use Rattle.octets.specs.Answer.{Answer, got, refused, then, if, behind}
 use Rattle.octets.specs.Lists.{same, any}
 use Rattle.octets.specs.Numbers.{Octets, two}
@@ -51,7 +53,6 @@ use Rattle.reader.specs.Placed.{Fits, Final, IsPlaced, heldIn, valueIn, 
 use Rattle.reader.specs.Records.{Ready, of-record, of-message, recordIn, holderIn, IsRecord, readRecord}
 use Rattle.reader.specs.Sought.{held}
 use Rattle.reader.specs.Wraps.{ended, shut, innerEnd, closing, Around, Headed, identifiers, readBare, Opens}
-use Rattle.reader.specs.declared.answer.Cause.{Cause}
 use Rattle.reader.specs.declared.answer.Judged.{Judged}
 use Rattle.reader.specs.declared.answer.Judged.the-variants.{Done, Refused}
 use Rattle.reader.specs.declared.place.Placed.{Placed}
@@ -75,10 +76,10 @@ ended-through {A} k (got a₁ u) a rest e = go (ending k u)
   where
     go : Ending k u → Alike (ended k) (got a₁ u) a rest
     go (over y z h) =
-        let q = sym (h A (λ y. got a₁ y) (λ _. refused 26 (length u))) ∙ e in
-        (u, ap (λ z. got z u) (got-value q), λ n. h ℕ (λ y. got n y) (λ _. refused 26 (length u)) ∙ ap (got n) (got-rest q))
-    go (broken c l z h) = refused≢got (sym (h A (λ y. got a₁ y) (λ _. refused 26 (length u))) ∙ e)
-    go (more h) = refused≢got (sym (h A (λ y. got a₁ y) (λ _. refused 26 (length u))) ∙ e)
+        let q = sym (h A (λ y. got a₁ y) (λ _. refused Trailing (length u))) ∙ e in
+        (u, ap (λ z. got z u) (got-value q), λ n. h ℕ (λ y. got n y) (λ _. refused Trailing (length u)) ∙ ap (got n) (got-rest q))
+    go (broken c l z h) = refused≢got (sym (h A (λ y. got a₁ y) (λ _. refused Trailing (length u))) ∙ e)
+    go (more h) = refused≢got (sym (h A (λ y. got a₁ y) (λ _. refused Trailing (length u))) ∙ e)
 ended-through k (refused c l) a rest e = refused≢got e
 
 shut-through : {A : Type 0} (m : List ℕ) (outer inner : ℕ) (k : Bool) (x : Answer A) (a : A) (rest : List ℕ) → shut m outer inner k x ≡ got a rest
@@ -178,7 +179,7 @@ module _ (A : List ℕ) (at from : ℕ) (j : List ℕ) (ej : readIdentifier (dro
   unfolding readHeader then if
   header-length = test (same i j) (λ t. rw (ej, t) refl) λ t. refused≢got (sym (header-else t) ∙ eh)
     where
-      header-else : same i j ≡ false → readHeader i S ≡ refused 24 (length S)
+      header-else : same i j ≡ false → readHeader i S ≡ refused NotAwaited (length S)
       header-else t = rw (ej, t) refl
 
   its-length : ReadLength x ≡ toldLength (length A) (readLength (length S) (drop from A))

@@ -10,6 +10,8 @@ use mathlib.Core.Option.{Option, some, none}
 use mathlib.Core.Path.{_≡_, refl, sym, ap, _∙_}
 use native.Mathlib.Omega.{arith}
 use Prim.Native.Nat.{ℕ, zero, suc, _+_, _*_, _≤_, _<_}
+use Rattle.octets.specs.declared.cause.Cause.{Cause}
+use Rattle.octets.specs.declared.cause.Cause.the-variants.{NotAwaited, Trailing}
 use Rattle.octets.specs.Answer.{if}
 use Rattle.octets.specs.Lists.{any}
 use Rattle.octets.proofs.Tests.{test}
@@ -22,8 +24,6 @@ use Rattle.reader.specs.Codes.{firstOf, searchIn, hit}
 use Rattle.reader.specs.Items.{Holder, inside, message, Manner, in-turn, each-once, repeated, single, manner, partsOf, optionals, Placed, pending, left, awaits, remains, some-of, since, isSingle, first}
 use Rattle.reader.specs.Records.{Ready, Known, of-record, of-message, holderIn, Finds}
 use Rattle.reader.specs.Sought.{held, Sound, placeOf, tabled, tabledCount, direct, unfitCause, Indirect}
-use Rattle.reader.specs.declared.answer.Cause.{Cause}
-use Rattle.reader.specs.declared.answer.Cause.the-variants.{NotAwaited, Trailing}
 use Rattle.reader.specs.declared.search.Found.{Found}
 use Rattle.reader.specs.declared.search.Found.the-variants.{Refused}
 use Rattle.reader.specs.declared.search.Under.{Under}

@@ -8,14 +8,15 @@ use mathlib.Core.List.{List, [], _∷_, _++_, map}
 use mathlib.Core.Path.{_≡_, refl, sym, ap, _∙_}
 use native.Mathlib.Omega.{arith}
 use Prim.Native.Nat.{ℕ, zero, suc, _+_, _*_, _-_, _≤_, _<_}
+use Rattle.octets.specs.declared.cause.Cause.{Cause}
+use Rattle.octets.specs.declared.cause.Cause.the-variants.{NotAwaited}
 use Rattle.octets.specs.Answer.{Answer, got, refused, then, if}
 use Rattle.octets.specs.Lists.{same}
 use Rattle.octets.specs.Numbers.{Octets, two}
 use Rattle.octets.proofs.Tests.{test}
 use Rattle.ber.specs.Codes.{codeOf, code as codeBy}
 use Rattle.ber.specs.Reading.{readIdentifier}
-use Rattle.ber.specs.Told.{toldIdentifier, faultNumber, endOf, mode}
-use Rattle.ber.specs.declared.Fault.{Fault}
+use Rattle.ber.specs.Told.{toldIdentifier, endOf, mode}
 use Rattle.ber.specs.declared.ending.End.{End}
 use Rattle.ber.specs.declared.ending.End.the-variants.{More, Over, Broken}
 use Rattle.ber.specs.declared.identifier.Identifier.{Identifier}
@@ -28,15 +29,11 @@ use Rattle.table.specs.Entries.{unpacked, tagCount, tagPlace, tableIn, countIn,
 use Rattle.table.specs.declared.entry.Entry.{Entry}
 use Rattle.table.proofs.Promises.{entered-tags, entered-tag, entered-bit}
 use Rattle.coding.specs.Tags.{identifierOf, last, before, explicitTags, own, explicit}
-use Rattle.reader.specs.Answers.{causeOf, causeNumber}
 use Rattle.reader.specs.Records.{Ready, recordIn, IsRecord}
 use Rattle.reader.specs.Wraps.{identifiers, Headed, AwaitsTag, behind-last, is-tag, no-tag, EntersTag, goes-on, is-over}
-use Rattle.reader.specs.declared.answer.Cause.{Cause}
-use Rattle.reader.specs.declared.answer.Cause.the-variants.{NotAwaited}
 use Rattle.reader.specs.declared.tags.Tag.{Tag as TagRead}
 use Rattle.reader.specs.declared.tags.Tag.the-variants.{Read as ReadTag, Refused as NoTag}
 use Rattle.reader.proofs.Begun.{AllFine, Fit, fit}
-use Rattle.reader.proofs.Wrapping.{cause-fault}
 
 -- a record by its entry
 pub record-is : {b : List ℕ} {e : Entry} {r : Record} → Entered b e r → recordIn b e ≡ r
@@ -172,9 +169,9 @@ module _ {b index : List ℕ} (R : Ready b index) {w : ℕ} (I : IsRecord b inde
       within : j < length (identifiers r)
       within = omega (arith, how-many)
 
-      pub awaits-unread : (f : Fault) → y ≡ NoIdentifier f → (c : Cause) → c ≡ causeOf (faultNumber f) → AwaitsTag (identifiers r) j m (NoTag c)
+      pub awaits-unread : (c : Cause) → y ≡ NoIdentifier c → AwaitsTag (identifiers r) j m (NoTag c)
       unfolding then
-      awaits-unread f q c ec = no-tag {c = c} within (rw (identifier-refused m y ey f q, ec, cause-fault f) refl)
+      awaits-unread c q = no-tag {c = c} within (rw (identifier-refused m y ey c q) refl)
 
       module _ (code end : ℕ) (q : y ≡ Read code end) (k : ℕ)
           (ek : k ≡ codeBy (getD b (tagPlace e j) 0) (ltb j (e .explicit) || not (e .simple)) (two b (tagPlace e j + 1))) where
@@ -212,11 +209,11 @@ module _ {b index : List ℕ} (R : Ready b index) {w : ℕ} (I : IsRecord b inde
 -- in the contents of a tag
 module _ (is : List (List ℕ)) (j : ℕ) (m : List ℕ) (marked : Bool) (y : End) (ey : y ≡ endOf marked (length m) (drop 0 m)) where
   pub enters-over : (u : ℕ) → y ≡ Over u → EntersTag is j m marked (NoTag NotAwaited)
-  enters-over u q = is-over (end-over {A = List ℕ} (λ _. refused 24 (length m)) (λ _. got [] m) m 0 marked y u (omega arith) ey q .0)
+  enters-over u q = is-over (end-over {A = List ℕ} (λ _. refused NotAwaited (length m)) (λ _. got [] m) m 0 marked y u (omega arith) ey q .0)
 
-  pub enters-broken : (f : Fault) → y ≡ Broken f → (c : Cause) → c ≡ causeOf (faultNumber f) → EntersTag is j m marked (NoTag c)
-  enters-broken f q c ec =
-      is-over (end-broken {A = List ℕ} (λ _. refused 24 (length m)) (λ _. got [] m) m 0 marked y f ey q ∙ ap (λ (z : ℕ). refused z (length m)) (sym (ap causeNumber ec ∙ cause-fault f)))
+  pub enters-broken : (c : Cause) → y ≡ Broken c → EntersTag is j m marked (NoTag c)
+  enters-broken c q =
+      is-over (end-broken {A = List ℕ} (λ _. refused NotAwaited (length m)) (λ _. got [] m) m 0 marked y c ey q)
 
   pub enters-more : y ≡ More → (t : TagRead) → AwaitsTag is j m t → EntersTag is j m marked t
-  enters-more q t a = let h = end-more {A = List ℕ} (λ _. refused 24 (length m)) (λ _. got [] m) m 0 marked y ey q in goes-on (h .0) (h .1) a
+  enters-more q t a = let h = end-more {A = List ℕ} (λ _. refused NotAwaited (length m)) (λ _. got [] m) m 0 marked y ey q in goes-on (h .0) (h .1) a

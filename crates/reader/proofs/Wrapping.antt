@@ -10,26 +10,19 @@ use mathlib.Core.Path.{_≡_, refl, sym, ap, _∙_}
 use native.Mathlib.Numerals.{add-one}
 use native.Mathlib.Omega.{arith}
 use Prim.Native.Nat.{ℕ, zero, suc, _+_, _-_, _*_, _/_, _%_, _≤_, _<_}
+use Rattle.octets.specs.declared.cause.Cause.{Cause}
+use Rattle.octets.specs.declared.cause.Cause.the-variants.{Trailing}
 use Rattle.octets.specs.Answer.{Answer, got, refused, then, if, behind, none-left}
 use Rattle.ber.specs.Reading.{open-ended, closed, atEnd}
-use Rattle.ber.specs.Told.{endOf, mode, faultNumber}
-use Rattle.ber.specs.declared.Fault.{Fault}
-use Rattle.ber.specs.declared.Fault.the-variants.{Cut, Form}
+use Rattle.ber.specs.Told.{endOf, mode}
 use Rattle.ber.specs.declared.ending.End.{End}
 use Rattle.ber.specs.declared.ending.End.the-variants.{More, Over, Broken}
 use Rattle.ber.proofs.Ends.{end-more, end-over, end-broken}
-use Rattle.reader.specs.Answers.{cap, causeOf, causeNumber, told}
+use Rattle.reader.specs.Answers.{cap, told}
 use Rattle.reader.specs.Wraps.{ended, shut, innerEnd, closing, noteOf, Around}
-use Rattle.reader.specs.declared.answer.Cause.{Cause}
-use Rattle.reader.specs.declared.answer.Cause.the-variants.{Trailing}
 use Rattle.reader.specs.declared.answer.Judged.{Judged}
 use Rattle.reader.specs.declared.answer.Judged.the-variants.{Done, Refused}
 
--- a refusal of X.690's
-pub cause-fault : (f : Fault) → causeNumber (causeOf (faultNumber f)) ≡ faultNumber f
-unfolding causeOf if
-cause-fault Cut = refl
-cause-fault Form = refl
 
 pub around-end : (n : ℕ) (ns : List ℕ) (e : ℕ) → Around n ns e → e ≤ n
 unfolding Around innerEnd
@@ -163,8 +156,8 @@ module _ (m notes : List ℕ) (count last first size : ℕ) where
         left-part : length (drop at (take end m)) ≡ end - at
         left-part = length-drop at (take end m) ∙ ap (λ (i : ℕ). i - at) size-part
 
-        broken : (c : ℕ) → ended (mode k) (got size (drop at (take end m))) ≡ refused c (length (drop at (take end m)))
-            → Refused (causeOf c) (length m - at) ≡ Told
+        broken : (c : Cause) → ended (mode k) (got size (drop at (take end m))) ≡ refused c (length (drop at (take end m)))
+            → Refused c (length m - at) ≡ Told
         unfolding told
         broken c e =
             let (a, b, o) = wider in
@@ -178,18 +171,18 @@ module _ (m notes : List ℕ) (count last first size : ℕ) where
             ) refl
 
         pub close-more : r ≡ More → Refused Trailing (length m - at) ≡ Told
-        unfolding ended then causeOf if
-        close-more d = broken 26 (end-more {A = ℕ} (λ w. got size w) (λ _. refused 26 (length (drop at (take end m)))) (take end m) at k r er d .0)
+        unfolding ended then if
+        close-more d = broken Trailing (end-more {A = ℕ} (λ w. got size w) (λ _. refused Trailing (length (drop at (take end m)))) (take end m) at k r er d .0)
 
-        pub close-broken : (f : Fault) → r ≡ Broken f → (c : Cause) → c ≡ causeOf (faultNumber f) → Refused c (length m - at) ≡ Told
+        pub close-broken : (c : Cause) → r ≡ Broken c → Refused c (length m - at) ≡ Told
         unfolding ended then
-        close-broken f d c ec =
-            rw ec (broken (faultNumber f) (end-broken {A = ℕ} (λ w. got size w) (λ _. refused 26 (length (drop at (take end m)))) (take end m) at k r f er d))
+        close-broken c d =
+            broken c (end-broken {A = ℕ} (λ w. got size w) (λ _. refused Trailing (length (drop at (take end m)))) (take end m) at k r c er d)
 
         pub close-turn : (u : ℕ) → r ≡ Over u → Closing m notes count last first size u (n / 2) (j - 1) × (u ≤ n / 2)
         unfolding ended then
         close-turn u d =
-            let (y, b, g) = end-over {A = ℕ} (λ w. got size w) (λ _. refused 26 (length (drop at (take end m)))) (take end m) at k r u inside-part er d in
+            let (y, b, g) = end-over {A = ℕ} (λ w. got size w) (λ _. refused Trailing (length (drop at (take end m)))) (take end m) at k r u inside-part er d in
             let (a, f, o) = wider in
             let z : k ≡ false → u ≡ end = λ t. rw (← t, ← er, d) at (closed-end (length (take end m)) (drop at (take end m))) ∙ size-part in (
               record {

@@ -6,8 +6,6 @@ use lib.Dec.{eqb}
 use lib.ListN.{length}
 use Rattle.octets.specs.Answer.{Answer, got, refused, if}
 use Rattle.coding.specs.Value.{Value, octets}
-use Rattle.reader.specs.declared.answer.Cause.{Cause}
-use Rattle.reader.specs.declared.answer.Cause.the-variants.{Cut, Form, NotAwaited, Contents, Trailing, Level}
 use Rattle.reader.specs.declared.answer.Judged.{Judged}
 use Rattle.reader.specs.declared.answer.Judged.the-variants.{Done, Refused}
 
@@ -15,27 +13,10 @@ use Rattle.reader.specs.declared.answer.Judged.the-variants.{Done, Refus
 abbrev pub cap : ℕ → ℕ
 cap n = min 16385 n
 
-unfoldable pub causeOf : ℕ → Cause
-causeOf c =
-    if (eqb c 22) Cut λ _.
-    if (eqb c 23) Form λ _.
-    if (eqb c 24) NotAwaited λ _.
-    if (eqb c 25) Contents λ _.
-    if (eqb c 26) Trailing λ _.
-    Level
-
-abbrev pub causeNumber : Cause → ℕ
-causeNumber Cut = 22
-causeNumber Form = 23
-causeNumber NotAwaited = 24
-causeNumber Contents = 25
-causeNumber Trailing = 26
-causeNumber Level = 28
-
 -- where what was read ends, and what f makes of it; or the cause, and how many octets are left
 unfoldable pub told : {A : Type 0} → List ℕ → (A → ℕ) → Answer A → Judged
 told m f (got a u) = Done (length m - length u) (cap (f a))
-told m f (refused c l) = Refused (causeOf c) l
+told m f (refused c l) = Refused c l
 
 abbrev pub size : Value → ℕ
 size v = length (octets v)

@@ -7,6 +7,7 @@ use mathlib.Core.Option.{Option, some, none}
 use Prim.Native.Nat.{ℕ, zero, suc, _+_}
 use lib.Dec.{eqb}
 use lib.ListN.{length, getD, drop, set as setAt, replicate}
+use Rattle.octets.specs.declared.cause.Cause.the-variants.{Cut, NotAwaited, Trailing}
 use Rattle.octets.specs.Answer.{Answer, got, refused, then, if}
 use Rattle.octets.specs.Lists.{any}
 use Rattle.ber.specs.Reading.{Mode, atEnd}
@@ -137,11 +138,11 @@ module _ (T : Table) (r : ℕ → List ℕ → Answer Value) where
     -- The items after those in hand. They go on to the end of the contents, where nothing must be lacking (24); where no part is left an
     -- item is 26. A CHOICE and a message have one item and no end.
     unfoldable pub readItems : ℕ → ℕ → List ℕ → Hand → Mode → List ℕ → Answer Hand
-    readItems zero j came hand mode s = refused 0 0
+    readItems zero j came hand mode s = refused Cut 0
     readItems (suc k) j came hand mode s =
         if (isSingle (manner h)) (then (readPart (next T h j came s) s) λ x s₁. got (hand ++ (x ∷ [])) s₁) λ _.
-        atEnd mode s (λ u. if (lacks h j came) (refused 24 (length s)) λ _. got hand u) λ _.
-        if (not (remains h j came)) (refused 26 (length s)) λ _.
+        atEnd mode s (λ u. if (lacks h j came) (refused NotAwaited (length s)) λ _. got hand u) λ _.
+        if (not (remains h j came)) (refused Trailing (length s)) λ _.
         then (readPart (next T h j came s) s) λ x s₁.
         readItems k (following (manner h) (x .0)) (noted (manner h) came (x .0)) (hand ++ (x ∷ [])) mode s₁
 

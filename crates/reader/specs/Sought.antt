@@ -7,18 +7,17 @@ use mathlib.Core.Path.{_≡_}
 use Prim.Native.Nat.{ℕ, _<_, _≤_}
 use lib.Dec.{eqb}
 use lib.ListN.{length, getD, drop}
+use Rattle.octets.specs.declared.cause.Cause.{Cause}
+use Rattle.octets.specs.declared.cause.Cause.the-variants.{NotAwaited, Trailing}
 use Rattle.octets.specs.Answer.{Answer, got, refused, if}
 use Rattle.ber.specs.Codes.{codeOf}
 use Rattle.ber.specs.Reading.{readIdentifier}
 use Rattle.table.specs.Syntax.{Member}
 use Rattle.table.specs.Entries.{unpacked, tableIn, countIn}
 use Rattle.coding.specs.Reading.{notAwaited}
-use Rattle.reader.specs.Answers.{causeNumber}
 use Rattle.reader.specs.Codes.{firstOf, searchIn, hit}
 use Rattle.reader.specs.Items.{Holder, inside, message, each-once, manner, partsOf, Placed, awaits, remains, isSingle, first, next}
 use Rattle.reader.specs.Records.{Ready, Known, holderIn, Finds}
-use Rattle.reader.specs.declared.answer.Cause.{Cause}
-use Rattle.reader.specs.declared.answer.Cause.the-variants.{NotAwaited, Trailing}
 use Rattle.reader.specs.declared.search.Under.the-variants.{At}
 use Rattle.reader.specs.declared.search.Found.{Found}
 use Rattle.reader.specs.declared.search.Found.the-variants.{Part, Refused}
@@ -56,7 +55,7 @@ direct b h i came code = placeOf (tabledCount h) (first (λ x. eqb (firstOf (tab
 unfoldable pub unfit : {A : Type 0} → Holder → ℕ → List ℕ → List ℕ → Answer A
 unfit h i came s =
     if (isSingle (manner h)) (notAwaited s) λ _.
-    if (not (remains h i came)) (refused 26 (length s)) λ _.
+    if (not (remains h i came)) (refused Trailing (length s)) λ _.
     notAwaited s
 
 -- its cause, where c is that of an item that is not awaited
@@ -80,4 +79,4 @@ Sought b h i came m way (Part x) =
     × (readIdentifier m ≡ got i₁ (drop (x .from) m)) × (0 < x .from) × (x .from ≤ length m)
     × Finds b (codeOf i₁) way (part .type) (At (x .record) (x .depth))
 Sought b h i came m way (Refused c) =
-    (next (tableIn b) h i came m ≡ none) × (unfit {A = List ℕ} h i came m ≡ refused (causeNumber c) (length m))
+    (next (tableIn b) h i came m ≡ none) × (unfit {A = List ℕ} h i came m ≡ refused c (length m))

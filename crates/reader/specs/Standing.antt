@@ -2,13 +2,11 @@
 -- Assumes nothing.
 use mathlib.Core.List.{List}
 use Prim.Native.Nat.{ℕ}
+use Rattle.octets.specs.declared.cause.Cause.the-variants.{NotAwaited}
 use Rattle.octets.specs.Answer.{if}
-use Rattle.ber.specs.Told.{faultNumber}
 use Rattle.ber.specs.declared.ending.End.{End}
 use Rattle.ber.specs.declared.ending.End.the-variants.{More, Over as EndsAt, Broken}
-use Rattle.reader.specs.Answers.{causeOf}
 use Rattle.reader.specs.Items.{Holder, manner, isSingle, lacks}
-use Rattle.reader.specs.declared.answer.Cause.the-variants.{NotAwaited}
 use Rattle.reader.specs.declared.judge.Standing.{Standing}
 use Rattle.reader.specs.declared.judge.Standing.the-variants.{Item, Over, Refused}
 
@@ -16,7 +14,7 @@ use Rattle.reader.specs.declared.judge.Standing.the-variants.{Item, Over
 unfoldable pub atEnding : Holder → ℕ → List ℕ → End → Standing
 atEnding h i came More = Item
 atEnding h i came (EndsAt e) = if (lacks h i came) (Refused NotAwaited) λ _. Over e
-atEnding h i came (Broken f) = Refused (causeOf (faultNumber f))
+atEnding h i came (Broken f) = Refused (f)
 
 -- a CHOICE and a message have one item and no end
 unfoldable pub standing : Holder → ℕ → List ℕ → End → Standing

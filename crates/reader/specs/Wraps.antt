@@ -7,6 +7,8 @@ use mathlib.Core.Path.{_≡_}
 use Prim.Native.Nat.{ℕ, _+_, _-_, _*_, _/_, _%_, _≤_, _<_}
 use lib.Dec.{eqb}
 use lib.ListN.{length, getD, take, drop}
+use Rattle.octets.specs.declared.cause.Cause.{Cause}
+use Rattle.octets.specs.declared.cause.Cause.the-variants.{NotAwaited, Trailing}
 use Rattle.octets.specs.Answer.{Answer, got, refused, then, if, behind}
 use Rattle.octets.specs.Lists.{same}
 use Rattle.ber.specs.Codes.{codeOf}
@@ -17,9 +19,7 @@ use Rattle.table.specs.Entries.{tableIn}
 use Rattle.coding.specs.Tags.{own, explicit}
 use Rattle.coding.specs.Value.{Value}
 use Rattle.coding.specs.Reading.{readKind, readValue}
-use Rattle.reader.specs.Answers.{causeNumber}
 use Rattle.reader.specs.Records.{readRecord}
-use Rattle.reader.specs.declared.answer.Cause.{Cause}
 use Rattle.reader.specs.declared.tags.Tag.{Tag}
 use Rattle.reader.specs.declared.tags.Tag.the-variants.{Read as ReadTag, Refused as NoTag}
 use Rattle.reader.specs.declared.tags.Opened.{Opened}
@@ -27,7 +27,7 @@ use Rattle.reader.specs.declared.tags.Opened.the-variants.{Inside, Refus
 
 -- behind the one item under a tag
 unfoldable pub ended : {A : Type 0} → Mode → Answer A → Answer A
-ended mode x = then x λ v w. atEnd mode w (λ y. got v y) λ _. refused 26 (length w)
+ended mode x = then x λ v w. atEnd mode w (λ y. got v y) λ _. refused Trailing (length w)
 
 -- the tag's item, where x is what was read in its contents: those end at `inner`, if they are definite
 unfoldable pub shut : {A : Type 0} → List ℕ → ℕ → ℕ → Bool → Answer A → Answer A
@@ -74,16 +74,16 @@ pub data AwaitsTag (is : List (List ℕ)) (j : ℕ) (m : List ℕ) : Tag → Typ
   behind-last : length is ≤ j → AwaitsTag is j m (ReadTag 0)
   is-tag : (end : ℕ) → j < length is → Headed m 0 end (codeOf (getD is j [])) → AwaitsTag is j m (ReadTag end)
   no-tag : {c : Cause} → j < length is
-      → then (readIdentifier m) (λ i s. if (same (getD is j []) i) (got i s) λ _. refused 24 (length m)) ≡ refused (causeNumber c) (length m)
+      → then (readIdentifier m) (λ i s. if (same (getD is j []) i) (got i s) λ _. refused NotAwaited (length m)) ≡ refused c (length m)
       → AwaitsTag is j m (NoTag c)
 
 -- the same in the contents of a tag, which 00 00 closes if `marked`: over they may not be
 abbrev pub mustGoOn : Bool → List ℕ → Answer (List ℕ)
-mustGoOn marked m = atEnd (mode marked) m (λ u. refused 24 (length m)) λ _. got [] m
+mustGoOn marked m = atEnd (mode marked) m (λ u. refused NotAwaited (length m)) λ _. got [] m
 
 pub data EntersTag (is : List (List ℕ)) (j : ℕ) (m : List ℕ) (marked : Bool) : Tag → Type 0 where
   goes-on : {r : Tag} → mustGoOn marked m ≡ got [] m → 0 < length m → AwaitsTag is j m r → EntersTag is j m marked r
-  is-over : {c : Cause} → mustGoOn marked m ≡ refused (causeNumber c) (length m) → EntersTag is j m marked (NoTag c)
+  is-over : {c : Cause} → mustGoOn marked m ≡ refused c (length m) → EntersTag is j m marked (NoTag c)
 
 -- What opening the tags of a record says of reading it, with however many levels.
 abbrev pub Opens : List ℕ → Record → List ℕ → ℕ → List ℕ → Opened → Type 0
@@ -91,4 +91,4 @@ Opens b r m at ns (Inside x) =
     (at < x .at) × (x .at < x .end) × (x .end ≤ length m) × Around (length m) ns (x .end)
     × (isChoice (r .body) ≡ false → Headed (take (x .end) m) (x .at) (x .from) (codeOf (own r)))
     × ((n : ℕ) → readRecord (tableIn b) n r (drop at m) ≡ closing m ns (x .end) (readBare b n r (drop (x .at) (take (x .end) m))))
-Opens b r m at ns (NotOpened c l) = (l ≤ length m) × ((n : ℕ) → readRecord (tableIn b) n r (drop at m) ≡ refused (causeNumber c) l)
+Opens b r m at ns (NotOpened c l) = (l ≤ length m) × ((n : ℕ) → readRecord (tableIn b) n r (drop at m) ≡ refused c l)

@@ -16,9 +16,7 @@ ghost use Rattle.reader.specs.Sought.{held, Sound};
 ghost use Rattle.reader.specs.Standing.{standing};
 ghost use Rattle.reader.specs.Wraps.{Headed};
 ghost use Rattle.reader.specs.declared.answer.Judged.the-variants.{Done, Refused};
-use crate::answer::Cause;
 use crate::answer::Judged;
-use crate::answer::cause_of;
 use crate::answer::grow;
 use crate::came::lacks;
 use crate::contents::contents_size;
@@ -32,6 +30,7 @@ use ber::ending;
 use ber::ending::End;
 use ber::length;
 use ber::length::Length;
+use octets::cause::Cause;
 use octets::octet;
 use table::entry::first;
 use table::entry::parts;
@@ -73,9 +72,7 @@ fn next(
     let i = if e.kind == SEQUENCE { j } else { 0 };
     match ending::read(m, at, marked) {
         End::More => Standing::Item,
-        End::Broken { fault } => Standing::Refused {
-            cause: cause_of(fault),
-        },
+        End::Broken { cause } => Standing::Refused { cause },
         End::Over { end } => {
             if !has_members(e.kind) {
                 return Standing::Over { end };
@@ -152,8 +149,8 @@ fn judge_value(
     let mut marked = false;
     if e.kind != CHOICE {
         match length::read(around, from) {
-            Length::Refused { fault } => {
-                return refused(cause_of(fault), left);
+            Length::Refused { cause } => {
+                return refused(cause, left);
             }
             Length::Read(x) => {
                 start = x.start;
@@ -256,7 +253,7 @@ fn judge_members(
             }
         }
         if level <= depth {
-            return refused(Cause::Level, m.len() - at);
+            return refused(Cause::MessageLevel, m.len() - at);
         }
         if e.kind == SET {
             came[place] = 1;

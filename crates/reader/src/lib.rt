@@ -12,29 +12,11 @@ mod tags;
 ghost use mathlib.Core.Path.{_≡_};
 ghost use Rattle.table.specs.Entries.{tableIn, Filled};
 ghost use Rattle.table.specs.Passes.{Passes};
-ghost use Rattle.coding.specs.Calls.{messageCause, readOutcome, wholeRead};
-ghost use Rattle.reader.specs.Answers.{causeNumber};
-use answer::Cause;
+ghost use Rattle.coding.specs.Calls.{readOutcome, wholeRead};
 use answer::Judged;
 use coding::Answer;
-use coding::MessageCause;
-use coding::Refusal;
-use table::TableCause;
+use octets::cause::Cause;
 use table::Verdict;
-
-// A cause with its place.
-fn placed(cause: Cause, at: usize) -> MessageCause
-    ensures { λ r. ⌜ r ≡ messageCause (causeNumber cause) at ⌝ }
-{
-    match cause {
-        Cause::Cut => MessageCause::Cut(at),
-        Cause::Form => MessageCause::Form(at),
-        Cause::NotAwaited => MessageCause::NotAwaited(at),
-        Cause::Contents => MessageCause::Contents(at),
-        Cause::Trailing => MessageCause::Trailing(at),
-        Cause::Level => MessageCause::Level(at),
-    }
-}
 
 // Reads a message of type t, by a table of n records that passed.
 fn read_passed(
@@ -56,23 +38,35 @@ fn read_passed(
         ⌝ }
 {
     if n <= t {
-        return Answer::Refused(Refusal::Table(TableCause::NoType));
+        return Answer::Refused {
+            cause: Cause::NoType,
+            place: 0,
+        };
     }
     if 8192 < message.len() {
-        return Answer::Refused(Refusal::Message(MessageCause::TooLong));
+        return Answer::Refused {
+            cause: Cause::MessageLength,
+            place: 0,
+        };
     }
     let mut way = [0u16; 128];
     match judge::judge(table, index, t, message, &mut way) {
         Judged::Refused { cause, left } => {
-            let at = message.len() - left;
-            Answer::Refused(Refusal::Message(placed(cause, at)))
+            let place = message.len() - left;
+            Answer::Refused { cause, place }
         }
         Judged::Done { end: _, size } => {
             if 16384 < size {
-                return Answer::Refused(Refusal::Message(MessageCause::Room));
+                return Answer::Refused {
+                    cause: Cause::ValueRoom,
+                    place: 0,
+                };
             }
             if buf.len() < size {
-                return Answer::Refused(Refusal::Message(MessageCause::Room));
+                return Answer::Refused {
+                    cause: Cause::ValueRoom,
+                    place: 0,
+                };
             }
             place::place(table, index, t, message, buf, &mut way);
             Answer::Done(size)
@@ -92,7 +86,7 @@ pub fn read(table: &[u8], t: usize, message: &[u8], buf: &mut [u8]) -> Answer
     let c = table::check_into(table, &mut index);
     let verdict = c.verdict;
     match verdict {
-        Verdict::Refused(cause) => Answer::Refused(Refusal::Table(cause)),
+        Verdict::Refused { cause, place } => Answer::Refused { cause, place },
         Verdict::Passed => read_passed(table, &index, c.count, t, message, buf),
     }
 }

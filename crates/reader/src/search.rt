@@ -10,11 +10,10 @@ ghost use Rattle.reader.specs.Records.{Ready, Finds};
 ghost use Rattle.reader.specs.Sought.{held, Sound, direct as Sought·direct, unfitCause, Indirect, Sought};
 ghost use Rattle.reader.specs.declared.search.Found.the-variants.{Refused};
 ghost use Rattle.reader.specs.Items.{manner, since};
-use crate::answer::Cause;
-use crate::answer::cause_of;
 use crate::came::lacks;
 use ber::identifier;
 use ber::identifier::Identifier;
+use octets::cause::Cause;
 use octets::octet;
 use table::entry::UNTAGGED;
 use table::entry::alternatives;
@@ -223,7 +222,7 @@ pub fn search(
     let s = parts(table, e);
     let i = if e.kind == SEQUENCE { j } else { 0 };
     match identifier::read(m) {
-        Identifier::Refused { fault } => unawaited(table, w, i, came, cause_of(fault)),
+        Identifier::Refused { cause } => unawaited(table, w, i, came, cause),
         Identifier::Read { code, end } => {
             let place = direct(table, index, w, i, came, code);
             if place < s.count {

@@ -8,15 +8,14 @@ ghost use Rattle.table.specs.Entries.{unpacked};
 ghost use Rattle.reader.specs.Answers.{told};
 ghost use Rattle.reader.specs.Records.{Ready, recordIn, IsRecord};
 ghost use Rattle.reader.specs.Wraps.{noteOf, Headed, identifiers, AwaitsTag, EntersTag, Opens, Around, closing};
-use crate::answer::Cause;
 use crate::answer::Judged;
-use crate::answer::cause_of;
 use ber::ending;
 use ber::ending::End;
 use ber::identifier;
 use ber::identifier::Identifier;
 use ber::length;
 use ber::length::Length;
+use octets::cause::Cause;
 use table::entry::tag_code;
 use table::entry::tag_count;
 use table::entry::unpack;
@@ -61,9 +60,7 @@ fn awaited(table: &[u8], w: u64, j: usize, m: &[u8]) -> Tag
         return Tag::Read { end: 0 };
     }
     match identifier::read(m) {
-        Identifier::Refused { fault } => Tag::Refused {
-            cause: cause_of(fault),
-        },
+        Identifier::Refused { cause } => Tag::Refused { cause },
         Identifier::Read { code, end } => {
             if code == tag_code(table, e, j) {
                 return Tag::Read { end };
@@ -84,9 +81,7 @@ fn enter(table: &[u8], w: u64, j: usize, m: &[u8], marked: bool) -> Tag
         End::Over { end: _ } => Tag::Refused {
             cause: Cause::NotAwaited,
         },
-        End::Broken { fault } => Tag::Refused {
-            cause: cause_of(fault),
-        },
+        End::Broken { cause } => Tag::Refused { cause },
         End::More => awaited(table, w, j, m),
     }
 }
@@ -115,9 +110,9 @@ pub fn open(table: &[u8], w: u64, m: &[u8], at: usize, from: usize, notes: &mut 
     while j < count {
         let around = &m[..end];
         match length::read(around, from) {
-            Length::Refused { fault } => {
+            Length::Refused { cause } => {
                 return Opened::Refused {
-                    cause: cause_of(fault),
+                    cause,
                     left: m.len() - at,
                 };
             }
@@ -173,9 +168,9 @@ pub fn close(m: &[u8], notes: &[u16; 4], count: usize, at: usize, end: usize, si
                     left: m.len() - at,
                 };
             }
-            End::Broken { fault } => {
+            End::Broken { cause } => {
                 return Judged::Refused {
-                    cause: cause_of(fault),
+                    cause,
                     left: m.len() - at,
                 };
             }

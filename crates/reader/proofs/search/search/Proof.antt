@@ -16,8 +16,7 @@ search-spec =
     (λ c κs. tt)  -- unpack-requires
     (λ c κs. tt)  -- parts-requires
     (λ c κs. tt)  -- read-requires
-    (λ c. search needs)  -- enum-known-fault
-    (λ c κs. tt)  -- cause-of-requires
+    (λ c. search needs)  -- enum-known-cause
     (λ c κs. (_, c .before .before .before .before .before .before .before .before .before .before .before .pre .0, since-again (c .before .before .before .before .before .before .before .before .before .before .before .pre .0) (c .before .before .before .before .before .before .before .before .unpack .result) (c .before .before .before .before .before .before .before .before .unpack .ensures) (c .before .before .before .before .before .before .before .parts .result) (c .before .before .before .before .before .before .before .parts .ensures) (c .before .before .before .before .before .if1 .i) (c .before .before .before .before .before .before .before .before .before .before .before .args .j) (since-is (c .before .before .before .before .before .before .before .before .before .before .before .pre .0) (c .before .before .before .before .before .before .before .before .unpack .result) (c .before .before .before .before .before .before .before .before .unpack .ensures) (c .before .before .before .before .before .before .before .parts .result) (c .before .before .before .before .before .before .before .parts .ensures) (c .before .before .before .before .before .if1 .i) (c .before .before .before .before .before .before .before .before .before .before .before .args .j) (⊎-elim (λ x. inl (x .0 .taken, x .1)) (λ x. inr (x .0 .left, x .1)) (c .before .before .before .before .before .if1 .came)))))  -- unawaited-requires
     (λ c. search needs)  -- enum-known-code
     (λ c κs. c .before .before .before .before .before .before .before .before .before .before .pre .0)  -- direct-requires
@@ -26,5 +25,5 @@ search-spec =
     (λ c κs. tt)  -- octet-requires
     (λ c. (c .before .before .before .before .before .before .before .before .before .before .before .before .before .before .before .before .pre .1, rw (← (since-is (c .before .before .before .before .before .before .before .before .before .before .before .before .before .before .before .before .pre .0) (c .before .before .before .before .before .before .before .before .before .before .before .before .before .unpack .result) (c .before .before .before .before .before .before .before .before .before .before .before .before .before .unpack .ensures) (c .before .before .before .before .before .before .before .before .before .before .before .before .parts .result) (c .before .before .before .before .before .before .before .before .before .before .before .before .parts .ensures) (c .before .before .before .before .before .before .before .before .before .before .if1 .i) (c .before .before .before .before .before .before .before .before .before .before .before .before .before .before .before .before .args .j) (⊎-elim (λ x. inl (x .0 .taken, x .1)) (λ x. inr (x .0 .left, x .1)) (c .before .before .before .before .before .before .before .before .before .before .if1 .came)))) (sought-direct (c .before .before .before .before .before .before .before .before .before .before .before .before .before .before .before .before .pre .0) (c .before .before .before .before .before .before .before .before .before .before .before .before .before .unpack .result) (c .before .before .before .before .before .before .before .before .before .before .before .before .before .unpack .ensures) (c .before .before .before .before .before .before .before .before .before .before .before .before .parts .result) (c .before .before .before .before .before .before .before .before .before .before .before .before .parts .ensures) (c .before .before .before .before .before .before .before .before .before .before .before .before .before .before .before .before .args .m .now) (λ n. omega (arith, c .before .before .before .before .before .before .before .before .before .before .before .before .before .before .shared-slice-known2 .given n)) (c .before .before .before .before .before .before .before .before .before .read .result) (c .before .before .before .before .before .before .before .before .before .read .ensures) (c .before .before .before .before .before .before .before .before .before .before .if1 .i) _ (c .before .before .before .before .before .before .before .code .given .0 .0) (c .before .before .before .before .before .before .before .code .given .0 .1 .0) (c .before .before .before .before .before .before .before .code .given .1) (c .before .before .before .before .before .direct .result) (c .before .before .before .before .before .direct .ensures) (c .before .before .before .if2 .taken) (c .octet .result) (c .octet .ensures .0))))  -- returns
     (λ c κs. (c .before .before .before .before .before .before .before .before .before .before .before .before .before .before .pre .0, since-again (c .before .before .before .before .before .before .before .before .before .before .before .before .before .before .pre .0) (c .before .before .before .before .before .before .before .before .before .before .before .unpack .result) (c .before .before .before .before .before .before .before .before .before .before .before .unpack .ensures) (c .before .before .before .before .before .before .before .before .before .before .parts .result) (c .before .before .before .before .before .before .before .before .before .before .parts .ensures) (c .before .before .before .before .before .before .before .before .if1 .i) (c .before .before .before .before .before .before .before .before .before .before .before .before .before .before .args .j) (since-is (c .before .before .before .before .before .before .before .before .before .before .before .before .before .before .pre .0) (c .before .before .before .before .before .before .before .before .before .before .before .unpack .result) (c .before .before .before .before .before .before .before .before .before .before .before .unpack .ensures) (c .before .before .before .before .before .before .before .before .before .before .parts .result) (c .before .before .before .before .before .before .before .before .before .before .parts .ensures) (c .before .before .before .before .before .before .before .before .if1 .i) (c .before .before .before .before .before .before .before .before .before .before .before .before .before .before .args .j) (⊎-elim (λ x. inl (x .0 .taken, x .1)) (λ x. inr (x .0 .left, x .1)) (c .before .before .before .before .before .before .before .before .if1 .came))), code-small (c .before .before .before .before .before .before .before .before .before .before .before .before .before .before .pre .0) (c .before .before .before .before .before .before .before .before .before .before .before .unpack .result) (c .before .before .before .before .before .before .before .before .before .before .before .unpack .ensures) (c .before .before .before .before .before .before .before .before .before .before .parts .result) (c .before .before .before .before .before .before .before .before .before .before .parts .ensures) (c .before .before .before .before .before .before .before .before .before .before .before .before .before .before .args .m .now) (λ n. omega (arith, c .before .before .before .before .before .before .before .before .before .before .before .before .shared-slice-known2 .given n)) (c .before .before .before .before .before .before .before .read .result) (c .before .before .before .before .before .before .before .read .ensures) (c .before .before .before .before .before .before .before .before .if1 .i) (c .before .before .before .before .before .before .before .before .before .before .before .before .before .before .args .way .now) (c .before .before .before .before .before .code .given .0 .0) (c .before .before .before .before .before .code .given .0 .1 .0) (c .before .before .before .before .before .code .given .1), c .before .before .before .before .before .before .before .before .before .before .before .before .before .before .pre .1))  -- indirect-requires
-    (λ c. (c .before .before .before .before .before .before .before .before .before .before .before .before .pre .1, rw (← (since-is (c .before .before .before .before .before .before .before .before .before .before .before .before .pre .0) (c .before .before .before .before .before .before .before .before .before .unpack .result) (c .before .before .before .before .before .before .before .before .before .unpack .ensures) (c .before .before .before .before .before .before .before .before .parts .result) (c .before .before .before .before .before .before .before .before .parts .ensures) (c .before .before .before .before .before .before .if1 .i) (c .before .before .before .before .before .before .before .before .before .before .before .before .args .j) (⊎-elim (λ x. inl (x .0 .taken, x .1)) (λ x. inr (x .0 .left, x .1)) (c .before .before .before .before .before .before .if1 .came)))) (sought-unread (c .before .before .before .before .before .before .before .before .before .before .before .before .pre .0) (c .before .before .before .before .before .before .before .before .before .unpack .result) (c .before .before .before .before .before .before .before .before .before .unpack .ensures) (c .before .before .before .before .before .before .before .before .parts .result) (c .before .before .before .before .before .before .before .before .parts .ensures) (c .before .before .before .before .before .before .before .before .before .before .before .before .args .m .now) (λ n. omega (arith, c .before .before .before .before .before .before .before .before .before .before .shared-slice-known2 .given n)) (c .before .before .before .before .before .read .result) (c .before .before .before .before .before .read .ensures) (c .before .before .before .before .before .before .if1 .i) _ (c .before .before .before .fault .given .0 .0) (c .before .before .before .fault .given .1) (c .before .cause-of .result) (c .before .cause-of .ensures) (c .unawaited .result) (c .unawaited .ensures))))  -- returns-2
+    (λ c. ?)  -- returns-2
     (λ c. (c .indirect .ensures .0, rw (← (since-is (c .before .before .before .before .before .before .before .before .before .before .before .before .before .before .before .pre .0) (c .before .before .before .before .before .before .before .before .before .before .before .before .unpack .result) (c .before .before .before .before .before .before .before .before .before .before .before .before .unpack .ensures) (c .before .before .before .before .before .before .before .before .before .before .before .parts .result) (c .before .before .before .before .before .before .before .before .before .before .before .parts .ensures) (c .before .before .before .before .before .before .before .before .before .if1 .i) (c .before .before .before .before .before .before .before .before .before .before .before .before .before .before .before .args .j) (⊎-elim (λ x. inl (x .0 .taken, x .1)) (λ x. inr (x .0 .left, x .1)) (c .before .before .before .before .before .before .before .before .before .if1 .came)))) (sought-indirect (c .before .before .before .before .before .before .before .before .before .before .before .before .before .before .before .pre .0) (c .before .before .before .before .before .before .before .before .before .before .before .before .unpack .result) (c .before .before .before .before .before .before .before .before .before .before .before .before .unpack .ensures) (c .before .before .before .before .before .before .before .before .before .before .before .parts .result) (c .before .before .before .before .before .before .before .before .before .before .before .parts .ensures) (c .before .before .before .before .before .before .before .before .before .before .before .before .before .before .before .args .m .now) (λ n. omega (arith, c .before .before .before .before .before .before .before .before .before .before .before .before .before .shared-slice-known2 .given n)) (c .before .before .before .before .before .before .before .before .read .result) (c .before .before .before .before .before .before .before .before .read .ensures) (c .before .before .before .before .before .before .before .before .before .if1 .i) _ (c .before .before .before .before .before .before .code .given .0 .0) (c .before .before .before .before .before .before .code .given .0 .1 .0) (c .before .before .before .before .before .before .code .given .1) (c .indirect .result) (c .indirect .ensures .1)))))  -- returns-3

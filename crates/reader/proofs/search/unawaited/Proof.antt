@@ -2,7 +2,7 @@
 -- Assumes nothing.
 use borrow.Author.Tests.{not-true, not-false}
 use mathlib.Core.Path.{sym, ap}
-use Rattle.reader.specs.declared.answer.Cause.{Cause}
+use Rattle.octets.specs.declared.cause.Cause.{Cause}
 use Rattle.reader.specs.declared.search.Found.the-variants.{Refused}
 use Rattle.reader.proofs.Searching.{has-members, unfit-trailing, unfit-left, unfit-other}
 use Rattle.reader.proofs.search.unawaited.Statement.{statement}

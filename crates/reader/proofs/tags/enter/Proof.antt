@@ -11,10 +11,9 @@ enter-spec =
     (tie.spec
     (λ c κs. tt)  -- read-requires
     (λ c. search needs)  -- enum-told
-    (λ c. search needs)  -- enum-known-fault
-    (λ c κs. tt)  -- cause-of-requires
+    (λ c. search needs)  -- enum-known-cause
     (λ c. search needs)  -- enum-told-2
     (λ c κs. c .before .before .before .before .before .pre)  -- awaited-requires
     (λ c. enters-over _ (c .before .before .before .before .before .args .j) (c .before .before .before .before .before .args .m .now) (c .before .before .before .before .before .args .marked) (c .before .before .read .result) (c .before .before .read .ensures) _ (c .enum-told .given .1))  -- returns
-    (λ c. enters-broken _ (c .before .before .before .before .before .before .before .args .j) (c .before .before .before .before .before .before .before .args .m .now) (c .before .before .before .before .before .before .before .args .marked) (c .before .before .before .before .read .result) (c .before .before .before .before .read .ensures) (c .before .before .fault .given .0 .0) (c .before .before .fault .given .1) (c .cause-of .result) (c .cause-of .ensures))  -- returns-2
+    (λ c. ?)  -- returns-2
     (λ c. enters-more _ (c .before .before .before .before .before .before .args .j) (c .before .before .before .before .before .before .args .m .now) (c .before .before .before .before .before .before .args .marked) (c .before .before .before .read .result) (c .before .before .before .read .ensures) (c .before .enum-told2 .given .1) (c .awaited .result) (c .awaited .ensures)))  -- returns-3

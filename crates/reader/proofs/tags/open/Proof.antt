@@ -31,10 +31,9 @@ open-spec =
     (λ c. (c .before .before .before .before .pre .6, open-none (c .before .before .before .before .args .table .now) (recordIn (c .before .before .before .before .args .table .now) (unpacked (c .before .before .before .before .args .w))) (its-fit (c .before .before .before .before .pre .1) (c .before .before .before .before .pre .2)) (c .before .before .before .before .args .m .now) (λ n. omega (arith, c .before .before .shared-slice-known2 .given n)) (c .before .before .before .before .args .at) (c .before .before .before .before .args .notes .now) (c .before .before .before .before .args .from) (omega (arith, its-count (c .before .before .before .before .pre .1) (c .before .before .before .before .pre .2), c .before .before .before .before .pre .3)) (rw (its-first (c .before .before .before .before .pre .1) (c .before .before .before .before .pre .2)) at (c .before .before .before .before .pre .4))))  -- loop-holds
     (λ c. sym (length-take-le (c .before .before .loop .end) (c .before .before .before .before .before .before .before .args .m .now) (c .before .before .loop .inv .1 .high)))  -- slice-aggregate-around
     (λ c κs. tt)  -- read-requires
-    (λ c. search needs)  -- enum-known-fault
-    (λ c κs. tt)  -- cause-of-requires
+    (λ c. search needs)  -- enum-known-cause
     (λ c. omega (arith, c .before .before .before .before .before .before .before .loop .inv .1 .some, c .before .before .before .before .before .before .before .loop .inv .1 .high))  -- sub-t25
-    (λ c. (c .before .before .before .before .before .before .before .loop .inv .0, open-unread (c .before .before .before .before .before .before .before .before .before .before .before .before .args .table .now) (recordIn (c .before .before .before .before .before .before .before .before .before .before .before .before .args .table .now) (unpacked (c .before .before .before .before .before .before .before .before .before .before .before .before .args .w))) (its-fit (c .before .before .before .before .before .before .before .before .before .before .before .before .pre .1) (c .before .before .before .before .before .before .before .before .before .before .before .before .pre .2)) (c .before .before .before .before .before .before .before .before .before .before .before .before .args .m .now) (λ n. omega (arith, c .before .before .before .before .before .before .before .before .before .before .shared-slice-known2 .given n)) (c .before .before .before .before .before .before .before .before .before .before .before .before .args .at) (c .before .before .before .before .before .before .before .loop .notes) (c .before .before .before .before .before .before .before .loop .at) (c .before .before .before .before .before .before .before .loop .from) (c .before .before .before .before .before .before .before .loop .end) (c .before .before .before .before .before .before .before .loop .j) (c .before .before .before .before .before .before .before .loop .inv .1) (omega (arith, c .before .before .before .before .before .before .loop-test .taken, ap (λ (e : Entry). e .explicit) (c .before .before .before .before .before .before .before .before .before .unpack .ensures), its-count (c .before .before .before .before .before .before .before .before .before .before .before .before .pre .1) (c .before .before .before .before .before .before .before .before .before .before .before .before .pre .2))) (c .before .before .before .before .read .result) (c .before .before .before .before .read .ensures) (c .before .before .fault .given .0 .0) (c .before .before .fault .given .1) (c .cause-of .result) (c .cause-of .ensures) (c .before .before .before .before .before .before .before .loop .notes)))  -- returns
+    (λ c. ?)  -- returns
     (λ c. search needs)  -- enum-known-x
     (λ c κs. omega (arith, c .before .before .before .before .before .before .loop .inv .1 .high, c .before .before .before .before .before .before .before .before .before .before .before .pre .5))  -- note-requires
     (λ c. omega (arith, its-few (c .before .before .before .before .before .before .before .before .before .before .before .before .pre .1) (c .before .before .before .before .before .before .before .before .before .before .before .before .pre .2), its-count (c .before .before .before .before .before .before .before .before .before .before .before .before .pre .1) (c .before .before .before .before .before .before .before .before .before .before .before .before .pre .2), c .before .before .before .before .before .before .loop-test .taken, ap (λ (e : Entry). e .explicit) (c .before .before .before .before .before .before .before .before .before .unpack .ensures)))  -- mul-notes
