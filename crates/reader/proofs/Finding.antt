@@ -78,7 +78,7 @@ paired : (x : Placed) (p : ℕ) (k : Member) → p ≡ x .0 → x .1 ≡ k → x
 paired (q, j) p k d v = rw (d, v) refl
 
 -- parts of one record begin otherwise
-good-held : {b index : List ℕ} → Ready b index → (w : ℕ) → Known b index w → GoodHolder (tableIn b) (held b w)
+pub good-held : {b index : List ℕ} → Ready b index → (w : ℕ) → Known b index w → GoodHolder (tableIn b) (held b w)
 unfolding GoodHolder holderIn if
 good-held {b} R w (of-record t h q) =
     let x = R .filled .entered t h in

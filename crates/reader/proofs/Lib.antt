@@ -31,3 +31,4 @@ pub mod PlacedLoop
 pub mod NodeStores
 pub mod LeafStores
 pub mod LeafKinds
+pub mod JudgedMembers

@@ -1,5 +1,20 @@
+-- The judge of a value and of the items in it: one law for each way through it, by the levels that are left.
+-- Assumes nothing.
+use mathlib.Core.Bool.{true, false, true≢false}
+use mathlib.Core.Logic.{⊎-elim, inl, inr}
+use mathlib.Core.Path.{_≡_, refl, sym, ap, _∙_}
+use native.Mathlib.Omega.{arith}
 use borrow.Author.Needs.{needs}
-use Prim.Native.Nat.{ℕ, _<_}
+use denote.Ref.{now}
+use lib.ListN.{length, getD}
+use Rattle.ber.proofs.Places.{part-to-end}
+use Rattle.reader.specs.Items.{manner, since}
+use Rattle.reader.specs.Sought.{held}
+use Rattle.reader.proofs.JudgedMembers.{Judging, At-item, item-sought, item-fits, Notes, step-two, count-few, count-near, one-is, node-few, judging-first}
+use Rattle.reader.proofs.JudgedMembers.{its-sound, judged-over, judged-stopped, item-there, judged-unfit, place-few, judged-level, is-record, is-headed}
+use Rattle.reader.proofs.JudgedMembers.{judged-refused, value-small, value-further, value-low, judged-one, judged-turn}
+use Rattle.reader.proofs.Searching.{type-low}
+use Prim.Native.Nat.{ℕ, _+_, _-_, _*_, _≤_, _<_}
 use borrow.Fn.Kinds.{In}
 use borrow.Fn.PlainCycle.{Measures, is, falls, and}
 use Rattle.reader.proofs.judge.judge_members.Reads as judge-members
@@ -28,10 +43,10 @@ use Rattle.reader.proofs.judge.+judge_members+judge_value.{statement}
 use Rattle.reader.proofs.judge.+judge_members+judge_value.Tie.{close}
 
 abbrev μ-judge-members : Measures 4 judge-members-kinds.ps ℕ
-μ-judge-members κs a = ?
+μ-judge-members κs a = 2 * a .1 .1 .1 .1 .1 .0
 
 abbrev μ-judge-value : Measures 4 judge-value-kinds.ps ℕ
-μ-judge-value κs a = ?
+μ-judge-value κs a = 2 * a .1 .1 .1 .1 .1 .1 .0 + 1
 
 abbrev judge-members-at : ℕ → In 4 judge-members-kinds.ps
 judge-members-at t =
@@ -55,14 +70,13 @@ judge-value-below t =
 
 abbrev judge-members-Inv-loop : judge-members-lts.InvT-loop
 judge-members-Inv-loop table index w m marked level way₀ e s came₀ total₀ at₀ j₀ way came total at j =
-    ?
+    (at ≤ length m) × (j ≤ 16) × (total < 16386) × (length way ≡ 128) × Judging table w m marked level came total at j
 
 abbrev judge-members-μ-loop : judge-members-lts.MeasureT-loop
-judge-members-μ-loop table index w m marked level way₀ e s came₀ total₀ at₀ j₀ way came total at j =
-    ?
+judge-members-μ-loop table index w m marked level way₀ e s came₀ total₀ at₀ j₀ way came total at j = length m - at
 
-pub +judge-members+judge-value-spec : {M : Type 1} → statement M
-+judge-members+judge-value-spec = close μ-judge-members μ-judge-value (λ t. judge-members-lts.spec (
+abbrev judge-members-claims : ℕ → judge-members-lts.Claims
+judge-members-claims t = (
   unpack-reads.Asked,
   unpack-reads.Learnt,
   parts-reads.Asked,
@@ -88,64 +102,67 @@ pub +judge-members+judge-value-spec : {M : Type 1} → statement M
   holds-one-reads.Asked,
   holds-one-reads.Learnt,
 )
+
+pub +judge-members+judge-value-spec : {M : Type 1} → statement M
++judge-members+judge-value-spec = close μ-judge-members μ-judge-value (λ t. judge-members-lts.spec (judge-members-claims t)
     (judge-members-at t)
     judge-members.Post
     judge-members-Inv-loop
     judge-members-μ-loop
-    (λ c κs. ?) -- judge-members-unpack-requires
-    (λ c κs. ?) -- judge-members-parts-requires
+    (λ c κs. search needs) -- judge-members-unpack-requires
+    (λ c κs. search needs) -- judge-members-parts-requires
     (λ c κs. ?) -- judge-members-node-size-requires
     (λ c. ?) -- judge-members-loop-holds
     (λ c κs. ?) -- judge-members-next-requires
-    (λ c. ?) -- judge-members-enum-told
-    (λ c. ?) -- judge-members-enum-known-end
-    (λ c κs. ?) -- judge-members-done-requires
+    (λ c. search needs) -- judge-members-enum-told
+    (λ c. search needs) -- judge-members-enum-known-end
+    (λ c κs. search needs) -- judge-members-done-requires
     (λ c. ?) -- judge-members-returns
-    (λ c. ?) -- judge-members-enum-known-cause
-    (λ c. ?) -- judge-members-sub-refused
-    (λ c κs. ?) -- judge-members-refused-requires
+    (λ c. search needs) -- judge-members-enum-known-cause
+    (λ c. omega arith) -- judge-members-sub-refused
+    (λ c κs. search needs) -- judge-members-refused-requires
     (λ c. ?) -- judge-members-returns-2
-    (λ c. ?) -- judge-members-add-from
+    (λ c. omega arith) -- judge-members-add-from
     (λ c. ?) -- judge-members-mul-if2
     (λ c. ?) -- judge-members-array-read-if2
     (λ c. ?) -- judge-members-mul-octet
     (λ c. ?) -- judge-members-add-octet
-    (λ c κs. ?) -- judge-members-octet-requires
+    (λ c κs. search needs) -- judge-members-octet-requires
     (λ c. ?) -- judge-members-mul-first
     (λ c. ?) -- judge-members-element-copy-out-first
-    (λ c κs. ?) -- judge-members-first-requires
+    (λ c κs. search needs) -- judge-members-first-requires
     (λ c. ?) -- judge-members-shared-slice-read-fits
     (λ c. ?) -- judge-members-cast-fits
-    (λ c. ?) -- judge-members-sub-rest
-    (λ c. ?) -- judge-members-part-rest-start
-    (λ c. ?) -- judge-members-part-rest-end
+    (λ c. omega arith) -- judge-members-sub-rest
+    (λ c. omega arith) -- judge-members-part-rest-start
+    (λ c. omega arith) -- judge-members-part-rest-end
     (λ c κs. ?) -- judge-members-search-requires
-    (λ c. ?) -- judge-members-enum-known-cause-2
-    (λ c. ?) -- judge-members-sub-refused-2
-    (λ c κs. ?) -- judge-members-refused-requires-2
+    (λ c. search needs) -- judge-members-enum-known-cause-2
+    (λ c. omega arith) -- judge-members-sub-refused-2
+    (λ c κs. search needs) -- judge-members-refused-requires-2
     (λ c. ?) -- judge-members-returns-3
-    (λ c. ?) -- judge-members-enum-known-x
+    (λ c. search needs) -- judge-members-enum-known-x
     (λ c. ?) -- judge-members-add-from-2
-    (λ c. ?) -- judge-members-sub-refused-3
-    (λ c κs. ?) -- judge-members-refused-requires-3
+    (λ c. omega arith) -- judge-members-sub-refused-3
+    (λ c κs. search needs) -- judge-members-refused-requires-3
     (λ c. ?) -- judge-members-returns-4
     (λ c. ?) -- judge-members-mul-came
     (λ c. ?) -- judge-members-array-write-came
     (λ c. ?) -- judge-members-add-j
     (λ c. ?) -- judge-members-mul-found
     (λ c. ?) -- judge-members-element-copy-out-found
-    (λ c. ?) -- judge-members-sub-below
-    (λ c. ?) -- judge-members-sub-below-2
+    (λ c. omega arith) -- judge-members-sub-below
+    (λ c. omega arith) -- judge-members-sub-below-2
     (λ c κs. ?) -- judge-members-judge-value-requires
-    (λ c. ?) -- judge-members-enum-known-cause-3
-    (λ c κs. ?) -- judge-members-refused-requires-4
+    (λ c. search needs) -- judge-members-enum-known-cause-3
+    (λ c κs. search needs) -- judge-members-refused-requires-4
     (λ c. ?) -- judge-members-returns-5
-    (λ c. ?) -- judge-members-enum-known-end-2
+    (λ c. search needs) -- judge-members-enum-known-end-2
     (λ c. ?) -- judge-members-mul-grow
     (λ c. ?) -- judge-members-add-grow
     (λ c κs. ?) -- judge-members-grow-requires
-    (λ c κs. ?) -- judge-members-holds-one-requires
-    (λ c κs. ?) -- judge-members-done-requires-2
+    (λ c κs. search needs) -- judge-members-holds-one-requires
+    (λ c κs. search needs) -- judge-members-done-requires-2
     (λ c. ?) -- judge-members-returns-6
     (λ c. ?) -- judge-members-loop-less
     (λ c. ?)) -- judge-members-loop-again
