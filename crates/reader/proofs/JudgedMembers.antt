@@ -55,10 +55,11 @@ use Rattle.reader.specs.declared.answer.Judged.the-variants.{Done, Refus
 use Rattle.reader.specs.declared.judge.Standing.{Standing}
 use Rattle.reader.specs.declared.judge.Standing.the-variants.{Item, Over as Ends, Refused as Stops}
 use Rattle.reader.specs.declared.search.Choice.{Choice as Chosen}
+use Rattle.reader.specs.declared.search.Found.{Found}
 use Rattle.reader.specs.declared.search.Found.the-variants.{Part, Refused as NotFound}
 use Rattle.reader.proofs.Among.{code-is}
 use Rattle.reader.proofs.Begun.{Fine, AllFine, Fit, fit, nested-all}
-use Rattle.reader.proofs.Items.{More, unawaited-on, first-hit, first-miss, pending-free, pending-come, Found, found-of, awaits-found}
+use Rattle.reader.proofs.Items.{More, unawaited-on, first-hit, first-miss, pending-free, pending-come, found-of, awaits-found}
 use Rattle.reader.proofs.ItemsGoing.{Going, Gives, since-first, going-first, going-over, going-lacking, going-broken, going-full, going-unawaited, going-refused, going-turn, one-unawaited, one-refused, one-done}
 use Rattle.reader.proofs.ItemsKinds.{blank-clear}
 use Rattle.reader.proofs.ItemsSearch.{Lone, GoodHolder, lone-awaits, Tells, tells, search-itself}
@@ -416,7 +417,7 @@ pub record At-item (b : List ℕ) (h : Holder) (m : List ℕ) (at i : ℕ) (came
   pub there : number < countIn b
 
 -- what was sought
-pub item-sought : {b : List ℕ} {h : Holder} {m : List ℕ} {at i : ℕ} {came way : List ℕ} (x : Chosen) → at ≤ length m
+item-sought : {b : List ℕ} {h : Holder} {m : List ℕ} {at i : ℕ} {came way : List ℕ} (x : Chosen) → at ≤ length m
     → Sought b h i came (drop at m) way (Part x)
     → At-item b h m at i came way (x .place) (x .record) (x .depth) (at + x .from)
 item-sought {m = m} {at = at} x low q =
@@ -431,6 +432,21 @@ item-sought {m = m} {at = at} x low q =
       its = q .6 .2;
       there = q .6 .3;
     }
+
+pub item-same : {b : List ℕ} {h : Holder} {m : List ℕ} {at i : ℕ} {came way way₁ : List ℕ} {place number depth from place₁ number₁ depth₁ from₁ : ℕ}
+    → way ≡ way₁ → place ≡ place₁ → number ≡ number₁ → depth ≡ depth₁ → from ≡ from₁
+    → At-item b h m at i came way₁ place₁ number₁ depth₁ from₁
+    → At-item b h m at i came way place number depth from
+item-same e f g h k X = rw (e, f, g, h, k) X
+
+pub item-found : {b : List ℕ} {h : Holder} {m : List ℕ} {at i : ℕ} {came way : List ℕ} (rest : List ℕ) (r : Found) (x : Chosen) → at ≤ length m
+    → Sought b h i came rest way r → rest ≡ drop at m → r ≡ Part x
+    → At-item b h m at i came way (x .place) (x .record) (x .depth) (at + x .from)
+item-found rest r x low q er ex = item-sought x low (rw (er, ex) at q)
+
+pub found-low : (b : List ℕ) (h : Holder) (m : List ℕ) (at i : ℕ) (came way rest : List ℕ) (r : Found) (x : Chosen) → at ≤ length m
+    → Sought b h i came rest way r → rest ≡ drop at m → r ≡ Part x → at + x .from ≤ length m
+found-low b h m at i came way rest r x low q er ex = let X : At-item b h m at i came way _ _ _ _ = item-found rest r x low q er ex in X .low
 
 -- or the part at hand, which begins with the octet at the place
 module _ {b index : List ℕ} {w : ℕ} {came : List ℕ} (Z : Sound b index w came) (e : Entry) (ee : e ≡ unpacked w) (s : Span) (es : s ≡ spanOf b (e .kind) (e .own))
@@ -657,19 +673,20 @@ module _ {b index : List ℕ} (R : Ready b index) {w : ℕ} (K : Known b index w
             λ q. end-more {A = ℕ} (λ z. got 0 z) (λ z. refused 0 0) m at marked (endOf marked (length m) (drop at m)) refl (goes-on q) .1
 
         -- of no part that is awaited
-        pub judged-unfit : (way : List ℕ) (c : Cause) → Sought b H I came (drop at m) way (NotFound c) → Refused c (length m - at) ≡ told m size W
+        pub judged-unfit : (way : List ℕ) (c : Cause) (rest : List ℕ) (r : Found) → Sought b H I came rest way r → rest ≡ drop at m → r ≡ NotFound c → Refused c (length m - at) ≡ told m size W
         unfolding unfit if
-        judged-unfit way c q =
+        judged-unfit way c rest r q₀ er ec =
+            let q : Sought b H I came (drop at m) way (NotFound c) = rw (er, ec) at q₀ in
             let x = unfit-alike {A = List ℕ} {B = Value} H I came (drop at m) (causeNumber c) (length (drop at m)) (q .1) in
-            rw cause-number at (refused-here (causeNumber c) (whole ∙ x))
+            rw cause-number at (refused-here (causeNumber c) (whole (q .0) ∙ x))
           where
-            whole : W ≡ unfit H I came (drop at m)
-            whole =
+            whole : next T H I came (drop at m) ≡ none → W ≡ unfit H I came (drop at m)
+            whole q =
                 test (isSingle (manner H))
-                (λ n. rw n (one-unawaited W T (readValue T level) H (mode marked) m at I came total (S .going) n (q .0)))
+                (λ n. rw n (one-unawaited W T (readValue T level) H (mode marked) m at I came total (S .going) n q))
                 λ n.
                 test (remains H I came)
-                (λ r. rw (n, r) (going-unawaited W T (readValue T level) H (mode marked) m at I came total (S .going) n (its-more n) r (q .0)))
+                (λ r. rw (n, r) (going-unawaited W T (readValue T level) H (mode marked) m at I came total (S .going) n (its-more n) r q))
                 λ r. rw (n, r) (going-full W T (readValue T level) H (mode marked) m at I came total (S .going) n (its-more n) r)
 
         -- of a part
