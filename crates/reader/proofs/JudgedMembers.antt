@@ -130,7 +130,7 @@ plain-inside (SequenceOf t) c = refl
 plain-inside (SetOf t) c = refl
 plain-inside (Choice ts) c = refl
 
-pub held-kind : {b index : List ℕ} → Ready b index → (w : ℕ) → Known b index w → unpacked w .simple ≡ false → unpacked w .kind ≡ kindOf (held b w)
+held-kind : {b index : List ℕ} → Ready b index → (w : ℕ) → Known b index w → unpacked w .simple ≡ false → unpacked w .kind ≡ kindOf (held b w)
 unfolding holderIn if kindOf
 held-kind {b} R w (of-record t h q) n =
     let x = R .filled .entered t h in
@@ -494,7 +494,7 @@ module _ {b index : List ℕ} {w : ℕ} {came : List ℕ} (Z : Sound b index w c
   abbrev Part-j : PartAt b Held (unpacked w .kind) s j
   Part-j = spanned Z e ee s es .at j l
 
-  pub item-fits : (way : List ℕ) → At-item b Held m at (since (manner Held) j) came way j t 0 (at + 1)
+  item-fits : (way : List ℕ) → At-item b Held m at (since (manner Held) j) came way j t 0 (at + 1)
   item-fits way =
       let y : t ≡ Part-j .part .type = et ∙ Part-j .type in
       record {
@@ -561,259 +561,349 @@ value-step : (T : Table) (n t : ℕ) (s : List ℕ) → readRecord T n (T t) s �
 unfolding readRecord readValue
 value-step T n t s = refl
 
--- the ways through a turn
-module _ {b index : List ℕ} (R : Ready b index) {w : ℕ} (K : Known b index w) (holds : unpacked w .simple ≡ false) (e : Entry) (ee : e ≡ unpacked w)
-    (s : Span) (es : s ≡ spanOf b (e .kind) (e .own)) where
-  abbrev T : Table
-  T = tableIn b
+-- The ways through a turn. What an entry that is not simple stands for, and where its parts are:
+pub record Setting : Type 0 where
+  pub b : List ℕ
+  pub index : List ℕ
+  pub w : ℕ
+  pub e : Entry
+  pub s : Span
+  pub ready : Ready b index
+  pub known : Known b index w
+  pub holds : unpacked w .simple ≡ false
+  pub entry : e ≡ unpacked w
+  pub span : s ≡ spanOf b (e .kind) (e .own)
 
-  abbrev H : Holder
-  H = held b w
+abbrev T : Setting → Table
+T Q = tableIn (Q .b)
 
-  kind-is : e .kind ≡ kindOf H
-  kind-is = ap (λ (x : Entry). x .kind) ee ∙ held-kind R w K holds
+abbrev H : Setting → Holder
+H Q = held (Q .b) (Q .w)
 
-  its-span : Spanned b H (unpacked w .kind) s
-  its-span = its R w K s (es ∙ ap (λ (x : Entry). spanOf b (x .kind) (x .own)) ee)
+module _ (Q : Setting) where
+  no-plain : isPlain (H Q) ≡ false
+  no-plain = held-some (Q .ready) (Q .w) (Q .known) (Q .holds)
 
-  few : length (partsOf H) ≤ 16
-  few = parts-few H (omega (arith, its-span .count, its-span .few))
+  kind-is : Q .e .kind ≡ kindOf (H Q)
+  kind-is = ap (λ (x : Entry). x .kind) (Q .entry) ∙ held-kind (Q .ready) (Q .w) (Q .known) (Q .holds)
 
-  step-is : s .step ≡ spanOf b (kindOf H) (e .own) .step
-  step-is = ap (λ (x : Span). x .step) es ∙ ap (λ (k : ℕ). spanOf b k (e .own) .step) kind-is
+  its-span : Spanned (Q .b) (H Q) (unpacked (Q .w) .kind) (Q .s)
+  its-span = its (Q .ready) (Q .w) (Q .known) (Q .s) (Q .span ∙ ap (λ (x : Entry). spanOf (Q .b) (x .kind) (x .own)) (Q .entry))
 
-  pub step-two : s .step ≤ 2
-  step-two = omega (arith, step-is, step-small b H (e .own))
+  few : length (partsOf (H Q)) ≤ 16
+  few = parts-few (H Q) (omega (arith, its-span .count, its-span .few))
 
-  pub count-few : s .count ≤ 16
+  step-is : Q .s .step ≡ spanOf (Q .b) (kindOf (H Q)) (Q .e .own) .step
+  step-is = ap (λ (x : Span). x .step) (Q .span) ∙ ap (λ (k : ℕ). spanOf (Q .b) k (Q .e .own) .step) kind-is
+
+  step-two : Q .s .step ≤ 2
+  step-two = omega (arith, step-is, step-small (Q .b) (H Q) (Q .e .own))
+
+  pub count-few : Q .s .count ≤ 16
   count-few = its-span .few
 
-  pub count-near : (k : ℕ) → k < s .count → s .first + s .step * k < 8192
+  pub count-near : (k : ℕ) → k < Q .s .count → Q .s .first + Q .s .step * k < 8192
   count-near = its-span .near
 
-  pub one-is : (g : Bool) → g ≡ (eqb (e .kind) 50 || eqb (e .kind) 51) → isSingle (manner H) ≡ g
-  one-is g eg = sym (eg ∙ ap holdsOne kind-is ∙ one-kind H (held-some R w K holds))
+  pub one-is : (g : Bool) → g ≡ (eqb (Q .e .kind) 50 || eqb (Q .e .kind) 51) → isSingle (manner (H Q)) ≡ g
+  one-is g eg = sym (eg ∙ ap holdsOne kind-is ∙ one-kind (H Q) no-plain)
 
-  node-total : (n : ℕ) → n ≡ nodeOf (e .kind) (s .count) → n ≡ nodeSize H
-  node-total n en =
-      en ∙ ap (λ (k : ℕ). nodeOf k (s .count)) kind-is ∙ ap (nodeOf (kindOf H)) (its-span .count ∙ sym (count-is H))
-      ∙ node-is H (some-kind H (held-some R w K holds))
+  module _ (n : ℕ) (en : n ≡ nodeOf (Q .e .kind) (Q .s .count)) where
+    node-total : n ≡ nodeSize (H Q)
+    node-total =
+        en ∙ ap (λ (k : ℕ). nodeOf k (Q .s .count)) kind-is ∙ ap (nodeOf (kindOf (H Q))) (its-span .count ∙ sym (count-is (H Q)))
+        ∙ node-is (H Q) (some-kind (H Q) no-plain)
 
-  pub node-few : (n : ℕ) → n ≡ nodeOf (e .kind) (s .count) → n ≤ 20
-  node-few n en = omega (arith, node-total n en, node-small H few)
+    pub node-few : n ≤ 20
+    node-few = omega (arith, node-total, node-small (H Q) few)
 
-  -- before the first item
-  pub judging-first : (m : List ℕ) (marked : Bool) (level n : ℕ) → n ≡ nodeOf (e .kind) (s .count) → (isSingle (manner H) ≡ true → 0 < length m)
-      → Judging b w m marked level blank n 0 0
-  judging-first m marked level n en one-item =
-      let q : n ≡ cap (nodeSize H) = omega (arith, node-total n en, node-few n en) in
+    -- before the first item
+    pub judging-first : (m : List ℕ) (marked : Bool) (level : ℕ) → (isSingle (manner (H Q)) ≡ true → 0 < length m)
+        → Judging (Q .b) (Q .w) m marked level blank n 0 0
+    judging-first m marked level one-item =
+        let q : n ≡ cap (nodeSize (H Q)) = omega (arith, node-total, node-few) in
+        record {
+          one = one-item;
+          noted = refl;
+          clear = λ _. blank-clear;
+          going = rw (since-first (manner (H Q))) (going-first (T Q) (readValue (T Q) level) (H Q) (mode marked) m n no-plain few q);
+        }
+
+  pub judging-sound : {m : List ℕ} {marked : Bool} {level : ℕ} {came : List ℕ} {total at j : ℕ} → Judging (Q .b) (Q .w) m marked level came total at j
+      → Sound (Q .b) (Q .index) (Q .w) came
+  judging-sound S = record { ready = Q .ready; known = Q .known; noted = S .noted; clear = S .clear }
+
+  pub type-few : {m : List ℕ} {marked : Bool} {level : ℕ} {came : List ℕ} {total at j : ℕ} → Judging (Q .b) (Q .w) m marked level came total at j → j < Q .s .count
+      → (t : ℕ) → t ≡ getD (Q .b) (Q .s .first + Q .s .step * j) 0 → t < 128
+  type-few {j = j} S l t et = omega (arith, type-low (judging-sound S) (Q .e) (Q .entry) (Q .s) (Q .span) j l t et, Q .ready .filled .few)
+
+-- what stands at a place of m
+pub record Turn (Q : Setting) : Type 0 where
+  pub m : List ℕ
+  pub marked : Bool
+  pub level : ℕ
+  pub came : List ℕ
+  pub total : ℕ
+  pub at : ℕ
+  pub j : ℕ
+  pub octets : Octets m
+  pub low : at ≤ length m
+  pub so-far : Judging (Q .b) (Q .w) m marked level came total at j
+  pub y : Standing
+  pub stands : y ≡ standing (H Q) (since (manner (H Q)) j) came (endOf marked (length m) (drop at m))
+
+module _ {Q : Setting} (P : Turn Q) where
+  -- the parts that are left are those from here on; what is left of m; all that is judged; and where its contents may end
+  abbrev I : ℕ
+  I = since (manner (H Q)) (P .j)
+
+  abbrev Rest : List ℕ
+  Rest = drop (P .at) (P .m)
+
+  abbrev R : ℕ → List ℕ → Answer Value
+  R = readValue (T Q) (P .level)
+
+  abbrev pub W : Answer Value
+  W = readHeld (T Q) (readValue (T Q) (P .level)) (H Q) (mode (P .marked)) (P .m)
+
+  abbrev E : End
+  E = endOf (P .marked) (length (P .m)) (drop (P .at) (P .m))
+
+  refused-here : (c : ℕ) → W ≡ refused c (length Rest) → Refused (causeOf c) (length (P .m) - P .at) ≡ told (P .m) size W
+  refused-here c x = told-refused (P .m) W c (length (P .m) - P .at) (x ∙ ap (refused c) (length-drop (P .at) (P .m)))
+
+  -- contents that are over
+  pub judged-over : (u : ℕ) → P .y ≡ Ends u → Done u (P .total) ≡ told (P .m) size W
+  judged-over u d =
+      let n = over-many (H Q) I (P .came) E u (sym (P .stands) ∙ d) in
+      let (a, l) = ends-over (H Q) I (P .came) E u (sym (many-stands (H Q) I (P .came) E n) ∙ sym (P .stands) ∙ d) in
+      let g =
+      going-over W (T Q) R (H Q) (mode (P .marked)) (P .m) (P .at) I (P .came) (P .total) (P .so-far .going) n (drop u (P .m))
+      (λ A f z. end-over {A = A} f z (P .m) (P .at) (P .marked) E u (P .low) refl a .0) l in
+      told-done (P .m) W (g .value) u (P .total) (g .is)
+      (end-over {A = ℕ} (λ z. got 0 z) (λ z. refused 0 0) (P .m) (P .at) (P .marked) E u (P .low) refl a .2) (g .size)
+
+  -- that lack a part, or are broken
+  pub judged-stopped : (c : Cause) → P .y ≡ Stops c → Refused c (length (P .m) - P .at) ≡ told (P .m) size W
+  unfolding causeOf if
+  judged-stopped c d = go (ends-stopped (H Q) I (P .came) E c (sym (many-stands (H Q) I (P .came) E N) ∙ sym (P .stands) ∙ d))
+    where
+      N : isSingle (manner (H Q)) ≡ false
+      N = stopped-many (H Q) I (P .came) E c (sym (P .stands) ∙ d)
+
+      go : Stopped (H Q) I (P .came) E c → Refused c (length (P .m) - P .at) ≡ told (P .m) size W
+      go (inl (u, a, l, q)) =
+          rw q (refused-here 24
+          (going-lacking W (T Q) R (H Q) (mode (P .marked)) (P .m) (P .at) I (P .came) (P .total) (P .so-far .going) N (drop u (P .m))
+          (λ A f z. end-over {A = A} f z (P .m) (P .at) (P .marked) E u (P .low) refl a .0) l))
+      go (inr (f, a, q)) =
+          rw q (refused-here (faultNumber f)
+          (going-broken W (T Q) R (H Q) (mode (P .marked)) (P .m) (P .at) I (P .came) (P .total) (P .so-far .going) N (faultNumber f) (length Rest)
+          (λ A g z. end-broken {A = A} g z (P .m) (P .at) (P .marked) E f refl a)))
+
+  -- an item
+  module _ (d : P .y ≡ Item) where
+    goes-on : isSingle (manner (H Q)) ≡ false → E ≡ GoesOn
+    goes-on n = ends-item (H Q) I (P .came) E (sym (many-stands (H Q) I (P .came) E n) ∙ sym (P .stands) ∙ d)
+
+    its-more : isSingle (manner (H Q)) ≡ false → More (mode (P .marked)) Rest
+    its-more n = λ A f z. end-more {A = A} f z (P .m) (P .at) (P .marked) E refl (goes-on n) .0
+
+    pub item-there : P .at < length (P .m)
+    item-there =
+        test (isSingle (manner (H Q))) (λ q. P .so-far .one q)
+        λ q. end-more {A = ℕ} (λ z. got 0 z) (λ z. refused 0 0) (P .m) (P .at) (P .marked) E refl (goes-on q) .1
+
+    -- of no part that is awaited
+    pub judged-unfit : (way : List ℕ) (c : Cause) (rest : List ℕ) (r : Found) → Sought (Q .b) (H Q) I (P .came) rest way r → rest ≡ Rest → r ≡ NotFound c
+        → Refused c (length (P .m) - P .at) ≡ told (P .m) size W
+    unfolding unfit if
+    judged-unfit way c rest r q₀ er ec =
+        let q : Sought (Q .b) (H Q) I (P .came) Rest way (NotFound c) = rw (er, ec) at q₀ in
+        let x = unfit-alike {A = List ℕ} {B = Value} (H Q) I (P .came) Rest (causeNumber c) (length Rest) (q .1) in
+        rw cause-number at (refused-here (causeNumber c) (whole (q .0) ∙ x))
+      where
+        whole : next (T Q) (H Q) I (P .came) Rest ≡ none → W ≡ unfit (H Q) I (P .came) Rest
+        whole q =
+            test (isSingle (manner (H Q)))
+            (λ n. rw n (one-unawaited W (T Q) R (H Q) (mode (P .marked)) (P .m) (P .at) I (P .came) (P .total) (P .so-far .going) n q))
+            λ n.
+            test (remains (H Q) I (P .came))
+            (λ r. rw (n, r) (going-unawaited W (T Q) R (H Q) (mode (P .marked)) (P .m) (P .at) I (P .came) (P .total) (P .so-far .going) n (its-more n) r q))
+            λ r. rw (n, r) (going-full W (T Q) R (H Q) (mode (P .marked)) (P .m) (P .at) I (P .came) (P .total) (P .so-far .going) n (its-more n) r)
+
+    -- of the part at hand
+    pub item-here : P .j < Q .s .count → getD (P .came) (P .j) 0 ≡ 0 → (t f : ℕ) → t ≡ getD (Q .b) (Q .s .first + Q .s .step * P .j) 0
+        → f ≡ unpacked (getD (Q .index) t 0) .code → f ≡ getD (P .m) (P .at) 0 → (way : List ℕ)
+        → At-item (Q .b) (H Q) (P .m) (P .at) I (P .came) way (P .j) t 0 (P .at + 1)
+    item-here l z t f et ef q way =
+        item-fits (judging-sound Q (P .so-far)) (Q .e) (Q .entry) (Q .s) (Q .span) (P .m) (P .octets) (P .at) item-there (P .j) l z t f et ef q way
+
+-- an item of a part
+pub record Comes {Q : Setting} (P : Turn Q) : Type 0 where
+  pub item : P .y ≡ Item
+  pub way : List ℕ
+  pub place : ℕ
+  pub number : ℕ
+  pub depth : ℕ
+  pub from : ℕ
+  pub is : At-item (Q .b) (H Q) (P .m) (P .at) (I P) (P .came) way place number depth from
+  pub ways : length way ≡ 128
+
+module _ {Q : Setting} {P : Turn Q} (X : Comes P) where
+  abbrev Type-of : ℕ
+  Type-of = X .is .part .type
+
+  abbrev C : ℕ
+  C = codeOf (X .is .identifier)
+
+  all-fit : (t : ℕ) → Fit (T Q t)
+  all-fit = fit (Q .b) (T Q) (countIn (Q .b)) (Q .ready .passes)
+
+  all-nested : (t : ℕ) → Nested (T Q) 128 t
+  all-nested = nested-all (Q .b) (T Q) (countIn (Q .b)) (Q .ready .passes)
+
+  its-octets : Octets (Rest P)
+  its-octets = octets-from (P .m) (P .at) (P .octets)
+
+  tagged : C ≡ untagged → ⊥
+  tagged z = omega (arith, read-code-small (Rest P) (X .is .identifier) (drop (X .from) (P .m)) its-octets (X .is .read), z)
+
+  code-tells : Tells (T Q) (Rest P) C
+  unfolding peeked
+  code-tells = rw (X .is .read) at (tells (T Q) all-fit (Rest P) its-octets)
+
+  abbrev Begins : Placed → Bool
+  Begins x = begun (T Q) (x .1 .type) (Rest P)
+
+  some-remain : remains (H Q) (I P) (P .came) ≡ true
+  some-remain = within-some (manner (H Q)) Begins (left (H Q) (I P) (P .came)) (X .place, X .is .part) (X .is .found)
+
+  pub place-few : X .place < 16
+  place-few =
+      let F = found-of (P .came) (I P) (drop (I P) (partsOf (H Q))) _ (X .place, X .is .part) (awaits-found (H Q) (I P) (P .came) Begins) (X .is .found) in
+      omega (arith, F .place, F .low, length-drop (I P) (partsOf (H Q)), few Q)
+
+  pub behind-few : X .place + Q .s .step / 2 ≤ 16
+  behind-few = omega (arith, place-few, step-two Q)
+
+  pub number-few : X .number < 128
+  number-few = omega (arith, X .is .there, Q .ready .filled .few)
+
+  part-refused : (c l : ℕ) → R P Type-of (Rest P) ≡ refused c l → W P ≡ refused c l
+  part-refused c l q =
+      test (isSingle (manner (H Q)))
+      (λ n. one-refused (W P) (T Q) (R P) (H Q) (mode (P .marked)) (P .m) (P .at) (I P) (P .came) (P .total) (P .so-far .going) n
+      (X .place, X .is .part) (X .is .found) c l q)
+      λ n.
+      going-refused (W P) (T Q) (R P) (H Q) (mode (P .marked)) (P .m) (P .at) (I P) (P .came) (P .total) (P .so-far .going) n
+      (its-more P (X .item) n) some-remain (X .place, X .is .part) (X .is .found) c l q
+
+  -- under more CHOICEs than there are levels
+  pub judged-level : P .level ≤ X .depth → Refused Level (length (P .m) - P .at) ≡ told (P .m) size (W P)
+  unfolding causeOf if
+  judged-level h =
+      refused-here P 28 (part-refused 28 (length (Rest P)) (way-level (T Q) all-fit all-nested C tagged (Rest P) code-tells (X .is .leads) (X .is .its) (P .level) h))
+
+  -- the entry of its record
+  abbrev Entry-of : ℕ
+  Entry-of = getD (Q .index) (X .number) 0
+
+  abbrev pub is-record : IsRecord (Q .b) (Q .index) Entry-of
+  is-record = (X .number, X .is .there, refl)
+
+  pub is-headed : Headed (P .m) (P .at) (X .from) (unpacked Entry-of .code)
+  is-headed =
       record {
-        one = one-item;
-        noted = refl;
-        clear = λ _. blank-clear;
-        going = rw (since-first (manner H)) (going-first T (readValue T level) H (mode marked) m n (held-some R w K holds) few q);
+        identifier = X .is .identifier;
+        is = X .is .read;
+        coded = sym (X .is .its) ∙ sym (Q .ready .filled .entered (X .number) (X .is .there) .code);
+        further = X .is .further;
+        low = X .is .low;
       }
 
-  module _ {m : List ℕ} {marked : Bool} {level : ℕ} {came : List ℕ} {total at j : ℕ} (low : at ≤ length m) (S : Judging b w m marked level came total at j) where
-    abbrev I : ℕ
-    I = since (manner H) j
+-- whose value was judged
+pub record Valued {Q : Setting} {P : Turn Q} (X : Comes P) : Type 0 where
+  pub deep : X .depth < P .level
+  pub r : Judged
+  pub said : r ≡ told (P .m) size (readRecord (T Q) (P .level - X .depth - 1) (recordIn (Q .b) (unpacked (Entry-of X))) (Rest P))
 
-    abbrev W : Answer Value
-    W = readHeld T (readValue T level) H (mode marked) m
+module _ {Q : Setting} {P : Turn Q} {X : Comes P} (Y : Valued X) where
+  abbrev Below : Answer Value
+  Below = readValue (T Q) (P .level - X .depth) (X .number) (Rest P)
 
-    pub its-sound : Sound b index w came
-    its-sound = record { ready = R; known = K; noted = S .noted; clear = S .clear }
+  record-value : readRecord (T Q) (P .level - X .depth - 1) (recordIn (Q .b) (unpacked (Entry-of X))) (Rest P) ≡ Below
+  record-value =
+      let q : P .level - X .depth ≡ suc (P .level - X .depth - 1) = omega (arith, Y .deep) in
+      ap (λ (x : Record). readRecord (T Q) (P .level - X .depth - 1) x (Rest P)) (its-record (Q .ready) (is-record X))
+      ∙ value-step (T Q) (P .level - X .depth - 1) (X .number) (Rest P)
+      ∙ ap (λ (k : ℕ). readValue (T Q) k (X .number) (Rest P)) (sym q)
 
-    left-is : length (drop at m) ≡ length m - at
-    left-is = length-drop at m
+  abbrev Through : Answer Value → Answer Value
+  Through z = then z λ v u. got (wrapped (X .way) (X .depth) v) u
 
-    refused-here : (c : ℕ) → W ≡ refused c (length (drop at m)) → Refused (causeOf c) (length m - at) ≡ told m size W
-    refused-here c x = told-refused m W c (length m - at) (x ∙ ap (refused c) left-is)
+  through-way : R P (Type-of X) (Rest P) ≡ Through Below
+  through-way =
+      way-value (T Q) (all-fit X) (all-nested X) (C X) (tagged X) (Rest P) (code-tells X) (X .is .leads) (X .is .its) (P .level) (omega (arith, Y .deep))
 
-    module _ (y : Standing) (ey : y ≡ standing H I came (endOf marked (length m) (drop at m))) where
-      -- contents that are over
-      pub judged-over : (u : ℕ) → y ≡ Ends u → Done u total ≡ told m size W
-      judged-over u d =
-          let x = endOf marked (length m) (drop at m) in
-          let n = over-many H I came x u (sym ey ∙ d) in
-          let (a, l) = ends-over H I came x u (sym (many-stands H I came x n) ∙ sym ey ∙ d) in
-          let g = going-over W T (readValue T level) H (mode marked) m at I came total (S .going) n (drop u m) (λ A f z. end-over {A = A} f z m at marked x u low refl a .0) l in
-          told-done m W (g .value) u total (g .is) (end-over {A = ℕ} (λ z. got 0 z) (λ z. refused 0 0) m at marked x u low refl a .2) (g .size)
+  is-said : Y .r ≡ told (P .m) size Below
+  is-said = Y .said ∙ ap (told (P .m) size) record-value
 
-      -- that lack a part, or are broken
-      pub judged-stopped : (c : Cause) → y ≡ Stops c → Refused c (length m - at) ≡ told m size W
-      unfolding causeOf if
-      judged-stopped c d = go (ends-stopped H I came X c (sym (many-stands H I came X N) ∙ sym ey ∙ d))
-        where
-          X : End
-          X = endOf marked (length m) (drop at m)
+  -- and refused
+  pub judged-refused : (c : Cause) (l : ℕ) → Y .r ≡ Refused c l → Refused c l ≡ told (P .m) size (W P)
+  unfolding then
+  judged-refused c l q =
+      let (k, x, y) = said-refused (P .m) Below c l (sym is-said ∙ q) in
+      ap (λ (z : Cause). Refused z l) y ∙ told-refused (P .m) (W P) k l (part-refused X k l (through-way ∙ ap Through x))
 
-          N : isSingle (manner H) ≡ false
-          N = stopped-many H I came X c (sym ey ∙ d)
+  -- or accepted
+  module _ (end n : ℕ) (q : Y .r ≡ Done end n) where
+    abbrev Its : (v : Value) × (u : List ℕ) × (Below ≡ got v u) × (end ≡ length (P .m) - length u) × (n ≡ cap (length (octets v)))
+    Its = said-done (P .m) Below end n (sym is-said ∙ q)
 
-          go : Stopped H I came X c → Refused c (length m - at) ≡ told m size W
-          go (inl (u, a, l, q)) =
-              rw q (refused-here 24 (going-lacking W T (readValue T level) H (mode marked) m at I came total (S .going) N (drop u m)
-              (λ A f z. end-over {A = A} f z m at marked X u low refl a .0) l))
-          go (inr (f, a, q)) =
-              rw q (refused-here (faultNumber f) (going-broken W T (readValue T level) H (mode marked) m at I came total (S .going) N (faultNumber f) (length (drop at m))
-              (λ A g z. end-broken {A = A} g z m at marked X f refl a)))
+    its-behind : (Its .1 ≡ drop (length (P .m) - length (Its .1)) (P .m)) × (P .at < length (P .m) - length (Its .1))
+    its-behind = value-behind (T Q) (P .level - X .depth) (X .number) (P .m) (P .at) (P .low) (Its .0) (Its .1) (Its .2)
 
-      -- an item
-      module _ (d : y ≡ Item) where
-        goes-on : isSingle (manner H) ≡ false → endOf marked (length m) (drop at m) ≡ GoesOn
-        goes-on n = let x = endOf marked (length m) (drop at m) in ends-item H I came x (sym (many-stands H I came x n) ∙ sym ey ∙ d)
+    pub value-small : n < 16386
+    value-small = omega (arith, Its .4)
 
-        its-more : isSingle (manner H) ≡ false → More (mode marked) (drop at m)
-        its-more n = λ A f z. end-more {A = A} f z m at marked (endOf marked (length m) (drop at m)) refl (goes-on n) .0
+    pub value-further : P .at < end
+    value-further = omega (arith, Its .3, its-behind .1)
 
-        pub item-there : at < length m
-        item-there =
-            test (isSingle (manner H)) (λ q. S .one q)
-            λ q. end-more {A = ℕ} (λ z. got 0 z) (λ z. refused 0 0) m at marked (endOf marked (length m) (drop at m)) refl (goes-on q) .1
+    pub value-low : end ≤ length (P .m)
+    value-low = omega (arith, Its .3)
 
-        -- of no part that is awaited
-        pub judged-unfit : (way : List ℕ) (c : Cause) (rest : List ℕ) (r : Found) → Sought b H I came rest way r → rest ≡ drop at m → r ≡ NotFound c → Refused c (length m - at) ≡ told m size W
-        unfolding unfit if
-        judged-unfit way c rest r q₀ er ec =
-            let q : Sought b H I came (drop at m) way (NotFound c) = rw (er, ec) at q₀ in
-            let x = unfit-alike {A = List ℕ} {B = Value} H I came (drop at m) (causeNumber c) (length (drop at m)) (q .1) in
-            rw cause-number at (refused-here (causeNumber c) (whole (q .0) ∙ x))
-          where
-            whole : next T H I came (drop at m) ≡ none → W ≡ unfit H I came (drop at m)
-            whole q =
-                test (isSingle (manner H))
-                (λ n. rw n (one-unawaited W T (readValue T level) H (mode marked) m at I came total (S .going) n q))
-                λ n.
-                test (remains H I came)
-                (λ r. rw (n, r) (going-unawaited W T (readValue T level) H (mode marked) m at I came total (S .going) n (its-more n) r q))
-                λ r. rw (n, r) (going-full W T (readValue T level) H (mode marked) m at I came total (S .going) n (its-more n) r)
+    abbrev Whole : Value
+    Whole = wrapped (X .way) (X .depth) (Its .0)
 
-        -- of a part
-        module _ {way : List ℕ} {place number depth from : ℕ} (X : At-item b H m at I came way place number depth from) (o : Octets m) where
-          abbrev C : ℕ
-          C = codeOf (X .identifier)
+    its-value : R P (Type-of X) (Rest P) ≡ got Whole (drop end (P .m))
+    unfolding then
+    its-value = through-way ∙ ap Through (Its .2) ∙ ap (got Whole) (its-behind .0 ∙ ap (λ (k : ℕ). drop k (P .m)) (sym (Its .3)))
 
-          all-fit : (t : ℕ) → Fit (T t)
-          all-fit = fit b T (countIn b) (R .passes)
+    module _ (last : ℕ) (el : last ≡ cap (P .total + (n + 4 * X .depth))) where
+      grown : last ≡ cap (P .total + cap (length (octets Whole)))
+      grown = omega (arith, el, Its .4, wrapped-size (X .way) (X .depth) (Its .0))
 
-          all-nested : (t : ℕ) → Nested T 128 t
-          all-nested = nested-all b T (countIn b) (R .passes)
+      -- the only one
+      pub judged-one : isSingle (manner (H Q)) ≡ true → Done end last ≡ told (P .m) size (W P)
+      judged-one y =
+          let g =
+          one-done (W P) (T Q) (R P) (H Q) (mode (P .marked)) (P .m) (P .at) (I P) (P .came) (P .total) (P .so-far .going) y
+          (X .place, X .is .part) (X .is .found) Whole (drop end (P .m)) (cap (length (octets Whole))) last its-value refl grown in
+          told-done (P .m) (W P) (g .value) end last (g .is) value-low (g .size)
 
-          tagged : C ≡ untagged → ⊥
-          tagged z = omega (arith, read-code-small (drop at m) (X .identifier) (drop from m) (octets-from m at o) (X .read), z)
-
-          code-tells : Tells T (drop at m) C
-          unfolding peeked
-          code-tells = rw (X .read) at (tells T all-fit (drop at m) (octets-from m at o))
-
-          some-remain : remains H I came ≡ true
-          some-remain = within-some (manner H) (λ x. begun T (x .1 .type) (drop at m)) (left H I came) (place, X .part) (X .found)
-
-          pub place-few : place < 16
-          place-few =
-              let F = found-of came I (drop I (partsOf H)) _ (place, X .part) (awaits-found H I came (λ x. begun T (x .1 .type) (drop at m))) (X .found) in
-              omega (arith, F .place, F .low, length-drop I (partsOf H), few)
-
-          part-refused : (c l : ℕ) → readValue T level (X .part .type) (drop at m) ≡ refused c l → W ≡ refused c l
-          part-refused c l q =
-              test (isSingle (manner H))
-              (λ n. one-refused W T (readValue T level) H (mode marked) m at I came total (S .going) n (place, X .part) (X .found) c l q)
-              λ n. going-refused W T (readValue T level) H (mode marked) m at I came total (S .going) n (its-more n) some-remain (place, X .part) (X .found) c l q
-
-          -- under more CHOICEs than there are levels
-          pub judged-level : level ≤ depth → Refused Level (length m - at) ≡ told m size W
-          unfolding causeOf if
-          judged-level h =
-              refused-here 28 (part-refused 28 (length (drop at m)) (way-level T all-fit all-nested C tagged (drop at m) code-tells (X .leads) (X .its) level h))
-
-          module _ (deep : depth < level) (found : ℕ) (ef : found ≡ getD index number 0) where
-            abbrev pub is-record : IsRecord b index found
-            is-record = (number, X .there, ef)
-
-            pub is-headed : Headed m at from (unpacked found .code)
-            is-headed =
-                record {
-                  identifier = X .identifier;
-                  is = X .read;
-                  coded = sym (X .its) ∙ sym (R .filled .entered number (X .there) .code) ∙ ap (λ (x : ℕ). unpacked x .code) (sym ef);
-                  further = X .further;
-                  low = X .low;
-                }
-
-            abbrev Below : Answer Value
-            Below = readValue T (level - depth) number (drop at m)
-
-            record-value : readRecord T (level - depth - 1) (recordIn b (unpacked found)) (drop at m) ≡ Below
-            record-value =
-                let q : level - depth ≡ suc (level - depth - 1) = omega arith in
-                ap (λ (x : Record). readRecord T (level - depth - 1) x (drop at m)) (its-record R is-record)
-                ∙ value-step T (level - depth - 1) number (drop at m)
-                ∙ ap (λ (k : ℕ). readValue T k number (drop at m)) (sym q)
-
-            abbrev Through : Answer Value → Answer Value
-            Through z = then z λ v u. got (wrapped way depth v) u
-
-            through-way : readValue T level (X .part .type) (drop at m) ≡ Through Below
-            through-way = way-value T all-fit all-nested C tagged (drop at m) code-tells (X .leads) (X .its) level (omega arith)
-
-            module _ (r : Judged) (er : r ≡ told m size (readRecord T (level - depth - 1) (recordIn b (unpacked found)) (drop at m))) where
-              said : r ≡ told m size Below
-              said = er ∙ ap (told m size) record-value
-
-              -- whose value is refused
-              pub judged-refused : (c : Cause) (l : ℕ) → r ≡ Refused c l → Refused c l ≡ told m size W
-              unfolding then
-              judged-refused c l q =
-                  let (k, x, y) = said-refused m Below c l (sym said ∙ q) in
-                  ap (λ (z : Cause). Refused z l) y ∙ told-refused m W k l (part-refused k l (through-way ∙ ap Through x))
-
-              -- whose value is accepted
-              module _ (end n : ℕ) (q : r ≡ Done end n) where
-                abbrev Its : (v : Value) × (u : List ℕ) × (Below ≡ got v u) × (end ≡ length m - length u) × (n ≡ cap (length (octets v)))
-                Its = said-done m Below end n (sym said ∙ q)
-
-                pub value-small : n < 16386
-                value-small = omega (arith, Its .4)
-
-                pub value-further : at < end
-                value-further = omega (arith, Its .3, value-behind T (level - depth) number m at low (Its .0) (Its .1) (Its .2) .1)
-
-                pub value-low : end ≤ length m
-                value-low = omega (arith, Its .3)
-
-                abbrev Whole : Value
-                Whole = wrapped way depth (Its .0)
-
-                its-value : readValue T level (X .part .type) (drop at m) ≡ got Whole (drop end m)
-                unfolding then
-                its-value =
-                    let z : Its .1 ≡ drop end m =
-                    value-behind T (level - depth) number m at low (Its .0) (Its .1) (Its .2) .0 ∙ ap (λ (k : ℕ). drop k m) (sym (Its .3)) in
-                    through-way ∙ ap Through (Its .2) ∙ ap (got Whole) z
-
-                module _ (last : ℕ) (el : last ≡ cap (total + (n + 4 * depth))) where
-                  grown : last ≡ cap (total + cap (length (octets Whole)))
-                  grown = omega (arith, el, Its .4, wrapped-size way depth (Its .0))
-
-                  -- the only one
-                  pub judged-one : isSingle (manner H) ≡ true → Done end last ≡ told m size W
-                  judged-one y =
-                      let g =
-                      one-done W T (readValue T level) H (mode marked) m at I came total (S .going) y (place, X .part) (X .found) Whole (drop end m)
-                      (cap (length (octets Whole))) last its-value refl grown in
-                      told-done m W (g .value) end last (g .is) value-low (g .size)
-
-                  -- before the next one
-                  pub judged-turn : isSingle (manner H) ≡ false → (came′ : List ℕ) → Notes (e .kind) came place came′ → (j′ : ℕ) → j′ ≡ place + s .step / 2
-                      → Judging b w m marked level came′ last end j′
-                  judged-turn y came′ ec j′ ej =
-                      let a : came′ ≡ noted (manner H) came place = notes-are H came place came′ (rw (← kind-is) ec) in
-                      let f : since (manner H) j′ ≡ following (manner H) place = ap (since (manner H)) (ej ∙ ap (λ (k : ℕ). place + k / 2) step-is) ∙ follows b H (e .own) place in
-                      record {
-                        one = λ z. absurd (true≢false (sym z ∙ y));
-                        noted = ap length a ∙ noted-length (manner H) came place ∙ S .noted;
-                        clear = λ z p. ap (λ (l : List ℕ). getD l p 0) (a ∙ noted-clear (manner H) came place z) ∙ S .clear z p;
-                        going = rw (f, a) (going-turn W T (readValue T level) H (mode marked) m at I came total (S .going) y (its-more y) some-remain (place, X .part) (X .found) Whole end
-                            (cap (length (octets Whole))) last its-value value-further value-low refl grown);
-                      }
+      -- before the next one
+      pub judged-turn : isSingle (manner (H Q)) ≡ false → (came′ : List ℕ) → Notes (Q .e .kind) (P .came) (X .place) came′
+          → Judging (Q .b) (Q .w) (P .m) (P .marked) (P .level) came′ last end (X .place + Q .s .step / 2)
+      judged-turn y came′ ec =
+          let a : came′ ≡ noted (manner (H Q)) (P .came) (X .place) = notes-are (H Q) (P .came) (X .place) came′ (rw (← kind-is Q) ec) in
+          let f : since (manner (H Q)) (X .place + Q .s .step / 2) ≡ following (manner (H Q)) (X .place) =
+          ap (λ (k : ℕ). since (manner (H Q)) (X .place + k / 2)) (step-is Q) ∙ follows (Q .b) (H Q) (Q .e .own) (X .place) in
+          record {
+            one = λ z. absurd (true≢false (sym z ∙ y));
+            noted = ap length a ∙ noted-length (manner (H Q)) (P .came) (X .place) ∙ P .so-far .noted;
+            clear = λ z p. ap (λ (l : List ℕ). getD l p 0) (a ∙ noted-clear (manner (H Q)) (P .came) (X .place) z) ∙ P .so-far .clear z p;
+            going = rw (f, a)
+                (going-turn (W P) (T Q) (R P) (H Q) (mode (P .marked)) (P .m) (P .at) (I P) (P .came) (P .total) (P .so-far .going) y (its-more P (X .item) y)
+                (some-remain X) (X .place, X .is .part) (X .is .found) Whole end (cap (length (octets Whole))) last its-value value-further value-low refl grown);
+          }

@@ -7,14 +7,12 @@ use native.Mathlib.Omega.{arith}
 use borrow.Author.Needs.{needs}
 use borrow.Author.Tests.{eqb-true, not-false}
 use denote.Ref.{now}
-use lib.ListN.{length, getD}
+use lib.ListN.{length}
 use Rattle.ber.proofs.Places.{part-to-end}
-use Rattle.reader.specs.Items.{manner, since}
-use Rattle.reader.specs.Sought.{held}
-use Rattle.reader.proofs.JudgedMembers.{Judging, At-item, item-found, item-same, found-low, item-fits, Notes, step-two, count-few, count-near, one-is, node-few, judging-first}
-use Rattle.reader.proofs.JudgedMembers.{its-sound, judged-over, judged-stopped, item-there, judged-unfit, place-few, judged-level, is-record, is-headed}
-use Rattle.reader.proofs.JudgedMembers.{judged-refused, value-small, value-further, value-low, judged-one, judged-turn}
-use Rattle.reader.proofs.Searching.{type-low}
+use Rattle.reader.proofs.JudgedMembers.{Judging, Notes, item-found, item-same, found-low, Setting, count-few, count-near, one-is, node-few, judging-first}
+use Rattle.reader.proofs.JudgedMembers.{judging-sound, type-few, Turn, judged-over, judged-stopped, item-there, judged-unfit, item-here}
+use Rattle.reader.proofs.JudgedMembers.{Comes, place-few, behind-few, number-few, judged-level, is-record, is-headed}
+use Rattle.reader.proofs.JudgedMembers.{Valued, judged-refused, value-small, value-further, value-low, judged-one, judged-turn}
 use Prim.Native.Nat.{ℕ, _+_, _-_, _*_, _≤_, _<_}
 use borrow.Fn.Kinds.{In}
 use borrow.Fn.PlainCycle.{Measures, is, falls, and}
@@ -104,20 +102,82 @@ judge-members-claims t = (
   holds-one-reads.Learnt,
 )
 
-abbrev at-item : (t : ℕ) (c : judge-members-lts.Joined3 (judge-members-claims t) (judge-members-at t) judge-members.Post judge-members-Inv-loop judge-members-μ-loop) →
-    let a = c .before .before .before .before .before .before .before .before .before .before .before .before .before .args in
-    let h = held (now (a .table)) (a .w) in
-    At-item (now (a .table)) h (now (a .m)) (c .before .before .before .before .before .before .before .loop .at) (since (manner h) (c .before .before .before .before .before .before .before .loop .j)) (c .before .before .before .before .before .before .before .loop .came) (c .if3 .way) (c .if3 .place)
-    (c .if3 .«record») (c .if3 .depth) (c .if3 .from)
-    × (length (c .if3 .way) ≡ 128)
-at-item t c =
-    ⊎-elim
-    (λ w. (item-same (w .9) (w .10) (w .11) (w .12) (w .13) (item-found _ _ _ (c .before .before .before .before .before .before .before .loop .inv .0) (w .4 .ensures .1) (part-to-end (now (c .before .before .before .before .before .before .before .before .before .before .before .before .before .args .m)) (c .before .before .before .before .before .before .before .loop .at)) (w .6 .given .1)), ap length (w .9) ∙ w .4 .ensures .0))
-    (λ w. ⊎-elim
-    (λ v. (item-same (w .1) (w .2) (w .3 ∙ v .8) (w .4) (w .5) (item-fits (its-sound (c .before .before .before .before .before .before .before .before .before .before .before .before .before .pre .1 .0) (c .before .before .before .before .before .before .before .before .before .before .before .before .before .pre .1 .1) (c .before .before .before .before .before .before .before .before .before .before .before .before .before .pre .1 .2) (c .before .before .before .before .before .before .before .before .before .before .unpack .result) (c .before .before .before .before .before .before .before .before .before .before .unpack .ensures) (c .before .before .before .before .before .before .before .before .before .parts .result) (c .before .before .before .before .before .before .before .before .before .parts .ensures) (c .before .before .before .before .before .before .before .loop .inv .0) (c .before .before .before .before .before .before .before .loop .inv .4)) _ (c .before .before .before .before .before .before .before .before .before .before .unpack .ensures) _ (c .before .before .before .before .before .before .before .before .before .parts .ensures) _ (λ i. omega (arith, c .before .before .before .before .before .before .before .before .before .before .before .shared-slice-known2 .given i)) _ (item-there (c .before .before .before .before .before .before .before .before .before .before .before .before .before .pre .1 .0) (c .before .before .before .before .before .before .before .before .before .before .before .before .before .pre .1 .1) (c .before .before .before .before .before .before .before .before .before .before .before .before .before .pre .1 .2) (c .before .before .before .before .before .before .before .before .before .before .unpack .result) (c .before .before .before .before .before .before .before .before .before .before .unpack .ensures) (c .before .before .before .before .before .before .before .before .before .parts .result) (c .before .before .before .before .before .before .before .before .before .parts .ensures) (c .before .before .before .before .before .before .before .loop .inv .0) (c .before .before .before .before .before .before .before .loop .inv .4) (c .before .before .before .before .before .next .result) (c .before .before .before .before .before .next .ensures) (c .before .before .before .enum-told .given .1)) _ (v .0 .taken) (eqb-true _ _ (v .1 .taken)) (v .4 .result) (v .6 .result) (v .4 .ensures .0) (v .6 .ensures) (eqb-true _ _ (sym (v .9) ∙ not-false _ (w .0 .left))) _), ap length (w .1) ∙ c .before .before .before .before .before .before .before .loop .inv .3))
-    (λ v. absurd (true≢false (sym (not-false _ (w .0 .left)) ∙ v .2)))
-    (c .before .if1 .came))
-    (c .if3 .came)
+-- where the parts of an entry are known
+abbrev setting : (t : ℕ)
+    (c : judge-members-lts.After-parts (judge-members-claims t) (judge-members-at t) judge-members.Post judge-members-Inv-loop judge-members-μ-loop)
+    → Setting
+setting t c =
+    let a = c .before .before .before .before .args in
+    let q = c .before .before .before .before .pre .1 in
+    record {
+      b = now (a .table);
+      index = now (a .index);
+      w = a .w;
+      e = c .before .unpack .result;
+      s = c .parts .result;
+      ready = q .0;
+      known = q .1;
+      holds = q .2;
+      entry = c .before .unpack .ensures;
+      span = c .parts .ensures;
+    }
+
+-- where it is known what stands at a place
+abbrev turn : (t : ℕ)
+    (c : judge-members-lts.After-next (judge-members-claims t) (judge-members-at t) judge-members.Post judge-members-Inv-loop judge-members-μ-loop)
+    → Turn (setting t (c .before .before .before .before))
+turn t c =
+    let a = c .before .before .before .before .before .before .before .before .args in
+    let l = c .before .before .loop in
+    record {
+      m = now (a .m);
+      marked = a .marked;
+      level = a .level;
+      came = l .came;
+      total = l .total;
+      at = l .at;
+      j = l .j;
+      octets = λ i. omega (arith, c .before .before .before .before .before .before .shared-slice-known2 .given i);
+      low = l .inv .0;
+      so-far = l .inv .4;
+      y = c .next .result;
+      stands = c .next .ensures;
+    }
+
+-- where an item is found to be of a part
+abbrev comes : (t : ℕ)
+    (c : judge-members-lts.Joined3 (judge-members-claims t) (judge-members-at t) judge-members.Post judge-members-Inv-loop judge-members-μ-loop)
+    → Comes (turn t (c .before .before .before .before .before))
+comes t c =
+    let P = turn t (c .before .before .before .before .before) in
+    let i = c .before .before .before .enum-told .given .1 in
+    let x = c .if3 in
+    record {
+      item = i;
+      way = x .way;
+      place = x .place;
+      number = x .«record»;
+      depth = x .depth;
+      from = x .from;
+      is =
+          ⊎-elim
+          (λ v. item-same (v .9) (v .10) (v .11) (v .12) (v .13)
+          (item-found _ _ _ (P .low) (v .4 .ensures .1) (part-to-end (P .m) (P .at)) (v .6 .given .1)))
+          (λ v. let y = not-false _ (v .0 .left) in
+          ⊎-elim
+          (λ u. item-same (v .1) (v .2) (v .3 ∙ u .8) (v .4) (v .5)
+          (item-here P i (u .0 .taken) (eqb-true _ _ (u .1 .taken)) _ _ (u .4 .ensures .0) (u .6 .ensures) (eqb-true _ _ (sym (u .9) ∙ y)) _))
+          (λ u. absurd (true≢false (sym y ∙ u .2)))
+          (c .before .if1 .came))
+          (x .came);
+      ways = ⊎-elim (λ v. ap length (v .9) ∙ v .4 .ensures .0) (λ v. ap length (v .1) ∙ c .before .before .before .before .before .before .before .loop .inv .3) (x .came);
+    }
+
+-- where its value is judged
+abbrev valued : (t : ℕ)
+    (c : judge-members-lts.After-judge-value (judge-members-claims t) (judge-members-at t) judge-members.Post judge-members-Inv-loop judge-members-μ-loop)
+    → Valued (comes t (c .before .before .before .before .before .before .before .before .before .before))
+valued t c = record { deep = c .before .before .before .before .before .before .before .before .before .if4 .left; r = c .judge-value .result; said = c .judge-value .ensures .1 }
 
 pub +judge-members+judge-value-spec : {M : Type 1} → statement M
 +judge-members+judge-value-spec = close μ-judge-members μ-judge-value (λ t. judge-members-lts.spec (judge-members-claims t)
@@ -127,63 +187,85 @@ pub +judge-members+judge-value-spec : {M : Type 1} → statement M
     judge-members-μ-loop
     (λ c κs. search needs) -- judge-members-unpack-requires
     (λ c κs. search needs) -- judge-members-parts-requires
-    (λ c κs. omega (arith, count-few (c .before .before .before .before .pre .1 .0) (c .before .before .before .before .pre .1 .1) (c .before .before .before .before .pre .1 .2) (c .before .unpack .result) (c .before .unpack .ensures) (c .parts .result) (c .parts .ensures))) -- judge-members-node-size-requires
-    (λ c. (omega arith, omega arith, omega (arith, node-few (c .before .before .before .before .before .pre .1 .0) (c .before .before .before .before .before .pre .1 .1) (c .before .before .before .before .before .pre .1 .2) (c .before .before .unpack .result) (c .before .before .unpack .ensures) (c .before .parts .result) (c .before .parts .ensures) _ (c .node-size .ensures)), c .before .before .before .before .before .pre .1 .6, judging-first (c .before .before .before .before .before .pre .1 .0) (c .before .before .before .before .before .pre .1 .1) (c .before .before .before .before .before .pre .1 .2) (c .before .before .unpack .result) (c .before .before .unpack .ensures) (c .before .parts .result) (c .before .parts .ensures) _ _ _ _ (c .node-size .ensures) (c .before .before .before .before .before .pre .1 .3))) -- judge-members-loop-holds
-    (λ c κs. (c .before .before .before .before .before .before .before .args .index .now, its-sound (c .before .before .before .before .before .before .before .pre .1 .0) (c .before .before .before .before .before .before .before .pre .1 .1) (c .before .before .before .before .before .before .before .pre .1 .2) (c .before .before .before .before .unpack .result) (c .before .before .before .before .unpack .ensures) (c .before .before .before .parts .result) (c .before .before .before .parts .ensures) (c .before .loop .inv .0) (c .before .loop .inv .4), c .before .before .before .before .before .before .before .pre .1 .2)) -- judge-members-next-requires
+    (λ c κs. omega (arith, count-few (setting t (c)))) -- judge-members-node-size-requires
+    (λ c. (
+      omega arith,
+      omega arith,
+      omega (arith, node-few (setting t (c .before)) _ (c .node-size .ensures)),
+      c .before .before .before .before .before .pre .1 .6,
+      judging-first (setting t (c .before)) _ (c .node-size .ensures) _ _ _ (c .before .before .before .before .before .pre .1 .3),
+    )) -- judge-members-loop-holds
+    (λ c κs. (c .before .before .before .before .before .before .before .args .index .now, judging-sound (setting t (c .before .before .before)) (c .before .loop .inv .4), c .before .before .before .before .before .before .before .pre .1 .2)) -- judge-members-next-requires
     (λ c. search needs) -- judge-members-enum-told
     (λ c. search needs) -- judge-members-enum-known-end
     (λ c κs. search needs) -- judge-members-done-requires
-    (λ c. (c .before .before .before .before .before .before .loop .inv .3, c .done .ensures ∙ judged-over (c .before .before .before .before .before .before .before .before .before .before .before .before .pre .1 .0) (c .before .before .before .before .before .before .before .before .before .before .before .before .pre .1 .1) (c .before .before .before .before .before .before .before .before .before .before .before .before .pre .1 .2) (c .before .before .before .before .before .before .before .before .before .unpack .result) (c .before .before .before .before .before .before .before .before .before .unpack .ensures) (c .before .before .before .before .before .before .before .before .parts .result) (c .before .before .before .before .before .before .before .before .parts .ensures) (c .before .before .before .before .before .before .loop .inv .0) (c .before .before .before .before .before .before .loop .inv .4) _ (c .before .before .before .before .next .ensures) _ (c .before .before .end .given .1))) -- judge-members-returns
+    (λ c. (c .before .before .before .before .before .before .loop .inv .3, c .done .ensures ∙ judged-over (turn t (c .before .before .before .before)) _ (c .before .before .end .given .1))) -- judge-members-returns
     (λ c. search needs) -- judge-members-enum-known-cause
     (λ c. omega arith) -- judge-members-sub-refused
     (λ c κs. search needs) -- judge-members-refused-requires
-    (λ c. (c .before .before .before .before .before .before .loop .inv .3, c .refused .ensures ∙ judged-stopped (c .before .before .before .before .before .before .before .before .before .before .before .before .pre .1 .0) (c .before .before .before .before .before .before .before .before .before .before .before .before .pre .1 .1) (c .before .before .before .before .before .before .before .before .before .before .before .before .pre .1 .2) (c .before .before .before .before .before .before .before .before .before .unpack .result) (c .before .before .before .before .before .before .before .before .before .unpack .ensures) (c .before .before .before .before .before .before .before .before .parts .result) (c .before .before .before .before .before .before .before .before .parts .ensures) (c .before .before .before .before .before .before .loop .inv .0) (c .before .before .before .before .before .before .loop .inv .4) _ (c .before .before .before .before .next .ensures) _ (c .before .before .cause .given .1))) -- judge-members-returns-2
+    (λ c. (c .before .before .before .before .before .before .loop .inv .3, c .refused .ensures ∙ judged-stopped (turn t (c .before .before .before .before)) _ (c .before .before .cause .given .1))) -- judge-members-returns-2
     (λ c. omega arith) -- judge-members-add-from
     (λ c. omega arith) -- judge-members-mul-if2
-    (λ c. omega (arith, count-few (c .before .before .before .before .before .before .before .before .before .before .before .before .pre .1 .0) (c .before .before .before .before .before .before .before .before .before .before .before .before .pre .1 .1) (c .before .before .before .before .before .before .before .before .before .before .before .before .pre .1 .2) (c .before .before .before .before .before .before .before .before .before .unpack .result) (c .before .before .before .before .before .before .before .before .before .unpack .ensures) (c .before .before .before .before .before .before .before .before .parts .result) (c .before .before .before .before .before .before .before .before .parts .ensures))) -- judge-members-array-read-if2
-    (λ c. omega (arith, count-near (c .before .before .before .before .before .before .before .before .before .before .before .before .before .before .pre .1 .0) (c .before .before .before .before .before .before .before .before .before .before .before .before .before .before .pre .1 .1) (c .before .before .before .before .before .before .before .before .before .before .before .before .before .before .pre .1 .2) (c .before .before .before .before .before .before .before .before .before .before .before .unpack .result) (c .before .before .before .before .before .before .before .before .before .before .before .unpack .ensures) (c .before .before .before .before .before .before .before .before .before .before .parts .result) (c .before .before .before .before .before .before .before .before .before .before .parts .ensures) (c .before .before .before .before .before .before .before .before .loop .j) (c .before .before .if1 .taken))) -- judge-members-mul-octet
-    (λ c. omega (arith, count-near (c .before .before .before .before .before .before .before .before .before .before .before .before .before .before .before .pre .1 .0) (c .before .before .before .before .before .before .before .before .before .before .before .before .before .before .before .pre .1 .1) (c .before .before .before .before .before .before .before .before .before .before .before .before .before .before .before .pre .1 .2) (c .before .before .before .before .before .before .before .before .before .before .before .before .unpack .result) (c .before .before .before .before .before .before .before .before .before .before .before .before .unpack .ensures) (c .before .before .before .before .before .before .before .before .before .before .before .parts .result) (c .before .before .before .before .before .before .before .before .before .before .before .parts .ensures) (c .before .before .before .before .before .before .before .before .before .loop .j) (c .before .before .before .if1 .taken))) -- judge-members-add-octet
+    (λ c. omega (arith, count-few (setting t (c .before .before .before .before .before .before .before .before)))) -- judge-members-array-read-if2
+    (λ c. omega (arith, count-near (setting t (c .before .before .before .before .before .before .before .before .before .before)) (c .before .before .before .before .before .before .before .before .loop .j) (c .before .before .if1 .taken))) -- judge-members-mul-octet
+    (λ c. omega (arith, count-near (setting t (c .before .before .before .before .before .before .before .before .before .before .before)) (c .before .before .before .before .before .before .before .before .before .loop .j) (c .before .before .before .if1 .taken))) -- judge-members-add-octet
     (λ c κs. search needs) -- judge-members-octet-requires
-    (λ c. omega (arith, type-low (its-sound (c .before .before .before .before .before .before .before .before .before .before .before .before .before .before .before .before .pre .1 .0) (c .before .before .before .before .before .before .before .before .before .before .before .before .before .before .before .before .pre .1 .1) (c .before .before .before .before .before .before .before .before .before .before .before .before .before .before .before .before .pre .1 .2) (c .before .before .before .before .before .before .before .before .before .before .before .before .before .unpack .result) (c .before .before .before .before .before .before .before .before .before .before .before .before .before .unpack .ensures) (c .before .before .before .before .before .before .before .before .before .before .before .before .parts .result) (c .before .before .before .before .before .before .before .before .before .before .before .before .parts .ensures) (c .before .before .before .before .before .before .before .before .before .before .loop .inv .0) (c .before .before .before .before .before .before .before .before .before .before .loop .inv .4)) _ (c .before .before .before .before .before .before .before .before .before .before .before .before .before .unpack .ensures) _ (c .before .before .before .before .before .before .before .before .before .before .before .before .parts .ensures) (c .before .before .before .before .before .before .before .before .before .before .loop .j) (c .before .before .before .before .if1 .taken) (c .octet .result) (c .octet .ensures .0), c .before .before .before .before .before .before .before .before .before .before .before .before .before .before .before .before .pre .1 .0 .filled .few)) -- judge-members-mul-first
-    (λ c. omega (arith, type-low (its-sound (c .before .before .before .before .before .before .before .before .before .before .before .before .before .before .before .before .pre .1 .0) (c .before .before .before .before .before .before .before .before .before .before .before .before .before .before .before .before .pre .1 .1) (c .before .before .before .before .before .before .before .before .before .before .before .before .before .before .before .before .pre .1 .2) (c .before .before .before .before .before .before .before .before .before .before .before .before .before .unpack .result) (c .before .before .before .before .before .before .before .before .before .before .before .before .before .unpack .ensures) (c .before .before .before .before .before .before .before .before .before .before .before .before .parts .result) (c .before .before .before .before .before .before .before .before .before .before .before .before .parts .ensures) (c .before .before .before .before .before .before .before .before .before .before .loop .inv .0) (c .before .before .before .before .before .before .before .before .before .before .loop .inv .4)) _ (c .before .before .before .before .before .before .before .before .before .before .before .before .before .unpack .ensures) _ (c .before .before .before .before .before .before .before .before .before .before .before .before .parts .ensures) (c .before .before .before .before .before .before .before .before .before .before .loop .j) (c .before .before .before .before .if1 .taken) (c .octet .result) (c .octet .ensures .0), c .before .before .before .before .before .before .before .before .before .before .before .before .before .before .before .before .pre .1 .0 .filled .few)) -- judge-members-element-copy-out-first
+    (λ c. omega (arith, c .octet .ensures .1)) -- judge-members-mul-first
+    (λ c. omega (arith, type-few (setting t (c .before .before .before .before .before .before .before .before .before .before .before .before)) (c .before .before .before .before .before .before .before .before .before .before .loop .inv .4) (c .before .before .before .before .if1 .taken) (c .octet .result) (c .octet .ensures .0))) -- judge-members-element-copy-out-first
     (λ c κs. search needs) -- judge-members-first-requires
-    (λ c. item-there (c .before .before .before .before .before .before .before .before .before .before .before .before .before .before .before .before .before .before .before .pre .1 .0) (c .before .before .before .before .before .before .before .before .before .before .before .before .before .before .before .before .before .before .before .pre .1 .1) (c .before .before .before .before .before .before .before .before .before .before .before .before .before .before .before .before .before .before .before .pre .1 .2) (c .before .before .before .before .before .before .before .before .before .before .before .before .before .before .before .before .unpack .result) (c .before .before .before .before .before .before .before .before .before .before .before .before .before .before .before .before .unpack .ensures) (c .before .before .before .before .before .before .before .before .before .before .before .before .before .before .before .parts .result) (c .before .before .before .before .before .before .before .before .before .before .before .before .before .before .before .parts .ensures) (c .before .before .before .before .before .before .before .before .before .before .before .before .before .loop .inv .0) (c .before .before .before .before .before .before .before .before .before .before .before .before .before .loop .inv .4) (c .before .before .before .before .before .before .before .before .before .before .before .next .result) (c .before .before .before .before .before .before .before .before .before .before .before .next .ensures) (c .before .before .before .before .before .before .before .before .before .enum-told .given .1)) -- judge-members-shared-slice-read-fits
+    (λ c. item-there (turn t (c .before .before .before .before .before .before .before .before .before .before .before)) (c .before .before .before .before .before .before .before .before .before .enum-told .given .1)) -- judge-members-shared-slice-read-fits
     (λ c. omega (arith, c .shared-slice-known3 .given (c .before .before .before .before .before .before .before .before .before .before .before .before .before .loop .at))) -- judge-members-cast-fits
     (λ c. omega arith) -- judge-members-sub-rest
     (λ c. omega arith) -- judge-members-part-rest-start
     (λ c. omega arith) -- judge-members-part-rest-end
-    (λ c κs. (its-sound (c .before .before .before .before .before .before .before .before .before .before .before .before .before .before .before .before .pre .1 .0) (c .before .before .before .before .before .before .before .before .before .before .before .before .before .before .before .before .pre .1 .1) (c .before .before .before .before .before .before .before .before .before .before .before .before .before .before .before .before .pre .1 .2) (c .before .before .before .before .before .before .before .before .before .before .before .before .before .unpack .result) (c .before .before .before .before .before .before .before .before .before .before .before .before .before .unpack .ensures) (c .before .before .before .before .before .before .before .before .before .before .before .before .parts .result) (c .before .before .before .before .before .before .before .before .before .before .before .before .parts .ensures) (c .before .before .before .before .before .before .before .before .before .before .loop .inv .0) (c .before .before .before .before .before .before .before .before .before .before .loop .inv .4), c .before .before .before .before .before .before .before .before .before .before .loop .inv .3)) -- judge-members-search-requires
+    (λ c κs. (judging-sound (setting t (c .before .before .before .before .before .before .before .before .before .before .before .before)) (c .before .before .before .before .before .before .before .before .before .before .loop .inv .4), c .before .before .before .before .before .before .before .before .before .before .loop .inv .3)) -- judge-members-search-requires
     (λ c. search needs) -- judge-members-enum-known-cause-2
     (λ c. omega arith) -- judge-members-sub-refused-2
     (λ c κs. search needs) -- judge-members-refused-requires-2
-    (λ c. (c .before .before .before .before .search .ensures .0, c .refused2 .ensures ∙ judged-unfit (c .before .before .before .before .before .before .before .before .before .before .before .before .before .before .before .before .before .before .before .before .before .pre .1 .0) (c .before .before .before .before .before .before .before .before .before .before .before .before .before .before .before .before .before .before .before .before .before .pre .1 .1) (c .before .before .before .before .before .before .before .before .before .before .before .before .before .before .before .before .before .before .before .before .before .pre .1 .2) (c .before .before .before .before .before .before .before .before .before .before .before .before .before .before .before .before .before .before .unpack .result) (c .before .before .before .before .before .before .before .before .before .before .before .before .before .before .before .before .before .before .unpack .ensures) (c .before .before .before .before .before .before .before .before .before .before .before .before .before .before .before .before .before .parts .result) (c .before .before .before .before .before .before .before .before .before .before .before .before .before .before .before .before .before .parts .ensures) (c .before .before .before .before .before .before .before .before .before .before .before .before .before .before .before .loop .inv .0) (c .before .before .before .before .before .before .before .before .before .before .before .before .before .before .before .loop .inv .4) (c .before .before .before .before .before .before .before .before .before .before .before .before .before .next .result) (c .before .before .before .before .before .before .before .before .before .before .before .before .before .next .ensures) (c .before .before .before .before .before .before .before .before .before .before .before .enum-told .given .1) _ _ _ _ (c .before .before .before .before .search .ensures .1) (part-to-end (now (c .before .before .before .before .before .before .before .before .before .before .before .before .before .before .before .before .before .before .before .before .before .args .m)) (c .before .before .before .before .before .before .before .before .before .before .before .before .before .before .before .loop .at)) (c .before .before .cause2 .given .1))) -- judge-members-returns-3
+    (λ c. (
+      c .before .before .before .before .search .ensures .0,
+      c .refused2 .ensures ∙ judged-unfit (turn t (c .before .before .before .before .before .before .before .before .before .before .before .before .before)) (c .before .before .before .before .before .before .before .before .before .before .before .enum-told .given .1) _ _ _ _ (c .before .before .before .before .search .ensures .1) (part-to-end (now (c .before .before .before .before .before .before .before .before .before .before .before .before .before .before .before .before .before .before .before .before .before .args .m)) (c .before .before .before .before .before .before .before .before .before .before .before .before .before .before .before .loop .at)) (c .before .before .cause2 .given .1),
+    )) -- judge-members-returns-3
     (λ c. search needs) -- judge-members-enum-known-x
     (λ c. let z : c .before .before .before .before .before .before .before .before .before .before .before .before .before .before .before .loop .at + c .before .before .x .given .0 .0 .from ≤ length (now (c .before .before .before .before .before .before .before .before .before .before .before .before .before .before .before .before .before .before .before .before .before .args .m)) =
     found-low _ _ _ _ _ _ _ _ _ _ (c .before .before .before .before .before .before .before .before .before .before .before .before .before .before .before .loop .inv .0) (c .before .before .before .before .search .ensures .1) (part-to-end (now (c .before .before .before .before .before .before .before .before .before .before .before .before .before .before .before .before .before .before .before .before .before .args .m)) (c .before .before .before .before .before .before .before .before .before .before .before .before .before .before .before .loop .at)) (c .before .before .x .given .1) in
     omega (arith, c .before .before .before .before .before .before .before .before .before .before .before .before .before .before .before .before .before .before .before .before .before .pre .1 .4)) -- judge-members-add-from-2
     (λ c. omega arith) -- judge-members-sub-refused-3
     (λ c κs. search needs) -- judge-members-refused-requires-3
-    (λ c. (at-item t (c .before .before) .1, c .refused3 .ensures ∙ judged-level (c .before .before .before .before .before .before .before .before .before .before .before .before .before .before .before .pre .1 .0) (c .before .before .before .before .before .before .before .before .before .before .before .before .before .before .before .pre .1 .1) (c .before .before .before .before .before .before .before .before .before .before .before .before .before .before .before .pre .1 .2) (c .before .before .before .before .before .before .before .before .before .before .before .before .unpack .result) (c .before .before .before .before .before .before .before .before .before .before .before .before .unpack .ensures) (c .before .before .before .before .before .before .before .before .before .before .before .parts .result) (c .before .before .before .before .before .before .before .before .before .before .before .parts .ensures) (c .before .before .before .before .before .before .before .before .before .loop .inv .0) (c .before .before .before .before .before .before .before .before .before .loop .inv .4) (c .before .before .before .before .before .before .before .next .result) (c .before .before .before .before .before .before .before .next .ensures) (c .before .before .before .before .before .enum-told .given .1) (at-item t (c .before .before) .0) (λ i. omega (arith, c .before .before .before .before .before .before .before .before .before .before .before .before .before .shared-slice-known2 .given i)) (c .before .if4 .taken))) -- judge-members-returns-4
-    (λ c. omega (arith, place-few (c .before .before .before .before .before .before .before .before .before .before .before .before .before .before .before .before .before .pre .1 .0) (c .before .before .before .before .before .before .before .before .before .before .before .before .before .before .before .before .before .pre .1 .1) (c .before .before .before .before .before .before .before .before .before .before .before .before .before .before .before .before .before .pre .1 .2) (c .before .before .before .before .before .before .before .before .before .before .before .before .before .before .unpack .result) (c .before .before .before .before .before .before .before .before .before .before .before .before .before .before .unpack .ensures) (c .before .before .before .before .before .before .before .before .before .before .before .before .before .parts .result) (c .before .before .before .before .before .before .before .before .before .before .before .before .before .parts .ensures) (c .before .before .before .before .before .before .before .before .before .before .before .loop .inv .0) (c .before .before .before .before .before .before .before .before .before .before .before .loop .inv .4) (c .before .before .before .before .before .before .before .before .before .next .result) (c .before .before .before .before .before .before .before .before .before .next .ensures) (c .before .before .before .before .before .before .before .enum-told .given .1) (at-item t (c .before .before .before .before) .0) (λ i. omega (arith, c .before .before .before .before .before .before .before .before .before .before .before .before .before .before .before .shared-slice-known2 .given i)))) -- judge-members-mul-came
-    (λ c. omega (arith, place-few (c .before .before .before .before .before .before .before .before .before .before .before .before .before .before .before .before .before .pre .1 .0) (c .before .before .before .before .before .before .before .before .before .before .before .before .before .before .before .before .before .pre .1 .1) (c .before .before .before .before .before .before .before .before .before .before .before .before .before .before .before .before .before .pre .1 .2) (c .before .before .before .before .before .before .before .before .before .before .before .before .before .before .unpack .result) (c .before .before .before .before .before .before .before .before .before .before .before .before .before .before .unpack .ensures) (c .before .before .before .before .before .before .before .before .before .before .before .before .before .parts .result) (c .before .before .before .before .before .before .before .before .before .before .before .before .before .parts .ensures) (c .before .before .before .before .before .before .before .before .before .before .before .loop .inv .0) (c .before .before .before .before .before .before .before .before .before .before .before .loop .inv .4) (c .before .before .before .before .before .before .before .before .before .next .result) (c .before .before .before .before .before .before .before .before .before .next .ensures) (c .before .before .before .before .before .before .before .enum-told .given .1) (at-item t (c .before .before .before .before) .0) (λ i. omega (arith, c .before .before .before .before .before .before .before .before .before .before .before .before .before .before .before .shared-slice-known2 .given i)))) -- judge-members-array-write-came
-    (λ c. omega (arith, place-few (c .before .before .before .before .before .before .before .before .before .before .before .before .before .before .before .before .before .before .pre .1 .0) (c .before .before .before .before .before .before .before .before .before .before .before .before .before .before .before .before .before .before .pre .1 .1) (c .before .before .before .before .before .before .before .before .before .before .before .before .before .before .before .before .before .before .pre .1 .2) (c .before .before .before .before .before .before .before .before .before .before .before .before .before .before .before .unpack .result) (c .before .before .before .before .before .before .before .before .before .before .before .before .before .before .before .unpack .ensures) (c .before .before .before .before .before .before .before .before .before .before .before .before .before .before .parts .result) (c .before .before .before .before .before .before .before .before .before .before .before .before .before .before .parts .ensures) (c .before .before .before .before .before .before .before .before .before .before .before .before .loop .inv .0) (c .before .before .before .before .before .before .before .before .before .before .before .before .loop .inv .4) (c .before .before .before .before .before .before .before .before .before .before .next .result) (c .before .before .before .before .before .before .before .before .before .before .next .ensures) (c .before .before .before .before .before .before .before .before .enum-told .given .1) (at-item t (c .before .before .before .before .before) .0) (λ i. omega (arith, c .before .before .before .before .before .before .before .before .before .before .before .before .before .before .before .before .shared-slice-known2 .given i)), step-two (c .before .before .before .before .before .before .before .before .before .before .before .before .before .before .before .before .before .before .pre .1 .0) (c .before .before .before .before .before .before .before .before .before .before .before .before .before .before .before .before .before .before .pre .1 .1) (c .before .before .before .before .before .before .before .before .before .before .before .before .before .before .before .before .before .before .pre .1 .2) (c .before .before .before .before .before .before .before .before .before .before .before .before .before .before .before .unpack .result) (c .before .before .before .before .before .before .before .before .before .before .before .before .before .before .before .unpack .ensures) (c .before .before .before .before .before .before .before .before .before .before .before .before .before .before .parts .result) (c .before .before .before .before .before .before .before .before .before .before .before .before .before .before .parts .ensures))) -- judge-members-add-j
-    (λ c. omega (arith, at-item t (c .before .before .before .before .before .before) .0 .there, c .before .before .before .before .before .before .before .before .before .before .before .before .before .before .before .before .before .before .before .pre .1 .0 .filled .few)) -- judge-members-mul-found
-    (λ c. omega (arith, at-item t (c .before .before .before .before .before .before) .0 .there, c .before .before .before .before .before .before .before .before .before .before .before .before .before .before .before .before .before .before .before .pre .1 .0 .filled .few)) -- judge-members-element-copy-out-found
+    (λ c. (comes t (c .before .before) .ways, c .refused3 .ensures ∙ judged-level (comes t (c .before .before)) (c .before .if4 .taken))) -- judge-members-returns-4
+    (λ c. omega (arith, place-few (comes t (c .before .before .before .before)))) -- judge-members-mul-came
+    (λ c. omega (arith, place-few (comes t (c .before .before .before .before)))) -- judge-members-array-write-came
+    (λ c. omega (arith, behind-few (comes t (c .before .before .before .before .before)))) -- judge-members-add-j
+    (λ c. omega (arith, number-few (comes t (c .before .before .before .before .before .before)))) -- judge-members-mul-found
+    (λ c. omega (arith, number-few (comes t (c .before .before .before .before .before .before)))) -- judge-members-element-copy-out-found
     (λ c. omega arith) -- judge-members-sub-below
     (λ c. omega arith) -- judge-members-sub-below-2
-    (λ c κs. (omega (arith, c .before .before .before .before .before .before .before .before .before .before .before .before .before .before .before .before .before .before .before .before .before .before .pre .0, c .before .before .before .before .before .before .before .before .if4 .left), (c .before .before .before .before .before .before .before .before .before .before .before .before .before .before .before .before .before .before .before .before .before .before .pre .1 .0, is-record (c .before .before .before .before .before .before .before .before .before .before .before .before .before .before .before .before .before .before .before .before .before .before .pre .1 .0) (c .before .before .before .before .before .before .before .before .before .before .before .before .before .before .before .before .before .before .before .before .before .before .pre .1 .1) (c .before .before .before .before .before .before .before .before .before .before .before .before .before .before .before .before .before .before .before .before .before .before .pre .1 .2) (c .before .before .before .before .before .before .before .before .before .before .before .before .before .before .before .before .before .before .before .unpack .result) (c .before .before .before .before .before .before .before .before .before .before .before .before .before .before .before .before .before .before .before .unpack .ensures) (c .before .before .before .before .before .before .before .before .before .before .before .before .before .before .before .before .before .before .parts .result) (c .before .before .before .before .before .before .before .before .before .before .before .before .before .before .before .before .before .before .parts .ensures) (c .before .before .before .before .before .before .before .before .before .before .before .before .before .before .before .before .loop .inv .0) (c .before .before .before .before .before .before .before .before .before .before .before .before .before .before .before .before .loop .inv .4) (c .before .before .before .before .before .before .before .before .before .before .before .before .before .before .next .result) (c .before .before .before .before .before .before .before .before .before .before .before .before .before .before .next .ensures) (c .before .before .before .before .before .before .before .before .before .before .before .before .enum-told .given .1) (at-item t (c .before .before .before .before .before .before .before .before .before) .0) (λ i. omega (arith, c .before .before .before .before .before .before .before .before .before .before .before .before .before .before .before .before .before .before .before .before .shared-slice-known2 .given i)) (c .before .before .before .before .before .before .before .before .if4 .left) _ refl, is-headed (c .before .before .before .before .before .before .before .before .before .before .before .before .before .before .before .before .before .before .before .before .before .before .pre .1 .0) (c .before .before .before .before .before .before .before .before .before .before .before .before .before .before .before .before .before .before .before .before .before .before .pre .1 .1) (c .before .before .before .before .before .before .before .before .before .before .before .before .before .before .before .before .before .before .before .before .before .before .pre .1 .2) (c .before .before .before .before .before .before .before .before .before .before .before .before .before .before .before .before .before .before .before .unpack .result) (c .before .before .before .before .before .before .before .before .before .before .before .before .before .before .before .before .before .before .before .unpack .ensures) (c .before .before .before .before .before .before .before .before .before .before .before .before .before .before .before .before .before .before .parts .result) (c .before .before .before .before .before .before .before .before .before .before .before .before .before .before .before .before .before .before .parts .ensures) (c .before .before .before .before .before .before .before .before .before .before .before .before .before .before .before .before .loop .inv .0) (c .before .before .before .before .before .before .before .before .before .before .before .before .before .before .before .before .loop .inv .4) (c .before .before .before .before .before .before .before .before .before .before .before .before .before .before .next .result) (c .before .before .before .before .before .before .before .before .before .before .before .before .before .before .next .ensures) (c .before .before .before .before .before .before .before .before .before .before .before .before .enum-told .given .1) (at-item t (c .before .before .before .before .before .before .before .before .before) .0) (λ i. omega (arith, c .before .before .before .before .before .before .before .before .before .before .before .before .before .before .before .before .before .before .before .before .shared-slice-known2 .given i)) (c .before .before .before .before .before .before .before .before .if4 .left) _ refl, c .before .before .before .before .before .before .before .before .before .before .before .before .before .before .before .before .before .before .before .before .before .before .pre .1 .4, omega (arith, c .before .before .before .before .before .before .before .before .if4 .left, c .before .before .before .before .before .before .before .before .before .before .before .before .before .before .before .before .before .before .before .before .before .before .pre .1 .5), at-item t (c .before .before .before .before .before .before .before .before .before) .1))) -- judge-members-judge-value-requires
+    (λ c κs. let X = comes t (c .before .before .before .before .before .before .before .before .before) in (
+      omega (arith, c .before .before .before .before .before .before .before .before .before .before .before .before .before .before .before .before .before .before .before .before .before .before .pre .0, c .before .before .before .before .before .before .before .before .if4 .left),
+      (c .before .before .before .before .before .before .before .before .before .before .before .before .before .before .before .before .before .before .before .before .before .before .pre .1 .0, is-record X, is-headed X, c .before .before .before .before .before .before .before .before .before .before .before .before .before .before .before .before .before .before .before .before .before .before .pre .1 .4, omega (arith, c .before .before .before .before .before .before .before .before .if4 .left, c .before .before .before .before .before .before .before .before .before .before .before .before .before .before .before .before .before .before .before .before .before .before .pre .1 .5), X .ways),
+    )) -- judge-members-judge-value-requires
     (λ c. search needs) -- judge-members-enum-known-cause-3
     (λ c κs. search needs) -- judge-members-refused-requires-4
-    (λ c. (c .before .before .before .before .judge-value .ensures .0, c .refused4 .ensures ∙ judged-refused (c .before .before .before .before .before .before .before .before .before .before .before .before .before .before .before .before .before .before .before .before .before .before .before .before .before .before .before .pre .1 .0) (c .before .before .before .before .before .before .before .before .before .before .before .before .before .before .before .before .before .before .before .before .before .before .before .before .before .before .before .pre .1 .1) (c .before .before .before .before .before .before .before .before .before .before .before .before .before .before .before .before .before .before .before .before .before .before .before .before .before .before .before .pre .1 .2) (c .before .before .before .before .before .before .before .before .before .before .before .before .before .before .before .before .before .before .before .before .before .before .before .before .unpack .result) (c .before .before .before .before .before .before .before .before .before .before .before .before .before .before .before .before .before .before .before .before .before .before .before .before .unpack .ensures) (c .before .before .before .before .before .before .before .before .before .before .before .before .before .before .before .before .before .before .before .before .before .before .before .parts .result) (c .before .before .before .before .before .before .before .before .before .before .before .before .before .before .before .before .before .before .before .before .before .before .before .parts .ensures) (c .before .before .before .before .before .before .before .before .before .before .before .before .before .before .before .before .before .before .before .before .before .loop .inv .0) (c .before .before .before .before .before .before .before .before .before .before .before .before .before .before .before .before .before .before .before .before .before .loop .inv .4) (c .before .before .before .before .before .before .before .before .before .before .before .before .before .before .before .before .before .before .before .next .result) (c .before .before .before .before .before .before .before .before .before .before .before .before .before .before .before .before .before .before .before .next .ensures) (c .before .before .before .before .before .before .before .before .before .before .before .before .before .before .before .before .before .enum-told .given .1) (at-item t (c .before .before .before .before .before .before .before .before .before .before .before .before .before .before) .0) (λ i. omega (arith, c .before .before .before .before .before .before .before .before .before .before .before .before .before .before .before .before .before .before .before .before .before .before .before .before .before .shared-slice-known2 .given i)) (c .before .before .before .before .before .before .before .before .before .before .before .before .before .if4 .left) _ refl _ (c .before .before .before .before .judge-value .ensures .1) _ _ (c .before .before .cause3 .given .1))) -- judge-members-returns-5
+    (λ c. (c .before .before .before .before .judge-value .ensures .0, c .refused4 .ensures ∙ judged-refused (valued t (c .before .before .before .before)) _ _ (c .before .before .cause3 .given .1))) -- judge-members-returns-5
     (λ c. search needs) -- judge-members-enum-known-end-2
     (λ c. omega (arith, c .before .before .before .before .before .before .before .before .before .before .before .before .if4 .left, c .before .before .before .before .before .before .before .before .before .before .before .before .before .before .before .before .before .before .before .before .before .before .before .before .before .before .pre .1 .5)) -- judge-members-mul-grow
-    (λ c. omega (arith, c .before .before .before .before .before .before .before .before .before .before .before .before .if4 .left, c .before .before .before .before .before .before .before .before .before .before .before .before .before .before .before .before .before .before .before .before .before .before .before .before .before .before .pre .1 .5, value-small (c .before .before .before .before .before .before .before .before .before .before .before .before .before .before .before .before .before .before .before .before .before .before .before .before .before .before .pre .1 .0) (c .before .before .before .before .before .before .before .before .before .before .before .before .before .before .before .before .before .before .before .before .before .before .before .before .before .before .pre .1 .1) (c .before .before .before .before .before .before .before .before .before .before .before .before .before .before .before .before .before .before .before .before .before .before .before .before .before .before .pre .1 .2) (c .before .before .before .before .before .before .before .before .before .before .before .before .before .before .before .before .before .before .before .before .before .before .before .unpack .result) (c .before .before .before .before .before .before .before .before .before .before .before .before .before .before .before .before .before .before .before .before .before .before .before .unpack .ensures) (c .before .before .before .before .before .before .before .before .before .before .before .before .before .before .before .before .before .before .before .before .before .before .parts .result) (c .before .before .before .before .before .before .before .before .before .before .before .before .before .before .before .before .before .before .before .before .before .before .parts .ensures) (c .before .before .before .before .before .before .before .before .before .before .before .before .before .before .before .before .before .before .before .before .loop .inv .0) (c .before .before .before .before .before .before .before .before .before .before .before .before .before .before .before .before .before .before .before .before .loop .inv .4) (c .before .before .before .before .before .before .before .before .before .before .before .before .before .before .before .before .before .before .next .result) (c .before .before .before .before .before .before .before .before .before .before .before .before .before .before .before .before .before .before .next .ensures) (c .before .before .before .before .before .before .before .before .before .before .before .before .before .before .before .before .enum-told .given .1) (at-item t (c .before .before .before .before .before .before .before .before .before .before .before .before .before) .0) (λ i. omega (arith, c .before .before .before .before .before .before .before .before .before .before .before .before .before .before .before .before .before .before .before .before .before .before .before .before .shared-slice-known2 .given i)) (c .before .before .before .before .before .before .before .before .before .before .before .before .if4 .left) _ refl _ (c .before .before .before .judge-value .ensures .1) _ _ (c .before .end2 .given .1))) -- judge-members-add-grow
-    (λ c κs. (omega (arith, c .before .before .before .before .before .before .before .before .before .before .before .before .before .before .before .before .before .before .before .before .loop .inv .2), omega (arith, c .before .before .before .before .before .before .before .before .before .before .before .before .if4 .left, c .before .before .before .before .before .before .before .before .before .before .before .before .before .before .before .before .before .before .before .before .before .before .before .before .before .before .pre .1 .5, value-small (c .before .before .before .before .before .before .before .before .before .before .before .before .before .before .before .before .before .before .before .before .before .before .before .before .before .before .pre .1 .0) (c .before .before .before .before .before .before .before .before .before .before .before .before .before .before .before .before .before .before .before .before .before .before .before .before .before .before .pre .1 .1) (c .before .before .before .before .before .before .before .before .before .before .before .before .before .before .before .before .before .before .before .before .before .before .before .before .before .before .pre .1 .2) (c .before .before .before .before .before .before .before .before .before .before .before .before .before .before .before .before .before .before .before .before .before .before .before .unpack .result) (c .before .before .before .before .before .before .before .before .before .before .before .before .before .before .before .before .before .before .before .before .before .before .before .unpack .ensures) (c .before .before .before .before .before .before .before .before .before .before .before .before .before .before .before .before .before .before .before .before .before .before .parts .result) (c .before .before .before .before .before .before .before .before .before .before .before .before .before .before .before .before .before .before .before .before .before .before .parts .ensures) (c .before .before .before .before .before .before .before .before .before .before .before .before .before .before .before .before .before .before .before .before .loop .inv .0) (c .before .before .before .before .before .before .before .before .before .before .before .before .before .before .before .before .before .before .before .before .loop .inv .4) (c .before .before .before .before .before .before .before .before .before .before .before .before .before .before .before .before .before .before .next .result) (c .before .before .before .before .before .before .before .before .before .before .before .before .before .before .before .before .before .before .next .ensures) (c .before .before .before .before .before .before .before .before .before .before .before .before .before .before .before .before .enum-told .given .1) (at-item t (c .before .before .before .before .before .before .before .before .before .before .before .before .before) .0) (λ i. omega (arith, c .before .before .before .before .before .before .before .before .before .before .before .before .before .before .before .before .before .before .before .before .before .before .before .before .shared-slice-known2 .given i)) (c .before .before .before .before .before .before .before .before .before .before .before .before .if4 .left) _ refl _ (c .before .before .before .judge-value .ensures .1) _ _ (c .before .end2 .given .1)))) -- judge-members-grow-requires
+    (λ c. omega (arith, c .before .before .before .before .before .before .before .before .before .before .before .before .if4 .left, c .before .before .before .before .before .before .before .before .before .before .before .before .before .before .before .before .before .before .before .before .before .before .before .before .before .before .pre .1 .5, value-small (valued t (c .before .before .before)) _ _ (c .before .end2 .given .1))) -- judge-members-add-grow
+    (λ c κs. (omega (arith, c .before .before .before .before .before .before .before .before .before .before .before .before .before .before .before .before .before .before .before .before .loop .inv .2), omega (arith, c .before .before .before .before .before .before .before .before .before .before .before .before .if4 .left, c .before .before .before .before .before .before .before .before .before .before .before .before .before .before .before .before .before .before .before .before .before .before .before .before .before .before .pre .1 .5, value-small (valued t (c .before .before .before)) _ _ (c .before .end2 .given .1)))) -- judge-members-grow-requires
     (λ c κs. search needs) -- judge-members-holds-one-requires
     (λ c κs. search needs) -- judge-members-done-requires-2
-    (λ c. (c .before .before .before .before .before .before .before .judge-value .ensures .0, c .done2 .ensures ∙ judged-one (c .before .before .before .before .before .before .before .before .before .before .before .before .before .before .before .before .before .before .before .before .before .before .before .before .before .before .before .before .before .before .pre .1 .0) (c .before .before .before .before .before .before .before .before .before .before .before .before .before .before .before .before .before .before .before .before .before .before .before .before .before .before .before .before .before .before .pre .1 .1) (c .before .before .before .before .before .before .before .before .before .before .before .before .before .before .before .before .before .before .before .before .before .before .before .before .before .before .before .before .before .before .pre .1 .2) (c .before .before .before .before .before .before .before .before .before .before .before .before .before .before .before .before .before .before .before .before .before .before .before .before .before .before .before .unpack .result) (c .before .before .before .before .before .before .before .before .before .before .before .before .before .before .before .before .before .before .before .before .before .before .before .before .before .before .before .unpack .ensures) (c .before .before .before .before .before .before .before .before .before .before .before .before .before .before .before .before .before .before .before .before .before .before .before .before .before .before .parts .result) (c .before .before .before .before .before .before .before .before .before .before .before .before .before .before .before .before .before .before .before .before .before .before .before .before .before .before .parts .ensures) (c .before .before .before .before .before .before .before .before .before .before .before .before .before .before .before .before .before .before .before .before .before .before .before .before .loop .inv .0) (c .before .before .before .before .before .before .before .before .before .before .before .before .before .before .before .before .before .before .before .before .before .before .before .before .loop .inv .4) (c .before .before .before .before .before .before .before .before .before .before .before .before .before .before .before .before .before .before .before .before .before .before .next .result) (c .before .before .before .before .before .before .before .before .before .before .before .before .before .before .before .before .before .before .before .before .before .before .next .ensures) (c .before .before .before .before .before .before .before .before .before .before .before .before .before .before .before .before .before .before .before .before .enum-told .given .1) (at-item t (c .before .before .before .before .before .before .before .before .before .before .before .before .before .before .before .before .before) .0) (λ i. omega (arith, c .before .before .before .before .before .before .before .before .before .before .before .before .before .before .before .before .before .before .before .before .before .before .before .before .before .before .before .before .shared-slice-known2 .given i)) (c .before .before .before .before .before .before .before .before .before .before .before .before .before .before .before .before .if4 .left) _ refl _ (c .before .before .before .before .before .before .before .judge-value .ensures .1) _ _ (c .before .before .before .before .before .end2 .given .1) _ (c .before .before .before .grow .ensures) (one-is (c .before .before .before .before .before .before .before .before .before .before .before .before .before .before .before .before .before .before .before .before .before .before .before .before .before .before .before .before .before .before .pre .1 .0) (c .before .before .before .before .before .before .before .before .before .before .before .before .before .before .before .before .before .before .before .before .before .before .before .before .before .before .before .before .before .before .pre .1 .1) (c .before .before .before .before .before .before .before .before .before .before .before .before .before .before .before .before .before .before .before .before .before .before .before .before .before .before .before .before .before .before .pre .1 .2) (c .before .before .before .before .before .before .before .before .before .before .before .before .before .before .before .before .before .before .before .before .before .before .before .before .before .before .before .unpack .result) (c .before .before .before .before .before .before .before .before .before .before .before .before .before .before .before .before .before .before .before .before .before .before .before .before .before .before .before .unpack .ensures) (c .before .before .before .before .before .before .before .before .before .before .before .before .before .before .before .before .before .before .before .before .before .before .before .before .before .before .parts .result) (c .before .before .before .before .before .before .before .before .before .before .before .before .before .before .before .before .before .before .before .before .before .before .before .before .before .before .parts .ensures) _ (c .before .before .holds-one .ensures) ∙ c .before .if6 .taken))) -- judge-members-returns-6
-    (λ c. omega (arith, value-further (c .before .before .before .before .before .before .before .before .before .before .before .before .before .before .before .before .before .before .before .before .before .before .before .before .before .before .before .before .before .pre .1 .0) (c .before .before .before .before .before .before .before .before .before .before .before .before .before .before .before .before .before .before .before .before .before .before .before .before .before .before .before .before .before .pre .1 .1) (c .before .before .before .before .before .before .before .before .before .before .before .before .before .before .before .before .before .before .before .before .before .before .before .before .before .before .before .before .before .pre .1 .2) (c .before .before .before .before .before .before .before .before .before .before .before .before .before .before .before .before .before .before .before .before .before .before .before .before .before .before .unpack .result) (c .before .before .before .before .before .before .before .before .before .before .before .before .before .before .before .before .before .before .before .before .before .before .before .before .before .before .unpack .ensures) (c .before .before .before .before .before .before .before .before .before .before .before .before .before .before .before .before .before .before .before .before .before .before .before .before .before .parts .result) (c .before .before .before .before .before .before .before .before .before .before .before .before .before .before .before .before .before .before .before .before .before .before .before .before .before .parts .ensures) (c .before .before .before .before .before .before .before .before .before .before .before .before .before .before .before .before .before .before .before .before .before .before .before .loop .inv .0) (c .before .before .before .before .before .before .before .before .before .before .before .before .before .before .before .before .before .before .before .before .before .before .before .loop .inv .4) (c .before .before .before .before .before .before .before .before .before .before .before .before .before .before .before .before .before .before .before .before .before .next .result) (c .before .before .before .before .before .before .before .before .before .before .before .before .before .before .before .before .before .before .before .before .before .next .ensures) (c .before .before .before .before .before .before .before .before .before .before .before .before .before .before .before .before .before .before .before .enum-told .given .1) (at-item t (c .before .before .before .before .before .before .before .before .before .before .before .before .before .before .before .before) .0) (λ i. omega (arith, c .before .before .before .before .before .before .before .before .before .before .before .before .before .before .before .before .before .before .before .before .before .before .before .before .before .before .before .shared-slice-known2 .given i)) (c .before .before .before .before .before .before .before .before .before .before .before .before .before .before .before .if4 .left) _ refl _ (c .before .before .before .before .before .before .judge-value .ensures .1) _ _ (c .before .before .before .before .end2 .given .1), value-low (c .before .before .before .before .before .before .before .before .before .before .before .before .before .before .before .before .before .before .before .before .before .before .before .before .before .before .before .before .before .pre .1 .0) (c .before .before .before .before .before .before .before .before .before .before .before .before .before .before .before .before .before .before .before .before .before .before .before .before .before .before .before .before .before .pre .1 .1) (c .before .before .before .before .before .before .before .before .before .before .before .before .before .before .before .before .before .before .before .before .before .before .before .before .before .before .before .before .before .pre .1 .2) (c .before .before .before .before .before .before .before .before .before .before .before .before .before .before .before .before .before .before .before .before .before .before .before .before .before .before .unpack .result) (c .before .before .before .before .before .before .before .before .before .before .before .before .before .before .before .before .before .before .before .before .before .before .before .before .before .before .unpack .ensures) (c .before .before .before .before .before .before .before .before .before .before .before .before .before .before .before .before .before .before .before .before .before .before .before .before .before .parts .result) (c .before .before .before .before .before .before .before .before .before .before .before .before .before .before .before .before .before .before .before .before .before .before .before .before .before .parts .ensures) (c .before .before .before .before .before .before .before .before .before .before .before .before .before .before .before .before .before .before .before .before .before .before .before .loop .inv .0) (c .before .before .before .before .before .before .before .before .before .before .before .before .before .before .before .before .before .before .before .before .before .before .before .loop .inv .4) (c .before .before .before .before .before .before .before .before .before .before .before .before .before .before .before .before .before .before .before .before .before .next .result) (c .before .before .before .before .before .before .before .before .before .before .before .before .before .before .before .before .before .before .before .before .before .next .ensures) (c .before .before .before .before .before .before .before .before .before .before .before .before .before .before .before .before .before .before .before .enum-told .given .1) (at-item t (c .before .before .before .before .before .before .before .before .before .before .before .before .before .before .before .before) .0) (λ i. omega (arith, c .before .before .before .before .before .before .before .before .before .before .before .before .before .before .before .before .before .before .before .before .before .before .before .before .before .before .before .shared-slice-known2 .given i)) (c .before .before .before .before .before .before .before .before .before .before .before .before .before .before .before .if4 .left) _ refl _ (c .before .before .before .before .before .before .judge-value .ensures .1) _ _ (c .before .before .before .before .end2 .given .1))) -- judge-members-loop-less
-    (λ c. (value-low (c .before .before .before .before .before .before .before .before .before .before .before .before .before .before .before .before .before .before .before .before .before .before .before .before .before .before .before .before .before .pre .1 .0) (c .before .before .before .before .before .before .before .before .before .before .before .before .before .before .before .before .before .before .before .before .before .before .before .before .before .before .before .before .before .pre .1 .1) (c .before .before .before .before .before .before .before .before .before .before .before .before .before .before .before .before .before .before .before .before .before .before .before .before .before .before .before .before .before .pre .1 .2) (c .before .before .before .before .before .before .before .before .before .before .before .before .before .before .before .before .before .before .before .before .before .before .before .before .before .before .unpack .result) (c .before .before .before .before .before .before .before .before .before .before .before .before .before .before .before .before .before .before .before .before .before .before .before .before .before .before .unpack .ensures) (c .before .before .before .before .before .before .before .before .before .before .before .before .before .before .before .before .before .before .before .before .before .before .before .before .before .parts .result) (c .before .before .before .before .before .before .before .before .before .before .before .before .before .before .before .before .before .before .before .before .before .before .before .before .before .parts .ensures) (c .before .before .before .before .before .before .before .before .before .before .before .before .before .before .before .before .before .before .before .before .before .before .before .loop .inv .0) (c .before .before .before .before .before .before .before .before .before .before .before .before .before .before .before .before .before .before .before .before .before .before .before .loop .inv .4) (c .before .before .before .before .before .before .before .before .before .before .before .before .before .before .before .before .before .before .before .before .before .next .result) (c .before .before .before .before .before .before .before .before .before .before .before .before .before .before .before .before .before .before .before .before .before .next .ensures) (c .before .before .before .before .before .before .before .before .before .before .before .before .before .before .before .before .before .before .before .enum-told .given .1) (at-item t (c .before .before .before .before .before .before .before .before .before .before .before .before .before .before .before .before) .0) (λ i. omega (arith, c .before .before .before .before .before .before .before .before .before .before .before .before .before .before .before .before .before .before .before .before .before .before .before .before .before .before .before .shared-slice-known2 .given i)) (c .before .before .before .before .before .before .before .before .before .before .before .before .before .before .before .if4 .left) _ refl _ (c .before .before .before .before .before .before .judge-value .ensures .1) _ _ (c .before .before .before .before .end2 .given .1), omega (arith, place-few (c .before .before .before .before .before .before .before .before .before .before .before .before .before .before .before .before .before .before .before .before .before .before .before .before .before .before .before .before .before .pre .1 .0) (c .before .before .before .before .before .before .before .before .before .before .before .before .before .before .before .before .before .before .before .before .before .before .before .before .before .before .before .before .before .pre .1 .1) (c .before .before .before .before .before .before .before .before .before .before .before .before .before .before .before .before .before .before .before .before .before .before .before .before .before .before .before .before .before .pre .1 .2) (c .before .before .before .before .before .before .before .before .before .before .before .before .before .before .before .before .before .before .before .before .before .before .before .before .before .before .unpack .result) (c .before .before .before .before .before .before .before .before .before .before .before .before .before .before .before .before .before .before .before .before .before .before .before .before .before .before .unpack .ensures) (c .before .before .before .before .before .before .before .before .before .before .before .before .before .before .before .before .before .before .before .before .before .before .before .before .before .parts .result) (c .before .before .before .before .before .before .before .before .before .before .before .before .before .before .before .before .before .before .before .before .before .before .before .before .before .parts .ensures) (c .before .before .before .before .before .before .before .before .before .before .before .before .before .before .before .before .before .before .before .before .before .before .before .loop .inv .0) (c .before .before .before .before .before .before .before .before .before .before .before .before .before .before .before .before .before .before .before .before .before .before .before .loop .inv .4) (c .before .before .before .before .before .before .before .before .before .before .before .before .before .before .before .before .before .before .before .before .before .next .result) (c .before .before .before .before .before .before .before .before .before .before .before .before .before .before .before .before .before .before .before .before .before .next .ensures) (c .before .before .before .before .before .before .before .before .before .before .before .before .before .before .before .before .before .before .before .enum-told .given .1) (at-item t (c .before .before .before .before .before .before .before .before .before .before .before .before .before .before .before .before) .0) (λ i. omega (arith, c .before .before .before .before .before .before .before .before .before .before .before .before .before .before .before .before .before .before .before .before .before .before .before .before .before .before .before .shared-slice-known2 .given i)), step-two (c .before .before .before .before .before .before .before .before .before .before .before .before .before .before .before .before .before .before .before .before .before .before .before .before .before .before .before .before .before .pre .1 .0) (c .before .before .before .before .before .before .before .before .before .before .before .before .before .before .before .before .before .before .before .before .before .before .before .before .before .before .before .before .before .pre .1 .1) (c .before .before .before .before .before .before .before .before .before .before .before .before .before .before .before .before .before .before .before .before .before .before .before .before .before .before .before .before .before .pre .1 .2) (c .before .before .before .before .before .before .before .before .before .before .before .before .before .before .before .before .before .before .before .before .before .before .before .before .before .before .unpack .result) (c .before .before .before .before .before .before .before .before .before .before .before .before .before .before .before .before .before .before .before .before .before .before .before .before .before .before .unpack .ensures) (c .before .before .before .before .before .before .before .before .before .before .before .before .before .before .before .before .before .before .before .before .before .before .before .before .before .parts .result) (c .before .before .before .before .before .before .before .before .before .before .before .before .before .before .before .before .before .before .before .before .before .before .before .before .before .parts .ensures)), omega (arith, c .before .before .grow .ensures), c .before .before .before .before .before .before .judge-value .ensures .0, judged-turn (c .before .before .before .before .before .before .before .before .before .before .before .before .before .before .before .before .before .before .before .before .before .before .before .before .before .before .before .before .before .pre .1 .0) (c .before .before .before .before .before .before .before .before .before .before .before .before .before .before .before .before .before .before .before .before .before .before .before .before .before .before .before .before .before .pre .1 .1) (c .before .before .before .before .before .before .before .before .before .before .before .before .before .before .before .before .before .before .before .before .before .before .before .before .before .before .before .before .before .pre .1 .2) (c .before .before .before .before .before .before .before .before .before .before .before .before .before .before .before .before .before .before .before .before .before .before .before .before .before .before .unpack .result) (c .before .before .before .before .before .before .before .before .before .before .before .before .before .before .before .before .before .before .before .before .before .before .before .before .before .before .unpack .ensures) (c .before .before .before .before .before .before .before .before .before .before .before .before .before .before .before .before .before .before .before .before .before .before .before .before .before .parts .result) (c .before .before .before .before .before .before .before .before .before .before .before .before .before .before .before .before .before .before .before .before .before .before .before .before .before .parts .ensures) (c .before .before .before .before .before .before .before .before .before .before .before .before .before .before .before .before .before .before .before .before .before .before .before .loop .inv .0) (c .before .before .before .before .before .before .before .before .before .before .before .before .before .before .before .before .before .before .before .before .before .before .before .loop .inv .4) (c .before .before .before .before .before .before .before .before .before .before .before .before .before .before .before .before .before .before .before .before .before .next .result) (c .before .before .before .before .before .before .before .before .before .before .before .before .before .before .before .before .before .before .before .before .before .next .ensures) (c .before .before .before .before .before .before .before .before .before .before .before .before .before .before .before .before .before .before .before .enum-told .given .1) (at-item t (c .before .before .before .before .before .before .before .before .before .before .before .before .before .before .before .before) .0) (λ i. omega (arith, c .before .before .before .before .before .before .before .before .before .before .before .before .before .before .before .before .before .before .before .before .before .before .before .before .before .before .before .shared-slice-known2 .given i)) (c .before .before .before .before .before .before .before .before .before .before .before .before .before .before .before .if4 .left) _ refl _ (c .before .before .before .before .before .before .judge-value .ensures .1) _ _ (c .before .before .before .before .end2 .given .1) _ (c .before .before .grow .ensures) (one-is (c .before .before .before .before .before .before .before .before .before .before .before .before .before .before .before .before .before .before .before .before .before .before .before .before .before .before .before .before .before .pre .1 .0) (c .before .before .before .before .before .before .before .before .before .before .before .before .before .before .before .before .before .before .before .before .before .before .before .before .before .before .before .before .before .pre .1 .1) (c .before .before .before .before .before .before .before .before .before .before .before .before .before .before .before .before .before .before .before .before .before .before .before .before .before .before .before .before .before .pre .1 .2) (c .before .before .before .before .before .before .before .before .before .before .before .before .before .before .before .before .before .before .before .before .before .before .before .before .before .before .unpack .result) (c .before .before .before .before .before .before .before .before .before .before .before .before .before .before .before .before .before .before .before .before .before .before .before .before .before .before .unpack .ensures) (c .before .before .before .before .before .before .before .before .before .before .before .before .before .before .before .before .before .before .before .before .before .before .before .before .before .parts .result) (c .before .before .before .before .before .before .before .before .before .before .before .before .before .before .before .before .before .before .before .before .before .before .before .before .before .parts .ensures) _ (c .before .holds-one .ensures) ∙ c .if6 .left) _ (⊎-elim (λ v. inl (v .0 .taken, v .2)) (λ v. inr (v .0 .left, v .1)) (c .before .before .before .before .before .before .before .before .before .before .before .before .before .if5 .came)) _ refl))) -- judge-members-loop-again
+    (λ c. (
+      c .before .before .before .before .before .before .before .judge-value .ensures .0,
+      c .done2 .ensures ∙ judged-one (valued t (c .before .before .before .before .before .before .before)) _ _ (c .before .before .before .before .before .end2 .given .1) _ (c .before .before .before .grow .ensures) (one-is (setting t (c .before .before .before .before .before .before .before .before .before .before .before .before .before .before .before .before .before .before .before .before .before .before .before .before .before .before)) _ (c .before .before .holds-one .ensures) ∙ c .before .if6 .taken),
+    )) -- judge-members-returns-6
+    (λ c. let Y = valued t (c .before .before .before .before .before .before) in omega (arith, value-further Y _ _ (c .before .before .before .before .end2 .given .1), value-low Y _ _ (c .before .before .before .before .end2 .given .1))) -- judge-members-loop-less
+    (λ c. let Y = valued t (c .before .before .before .before .before .before) in (
+      value-low Y _ _ (c .before .before .before .before .end2 .given .1),
+      omega (arith, behind-few (comes t (c .before .before .before .before .before .before .before .before .before .before .before .before .before .before .before .before))),
+      omega (arith, c .before .before .grow .ensures),
+      c .before .before .before .before .before .before .judge-value .ensures .0,
+      judged-turn Y _ _ (c .before .before .before .before .end2 .given .1) _ (c .before .before .grow .ensures) (one-is (setting t (c .before .before .before .before .before .before .before .before .before .before .before .before .before .before .before .before .before .before .before .before .before .before .before .before .before)) _ (c .before .holds-one .ensures) ∙ c .if6 .left) _
+          (⊎-elim (λ v. inl (v .0 .taken, v .2)) (λ v. inr (v .0 .left, v .1)) (c .before .before .before .before .before .before .before .before .before .before .before .before .before .if5 .came)),
+    ))) -- judge-members-loop-again
     λ t. judge-value-lts.spec (
       unpack-reads.Asked,
       unpack-reads.Learnt,
