@@ -1,16 +1,15 @@
 -- The items of a record or of a message, judged one after another: what holds before each, and one law for each way out.
 -- Assumes nothing.
-use borrow.Author.Tests.{eq-eqb, ne-eqb, eqb-true, eqb-false, lt-ltb, ltb-true, ltb-false}
+use borrow.Author.Tests.{eq-eqb, eqb-true, eqb-false, lt-ltb, ltb-true, ltb-false}
 use lib.Dec.{eqb, ltb}
-use lib.ListN.{length, getD, drop, set as setAt, length-drop, length-append, length-set, length-map}
+use lib.ListN.{length, getD, take, drop, set as setAt, length-drop, length-append, length-set, length-map}
 use lib.Seq.{drop-drop, getD-drop, drop-append-seam}
 use mathlib.Core.Bool.{Bool, true, false, not, _||_, true≢false, false≢true}
-use mathlib.Core.List.{List, [], _∷_, _++_}
+use mathlib.Core.List.{List, [], _∷_}
 use mathlib.Core.Logic.{_⊎_, inl, inr}
 use mathlib.Core.Option.{Option, some, none}
 use mathlib.Core.Path.{_≡_, refl, sym, ap, _∙_}
 use native.Mathlib.Nat.{add-zero}
-use native.Mathlib.Numerals.{add-one}
 use native.Mathlib.Omega.{arith}
 use Prim.Native.Nat.{ℕ, zero, suc, _+_, _-_, _*_, _/_, _%_, _≤_, _<_}
 use Rattle.octets.specs.Answer.{Answer, got, refused, then, if}
@@ -26,10 +25,10 @@ use Rattle.ber.specs.declared.ending.End.{End}
 use Rattle.ber.specs.declared.ending.End.the-variants.{More as GoesOn, Over as EndsAt, Broken as BrokenBy}
 use Rattle.ber.proofs.Codes.{bit-small, code-short, code-long, read-code-small, read-code-short}
 use Rattle.ber.proofs.Ends.{end-more, end-over, end-broken}
-use Rattle.ber.proofs.Places.{left-at, some-at}
+use Rattle.ber.proofs.Places.{left-at, some-at, part-to-end}
 use Rattle.table.specs.Syntax.{Tag, Member, Body, Plain, Sequence, Set, SequenceOf, SetOf, Choice, Record, Table, constructed}
 use Rattle.table.specs.Octets.{kind}
-use Rattle.table.specs.Entries.{unpacked, untagged, more, outermostCode, firstCode, spanOf, counted, tableIn, countIn}
+use Rattle.table.specs.Entries.{unpacked, untagged, more, outermostCode, spanOf, tableIn, countIn}
 use Rattle.table.specs.declared.entry.Entry.{Entry}
 use Rattle.table.specs.declared.entry.Span.{Span}
 use Rattle.table.specs.Passes.{Nested}
@@ -40,8 +39,10 @@ use Rattle.coding.specs.Reading.{begun, notAwaited, readValue}
 use Rattle.coding.proofs.Refusals.{value-shorter}
 use Rattle.coding.proofs.Sound.{value-sound}
 use Rattle.reader.specs.Answers.{cap, causeOf, causeNumber, told, size}
-use Rattle.reader.specs.Codes.{firstOf, peeked, searchIn, hit}
-use Rattle.reader.specs.Items.{Holder, inside, message, Manner, in-turn, each-once, repeated, single, manner, partsOf, optionals, Placed, pending, upToMandatory, within, left, awaits, some-of, remains, lacks, since, following, noted, isSingle, first, next, nodeSize, blank, readHeld}
+use Rattle.reader.specs.Codes.{firstOf, peeked, hit}
+use Rattle.reader.specs.Items.{Holder, inside, message, Manner, in-turn, each-once, repeated, single, manner, partsOf, Placed}
+use Rattle.reader.specs.Items.{pending, upToMandatory, within, left, some-of, remains, lacks, since, following, noted, isSingle, first, next}
+use Rattle.reader.specs.Items.{nodeSize, blank, readHeld}
 use Rattle.reader.specs.Placing.{kindOf, countOf, nodeOf, holdsOne}
 use Rattle.reader.specs.Records.{Ready, Known, of-record, of-message, IsRecord, recordIn, holderIn, readRecord}
 use Rattle.reader.specs.Sought.{held, Sound, tabledCount, unfit, Sought}
@@ -58,9 +59,10 @@ use Rattle.reader.specs.declared.search.Choice.{Choice as Chosen}
 use Rattle.reader.specs.declared.search.Found.{Found}
 use Rattle.reader.specs.declared.search.Found.the-variants.{Part, Refused as NotFound}
 use Rattle.reader.proofs.Among.{code-is}
-use Rattle.reader.proofs.Begun.{Fine, AllFine, Fit, fit, nested-all}
+use Rattle.reader.proofs.Begun.{AllFine, Fit, fit, nested-all}
 use Rattle.reader.proofs.Items.{More, unawaited-on, first-hit, first-miss, pending-free, pending-come, found-of, awaits-found}
-use Rattle.reader.proofs.ItemsGoing.{Going, Gives, since-first, going-first, going-over, going-lacking, going-broken, going-full, going-unawaited, going-refused, going-turn, one-unawaited, one-refused, one-done}
+use Rattle.reader.proofs.ItemsGoing.{Going, since-first, going-first, going-over, going-lacking, going-broken}
+use Rattle.reader.proofs.ItemsGoing.{going-full, going-unawaited, going-refused, going-turn, one-unawaited, one-refused, one-done}
 use Rattle.reader.proofs.ItemsKinds.{blank-clear}
 use Rattle.reader.proofs.ItemsSearch.{Lone, GoodHolder, lone-awaits, Tells, tells, search-itself}
 use Rattle.reader.proofs.ItemsSizes.{isPlain}
@@ -259,7 +261,8 @@ module _ (h : Holder) (i : ℕ) (came : List ℕ) where
   ends-over (BrokenBy f) u e = let z : _≡_ {A = ℕ} 0 1 = cc in absurd (omega arith)
 
   abbrev Stopped : End → Cause → Type 0
-  Stopped x c = ((u : ℕ) × (x ≡ EndsAt u) × (lacks h i came ≡ true) × (c ≡ NotAwaited)) ⊎ ((f : Fault) × (x ≡ BrokenBy f) × (c ≡ causeOf (faultNumber f)))
+  Stopped x c =
+      ((u : ℕ) × (x ≡ EndsAt u) × (lacks h i came ≡ true) × (c ≡ NotAwaited)) ⊎ ((f : Fault) × (x ≡ BrokenBy f) × (c ≡ causeOf (faultNumber f)))
 
   ends-stopped : (x : End) (c : Cause) → atEnding h i came x ≡ Stops c → Stopped x c
   unfolding atEnding if
@@ -439,17 +442,18 @@ pub item-same : {b : List ℕ} {h : Holder} {m : List ℕ} {at i : ℕ} {came wa
     → At-item b h m at i came way place number depth from
 item-same e f g h k X = rw (e, f, g, h, k) X
 
-pub item-found : {b : List ℕ} {h : Holder} {m : List ℕ} {at i : ℕ} {came way : List ℕ} (rest : List ℕ) (r : Found) (x : Chosen) → at ≤ length m
-    → Sought b h i came rest way r → rest ≡ drop at m → r ≡ Part x
-    → At-item b h m at i came way (x .place) (x .record) (x .depth) (at + x .from)
-item-found rest r x low q er ex = item-sought x low (rw (er, ex) at q)
+-- of the rest of m, as a callee sees it
+abbrev restOf : List ℕ → ℕ → List ℕ
+restOf m at = take (length m - at) (drop at m)
 
-pub found-low : (b : List ℕ) (h : Holder) (m : List ℕ) (at i : ℕ) (came way rest : List ℕ) (r : Found) (x : Chosen) → at ≤ length m
-    → Sought b h i came rest way r → rest ≡ drop at m → r ≡ Part x → at + x .from ≤ length m
-found-low b h m at i came way rest r x low q er ex = let X : At-item b h m at i came way _ _ _ _ = item-found rest r x low q er ex in X .low
+pub item-found : {b : List ℕ} {h : Holder} {m : List ℕ} {at i : ℕ} {came way : List ℕ} (r : Found) (x : Chosen) → at ≤ length m
+    → Sought b h i came (restOf m at) way r → r ≡ Part x
+    → At-item b h m at i came way (x .place) (x .record) (x .depth) (at + x .from)
+item-found {m = m} {at = at} r x low q ex = item-sought x low (rw (part-to-end m at, ex) at q)
 
 -- or the part at hand, which begins with the octet at the place
-module _ {b index : List ℕ} {w : ℕ} {came : List ℕ} (Z : Sound b index w came) (e : Entry) (ee : e ≡ unpacked w) (s : Span) (es : s ≡ spanOf b (e .kind) (e .own))
+module _ {b index : List ℕ} {w : ℕ} {came : List ℕ} (Z : Sound b index w came) (e : Entry) (ee : e ≡ unpacked w)
+    (s : Span) (es : s ≡ spanOf b (e .kind) (e .own))
     (m : List ℕ) (o : Octets m) (at : ℕ) (here-is : at < length m) (j : ℕ) (l : j < s .count) (z : getD came j 0 ≡ 0)
     (t f : ℕ) (et : t ≡ getD b (s .first + s .step * j) 0) (ef : f ≡ unpacked (getD index t 0) .code) (q : f ≡ getD m at 0) where
   abbrev Records : Table
@@ -500,7 +504,8 @@ module _ {b index : List ℕ} {w : ℕ} {came : List ℕ} (Z : Sound b index w c
       record {
         part = Part-j .part;
         identifier = getD m at 0 ∷ [];
-        found = next-at Records Held (good-held (Z .ready) w (Z .known)) came (drop at m) (λ p v. clear-turn Z e ee s es v p) j (Part-j .part) (Part-j .is) z (rw (← y) its-begun);
+        found = next-at Records Held (good-held (Z .ready) w (Z .known)) came (drop at m) (λ p v. clear-turn Z e ee s es v p)
+            j (Part-j .part) (Part-j .is) z (rw (← y) its-begun);
         read = its-read;
         further = omega arith;
         low = omega arith;
@@ -514,11 +519,12 @@ pub record Judging (b : List ℕ) (w : ℕ) (m : List ℕ) (marked : Bool) (leve
   pub one : isSingle (manner (held b w)) ≡ true → at < length m
   pub noted : length came ≡ 16
   pub clear : (manner (held b w) ≡ each-once → ⊥) → (p : ℕ) → getD came p 0 ≡ 0
-  pub going : Going (readHeld (tableIn b) (readValue (tableIn b) level) (held b w) (mode marked) m) (tableIn b) (readValue (tableIn b) level) (held b w) (mode marked) m at
-      (since (manner (held b w)) j) came total
+  pub going : Going (readHeld (tableIn b) (readValue (tableIn b) level) (held b w) (mode marked) m) (tableIn b) (readValue (tableIn b) level) (held b w)
+      (mode marked) m at (since (manner (held b w)) j) came total
 
 -- a refusal that an item is not awaited says the same of whatever was to be read
-unfit-alike : {A B : Type 0} (h : Holder) (i : ℕ) (came s : List ℕ) (c l : ℕ) → unfit {A = A} h i came s ≡ refused c l → unfit {A = B} h i came s ≡ refused c l
+unfit-alike : {A B : Type 0} (h : Holder) (i : ℕ) (came s : List ℕ) (c l : ℕ) → unfit {A = A} h i came s ≡ refused c l
+    → unfit {A = B} h i came s ≡ refused c l
 unfolding unfit if then
 unfit-alike {A} {B} h i came s c l e =
     test (isSingle (manner h)) (λ q. rw q (other (rw q at e))) λ q.
@@ -602,10 +608,7 @@ module _ (Q : Setting) where
   pub count-few : Q .s .count ≤ 16
   count-few = its-span .few
 
-  pub count-near : (k : ℕ) → k < Q .s .count → Q .s .first + Q .s .step * k < 8192
-  count-near = its-span .near
-
-  pub one-is : (g : Bool) → g ≡ (eqb (Q .e .kind) 50 || eqb (Q .e .kind) 51) → isSingle (manner (H Q)) ≡ g
+  one-is : (g : Bool) → g ≡ (eqb (Q .e .kind) 50 || eqb (Q .e .kind) 51) → isSingle (manner (H Q)) ≡ g
   one-is g eg = sym (eg ∙ ap holdsOne kind-is ∙ one-kind (H Q) no-plain)
 
   module _ (n : ℕ) (en : n ≡ nodeOf (Q .e .kind) (Q .s .count)) where
@@ -633,10 +636,6 @@ module _ (Q : Setting) where
       → Sound (Q .b) (Q .index) (Q .w) came
   judging-sound S = record { ready = Q .ready; known = Q .known; noted = S .noted; clear = S .clear }
 
-  pub type-few : {m : List ℕ} {marked : Bool} {level : ℕ} {came : List ℕ} {total at j : ℕ} → Judging (Q .b) (Q .w) m marked level came total at j → j < Q .s .count
-      → (t : ℕ) → t ≡ getD (Q .b) (Q .s .first + Q .s .step * j) 0 → t < 128
-  type-few {j = j} S l t et = omega (arith, type-low (judging-sound S) (Q .e) (Q .entry) (Q .s) (Q .span) j l t et, Q .ready .filled .few)
-
 -- what stands at a place of m
 pub record Turn (Q : Setting) : Type 0 where
   pub m : List ℕ
@@ -647,6 +646,8 @@ pub record Turn (Q : Setting) : Type 0 where
   pub at : ℕ
   pub j : ℕ
   pub octets : Octets m
+  pub short : length m ≤ 8192
+  pub levels : level < 25
   pub low : at ≤ length m
   pub so-far : Judging (Q .b) (Q .w) m marked level came total at j
   pub y : Standing
@@ -671,6 +672,20 @@ module _ {Q : Setting} (P : Turn Q) where
 
   refused-here : (c : ℕ) → W ≡ refused c (length Rest) → Refused (causeOf c) (length (P .m) - P .at) ≡ told (P .m) size W
   refused-here c x = told-refused (P .m) W c (length (P .m) - P .at) (x ∙ ap (refused c) (length-drop (P .at) (P .m)))
+
+  total-few : P .total < 16386
+  total-few = omega (arith, P .so-far .going .sized)
+
+  -- the part at hand
+  module _ (l : P .j < Q .s .count) where
+    pub part-few : P .j < 16
+    part-few = omega (arith, count-few Q)
+
+    pub part-near : Q .s .first + Q .s .step * P .j < 8192
+    part-near = its-span Q .near (P .j) l
+
+    pub type-few : (t : ℕ) → t ≡ getD (Q .b) (Q .s .first + Q .s .step * P .j) 0 → t < 128
+    type-few t et = omega (arith, type-low (judging-sound Q (P .so-far)) (Q .e) (Q .entry) (Q .s) (Q .span) (P .j) l t et, Q .ready .filled .few)
 
   -- contents that are over
   pub judged-over : (u : ℕ) → P .y ≡ Ends u → Done u (P .total) ≡ told (P .m) size W
@@ -715,11 +730,11 @@ module _ {Q : Setting} (P : Turn Q) where
         λ q. end-more {A = ℕ} (λ z. got 0 z) (λ z. refused 0 0) (P .m) (P .at) (P .marked) E refl (goes-on q) .1
 
     -- of no part that is awaited
-    pub judged-unfit : (way : List ℕ) (c : Cause) (rest : List ℕ) (r : Found) → Sought (Q .b) (H Q) I (P .came) rest way r → rest ≡ Rest → r ≡ NotFound c
+    pub judged-unfit : (way : List ℕ) (c : Cause) (r : Found) → Sought (Q .b) (H Q) I (P .came) (restOf (P .m) (P .at)) way r → r ≡ NotFound c
         → Refused c (length (P .m) - P .at) ≡ told (P .m) size W
     unfolding unfit if
-    judged-unfit way c rest r q₀ er ec =
-        let q : Sought (Q .b) (H Q) I (P .came) Rest way (NotFound c) = rw (er, ec) at q₀ in
+    judged-unfit way c r q₀ ec =
+        let q : Sought (Q .b) (H Q) I (P .came) Rest way (NotFound c) = rw (part-to-end (P .m) (P .at), ec) at q₀ in
         let x = unfit-alike {A = List ℕ} {B = Value} (H Q) I (P .came) Rest (causeNumber c) (length Rest) (q .1) in
         rw cause-number at (refused-here (causeNumber c) (whole (q .0) ∙ x))
       where
@@ -729,8 +744,17 @@ module _ {Q : Setting} (P : Turn Q) where
             (λ n. rw n (one-unawaited W (T Q) R (H Q) (mode (P .marked)) (P .m) (P .at) I (P .came) (P .total) (P .so-far .going) n q))
             λ n.
             test (remains (H Q) I (P .came))
-            (λ r. rw (n, r) (going-unawaited W (T Q) R (H Q) (mode (P .marked)) (P .m) (P .at) I (P .came) (P .total) (P .so-far .going) n (its-more n) r q))
+            (λ r. rw (n, r)
+            (going-unawaited W (T Q) R (H Q) (mode (P .marked)) (P .m) (P .at) I (P .came) (P .total) (P .so-far .going) n (its-more n) r q))
             λ r. rw (n, r) (going-full W (T Q) R (H Q) (mode (P .marked)) (P .m) (P .at) I (P .came) (P .total) (P .so-far .going) n (its-more n) r)
+
+    -- of a part that was sought
+    pub found-low : (way : List ℕ) (x : Chosen) (r : Found) → Sought (Q .b) (H Q) I (P .came) (restOf (P .m) (P .at)) way r → r ≡ Part x
+        → P .at + x .from ≤ 8192
+    found-low way x r q ex =
+        let F : At-item (Q .b) (H Q) (P .m) (P .at) I (P .came) way (x .place) (x .record) (x .depth) (P .at + x .from) =
+        item-found r x (P .low) q ex in
+        omega (arith, F .low, P .short)
 
     -- of the part at hand
     pub item-here : P .j < Q .s .count → getD (P .came) (P .j) 0 ≡ 0 → (t f : ℕ) → t ≡ getD (Q .b) (Q .s .first + Q .s .step * P .j) 0
@@ -781,7 +805,8 @@ module _ {Q : Setting} {P : Turn Q} (X : Comes P) where
 
   pub place-few : X .place < 16
   place-few =
-      let F = found-of (P .came) (I P) (drop (I P) (partsOf (H Q))) _ (X .place, X .is .part) (awaits-found (H Q) (I P) (P .came) Begins) (X .is .found) in
+      let F =
+      found-of (P .came) (I P) (drop (I P) (partsOf (H Q))) _ (X .place, X .is .part) (awaits-found (H Q) (I P) (P .came) Begins) (X .is .found) in
       omega (arith, F .place, F .low, length-drop (I P) (partsOf (H Q)), few Q)
 
   pub behind-few : X .place + Q .s .step / 2 ≤ 16
@@ -803,7 +828,8 @@ module _ {Q : Setting} {P : Turn Q} (X : Comes P) where
   pub judged-level : P .level ≤ X .depth → Refused Level (length (P .m) - P .at) ≡ told (P .m) size (W P)
   unfolding causeOf if
   judged-level h =
-      refused-here P 28 (part-refused 28 (length (Rest P)) (way-level (T Q) all-fit all-nested C tagged (Rest P) code-tells (X .is .leads) (X .is .its) (P .level) h))
+      refused-here P 28 (part-refused 28 (length (Rest P))
+      (way-level (T Q) all-fit all-nested C tagged (Rest P) code-tells (X .is .leads) (X .is .its) (P .level) h))
 
   -- the entry of its record
   abbrev Entry-of : ℕ
@@ -844,10 +870,14 @@ module _ {Q : Setting} {P : Turn Q} {X : Comes P} (Y : Valued X) where
 
   through-way : R P (Type-of X) (Rest P) ≡ Through Below
   through-way =
-      way-value (T Q) (all-fit X) (all-nested X) (C X) (tagged X) (Rest P) (code-tells X) (X .is .leads) (X .is .its) (P .level) (omega (arith, Y .deep))
+      way-value (T Q) (all-fit X) (all-nested X) (C X) (tagged X) (Rest P) (code-tells X) (X .is .leads) (X .is .its) (P .level)
+      (omega (arith, Y .deep))
 
   is-said : Y .r ≡ told (P .m) size Below
   is-said = Y .said ∙ ap (told (P .m) size) record-value
+
+  pub depth-few : X .depth < 24
+  depth-few = omega (arith, Y .deep, P .levels)
 
   -- and refused
   pub judged-refused : (c : Cause) (l : ℕ) → Y .r ≡ Refused c l → Refused c l ≡ told (P .m) size (W P)
@@ -864,8 +894,8 @@ module _ {Q : Setting} {P : Turn Q} {X : Comes P} (Y : Valued X) where
     its-behind : (Its .1 ≡ drop (length (P .m) - length (Its .1)) (P .m)) × (P .at < length (P .m) - length (Its .1))
     its-behind = value-behind (T Q) (P .level - X .depth) (X .number) (P .m) (P .at) (P .low) (Its .0) (Its .1) (Its .2)
 
-    pub value-small : n < 16386
-    value-small = omega (arith, Its .4)
+    pub sizes-few : (P .total < 65536) × (n + 4 * X .depth < 65536)
+    sizes-few = (omega (arith, total-few P), omega (arith, Its .4, Y .deep, P .levels))
 
     pub value-further : P .at < end
     value-further = omega (arith, Its .3, its-behind .1)
@@ -884,26 +914,29 @@ module _ {Q : Setting} {P : Turn Q} {X : Comes P} (Y : Valued X) where
       grown : last ≡ cap (P .total + cap (length (octets Whole)))
       grown = omega (arith, el, Its .4, wrapped-size (X .way) (X .depth) (Its .0))
 
-      -- the only one
-      pub judged-one : isSingle (manner (H Q)) ≡ true → Done end last ≡ told (P .m) size (W P)
-      judged-one y =
-          let g =
-          one-done (W P) (T Q) (R P) (H Q) (mode (P .marked)) (P .m) (P .at) (I P) (P .came) (P .total) (P .so-far .going) y
-          (X .place, X .is .part) (X .is .found) Whole (drop end (P .m)) (cap (length (octets Whole))) last its-value refl grown in
-          told-done (P .m) (W P) (g .value) end last (g .is) value-low (g .size)
+      module _ (k : Bool) (ek : k ≡ (eqb (Q .e .kind) 50 || eqb (Q .e .kind) 51)) where
+        -- the only one
+        pub judged-one : k ≡ true → Done end last ≡ told (P .m) size (W P)
+        judged-one z =
+            let g =
+            one-done (W P) (T Q) (R P) (H Q) (mode (P .marked)) (P .m) (P .at) (I P) (P .came) (P .total) (P .so-far .going) (one-is Q k ek ∙ z)
+            (X .place, X .is .part) (X .is .found) Whole (drop end (P .m)) (cap (length (octets Whole))) last its-value refl grown in
+            told-done (P .m) (W P) (g .value) end last (g .is) value-low (g .size)
 
-      -- before the next one
-      pub judged-turn : isSingle (manner (H Q)) ≡ false → (came′ : List ℕ) → Notes (Q .e .kind) (P .came) (X .place) came′
-          → Judging (Q .b) (Q .w) (P .m) (P .marked) (P .level) came′ last end (X .place + Q .s .step / 2)
-      judged-turn y came′ ec =
-          let a : came′ ≡ noted (manner (H Q)) (P .came) (X .place) = notes-are (H Q) (P .came) (X .place) came′ (rw (← kind-is Q) ec) in
-          let f : since (manner (H Q)) (X .place + Q .s .step / 2) ≡ following (manner (H Q)) (X .place) =
-          ap (λ (k : ℕ). since (manner (H Q)) (X .place + k / 2)) (step-is Q) ∙ follows (Q .b) (H Q) (Q .e .own) (X .place) in
-          record {
-            one = λ z. absurd (true≢false (sym z ∙ y));
-            noted = ap length a ∙ noted-length (manner (H Q)) (P .came) (X .place) ∙ P .so-far .noted;
-            clear = λ z p. ap (λ (l : List ℕ). getD l p 0) (a ∙ noted-clear (manner (H Q)) (P .came) (X .place) z) ∙ P .so-far .clear z p;
-            going = rw (f, a)
-                (going-turn (W P) (T Q) (R P) (H Q) (mode (P .marked)) (P .m) (P .at) (I P) (P .came) (P .total) (P .so-far .going) y (its-more P (X .item) y)
-                (some-remain X) (X .place, X .is .part) (X .is .found) Whole end (cap (length (octets Whole))) last its-value value-further value-low refl grown);
-          }
+        -- before the next one
+        pub judged-turn : k ≡ false → (came′ : List ℕ) → Notes (Q .e .kind) (P .came) (X .place) came′
+            → Judging (Q .b) (Q .w) (P .m) (P .marked) (P .level) came′ last end (X .place + Q .s .step / 2)
+        judged-turn z came′ ec =
+            let y = one-is Q k ek ∙ z in
+            let a : came′ ≡ noted (manner (H Q)) (P .came) (X .place) = notes-are (H Q) (P .came) (X .place) came′ (rw (← kind-is Q) ec) in
+            let f : since (manner (H Q)) (X .place + Q .s .step / 2) ≡ following (manner (H Q)) (X .place) =
+            ap (λ (k : ℕ). since (manner (H Q)) (X .place + k / 2)) (step-is Q) ∙ follows (Q .b) (H Q) (Q .e .own) (X .place) in
+            record {
+              one = λ z. absurd (true≢false (sym z ∙ y));
+              noted = ap length a ∙ noted-length (manner (H Q)) (P .came) (X .place) ∙ P .so-far .noted;
+              clear = λ z p. ap (λ (l : List ℕ). getD l p 0) (a ∙ noted-clear (manner (H Q)) (P .came) (X .place) z) ∙ P .so-far .clear z p;
+              going = rw (f, a)
+                  (going-turn (W P) (T Q) (R P) (H Q) (mode (P .marked)) (P .m) (P .at) (I P) (P .came) (P .total) (P .so-far .going) y
+                  (its-more P (X .item) y) (some-remain X) (X .place, X .is .part) (X .is .found) Whole end (cap (length (octets Whole))) last its-value
+                  value-further value-low refl grown);
+            }
