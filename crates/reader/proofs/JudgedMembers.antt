@@ -215,7 +215,7 @@ step-small b (inside (Choice ts)) p = omega arith
 step-small b (message t) p = omega arith
 
 -- what is noted of a part
-abbrev pub Notes : ℕ → List ℕ → ℕ → List ℕ → Type 0
+abbrev Notes : ℕ → List ℕ → ℕ → List ℕ → Type 0
 Notes k came place last = ((k ≡ 17) × (last ≡ setAt came place 1)) ⊎ ((k ≡ 17 → ⊥) × (last ≡ came))
 
 notes-are : (h : Holder) (came : List ℕ) (place : ℕ) (last : List ℕ) → Notes (kindOf h) came place last → last ≡ noted (manner h) came place
@@ -617,7 +617,7 @@ module _ (Q : Setting) where
         en ∙ ap (λ (k : ℕ). nodeOf k (Q .s .count)) kind-is ∙ ap (nodeOf (kindOf (H Q))) (its-span .count ∙ sym (count-is (H Q)))
         ∙ node-is (H Q) (some-kind (H Q) no-plain)
 
-    pub node-few : n ≤ 20
+    node-few : n ≤ 20
     node-few = omega (arith, node-total, node-small (H Q) few)
 
     -- before the first item
@@ -654,7 +654,7 @@ pub record Turn (Q : Setting) : Type 0 where
   pub stands : y ≡ standing (H Q) (since (manner (H Q)) j) came (endOf marked (length m) (drop at m))
 
 module _ {Q : Setting} (P : Turn Q) where
-  -- the parts that are left are those from here on; what is left of m; all that is judged; and where its contents may end
+  -- from which part on others are left; what is left of m; how values are read; all that is judged; and whether contents end here
   abbrev I : ℕ
   I = since (manner (H Q)) (P .j)
 
@@ -664,7 +664,7 @@ module _ {Q : Setting} (P : Turn Q) where
   abbrev R : ℕ → List ℕ → Answer Value
   R = readValue (T Q) (P .level)
 
-  abbrev pub W : Answer Value
+  abbrev W : Answer Value
   W = readHeld (T Q) (readValue (T Q) (P .level)) (H Q) (mode (P .marked)) (P .m)
 
   abbrev E : End

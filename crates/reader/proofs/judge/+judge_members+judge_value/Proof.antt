@@ -189,8 +189,11 @@ valued t c =
       said = c .judge-value .ensures .1;
     }
 
-pub +judge-members+judge-value-spec : {M : Type 1} → statement M
-+judge-members+judge-value-spec = close μ-judge-members μ-judge-value (λ t. judge-members-lts.spec (judge-members-claims t)
+-- the items in an entry
+judge-members-spec : {M : Type 1} (t : ℕ) → judge-members-lts.Closed (judge-members-claims t) (judge-members-at t) judge-members.Post M
+judge-members-spec t =
+    judge-members-lts.spec
+    (judge-members-claims t)
     (judge-members-at t)
     judge-members.Post
     judge-members-Inv-loop
@@ -326,7 +329,10 @@ pub +judge-members+judge-value-spec : {M : Type 1} → statement M
           (c .if6 .left) _
           (⊎-elim (λ v. inl (v .0 .taken, v .2)) (λ v. inr (v .0 .left, v .1))
           (c .before .before .before .before .before .before .before .before .before .before .before .before .before .if5 .came)),
-    )))  -- judge-members-loop-again
+    ))  -- judge-members-loop-again
+
+pub +judge-members+judge-value-spec : {M : Type 1} → statement M
++judge-members+judge-value-spec = close μ-judge-members μ-judge-value judge-members-spec
     λ t. judge-value-lts.spec (
       unpack-reads.Asked,
       unpack-reads.Learnt,
