@@ -35,3 +35,4 @@ pub mod Locating
 pub mod Outcomes
 pub mod PlacedValue
 pub mod PlacedMembers
+pub mod JudgedMembers
