@@ -1,5 +1,19 @@
+-- The judge of values and of the items in them, by the levels that are left.
+-- Assumes nothing.
 use borrow.Author.Needs.{needs}
-use Prim.Native.Nat.{ℕ, _<_}
+use denote.Ref.{now}
+use lib.ListN.{length, getD, take, drop}
+use mathlib.Core.Logic.{⊎-elim}
+use mathlib.Core.Path.{refl, sym, ap, _∙_}
+use native.Mathlib.Omega.{arith}
+use Prim.Native.Nat.{ℕ, _+_, _*_, _-_, _≤_, _<_}
+use Rattle.table.specs.Entries.{unpacked}
+use Rattle.reader.specs.Records.{recordIn}
+use Rattle.reader.proofs.JudgedValue.{Under, Within, Over, under-none, under-tags, within-choice, within-length, over-leaf, over-items}
+use Rattle.reader.proofs.JudgedValue.{value-unopened, value-unread, value-marked, value-wrong, value-unheld, items-left, items-end, some-items}
+use Rattle.reader.proofs.JudgedValue.{value-closed, value-over, its-choice, no-choice, is-choice, its-holder}
+use Rattle.reader.proofs.Opening.{its-count, its-first, its-few}
+use Rattle.reader.proofs.Tagging.{its-entry, its-fit}
 use borrow.Fn.Kinds.{In}
 use borrow.Fn.PlainCycle.{Measures, is, falls, and}
 use Rattle.reader.proofs.judge.judge_members.Reads as judge-members
@@ -28,10 +42,10 @@ use Rattle.reader.proofs.judge.+judge_members+judge_value.{statement}
 use Rattle.reader.proofs.judge.+judge_members+judge_value.Tie.{close}
 
 abbrev μ-judge-members : Measures 4 judge-members-kinds.ps ℕ
-μ-judge-members κs a = ?
+μ-judge-members κs a = 2 * a .1 .1 .1 .1 .1 .0
 
 abbrev μ-judge-value : Measures 4 judge-value-kinds.ps ℕ
-μ-judge-value κs a = ?
+μ-judge-value κs a = 2 * a .1 .1 .1 .1 .1 .1 .0 + 1
 
 abbrev judge-members-at : ℕ → In 4 judge-members-kinds.ps
 judge-members-at t =
@@ -55,11 +69,39 @@ judge-value-below t =
 
 abbrev judge-members-Inv-loop : judge-members-lts.InvT-loop
 judge-members-Inv-loop table index w m marked level way₀ e s came₀ total₀ at₀ j₀ way came total at j =
-    ?
+    Unit {0}
 
 abbrev judge-members-μ-loop : judge-members-lts.MeasureT-loop
 judge-members-μ-loop table index w m marked level way₀ e s came₀ total₀ at₀ j₀ way came total at j =
-    ?
+    0
+
+abbrev judge-value-claims : ℕ → judge-value-lts.Claims
+judge-value-claims t = (
+  unpack-reads.Asked,
+  unpack-reads.Learnt,
+  open-reads.Asked,
+  open-reads.Learnt,
+  refused-reads.Asked,
+  refused-reads.Learnt,
+  read-reads.Asked,
+  read-reads.Learnt,
+  cause-of-reads.Asked,
+  cause-of-reads.Learnt,
+  contents-size-reads.Asked,
+  contents-size-reads.Learnt,
+  judge-members-below t,
+  judge-members.Post,
+  close-reads.Asked,
+  close-reads.Learnt,
+  done-reads.Asked,
+  done-reads.Learnt,
+)
+
+-- where the tags are opened
+abbrev at-under : (t : ℕ) (c : judge-value-lts.Joined1 (judge-value-claims t) (judge-value-at t) judge-value.Post) →
+    let a = c .before .before .before .before .before .args in Under (now (a .table)) (recordIn (now (a .table)) (unpacked (a .w))) (now (a .m)) (a .at)
+    (take (unpacked (a .w) .explicit) (c .if1 .notes)) (c .if1 .at) (c .if1 .from) (c .if1 .end)
+at-under t c = ?
 
 pub +judge-members+judge-value-spec : {M : Type 1} → statement M
 +judge-members+judge-value-spec = close μ-judge-members μ-judge-value (λ t. judge-members-lts.spec (
@@ -149,26 +191,7 @@ pub +judge-members+judge-value-spec : {M : Type 1} → statement M
     (λ c. ?) -- judge-members-returns-6
     (λ c. ?) -- judge-members-loop-less
     (λ c. ?)) -- judge-members-loop-again
-    λ t. judge-value-lts.spec (
-      unpack-reads.Asked,
-      unpack-reads.Learnt,
-      open-reads.Asked,
-      open-reads.Learnt,
-      refused-reads.Asked,
-      refused-reads.Learnt,
-      read-reads.Asked,
-      read-reads.Learnt,
-      cause-of-reads.Asked,
-      cause-of-reads.Learnt,
-      contents-size-reads.Asked,
-      contents-size-reads.Learnt,
-      judge-members-below t,
-      judge-members.Post,
-      close-reads.Asked,
-      close-reads.Learnt,
-      done-reads.Asked,
-      done-reads.Learnt,
-    )
+    λ t. judge-value-lts.spec (judge-value-claims t)
     (judge-value-at t)
     judge-value.Post
     (λ c κs. ?) -- judge-value-unpack-requires

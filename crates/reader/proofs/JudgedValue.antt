@@ -1,0 +1,736 @@
+-- A value of a record in a message: under its explicit tags, its length, its contents, simple ones or items, and what stands behind them.
+-- Assumes nothing.
+use borrow.Author.Tests.{eq-eqb, ne-eqb}
+use lib.Dec.{eqb}
+use lib.ListN.{length, getD, take, drop, length-append, length-drop, drop-of-length-le}
+use lib.Seq.{take-length, take-take, length-take-le, drop-drop, drop-length, drop-append-seam}
+use mathlib.Core.Bool.{Bool, true, false, not, true≢false, false≢true}
+use mathlib.Core.List.{List, [], _∷_, _++_}
+use mathlib.Core.Logic.{_⊎_, inl, inr}
+use mathlib.Core.Option.{Option, some, none}
+use mathlib.Core.Path.{_≡_, refl, sym, ap, _∙_}
+use native.Mathlib.Omega.{arith}
+use Prim.Native.Nat.{ℕ, zero, suc, _+_, _-_, _≤_, _<_}
+use Rattle.octets.specs.Answer.{Answer, got, refused, then, if, behind, none-left}
+use Rattle.octets.specs.Numbers.{Octets}
+use Rattle.octets.specs.Permutations.{as-given}
+use Rattle.octets.proofs.Answer.{Holds, Taken, got-holds, if-cases, none-there}
+use Rattle.octets.proofs.Tests.{test}
+use Rattle.ber.specs.Codes.{codeOf}
+use Rattle.ber.specs.Reading.{Mode, closed, open-ended, Size, definite, indefinite, readIdentifier, readLength, readHeader, inside as insideSize, readConstructed, contents, readPrimitive, atEnd}
+use Rattle.ber.specs.Told.{toldIdentifier, toldLength, faultOf, faultNumber, mode}
+use Rattle.ber.specs.declared.Fault.{Fault}
+use Rattle.ber.specs.declared.identifier.Identifier.the-variants.{Refused as NoIdentifier}
+use Rattle.ber.specs.declared.length.Length.{Length}
+use Rattle.ber.specs.declared.length.Length.the-variants.{Read as ReadLength, Refused as NoLength}
+use Rattle.ber.specs.declared.length.Extent.{Extent}
+use Rattle.ber.proofs.Told.{identifier-refused, length-definite, length-indefinite, length-refused}
+use Rattle.table.specs.Syntax.{Tag, Member, Simple, Boolean, Integer, BitString, OctetString, Null, Enumerated, Body, Plain, Sequence, Set, SequenceOf, SetOf, Choice, Record, Table, isChoice, constructed}
+use Rattle.table.specs.Rules.{members}
+use Rattle.table.specs.Reading.{bodyAt}
+use Rattle.table.specs.Entries.{unpacked, tableIn, countIn, Entered, firstCode}
+use Rattle.table.specs.declared.entry.Entry.{Entry}
+use Rattle.table.proofs.Promises.{kind-choice, entered-members}
+use Rattle.coding.specs.Tags.{own, explicit}
+use Rattle.coding.specs.Value.{Value, leaf, Leaf, boolean, integer, bits, string, null, enumerated, leafOctets, octets}
+use Rattle.coding.specs.Encodes.{EncodesAt}
+use Rattle.coding.specs.Reading.{decode, notAwaited, readWrapped, readKind, readValue, readMessage}
+use Rattle.coding.proofs.Content.{content-sound, content-complete}
+use Rattle.coding.proofs.FirstTags.{good}
+use Rattle.coding.proofs.Refusals.{Says, names, value-shorter, value-says}
+use Rattle.coding.proofs.Sound.{value-sound}
+use Rattle.reader.specs.Answers.{cap, causeOf, causeNumber, told, size}
+use Rattle.reader.specs.Items.{Holder, inside, message, manner, Placed, remains, lacks, following, noted, isSingle, Hand, readPart, next, readItems, assemble, blank, readHeld}
+use Rattle.reader.specs.Records.{Ready, recordIn, IsRecord, Known, of-record, of-message, holderIn, readRecord}
+use Rattle.reader.specs.Sought.{held}
+use Rattle.reader.specs.Weights.{weight, leafWeight}
+use Rattle.reader.specs.Wraps.{ended, shut, innerEnd, closing, Around, identifiers, Headed, readBare, Opens}
+use Rattle.reader.specs.declared.answer.Cause.{Cause}
+use Rattle.reader.specs.declared.answer.Cause.the-variants.{Cut, Form, NotAwaited, Contents, Trailing, Level}
+use Rattle.reader.specs.declared.answer.Judged.{Judged}
+use Rattle.reader.specs.declared.answer.Judged.the-variants.{Done, Refused}
+use Rattle.reader.specs.declared.tags.Inner.{Inner}
+use Rattle.reader.specs.declared.tags.Opened.{Opened}
+use Rattle.reader.specs.declared.tags.Opened.the-variants.{Inside, Refused as NotOpened}
+use Rattle.reader.proofs.Begun.{Fit}
+use Rattle.reader.proofs.Items.{Ending, over, broken, more, ending}
+use Rattle.reader.proofs.ItemsKinds.{Kind, kind-held, message-whole}
+use Rattle.reader.proofs.Opening.{octets-drop, octets-take, slice-is, behind-at, first-by, item-refused, its-count, its-first, its-few}
+use Rattle.reader.proofs.Spans.{held-body}
+use Rattle.reader.proofs.Tagging.{count-identifiers, code-at, same-at, its-entry, its-record, its-fit}
+use Rattle.reader.proofs.Wrapping.{around-end, closing-refused}
+
+-- u is an end of s
+abbrev pub Tail : List ℕ → List ℕ → Type 0
+Tail s u = (k : ℕ) × (k ≤ length s) × (u ≡ drop k s)
+
+tail-of : (s : List ℕ) {u : List ℕ} (p : List ℕ) → s ≡ p ++ u → Tail s u
+tail-of s {u} p e = (length p, omega (arith, ap length e, length-append p u), sym (ap (drop (length p)) e ∙ drop-append-seam p u))
+
+tail-on : (s t u : List ℕ) → Tail s t → Tail t u → Tail s u
+tail-on s t u (k, h, e) (i, l, f) =
+    (k + i, omega (arith, ap length e, length-drop k s), f ∙ ap (drop i) e ∙ drop-drop i k s)
+
+tail-less : {s u : List ℕ} → Tail s u → length u ≤ length s
+tail-less {s} {u} (k, h, e) = omega (arith, ap length e, length-drop k s)
+
+-- the end that is as long
+tail-at : (s u : List ℕ) → Tail s u → u ≡ drop (length s - length u) s
+tail-at s u (k, h, e) =
+    let q : length s - length u ≡ k = omega (arith, ap length e, length-drop k s) in
+    rw q e
+
+some-left : (s : List ℕ) → none-left s ≡ false → 0 < length s
+unfolding none-left
+some-left [] h = absurd (true≢false h)
+some-left (b ∷ s) h = omega arith
+
+-- What was read leaves an end of what was given, of which P holds; or no more octets are left at the place of a refusal than were given.
+pub data Sane {A : Type 0} (P : List ℕ → Type 0) (s : List ℕ) : Answer A → Type 0 where
+  leaves : {a : A} {u : List ℕ} → Tail s u → P u → Sane P s (got a u)
+  stops : {c l : ℕ} → l ≤ length s → Sane P s (refused c l)
+
+module _ {A : Type 0} {P : List ℕ → Type 0} where
+  sane-wider : (s t : List ℕ) → Tail s t → {x : Answer A} → Sane P t x → Sane P s x
+  sane-wider s t h (leaves {u = u} i p) = leaves (tail-on s t u h i) p
+  sane-wider s t h (stops {l = l} i) = stops {l = l} (omega (arith, tail-less h))
+
+  sane-if : (s : List ℕ) (b : Bool) {x : Answer A} {y : Unit {0} → Answer A} → (b ≡ true → Sane P s x) → (b ≡ false → (u : Unit {0}) → Sane P s (y u)) → Sane P s (if b x y)
+  unfolding if
+  sane-if s true h k = h refl
+  sane-if s false h k = k refl tt
+
+  sane-then : {B : Type 0} {Q : List ℕ → Type 0} (s : List ℕ) {x : Answer B} {f : B → List ℕ → Answer A} → Sane Q s x
+      → ((a : B) (u : List ℕ) → Tail s u → Q u → Sane P s (f a u)) → Sane P s (then x f)
+  unfolding then
+  sane-then s (leaves {a = a} {u = u} h q) k = k a u h q
+  sane-then s (stops {l = l} h) k = stops {l = l} h
+
+  sane-end : (k : Mode) (s : List ℕ) {f : List ℕ → Answer A} {x : Unit {0} → Answer A} → ((u : List ℕ) → Tail s u → (k ≡ closed → u ≡ []) → Sane P s (f u))
+      → ((u : Unit {0}) → Sane P s (x u)) → Sane P s (atEnd k s f x)
+  unfolding atEnd
+  sane-end closed s h i = sane-if s _ (λ e. h [] (length s, omega arith, sym (drop-length s)) (λ _. refl)) λ e. i
+  sane-end open-ended s h i =
+      sane-if s _ (λ e. stops {l = 0} (omega arith)) λ e _.
+      sane-if s _ (λ e. i tt) λ e _.
+      sane-if s _ (λ e. stops {l = length s} (omega arith)) λ f _.
+      sane-if s _ (λ e. stops {l = length s} (omega arith)) λ g _.
+      h (drop 2 s) (2, omega (arith, some-left (drop 1 s) f, length-drop 1 s), refl) λ q. absurd (open-not q)
+    where
+      open-not : open-ended ≡ closed → ⊥
+      open-not q = let z : _≡_ {A = ℕ} 0 1 = cc in omega arith
+
+-- an item that is not awaited, and a value
+unawaited-sane : {A : Type 0} {P : List ℕ → Type 0} (s : List ℕ) → Sane {A = A} P s (notAwaited s)
+unfolding notAwaited then toldIdentifier
+unawaited-sane {A} {P} s = go (readIdentifier s) refl
+  where
+    go : (x : Answer (List ℕ)) → readIdentifier s ≡ x → Sane {A = A} P s (then x λ i s₁. refused 24 (length s))
+    go (got i u) e = stops {l = length s} (omega arith)
+    go (refused c l) e =
+        let q : NoIdentifier (faultOf c) ≡ toldIdentifier (length s) (readIdentifier s) = rw e refl in
+        let y = identifier-refused s (NoIdentifier (faultOf c)) q (faultOf c) refl in
+        let z : _≡_ {A = Answer (List ℕ)} (refused c l) (refused (faultNumber (faultOf c)) (length s)) = sym e ∙ y in
+        let v : l ≡ length s = cc in
+        stops {l = l} (omega arith)
+
+abbrev Any : List ℕ → Type 0
+Any u = Unit {0}
+
+value-sane : (T : Table) (n t : ℕ) (s : List ℕ) → Sane Any s (readValue T n t s)
+value-sane T n t s = go (readValue T n t s) (value-sound as-given T n t s) (value-says T n t s)
+  where
+    few : {c l : ℕ} → Says {A = Value} (length s) (refused c l) → l ≤ length s
+    few (names k h) = h
+
+    go : (x : Answer Value) → Holds (Taken (EncodesAt as-given T n t) s) x → Says (length s) x → Sane Any s x
+    go (got v u) h k = let y = got-holds h refl in leaves (tail-of s (y .piece) (y .cut)) tt
+    go (refused c l) h k = stops {l = l} (few k)
+
+-- items: closed contents of which they are all leave nothing
+module _ (T : Table) (n : ℕ) (h : Holder) where
+  abbrev pub Closes : Mode → List ℕ → Type 0
+  Closes k u = isSingle (manner h) ≡ false → k ≡ closed → u ≡ []
+
+  part-sane : (x : Option Placed) (s : List ℕ) → Sane Any s (readPart T (readValue T n) x s)
+  unfolding readPart
+  part-sane none s = unawaited-sane s
+  part-sane (some x) s = sane-then s (value-sane T n (x .1 .type) s) λ v u t _. leaves t tt
+
+  items-sane : (k j : ℕ) (came : List ℕ) (hand : Hand) (e : Mode) (s : List ℕ) → Sane (Closes e) s (readItems T (readValue T n) h k j came hand e s)
+  unfolding readItems
+  items-sane zero j came hand e s = stops {l = 0} (omega arith)
+  items-sane (suc k) j came hand e s =
+      sane-if s (isSingle (manner h))
+      (λ one. sane-then s (part-sane (next T h j came s) s) λ x u t _. leaves t λ many. absurd (true≢false (sym one ∙ many)))
+      λ many _.
+      sane-end e s
+      (λ u t q. sane-if s (lacks h j came) (λ f. stops {l = length s} (omega arith)) λ f _. leaves t λ _. q)
+      λ _.
+      sane-if s (not (remains h j came)) (λ f. stops {l = length s} (omega arith)) λ f _.
+      sane-then s (part-sane (next T h j came s) s) λ x u t _.
+      sane-wider s u t (items-sane k (following (manner h) (x .0)) (noted (manner h) came (x .0)) (hand ++ (x ∷ [])) e u)
+
+  pub held-sane : (e : Mode) (s : List ℕ) → Sane (Closes e) s (readHeld T (readValue T n) h e s)
+  unfolding readHeld
+  held-sane e s = sane-then s (items-sane (suc (length s)) 0 blank [] e s) λ hand u t q. leaves t q
+
+-- what the judge's answers say
+pub told-refused : {A : Type 0} (m : List ℕ) (f : A → ℕ) (x : Answer A) (y : Judged) → y ≡ told m f x → (c : Cause) (l : ℕ) → y ≡ Refused c l
+    → (k : ℕ) × (x ≡ refused k l) × (c ≡ causeOf k)
+unfolding told
+told-refused m f (got a u) y e c l d = let z : _≡_ {A = ℕ} 0 1 = cc in absurd (omega arith)
+told-refused m f (refused k i) y e c l d = let z : i ≡ l = cc in (k, ap (refused k) z, cc)
+
+pub told-done : {A : Type 0} (m : List ℕ) (f : A → ℕ) (x : Answer A) (y : Judged) → y ≡ told m f x → (e n : ℕ) → y ≡ Done e n
+    → (a : A) × (u : List ℕ) × (x ≡ got a u) × (e ≡ length m - length u) × (n ≡ cap (f a))
+unfolding told
+told-done m f (got a u) y q e n d = (a, u, refl, cc, cc)
+told-done m f (refused k i) y q e n d = let z : _≡_ {A = ℕ} 0 1 = cc in absurd (omega arith)
+
+pub cause-number : (c : Cause) → causeOf (causeNumber c) ≡ c
+unfolding causeOf if
+cause-number Cut = refl
+cause-number Form = refl
+cause-number NotAwaited = refl
+cause-number Contents = refl
+cause-number Trailing = refl
+cause-number Level = refl
+
+-- Simple contents are read alike wherever they stand: their leaf has a size, and wrong ones are refused at the item.
+abbrev Only : ℕ → Answer Leaf → Type 0
+Only l (got x s) = Unit {0}
+Only l (refused c k) = (c ≡ 25) × (k ≡ l)
+
+decode-only : (k : Simple) (l : ℕ) (c s : List ℕ) → Only l (decode k l c s)
+unfolding decode
+decode-only Boolean l c s = if-cases (Only l) _ _ _ (λ e. (refl, refl)) (λ e. tt)
+decode-only Integer l c s = if-cases (Only l) _ _ _ (λ e. (refl, refl)) (λ e. if-cases (Only l) _ _ _ (λ f. (refl, refl)) (λ f. tt))
+decode-only BitString l c s = if-cases (Only l) _ _ _ (λ e. (refl, refl)) (λ e. if-cases (Only l) _ _ _ (λ f. (refl, refl)) (λ f. tt))
+decode-only OctetString l c s = tt
+decode-only Null l c s = if-cases (Only l) _ _ _ (λ e. (refl, refl)) (λ e. tt)
+decode-only (Enumerated ns) l c s =
+    if-cases (Only l) _ _ _ (λ e. (refl, refl)) (λ e. if-cases (Only l) _ _ _ (λ f. (refl, refl)) (λ f. if-cases (Only l) _ _ _ (λ g. (refl, refl)) (λ g. tt)))
+
+decode-moves : (k : Simple) (l : ℕ) (c s : List ℕ) (l₂ : ℕ) (s₂ : List ℕ) (x : Leaf) (w : List ℕ) → decode k l c s ≡ got x w → decode k l₂ c s₂ ≡ got x s₂
+decode-moves k l c s l₂ s₂ x w e = content-complete l₂ s₂ (got-holds (content-sound k l c s) e .1)
+
+leaf-some : (x : Leaf) → 0 < length (leafOctets x)
+unfolding leafOctets
+leaf-some (boolean b) = omega arith
+leaf-some (integer z) = omega arith
+leaf-some (bits n c) = omega arith
+leaf-some (string c) = omega arith
+leaf-some null = omega arith
+leaf-some (enumerated k) = omega arith
+
+module _ (k : Simple) (c : List ℕ) (l : ℕ) (s : List ℕ) (n : ℕ) (en : n ≡ weight (decode k 0 c [])) where
+  weight-none : n ≡ 0 → decode k l c s ≡ refused 25 l
+  unfolding weight
+  weight-none z = go (decode k l c s) refl
+    where
+      go : (y : Answer Leaf) → decode k l c s ≡ y → y ≡ refused 25 l
+      go (got x w) e = let q = rw (decode-moves k l c s 0 [] x w e) at en in absurd (omega (arith, leaf-some x))
+      go (refused a b) e = let (i, j) = rw e at (decode-only k l c s) in rw (i, j) refl
+
+  weight-some : (n ≡ 0 → ⊥) → (x : Leaf) × (decode k l c s ≡ got x s) × (n ≡ length (leafOctets x))
+  unfolding weight
+  weight-some z = go (decode k 0 c []) refl
+    where
+      go : (y : Answer Leaf) → decode k 0 c [] ≡ y → (x : Leaf) × (decode k l c s ≡ got x s) × (n ≡ length (leafOctets x))
+      go (got x w) e = (x, decode-moves k 0 c [] l s x w e, rw e at en)
+      go (refused a b) e = absurd (z (rw e at en))
+
+-- Closing tags looks at the octets alone: what is read under them is kept, or refused alike.
+abbrev Alike : {A B : Type 0} → A → B → Answer A → Answer B → Type 0
+Alike a b x y = ((u : List ℕ) × (x ≡ got a u) × (y ≡ got b u)) ⊎ ((c : ℕ) × (l : ℕ) × (x ≡ refused c l) × (y ≡ refused c l))
+
+module _ {A B : Type 0} (a : A) (b : B) where
+  ended-alike : (k : Mode) (x : Answer A) (y : Answer B) → Alike a b x y → Alike a b (ended k x) (ended k y)
+  unfolding ended then
+  ended-alike k x y (inl (u, e, f)) = rw (e, f) (go (ending k u))
+    where
+      go : Ending k u → Alike a b (atEnd k u (λ v. got a v) λ _. refused 26 (length u)) (atEnd k u (λ v. got b v) λ _. refused 26 (length u))
+      go (over w z h) = inl (w, h A _ _, h B _ _)
+      go (broken c l z h) = inr (c, l, h A _ _, h B _ _)
+      go (more h) = inr (26, length u, h A _ _, h B _ _)
+  ended-alike k x y (inr (c, l, e, f)) = inr (c, l, rw e refl, rw f refl)
+
+  shut-alike : (m : List ℕ) (outer inner : ℕ) (k : Bool) (x : Answer A) (y : Answer B) → Alike a b x y → Alike a b (shut m outer inner k x) (shut m outer inner k y)
+  unfolding shut then behind
+  shut-alike m outer inner true x y h = ended-alike open-ended x y h
+  shut-alike m outer inner false x y h = go (ended-alike closed x y h)
+    where
+      go : Alike a b (ended closed x) (ended closed y)
+          → Alike a b (then (behind (outer - inner) (ended closed x)) λ v r. got v (drop inner (take outer m)))
+          (then (behind (outer - inner) (ended closed y)) λ v r. got v (drop inner (take outer m)))
+      go (inl (u, e, f)) = inl (drop inner (take outer m), rw e refl, rw f refl)
+      go (inr (c, l, e, f)) = inr (c, l + (outer - inner), rw e refl, rw f refl)
+
+  closing-alike : (m ns : List ℕ) (e : ℕ) (x : Answer A) (y : Answer B) → Alike a b x y → Alike a b (closing m ns e x) (closing m ns e y)
+  unfolding closing
+  closing-alike m [] e x y h = h
+  closing-alike m (n ∷ ns) e x y h = shut-alike m _ _ _ (closing m ns e x) (closing m ns e y) (closing-alike m ns e x y h)
+
+-- so a size may be closed in place of the value
+pub closing-size : {A B : Type 0} (m ns : List ℕ) (e : ℕ) (a : A) (b : B) (u : List ℕ) (f : A → ℕ) (g : B → ℕ) → cap (f a) ≡ cap (g b)
+    → told m f (closing m ns e (got a u)) ≡ told m g (closing m ns e (got b u))
+unfolding told
+closing-size m ns e a b u f g q = go (closing-alike a b m ns e (got a u) (got b u) (inl (u, refl, refl)))
+  where
+    go : Alike a b (closing m ns e (got a u)) (closing m ns e (got b u)) → told m f (closing m ns e (got a u)) ≡ told m g (closing m ns e (got b u))
+    go (inl (w, x, y)) = rw (x, y, q) refl
+    go (inr (c, l, x, y)) = rw (x, y) refl
+
+-- Under the explicit tags of r, the item of r stands from `at` to `end` or before, and its identifier, if it has one, up to `from`.
+-- The value of r is what closing the tags makes of what is read there.
+pub record Under (b : List ℕ) (r : Record) (m : List ℕ) (first : ℕ) (ns : List ℕ) (at from end : ℕ) : Type 0 where
+  pub some : at < end
+  pub high : end ≤ length m
+  pub around : Around (length m) ns end
+  pub headed : isChoice (r .body) ≡ false → Headed (take end m) at from (codeOf (own r))
+  pub whole : (n : ℕ) → readRecord (tableIn b) n r (drop first m) ≡ closing m ns end (readBare b n r (drop at (take end m)))
+
+-- where the contents of an item of r stand, whose identifier is at `at` and which has the octets up to `end`
+abbrev pub sizeOf : Bool → ℕ → Size
+sizeOf true n = indefinite
+sizeOf false n = definite n
+
+pub record Within (r : Record) (p : List ℕ) (at end start stop : ℕ) (marked : Bool) : Type 0 where
+  pub low : at ≤ start
+  pub ordered : start ≤ stop
+  pub high : stop ≤ end
+  pub unsized : marked ≡ true → stop ≡ end
+  pub bare : isChoice (r .body) ≡ true → (start ≡ at) × (stop ≡ end) × (marked ≡ false)
+  pub header : isChoice (r .body) ≡ false → readHeader (own r) (drop at p) ≡ got (sizeOf marked (stop - start)) (drop start p)
+
+-- the item of r is read, its value has this size, and what follows begins at `stop`
+pub record Over (b : List ℕ) (r : Record) (n : ℕ) (p : List ℕ) (at end stop count : ℕ) : Type 0 where
+  pub within : stop ≤ end
+  pub small : count < 16386
+  pub value : Value
+  pub is : readBare b n r (drop at p) ≡ got value (drop stop p)
+  pub sized : count ≡ cap (length (octets value))
+
+nil-of : (l : List (List ℕ)) → length l ≡ 0 → l ≡ []
+nil-of [] e = refl
+nil-of (x ∷ l) e = absurd (omega arith)
+
+-- of a record that fits
+module _ (b : List ℕ) (r : Record) (F : Fit r) (m : List ℕ) (om : Octets m) where
+  own-at : isChoice (r .body) ≡ false → getD (identifiers r) (length (explicit r)) [] ≡ own r
+  unfolding if
+  own-at n = rw n (behind-at (explicit r) (own r))
+
+  own-last : isChoice (r .body) ≡ false → length (explicit r) < length (r .tags)
+  unfolding if
+  own-last n =
+      let q : length (identifiers r) ≡ length (explicit r) + 1 = rw n (length-append (explicit r) (own r ∷ [])) in
+      omega (arith, count-identifiers r F)
+
+  pub under-none : (first from : ℕ) → length (explicit r) ≡ 0 → Headed m first from (firstCode r) → Under b r m first [] first from (length m)
+  unfolding Around closing readRecord readWrapped
+  under-none first from z h =
+      record {
+        some = omega (arith, h .further, h .low);
+        high = omega arith;
+        around = refl;
+        headed = λ n.
+            let k : 0 < length (r .tags) = omega (arith, own-last n) in
+            let q : getD (identifiers r) 0 [] ≡ own r = ap (λ (i : ℕ). getD (identifiers r) i []) (sym z) ∙ own-at n in
+            let c : firstCode r ≡ codeOf (own r) = first-by (r .tags) (r .body) k ∙ sym (code-at r F 0 k) ∙ ap codeOf q in
+            rw (take-length m, ← c) h;
+        whole = λ n. rw (nil-of (explicit r) z, take-length m) refl;
+      }
+
+  pub under-tags : (first : ℕ) (ns : List ℕ) (y : Opened) → Opens b r m first ns y → (x : Inner) → y ≡ Inside x → Under b r m first ns (x .at) (x .from) (x .end)
+  under-tags first ns y o x e =
+      let (_, i, h, a, g, q) : Opens b r m first ns (Inside x) = rw e at o in
+      record { some = i; high = h; around = a; headed = g; whole = q }
+
+  pub value-unopened : (first : ℕ) (ns : List ℕ) (y : Opened) → Opens b r m first ns y → (c : Cause) (l : ℕ) → y ≡ NotOpened c l → (n : ℕ)
+      → Refused c l ≡ told m size (readRecord (tableIn b) n r (drop first m))
+  unfolding told
+  value-unopened first ns y o c l e n =
+      let (_, q) : Opens b r m first ns (NotOpened c l) = rw e at o in
+      rw (q n, cause-number c) refl
+
+  module _ (first : ℕ) (ns : List ℕ) (at from end : ℕ) (U : Under b r m first ns at from end) where
+    abbrev pub Part : List ℕ
+    Part = take end m
+
+    size-part : length Part ≡ end
+    size-part = length-take-le end m (U .high)
+
+    left-part : length (drop at Part) ≡ end - at
+    left-part = length-drop at Part ∙ ap (λ (i : ℕ). i - at) size-part
+
+    -- a refusal of the item is one of the value
+    under-refused : (n c l : ℕ) → readBare b n r (drop at Part) ≡ refused c l
+        → Refused (causeOf c) (l + (length m - end)) ≡ told m size (readRecord (tableIn b) n r (drop first m))
+    unfolding told
+    under-refused n c l e = rw (U .whole n, e, closing-refused {A = Value} m (length m) ns end c l (U .around)) refl
+
+    item-unfit : (n c l : ℕ) → readBare b n r (drop at Part) ≡ refused c l → l ≡ length (drop at Part)
+        → Refused (causeOf c) (length m - at) ≡ told m size (readRecord (tableIn b) n r (drop first m))
+    item-unfit n c l e q =
+        let z : length m - at ≡ l + (length m - end) = omega (arith, left-part, U .some, U .high) in
+        rw z (under-refused n c l e)
+
+    own-header : isChoice (r .body) ≡ false → readHeader (own r) (drop at Part) ≡ readLength (length (drop at Part)) (drop from Part)
+    unfolding readHeader then if
+    own-header n =
+        let h = U .headed n in
+        let o = octets-drop Part (octets-take m om end) at in
+        let q = own-at n in
+        let y : _ = same-at r F (length (explicit r)) (own-last n) (drop at Part) (h .identifier) (drop from Part) o (h .is) in
+        let v = rw q at y in
+        rw (h .is, v, eq-eqb (codeOf (h .identifier)) (codeOf (own r)) (h .coded)) refl
+
+    pub within-choice : isChoice (r .body) ≡ true → Within r Part at end at end false
+    within-choice y =
+        record {
+          low = omega arith;
+          ordered = omega (arith, U .some);
+          high = omega arith;
+          unsized = λ e. absurd (false≢true e);
+          bare = λ _. (refl, refl, refl);
+          header = λ n. absurd (true≢false (sym y ∙ n));
+        }
+
+    module _ (n : isChoice (r .body) ≡ false) (z : Length) (az : (k : ℕ) → z ≡ toldLength (length Part) (readLength k (drop from Part))) where
+      pub value-unread : (f : Fault) → z ≡ NoLength f → (c : Cause) → c ≡ causeOf (faultNumber f) → (level : ℕ)
+          → Refused c (length m - at) ≡ told m size (readRecord (tableIn b) level r (drop first m))
+      value-unread f q c ec level =
+          let k = length (drop at Part) in
+          let y = own-header n ∙ length-refused Part from k z (az k) f q in
+          rw ec (item-unfit level (faultNumber f) k (item-refused (tableIn b) _ (own r) (r .body) (drop at Part) (faultNumber f) k n y) refl)
+
+      pub within-length : (x : Extent) → z ≡ ReadLength x → Within r Part at end (x .start) (x .end) (x .marked)
+      within-length x q =
+          test (x .marked)
+          (λ t.
+          let y = length-indefinite Part from (length (drop at Part)) z (az (length (drop at Part))) x q t in
+          let f = U .headed n .further in
+          record {
+            low = omega (arith, y .1);
+            ordered = omega (arith, y .2, y .3);
+            high = omega (arith, y .3, size-part);
+            unsized = λ _. y .3 ∙ size-part;
+            bare = λ c. absurd (true≢false (sym c ∙ n));
+            header = λ _. own-header n ∙ rw t (y .0);
+          })
+          λ t.
+          let y = length-definite Part from (length (drop at Part)) z (az (length (drop at Part))) x q t in
+          let f = U .headed n .further in
+          record {
+            low = omega (arith, y .1);
+            ordered = y .2;
+            high = omega (arith, y .3, size-part);
+            unsized = λ e. absurd (true≢false (sym e ∙ t));
+            bare = λ c. absurd (true≢false (sym c ∙ n));
+            header = λ _. own-header n ∙ rw t (y .0);
+          }
+
+-- kinds of bodies
+plain-of : (y : Body) → constructed y ≡ false → (k : Simple) × (y ≡ Plain k)
+unfolding constructed
+plain-of (Plain k) e = (k, refl)
+plain-of (Sequence ms) e = absurd (true≢false e)
+plain-of (Set ms) e = absurd (true≢false e)
+plain-of (SequenceOf t) e = absurd (true≢false e)
+plain-of (SetOf t) e = absurd (true≢false e)
+plain-of (Choice ts) e = absurd (true≢false e)
+
+not-is : (t : Bool) → true ≡ not t → t ≡ false
+not-is true e = e
+not-is false e = refl
+
+is-not : (t : Bool) → false ≡ not t → t ≡ true
+is-not true e = refl
+is-not false e = e
+
+single-kind : (y : Body) → constructed y ≡ true → isSingle (manner (inside y)) ≡ isChoice y
+unfolding constructed manner isSingle isChoice
+single-kind (Plain k) e = absurd (false≢true e)
+single-kind (Sequence ms) e = refl
+single-kind (Set ms) e = refl
+single-kind (SequenceOf t) e = refl
+single-kind (SetOf t) e = refl
+single-kind (Choice ts) e = refl
+
+-- the item of a simple kind
+module _ (T : Table) (f : ℕ → List ℕ → Answer Value) (i : List ℕ) (y : Body) (s : List ℕ) (k : Simple) (q : y ≡ Plain k) (z : Bool) (n : ℕ) (u : List ℕ)
+    (h : readHeader i s ≡ got (sizeOf z n) u) where
+  plain-open : z ≡ true → readKind T f i y s ≡ refused 23 (length s)
+  unfolding readKind readPrimitive then contents
+  plain-open t = let g = rw t at h in rw (q, g) refl
+
+  plain-sized : z ≡ false → readKind T f i y s ≡ then (decode k (length s) (take n u) (drop n u)) λ x w. got (leaf x) w
+  unfolding readKind readPrimitive then contents
+  plain-sized t = let g = rw t at h in rw (q, g) refl
+
+-- the item of a constructed kind
+module _ (i : List ℕ) (s : List ℕ) (z : Bool) (n : ℕ) (u : List ℕ) (h : readHeader i s ≡ got (sizeOf z n) u) (body : Mode → List ℕ → Answer Value) where
+  built-open : z ≡ true → readConstructed i body s ≡ body open-ended u
+  unfolding readConstructed then insideSize
+  built-open t = let g = rw t at h in rw g refl
+
+  built-sized : z ≡ false → readConstructed i body s ≡ then (behind (length u - n) (body closed (take n u))) λ v w. got v (drop n u)
+  unfolding readConstructed then insideSize
+  built-sized t = let g = rw t at h in rw g refl
+
+-- the item of a constructed kind is the items in it
+module _ (T : Table) (f : ℕ → List ℕ → Answer Value) (i s : List ℕ) where
+  abbrev Built : Body → Answer Value → Type 0
+  Built y x = (isChoice y ≡ false → x ≡ readConstructed i (readHeld T f (inside y)) s) × (isChoice y ≡ true → (k : Mode) → x ≡ readHeld T f (inside y) k s)
+
+  built : (g : _) (h : _) (y : Body) → constructed y ≡ true → (x : Answer Value) → Kind T f g h i s y x → Built y x
+  unfolding constructed isChoice
+  built g h (Plain k) c x q = absurd (false≢true c)
+  built g h (Sequence ms) c x q = ((λ _. q), λ e. absurd (false≢true e))
+  built g h (Set ms) c x q = ((λ _. q), λ e. absurd (false≢true e))
+  built g h (SequenceOf t) c x q = ((λ _. q), λ e. absurd (false≢true e))
+  built g h (SetOf t) c x q = ((λ _. q), λ e. absurd (false≢true e))
+  built g h (Choice ts) c x q = ((λ e. absurd (true≢false e)), λ _. q)
+
+-- of the record of an entry
+module _ {b index : List ℕ} (R : Ready b index) {w : ℕ} (I : IsRecord b index w) where
+  abbrev r : Record
+  r = recordIn b (unpacked w)
+
+  abbrev T : Table
+  T = tableIn b
+
+  its-body : bodyAt b (unpacked w .kind) (unpacked w .own) ≡ r .body
+  its-body = its-entry R I .body ∙ ap (λ (x : Record). x .body) (sym (its-record R I))
+
+  pub its-holder : held b w ≡ inside (r .body)
+  its-holder = held-body (its-entry R I) (R .filled .short) ∙ ap (λ (x : Record). inside (x .body)) (sym (its-record R I))
+
+  few-members : (y : Body) → tableIn b (I .0) .body ≡ y → length (members y) ≤ 16
+  unfolding members
+  few-members (Plain k) h = omega arith
+  few-members (Sequence ms) h = entered-members (its-entry R I) ms (inl h) .few
+  few-members (Set ms) h = entered-members (its-entry R I) ms (inr h) .few
+  few-members (SequenceOf t) h = omega arith
+  few-members (SetOf t) h = omega arith
+  few-members (Choice ts) h = omega arith
+
+  its-built : (n : ℕ) (s : List ℕ) → constructed (r .body) ≡ true → Built T (readValue T n) (own r) s (r .body) (readBare b n r s)
+  its-built n s c =
+      let g = good b T (countIn b) (R .passes) in
+      let h = value-shorter T n in
+      let l : length (members (r .body)) ≤ 16 = few-members (r .body) (ap (λ (x : Record). x .body) (sym (its-record R I))) in
+      built T (readValue T n) (own r) s g h (r .body) c (readBare b n r s) (kind-held T (readValue T n) g h (own r) s (r .body) l)
+
+  module _ (e : Entry) (ee : e ≡ unpacked w) where
+    pub its-choice : eqb (e .kind) 50 ≡ isChoice (r .body)
+    its-choice = ap (λ (x : Entry). eqb (x .kind) 50) ee ∙ kind-choice (its-entry R I) ∙ ap (λ (x : Record). isChoice (x .body)) (sym (its-record R I))
+
+    its-simple : e .simple ≡ not (constructed (r .body))
+    its-simple = ap (λ (x : Entry). x .simple) ee ∙ its-entry R I .simple ∙ ap (λ (x : Record). not (constructed (x .body))) (sym (its-record R I))
+
+    is-plain : e .simple ≡ true → (k : Simple) × (r .body ≡ Plain k)
+    is-plain y = plain-of (r .body) (not-is (constructed (r .body)) (sym y ∙ its-simple))
+
+    is-built : e .simple ≡ false → constructed (r .body) ≡ true
+    is-built y = is-not (constructed (r .body)) (sym y ∙ its-simple)
+
+    pub no-choice : (e .kind ≡ 50 → ⊥) → isChoice (r .body) ≡ false
+    no-choice n = sym its-choice ∙ ne-eqb (e .kind) 50 n
+
+    pub is-choice : e .kind ≡ 50 → isChoice (r .body) ≡ true
+    is-choice y = sym its-choice ∙ eq-eqb (e .kind) 50 y
+
+    -- the contents
+    module _ (m : List ℕ) (om : Octets m) (first : ℕ) (ns : List ℕ) (at from end : ℕ) (U : Under b r m first ns at from end) (start stop : ℕ) (marked : Bool)
+        (W : Within r (take end m) at end start stop marked) (n : ℕ) where
+      abbrev P : List ℕ
+      P = take end m
+
+      abbrev S : List ℕ
+      S = drop at P
+
+      abbrev pub C : List ℕ
+      C = take (stop - start) (drop start m)
+
+      size-P : length P ≡ end
+      size-P = length-take-le end m (U .high)
+
+      slice-c : drop start (take stop m) ≡ C
+      slice-c = sym (slice-is start stop m (W .ordered) (omega (arith, W .high, U .high)))
+
+      size-C : length C ≡ stop - start
+      size-C = length-take-le (stop - start) (drop start m) (omega (arith, length-drop start m, W .high, U .high))
+
+      part-c : take (stop - start) (drop start P) ≡ C
+      part-c =
+          slice-is start stop P (W .ordered) (omega (arith, size-P, W .high))
+          ∙ ap (drop start) (take-take stop end m (W .high)) ∙ slice-c
+
+      rest-c : drop (stop - start) (drop start P) ≡ drop stop P
+      rest-c =
+          let q : start + (stop - start) ≡ stop = omega (arith, W .ordered) in
+          drop-drop (stop - start) start P ∙ ap (λ (i : ℕ). drop i P) q
+
+      all-c : stop ≡ end → drop start P ≡ C
+      all-c z = ap (λ (i : ℕ). drop start (take i m)) (sym z) ∙ slice-c
+
+      abbrev Told : Judged
+      Told = told m size (readRecord T n r (drop first m))
+
+      -- simple ones
+      module _ (simple : e .simple ≡ true) where
+        not-choice : (k : Simple) → r .body ≡ Plain k → isChoice (r .body) ≡ false
+        unfolding isChoice
+        not-choice k q = rw q refl
+
+        pub value-marked : marked ≡ true → Refused Form (length m - at) ≡ Told
+        unfolding causeOf if
+        value-marked t =
+            let (k, q) = is-plain simple in
+            let y = plain-open T (readValue T n) (own r) (r .body) S k q marked (stop - start) (drop start P) (W .header (not-choice k q)) t in
+            item-unfit b r (its-fit R I) m om first ns at from end U n 23 (length S) y refl
+
+        module _ (sized : marked ≡ false) (i : ℕ) (ei : i ≡ leafWeight (bodyAt b (e .kind) (e .own)) C) where
+          its-weight : (k : Simple) → r .body ≡ Plain k → i ≡ weight (decode k 0 C [])
+          unfolding leafWeight
+          its-weight k q = ei ∙ ap (λ (x : Entry). leafWeight (bodyAt b (x .kind) (x .own)) C) ee ∙ ap (λ (y : Body). leafWeight y C) (its-body ∙ q)
+
+          leaf-read : (k : Simple) → r .body ≡ Plain k → readBare b n r S ≡ then (decode k (length S) C (drop stop P)) λ x s. got (leaf x) s
+          leaf-read k q =
+              let y = plain-sized T (readValue T n) (own r) (r .body) S k q marked (stop - start) (drop start P) (W .header (not-choice k q)) sized in
+              y ∙ rw (part-c, rest-c) refl
+
+          pub value-wrong : i ≡ 0 → Refused Contents (length m - at) ≡ Told
+          unfolding then causeOf if
+          value-wrong z =
+              let (k, q) = is-plain simple in
+              let y = weight-none k C (length S) (drop stop P) i (its-weight k q) z in
+              item-unfit b r (its-fit R I) m om first ns at from end U n 25 (length S) (leaf-read k q ∙ rw y refl) refl
+
+          pub over-leaf : (i ≡ 0 → ⊥) → i < 16386 → Over b r n P at end stop i
+          unfolding then octets
+          over-leaf z small =
+              let (k, q) = is-plain simple in
+              let (x, y, v) = weight-some k C (length S) (drop stop P) i (its-weight k q) z in
+              record {
+                within = W .high;
+                small = small;
+                value = leaf x;
+                is = leaf-read k q ∙ rw y refl;
+                sized = omega arith;
+              }
+
+      -- items
+      module _ (plain : e .simple ≡ false) where
+        abbrev pub Held : Answer Value
+        Held = readHeld T (readValue T n) (held b w) (mode marked) C
+
+        pub some-items : isSingle (manner (held b w)) ≡ true → 0 < length C
+        some-items q =
+            let z : isChoice (r .body) ≡ true = sym (single-kind (r .body) (is-built plain)) ∙ ap (λ (h : Holder). isSingle (manner h)) (sym its-holder) ∙ q in
+            let y = W .bare z in
+            omega (arith, size-C, y .0, y .1, U .some)
+
+        abbrev Held' : Mode → List ℕ → Answer Value
+        Held' k s = readHeld T (readValue T n) (inside (r .body)) k s
+
+        its-held : Held ≡ Held' (mode marked) C
+        its-held = ap (λ (h : Holder). readHeld T (readValue T n) h (mode marked) C) its-holder
+
+        sane : Sane (Closes T n (inside (r .body)) (mode marked)) C Held
+        sane = rw its-held (held-sane T n (inside (r .body)) (mode marked) C)
+
+        -- by the form of the item
+        abbrev Reads : Answer Value → Type 0
+        Reads (refused c l) = readBare b n r S ≡ refused c (l + (end - stop))
+        Reads (got v u) = readBare b n r S ≡ got v (drop (start + (length C - length u)) P)
+
+        -- a CHOICE and contents that 00 00 closes go on to the end of what is around them
+        reads-open : stop ≡ end → readBare b n r S ≡ Held → (x : Answer Value) → Held ≡ x → Sane (Closes T n (inside (r .body)) (mode marked)) C x → Reads x
+        reads-open z y (got v u) d (leaves t q) =
+            y ∙ d ∙ ap (got v) (tail-at C u t ∙ ap (drop (length C - length u)) (sym (all-c z)) ∙ drop-drop (length C - length u) start P)
+        reads-open z y (refused c l) d (stops h) = let v : l ≡ l + (end - stop) = omega arith in y ∙ d ∙ ap (refused c) v
+
+        reads-sized : isChoice (r .body) ≡ false → marked ≡ false → (x : Answer Value) → Held ≡ x → Sane (Closes T n (inside (r .body)) (mode marked)) C x → Reads x
+        unfolding then behind
+        reads-sized k z x d y =
+            let a : readBare b n r S ≡ then (behind (length (drop start P) - (stop - start)) (Held' closed (take (stop - start) (drop start P)))) λ v w. got v (drop (stop - start) (drop start P))
+            = its-built n S (is-built plain) .0 k ∙ built-sized (own r) S marked (stop - start) (drop start P) (W .header k) Held' z in
+            let g : length (drop start P) - (stop - start) ≡ end - stop = omega (arith, length-drop start P, size-P, W .ordered, W .high) in
+            let i : Held' closed C ≡ x = ap (λ (t : Bool). Held' (mode t) C) (sym z) ∙ sym its-held ∙ d in
+            go x y (a ∙ rw (part-c, rest-c, g, i) refl)
+          where
+            go : (x : Answer Value) → Sane (Closes T n (inside (r .body)) (mode marked)) C x → readBare b n r S ≡ then (behind (end - stop) x) (λ v w. got v (drop stop P)) → Reads x
+            go (got v u) (leaves t q) y =
+                let o = q (single-kind (r .body) (is-built plain) ∙ k) (ap mode z) in
+                let f : start + (length C - length u) ≡ stop = omega (arith, size-C, ap length o, W .ordered) in
+                rw f y
+            go (refused c l) (stops h) y = y
+
+        reads : (x : Answer Value) → Held ≡ x → Sane (Closes T n (inside (r .body)) (mode marked)) C x → Reads x
+        reads x d y =
+            test (isChoice (r .body))
+            (λ k.
+            let (a, z, f) = W .bare k in
+            let g : S ≡ C = ap (λ (i : ℕ). drop i P) (sym a) ∙ all-c z in
+            reads-open z (its-built n S (is-built plain) .1 k (mode marked) ∙ ap (Held' (mode marked)) g ∙ sym its-held) x d y)
+            λ k.
+            test marked
+            (λ t.
+            let z = W .unsized t in
+            let i : Held' open-ended (drop start P) ≡ Held = rw (all-c z) (ap (λ (t : Bool). Held' (mode t) C) (sym t) ∙ sym its-held) in
+            reads-open z (its-built n S (is-built plain) .0 k ∙ built-open (own r) S marked (stop - start) (drop start P) (W .header k) Held' t ∙ i) x d y)
+            λ t. reads-sized k t x d y
+
+        module _ (y : Judged) (ey : y ≡ told C size Held) where
+          module _ (c : Cause) (l : ℕ) (d : y ≡ Refused c l) where
+            few-left : (x : Answer Value) → Sane (Closes T n (inside (r .body)) (mode marked)) C x → (k : ℕ) → x ≡ refused k l → l ≤ length C
+            few-left (got v u) s k q = let z : _≡_ {A = ℕ} 0 1 = cc in absurd (omega arith)
+            few-left (refused a i) (stops h) k q = let z : i ≡ l = cc in omega arith
+
+            pub items-left : l ≤ stop - start
+            items-left = let (k, x, _) = told-refused C size Held y ey c l d in omega (arith, few-left Held sane k x, size-C)
+
+            pub value-unheld : Refused c (l + (length m - stop)) ≡ Told
+            value-unheld =
+                let (k, x, f) = told-refused C size Held y ey c l d in
+                let g = reads (refused k l) x (rw x at sane) in
+                let q : l + (length m - stop) ≡ l + (end - stop) + (length m - end) = omega (arith, W .high, U .high) in
+                rw (f, q) (under-refused b r (its-fit R I) m om first ns at from end U n k (l + (end - stop)) g)
+
+          module _ (u i : ℕ) (d : y ≡ Done u i) where
+            pub items-end : u ≤ stop - start
+            items-end = let (v, s, x, f, g) = told-done C size Held y ey u i d in omega (arith, size-C)
+
+            pub over-items : Over b r n P at end (start + u) i
+            over-items =
+                let (v, s, x, f, g) = told-done C size Held y ey u i d in
+                record {
+                  within = omega (arith, items-end, W .ordered, W .high);
+                  small = omega arith;
+                  value = v;
+                  is = reads (got v s) x (rw x at sane) ∙ ap (λ (j : ℕ). got v (drop (start + j) P)) (sym f);
+                  sized = g;
+                }
+
+-- behind the item
+module _ (b : List ℕ) (r : Record) (m : List ℕ) (first : ℕ) (ns : List ℕ) (at from end : ℕ) (U : Under b r m first ns at from end) (n stop count : ℕ)
+    (O : Over b r n (take end m) at end stop count) where
+  over-closed : told m size (readRecord (tableIn b) n r (drop first m)) ≡ told m (λ (i : ℕ). i) (closing m ns end (got count (drop stop (take end m))))
+  over-closed =
+      let q : cap (length (octets (O .value))) ≡ cap count = omega (arith, O .sized, O .small) in
+      ap (told m size) (U .whole n ∙ ap (closing m ns end) (O .is)) ∙ closing-size m ns end (O .value) count (drop stop (take end m)) size (λ (i : ℕ). i) q
+
+  pub value-closed : (y : Judged) → y ≡ told m (λ (i : ℕ). i) (closing m ns end (got count (drop stop (take end m)))) → y ≡ told m size (readRecord (tableIn b) n r (drop first m))
+  value-closed y e = e ∙ sym over-closed
+
+  pub value-over : ns ≡ [] → Done stop count ≡ told m size (readRecord (tableIn b) n r (drop first m))
+  unfolding told closing Around
+  value-over z =
+      let a : length m ≡ end = rw z at (U .around) in
+      let q : length m - length (drop stop (take end m)) ≡ stop = omega (arith, length-drop stop (take end m), length-take-le end m (U .high), O .within) in
+      let g : cap count ≡ count = omega (arith, O .small) in
+      sym (over-closed ∙ rw (z, q, g) refl)
