@@ -543,6 +543,13 @@ module _ {b index : List ℕ} (R : Ready b index) {w : ℕ} (I : IsRecord b inde
     pub is-choice : e .kind ≡ 50 → isChoice (r .body) ≡ true
     is-choice y = sym its-choice ∙ eq-eqb (e .kind) 50 y
 
+    pub under-bare : (m : List ℕ) → Octets m → (first from : ℕ) → e .explicit ≤ 0 → Headed m first from (unpacked w .code) → (notes : List ℕ)
+        → Under b r m first (take (unpacked w .explicit) notes) first from (length m)
+    under-bare m om first from l h notes =
+        let z : unpacked w .explicit ≡ 0 = omega (arith, ap (λ (x : Entry). x .explicit) ee) in
+        let y : take (unpacked w .explicit) notes ≡ [] = ap (λ (i : ℕ). take i notes) z in
+        rw y (under-none b r (its-fit R I) m om first from (sym (its-count R I) ∙ z) (rw (its-first R I) at h))
+
     -- the contents
     module _ (m : List ℕ) (om : Octets m) (first : ℕ) (ns : List ℕ) (at from end : ℕ) (U : Under b r m first ns at from end) (start stop : ℕ) (marked : Bool)
         (W : Within r (take end m) at end start stop marked) (n : ℕ) where

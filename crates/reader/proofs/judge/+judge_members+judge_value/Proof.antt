@@ -4,12 +4,13 @@ use borrow.Author.Needs.{needs}
 use denote.Ref.{now}
 use lib.ListN.{length, getD, take, drop}
 use mathlib.Core.Logic.{⊎-elim}
-use mathlib.Core.Path.{refl, sym, ap, _∙_}
+use mathlib.Core.Path.{_≡_, refl, sym, ap, _∙_}
 use native.Mathlib.Omega.{arith}
 use Prim.Native.Nat.{ℕ, _+_, _*_, _-_, _≤_, _<_}
+use Rattle.octets.specs.Numbers.{Octets}
 use Rattle.table.specs.Entries.{unpacked}
 use Rattle.reader.specs.Records.{recordIn}
-use Rattle.reader.proofs.JudgedValue.{Under, Within, Over, under-none, under-tags, within-choice, within-length, over-leaf, over-items}
+use Rattle.reader.proofs.JudgedValue.{Under, Within, Over, under-bare, under-tags, within-choice, within-length, over-leaf, over-items}
 use Rattle.reader.proofs.JudgedValue.{value-unopened, value-unread, value-marked, value-wrong, value-unheld, items-left, items-end, some-items}
 use Rattle.reader.proofs.JudgedValue.{value-closed, value-over, its-choice, no-choice, is-choice, its-holder}
 use Rattle.reader.proofs.Opening.{its-count, its-first, its-few}
@@ -101,7 +102,55 @@ judge-value-claims t = (
 abbrev at-under : (t : ℕ) (c : judge-value-lts.Joined1 (judge-value-claims t) (judge-value-at t) judge-value.Post) →
     let a = c .before .before .before .before .before .args in Under (now (a .table)) (recordIn (now (a .table)) (unpacked (a .w))) (now (a .m)) (a .at)
     (take (unpacked (a .w) .explicit) (c .if1 .notes)) (c .if1 .at) (c .if1 .from) (c .if1 .end)
-at-under t c = ?
+at-under t c =
+    let a = c .before .before .before .before .before .args in
+    let q = c .before .before .before .before .before .pre .1 in
+    let o : Octets (now (a .m)) = λ i. omega (arith, c .before .before .before .shared-slice-known2 .given i) in
+    let F = its-fit (q .0) (q .1) in
+    ⊎-elim
+    (λ z. rw (z .6, z .7, z .8, z .9) (under-tags (now (a .table)) (recordIn (now (a .table)) (unpacked (a .w))) F (now (a .m)) o (a .at) _ (z .2 .result) (z .2 .ensures .1) (z .4 .given .0 .0) (z .4 .given .1)))
+    (λ z. rw (z .1, z .2, z .3, z .4) (under-bare (q .0) (q .1) (c .before .before .unpack .result) (c .before .before .unpack .ensures) (now (a .m)) o (a .at) (a .from) (z .0 .left) (q .2) _))
+    (c .if1 .came)
+
+abbrev at-notes : (t : ℕ) (c : judge-value-lts.Joined1 (judge-value-claims t) (judge-value-at t) judge-value.Post) → length (c .if1 .notes) ≡ 4
+at-notes t c = ⊎-elim (λ z. rw (z .6) (z .2 .ensures .0)) (λ z. rw (z .1) refl) (c .if1 .came)
+
+-- where the length is read
+abbrev at-within : (t : ℕ) (c : judge-value-lts.Joined2 (judge-value-claims t) (judge-value-at t) judge-value.Post) →
+    let a = c .before .before .before .before .before .before .before .before .before .args in Within (recordIn (now (a .table)) (unpacked (a .w))) (take (c .before .before .before .before .if1 .end) (now (a .m))) (c .before .before .before .before .if1 .at) (c .before .before .before .before .if1 .end)
+    (c .if2 .start) (c .if2 .stop) (c .if2 .marked)
+at-within t c =
+    let a = c .before .before .before .before .before .before .before .before .before .args in
+    let q = c .before .before .before .before .before .before .before .before .before .pre .1 in
+    let o : Octets (now (a .m)) = λ i. omega (arith, c .before .before .before .before .before .before .before .shared-slice-known2 .given i) in
+    let F = its-fit (q .0) (q .1) in
+    let U = at-under t (c .before .before .before .before) in
+    ⊎-elim
+    (λ z. rw (z .5, z .6, z .7) (within-length (now (a .table)) (recordIn (now (a .table)) (unpacked (a .w))) F (now (a .m)) o (a .at) _ (c .before .before .before .before .if1 .at) (c .before .before .before .before .if1 .from) (c .before .before .before .before .if1 .end) U
+    (no-choice (q .0) (q .1) (c .before .before .before .before .before .before .unpack .result) (c .before .before .before .before .before .before .unpack .ensures) (z .0 .taken)) (z .1 .result) (z .1 .ensures) (z .3 .given .0 .0) (z .3 .given .1)))
+    (λ z. rw (z .1, z .2, z .3) (within-choice (now (a .table)) (recordIn (now (a .table)) (unpacked (a .w))) F (now (a .m)) o (a .at) _ (c .before .before .before .before .if1 .at) (c .before .before .before .before .if1 .from) (c .before .before .before .before .if1 .end) U
+    (is-choice (q .0) (q .1) (c .before .before .before .before .before .before .unpack .result) (c .before .before .before .before .before .before .unpack .ensures) (z .0 .left))))
+    (c .if2 .came)
+
+-- where the contents are judged
+abbrev at-over : (t : ℕ) (c : judge-value-lts.Joined3 (judge-value-claims t) (judge-value-at t) judge-value.Post) →
+    let a = c .before .before .before .before .before .before .before .before .before .before .args in Over (now (a .table)) (recordIn (now (a .table)) (unpacked (a .w))) (a .level) (take (c .before .before .before .before .before .if1 .end) (now (a .m))) (c .before .before .before .before .before .if1 .at) (c .before .before .before .before .before .if1 .end)
+    (c .if3 .stop) (c .if3 .size)
+at-over t c =
+    let a = c .before .before .before .before .before .before .before .before .before .before .args in
+    let q = c .before .before .before .before .before .before .before .before .before .before .pre .1 in
+    let o : Octets (now (a .m)) = λ i. omega (arith, c .before .before .before .before .before .before .before .before .shared-slice-known2 .given i) in
+    let U = at-under t (c .before .before .before .before .before) in
+    let W = at-within t (c .before) in
+    ⊎-elim
+    (λ z. rw (z .8, z .9) (over-leaf (q .0) (q .1) (c .before .before .before .before .before .before .before .unpack .result) (c .before .before .before .before .before .before .before .unpack .ensures) (now (a .m)) o (a .at) _ (c .before .before .before .before .before .if1 .at) (c .before .before .before .before .before .if1 .from) (c .before .before .before .before .before .if1 .end) U
+    (c .before .if2 .start) (c .before .if2 .stop) (c .before .if2 .marked) W (a .level) (z .0 .taken) (z .1 .left) (z .5 .result) (z .5 .ensures .0) (z .6 .left) (z .5 .ensures .1)))
+    (λ z. rw (z .10, z .11) (over-items (q .0) (q .1) (c .before .before .before .before .before .before .before .unpack .result) (c .before .before .before .before .before .before .before .unpack .ensures) (now (a .m)) o (a .at) _ (c .before .before .before .before .before .if1 .at) (c .before .before .before .before .before .if1 .from) (c .before .before .before .before .before .if1 .end) U
+    (c .before .if2 .start) (c .before .if2 .stop) (c .before .if2 .marked) W (a .level) (z .0 .left) (z .5 .result) (z .5 .ensures .1) (z .7 .given .0 .0) (z .7 .given .0 .1 .0) (z .7 .given .1)))
+    (c .if3 .came)
+
+abbrev at-way : (t : ℕ) (c : judge-value-lts.Joined3 (judge-value-claims t) (judge-value-at t) judge-value.Post) → length (c .if3 .way) ≡ 128
+at-way t c = ⊎-elim (λ z. rw (z .7) (c .before .before .before .before .before .before .before .before .before .before .pre .1 .5)) (λ z. rw (z .9) (z .5 .ensures .0)) (c .if3 .came)
 
 pub +judge-members+judge-value-spec : {M : Type 1} → statement M
 +judge-members+judge-value-spec = close μ-judge-members μ-judge-value (λ t. judge-members-lts.spec (
