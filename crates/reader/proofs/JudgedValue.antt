@@ -550,6 +550,15 @@ module _ {b index : List ℕ} (R : Ready b index) {w : ℕ} (I : IsRecord b inde
         let y : take (unpacked w .explicit) notes ≡ [] = ap (λ (i : ℕ). take i notes) z in
         rw y (under-none b r (its-fit R I) m om first from (sym (its-count R I) ∙ z) (rw (its-first R I) at h))
 
+    pub its-notes : (notes : List ℕ) → take (e .explicit) notes ≡ take (unpacked w .explicit) notes
+    its-notes notes = ap (λ (x : Entry). take (x .explicit) notes) ee
+
+    pub no-notes : e .explicit ≤ 0 → (notes : List ℕ) → take (unpacked w .explicit) notes ≡ []
+    no-notes l notes = let z : e .explicit ≡ 0 = omega arith in sym (its-notes notes) ∙ ap (λ (i : ℕ). take i notes) z
+
+    pub few-tags : e .explicit ≤ 4
+    few-tags = omega (arith, ap (λ (x : Entry). x .explicit) ee, its-count R I, its-few R I)
+
     -- the contents
     module _ (m : List ℕ) (om : Octets m) (first : ℕ) (ns : List ℕ) (at from end : ℕ) (U : Under b r m first ns at from end) (start stop : ℕ) (marked : Bool)
         (W : Within r (take end m) at end start stop marked) (n : ℕ) where
@@ -570,6 +579,9 @@ module _ {b index : List ℕ} (R : Ready b index) {w : ℕ} (I : IsRecord b inde
 
       size-C : length C ≡ stop - start
       size-C = length-take-le (stop - start) (drop start m) (omega (arith, length-drop start m, W .high, U .high))
+
+      pub short-contents : (k : ℕ) → length m ≤ k → length C ≤ k
+      short-contents k h = omega (arith, size-C, W .high, U .high)
 
       part-c : take (stop - start) (drop start P) ≡ C
       part-c =
@@ -731,8 +743,9 @@ module _ (b : List ℕ) (r : Record) (m : List ℕ) (first : ℕ) (ns : List ℕ
       let q : cap (length (octets (O .value))) ≡ cap count = omega (arith, O .sized, O .small) in
       ap (told m size) (U .whole n ∙ ap (closing m ns end) (O .is)) ∙ closing-size m ns end (O .value) count (drop stop (take end m)) size (λ (i : ℕ). i) q
 
-  pub value-closed : (y : Judged) → y ≡ told m (λ (i : ℕ). i) (closing m ns end (got count (drop stop (take end m)))) → y ≡ told m size (readRecord (tableIn b) n r (drop first m))
-  value-closed y e = e ∙ sym over-closed
+  pub value-closed : (ks : List ℕ) → ks ≡ ns → (y : Judged) → y ≡ told m (λ (i : ℕ). i) (closing m ks end (got count (drop stop (take end m))))
+      → y ≡ told m size (readRecord (tableIn b) n r (drop first m))
+  value-closed ks q y e = e ∙ ap (λ (l : List ℕ). told m (λ (i : ℕ). i) (closing m l end (got count (drop stop (take end m))))) q ∙ sym over-closed
 
   pub value-over : ns ≡ [] → Done stop count ≡ told m size (readRecord (tableIn b) n r (drop first m))
   unfolding told closing Around

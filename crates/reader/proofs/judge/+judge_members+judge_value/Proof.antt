@@ -3,15 +3,17 @@
 use borrow.Author.Needs.{needs}
 use denote.Ref.{now}
 use lib.ListN.{length, getD, take, drop}
+use lib.Seq.{length-take-le}
 use mathlib.Core.Logic.{⊎-elim}
 use mathlib.Core.Path.{_≡_, refl, sym, ap, _∙_}
 use native.Mathlib.Omega.{arith}
 use Prim.Native.Nat.{ℕ, _+_, _*_, _-_, _≤_, _<_}
 use Rattle.octets.specs.Numbers.{Octets}
-use Rattle.table.specs.Entries.{unpacked}
-use Rattle.reader.specs.Records.{recordIn}
-use Rattle.reader.proofs.JudgedValue.{Under, Within, Over, under-bare, under-tags, within-choice, within-length, over-leaf, over-items}
-use Rattle.reader.proofs.JudgedValue.{value-unopened, value-unread, value-marked, value-wrong, value-unheld, items-left, items-end, some-items}
+use Rattle.table.specs.Entries.{unpacked, tableIn}
+use Rattle.table.specs.declared.entry.Entry.{Entry}
+use Rattle.reader.specs.Records.{recordIn, of-record}
+use Rattle.reader.proofs.JudgedValue.{Under, Within, Over, under-bare, its-notes, no-notes, few-tags, under-tags, within-choice, within-length, over-leaf, over-items}
+use Rattle.reader.proofs.JudgedValue.{value-unopened, value-unread, value-marked, value-wrong, value-unheld, items-left, items-end, some-items, short-contents}
 use Rattle.reader.proofs.JudgedValue.{value-closed, value-over, its-choice, no-choice, is-choice, its-holder}
 use Rattle.reader.proofs.Opening.{its-count, its-first, its-few}
 use Rattle.reader.proofs.Tagging.{its-entry, its-fit}
@@ -243,41 +245,41 @@ pub +judge-members+judge-value-spec : {M : Type 1} → statement M
     λ t. judge-value-lts.spec (judge-value-claims t)
     (judge-value-at t)
     judge-value.Post
-    (λ c κs. ?) -- judge-value-unpack-requires
-    (λ c κs. ?) -- judge-value-open-requires
-    (λ c. ?) -- judge-value-enum-known-cause
-    (λ c κs. ?) -- judge-value-refused-requires
-    (λ c. ?) -- judge-value-returns
-    (λ c. ?) -- judge-value-enum-known-x
-    (λ c. ?) -- judge-value-sub-left
-    (λ c. ?) -- judge-value-slice-aggregate-around
-    (λ c κs. ?) -- judge-value-read-requires
-    (λ c. ?) -- judge-value-enum-known-fault
-    (λ c κs. ?) -- judge-value-cause-of-requires
-    (λ c κs. ?) -- judge-value-refused-requires-2
-    (λ c. ?) -- judge-value-returns-2
-    (λ c. ?) -- judge-value-enum-known-x-2
-    (λ c κs. ?) -- judge-value-refused-requires-3
-    (λ c. ?) -- judge-value-returns-3
-    (λ c. ?) -- judge-value-sub-c
-    (λ c. ?) -- judge-value-part-c-start
-    (λ c. ?) -- judge-value-part-c-end
-    (λ c κs. ?) -- judge-value-contents-size-requires
-    (λ c κs. ?) -- judge-value-refused-requires-4
-    (λ c. ?) -- judge-value-returns-4
-    (λ c. ?) -- judge-value-sub-c-2
-    (λ c. ?) -- judge-value-part-c-start-2
-    (λ c. ?) -- judge-value-part-c-end-2
-    (λ c κs. ?) -- judge-value-judge-members-requires
-    (λ c. ?) -- judge-value-enum-known-cause-2
-    (λ c. ?) -- judge-value-sub-refused
-    (λ c. ?) -- judge-value-add-refused
-    (λ c κs. ?) -- judge-value-refused-requires-5
-    (λ c. ?) -- judge-value-returns-5
-    (λ c. ?) -- judge-value-enum-known-x-3
-    (λ c. ?) -- judge-value-add-stop
-    (λ c. ?) -- judge-value-cast-close
-    (λ c κs. ?) -- judge-value-close-requires
-    (λ c. ?) -- judge-value-returns-6
-    (λ c κs. ?) -- judge-value-done-requires
-    (λ c. ?) -- judge-value-returns-7
+    (λ c κs. tt) -- judge-value-unpack-requires
+    (λ c κs. (now (c .before .before .before .before .before .before .args .index), c .before .before .before .before .before .before .pre .1 .0, c .before .before .before .before .before .before .pre .1 .1, rw (c .before .before .before .unpack .ensures) at (c .before .if1 .taken), c .before .before .before .before .before .before .pre .1 .2, c .before .before .before .before .before .before .pre .1 .3, refl)) -- judge-value-open-requires
+    (λ c. search needs) -- judge-value-enum-known-cause
+    (λ c κs. tt) -- judge-value-refused-requires
+    (λ c. (c .before .before .before .before .before .before .before .before .before .before .before .pre .1 .5, c .refused .ensures ∙ value-unopened (now (c .before .before .before .before .before .before .before .before .before .before .before .args .table)) (recordIn (now (c .before .before .before .before .before .before .before .before .before .before .before .args .table)) (unpacked (c .before .before .before .before .before .before .before .before .before .before .before .args .w))) (its-fit (c .before .before .before .before .before .before .before .before .before .before .before .pre .1 .0) (c .before .before .before .before .before .before .before .before .before .before .before .pre .1 .1)) (now (c .before .before .before .before .before .before .before .before .before .before .before .args .m)) (λ i. omega (arith, c .before .before .before .before .before .before .before .before .before .shared-slice-known2 .given i)) (c .before .before .before .before .before .before .before .before .before .before .before .args .at) _ (c .before .before .before .before .«open» .result) (c .before .before .before .before .«open» .ensures .1) (c .before .before .cause .given .0 .0) (c .before .before .cause .given .0 .1 .0) (c .before .before .cause .given .1) (c .before .before .before .before .before .before .before .before .before .before .before .args .level))) -- judge-value-returns
+    (λ c. search needs) -- judge-value-enum-known-x
+    (λ c. omega (arith, at-under t (c .before) .some, at-under t (c .before) .high)) -- judge-value-sub-left
+    (λ c. sym (length-take-le (c .before .before .if1 .end) (now (c .before .before .before .before .before .before .before .args .m)) (at-under t (c .before .before) .high))) -- judge-value-slice-aggregate-around
+    (λ c κs. tt) -- judge-value-read-requires
+    (λ c. search needs) -- judge-value-enum-known-fault
+    (λ c κs. tt) -- judge-value-cause-of-requires
+    (λ c κs. tt) -- judge-value-refused-requires-2
+    (λ c. (c .before .before .before .before .before .before .before .before .before .before .before .before .before .before .before .pre .1 .5, c .refused2 .ensures ∙ value-unread (now (c .before .before .before .before .before .before .before .before .before .before .before .before .before .before .before .args .table)) (recordIn (now (c .before .before .before .before .before .before .before .before .before .before .before .before .before .before .before .args .table)) (unpacked (c .before .before .before .before .before .before .before .before .before .before .before .before .before .before .before .args .w))) (its-fit (c .before .before .before .before .before .before .before .before .before .before .before .before .before .before .before .pre .1 .0) (c .before .before .before .before .before .before .before .before .before .before .before .before .before .before .before .pre .1 .1)) (now (c .before .before .before .before .before .before .before .before .before .before .before .before .before .before .before .args .m)) (λ i. omega (arith, c .before .before .before .before .before .before .before .before .before .before .before .before .before .shared-slice-known2 .given i)) (c .before .before .before .before .before .before .before .before .before .before .before .before .before .before .before .args .at) _ (c .before .before .before .before .before .before .before .before .before .before .if1 .at) (c .before .before .before .before .before .before .before .before .before .before .if1 .from) (c .before .before .before .before .before .before .before .before .before .before .if1 .end) (at-under t (c .before .before .before .before .before .before .before .before .before .before)) (no-choice (c .before .before .before .before .before .before .before .before .before .before .before .before .before .before .before .pre .1 .0) (c .before .before .before .before .before .before .before .before .before .before .before .before .before .before .before .pre .1 .1) (c .before .before .before .before .before .before .before .before .before .before .before .before .unpack .result) (c .before .before .before .before .before .before .before .before .before .before .before .before .unpack .ensures) (c .before .before .before .before .before .before .if2 .taken)) (c .before .before .before .before .before .read .result) (c .before .before .before .before .before .read .ensures) (c .before .before .before .fault .given .0 .0) (c .before .before .before .fault .given .1) (c .before .cause-of .result) (c .before .cause-of .ensures) (c .before .before .before .before .before .before .before .before .before .before .before .before .before .before .before .args .level))) -- judge-value-returns-2
+    (λ c. search needs) -- judge-value-enum-known-x-2
+    (λ c κs. tt) -- judge-value-refused-requires-3
+    (λ c. (c .before .before .before .before .before .before .before .before .before .before .before .before .pre .1 .5, c .refused3 .ensures ∙ value-marked (c .before .before .before .before .before .before .before .before .before .before .before .before .pre .1 .0) (c .before .before .before .before .before .before .before .before .before .before .before .before .pre .1 .1) (c .before .before .before .before .before .before .before .before .before .unpack .result) (c .before .before .before .before .before .before .before .before .before .unpack .ensures) (now (c .before .before .before .before .before .before .before .before .before .before .before .before .args .m)) (λ i. omega (arith, c .before .before .before .before .before .before .before .before .before .before .shared-slice-known2 .given i)) (c .before .before .before .before .before .before .before .before .before .before .before .before .args .at) _ (c .before .before .before .before .before .before .before .if1 .at) (c .before .before .before .before .before .before .before .if1 .from) (c .before .before .before .before .before .before .before .if1 .end) (at-under t (c .before .before .before .before .before .before .before)) (c .before .before .before .if2 .start) (c .before .before .before .if2 .stop) (c .before .before .before .if2 .marked) (at-within t (c .before .before .before)) (c .before .before .before .before .before .before .before .before .before .before .before .before .args .level) (c .before .before .if3 .taken) (c .before .if4 .taken))) -- judge-value-returns-3
+    (λ c. omega (arith, at-within t (c .before .before .before .before) .ordered)) -- judge-value-sub-c
+    (λ c. omega (arith, at-within t (c .before .before .before .before) .ordered, at-within t (c .before .before .before .before) .high, at-under t (c .before .before .before .before .before .before .before .before) .high)) -- judge-value-part-c-start
+    (λ c. omega (arith, at-within t (c .before .before .before .before) .ordered, at-within t (c .before .before .before .before) .high, at-under t (c .before .before .before .before .before .before .before .before) .high)) -- judge-value-part-c-end
+    (λ c κs. (tableIn (now (c .before .before .before .before .before .before .before .before .before .before .before .before .before .before .args .table)) (c .before .before .before .before .before .before .before .before .before .before .before .before .before .before .pre .1 .1 .0), rw (c .before .before .before .before .before .before .before .before .before .before .before .unpack .ensures) (its-entry (c .before .before .before .before .before .before .before .before .before .before .before .before .before .before .pre .1 .0) (c .before .before .before .before .before .before .before .before .before .before .before .before .before .before .pre .1 .1)), short-contents (c .before .before .before .before .before .before .before .before .before .before .before .before .before .before .pre .1 .0) (c .before .before .before .before .before .before .before .before .before .before .before .before .before .before .pre .1 .1) (c .before .before .before .before .before .before .before .before .before .before .before .unpack .result) (c .before .before .before .before .before .before .before .before .before .before .before .unpack .ensures) (now (c .before .before .before .before .before .before .before .before .before .before .before .before .before .before .args .m)) (λ i. omega (arith, c .before .before .before .before .before .before .before .before .before .before .before .before .shared-slice-known2 .given i)) (c .before .before .before .before .before .before .before .before .before .before .before .before .before .before .args .at) _ (c .before .before .before .before .before .before .before .before .before .if1 .at) (c .before .before .before .before .before .before .before .before .before .if1 .from) (c .before .before .before .before .before .before .before .before .before .if1 .end) (at-under t (c .before .before .before .before .before .before .before .before .before)) (c .before .before .before .before .before .if2 .start) (c .before .before .before .before .before .if2 .stop) (c .before .before .before .before .before .if2 .marked) (at-within t (c .before .before .before .before .before)) (c .before .before .before .before .before .before .before .before .before .before .before .before .before .before .args .level) 8192 (c .before .before .before .before .before .before .before .before .before .before .before .before .before .before .pre .1 .3))) -- judge-value-contents-size-requires
+    (λ c κs. tt) -- judge-value-refused-requires-4
+    (λ c. (c .before .before .before .before .before .before .before .before .before .before .before .before .before .before .before .before .before .pre .1 .5, c .refused4 .ensures ∙ value-wrong (c .before .before .before .before .before .before .before .before .before .before .before .before .before .before .before .before .before .pre .1 .0) (c .before .before .before .before .before .before .before .before .before .before .before .before .before .before .before .before .before .pre .1 .1) (c .before .before .before .before .before .before .before .before .before .before .before .before .before .before .unpack .result) (c .before .before .before .before .before .before .before .before .before .before .before .before .before .before .unpack .ensures) (now (c .before .before .before .before .before .before .before .before .before .before .before .before .before .before .before .before .before .args .m)) (λ i. omega (arith, c .before .before .before .before .before .before .before .before .before .before .before .before .before .before .before .shared-slice-known2 .given i)) (c .before .before .before .before .before .before .before .before .before .before .before .before .before .before .before .before .before .args .at) _ (c .before .before .before .before .before .before .before .before .before .before .before .before .if1 .at) (c .before .before .before .before .before .before .before .before .before .before .before .before .if1 .from) (c .before .before .before .before .before .before .before .before .before .before .before .before .if1 .end) (at-under t (c .before .before .before .before .before .before .before .before .before .before .before .before)) (c .before .before .before .before .before .before .before .before .if2 .start) (c .before .before .before .before .before .before .before .before .if2 .stop) (c .before .before .before .before .before .before .before .before .if2 .marked) (at-within t (c .before .before .before .before .before .before .before .before)) (c .before .before .before .before .before .before .before .before .before .before .before .before .before .before .before .before .before .args .level) (c .before .before .before .before .before .before .before .if3 .taken) (c .before .before .before .before .before .before .if4 .left) (c .before .before .contents-size .result) (c .before .before .contents-size .ensures .0) (c .before .if5 .taken))) -- judge-value-returns-4
+    (λ c. omega (arith, at-within t (c .before .before .before) .ordered)) -- judge-value-sub-c-2
+    (λ c. omega (arith, at-within t (c .before .before .before) .ordered, at-within t (c .before .before .before) .high, at-under t (c .before .before .before .before .before .before .before) .high)) -- judge-value-part-c-start-2
+    (λ c. omega (arith, at-within t (c .before .before .before) .ordered, at-within t (c .before .before .before) .high, at-under t (c .before .before .before .before .before .before .before) .high)) -- judge-value-part-c-end-2
+    (λ c κs. (omega (arith, c .before .before .before .before .before .before .before .before .before .before .before .before .before .before .pre .0), (c .before .before .before .before .before .before .before .before .before .before .before .before .before .before .pre .1 .0, of-record (c .before .before .before .before .before .before .before .before .before .before .before .before .before .before .pre .1 .1 .0) (c .before .before .before .before .before .before .before .before .before .before .before .before .before .before .pre .1 .1 .1) (c .before .before .before .before .before .before .before .before .before .before .before .before .before .before .pre .1 .1 .2), sym (ap (λ (x : Entry). x .simple) (c .before .before .before .before .before .before .before .before .before .before .before .unpack .ensures)) ∙ c .before .before .before .before .if3 .left, some-items (c .before .before .before .before .before .before .before .before .before .before .before .before .before .before .pre .1 .0) (c .before .before .before .before .before .before .before .before .before .before .before .before .before .before .pre .1 .1) (c .before .before .before .before .before .before .before .before .before .before .before .unpack .result) (c .before .before .before .before .before .before .before .before .before .before .before .unpack .ensures) (now (c .before .before .before .before .before .before .before .before .before .before .before .before .before .before .args .m)) (λ i. omega (arith, c .before .before .before .before .before .before .before .before .before .before .before .before .shared-slice-known2 .given i)) (c .before .before .before .before .before .before .before .before .before .before .before .before .before .before .args .at) _ (c .before .before .before .before .before .before .before .before .before .if1 .at) (c .before .before .before .before .before .before .before .before .before .if1 .from) (c .before .before .before .before .before .before .before .before .before .if1 .end) (at-under t (c .before .before .before .before .before .before .before .before .before)) (c .before .before .before .before .before .if2 .start) (c .before .before .before .before .before .if2 .stop) (c .before .before .before .before .before .if2 .marked) (at-within t (c .before .before .before .before .before)) (c .before .before .before .before .before .before .before .before .before .before .before .before .before .before .args .level) (c .before .before .before .before .if3 .left), short-contents (c .before .before .before .before .before .before .before .before .before .before .before .before .before .before .pre .1 .0) (c .before .before .before .before .before .before .before .before .before .before .before .before .before .before .pre .1 .1) (c .before .before .before .before .before .before .before .before .before .before .before .unpack .result) (c .before .before .before .before .before .before .before .before .before .before .before .unpack .ensures) (now (c .before .before .before .before .before .before .before .before .before .before .before .before .before .before .args .m)) (λ i. omega (arith, c .before .before .before .before .before .before .before .before .before .before .before .before .shared-slice-known2 .given i)) (c .before .before .before .before .before .before .before .before .before .before .before .before .before .before .args .at) _ (c .before .before .before .before .before .before .before .before .before .if1 .at) (c .before .before .before .before .before .before .before .before .before .if1 .from) (c .before .before .before .before .before .before .before .before .before .if1 .end) (at-under t (c .before .before .before .before .before .before .before .before .before)) (c .before .before .before .before .before .if2 .start) (c .before .before .before .before .before .if2 .stop) (c .before .before .before .before .before .if2 .marked) (at-within t (c .before .before .before .before .before)) (c .before .before .before .before .before .before .before .before .before .before .before .before .before .before .args .level) 8192 (c .before .before .before .before .before .before .before .before .before .before .before .before .before .before .pre .1 .3), omega (arith, c .before .before .before .before .before .before .before .before .before .before .before .before .before .before .pre .1 .4), c .before .before .before .before .before .before .before .before .before .before .before .before .before .before .pre .1 .5))) -- judge-value-judge-members-requires
+    (λ c. search needs) -- judge-value-enum-known-cause-2
+    (λ c. omega (arith, at-within t (c .before .before .before .before .before .before .before .before .before) .high, at-under t (c .before .before .before .before .before .before .before .before .before .before .before .before .before) .high)) -- judge-value-sub-refused
+    (λ c. omega (arith, items-left (c .before .before .before .before .before .before .before .before .before .before .before .before .before .before .before .before .before .before .pre .1 .0) (c .before .before .before .before .before .before .before .before .before .before .before .before .before .before .before .before .before .before .pre .1 .1) (c .before .before .before .before .before .before .before .before .before .before .before .before .before .before .before .unpack .result) (c .before .before .before .before .before .before .before .before .before .before .before .before .before .before .before .unpack .ensures) (now (c .before .before .before .before .before .before .before .before .before .before .before .before .before .before .before .before .before .before .args .m)) (λ i. omega (arith, c .before .before .before .before .before .before .before .before .before .before .before .before .before .before .before .before .shared-slice-known2 .given i)) (c .before .before .before .before .before .before .before .before .before .before .before .before .before .before .before .before .before .before .args .at) _ (c .before .before .before .before .before .before .before .before .before .before .before .before .before .if1 .at) (c .before .before .before .before .before .before .before .before .before .before .before .before .before .if1 .from) (c .before .before .before .before .before .before .before .before .before .before .before .before .before .if1 .end) (at-under t (c .before .before .before .before .before .before .before .before .before .before .before .before .before)) (c .before .before .before .before .before .before .before .before .before .if2 .start) (c .before .before .before .before .before .before .before .before .before .if2 .stop) (c .before .before .before .before .before .before .before .before .before .if2 .marked) (at-within t (c .before .before .before .before .before .before .before .before .before)) (c .before .before .before .before .before .before .before .before .before .before .before .before .before .before .before .before .before .before .args .level) (c .before .before .before .before .before .before .before .before .if3 .left) (c .before .before .before .judge-members .result) (c .before .before .before .judge-members .ensures .1) (c .before .cause2 .given .0 .0) (c .before .cause2 .given .0 .1 .0) (c .before .cause2 .given .1), at-within t (c .before .before .before .before .before .before .before .before .before) .high, at-under t (c .before .before .before .before .before .before .before .before .before .before .before .before .before) .high, c .before .before .before .before .before .before .before .before .before .before .before .before .before .before .before .before .before .before .pre .1 .3)) -- judge-value-add-refused
+    (λ c κs. tt) -- judge-value-refused-requires-5
+    (λ c. (c .before .before .before .before .judge-members .ensures .0, c .refused5 .ensures ∙ value-unheld (c .before .before .before .before .before .before .before .before .before .before .before .before .before .before .before .before .before .before .before .pre .1 .0) (c .before .before .before .before .before .before .before .before .before .before .before .before .before .before .before .before .before .before .before .pre .1 .1) (c .before .before .before .before .before .before .before .before .before .before .before .before .before .before .before .before .unpack .result) (c .before .before .before .before .before .before .before .before .before .before .before .before .before .before .before .before .unpack .ensures) (now (c .before .before .before .before .before .before .before .before .before .before .before .before .before .before .before .before .before .before .before .args .m)) (λ i. omega (arith, c .before .before .before .before .before .before .before .before .before .before .before .before .before .before .before .before .before .shared-slice-known2 .given i)) (c .before .before .before .before .before .before .before .before .before .before .before .before .before .before .before .before .before .before .before .args .at) _ (c .before .before .before .before .before .before .before .before .before .before .before .before .before .before .if1 .at) (c .before .before .before .before .before .before .before .before .before .before .before .before .before .before .if1 .from) (c .before .before .before .before .before .before .before .before .before .before .before .before .before .before .if1 .end) (at-under t (c .before .before .before .before .before .before .before .before .before .before .before .before .before .before)) (c .before .before .before .before .before .before .before .before .before .before .if2 .start) (c .before .before .before .before .before .before .before .before .before .before .if2 .stop) (c .before .before .before .before .before .before .before .before .before .before .if2 .marked) (at-within t (c .before .before .before .before .before .before .before .before .before .before)) (c .before .before .before .before .before .before .before .before .before .before .before .before .before .before .before .before .before .before .before .args .level) (c .before .before .before .before .before .before .before .before .before .if3 .left) (c .before .before .before .before .judge-members .result) (c .before .before .before .before .judge-members .ensures .1) (c .before .before .cause2 .given .0 .0) (c .before .before .cause2 .given .0 .1 .0) (c .before .before .cause2 .given .1))) -- judge-value-returns-5
+    (λ c. search needs) -- judge-value-enum-known-x-3
+    (λ c. omega (arith, items-end (c .before .before .before .before .before .before .before .before .before .before .before .before .before .before .before .before .before .before .pre .1 .0) (c .before .before .before .before .before .before .before .before .before .before .before .before .before .before .before .before .before .before .pre .1 .1) (c .before .before .before .before .before .before .before .before .before .before .before .before .before .before .before .unpack .result) (c .before .before .before .before .before .before .before .before .before .before .before .before .before .before .before .unpack .ensures) (now (c .before .before .before .before .before .before .before .before .before .before .before .before .before .before .before .before .before .before .args .m)) (λ i. omega (arith, c .before .before .before .before .before .before .before .before .before .before .before .before .before .before .before .before .shared-slice-known2 .given i)) (c .before .before .before .before .before .before .before .before .before .before .before .before .before .before .before .before .before .before .args .at) _ (c .before .before .before .before .before .before .before .before .before .before .before .before .before .if1 .at) (c .before .before .before .before .before .before .before .before .before .before .before .before .before .if1 .from) (c .before .before .before .before .before .before .before .before .before .before .before .before .before .if1 .end) (at-under t (c .before .before .before .before .before .before .before .before .before .before .before .before .before)) (c .before .before .before .before .before .before .before .before .before .if2 .start) (c .before .before .before .before .before .before .before .before .before .if2 .stop) (c .before .before .before .before .before .before .before .before .before .if2 .marked) (at-within t (c .before .before .before .before .before .before .before .before .before)) (c .before .before .before .before .before .before .before .before .before .before .before .before .before .before .before .before .before .before .args .level) (c .before .before .before .before .before .before .before .before .if3 .left) (c .before .before .before .judge-members .result) (c .before .before .before .judge-members .ensures .1) (c .before .x3 .given .0 .0) (c .before .x3 .given .0 .1 .0) (c .before .x3 .given .1), at-within t (c .before .before .before .before .before .before .before .before .before) .ordered, at-within t (c .before .before .before .before .before .before .before .before .before) .high, at-under t (c .before .before .before .before .before .before .before .before .before .before .before .before .before) .high, c .before .before .before .before .before .before .before .before .before .before .before .before .before .before .before .before .before .before .pre .1 .3)) -- judge-value-add-stop
+    (λ c. omega (arith, few-tags (c .before .before .before .before .before .before .before .before .before .before .before .before .before .before .pre .1 .0) (c .before .before .before .before .before .before .before .before .before .before .before .before .before .before .pre .1 .1) (c .before .before .before .before .before .before .before .before .before .before .before .unpack .result) (c .before .before .before .before .before .before .before .before .before .before .before .unpack .ensures))) -- judge-value-cast-close
+    (λ c κs. (few-tags (c .before .before .before .before .before .before .before .before .before .before .before .before .before .before .pre .1 .0) (c .before .before .before .before .before .before .before .before .before .before .before .before .before .before .pre .1 .1) (c .before .before .before .before .before .before .before .before .before .before .before .unpack .result) (c .before .before .before .before .before .before .before .before .before .before .before .unpack .ensures), at-notes t (c .before .before .before .before .before .before .before .before .before), at-over t (c .before .before .before .before) .within, c .before .before .before .before .before .before .before .before .before .before .before .before .before .before .pre .1 .3, at-over t (c .before .before .before .before) .small, rw (its-notes (c .before .before .before .before .before .before .before .before .before .before .before .before .before .before .pre .1 .0) (c .before .before .before .before .before .before .before .before .before .before .before .before .before .before .pre .1 .1) (c .before .before .before .before .before .before .before .before .before .before .before .unpack .result) (c .before .before .before .before .before .before .before .before .before .before .before .unpack .ensures) (c .before .before .before .before .before .before .before .before .before .if1 .notes)) (at-under t (c .before .before .before .before .before .before .before .before .before) .around))) -- judge-value-close-requires
+    (λ c. (at-way t (c .before .before .before .before .before), value-closed (now (c .before .before .before .before .before .before .before .before .before .before .before .before .before .before .before .args .table)) (recordIn (now (c .before .before .before .before .before .before .before .before .before .before .before .before .before .before .before .args .table)) (unpacked (c .before .before .before .before .before .before .before .before .before .before .before .before .before .before .before .args .w))) (now (c .before .before .before .before .before .before .before .before .before .before .before .before .before .before .before .args .m)) (c .before .before .before .before .before .before .before .before .before .before .before .before .before .before .before .args .at) _ (c .before .before .before .before .before .before .before .before .before .before .if1 .at) (c .before .before .before .before .before .before .before .before .before .before .if1 .from) (c .before .before .before .before .before .before .before .before .before .before .if1 .end) (at-under t (c .before .before .before .before .before .before .before .before .before .before)) (c .before .before .before .before .before .before .before .before .before .before .before .before .before .before .before .args .level) (c .before .before .before .before .before .if3 .stop) (c .before .before .before .before .before .if3 .size) (at-over t (c .before .before .before .before .before)) _ (its-notes (c .before .before .before .before .before .before .before .before .before .before .before .before .before .before .before .pre .1 .0) (c .before .before .before .before .before .before .before .before .before .before .before .before .before .before .before .pre .1 .1) (c .before .before .before .before .before .before .before .before .before .before .before .before .unpack .result) (c .before .before .before .before .before .before .before .before .before .before .before .before .unpack .ensures) (c .before .before .before .before .before .before .before .before .before .before .if1 .notes)) (c .close .result) (c .close .ensures))) -- judge-value-returns-6
+    (λ c κs. tt) -- judge-value-done-requires
+    (λ c. (at-way t (c .before .before .before), c .done .ensures ∙ value-over (now (c .before .before .before .before .before .before .before .before .before .before .before .before .before .args .table)) (recordIn (now (c .before .before .before .before .before .before .before .before .before .before .before .before .before .args .table)) (unpacked (c .before .before .before .before .before .before .before .before .before .before .before .before .before .args .w))) (now (c .before .before .before .before .before .before .before .before .before .before .before .before .before .args .m)) (c .before .before .before .before .before .before .before .before .before .before .before .before .before .args .at) _ (c .before .before .before .before .before .before .before .before .if1 .at) (c .before .before .before .before .before .before .before .before .if1 .from) (c .before .before .before .before .before .before .before .before .if1 .end) (at-under t (c .before .before .before .before .before .before .before .before)) (c .before .before .before .before .before .before .before .before .before .before .before .before .before .args .level) (c .before .before .before .if3 .stop) (c .before .before .before .if3 .size) (at-over t (c .before .before .before)) (no-notes (c .before .before .before .before .before .before .before .before .before .before .before .before .before .pre .1 .0) (c .before .before .before .before .before .before .before .before .before .before .before .before .before .pre .1 .1) (c .before .before .before .before .before .before .before .before .before .before .unpack .result) (c .before .before .before .before .before .before .before .before .before .before .unpack .ensures) (c .before .if6 .left) (c .before .before .before .before .before .before .before .before .if1 .notes)))) -- judge-value-returns-7
