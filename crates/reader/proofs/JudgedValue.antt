@@ -80,6 +80,11 @@ tail-at s u (k, h, e) =
     let q : length s - length u ≡ k = omega (arith, ap length e, length-drop k s) in
     rw q e
 
+not-none : (s : List ℕ) → (length s ≡ 0 → ⊥) → none-left s ≡ false
+unfolding none-left
+not-none [] h = absurd (h refl)
+not-none (x ∷ s) h = refl
+
 some-left : (s : List ℕ) → none-left s ≡ false → 0 < length s
 unfolding none-left
 some-left [] h = absurd (true≢false h)
@@ -754,3 +759,72 @@ module _ (b : List ℕ) (r : Record) (m : List ℕ) (first : ℕ) (ns : List ℕ
       let q : length m - length (drop stop (take end m)) ≡ stop = omega (arith, length-drop stop (take end m), length-take-le end m (U .high), O .within) in
       let g : cap count ≡ count = omega (arith, O .small) in
       sym (over-closed ∙ rw (z, q, g) refl)
+
+-- a whole message of type t
+pub message-known : {b index : List ℕ} (w t : ℕ) → t < countIn b → unpacked w ≡ record { code = 0; own = t; kind = 51; explicit = 0; simple = false }
+    → Known b index w × (unpacked w .simple ≡ false)
+message-known w t h q = (of-message t h q, ap (λ (x : Entry). x .simple) q)
+
+pub message-empty : (T : Table) (n t : ℕ) (m : List ℕ) → length m ≡ 0 → Refused Cut 0 ≡ told m size (readMessage T n t m)
+unfolding told readMessage none-left causeOf if
+message-empty T n t [] z = refl
+message-empty T n t (x ∷ m) z = absurd (omega arith)
+
+module _ (b m : List ℕ) (n t : ℕ) (some : length m ≡ 0 → ⊥) (w : ℕ) (q : unpacked w ≡ record { code = 0; own = t; kind = 51; explicit = 0; simple = false })
+    (y : Judged) (ey : y ≡ told m size (readHeld (tableIn b) (readValue (tableIn b) n) (held b w) closed m)) where
+  abbrev Root : Answer Value
+  Root = readHeld (tableIn b) (readValue (tableIn b) n) (message t) closed m
+
+  abbrev Whole : Judged
+  Whole = told m size (readMessage (tableIn b) n t m)
+
+  its-root : held b w ≡ message t
+  unfolding holderIn if
+  its-root = rw q refl
+
+  its-answer : y ≡ told m size Root
+  its-answer = ey ∙ ap (λ (h : Holder). told m size (readHeld (tableIn b) (readValue (tableIn b) n) h closed m)) its-root
+
+  its-whole : readMessage (tableIn b) n t m ≡ then Root λ v r. if (not (none-left r)) (refused 26 (length r)) λ _. got v r
+  unfolding if
+  its-whole = message-whole (tableIn b) n t closed m ∙ rw (not-none m some) refl
+
+  pub message-refused : (c : Cause) (l : ℕ) → y ≡ Refused c l → Refused c l ≡ Whole
+  unfolding told then
+  message-refused c l d = let (k, x, f) = told-refused m size Root y its-answer c l d in go k x f
+    where
+      go : (k : ℕ) → Root ≡ refused k l → c ≡ causeOf k → Refused c l ≡ Whole
+      go k x f = rw (its-whole, x, f) refl
+
+  module _ (u i : ℕ) (d : y ≡ Done u i) where
+    pub message-end : u ≤ length m
+    message-end = let (v, s, x, f, g) = told-done m size Root y its-answer u i d in omega arith
+
+    rest-length : (v : Value) (s : List ℕ) → Root ≡ got v s → length s ≤ length m
+    rest-length v s x = go (got v s) (rw x at (held-sane (tableIn b) n (message t) closed m)) refl
+      where
+        go : (z : Answer Value) → Sane (Closes (tableIn b) n (message t) closed) m z → z ≡ got v s → length s ≤ length m
+        go (got a r) (leaves h p) e = let k : r ≡ s = cc in omega (arith, tail-less h, ap length k)
+        go (refused c l) h e = let z : _≡_ {A = ℕ} 0 1 = cc in absurd (omega arith)
+
+    pub message-trailing : u < length m → Refused Trailing (length m - u) ≡ Whole
+    unfolding told then if causeOf none-left
+    message-trailing l =
+        let (v, s, x, f, g) = told-done m size Root y its-answer u i d in
+        let k : length m - u ≡ length s = omega (arith, rest-length v s x) in
+        rw (its-whole, x, k) (go v s (omega arith))
+      where
+        go : (v : Value) (s : List ℕ) → 0 < length s → Refused Trailing (length s) ≡ told m size (if (not (none-left s)) (refused 26 (length s)) λ _. got v s)
+        go v [] l = absurd (omega arith)
+        go v (a ∷ s) l = refl
+
+    pub message-done : length m ≤ u → Done u i ≡ Whole
+    unfolding told then if none-left
+    message-done l =
+        let (v, s, x, f, g) = told-done m size Root y its-answer u i d in
+        rw (its-whole, x) (go v s (omega (arith, rest-length v s x)) f g)
+      where
+        go : (v : Value) (s : List ℕ) → length s ≡ 0 → u ≡ length m - length s → i ≡ cap (length (octets v))
+            → Done u i ≡ told m size (if (not (none-left s)) (refused 26 (length s)) λ _. got v s)
+        go v [] z f g = rw (f, g) refl
+        go v (a ∷ s) z f g = absurd (omega arith)
