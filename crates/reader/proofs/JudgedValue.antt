@@ -760,6 +760,143 @@ module _ (b : List ℕ) (r : Record) (m : List ℕ) (first : ℕ) (ns : List ℕ
       let g : cap count ≡ count = omega (arith, O .small) in
       sym (over-closed ∙ rw (z, q, g) refl)
 
+-- An item of a record where its tags are opened: what the value stands in, and where. The values in it have `level` levels.
+pub record Item (b index : List ℕ) (w : ℕ) (m : List ℕ) (first level : ℕ) : Type 0 where
+  pub ready : Ready b index
+  pub known : IsRecord b index w
+  pub octets : Octets m
+  pub short : length m ≤ 8192
+  pub entry : Entry
+  pub entered : entry ≡ unpacked w
+  pub notes : List ℕ
+  pub four : length notes ≡ 4
+  pub at : ℕ
+  pub from : ℕ
+  pub end : ℕ
+  pub under : Under b (recordIn b (unpacked w)) m first (take (unpacked w .explicit) notes) at from end
+
+-- what the answer has to be
+abbrev pub Answers : List ℕ → ℕ → List ℕ → ℕ → ℕ → Judged → Type 0
+Answers b w m first level y = y ≡ told m size (readRecord (tableIn b) level (recordIn b (unpacked w)) (drop first m))
+
+pub answers-unopened : {b index : List ℕ} {w : ℕ} (R : Ready b index) (I : IsRecord b index w) (m : List ℕ) (om : Octets m) (first level : ℕ) (ns : List ℕ) (y : Opened)
+    → Opens b (recordIn b (unpacked w)) m first ns y → (c : Cause) (l : ℕ) → y ≡ NotOpened c l → Answers b w m first level (Refused c l)
+answers-unopened {b} {index} {w} R I m om first level ns y o c l e = value-unopened b (recordIn b (unpacked w)) (its-fit R I) m om first ns y o c l e level
+
+module _ {b index : List ℕ} {w : ℕ} {m : List ℕ} {first level : ℕ} (X : Item b index w m first level) where
+  abbrev Rec : Record
+  Rec = recordIn b (unpacked w)
+
+  abbrev Notes : List ℕ
+  Notes = take (unpacked w .explicit) (X .notes)
+
+  abbrev Around-it : List ℕ
+  Around-it = take (X .end) m
+
+  pub item-within : (X .at ≤ length m) × (X .end ≤ length m)
+  item-within = (omega (arith, X .under .some, X .under .high), X .under .high)
+
+  pub item-around : X .end ≡ length (take (X .end) m)
+  item-around = sym (length-take-le (X .end) m (X .under .high))
+
+  module _ (n : X .entry .kind ≡ 50 → ⊥) (z : Length) (az : (k : ℕ) → z ≡ toldLength (length Around-it) (readLength k (drop (X .from) Around-it))) where
+    pub answers-unread : (f : Fault) → z ≡ NoLength f → (c : Cause) → c ≡ causeOf (faultNumber f) → Answers b w m first level (Refused c (length m - X .at))
+    answers-unread f q c ec =
+        value-unread b Rec (its-fit (X .ready) (X .known)) m (X .octets) first Notes (X .at) (X .from) (X .end) (X .under)
+        (no-choice (X .ready) (X .known) (X .entry) (X .entered) n) z az f q c ec level
+
+    pub contents-sized : (x : Extent) → z ≡ ReadLength x → Within Rec Around-it (X .at) (X .end) (x .start) (x .end) (x .marked)
+    contents-sized x q =
+        within-length b Rec (its-fit (X .ready) (X .known)) m (X .octets) first Notes (X .at) (X .from) (X .end) (X .under)
+        (no-choice (X .ready) (X .known) (X .entry) (X .entered) n) z az x q
+
+  pub contents-bare : X .entry .kind ≡ 50 → Within Rec Around-it (X .at) (X .end) (X .at) (X .end) false
+  contents-bare y =
+      within-choice b Rec (its-fit (X .ready) (X .known)) m (X .octets) first Notes (X .at) (X .from) (X .end) (X .under)
+      (is-choice (X .ready) (X .known) (X .entry) (X .entered) y)
+
+  module _ (start stop : ℕ) (marked : Bool) (W : Within Rec Around-it (X .at) (X .end) start stop marked) where
+    pub contents-within : (start ≤ stop) × (stop ≤ length m)
+    contents-within = (W .ordered, omega (arith, W .high, X .under .high))
+
+    abbrev Part-of : List ℕ
+    Part-of = take (stop - start) (drop start m)
+
+    pub contents-short : length Part-of ≤ 8192
+    contents-short =
+        short-contents (X .ready) (X .known) (X .entry) (X .entered) m (X .octets) first Notes (X .at) (X .from) (X .end) (X .under) start stop marked W level 8192 (X .short)
+
+    module _ (simple : X .entry .simple ≡ true) where
+      pub answers-marked : marked ≡ true → Answers b w m first level (Refused Form (length m - X .at))
+      answers-marked =
+          value-marked (X .ready) (X .known) (X .entry) (X .entered) m (X .octets) first Notes (X .at) (X .from) (X .end) (X .under) start stop marked W level simple
+
+      module _ (sized : marked ≡ false) (i : ℕ) (ei : i ≡ leafWeight (bodyAt b (X .entry .kind) (X .entry .own)) Part-of) where
+        pub answers-wrong : i ≡ 0 → Answers b w m first level (Refused Contents (length m - X .at))
+        answers-wrong =
+            value-wrong (X .ready) (X .known) (X .entry) (X .entered) m (X .octets) first Notes (X .at) (X .from) (X .end) (X .under) start stop marked W level simple sized i ei
+
+        pub leaf-over : (i ≡ 0 → ⊥) → i < 16386 → Over b Rec level Around-it (X .at) (X .end) stop i
+        leaf-over =
+            over-leaf (X .ready) (X .known) (X .entry) (X .entered) m (X .octets) first Notes (X .at) (X .from) (X .end) (X .under) start stop marked W level simple sized i ei
+
+    module _ (plain : X .entry .simple ≡ false) where
+      pub items-known : Known b index w × (unpacked w .simple ≡ false)
+      items-known = (of-record (X .known .0) (X .known .1) (X .known .2), sym (ap (λ (e : Entry). e .simple) (X .entered)) ∙ plain)
+
+      pub items-some : isSingle (manner (held b w)) ≡ true → 0 < length Part-of
+      items-some =
+          some-items (X .ready) (X .known) (X .entry) (X .entered) m (X .octets) first Notes (X .at) (X .from) (X .end) (X .under) start stop marked W level plain
+
+      module _ (y : Judged) (ey : y ≡ told Part-of size (readHeld (tableIn b) (readValue (tableIn b) level) (held b w) (mode marked) Part-of)) where
+        module _ (c : Cause) (l : ℕ) (d : y ≡ Refused c l) where
+          pub items-low : l + (length m - stop) ≤ 8192
+          items-low =
+              let h = items-left (X .ready) (X .known) (X .entry) (X .entered) m (X .octets) first Notes (X .at) (X .from) (X .end) (X .under) start stop marked W level
+              plain y ey c l d in
+              omega (arith, h, contents-within, X .short)
+
+          pub answers-items : Answers b w m first level (Refused c (l + (length m - stop)))
+          answers-items =
+              value-unheld (X .ready) (X .known) (X .entry) (X .entered) m (X .octets) first Notes (X .at) (X .from) (X .end) (X .under) start stop marked W level
+              plain y ey c l d
+
+        module _ (u i : ℕ) (d : y ≡ Done u i) where
+          pub items-over : Over b Rec level Around-it (X .at) (X .end) (start + u) i
+          items-over =
+              over-items (X .ready) (X .known) (X .entry) (X .entered) m (X .octets) first Notes (X .at) (X .from) (X .end) (X .under) start stop marked W level
+              plain y ey u i d
+
+          pub items-high : start + u ≤ 8192
+          items-high = omega (arith, items-over .within, X .under .high, X .short)
+
+  module _ (stop count : ℕ) (O : Over b Rec level Around-it (X .at) (X .end) stop count) where
+    pub item-tags : X .entry .explicit ≤ 4
+    item-tags = few-tags (X .ready) (X .known) (X .entry) (X .entered)
+
+    pub item-closes : (X .entry .explicit ≤ 4) × (length (X .notes) ≡ 4) × (stop ≤ X .end) × (length m ≤ 8192) × (count < 16386)
+        × Around (length m) (take (X .entry .explicit) (X .notes)) (X .end)
+    item-closes = (
+      item-tags,
+      X .four,
+      O .within,
+      X .short,
+      O .small,
+      rw (its-notes (X .ready) (X .known) (X .entry) (X .entered) (X .notes)) (X .under .around),
+    )
+
+    pub answers-closed : (y : Judged)
+        → y ≡ told m (λ (i : ℕ). i) (closing m (take (X .entry .explicit) (X .notes)) (X .end) (got count (drop stop Around-it)))
+        → Answers b w m first level y
+    answers-closed y e =
+        value-closed b Rec m first Notes (X .at) (X .from) (X .end) (X .under) level stop count O (take (X .entry .explicit) (X .notes))
+        (its-notes (X .ready) (X .known) (X .entry) (X .entered) (X .notes)) y e
+
+    pub answers-over : X .entry .explicit ≤ 0 → Answers b w m first level (Done stop count)
+    answers-over l =
+        value-over b Rec m first Notes (X .at) (X .from) (X .end) (X .under) level stop count O
+        (no-notes (X .ready) (X .known) (X .entry) (X .entered) l (X .notes))
+
 -- a whole message of type t
 pub message-known : {b index : List ℕ} (w t : ℕ) → t < countIn b → unpacked w ≡ record { code = 0; own = t; kind = 51; explicit = 0; simple = false }
     → Known b index w × (unpacked w .simple ≡ false)

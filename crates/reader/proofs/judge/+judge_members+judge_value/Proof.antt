@@ -12,10 +12,10 @@ use Rattle.octets.specs.Numbers.{Octets}
 use Rattle.table.specs.Entries.{unpacked, tableIn}
 use Rattle.table.specs.declared.entry.Entry.{Entry}
 use Rattle.reader.specs.Records.{recordIn, of-record}
-use Rattle.reader.proofs.JudgedValue.{Under, Within, Over, under-bare, its-notes, no-notes, few-tags, under-tags, within-choice, within-length, over-leaf, over-items}
-use Rattle.reader.proofs.JudgedValue.{value-unopened, value-unread, value-marked, value-wrong, value-unheld, items-left, items-end, some-items, short-contents}
-use Rattle.reader.proofs.JudgedValue.{value-closed, value-over, its-choice, no-choice, is-choice, its-holder}
-use Rattle.reader.proofs.Opening.{its-count, its-first, its-few}
+use Rattle.reader.proofs.JudgedValue.{Under, Within, Over, Item, under-tags, under-bare, item-within, item-around}
+use Rattle.reader.proofs.JudgedValue.{contents-sized, contents-bare, contents-within, contents-short, leaf-over, items-known, items-some, items-over}
+use Rattle.reader.proofs.JudgedValue.{items-low, items-high, item-tags, item-closes, answers-unopened, answers-unread, answers-marked, answers-wrong}
+use Rattle.reader.proofs.JudgedValue.{answers-items, answers-closed, answers-over}
 use Rattle.reader.proofs.Tagging.{its-entry, its-fit}
 use borrow.Fn.Kinds.{In}
 use borrow.Fn.PlainCycle.{Measures, is, falls, and}
@@ -101,58 +101,121 @@ judge-value-claims t = (
 )
 
 -- where the tags are opened
+abbrev at-notes : (t : ℕ) (c : judge-value-lts.Joined1 (judge-value-claims t) (judge-value-at t) judge-value.Post) → length (c .if1 .notes) ≡ 4
+at-notes t c = ⊎-elim (λ z. rw (z .6) (z .2 .ensures .0)) (λ z. rw (z .1) refl) (c .if1 .came)
+
 abbrev at-under : (t : ℕ) (c : judge-value-lts.Joined1 (judge-value-claims t) (judge-value-at t) judge-value.Post) →
-    let a = c .before .before .before .before .before .args in Under (now (a .table)) (recordIn (now (a .table)) (unpacked (a .w))) (now (a .m)) (a .at)
-    (take (unpacked (a .w) .explicit) (c .if1 .notes)) (c .if1 .at) (c .if1 .from) (c .if1 .end)
+    let a = c .before .before .before .before .before .args in
+    Under (now (a .table)) (recordIn (now (a .table)) (unpacked (a .w))) (now (a .m)) (a .at) (take (unpacked (a .w) .explicit) (c .if1 .notes))
+    (c .if1 .at) (c .if1 .from) (c .if1 .end)
 at-under t c =
     let a = c .before .before .before .before .before .args in
     let q = c .before .before .before .before .before .pre .1 in
     let o : Octets (now (a .m)) = λ i. omega (arith, c .before .before .before .shared-slice-known2 .given i) in
-    let F = its-fit (q .0) (q .1) in
+    let u = c .before .before .unpack in
     ⊎-elim
-    (λ z. rw (z .6, z .7, z .8, z .9) (under-tags (now (a .table)) (recordIn (now (a .table)) (unpacked (a .w))) F (now (a .m)) o (a .at) _ (z .2 .result) (z .2 .ensures .1) (z .4 .given .0 .0) (z .4 .given .1)))
-    (λ z. rw (z .1, z .2, z .3, z .4) (under-bare (q .0) (q .1) (c .before .before .unpack .result) (c .before .before .unpack .ensures) (now (a .m)) o (a .at) (a .from) (z .0 .left) (q .2) _))
+    (λ z. rw (z .6, z .7, z .8, z .9)
+    (under-tags (now (a .table)) (recordIn (now (a .table)) (unpacked (a .w))) (its-fit (q .0) (q .1)) (now (a .m)) o (a .at) _
+    (z .2 .result) (z .2 .ensures .1) (z .4 .given .0 .0) (z .4 .given .1)))
+    (λ z. rw (z .1, z .2, z .3, z .4) (under-bare (q .0) (q .1) (u .result) (u .ensures) (now (a .m)) o (a .at) (a .from) (z .0 .left) (q .2) _))
     (c .if1 .came)
 
-abbrev at-notes : (t : ℕ) (c : judge-value-lts.Joined1 (judge-value-claims t) (judge-value-at t) judge-value.Post) → length (c .if1 .notes) ≡ 4
-at-notes t c = ⊎-elim (λ z. rw (z .6) (z .2 .ensures .0)) (λ z. rw (z .1) refl) (c .if1 .came)
+abbrev at-item : (t : ℕ) (c : judge-value-lts.Joined1 (judge-value-claims t) (judge-value-at t) judge-value.Post) →
+    let a = c .before .before .before .before .before .args in Item (now (a .table)) (now (a .index)) (a .w) (now (a .m)) (a .at) (a .level)
+at-item t c =
+    let q = c .before .before .before .before .before .pre .1 in
+    let u = c .before .before .unpack in
+    record {
+      ready = q .0;
+      known = q .1;
+      octets = λ i. omega (arith, c .before .before .before .shared-slice-known2 .given i);
+      short = q .3;
+      entry = u .result;
+      entered = u .ensures;
+      notes = c .if1 .notes;
+      four = at-notes t c;
+      at = c .if1 .at;
+      from = c .if1 .from;
+      end = c .if1 .end;
+      under = at-under t c;
+    }
 
 -- where the length is read
-abbrev at-within : (t : ℕ) (c : judge-value-lts.Joined2 (judge-value-claims t) (judge-value-at t) judge-value.Post) →
-    let a = c .before .before .before .before .before .before .before .before .before .args in Within (recordIn (now (a .table)) (unpacked (a .w))) (take (c .before .before .before .before .if1 .end) (now (a .m))) (c .before .before .before .before .if1 .at) (c .before .before .before .before .if1 .end)
-    (c .if2 .start) (c .if2 .stop) (c .if2 .marked)
-at-within t c =
+abbrev at-contents : (t : ℕ) (c : judge-value-lts.Joined2 (judge-value-claims t) (judge-value-at t) judge-value.Post) →
     let a = c .before .before .before .before .before .before .before .before .before .args in
-    let q = c .before .before .before .before .before .before .before .before .before .pre .1 in
-    let o : Octets (now (a .m)) = λ i. omega (arith, c .before .before .before .before .before .before .before .shared-slice-known2 .given i) in
-    let F = its-fit (q .0) (q .1) in
-    let U = at-under t (c .before .before .before .before) in
+    Within (recordIn (now (a .table)) (unpacked (a .w))) (take (c .before .before .before .before .if1 .end) (now (a .m))) (c .before .before .before .before .if1 .at) (c .before .before .before .before .if1 .end)
+    (c .if2 .start) (c .if2 .stop) (c .if2 .marked)
+at-contents t c =
+    let x = at-item t (c .before .before .before .before) in
     ⊎-elim
-    (λ z. rw (z .5, z .6, z .7) (within-length (now (a .table)) (recordIn (now (a .table)) (unpacked (a .w))) F (now (a .m)) o (a .at) _ (c .before .before .before .before .if1 .at) (c .before .before .before .before .if1 .from) (c .before .before .before .before .if1 .end) U
-    (no-choice (q .0) (q .1) (c .before .before .before .before .before .before .unpack .result) (c .before .before .before .before .before .before .unpack .ensures) (z .0 .taken)) (z .1 .result) (z .1 .ensures) (z .3 .given .0 .0) (z .3 .given .1)))
-    (λ z. rw (z .1, z .2, z .3) (within-choice (now (a .table)) (recordIn (now (a .table)) (unpacked (a .w))) F (now (a .m)) o (a .at) _ (c .before .before .before .before .if1 .at) (c .before .before .before .before .if1 .from) (c .before .before .before .before .if1 .end) U
-    (is-choice (q .0) (q .1) (c .before .before .before .before .before .before .unpack .result) (c .before .before .before .before .before .before .unpack .ensures) (z .0 .left))))
+    (λ z. rw (z .5, z .6, z .7) (contents-sized x (z .0 .taken) (z .1 .result) (z .1 .ensures) (z .3 .given .0 .0) (z .3 .given .1)))
+    (λ z. rw (z .1, z .2, z .3) (contents-bare x (z .0 .left)))
     (c .if2 .came)
 
 -- where the contents are judged
 abbrev at-over : (t : ℕ) (c : judge-value-lts.Joined3 (judge-value-claims t) (judge-value-at t) judge-value.Post) →
-    let a = c .before .before .before .before .before .before .before .before .before .before .args in Over (now (a .table)) (recordIn (now (a .table)) (unpacked (a .w))) (a .level) (take (c .before .before .before .before .before .if1 .end) (now (a .m))) (c .before .before .before .before .before .if1 .at) (c .before .before .before .before .before .if1 .end)
+    let a = c .before .before .before .before .before .before .before .before .before .before .args in
+    Over (now (a .table)) (recordIn (now (a .table)) (unpacked (a .w))) (a .level) (take (c .before .before .before .before .before .if1 .end) (now (a .m))) (c .before .before .before .before .before .if1 .at) (c .before .before .before .before .before .if1 .end)
     (c .if3 .stop) (c .if3 .size)
 at-over t c =
-    let a = c .before .before .before .before .before .before .before .before .before .before .args in
-    let q = c .before .before .before .before .before .before .before .before .before .before .pre .1 in
-    let o : Octets (now (a .m)) = λ i. omega (arith, c .before .before .before .before .before .before .before .before .shared-slice-known2 .given i) in
-    let U = at-under t (c .before .before .before .before .before) in
-    let W = at-within t (c .before) in
+    let x = at-item t (c .before .before .before .before .before) in
+    let y = c .before .if2 in
+    let W = at-contents t (c .before) in
     ⊎-elim
-    (λ z. rw (z .8, z .9) (over-leaf (q .0) (q .1) (c .before .before .before .before .before .before .before .unpack .result) (c .before .before .before .before .before .before .before .unpack .ensures) (now (a .m)) o (a .at) _ (c .before .before .before .before .before .if1 .at) (c .before .before .before .before .before .if1 .from) (c .before .before .before .before .before .if1 .end) U
-    (c .before .if2 .start) (c .before .if2 .stop) (c .before .if2 .marked) W (a .level) (z .0 .taken) (z .1 .left) (z .5 .result) (z .5 .ensures .0) (z .6 .left) (z .5 .ensures .1)))
-    (λ z. rw (z .10, z .11) (over-items (q .0) (q .1) (c .before .before .before .before .before .before .before .unpack .result) (c .before .before .before .before .before .before .before .unpack .ensures) (now (a .m)) o (a .at) _ (c .before .before .before .before .before .if1 .at) (c .before .before .before .before .before .if1 .from) (c .before .before .before .before .before .if1 .end) U
-    (c .before .if2 .start) (c .before .if2 .stop) (c .before .if2 .marked) W (a .level) (z .0 .left) (z .5 .result) (z .5 .ensures .1) (z .7 .given .0 .0) (z .7 .given .0 .1 .0) (z .7 .given .1)))
+    (λ z. rw (z .8, z .9)
+    (leaf-over x (y .start) (y .stop) (y .marked) W (z .0 .taken) (z .1 .left) (z .5 .result) (z .5 .ensures .0) (z .6 .left) (z .5 .ensures .1)))
+    (λ z. rw (z .10, z .11)
+    (items-over x (y .start) (y .stop) (y .marked) W (z .0 .left) (z .5 .result) (z .5 .ensures .1)
+    (z .7 .given .0 .0) (z .7 .given .0 .1 .0) (z .7 .given .1)))
     (c .if3 .came)
 
 abbrev at-way : (t : ℕ) (c : judge-value-lts.Joined3 (judge-value-claims t) (judge-value-at t) judge-value.Post) → length (c .if3 .way) ≡ 128
 at-way t c = ⊎-elim (λ z. rw (z .7) (c .before .before .before .before .before .before .before .before .before .before .pre .1 .5)) (λ z. rw (z .9) (z .5 .ensures .0)) (c .if3 .came)
+
+judge-value-half : {M : Type 1} (t : ℕ) → judge-value-lts.Closed (judge-value-claims t) (judge-value-at t) judge-value.Post M
+judge-value-half t =
+    judge-value-lts.spec
+    (judge-value-claims t)
+    (judge-value-at t)
+    judge-value.Post
+    (λ c κs. tt) -- judge-value-unpack-requires
+    (λ c κs. let q = c .before .before .before .before .before .before .pre .1 in (now (c .before .before .before .before .before .before .args .index), q .0, q .1, rw (c .before .before .before .unpack .ensures) at (c .before .if1 .taken), q .2, q .3, refl)) -- judge-value-open-requires
+    (λ c. search needs) -- judge-value-enum-known-cause
+    (λ c κs. tt) -- judge-value-refused-requires
+    (λ c. let a = c .before .before .before .before .before .before .before .before .before .before .before .args in let q = c .before .before .before .before .before .before .before .before .before .before .before .pre .1 in (q .5, c .refused .ensures ∙ answers-unopened (q .0) (q .1) (now (a .m)) (λ i. omega (arith, c .before .before .before .before .before .before .before .before .before .shared-slice-known2 .given i)) (a .at) (a .level) _ (c .before .before .before .before .«open» .result) (c .before .before .before .before .«open» .ensures .1) (c .before .before .cause .given .0 .0) (c .before .before .cause .given .0 .1 .0) (c .before .before .cause .given .1))) -- judge-value-returns
+    (λ c. search needs) -- judge-value-enum-known-x
+    (λ c. item-within (at-item t (c .before)) .0) -- judge-value-sub-left
+    (λ c. item-around (at-item t (c .before .before))) -- judge-value-slice-aggregate-around
+    (λ c κs. tt) -- judge-value-read-requires
+    (λ c. search needs) -- judge-value-enum-known-fault
+    (λ c κs. tt) -- judge-value-cause-of-requires
+    (λ c κs. tt) -- judge-value-refused-requires-2
+    (λ c. (c .before .before .before .before .before .before .before .before .before .before .before .before .before .before .before .pre .1 .5, c .refused2 .ensures ∙ answers-unread (at-item t (c .before .before .before .before .before .before .before .before .before .before)) (c .before .before .before .before .before .before .if2 .taken) (c .before .before .before .before .before .read .result) (c .before .before .before .before .before .read .ensures) (c .before .before .before .fault .given .0 .0) (c .before .before .before .fault .given .1) (c .before .cause-of .result) (c .before .cause-of .ensures))) -- judge-value-returns-2
+    (λ c. search needs) -- judge-value-enum-known-x-2
+    (λ c κs. tt) -- judge-value-refused-requires-3
+    (λ c. (c .before .before .before .before .before .before .before .before .before .before .before .before .pre .1 .5, c .refused3 .ensures ∙ answers-marked (at-item t (c .before .before .before .before .before .before .before)) (c .before .before .before .if2 .start) (c .before .before .before .if2 .stop) (c .before .before .before .if2 .marked) (at-contents t (c .before .before .before)) (c .before .before .if3 .taken) (c .before .if4 .taken))) -- judge-value-returns-3
+    (λ c. contents-within (at-item t (c .before .before .before .before .before .before .before .before)) (c .before .before .before .before .if2 .start) (c .before .before .before .before .if2 .stop) (c .before .before .before .before .if2 .marked) (at-contents t (c .before .before .before .before)) .0) -- judge-value-sub-c
+    (λ c. omega (arith, contents-within (at-item t (c .before .before .before .before .before .before .before .before)) (c .before .before .before .before .if2 .start) (c .before .before .before .before .if2 .stop) (c .before .before .before .before .if2 .marked) (at-contents t (c .before .before .before .before)))) -- judge-value-part-c-start
+    (λ c. contents-within (at-item t (c .before .before .before .before .before .before .before .before)) (c .before .before .before .before .if2 .start) (c .before .before .before .before .if2 .stop) (c .before .before .before .before .if2 .marked) (at-contents t (c .before .before .before .before)) .1) -- judge-value-part-c-end
+    (λ c κs. let q = c .before .before .before .before .before .before .before .before .before .before .before .before .before .before .pre .1 in (tableIn (now (c .before .before .before .before .before .before .before .before .before .before .before .before .before .before .args .table)) (q .1 .0), rw (c .before .before .before .before .before .before .before .before .before .before .before .unpack .ensures) (its-entry (q .0) (q .1)), contents-short (at-item t (c .before .before .before .before .before .before .before .before .before)) (c .before .before .before .before .before .if2 .start) (c .before .before .before .before .before .if2 .stop) (c .before .before .before .before .before .if2 .marked) (at-contents t (c .before .before .before .before .before)))) -- judge-value-contents-size-requires
+    (λ c κs. tt) -- judge-value-refused-requires-4
+    (λ c. (c .before .before .before .before .before .before .before .before .before .before .before .before .before .before .before .before .before .pre .1 .5, c .refused4 .ensures ∙ answers-wrong (at-item t (c .before .before .before .before .before .before .before .before .before .before .before .before)) (c .before .before .before .before .before .before .before .before .if2 .start) (c .before .before .before .before .before .before .before .before .if2 .stop) (c .before .before .before .before .before .before .before .before .if2 .marked) (at-contents t (c .before .before .before .before .before .before .before .before)) (c .before .before .before .before .before .before .before .if3 .taken) (c .before .before .before .before .before .before .if4 .left) (c .before .before .contents-size .result) (c .before .before .contents-size .ensures .0) (c .before .if5 .taken))) -- judge-value-returns-4
+    (λ c. contents-within (at-item t (c .before .before .before .before .before .before .before)) (c .before .before .before .if2 .start) (c .before .before .before .if2 .stop) (c .before .before .before .if2 .marked) (at-contents t (c .before .before .before)) .0) -- judge-value-sub-c-2
+    (λ c. omega (arith, contents-within (at-item t (c .before .before .before .before .before .before .before)) (c .before .before .before .if2 .start) (c .before .before .before .if2 .stop) (c .before .before .before .if2 .marked) (at-contents t (c .before .before .before)))) -- judge-value-part-c-start-2
+    (λ c. contents-within (at-item t (c .before .before .before .before .before .before .before)) (c .before .before .before .if2 .start) (c .before .before .before .if2 .stop) (c .before .before .before .if2 .marked) (at-contents t (c .before .before .before)) .1) -- judge-value-part-c-end-2
+    (λ c κs. let p = c .before .before .before .before .before .before .before .before .before .before .before .before .before .before .pre in let q = p .1 in let k = items-known (at-item t (c .before .before .before .before .before .before .before .before .before)) (c .before .before .before .before .before .if2 .start) (c .before .before .before .before .before .if2 .stop) (c .before .before .before .before .before .if2 .marked) (at-contents t (c .before .before .before .before .before)) (c .before .before .before .before .if3 .left) in (omega (arith, p .0), (q .0, k .0, k .1, items-some (at-item t (c .before .before .before .before .before .before .before .before .before)) (c .before .before .before .before .before .if2 .start) (c .before .before .before .before .before .if2 .stop) (c .before .before .before .before .before .if2 .marked) (at-contents t (c .before .before .before .before .before)) (c .before .before .before .before .if3 .left), contents-short (at-item t (c .before .before .before .before .before .before .before .before .before)) (c .before .before .before .before .before .if2 .start) (c .before .before .before .before .before .if2 .stop) (c .before .before .before .before .before .if2 .marked) (at-contents t (c .before .before .before .before .before)), omega (arith, q .4), q .5))) -- judge-value-judge-members-requires
+    (λ c. search needs) -- judge-value-enum-known-cause-2
+    (λ c. contents-within (at-item t (c .before .before .before .before .before .before .before .before .before .before .before .before .before)) (c .before .before .before .before .before .before .before .before .before .if2 .start) (c .before .before .before .before .before .before .before .before .before .if2 .stop) (c .before .before .before .before .before .before .before .before .before .if2 .marked) (at-contents t (c .before .before .before .before .before .before .before .before .before)) .1) -- judge-value-sub-refused
+    (λ c. omega (arith, items-low (at-item t (c .before .before .before .before .before .before .before .before .before .before .before .before .before)) (c .before .before .before .before .before .before .before .before .before .if2 .start) (c .before .before .before .before .before .before .before .before .before .if2 .stop) (c .before .before .before .before .before .before .before .before .before .if2 .marked) (at-contents t (c .before .before .before .before .before .before .before .before .before)) (c .before .before .before .before .before .before .before .before .if3 .left) (c .before .before .before .judge-members .result) (c .before .before .before .judge-members .ensures .1) (c .before .cause2 .given .0 .0) (c .before .cause2 .given .0 .1 .0) (c .before .cause2 .given .1))) -- judge-value-add-refused
+    (λ c κs. tt) -- judge-value-refused-requires-5
+    (λ c. (c .before .before .before .before .judge-members .ensures .0, c .refused5 .ensures ∙ answers-items (at-item t (c .before .before .before .before .before .before .before .before .before .before .before .before .before .before)) (c .before .before .before .before .before .before .before .before .before .before .if2 .start) (c .before .before .before .before .before .before .before .before .before .before .if2 .stop) (c .before .before .before .before .before .before .before .before .before .before .if2 .marked) (at-contents t (c .before .before .before .before .before .before .before .before .before .before)) (c .before .before .before .before .before .before .before .before .before .if3 .left) (c .before .before .before .before .judge-members .result) (c .before .before .before .before .judge-members .ensures .1) (c .before .before .cause2 .given .0 .0) (c .before .before .cause2 .given .0 .1 .0) (c .before .before .cause2 .given .1))) -- judge-value-returns-5
+    (λ c. search needs) -- judge-value-enum-known-x-3
+    (λ c. omega (arith, items-high (at-item t (c .before .before .before .before .before .before .before .before .before .before .before .before .before)) (c .before .before .before .before .before .before .before .before .before .if2 .start) (c .before .before .before .before .before .before .before .before .before .if2 .stop) (c .before .before .before .before .before .before .before .before .before .if2 .marked) (at-contents t (c .before .before .before .before .before .before .before .before .before)) (c .before .before .before .before .before .before .before .before .if3 .left) (c .before .before .before .judge-members .result) (c .before .before .before .judge-members .ensures .1) (c .before .x3 .given .0 .0) (c .before .x3 .given .0 .1 .0) (c .before .x3 .given .1))) -- judge-value-add-stop
+    (λ c. omega (arith, item-tags (at-item t (c .before .before .before .before .before .before .before .before .before)) (c .before .before .before .before .if3 .stop) (c .before .before .before .before .if3 .size) (at-over t (c .before .before .before .before)))) -- judge-value-cast-close
+    (λ c κs. item-closes (at-item t (c .before .before .before .before .before .before .before .before .before)) (c .before .before .before .before .if3 .stop) (c .before .before .before .before .if3 .size) (at-over t (c .before .before .before .before))) -- judge-value-close-requires
+    (λ c. (at-way t (c .before .before .before .before .before), answers-closed (at-item t (c .before .before .before .before .before .before .before .before .before .before)) (c .before .before .before .before .before .if3 .stop) (c .before .before .before .before .before .if3 .size) (at-over t (c .before .before .before .before .before)) (c .close .result) (c .close .ensures))) -- judge-value-returns-6
+    (λ c κs. tt) -- judge-value-done-requires
+    (λ c. (at-way t (c .before .before .before), c .done .ensures ∙ answers-over (at-item t (c .before .before .before .before .before .before .before .before)) (c .before .before .before .if3 .stop) (c .before .before .before .if3 .size) (at-over t (c .before .before .before)) (c .before .if6 .left))) -- judge-value-returns-7
 
 pub +judge-members+judge-value-spec : {M : Type 1} → statement M
 +judge-members+judge-value-spec = close μ-judge-members μ-judge-value (λ t. judge-members-lts.spec (
@@ -242,44 +305,4 @@ pub +judge-members+judge-value-spec : {M : Type 1} → statement M
     (λ c. ?) -- judge-members-returns-6
     (λ c. ?) -- judge-members-loop-less
     (λ c. ?)) -- judge-members-loop-again
-    λ t. judge-value-lts.spec (judge-value-claims t)
-    (judge-value-at t)
-    judge-value.Post
-    (λ c κs. tt) -- judge-value-unpack-requires
-    (λ c κs. (now (c .before .before .before .before .before .before .args .index), c .before .before .before .before .before .before .pre .1 .0, c .before .before .before .before .before .before .pre .1 .1, rw (c .before .before .before .unpack .ensures) at (c .before .if1 .taken), c .before .before .before .before .before .before .pre .1 .2, c .before .before .before .before .before .before .pre .1 .3, refl)) -- judge-value-open-requires
-    (λ c. search needs) -- judge-value-enum-known-cause
-    (λ c κs. tt) -- judge-value-refused-requires
-    (λ c. (c .before .before .before .before .before .before .before .before .before .before .before .pre .1 .5, c .refused .ensures ∙ value-unopened (now (c .before .before .before .before .before .before .before .before .before .before .before .args .table)) (recordIn (now (c .before .before .before .before .before .before .before .before .before .before .before .args .table)) (unpacked (c .before .before .before .before .before .before .before .before .before .before .before .args .w))) (its-fit (c .before .before .before .before .before .before .before .before .before .before .before .pre .1 .0) (c .before .before .before .before .before .before .before .before .before .before .before .pre .1 .1)) (now (c .before .before .before .before .before .before .before .before .before .before .before .args .m)) (λ i. omega (arith, c .before .before .before .before .before .before .before .before .before .shared-slice-known2 .given i)) (c .before .before .before .before .before .before .before .before .before .before .before .args .at) _ (c .before .before .before .before .«open» .result) (c .before .before .before .before .«open» .ensures .1) (c .before .before .cause .given .0 .0) (c .before .before .cause .given .0 .1 .0) (c .before .before .cause .given .1) (c .before .before .before .before .before .before .before .before .before .before .before .args .level))) -- judge-value-returns
-    (λ c. search needs) -- judge-value-enum-known-x
-    (λ c. omega (arith, at-under t (c .before) .some, at-under t (c .before) .high)) -- judge-value-sub-left
-    (λ c. sym (length-take-le (c .before .before .if1 .end) (now (c .before .before .before .before .before .before .before .args .m)) (at-under t (c .before .before) .high))) -- judge-value-slice-aggregate-around
-    (λ c κs. tt) -- judge-value-read-requires
-    (λ c. search needs) -- judge-value-enum-known-fault
-    (λ c κs. tt) -- judge-value-cause-of-requires
-    (λ c κs. tt) -- judge-value-refused-requires-2
-    (λ c. (c .before .before .before .before .before .before .before .before .before .before .before .before .before .before .before .pre .1 .5, c .refused2 .ensures ∙ value-unread (now (c .before .before .before .before .before .before .before .before .before .before .before .before .before .before .before .args .table)) (recordIn (now (c .before .before .before .before .before .before .before .before .before .before .before .before .before .before .before .args .table)) (unpacked (c .before .before .before .before .before .before .before .before .before .before .before .before .before .before .before .args .w))) (its-fit (c .before .before .before .before .before .before .before .before .before .before .before .before .before .before .before .pre .1 .0) (c .before .before .before .before .before .before .before .before .before .before .before .before .before .before .before .pre .1 .1)) (now (c .before .before .before .before .before .before .before .before .before .before .before .before .before .before .before .args .m)) (λ i. omega (arith, c .before .before .before .before .before .before .before .before .before .before .before .before .before .shared-slice-known2 .given i)) (c .before .before .before .before .before .before .before .before .before .before .before .before .before .before .before .args .at) _ (c .before .before .before .before .before .before .before .before .before .before .if1 .at) (c .before .before .before .before .before .before .before .before .before .before .if1 .from) (c .before .before .before .before .before .before .before .before .before .before .if1 .end) (at-under t (c .before .before .before .before .before .before .before .before .before .before)) (no-choice (c .before .before .before .before .before .before .before .before .before .before .before .before .before .before .before .pre .1 .0) (c .before .before .before .before .before .before .before .before .before .before .before .before .before .before .before .pre .1 .1) (c .before .before .before .before .before .before .before .before .before .before .before .before .unpack .result) (c .before .before .before .before .before .before .before .before .before .before .before .before .unpack .ensures) (c .before .before .before .before .before .before .if2 .taken)) (c .before .before .before .before .before .read .result) (c .before .before .before .before .before .read .ensures) (c .before .before .before .fault .given .0 .0) (c .before .before .before .fault .given .1) (c .before .cause-of .result) (c .before .cause-of .ensures) (c .before .before .before .before .before .before .before .before .before .before .before .before .before .before .before .args .level))) -- judge-value-returns-2
-    (λ c. search needs) -- judge-value-enum-known-x-2
-    (λ c κs. tt) -- judge-value-refused-requires-3
-    (λ c. (c .before .before .before .before .before .before .before .before .before .before .before .before .pre .1 .5, c .refused3 .ensures ∙ value-marked (c .before .before .before .before .before .before .before .before .before .before .before .before .pre .1 .0) (c .before .before .before .before .before .before .before .before .before .before .before .before .pre .1 .1) (c .before .before .before .before .before .before .before .before .before .unpack .result) (c .before .before .before .before .before .before .before .before .before .unpack .ensures) (now (c .before .before .before .before .before .before .before .before .before .before .before .before .args .m)) (λ i. omega (arith, c .before .before .before .before .before .before .before .before .before .before .shared-slice-known2 .given i)) (c .before .before .before .before .before .before .before .before .before .before .before .before .args .at) _ (c .before .before .before .before .before .before .before .if1 .at) (c .before .before .before .before .before .before .before .if1 .from) (c .before .before .before .before .before .before .before .if1 .end) (at-under t (c .before .before .before .before .before .before .before)) (c .before .before .before .if2 .start) (c .before .before .before .if2 .stop) (c .before .before .before .if2 .marked) (at-within t (c .before .before .before)) (c .before .before .before .before .before .before .before .before .before .before .before .before .args .level) (c .before .before .if3 .taken) (c .before .if4 .taken))) -- judge-value-returns-3
-    (λ c. omega (arith, at-within t (c .before .before .before .before) .ordered)) -- judge-value-sub-c
-    (λ c. omega (arith, at-within t (c .before .before .before .before) .ordered, at-within t (c .before .before .before .before) .high, at-under t (c .before .before .before .before .before .before .before .before) .high)) -- judge-value-part-c-start
-    (λ c. omega (arith, at-within t (c .before .before .before .before) .ordered, at-within t (c .before .before .before .before) .high, at-under t (c .before .before .before .before .before .before .before .before) .high)) -- judge-value-part-c-end
-    (λ c κs. (tableIn (now (c .before .before .before .before .before .before .before .before .before .before .before .before .before .before .args .table)) (c .before .before .before .before .before .before .before .before .before .before .before .before .before .before .pre .1 .1 .0), rw (c .before .before .before .before .before .before .before .before .before .before .before .unpack .ensures) (its-entry (c .before .before .before .before .before .before .before .before .before .before .before .before .before .before .pre .1 .0) (c .before .before .before .before .before .before .before .before .before .before .before .before .before .before .pre .1 .1)), short-contents (c .before .before .before .before .before .before .before .before .before .before .before .before .before .before .pre .1 .0) (c .before .before .before .before .before .before .before .before .before .before .before .before .before .before .pre .1 .1) (c .before .before .before .before .before .before .before .before .before .before .before .unpack .result) (c .before .before .before .before .before .before .before .before .before .before .before .unpack .ensures) (now (c .before .before .before .before .before .before .before .before .before .before .before .before .before .before .args .m)) (λ i. omega (arith, c .before .before .before .before .before .before .before .before .before .before .before .before .shared-slice-known2 .given i)) (c .before .before .before .before .before .before .before .before .before .before .before .before .before .before .args .at) _ (c .before .before .before .before .before .before .before .before .before .if1 .at) (c .before .before .before .before .before .before .before .before .before .if1 .from) (c .before .before .before .before .before .before .before .before .before .if1 .end) (at-under t (c .before .before .before .before .before .before .before .before .before)) (c .before .before .before .before .before .if2 .start) (c .before .before .before .before .before .if2 .stop) (c .before .before .before .before .before .if2 .marked) (at-within t (c .before .before .before .before .before)) (c .before .before .before .before .before .before .before .before .before .before .before .before .before .before .args .level) 8192 (c .before .before .before .before .before .before .before .before .before .before .before .before .before .before .pre .1 .3))) -- judge-value-contents-size-requires
-    (λ c κs. tt) -- judge-value-refused-requires-4
-    (λ c. (c .before .before .before .before .before .before .before .before .before .before .before .before .before .before .before .before .before .pre .1 .5, c .refused4 .ensures ∙ value-wrong (c .before .before .before .before .before .before .before .before .before .before .before .before .before .before .before .before .before .pre .1 .0) (c .before .before .before .before .before .before .before .before .before .before .before .before .before .before .before .before .before .pre .1 .1) (c .before .before .before .before .before .before .before .before .before .before .before .before .before .before .unpack .result) (c .before .before .before .before .before .before .before .before .before .before .before .before .before .before .unpack .ensures) (now (c .before .before .before .before .before .before .before .before .before .before .before .before .before .before .before .before .before .args .m)) (λ i. omega (arith, c .before .before .before .before .before .before .before .before .before .before .before .before .before .before .before .shared-slice-known2 .given i)) (c .before .before .before .before .before .before .before .before .before .before .before .before .before .before .before .before .before .args .at) _ (c .before .before .before .before .before .before .before .before .before .before .before .before .if1 .at) (c .before .before .before .before .before .before .before .before .before .before .before .before .if1 .from) (c .before .before .before .before .before .before .before .before .before .before .before .before .if1 .end) (at-under t (c .before .before .before .before .before .before .before .before .before .before .before .before)) (c .before .before .before .before .before .before .before .before .if2 .start) (c .before .before .before .before .before .before .before .before .if2 .stop) (c .before .before .before .before .before .before .before .before .if2 .marked) (at-within t (c .before .before .before .before .before .before .before .before)) (c .before .before .before .before .before .before .before .before .before .before .before .before .before .before .before .before .before .args .level) (c .before .before .before .before .before .before .before .if3 .taken) (c .before .before .before .before .before .before .if4 .left) (c .before .before .contents-size .result) (c .before .before .contents-size .ensures .0) (c .before .if5 .taken))) -- judge-value-returns-4
-    (λ c. omega (arith, at-within t (c .before .before .before) .ordered)) -- judge-value-sub-c-2
-    (λ c. omega (arith, at-within t (c .before .before .before) .ordered, at-within t (c .before .before .before) .high, at-under t (c .before .before .before .before .before .before .before) .high)) -- judge-value-part-c-start-2
-    (λ c. omega (arith, at-within t (c .before .before .before) .ordered, at-within t (c .before .before .before) .high, at-under t (c .before .before .before .before .before .before .before) .high)) -- judge-value-part-c-end-2
-    (λ c κs. (omega (arith, c .before .before .before .before .before .before .before .before .before .before .before .before .before .before .pre .0), (c .before .before .before .before .before .before .before .before .before .before .before .before .before .before .pre .1 .0, of-record (c .before .before .before .before .before .before .before .before .before .before .before .before .before .before .pre .1 .1 .0) (c .before .before .before .before .before .before .before .before .before .before .before .before .before .before .pre .1 .1 .1) (c .before .before .before .before .before .before .before .before .before .before .before .before .before .before .pre .1 .1 .2), sym (ap (λ (x : Entry). x .simple) (c .before .before .before .before .before .before .before .before .before .before .before .unpack .ensures)) ∙ c .before .before .before .before .if3 .left, some-items (c .before .before .before .before .before .before .before .before .before .before .before .before .before .before .pre .1 .0) (c .before .before .before .before .before .before .before .before .before .before .before .before .before .before .pre .1 .1) (c .before .before .before .before .before .before .before .before .before .before .before .unpack .result) (c .before .before .before .before .before .before .before .before .before .before .before .unpack .ensures) (now (c .before .before .before .before .before .before .before .before .before .before .before .before .before .before .args .m)) (λ i. omega (arith, c .before .before .before .before .before .before .before .before .before .before .before .before .shared-slice-known2 .given i)) (c .before .before .before .before .before .before .before .before .before .before .before .before .before .before .args .at) _ (c .before .before .before .before .before .before .before .before .before .if1 .at) (c .before .before .before .before .before .before .before .before .before .if1 .from) (c .before .before .before .before .before .before .before .before .before .if1 .end) (at-under t (c .before .before .before .before .before .before .before .before .before)) (c .before .before .before .before .before .if2 .start) (c .before .before .before .before .before .if2 .stop) (c .before .before .before .before .before .if2 .marked) (at-within t (c .before .before .before .before .before)) (c .before .before .before .before .before .before .before .before .before .before .before .before .before .before .args .level) (c .before .before .before .before .if3 .left), short-contents (c .before .before .before .before .before .before .before .before .before .before .before .before .before .before .pre .1 .0) (c .before .before .before .before .before .before .before .before .before .before .before .before .before .before .pre .1 .1) (c .before .before .before .before .before .before .before .before .before .before .before .unpack .result) (c .before .before .before .before .before .before .before .before .before .before .before .unpack .ensures) (now (c .before .before .before .before .before .before .before .before .before .before .before .before .before .before .args .m)) (λ i. omega (arith, c .before .before .before .before .before .before .before .before .before .before .before .before .shared-slice-known2 .given i)) (c .before .before .before .before .before .before .before .before .before .before .before .before .before .before .args .at) _ (c .before .before .before .before .before .before .before .before .before .if1 .at) (c .before .before .before .before .before .before .before .before .before .if1 .from) (c .before .before .before .before .before .before .before .before .before .if1 .end) (at-under t (c .before .before .before .before .before .before .before .before .before)) (c .before .before .before .before .before .if2 .start) (c .before .before .before .before .before .if2 .stop) (c .before .before .before .before .before .if2 .marked) (at-within t (c .before .before .before .before .before)) (c .before .before .before .before .before .before .before .before .before .before .before .before .before .before .args .level) 8192 (c .before .before .before .before .before .before .before .before .before .before .before .before .before .before .pre .1 .3), omega (arith, c .before .before .before .before .before .before .before .before .before .before .before .before .before .before .pre .1 .4), c .before .before .before .before .before .before .before .before .before .before .before .before .before .before .pre .1 .5))) -- judge-value-judge-members-requires
-    (λ c. search needs) -- judge-value-enum-known-cause-2
-    (λ c. omega (arith, at-within t (c .before .before .before .before .before .before .before .before .before) .high, at-under t (c .before .before .before .before .before .before .before .before .before .before .before .before .before) .high)) -- judge-value-sub-refused
-    (λ c. omega (arith, items-left (c .before .before .before .before .before .before .before .before .before .before .before .before .before .before .before .before .before .before .pre .1 .0) (c .before .before .before .before .before .before .before .before .before .before .before .before .before .before .before .before .before .before .pre .1 .1) (c .before .before .before .before .before .before .before .before .before .before .before .before .before .before .before .unpack .result) (c .before .before .before .before .before .before .before .before .before .before .before .before .before .before .before .unpack .ensures) (now (c .before .before .before .before .before .before .before .before .before .before .before .before .before .before .before .before .before .before .args .m)) (λ i. omega (arith, c .before .before .before .before .before .before .before .before .before .before .before .before .before .before .before .before .shared-slice-known2 .given i)) (c .before .before .before .before .before .before .before .before .before .before .before .before .before .before .before .before .before .before .args .at) _ (c .before .before .before .before .before .before .before .before .before .before .before .before .before .if1 .at) (c .before .before .before .before .before .before .before .before .before .before .before .before .before .if1 .from) (c .before .before .before .before .before .before .before .before .before .before .before .before .before .if1 .end) (at-under t (c .before .before .before .before .before .before .before .before .before .before .before .before .before)) (c .before .before .before .before .before .before .before .before .before .if2 .start) (c .before .before .before .before .before .before .before .before .before .if2 .stop) (c .before .before .before .before .before .before .before .before .before .if2 .marked) (at-within t (c .before .before .before .before .before .before .before .before .before)) (c .before .before .before .before .before .before .before .before .before .before .before .before .before .before .before .before .before .before .args .level) (c .before .before .before .before .before .before .before .before .if3 .left) (c .before .before .before .judge-members .result) (c .before .before .before .judge-members .ensures .1) (c .before .cause2 .given .0 .0) (c .before .cause2 .given .0 .1 .0) (c .before .cause2 .given .1), at-within t (c .before .before .before .before .before .before .before .before .before) .high, at-under t (c .before .before .before .before .before .before .before .before .before .before .before .before .before) .high, c .before .before .before .before .before .before .before .before .before .before .before .before .before .before .before .before .before .before .pre .1 .3)) -- judge-value-add-refused
-    (λ c κs. tt) -- judge-value-refused-requires-5
-    (λ c. (c .before .before .before .before .judge-members .ensures .0, c .refused5 .ensures ∙ value-unheld (c .before .before .before .before .before .before .before .before .before .before .before .before .before .before .before .before .before .before .before .pre .1 .0) (c .before .before .before .before .before .before .before .before .before .before .before .before .before .before .before .before .before .before .before .pre .1 .1) (c .before .before .before .before .before .before .before .before .before .before .before .before .before .before .before .before .unpack .result) (c .before .before .before .before .before .before .before .before .before .before .before .before .before .before .before .before .unpack .ensures) (now (c .before .before .before .before .before .before .before .before .before .before .before .before .before .before .before .before .before .before .before .args .m)) (λ i. omega (arith, c .before .before .before .before .before .before .before .before .before .before .before .before .before .before .before .before .before .shared-slice-known2 .given i)) (c .before .before .before .before .before .before .before .before .before .before .before .before .before .before .before .before .before .before .before .args .at) _ (c .before .before .before .before .before .before .before .before .before .before .before .before .before .before .if1 .at) (c .before .before .before .before .before .before .before .before .before .before .before .before .before .before .if1 .from) (c .before .before .before .before .before .before .before .before .before .before .before .before .before .before .if1 .end) (at-under t (c .before .before .before .before .before .before .before .before .before .before .before .before .before .before)) (c .before .before .before .before .before .before .before .before .before .before .if2 .start) (c .before .before .before .before .before .before .before .before .before .before .if2 .stop) (c .before .before .before .before .before .before .before .before .before .before .if2 .marked) (at-within t (c .before .before .before .before .before .before .before .before .before .before)) (c .before .before .before .before .before .before .before .before .before .before .before .before .before .before .before .before .before .before .before .args .level) (c .before .before .before .before .before .before .before .before .before .if3 .left) (c .before .before .before .before .judge-members .result) (c .before .before .before .before .judge-members .ensures .1) (c .before .before .cause2 .given .0 .0) (c .before .before .cause2 .given .0 .1 .0) (c .before .before .cause2 .given .1))) -- judge-value-returns-5
-    (λ c. search needs) -- judge-value-enum-known-x-3
-    (λ c. omega (arith, items-end (c .before .before .before .before .before .before .before .before .before .before .before .before .before .before .before .before .before .before .pre .1 .0) (c .before .before .before .before .before .before .before .before .before .before .before .before .before .before .before .before .before .before .pre .1 .1) (c .before .before .before .before .before .before .before .before .before .before .before .before .before .before .before .unpack .result) (c .before .before .before .before .before .before .before .before .before .before .before .before .before .before .before .unpack .ensures) (now (c .before .before .before .before .before .before .before .before .before .before .before .before .before .before .before .before .before .before .args .m)) (λ i. omega (arith, c .before .before .before .before .before .before .before .before .before .before .before .before .before .before .before .before .shared-slice-known2 .given i)) (c .before .before .before .before .before .before .before .before .before .before .before .before .before .before .before .before .before .before .args .at) _ (c .before .before .before .before .before .before .before .before .before .before .before .before .before .if1 .at) (c .before .before .before .before .before .before .before .before .before .before .before .before .before .if1 .from) (c .before .before .before .before .before .before .before .before .before .before .before .before .before .if1 .end) (at-under t (c .before .before .before .before .before .before .before .before .before .before .before .before .before)) (c .before .before .before .before .before .before .before .before .before .if2 .start) (c .before .before .before .before .before .before .before .before .before .if2 .stop) (c .before .before .before .before .before .before .before .before .before .if2 .marked) (at-within t (c .before .before .before .before .before .before .before .before .before)) (c .before .before .before .before .before .before .before .before .before .before .before .before .before .before .before .before .before .before .args .level) (c .before .before .before .before .before .before .before .before .if3 .left) (c .before .before .before .judge-members .result) (c .before .before .before .judge-members .ensures .1) (c .before .x3 .given .0 .0) (c .before .x3 .given .0 .1 .0) (c .before .x3 .given .1), at-within t (c .before .before .before .before .before .before .before .before .before) .ordered, at-within t (c .before .before .before .before .before .before .before .before .before) .high, at-under t (c .before .before .before .before .before .before .before .before .before .before .before .before .before) .high, c .before .before .before .before .before .before .before .before .before .before .before .before .before .before .before .before .before .before .pre .1 .3)) -- judge-value-add-stop
-    (λ c. omega (arith, few-tags (c .before .before .before .before .before .before .before .before .before .before .before .before .before .before .pre .1 .0) (c .before .before .before .before .before .before .before .before .before .before .before .before .before .before .pre .1 .1) (c .before .before .before .before .before .before .before .before .before .before .before .unpack .result) (c .before .before .before .before .before .before .before .before .before .before .before .unpack .ensures))) -- judge-value-cast-close
-    (λ c κs. (few-tags (c .before .before .before .before .before .before .before .before .before .before .before .before .before .before .pre .1 .0) (c .before .before .before .before .before .before .before .before .before .before .before .before .before .before .pre .1 .1) (c .before .before .before .before .before .before .before .before .before .before .before .unpack .result) (c .before .before .before .before .before .before .before .before .before .before .before .unpack .ensures), at-notes t (c .before .before .before .before .before .before .before .before .before), at-over t (c .before .before .before .before) .within, c .before .before .before .before .before .before .before .before .before .before .before .before .before .before .pre .1 .3, at-over t (c .before .before .before .before) .small, rw (its-notes (c .before .before .before .before .before .before .before .before .before .before .before .before .before .before .pre .1 .0) (c .before .before .before .before .before .before .before .before .before .before .before .before .before .before .pre .1 .1) (c .before .before .before .before .before .before .before .before .before .before .before .unpack .result) (c .before .before .before .before .before .before .before .before .before .before .before .unpack .ensures) (c .before .before .before .before .before .before .before .before .before .if1 .notes)) (at-under t (c .before .before .before .before .before .before .before .before .before) .around))) -- judge-value-close-requires
-    (λ c. (at-way t (c .before .before .before .before .before), value-closed (now (c .before .before .before .before .before .before .before .before .before .before .before .before .before .before .before .args .table)) (recordIn (now (c .before .before .before .before .before .before .before .before .before .before .before .before .before .before .before .args .table)) (unpacked (c .before .before .before .before .before .before .before .before .before .before .before .before .before .before .before .args .w))) (now (c .before .before .before .before .before .before .before .before .before .before .before .before .before .before .before .args .m)) (c .before .before .before .before .before .before .before .before .before .before .before .before .before .before .before .args .at) _ (c .before .before .before .before .before .before .before .before .before .before .if1 .at) (c .before .before .before .before .before .before .before .before .before .before .if1 .from) (c .before .before .before .before .before .before .before .before .before .before .if1 .end) (at-under t (c .before .before .before .before .before .before .before .before .before .before)) (c .before .before .before .before .before .before .before .before .before .before .before .before .before .before .before .args .level) (c .before .before .before .before .before .if3 .stop) (c .before .before .before .before .before .if3 .size) (at-over t (c .before .before .before .before .before)) _ (its-notes (c .before .before .before .before .before .before .before .before .before .before .before .before .before .before .before .pre .1 .0) (c .before .before .before .before .before .before .before .before .before .before .before .before .before .before .before .pre .1 .1) (c .before .before .before .before .before .before .before .before .before .before .before .before .unpack .result) (c .before .before .before .before .before .before .before .before .before .before .before .before .unpack .ensures) (c .before .before .before .before .before .before .before .before .before .before .if1 .notes)) (c .close .result) (c .close .ensures))) -- judge-value-returns-6
-    (λ c κs. tt) -- judge-value-done-requires
-    (λ c. (at-way t (c .before .before .before), c .done .ensures ∙ value-over (now (c .before .before .before .before .before .before .before .before .before .before .before .before .before .args .table)) (recordIn (now (c .before .before .before .before .before .before .before .before .before .before .before .before .before .args .table)) (unpacked (c .before .before .before .before .before .before .before .before .before .before .before .before .before .args .w))) (now (c .before .before .before .before .before .before .before .before .before .before .before .before .before .args .m)) (c .before .before .before .before .before .before .before .before .before .before .before .before .before .args .at) _ (c .before .before .before .before .before .before .before .before .if1 .at) (c .before .before .before .before .before .before .before .before .if1 .from) (c .before .before .before .before .before .before .before .before .if1 .end) (at-under t (c .before .before .before .before .before .before .before .before)) (c .before .before .before .before .before .before .before .before .before .before .before .before .before .args .level) (c .before .before .before .if3 .stop) (c .before .before .before .if3 .size) (at-over t (c .before .before .before)) (no-notes (c .before .before .before .before .before .before .before .before .before .before .before .before .before .pre .1 .0) (c .before .before .before .before .before .before .before .before .before .before .before .before .before .pre .1 .1) (c .before .before .before .before .before .before .before .before .before .before .unpack .result) (c .before .before .before .before .before .before .before .before .before .before .unpack .ensures) (c .before .if6 .left) (c .before .before .before .before .before .before .before .before .if1 .notes)))) -- judge-value-returns-7
+    judge-value-half
