@@ -17,7 +17,8 @@ use Rattle.octets.specs.Permutations.{as-given}
 use Rattle.octets.proofs.Answer.{Holds, Taken, got-holds, if-cases, none-there}
 use Rattle.octets.proofs.Tests.{test}
 use Rattle.ber.specs.Codes.{codeOf}
-use Rattle.ber.specs.Reading.{Mode, closed, open-ended, Size, definite, indefinite, readIdentifier, readLength, readHeader, inside as insideSize, readConstructed, contents, readPrimitive, atEnd}
+use Rattle.ber.specs.Reading.{Mode, closed, open-ended, Size, definite, indefinite, readIdentifier, readLength, readHeader, inside as insideSize}
+use Rattle.ber.specs.Reading.{readConstructed, contents, readPrimitive, atEnd}
 use Rattle.ber.specs.Told.{toldIdentifier, toldLength, faultOf, faultNumber, mode}
 use Rattle.ber.specs.declared.Fault.{Fault}
 use Rattle.ber.specs.declared.identifier.Identifier.the-variants.{Refused as NoIdentifier}
@@ -25,7 +26,8 @@ use Rattle.ber.specs.declared.length.Length.{Length}
 use Rattle.ber.specs.declared.length.Length.the-variants.{Read as ReadLength, Refused as NoLength}
 use Rattle.ber.specs.declared.length.Extent.{Extent}
 use Rattle.ber.proofs.Told.{identifier-refused, length-definite, length-indefinite, length-refused}
-use Rattle.table.specs.Syntax.{Tag, Member, Simple, Boolean, Integer, BitString, OctetString, Null, Enumerated, Body, Plain, Sequence, Set, SequenceOf, SetOf, Choice, Record, Table, isChoice, constructed}
+use Rattle.table.specs.Syntax.{Tag, Member, Simple, Boolean, Integer, BitString, OctetString, Null, Enumerated, Body, Plain, Sequence, Set}
+use Rattle.table.specs.Syntax.{SequenceOf, SetOf, Choice, Record, Table, isChoice, constructed}
 use Rattle.table.specs.Rules.{members}
 use Rattle.table.specs.Reading.{bodyAt}
 use Rattle.table.specs.Entries.{unpacked, tableIn, countIn, Entered, firstCode}
@@ -40,7 +42,8 @@ use Rattle.coding.proofs.FirstTags.{good}
 use Rattle.coding.proofs.Refusals.{Says, names, value-shorter, value-says}
 use Rattle.coding.proofs.Sound.{value-sound}
 use Rattle.reader.specs.Answers.{cap, causeOf, causeNumber, told, size}
-use Rattle.reader.specs.Items.{Holder, inside, message, manner, Placed, remains, lacks, following, noted, isSingle, Hand, readPart, next, readItems, assemble, blank, readHeld}
+use Rattle.reader.specs.Items.{Holder, inside, message, manner, Placed, remains, lacks, following, noted, isSingle, Hand, readPart, next}
+use Rattle.reader.specs.Items.{readItems, assemble, blank, readHeld}
 use Rattle.reader.specs.Records.{Ready, recordIn, IsRecord, Known, of-record, of-message, holderIn, readRecord}
 use Rattle.reader.specs.Sought.{held}
 use Rattle.reader.specs.Weights.{weight, leafWeight}
@@ -100,7 +103,8 @@ module _ {A : Type 0} {P : List ℕ → Type 0} where
   sane-wider s t h (leaves {u = u} i p) = leaves (tail-on s t u h i) p
   sane-wider s t h (stops {l = l} i) = stops {l = l} (omega (arith, tail-less h))
 
-  sane-if : (s : List ℕ) (b : Bool) {x : Answer A} {y : Unit {0} → Answer A} → (b ≡ true → Sane P s x) → (b ≡ false → (u : Unit {0}) → Sane P s (y u)) → Sane P s (if b x y)
+  sane-if : (s : List ℕ) (b : Bool) {x : Answer A} {y : Unit {0} → Answer A} → (b ≡ true → Sane P s x) → (b ≡ false → (u : Unit {0}) → Sane P s (y u))
+      → Sane P s (if b x y)
   unfolding if
   sane-if s true h k = h refl
   sane-if s false h k = k refl tt
@@ -111,7 +115,8 @@ module _ {A : Type 0} {P : List ℕ → Type 0} where
   sane-then s (leaves {a = a} {u = u} h q) k = k a u h q
   sane-then s (stops {l = l} h) k = stops {l = l} h
 
-  sane-end : (k : Mode) (s : List ℕ) {f : List ℕ → Answer A} {x : Unit {0} → Answer A} → ((u : List ℕ) → Tail s u → (k ≡ closed → u ≡ []) → Sane P s (f u))
+  sane-end : (k : Mode) (s : List ℕ) {f : List ℕ → Answer A} {x : Unit {0} → Answer A}
+      → ((u : List ℕ) → Tail s u → (k ≡ closed → u ≡ []) → Sane P s (f u))
       → ((u : Unit {0}) → Sane P s (x u)) → Sane P s (atEnd k s f x)
   unfolding atEnd
   sane-end closed s h i = sane-if s _ (λ e. h [] (length s, omega arith, sym (drop-length s)) (λ _. refl)) λ e. i
@@ -215,9 +220,11 @@ decode-only BitString l c s = if-cases (Only l) _ _ _ (λ e. (refl, refl)) (λ e
 decode-only OctetString l c s = tt
 decode-only Null l c s = if-cases (Only l) _ _ _ (λ e. (refl, refl)) (λ e. tt)
 decode-only (Enumerated ns) l c s =
-    if-cases (Only l) _ _ _ (λ e. (refl, refl)) (λ e. if-cases (Only l) _ _ _ (λ f. (refl, refl)) (λ f. if-cases (Only l) _ _ _ (λ g. (refl, refl)) (λ g. tt)))
+    if-cases (Only l) _ _ _ (λ e. (refl, refl)) (λ e. if-cases (Only l) _ _ _ (λ f. (refl, refl))
+    (λ f. if-cases (Only l) _ _ _ (λ g. (refl, refl)) (λ g. tt)))
 
-decode-moves : (k : Simple) (l : ℕ) (c s : List ℕ) (l₂ : ℕ) (s₂ : List ℕ) (x : Leaf) (w : List ℕ) → decode k l c s ≡ got x w → decode k l₂ c s₂ ≡ got x s₂
+decode-moves : (k : Simple) (l : ℕ) (c s : List ℕ) (l₂ : ℕ) (s₂ : List ℕ) (x : Leaf) (w : List ℕ) → decode k l c s ≡ got x w
+    → decode k l₂ c s₂ ≡ got x s₂
 decode-moves k l c s l₂ s₂ x w e = content-complete l₂ s₂ (got-holds (content-sound k l c s) e .1)
 
 leaf-some : (x : Leaf) → 0 < length (leafOctets x)
@@ -261,7 +268,8 @@ module _ {A B : Type 0} (a : A) (b : B) where
       go (more h) = inr (26, length u, h A _ _, h B _ _)
   ended-alike k x y (inr (c, l, e, f)) = inr (c, l, rw e refl, rw f refl)
 
-  shut-alike : (m : List ℕ) (outer inner : ℕ) (k : Bool) (x : Answer A) (y : Answer B) → Alike a b x y → Alike a b (shut m outer inner k x) (shut m outer inner k y)
+  shut-alike : (m : List ℕ) (outer inner : ℕ) (k : Bool) (x : Answer A) (y : Answer B) → Alike a b x y
+      → Alike a b (shut m outer inner k x) (shut m outer inner k y)
   unfolding shut then behind
   shut-alike m outer inner true x y h = ended-alike open-ended x y h
   shut-alike m outer inner false x y h = go (ended-alike closed x y h)
@@ -287,7 +295,7 @@ closing-size m ns e a b u f g q = go (closing-alike a b m ns e (got a u) (got b 
     go (inl (w, x, y)) = rw (x, y, q) refl
     go (inr (c, l, x, y)) = rw (x, y) refl
 
--- Under the explicit tags of r, the item of r stands from `at` to `end` or before, and its identifier, if it has one, up to `from`.
+-- Under the explicit tags of r, the item of r stands from `at` on, in octets that end at `end`; its identifier, if it has one, ends at `from`.
 -- The value of r is what closing the tags makes of what is read there.
 pub record Under (b : List ℕ) (r : Record) (m : List ℕ) (first : ℕ) (ns : List ℕ) (at from end : ℕ) : Type 0 where
   pub some : at < end
@@ -296,20 +304,19 @@ pub record Under (b : List ℕ) (r : Record) (m : List ℕ) (first : ℕ) (ns : 
   pub headed : isChoice (r .body) ≡ false → Headed (take end m) at from (codeOf (own r))
   pub whole : (n : ℕ) → readRecord (tableIn b) n r (drop first m) ≡ closing m ns end (readBare b n r (drop at (take end m)))
 
--- where the contents of an item of r stand, whose identifier is at `at` and which has the octets up to `end`
+-- where the contents of that item stand
 abbrev pub sizeOf : Bool → ℕ → Size
 sizeOf true n = indefinite
 sizeOf false n = definite n
 
 pub record Within (r : Record) (p : List ℕ) (at end start stop : ℕ) (marked : Bool) : Type 0 where
-  pub low : at ≤ start
   pub ordered : start ≤ stop
   pub high : stop ≤ end
   pub unsized : marked ≡ true → stop ≡ end
-  pub bare : isChoice (r .body) ≡ true → (start ≡ at) × (stop ≡ end) × (marked ≡ false)
+  pub bare : isChoice (r .body) ≡ true → (start ≡ at) × (stop ≡ end)
   pub header : isChoice (r .body) ≡ false → readHeader (own r) (drop at p) ≡ got (sizeOf marked (stop - start)) (drop start p)
 
--- the item of r is read, its value has this size, and what follows begins at `stop`
+-- the item is read, its value has `count` octets, and what follows begins at `stop`
 pub record Over (b : List ℕ) (r : Record) (n : ℕ) (p : List ℕ) (at end stop count : ℕ) : Type 0 where
   pub within : stop ≤ end
   pub small : count < 16386
@@ -321,122 +328,6 @@ nil-of : (l : List (List ℕ)) → length l ≡ 0 → l ≡ []
 nil-of [] e = refl
 nil-of (x ∷ l) e = absurd (omega arith)
 
--- of a record that fits
-module _ (b : List ℕ) (r : Record) (F : Fit r) (m : List ℕ) (om : Octets m) where
-  own-at : isChoice (r .body) ≡ false → getD (identifiers r) (length (explicit r)) [] ≡ own r
-  unfolding if
-  own-at n = rw n (behind-at (explicit r) (own r))
-
-  own-last : isChoice (r .body) ≡ false → length (explicit r) < length (r .tags)
-  unfolding if
-  own-last n =
-      let q : length (identifiers r) ≡ length (explicit r) + 1 = rw n (length-append (explicit r) (own r ∷ [])) in
-      omega (arith, count-identifiers r F)
-
-  pub under-none : (first from : ℕ) → length (explicit r) ≡ 0 → Headed m first from (firstCode r) → Under b r m first [] first from (length m)
-  unfolding Around closing readRecord readWrapped
-  under-none first from z h =
-      record {
-        some = omega (arith, h .further, h .low);
-        high = omega arith;
-        around = refl;
-        headed = λ n.
-            let k : 0 < length (r .tags) = omega (arith, own-last n) in
-            let q : getD (identifiers r) 0 [] ≡ own r = ap (λ (i : ℕ). getD (identifiers r) i []) (sym z) ∙ own-at n in
-            let c : firstCode r ≡ codeOf (own r) = first-by (r .tags) (r .body) k ∙ sym (code-at r F 0 k) ∙ ap codeOf q in
-            rw (take-length m, ← c) h;
-        whole = λ n. rw (nil-of (explicit r) z, take-length m) refl;
-      }
-
-  pub under-tags : (first : ℕ) (ns : List ℕ) (y : Opened) → Opens b r m first ns y → (x : Inner) → y ≡ Inside x → Under b r m first ns (x .at) (x .from) (x .end)
-  under-tags first ns y o x e =
-      let (_, i, h, a, g, q) : Opens b r m first ns (Inside x) = rw e at o in
-      record { some = i; high = h; around = a; headed = g; whole = q }
-
-  pub value-unopened : (first : ℕ) (ns : List ℕ) (y : Opened) → Opens b r m first ns y → (c : Cause) (l : ℕ) → y ≡ NotOpened c l → (n : ℕ)
-      → Refused c l ≡ told m size (readRecord (tableIn b) n r (drop first m))
-  unfolding told
-  value-unopened first ns y o c l e n =
-      let (_, q) : Opens b r m first ns (NotOpened c l) = rw e at o in
-      rw (q n, cause-number c) refl
-
-  module _ (first : ℕ) (ns : List ℕ) (at from end : ℕ) (U : Under b r m first ns at from end) where
-    abbrev pub Part : List ℕ
-    Part = take end m
-
-    size-part : length Part ≡ end
-    size-part = length-take-le end m (U .high)
-
-    left-part : length (drop at Part) ≡ end - at
-    left-part = length-drop at Part ∙ ap (λ (i : ℕ). i - at) size-part
-
-    -- a refusal of the item is one of the value
-    under-refused : (n c l : ℕ) → readBare b n r (drop at Part) ≡ refused c l
-        → Refused (causeOf c) (l + (length m - end)) ≡ told m size (readRecord (tableIn b) n r (drop first m))
-    unfolding told
-    under-refused n c l e = rw (U .whole n, e, closing-refused {A = Value} m (length m) ns end c l (U .around)) refl
-
-    item-unfit : (n c l : ℕ) → readBare b n r (drop at Part) ≡ refused c l → l ≡ length (drop at Part)
-        → Refused (causeOf c) (length m - at) ≡ told m size (readRecord (tableIn b) n r (drop first m))
-    item-unfit n c l e q =
-        let z : length m - at ≡ l + (length m - end) = omega (arith, left-part, U .some, U .high) in
-        rw z (under-refused n c l e)
-
-    own-header : isChoice (r .body) ≡ false → readHeader (own r) (drop at Part) ≡ readLength (length (drop at Part)) (drop from Part)
-    unfolding readHeader then if
-    own-header n =
-        let h = U .headed n in
-        let o = octets-drop Part (octets-take m om end) at in
-        let q = own-at n in
-        let y : _ = same-at r F (length (explicit r)) (own-last n) (drop at Part) (h .identifier) (drop from Part) o (h .is) in
-        let v = rw q at y in
-        rw (h .is, v, eq-eqb (codeOf (h .identifier)) (codeOf (own r)) (h .coded)) refl
-
-    pub within-choice : isChoice (r .body) ≡ true → Within r Part at end at end false
-    within-choice y =
-        record {
-          low = omega arith;
-          ordered = omega (arith, U .some);
-          high = omega arith;
-          unsized = λ e. absurd (false≢true e);
-          bare = λ _. (refl, refl, refl);
-          header = λ n. absurd (true≢false (sym y ∙ n));
-        }
-
-    module _ (n : isChoice (r .body) ≡ false) (z : Length) (az : (k : ℕ) → z ≡ toldLength (length Part) (readLength k (drop from Part))) where
-      pub value-unread : (f : Fault) → z ≡ NoLength f → (c : Cause) → c ≡ causeOf (faultNumber f) → (level : ℕ)
-          → Refused c (length m - at) ≡ told m size (readRecord (tableIn b) level r (drop first m))
-      value-unread f q c ec level =
-          let k = length (drop at Part) in
-          let y = own-header n ∙ length-refused Part from k z (az k) f q in
-          rw ec (item-unfit level (faultNumber f) k (item-refused (tableIn b) _ (own r) (r .body) (drop at Part) (faultNumber f) k n y) refl)
-
-      pub within-length : (x : Extent) → z ≡ ReadLength x → Within r Part at end (x .start) (x .end) (x .marked)
-      within-length x q =
-          test (x .marked)
-          (λ t.
-          let y = length-indefinite Part from (length (drop at Part)) z (az (length (drop at Part))) x q t in
-          let f = U .headed n .further in
-          record {
-            low = omega (arith, y .1);
-            ordered = omega (arith, y .2, y .3);
-            high = omega (arith, y .3, size-part);
-            unsized = λ _. y .3 ∙ size-part;
-            bare = λ c. absurd (true≢false (sym c ∙ n));
-            header = λ _. own-header n ∙ rw t (y .0);
-          })
-          λ t.
-          let y = length-definite Part from (length (drop at Part)) z (az (length (drop at Part))) x q t in
-          let f = U .headed n .further in
-          record {
-            low = omega (arith, y .1);
-            ordered = y .2;
-            high = omega (arith, y .3, size-part);
-            unsized = λ e. absurd (true≢false (sym e ∙ t));
-            bare = λ c. absurd (true≢false (sym c ∙ n));
-            header = λ _. own-header n ∙ rw t (y .0);
-          }
-
 -- kinds of bodies
 plain-of : (y : Body) → constructed y ≡ false → (k : Simple) × (y ≡ Plain k)
 unfolding constructed
@@ -446,6 +337,10 @@ plain-of (Set ms) e = absurd (true≢false e)
 plain-of (SequenceOf t) e = absurd (true≢false e)
 plain-of (SetOf t) e = absurd (true≢false e)
 plain-of (Choice ts) e = absurd (true≢false e)
+
+no-alternatives : (y : Body) (k : Simple) → y ≡ Plain k → isChoice y ≡ false
+unfolding isChoice
+no-alternatives y k q = rw q refl
 
 not-is : (t : Bool) → true ≡ not t → t ≡ false
 not-is true e = e
@@ -464,8 +359,9 @@ single-kind (SequenceOf t) e = refl
 single-kind (SetOf t) e = refl
 single-kind (Choice ts) e = refl
 
--- the item of a simple kind
-module _ (T : Table) (f : ℕ → List ℕ → Answer Value) (i : List ℕ) (y : Body) (s : List ℕ) (k : Simple) (q : y ≡ Plain k) (z : Bool) (n : ℕ) (u : List ℕ)
+-- the item of a simple kind, by its header
+module _ (T : Table) (f : ℕ → List ℕ → Answer Value) (i : List ℕ) (y : Body) (s : List ℕ) (k : Simple) (q : y ≡ Plain k) (z : Bool) (n : ℕ)
+    (u : List ℕ)
     (h : readHeader i s ≡ got (sizeOf z n) u) where
   plain-open : z ≡ true → readKind T f i y s ≡ refused 23 (length s)
   unfolding readKind readPrimitive then contents
@@ -475,8 +371,9 @@ module _ (T : Table) (f : ℕ → List ℕ → Answer Value) (i : List ℕ) (y :
   unfolding readKind readPrimitive then contents
   plain-sized t = let g = rw t at h in rw (q, g) refl
 
--- the item of a constructed kind
-module _ (i : List ℕ) (s : List ℕ) (z : Bool) (n : ℕ) (u : List ℕ) (h : readHeader i s ≡ got (sizeOf z n) u) (body : Mode → List ℕ → Answer Value) where
+-- the item of a constructed kind, by its header
+module _ (i : List ℕ) (s : List ℕ) (z : Bool) (n : ℕ) (u : List ℕ) (h : readHeader i s ≡ got (sizeOf z n) u)
+    (body : Mode → List ℕ → Answer Value) where
   built-open : z ≡ true → readConstructed i body s ≡ body open-ended u
   unfolding readConstructed then insideSize
   built-open t = let g = rw t at h in rw g refl
@@ -485,10 +382,11 @@ module _ (i : List ℕ) (s : List ℕ) (z : Bool) (n : ℕ) (u : List ℕ) (h : 
   unfolding readConstructed then insideSize
   built-sized t = let g = rw t at h in rw g refl
 
--- the item of a constructed kind is the items in it
+-- and by the items in it
 module _ (T : Table) (f : ℕ → List ℕ → Answer Value) (i s : List ℕ) where
   abbrev Built : Body → Answer Value → Type 0
-  Built y x = (isChoice y ≡ false → x ≡ readConstructed i (readHeld T f (inside y)) s) × (isChoice y ≡ true → (k : Mode) → x ≡ readHeld T f (inside y) k s)
+  Built y x =
+      (isChoice y ≡ false → x ≡ readConstructed i (readHeld T f (inside y)) s) × (isChoice y ≡ true → (k : Mode) → x ≡ readHeld T f (inside y) k s)
 
   built : (g : _) (h : _) (y : Body) → constructed y ≡ true → (x : Answer Value) → Kind T f g h i s y x → Built y x
   unfolding constructed isChoice
@@ -499,18 +397,18 @@ module _ (T : Table) (f : ℕ → List ℕ → Answer Value) (i s : List ℕ) wh
   built g h (SetOf t) c x q = ((λ _. q), λ e. absurd (false≢true e))
   built g h (Choice ts) c x q = ((λ e. absurd (true≢false e)), λ _. q)
 
--- of the record of an entry
+-- the record of an entry
+abbrev pub recordOf : List ℕ → ℕ → Record
+recordOf b w = recordIn b (unpacked w)
+
 module _ {b index : List ℕ} (R : Ready b index) {w : ℕ} (I : IsRecord b index w) where
   abbrev r : Record
-  r = recordIn b (unpacked w)
-
-  abbrev T : Table
-  T = tableIn b
+  r = recordOf b w
 
   its-body : bodyAt b (unpacked w .kind) (unpacked w .own) ≡ r .body
   its-body = its-entry R I .body ∙ ap (λ (x : Record). x .body) (sym (its-record R I))
 
-  pub its-holder : held b w ≡ inside (r .body)
+  its-holder : held b w ≡ inside (r .body)
   its-holder = held-body (its-entry R I) (R .filled .short) ∙ ap (λ (x : Record). inside (x .body)) (sym (its-record R I))
 
   few-members : (y : Body) → tableIn b (I .0) .body ≡ y → length (members y) ≤ 16
@@ -522,249 +420,78 @@ module _ {b index : List ℕ} (R : Ready b index) {w : ℕ} (I : IsRecord b inde
   few-members (SetOf t) h = omega arith
   few-members (Choice ts) h = omega arith
 
-  its-built : (n : ℕ) (s : List ℕ) → constructed (r .body) ≡ true → Built T (readValue T n) (own r) s (r .body) (readBare b n r s)
+  its-built : (n : ℕ) (s : List ℕ) → constructed (r .body) ≡ true → Built (tableIn b) (readValue (tableIn b) n) (own r) s (r .body) (readBare b n r s)
   its-built n s c =
+      let T = tableIn b in
       let g = good b T (countIn b) (R .passes) in
       let h = value-shorter T n in
       let l : length (members (r .body)) ≤ 16 = few-members (r .body) (ap (λ (x : Record). x .body) (sym (its-record R I))) in
       built T (readValue T n) (own r) s g h (r .body) c (readBare b n r s) (kind-held T (readValue T n) g h (own r) s (r .body) l)
 
+  -- its own identifier is the last
+  own-at : isChoice (r .body) ≡ false → getD (identifiers r) (length (explicit r)) [] ≡ own r
+  unfolding if
+  own-at n = rw n (behind-at (explicit r) (own r))
+
+  own-last : isChoice (r .body) ≡ false → length (explicit r) < length (r .tags)
+  unfolding if
+  own-last n =
+      let q : length (identifiers r) ≡ length (explicit r) + 1 = rw n (length-append (explicit r) (own r ∷ [])) in
+      omega (arith, count-identifiers r (its-fit R I))
+
   module _ (e : Entry) (ee : e ≡ unpacked w) where
-    pub its-choice : eqb (e .kind) 50 ≡ isChoice (r .body)
-    its-choice = ap (λ (x : Entry). eqb (x .kind) 50) ee ∙ kind-choice (its-entry R I) ∙ ap (λ (x : Record). isChoice (x .body)) (sym (its-record R I))
+    its-choice : eqb (e .kind) 50 ≡ isChoice (r .body)
+    its-choice = ap (λ (x : Entry). eqb (x .kind) 50) ee ∙ kind-choice (its-entry R I)
+        ∙ ap (λ (x : Record). isChoice (x .body)) (sym (its-record R I))
 
     its-simple : e .simple ≡ not (constructed (r .body))
-    its-simple = ap (λ (x : Entry). x .simple) ee ∙ its-entry R I .simple ∙ ap (λ (x : Record). not (constructed (x .body))) (sym (its-record R I))
+    its-simple =
+        ap (λ (x : Entry). x .simple) ee ∙ its-entry R I .simple ∙ ap (λ (x : Record). not (constructed (x .body))) (sym (its-record R I))
 
-    is-plain : e .simple ≡ true → (k : Simple) × (r .body ≡ Plain k)
-    is-plain y = plain-of (r .body) (not-is (constructed (r .body)) (sym y ∙ its-simple))
-
-    is-built : e .simple ≡ false → constructed (r .body) ≡ true
-    is-built y = is-not (constructed (r .body)) (sym y ∙ its-simple)
-
-    pub no-choice : (e .kind ≡ 50 → ⊥) → isChoice (r .body) ≡ false
-    no-choice n = sym its-choice ∙ ne-eqb (e .kind) 50 n
-
-    pub is-choice : e .kind ≡ 50 → isChoice (r .body) ≡ true
-    is-choice y = sym its-choice ∙ eq-eqb (e .kind) 50 y
-
-    pub under-bare : (m : List ℕ) → Octets m → (first from : ℕ) → e .explicit ≤ 0 → Headed m first from (unpacked w .code) → (notes : List ℕ)
-        → Under b r m first (take (unpacked w .explicit) notes) first from (length m)
-    under-bare m om first from l h notes =
-        let z : unpacked w .explicit ≡ 0 = omega (arith, ap (λ (x : Entry). x .explicit) ee) in
-        let y : take (unpacked w .explicit) notes ≡ [] = ap (λ (i : ℕ). take i notes) z in
-        rw y (under-none b r (its-fit R I) m om first from (sym (its-count R I) ∙ z) (rw (its-first R I) at h))
-
-    pub its-notes : (notes : List ℕ) → take (e .explicit) notes ≡ take (unpacked w .explicit) notes
+    its-notes : (notes : List ℕ) → take (e .explicit) notes ≡ take (unpacked w .explicit) notes
     its-notes notes = ap (λ (x : Entry). take (x .explicit) notes) ee
 
-    pub no-notes : e .explicit ≤ 0 → (notes : List ℕ) → take (unpacked w .explicit) notes ≡ []
+    no-notes : e .explicit ≤ 0 → (notes : List ℕ) → take (unpacked w .explicit) notes ≡ []
     no-notes l notes = let z : e .explicit ≡ 0 = omega arith in sym (its-notes notes) ∙ ap (λ (i : ℕ). take i notes) z
 
-    pub few-tags : e .explicit ≤ 4
-    few-tags = omega (arith, ap (λ (x : Entry). x .explicit) ee, its-count R I, its-few R I)
+    -- without tags
+    pub under-bare : (m : List ℕ) (first from : ℕ) → e .explicit ≤ 0 → Headed m first from (unpacked w .code) → (notes : List ℕ)
+        → Under b r m first (take (unpacked w .explicit) notes) first from (length m)
+    unfolding Around closing readRecord readWrapped
+    under-bare m first from l h notes =
+        let z : length (explicit r) ≡ 0 = omega (arith, ap (λ (x : Entry). x .explicit) ee, its-count R I) in
+        rw (no-notes l notes)
+        (record {
+          some = omega (arith, h .further, h .low);
+          high = omega arith;
+          around = refl;
+          headed = λ n.
+              let k : 0 < length (r .tags) = omega (arith, own-last n) in
+              let q : getD (identifiers r) 0 [] ≡ own r = ap (λ (i : ℕ). getD (identifiers r) i []) (sym z) ∙ own-at n in
+              let c : unpacked w .code ≡ codeOf (own r)
+              = its-first R I ∙ first-by (r .tags) (r .body) k ∙ sym (code-at r (its-fit R I) 0 k) ∙ ap codeOf q in
+              rw (take-length m, ← c) h;
+          whole = λ n. rw (nil-of (explicit r) z, take-length m) refl;
+        })
 
-    -- the contents
-    module _ (m : List ℕ) (om : Octets m) (first : ℕ) (ns : List ℕ) (at from end : ℕ) (U : Under b r m first ns at from end) (start stop : ℕ) (marked : Bool)
-        (W : Within r (take end m) at end start stop marked) (n : ℕ) where
-      abbrev P : List ℕ
-      P = take end m
+  -- with tags
+  module _ (m : List ℕ) (first : ℕ) (ns : List ℕ) (y : Opened) (o : Opens b r m first ns y) where
+    pub under-tags : (x : Inner) → y ≡ Inside x → Under b r m first ns (x .at) (x .from) (x .end)
+    under-tags x e =
+        let (_, i, h, a, g, q) : Opens b r m first ns (Inside x) = rw e at o in
+        record { some = i; high = h; around = a; headed = g; whole = q }
 
-      abbrev S : List ℕ
-      S = drop at P
-
-      abbrev pub C : List ℕ
-      C = take (stop - start) (drop start m)
-
-      size-P : length P ≡ end
-      size-P = length-take-le end m (U .high)
-
-      slice-c : drop start (take stop m) ≡ C
-      slice-c = sym (slice-is start stop m (W .ordered) (omega (arith, W .high, U .high)))
-
-      size-C : length C ≡ stop - start
-      size-C = length-take-le (stop - start) (drop start m) (omega (arith, length-drop start m, W .high, U .high))
-
-      pub short-contents : (k : ℕ) → length m ≤ k → length C ≤ k
-      short-contents k h = omega (arith, size-C, W .high, U .high)
-
-      part-c : take (stop - start) (drop start P) ≡ C
-      part-c =
-          slice-is start stop P (W .ordered) (omega (arith, size-P, W .high))
-          ∙ ap (drop start) (take-take stop end m (W .high)) ∙ slice-c
-
-      rest-c : drop (stop - start) (drop start P) ≡ drop stop P
-      rest-c =
-          let q : start + (stop - start) ≡ stop = omega (arith, W .ordered) in
-          drop-drop (stop - start) start P ∙ ap (λ (i : ℕ). drop i P) q
-
-      all-c : stop ≡ end → drop start P ≡ C
-      all-c z = ap (λ (i : ℕ). drop start (take i m)) (sym z) ∙ slice-c
-
-      abbrev Told : Judged
-      Told = told m size (readRecord T n r (drop first m))
-
-      -- simple ones
-      module _ (simple : e .simple ≡ true) where
-        not-choice : (k : Simple) → r .body ≡ Plain k → isChoice (r .body) ≡ false
-        unfolding isChoice
-        not-choice k q = rw q refl
-
-        pub value-marked : marked ≡ true → Refused Form (length m - at) ≡ Told
-        unfolding causeOf if
-        value-marked t =
-            let (k, q) = is-plain simple in
-            let y = plain-open T (readValue T n) (own r) (r .body) S k q marked (stop - start) (drop start P) (W .header (not-choice k q)) t in
-            item-unfit b r (its-fit R I) m om first ns at from end U n 23 (length S) y refl
-
-        module _ (sized : marked ≡ false) (i : ℕ) (ei : i ≡ leafWeight (bodyAt b (e .kind) (e .own)) C) where
-          its-weight : (k : Simple) → r .body ≡ Plain k → i ≡ weight (decode k 0 C [])
-          unfolding leafWeight
-          its-weight k q = ei ∙ ap (λ (x : Entry). leafWeight (bodyAt b (x .kind) (x .own)) C) ee ∙ ap (λ (y : Body). leafWeight y C) (its-body ∙ q)
-
-          leaf-read : (k : Simple) → r .body ≡ Plain k → readBare b n r S ≡ then (decode k (length S) C (drop stop P)) λ x s. got (leaf x) s
-          leaf-read k q =
-              let y = plain-sized T (readValue T n) (own r) (r .body) S k q marked (stop - start) (drop start P) (W .header (not-choice k q)) sized in
-              y ∙ rw (part-c, rest-c) refl
-
-          pub value-wrong : i ≡ 0 → Refused Contents (length m - at) ≡ Told
-          unfolding then causeOf if
-          value-wrong z =
-              let (k, q) = is-plain simple in
-              let y = weight-none k C (length S) (drop stop P) i (its-weight k q) z in
-              item-unfit b r (its-fit R I) m om first ns at from end U n 25 (length S) (leaf-read k q ∙ rw y refl) refl
-
-          pub over-leaf : (i ≡ 0 → ⊥) → i < 16386 → Over b r n P at end stop i
-          unfolding then octets
-          over-leaf z small =
-              let (k, q) = is-plain simple in
-              let (x, y, v) = weight-some k C (length S) (drop stop P) i (its-weight k q) z in
-              record {
-                within = W .high;
-                small = small;
-                value = leaf x;
-                is = leaf-read k q ∙ rw y refl;
-                sized = omega arith;
-              }
-
-      -- items
-      module _ (plain : e .simple ≡ false) where
-        abbrev pub Held : Answer Value
-        Held = readHeld T (readValue T n) (held b w) (mode marked) C
-
-        pub some-items : isSingle (manner (held b w)) ≡ true → 0 < length C
-        some-items q =
-            let z : isChoice (r .body) ≡ true = sym (single-kind (r .body) (is-built plain)) ∙ ap (λ (h : Holder). isSingle (manner h)) (sym its-holder) ∙ q in
-            let y = W .bare z in
-            omega (arith, size-C, y .0, y .1, U .some)
-
-        abbrev Held' : Mode → List ℕ → Answer Value
-        Held' k s = readHeld T (readValue T n) (inside (r .body)) k s
-
-        its-held : Held ≡ Held' (mode marked) C
-        its-held = ap (λ (h : Holder). readHeld T (readValue T n) h (mode marked) C) its-holder
-
-        sane : Sane (Closes T n (inside (r .body)) (mode marked)) C Held
-        sane = rw its-held (held-sane T n (inside (r .body)) (mode marked) C)
-
-        -- by the form of the item
-        abbrev Reads : Answer Value → Type 0
-        Reads (refused c l) = readBare b n r S ≡ refused c (l + (end - stop))
-        Reads (got v u) = readBare b n r S ≡ got v (drop (start + (length C - length u)) P)
-
-        -- a CHOICE and contents that 00 00 closes go on to the end of what is around them
-        reads-open : stop ≡ end → readBare b n r S ≡ Held → (x : Answer Value) → Held ≡ x → Sane (Closes T n (inside (r .body)) (mode marked)) C x → Reads x
-        reads-open z y (got v u) d (leaves t q) =
-            y ∙ d ∙ ap (got v) (tail-at C u t ∙ ap (drop (length C - length u)) (sym (all-c z)) ∙ drop-drop (length C - length u) start P)
-        reads-open z y (refused c l) d (stops h) = let v : l ≡ l + (end - stop) = omega arith in y ∙ d ∙ ap (refused c) v
-
-        reads-sized : isChoice (r .body) ≡ false → marked ≡ false → (x : Answer Value) → Held ≡ x → Sane (Closes T n (inside (r .body)) (mode marked)) C x → Reads x
-        unfolding then behind
-        reads-sized k z x d y =
-            let a : readBare b n r S ≡ then (behind (length (drop start P) - (stop - start)) (Held' closed (take (stop - start) (drop start P)))) λ v w. got v (drop (stop - start) (drop start P))
-            = its-built n S (is-built plain) .0 k ∙ built-sized (own r) S marked (stop - start) (drop start P) (W .header k) Held' z in
-            let g : length (drop start P) - (stop - start) ≡ end - stop = omega (arith, length-drop start P, size-P, W .ordered, W .high) in
-            let i : Held' closed C ≡ x = ap (λ (t : Bool). Held' (mode t) C) (sym z) ∙ sym its-held ∙ d in
-            go x y (a ∙ rw (part-c, rest-c, g, i) refl)
-          where
-            go : (x : Answer Value) → Sane (Closes T n (inside (r .body)) (mode marked)) C x → readBare b n r S ≡ then (behind (end - stop) x) (λ v w. got v (drop stop P)) → Reads x
-            go (got v u) (leaves t q) y =
-                let o = q (single-kind (r .body) (is-built plain) ∙ k) (ap mode z) in
-                let f : start + (length C - length u) ≡ stop = omega (arith, size-C, ap length o, W .ordered) in
-                rw f y
-            go (refused c l) (stops h) y = y
-
-        reads : (x : Answer Value) → Held ≡ x → Sane (Closes T n (inside (r .body)) (mode marked)) C x → Reads x
-        reads x d y =
-            test (isChoice (r .body))
-            (λ k.
-            let (a, z, f) = W .bare k in
-            let g : S ≡ C = ap (λ (i : ℕ). drop i P) (sym a) ∙ all-c z in
-            reads-open z (its-built n S (is-built plain) .1 k (mode marked) ∙ ap (Held' (mode marked)) g ∙ sym its-held) x d y)
-            λ k.
-            test marked
-            (λ t.
-            let z = W .unsized t in
-            let i : Held' open-ended (drop start P) ≡ Held = rw (all-c z) (ap (λ (t : Bool). Held' (mode t) C) (sym t) ∙ sym its-held) in
-            reads-open z (its-built n S (is-built plain) .0 k ∙ built-open (own r) S marked (stop - start) (drop start P) (W .header k) Held' t ∙ i) x d y)
-            λ t. reads-sized k t x d y
-
-        module _ (y : Judged) (ey : y ≡ told C size Held) where
-          module _ (c : Cause) (l : ℕ) (d : y ≡ Refused c l) where
-            few-left : (x : Answer Value) → Sane (Closes T n (inside (r .body)) (mode marked)) C x → (k : ℕ) → x ≡ refused k l → l ≤ length C
-            few-left (got v u) s k q = let z : _≡_ {A = ℕ} 0 1 = cc in absurd (omega arith)
-            few-left (refused a i) (stops h) k q = let z : i ≡ l = cc in omega arith
-
-            pub items-left : l ≤ stop - start
-            items-left = let (k, x, _) = told-refused C size Held y ey c l d in omega (arith, few-left Held sane k x, size-C)
-
-            pub value-unheld : Refused c (l + (length m - stop)) ≡ Told
-            value-unheld =
-                let (k, x, f) = told-refused C size Held y ey c l d in
-                let g = reads (refused k l) x (rw x at sane) in
-                let q : l + (length m - stop) ≡ l + (end - stop) + (length m - end) = omega (arith, W .high, U .high) in
-                rw (f, q) (under-refused b r (its-fit R I) m om first ns at from end U n k (l + (end - stop)) g)
-
-          module _ (u i : ℕ) (d : y ≡ Done u i) where
-            pub items-end : u ≤ stop - start
-            items-end = let (v, s, x, f, g) = told-done C size Held y ey u i d in omega (arith, size-C)
-
-            pub over-items : Over b r n P at end (start + u) i
-            over-items =
-                let (v, s, x, f, g) = told-done C size Held y ey u i d in
-                record {
-                  within = omega (arith, items-end, W .ordered, W .high);
-                  small = omega arith;
-                  value = v;
-                  is = reads (got v s) x (rw x at sane) ∙ ap (λ (j : ℕ). got v (drop (start + j) P)) (sym f);
-                  sized = g;
-                }
-
--- behind the item
-module _ (b : List ℕ) (r : Record) (m : List ℕ) (first : ℕ) (ns : List ℕ) (at from end : ℕ) (U : Under b r m first ns at from end) (n stop count : ℕ)
-    (O : Over b r n (take end m) at end stop count) where
-  over-closed : told m size (readRecord (tableIn b) n r (drop first m)) ≡ told m (λ (i : ℕ). i) (closing m ns end (got count (drop stop (take end m))))
-  over-closed =
-      let q : cap (length (octets (O .value))) ≡ cap count = omega (arith, O .sized, O .small) in
-      ap (told m size) (U .whole n ∙ ap (closing m ns end) (O .is)) ∙ closing-size m ns end (O .value) count (drop stop (take end m)) size (λ (i : ℕ). i) q
-
-  pub value-closed : (ks : List ℕ) → ks ≡ ns → (y : Judged) → y ≡ told m (λ (i : ℕ). i) (closing m ks end (got count (drop stop (take end m))))
-      → y ≡ told m size (readRecord (tableIn b) n r (drop first m))
-  value-closed ks q y e = e ∙ ap (λ (l : List ℕ). told m (λ (i : ℕ). i) (closing m l end (got count (drop stop (take end m))))) q ∙ sym over-closed
-
-  pub value-over : ns ≡ [] → Done stop count ≡ told m size (readRecord (tableIn b) n r (drop first m))
-  unfolding told closing Around
-  value-over z =
-      let a : length m ≡ end = rw z at (U .around) in
-      let q : length m - length (drop stop (take end m)) ≡ stop = omega (arith, length-drop stop (take end m), length-take-le end m (U .high), O .within) in
-      let g : cap count ≡ count = omega (arith, O .small) in
-      sym (over-closed ∙ rw (z, q, g) refl)
+    pub value-unopened : (c : Cause) (l : ℕ) → y ≡ NotOpened c l → (n : ℕ) → Refused c l ≡ told m size (readRecord (tableIn b) n r (drop first m))
+    unfolding told
+    value-unopened c l e n =
+        let (_, q) : Opens b r m first ns (NotOpened c l) = rw e at o in
+        rw (q n, cause-number c) refl
 
 -- An item of a record where its tags are opened: what the value stands in, and where. The values in it have `level` levels.
 pub record Item (b index : List ℕ) (w : ℕ) (m : List ℕ) (first level : ℕ) : Type 0 where
   pub ready : Ready b index
   pub known : IsRecord b index w
-  pub octets : Octets m
+  pub all-octets : Octets m
   pub short : length m ≤ 8192
   pub entry : Entry
   pub entered : entry ≡ unpacked w
@@ -773,129 +500,371 @@ pub record Item (b index : List ℕ) (w : ℕ) (m : List ℕ) (first level : ℕ
   pub at : ℕ
   pub from : ℕ
   pub end : ℕ
-  pub under : Under b (recordIn b (unpacked w)) m first (take (unpacked w .explicit) notes) at from end
-
--- what the answer has to be
-abbrev pub Answers : List ℕ → ℕ → List ℕ → ℕ → ℕ → Judged → Type 0
-Answers b w m first level y = y ≡ told m size (readRecord (tableIn b) level (recordIn b (unpacked w)) (drop first m))
-
-pub answers-unopened : {b index : List ℕ} {w : ℕ} (R : Ready b index) (I : IsRecord b index w) (m : List ℕ) (om : Octets m) (first level : ℕ) (ns : List ℕ) (y : Opened)
-    → Opens b (recordIn b (unpacked w)) m first ns y → (c : Cause) (l : ℕ) → y ≡ NotOpened c l → Answers b w m first level (Refused c l)
-answers-unopened {b} {index} {w} R I m om first level ns y o c l e = value-unopened b (recordIn b (unpacked w)) (its-fit R I) m om first ns y o c l e level
+  pub under : Under b (recordOf b w) m first (take (unpacked w .explicit) notes) at from end
 
 module _ {b index : List ℕ} {w : ℕ} {m : List ℕ} {first level : ℕ} (X : Item b index w m first level) where
   abbrev Rec : Record
-  Rec = recordIn b (unpacked w)
+  Rec = recordOf b w
 
-  abbrev Notes : List ℕ
-  Notes = take (unpacked w .explicit) (X .notes)
+  -- what the answer has to be
+  abbrev pub Wanted : Judged
+  Wanted = told m size (readRecord (tableIn b) level Rec (drop first m))
 
-  abbrev Around-it : List ℕ
-  Around-it = take (X .end) m
+  -- the octets around the item, and those from its first on
+  abbrev pub Part : List ℕ
+  Part = take (X .end) m
 
-  pub item-within : (X .at ≤ length m) × (X .end ≤ length m)
-  item-within = (omega (arith, X .under .some, X .under .high), X .under .high)
+  abbrev Rest : List ℕ
+  Rest = drop (X .at) Part
 
-  pub item-around : X .end ≡ length (take (X .end) m)
-  item-around = sym (length-take-le (X .end) m (X .under .high))
+  abbrev pub Bare : Answer Value
+  Bare = readBare b level Rec Rest
 
-  module _ (n : X .entry .kind ≡ 50 → ⊥) (z : Length) (az : (k : ℕ) → z ≡ toldLength (length Around-it) (readLength k (drop (X .from) Around-it))) where
-    pub answers-unread : (f : Fault) → z ≡ NoLength f → (c : Cause) → c ≡ causeOf (faultNumber f) → Answers b w m first level (Refused c (length m - X .at))
-    answers-unread f q c ec =
-        value-unread b Rec (its-fit (X .ready) (X .known)) m (X .octets) first Notes (X .at) (X .from) (X .end) (X .under)
-        (no-choice (X .ready) (X .known) (X .entry) (X .entered) n) z az f q c ec level
+  size-part : length Part ≡ X .end
+  size-part = length-take-le (X .end) m (X .under .high)
 
-    pub contents-sized : (x : Extent) → z ≡ ReadLength x → Within Rec Around-it (X .at) (X .end) (x .start) (x .end) (x .marked)
-    contents-sized x q =
-        within-length b Rec (its-fit (X .ready) (X .known)) m (X .octets) first Notes (X .at) (X .from) (X .end) (X .under)
-        (no-choice (X .ready) (X .known) (X .entry) (X .entered) n) z az x q
+  left-part : length Rest ≡ X .end - X .at
+  left-part = length-drop (X .at) Part ∙ ap (λ (i : ℕ). i - X .at) size-part
 
-  pub contents-bare : X .entry .kind ≡ 50 → Within Rec Around-it (X .at) (X .end) (X .at) (X .end) false
+  pub item-within : X .at ≤ length m
+  item-within = omega (arith, X .under .some, X .under .high)
+
+  pub item-around : X .end ≡ length Part
+  item-around = sym size-part
+
+  -- a refusal of the item is one of the value
+  under-refused : (c l : ℕ) → Bare ≡ refused c l → Refused (causeOf c) (l + (length m - X .end)) ≡ Wanted
+  unfolding told
+  under-refused c l e =
+      rw (X .under .whole level, e, closing-refused {A = Value} m (length m) (take (unpacked w .explicit) (X .notes)) (X .end) c l
+          (X .under .around)) refl
+
+  item-unfit : (c : ℕ) → Bare ≡ refused c (length Rest) → Refused (causeOf c) (length m - X .at) ≡ Wanted
+  item-unfit c e =
+      let z : length m - X .at ≡ length Rest + (length m - X .end) = omega (arith, left-part, X .under .some, X .under .high) in
+      rw z (under-refused c (length Rest) e)
+
+  own-header : isChoice (Rec .body) ≡ false → readHeader (own Rec) Rest ≡ readLength (length Rest) (drop (X .from) Part)
+  unfolding readHeader then if
+  own-header n =
+      let h = X .under .headed n in
+      let o = octets-drop Part (octets-take m (X .all-octets) (X .end)) (X .at) in
+      let F = its-fit (X .ready) (X .known) in
+      let y = same-at Rec F (length (explicit Rec)) (own-last (X .ready) (X .known) n) Rest (h .identifier) (drop (X .from) Part) o (h .is) in
+      let v = rw (own-at (X .ready) (X .known) n) at y in
+      rw (h .is, v, eq-eqb (codeOf (h .identifier)) (codeOf (own Rec)) (h .coded)) refl
+
+  no-choice : (X .entry .kind ≡ 50 → ⊥) → isChoice (Rec .body) ≡ false
+  no-choice n = sym (its-choice (X .ready) (X .known) (X .entry) (X .entered)) ∙ ne-eqb (X .entry .kind) 50 n
+
+  is-choice : X .entry .kind ≡ 50 → isChoice (Rec .body) ≡ true
+  is-choice y = sym (its-choice (X .ready) (X .known) (X .entry) (X .entered)) ∙ eq-eqb (X .entry .kind) 50 y
+
+  pub contents-bare : X .entry .kind ≡ 50 → Within Rec Part (X .at) (X .end) (X .at) (X .end) false
   contents-bare y =
-      within-choice b Rec (its-fit (X .ready) (X .known)) m (X .octets) first Notes (X .at) (X .from) (X .end) (X .under)
-      (is-choice (X .ready) (X .known) (X .entry) (X .entered) y)
+      record {
+        ordered = omega (arith, X .under .some);
+        high = omega arith;
+        unsized = λ e. absurd (false≢true e);
+        bare = λ _. (refl, refl);
+        header = λ n. absurd (true≢false (sym (is-choice y) ∙ n));
+      }
 
-  module _ (start stop : ℕ) (marked : Bool) (W : Within Rec Around-it (X .at) (X .end) start stop marked) where
-    pub contents-within : (start ≤ stop) × (stop ≤ length m)
-    contents-within = (W .ordered, omega (arith, W .high, X .under .high))
+  module _ (k : X .entry .kind ≡ 50 → ⊥) (z : Length) (az : (l : ℕ) → z ≡ toldLength (length Part) (readLength l (drop (X .from) Part))) where
+    pub value-unread : (f : Fault) → z ≡ NoLength f → (c : Cause) → c ≡ causeOf (faultNumber f) → Refused c (length m - X .at) ≡ Wanted
+    value-unread f q c ec =
+        let l = length Rest in
+        let y = own-header (no-choice k) ∙ length-refused Part (X .from) l z (az l) f q in
+        rw ec (item-unfit (faultNumber f) (item-refused (tableIn b) _ (own Rec) (Rec .body) Rest (faultNumber f) l (no-choice k) y))
 
-    abbrev Part-of : List ℕ
-    Part-of = take (stop - start) (drop start m)
+    pub contents-sized : (x : Extent) → z ≡ ReadLength x → Within Rec Part (X .at) (X .end) (x .start) (x .end) (x .marked)
+    contents-sized x q =
+        let n = no-choice k in
+        test (x .marked)
+        (λ t.
+        let y = length-indefinite Part (X .from) (length Rest) z (az (length Rest)) x q t in
+        record {
+          ordered = omega (arith, y .2, y .3);
+          high = omega (arith, y .3, size-part);
+          unsized = λ _. y .3 ∙ size-part;
+          bare = λ c. absurd (true≢false (sym c ∙ n));
+          header = λ _. own-header n ∙ rw t (y .0);
+        })
+        λ t.
+        let y = length-definite Part (X .from) (length Rest) z (az (length Rest)) x q t in
+        record {
+          ordered = y .2;
+          high = omega (arith, y .3, size-part);
+          unsized = λ e. absurd (true≢false (sym e ∙ t));
+          bare = λ c. absurd (true≢false (sym c ∙ n));
+          header = λ _. own-header n ∙ rw t (y .0);
+        }
 
-    pub contents-short : length Part-of ≤ 8192
-    contents-short =
-        short-contents (X .ready) (X .known) (X .entry) (X .entered) m (X .octets) first Notes (X .at) (X .from) (X .end) (X .under) start stop marked W level 8192 (X .short)
+-- its contents, by the length
+pub record Filling (b index : List ℕ) (w : ℕ) (m : List ℕ) (first level : ℕ) : Type 0 where
+  pub item : Item b index w m first level
+  pub start : ℕ
+  pub stop : ℕ
+  pub marked : Bool
+  pub within : Within (recordOf b w) (take (item .end) m) (item .at) (item .end) start stop marked
 
-    module _ (simple : X .entry .simple ≡ true) where
-      pub answers-marked : marked ≡ true → Answers b w m first level (Refused Form (length m - X .at))
-      answers-marked =
-          value-marked (X .ready) (X .known) (X .entry) (X .entered) m (X .octets) first Notes (X .at) (X .from) (X .end) (X .under) start stop marked W level simple
+module _ {b index : List ℕ} {w : ℕ} {m : List ℕ} {first level : ℕ} (Y : Filling b index w m first level) where
+  abbrev X : Item b index w m first level
+  X = Y .item
 
-      module _ (sized : marked ≡ false) (i : ℕ) (ei : i ≡ leafWeight (bodyAt b (X .entry .kind) (X .entry .own)) Part-of) where
-        pub answers-wrong : i ≡ 0 → Answers b w m first level (Refused Contents (length m - X .at))
-        answers-wrong =
-            value-wrong (X .ready) (X .known) (X .entry) (X .entered) m (X .octets) first Notes (X .at) (X .from) (X .end) (X .under) start stop marked W level simple sized i ei
+  abbrev U : Under b (recordOf b w) m first (take (unpacked w .explicit) (X .notes)) (X .at) (X .from) (X .end)
+  U = X .under
 
-        pub leaf-over : (i ≡ 0 → ⊥) → i < 16386 → Over b Rec level Around-it (X .at) (X .end) stop i
-        leaf-over =
-            over-leaf (X .ready) (X .known) (X .entry) (X .entered) m (X .octets) first Notes (X .at) (X .from) (X .end) (X .under) start stop marked W level simple sized i ei
+  abbrev W : Within (recordOf b w) (take (X .end) m) (X .at) (X .end) (Y .start) (Y .stop) (Y .marked)
+  W = Y .within
 
-    module _ (plain : X .entry .simple ≡ false) where
-      pub items-known : Known b index w × (unpacked w .simple ≡ false)
-      items-known = (of-record (X .known .0) (X .known .1) (X .known .2), sym (ap (λ (e : Entry). e .simple) (X .entered)) ∙ plain)
+  abbrev Kept : Body
+  Kept = recordOf b w .body
 
-      pub items-some : isSingle (manner (held b w)) ≡ true → 0 < length Part-of
-      items-some =
-          some-items (X .ready) (X .known) (X .entry) (X .entered) m (X .octets) first Notes (X .at) (X .from) (X .end) (X .under) start stop marked W level plain
+  abbrev Own : List ℕ
+  Own = own (recordOf b w)
 
-      module _ (y : Judged) (ey : y ≡ told Part-of size (readHeld (tableIn b) (readValue (tableIn b) level) (held b w) (mode marked) Part-of)) where
-        module _ (c : Cause) (l : ℕ) (d : y ≡ Refused c l) where
-          pub items-low : l + (length m - stop) ≤ 8192
-          items-low =
-              let h = items-left (X .ready) (X .known) (X .entry) (X .entered) m (X .octets) first Notes (X .at) (X .from) (X .end) (X .under) start stop marked W level
-              plain y ey c l d in
-              omega (arith, h, contents-within, X .short)
+  abbrev Size-of : ℕ
+  Size-of = Y .stop - Y .start
 
-          pub answers-items : Answers b w m first level (Refused c (l + (length m - stop)))
-          answers-items =
-              value-unheld (X .ready) (X .known) (X .entry) (X .entered) m (X .octets) first Notes (X .at) (X .from) (X .end) (X .under) start stop marked W level
-              plain y ey c l d
+  abbrev P : List ℕ
+  P = Part X
 
-        module _ (u i : ℕ) (d : y ≡ Done u i) where
-          pub items-over : Over b Rec level Around-it (X .at) (X .end) (start + u) i
-          items-over =
-              over-items (X .ready) (X .known) (X .entry) (X .entered) m (X .octets) first Notes (X .at) (X .from) (X .end) (X .under) start stop marked W level
-              plain y ey u i d
+  abbrev S : List ℕ
+  S = drop (X .at) P
 
-          pub items-high : start + u ≤ 8192
-          items-high = omega (arith, items-over .within, X .under .high, X .short)
+  abbrev pub C : List ℕ
+  C = take Size-of (drop (Y .start) m)
 
-  module _ (stop count : ℕ) (O : Over b Rec level Around-it (X .at) (X .end) stop count) where
-    pub item-tags : X .entry .explicit ≤ 4
-    item-tags = few-tags (X .ready) (X .known) (X .entry) (X .entered)
+  pub contents-within : (Y .start ≤ Y .stop) × (Y .stop ≤ length m)
+  contents-within = (W .ordered, omega (arith, W .high, U .high))
 
-    pub item-closes : (X .entry .explicit ≤ 4) × (length (X .notes) ≡ 4) × (stop ≤ X .end) × (length m ≤ 8192) × (count < 16386)
-        × Around (length m) (take (X .entry .explicit) (X .notes)) (X .end)
-    item-closes = (
-      item-tags,
-      X .four,
-      O .within,
-      X .short,
-      O .small,
-      rw (its-notes (X .ready) (X .known) (X .entry) (X .entered) (X .notes)) (X .under .around),
-    )
+  slice-c : drop (Y .start) (take (Y .stop) m) ≡ C
+  slice-c = sym (slice-is (Y .start) (Y .stop) m (W .ordered) (contents-within .1))
 
-    pub answers-closed : (y : Judged)
-        → y ≡ told m (λ (i : ℕ). i) (closing m (take (X .entry .explicit) (X .notes)) (X .end) (got count (drop stop Around-it)))
-        → Answers b w m first level y
-    answers-closed y e =
-        value-closed b Rec m first Notes (X .at) (X .from) (X .end) (X .under) level stop count O (take (X .entry .explicit) (X .notes))
-        (its-notes (X .ready) (X .known) (X .entry) (X .entered) (X .notes)) y e
+  size-C : length C ≡ Size-of
+  size-C = length-take-le Size-of (drop (Y .start) m) (omega (arith, length-drop (Y .start) m, contents-within))
 
-    pub answers-over : X .entry .explicit ≤ 0 → Answers b w m first level (Done stop count)
-    answers-over l =
-        value-over b Rec m first Notes (X .at) (X .from) (X .end) (X .under) level stop count O
-        (no-notes (X .ready) (X .known) (X .entry) (X .entered) l (X .notes))
+  pub contents-short : length C ≤ 8192
+  contents-short = omega (arith, size-C, contents-within, X .short)
+
+  part-c : take Size-of (drop (Y .start) P) ≡ C
+  part-c =
+      slice-is (Y .start) (Y .stop) P (W .ordered) (omega (arith, size-part X, W .high))
+      ∙ ap (drop (Y .start)) (take-take (Y .stop) (X .end) m (W .high)) ∙ slice-c
+
+  rest-c : drop Size-of (drop (Y .start) P) ≡ drop (Y .stop) P
+  rest-c =
+      let q : Y .start + Size-of ≡ Y .stop = omega (arith, W .ordered) in
+      drop-drop Size-of (Y .start) P ∙ ap (λ (i : ℕ). drop i P) q
+
+  all-c : Y .stop ≡ X .end → drop (Y .start) P ≡ C
+  all-c z = ap (λ (i : ℕ). drop (Y .start) (take i m)) (sym z) ∙ slice-c
+
+  kept-simple : X .entry .simple ≡ not (constructed Kept)
+  kept-simple = its-simple (X .ready) (X .known) (X .entry) (X .entered)
+
+  -- simple ones
+  module _ (simple : X .entry .simple ≡ true) where
+    is-plain : (k : Simple) × (Kept ≡ Plain k)
+    is-plain = plain-of Kept (not-is (constructed Kept) (sym simple ∙ kept-simple))
+
+    plain-header : (k : Simple) → Kept ≡ Plain k → readHeader Own S ≡ got (sizeOf (Y .marked) Size-of) (drop (Y .start) P)
+    plain-header k q = W .header (no-alternatives Kept k q)
+
+    pub value-marked : Y .marked ≡ true → Refused Form (length m - X .at) ≡ Wanted X
+    unfolding causeOf if
+    value-marked t =
+        let (k, q) = is-plain in
+        item-unfit X 23 (plain-open (tableIn b) (readValue (tableIn b) level) Own Kept S k q (Y .marked) Size-of (drop (Y .start) P)
+        (plain-header k q) t)
+
+    module _ (sized : Y .marked ≡ false) (i : ℕ) (ei : i ≡ leafWeight (bodyAt b (X .entry .kind) (X .entry .own)) C) where
+      its-weight : (k : Simple) → Kept ≡ Plain k → i ≡ weight (decode k 0 C [])
+      unfolding leafWeight
+      its-weight k q =
+          ei ∙ ap (λ (x : Entry). leafWeight (bodyAt b (x .kind) (x .own)) C) (X .entered)
+          ∙ ap (λ (y : Body). leafWeight y C) (its-body (X .ready) (X .known) ∙ q)
+
+      leaf-read : (k : Simple) → Kept ≡ Plain k → Bare X ≡ then (decode k (length S) C (drop (Y .stop) P)) λ x s. got (leaf x) s
+      leaf-read k q =
+          plain-sized (tableIn b) (readValue (tableIn b) level) Own Kept S k q (Y .marked) Size-of (drop (Y .start) P) (plain-header k q) sized
+          ∙ rw (part-c, rest-c) refl
+
+      pub value-wrong : i ≡ 0 → Refused Contents (length m - X .at) ≡ Wanted X
+      unfolding then causeOf if
+      value-wrong z =
+          let (k, q) = is-plain in
+          let y = weight-none k C (length S) (drop (Y .stop) P) i (its-weight k q) z in
+          item-unfit X 25 (leaf-read k q ∙ rw y refl)
+
+      pub over-leaf : (i ≡ 0 → ⊥) → i < 16386 → Over b (recordOf b w) level P (X .at) (X .end) (Y .stop) i
+      unfolding then octets
+      over-leaf z small =
+          let (k, q) = is-plain in
+          let (x, y, v) = weight-some k C (length S) (drop (Y .stop) P) i (its-weight k q) z in
+          record {
+            within = W .high;
+            small = small;
+            value = leaf x;
+            is = leaf-read k q ∙ rw y refl;
+            sized = omega arith;
+          }
+
+  -- items
+  module _ (plain : X .entry .simple ≡ false) where
+    abbrev Held : Answer Value
+    Held = readHeld (tableIn b) (readValue (tableIn b) level) (held b w) (mode (Y .marked)) C
+
+    abbrev HeldIn : Mode → List ℕ → Answer Value
+    HeldIn k s = readHeld (tableIn b) (readValue (tableIn b) level) (inside Kept) k s
+
+    is-built : constructed Kept ≡ true
+    is-built = is-not (constructed Kept) (sym plain ∙ kept-simple)
+
+    kept-built : Built (tableIn b) (readValue (tableIn b) level) Own S Kept (Bare X)
+    kept-built = its-built (X .ready) (X .known) level S is-built
+
+    its-held : Held ≡ HeldIn (mode (Y .marked)) C
+    its-held = ap (λ (h : Holder). readHeld (tableIn b) (readValue (tableIn b) level) h (mode (Y .marked)) C) (its-holder (X .ready) (X .known))
+
+    pub items-known : Known b index w × (unpacked w .simple ≡ false)
+    items-known = let (t, h, q) = X .known in (of-record t h q, sym (ap (λ (e : Entry). e .simple) (X .entered)) ∙ plain)
+
+    pub items-some : isSingle (manner (held b w)) ≡ true → 0 < length C
+    items-some q =
+        let z = sym (single-kind Kept is-built) ∙ ap (λ (h : Holder). isSingle (manner h)) (sym (its-holder (X .ready) (X .known))) ∙ q in
+        let y = W .bare z in
+        omega (arith, size-C, y .0, y .1, U .some)
+
+    abbrev Fine : Answer Value → Type 0
+    Fine x = Sane (Closes (tableIn b) level (inside Kept) (mode (Y .marked))) C x
+
+    fine : Fine Held
+    fine = rw its-held (held-sane (tableIn b) level (inside Kept) (mode (Y .marked)) C)
+
+    -- what the items give, the item gives
+    abbrev Reads : Answer Value → Type 0
+    Reads (refused c l) = Bare X ≡ refused c (l + (X .end - Y .stop))
+    Reads (got v u) = Bare X ≡ got v (drop (Y .start + (length C - length u)) P)
+
+    -- a CHOICE and contents that 00 00 closes go on to the end of what is around them
+    reads-open : Y .stop ≡ X .end → Bare X ≡ Held → (x : Answer Value) → Held ≡ x → Fine x → Reads x
+    reads-open z y (got v u) d (leaves t q) =
+        let k = length C - length u in
+        y ∙ d ∙ ap (got v) (tail-at C u t ∙ ap (drop k) (sym (all-c z)) ∙ drop-drop k (Y .start) P)
+    reads-open z y (refused c l) d (stops h) = let v : l ≡ l + (X .end - Y .stop) = omega arith in y ∙ d ∙ ap (refused c) v
+
+    reads-sized : isChoice Kept ≡ false → Y .marked ≡ false → (x : Answer Value) → Held ≡ x → Fine x → Reads x
+    unfolding then behind
+    reads-sized k z x d y =
+        let a = kept-built .0 k ∙ built-sized Own S (Y .marked) Size-of (drop (Y .start) P) (W .header k) HeldIn z in
+        let g : length (drop (Y .start) P) - Size-of ≡ X .end - Y .stop = omega (arith, length-drop (Y .start) P, size-part X, W .ordered, W .high) in
+        let i : HeldIn closed C ≡ x = ap (λ (t : Bool). HeldIn (mode t) C) (sym z) ∙ sym its-held ∙ d in
+        go x y (a ∙ rw (part-c, rest-c, g, i) refl)
+      where
+        go : (x : Answer Value) → Fine x → Bare X ≡ then (behind (X .end - Y .stop) x) (λ v w. got v (drop (Y .stop) P)) → Reads x
+        go (got v u) (leaves t q) y =
+            let o = q (single-kind Kept is-built ∙ k) (ap mode z) in
+            let f : Y .start + (length C - length u) ≡ Y .stop = omega (arith, size-C, ap length o, W .ordered) in
+            rw f y
+        go (refused c l) (stops h) y = y
+
+    reads : (x : Answer Value) → Held ≡ x → Fine x → Reads x
+    reads x d y =
+        test (isChoice Kept)
+        (λ k.
+        let (a, z) = W .bare k in
+        let g : S ≡ C = ap (λ (i : ℕ). drop i P) (sym a) ∙ all-c z in
+        reads-open z (kept-built .1 k (mode (Y .marked)) ∙ ap (HeldIn (mode (Y .marked))) g ∙ sym its-held) x d y)
+        λ k.
+        test (Y .marked)
+        (λ t.
+        let z = W .unsized t in
+        let i : HeldIn open-ended (drop (Y .start) P) ≡ Held = rw (all-c z) (ap (λ (t : Bool). HeldIn (mode t) C) (sym t) ∙ sym its-held) in
+        reads-open z (kept-built .0 k ∙ built-open Own S (Y .marked) Size-of (drop (Y .start) P) (W .header k) HeldIn t ∙ i) x d y)
+        λ t. reads-sized k t x d y
+
+    few-left : (l : ℕ) (x : Answer Value) → Fine x → (k : ℕ) → x ≡ refused k l → l ≤ length C
+    few-left l (got v u) s k q = let z : _≡_ {A = ℕ} 0 1 = cc in absurd (omega arith)
+    few-left l (refused a i) (stops h) k q = let z : i ≡ l = cc in omega arith
+
+    module _ (y : Judged) (ey : y ≡ told C size Held) where
+      module _ (c : Cause) (l : ℕ) (d : y ≡ Refused c l) where
+        pub items-low : l + (length m - Y .stop) ≤ 8192
+        items-low =
+            let (k, x, _) = told-refused C size Held y ey c l d in
+            omega (arith, few-left l Held fine k x, size-C, contents-within, X .short)
+
+        pub value-unheld : Refused c (l + (length m - Y .stop)) ≡ Wanted X
+        value-unheld =
+            let (k, x, f) = told-refused C size Held y ey c l d in
+            let q : l + (length m - Y .stop) ≡ l + (X .end - Y .stop) + (length m - X .end) = omega (arith, W .high, U .high) in
+            rw (f, q) (under-refused X k (l + (X .end - Y .stop)) (reads (refused k l) x (rw x at fine)))
+
+      module _ (u i : ℕ) (d : y ≡ Done u i) where
+        pub over-items : Over b (recordOf b w) level P (X .at) (X .end) (Y .start + u) i
+        over-items =
+            let (v, s, x, f, g) = told-done C size Held y ey u i d in
+            record {
+              within = omega (arith, size-C, W .ordered, W .high);
+              small = omega arith;
+              value = v;
+              is = reads (got v s) x (rw x at fine) ∙ ap (λ (j : ℕ). got v (drop (Y .start + j) P)) (sym f);
+              sized = g;
+            }
+
+        pub items-high : Y .start + u ≤ 8192
+        items-high = omega (arith, over-items .within, U .high, X .short)
+
+-- its end, where its contents are judged
+pub record Ended (b index : List ℕ) (w : ℕ) (m : List ℕ) (first level : ℕ) : Type 0 where
+  pub item : Item b index w m first level
+  pub stop : ℕ
+  pub count : ℕ
+  pub over : Over b (recordOf b w) level (take (item .end) m) (item .at) (item .end) stop count
+
+module _ {b index : List ℕ} {w : ℕ} {m : List ℕ} {first level : ℕ} (Z : Ended b index w m first level) where
+  abbrev It : Item b index w m first level
+  It = Z .item
+
+  abbrev Behind : ℕ → Answer ℕ
+  Behind n = got n (drop (Z .stop) (take (It .end) m))
+
+  abbrev All-notes : List ℕ
+  All-notes = take (It .entry .explicit) (It .notes)
+
+  notes-same : All-notes ≡ take (unpacked w .explicit) (It .notes)
+  notes-same = its-notes (It .ready) (It .known) (It .entry) (It .entered) (It .notes)
+
+  pub item-tags : It .entry .explicit ≤ 4
+  item-tags = omega (arith, ap (λ (x : Entry). x .explicit) (It .entered), its-count (It .ready) (It .known), its-few (It .ready) (It .known))
+
+  pub item-closes : (It .entry .explicit ≤ 4) × (length (It .notes) ≡ 4) × (Z .stop ≤ It .end) × (length m ≤ 8192) × (Z .count < 16386)
+      × Around (length m) All-notes (It .end)
+  item-closes = (item-tags, It .four, Z .over .within, It .short, Z .over .small, rw notes-same (It .under .around))
+
+  closed-is : Wanted It ≡ told m (λ (i : ℕ). i) (closing m (take (unpacked w .explicit) (It .notes)) (It .end) (Behind (Z .count)))
+  closed-is =
+      let ns = take (unpacked w .explicit) (It .notes) in
+      let v = Z .over .value in
+      let q : cap (length (octets v)) ≡ cap (Z .count) = omega (arith, Z .over .sized, Z .over .small) in
+      ap (told m size) (It .under .whole level ∙ ap (closing m ns (It .end)) (Z .over .is))
+      ∙ closing-size m ns (It .end) v (Z .count) (drop (Z .stop) (take (It .end) m)) size (λ (i : ℕ). i) q
+
+  pub value-closed : (y : Judged) → y ≡ told m (λ (i : ℕ). i) (closing m All-notes (It .end) (Behind (Z .count))) → y ≡ Wanted It
+  value-closed y e = e ∙ ap (λ (l : List ℕ). told m (λ (i : ℕ). i) (closing m l (It .end) (Behind (Z .count)))) notes-same ∙ sym closed-is
+
+  pub value-over : It .entry .explicit ≤ 0 → Done (Z .stop) (Z .count) ≡ Wanted It
+  unfolding told closing Around
+  value-over l =
+      let z = no-notes (It .ready) (It .known) (It .entry) (It .entered) l (It .notes) in
+      let a : length m ≡ It .end = rw z at (It .under .around) in
+      let e = It .end in
+      let q : length m - length (drop (Z .stop) (take e m)) ≡ Z .stop = omega
+      (arith, length-drop (Z .stop) (take e m), size-part It, Z .over .within) in
+      let g : cap (Z .count) ≡ Z .count = omega (arith, Z .over .small) in
+      sym (closed-is ∙ rw (z, q, g) refl)
 
 -- a whole message of type t
 pub message-known : {b index : List ℕ} (w t : ℕ) → t < countIn b → unpacked w ≡ record { code = 0; own = t; kind = 51; explicit = 0; simple = false }
@@ -907,7 +876,8 @@ unfolding told readMessage none-left causeOf if
 message-empty T n t [] z = refl
 message-empty T n t (x ∷ m) z = absurd (omega arith)
 
-module _ (b m : List ℕ) (n t : ℕ) (some : length m ≡ 0 → ⊥) (w : ℕ) (q : unpacked w ≡ record { code = 0; own = t; kind = 51; explicit = 0; simple = false })
+module _ (b m : List ℕ) (n t : ℕ) (some : length m ≡ 0 → ⊥) (w : ℕ)
+    (q : unpacked w ≡ record { code = 0; own = t; kind = 51; explicit = 0; simple = false })
     (y : Judged) (ey : y ≡ told m size (readHeld (tableIn b) (readValue (tableIn b) n) (held b w) closed m)) where
   abbrev Root : Answer Value
   Root = readHeld (tableIn b) (readValue (tableIn b) n) (message t) closed m
@@ -951,7 +921,8 @@ module _ (b m : List ℕ) (n t : ℕ) (some : length m ≡ 0 → ⊥) (w : ℕ) 
         let k : length m - u ≡ length s = omega (arith, rest-length v s x) in
         rw (its-whole, x, k) (go v s (omega arith))
       where
-        go : (v : Value) (s : List ℕ) → 0 < length s → Refused Trailing (length s) ≡ told m size (if (not (none-left s)) (refused 26 (length s)) λ _. got v s)
+        go : (v : Value) (s : List ℕ) → 0 < length s → Refused Trailing (length s) ≡ told m size
+            (if (not (none-left s)) (refused 26 (length s)) λ _. got v s)
         go v [] l = absurd (omega arith)
         go v (a ∷ s) l = refl
 

@@ -12,11 +12,11 @@ use Rattle.octets.specs.Numbers.{Octets}
 use Rattle.table.specs.Entries.{unpacked, tableIn}
 use Rattle.table.specs.declared.entry.Entry.{Entry}
 use Rattle.reader.specs.Records.{recordIn, of-record}
-use Rattle.reader.proofs.JudgedValue.{Under, Within, Over, Item, under-tags, under-bare, item-within, item-around}
-use Rattle.reader.proofs.JudgedValue.{contents-sized, contents-bare, contents-within, contents-short, leaf-over, items-known, items-some, items-over}
-use Rattle.reader.proofs.JudgedValue.{items-low, items-high, item-tags, item-closes, answers-unopened, answers-unread, answers-marked, answers-wrong}
-use Rattle.reader.proofs.JudgedValue.{answers-items, answers-closed, answers-over}
-use Rattle.reader.proofs.Tagging.{its-entry, its-fit}
+use Rattle.reader.proofs.JudgedValue.{recordOf, Under, Within, Over, Item, Filling, Ended, under-tags, under-bare}
+use Rattle.reader.proofs.JudgedValue.{item-within, item-around, contents-sized, contents-bare, contents-within, contents-short}
+use Rattle.reader.proofs.JudgedValue.{over-leaf, items-known, items-some, over-items, items-low, items-high, item-tags, item-closes}
+use Rattle.reader.proofs.JudgedValue.{value-unopened, value-unread, value-marked, value-wrong, value-unheld, value-closed, value-over}
+use Rattle.reader.proofs.Tagging.{its-entry}
 use borrow.Fn.Kinds.{In}
 use borrow.Fn.PlainCycle.{Measures, is, falls, and}
 use Rattle.reader.proofs.judge.judge_members.Reads as judge-members
@@ -106,18 +106,16 @@ at-notes t c = ⊎-elim (λ z. rw (z .6) (z .2 .ensures .0)) (λ z. rw (z .1) re
 
 abbrev at-under : (t : ℕ) (c : judge-value-lts.Joined1 (judge-value-claims t) (judge-value-at t) judge-value.Post) →
     let a = c .before .before .before .before .before .args in
-    Under (now (a .table)) (recordIn (now (a .table)) (unpacked (a .w))) (now (a .m)) (a .at) (take (unpacked (a .w) .explicit) (c .if1 .notes))
+    Under (now (a .table)) (recordOf (now (a .table)) (a .w)) (now (a .m)) (a .at) (take (unpacked (a .w) .explicit) (c .if1 .notes))
     (c .if1 .at) (c .if1 .from) (c .if1 .end)
 at-under t c =
     let a = c .before .before .before .before .before .args in
     let q = c .before .before .before .before .before .pre .1 in
-    let o : Octets (now (a .m)) = λ i. omega (arith, c .before .before .before .shared-slice-known2 .given i) in
     let u = c .before .before .unpack in
     ⊎-elim
     (λ z. rw (z .6, z .7, z .8, z .9)
-    (under-tags (now (a .table)) (recordIn (now (a .table)) (unpacked (a .w))) (its-fit (q .0) (q .1)) (now (a .m)) o (a .at) _
-    (z .2 .result) (z .2 .ensures .1) (z .4 .given .0 .0) (z .4 .given .1)))
-    (λ z. rw (z .1, z .2, z .3, z .4) (under-bare (q .0) (q .1) (u .result) (u .ensures) (now (a .m)) o (a .at) (a .from) (z .0 .left) (q .2) _))
+    (under-tags (q .0) (q .1) (now (a .m)) (a .at) _ (z .2 .result) (z .2 .ensures .1) (z .4 .given .0 .0) (z .4 .given .1)))
+    (λ z. rw (z .1, z .2, z .3, z .4) (under-bare (q .0) (q .1) (u .result) (u .ensures) (now (a .m)) (a .at) (a .from) (z .0 .left) (q .2) _))
     (c .if1 .came)
 
 abbrev at-item : (t : ℕ) (c : judge-value-lts.Joined1 (judge-value-claims t) (judge-value-at t) judge-value.Post) →
@@ -128,7 +126,7 @@ at-item t c =
     record {
       ready = q .0;
       known = q .1;
-      octets = λ i. omega (arith, c .before .before .before .shared-slice-known2 .given i);
+      all-octets = λ i. omega (arith, c .before .before .before .shared-slice-known2 .given i);
       short = q .3;
       entry = u .result;
       entered = u .ensures;
@@ -143,8 +141,8 @@ at-item t c =
 -- where the length is read
 abbrev at-contents : (t : ℕ) (c : judge-value-lts.Joined2 (judge-value-claims t) (judge-value-at t) judge-value.Post) →
     let a = c .before .before .before .before .before .before .before .before .before .args in
-    Within (recordIn (now (a .table)) (unpacked (a .w))) (take (c .before .before .before .before .if1 .end) (now (a .m))) (c .before .before .before .before .if1 .at) (c .before .before .before .before .if1 .end)
-    (c .if2 .start) (c .if2 .stop) (c .if2 .marked)
+    let x = c .before .before .before .before .if1 in
+    Within (recordOf (now (a .table)) (a .w)) (take (x .end) (now (a .m))) (x .at) (x .end) (c .if2 .start) (c .if2 .stop) (c .if2 .marked)
 at-contents t c =
     let x = at-item t (c .before .before .before .before) in
     ⊎-elim
@@ -152,26 +150,47 @@ at-contents t c =
     (λ z. rw (z .1, z .2, z .3) (contents-bare x (z .0 .left)))
     (c .if2 .came)
 
+abbrev at-filling : (t : ℕ) (c : judge-value-lts.Joined2 (judge-value-claims t) (judge-value-at t) judge-value.Post) →
+    let a = c .before .before .before .before .before .before .before .before .before .args in
+    Filling (now (a .table)) (now (a .index)) (a .w) (now (a .m)) (a .at) (a .level)
+at-filling t c =
+    record {
+      item = at-item t (c .before .before .before .before);
+      start = c .if2 .start;
+      stop = c .if2 .stop;
+      marked = c .if2 .marked;
+      within = at-contents t c;
+    }
+
 -- where the contents are judged
 abbrev at-over : (t : ℕ) (c : judge-value-lts.Joined3 (judge-value-claims t) (judge-value-at t) judge-value.Post) →
     let a = c .before .before .before .before .before .before .before .before .before .before .args in
-    Over (now (a .table)) (recordIn (now (a .table)) (unpacked (a .w))) (a .level) (take (c .before .before .before .before .before .if1 .end) (now (a .m))) (c .before .before .before .before .before .if1 .at) (c .before .before .before .before .before .if1 .end)
-    (c .if3 .stop) (c .if3 .size)
+    let x = c .before .before .before .before .before .if1 in
+    Over (now (a .table)) (recordOf (now (a .table)) (a .w)) (a .level) (take (x .end) (now (a .m))) (x .at) (x .end) (c .if3 .stop) (c .if3 .size)
 at-over t c =
-    let x = at-item t (c .before .before .before .before .before) in
-    let y = c .before .if2 in
-    let W = at-contents t (c .before) in
+    let y = at-filling t (c .before) in
     ⊎-elim
-    (λ z. rw (z .8, z .9)
-    (leaf-over x (y .start) (y .stop) (y .marked) W (z .0 .taken) (z .1 .left) (z .5 .result) (z .5 .ensures .0) (z .6 .left) (z .5 .ensures .1)))
+    (λ z. rw (z .8, z .9) (over-leaf y (z .0 .taken) (z .1 .left) (z .5 .result) (z .5 .ensures .0) (z .6 .left) (z .5 .ensures .1)))
     (λ z. rw (z .10, z .11)
-    (items-over x (y .start) (y .stop) (y .marked) W (z .0 .left) (z .5 .result) (z .5 .ensures .1)
-    (z .7 .given .0 .0) (z .7 .given .0 .1 .0) (z .7 .given .1)))
+    (over-items y (z .0 .left) (z .5 .result) (z .5 .ensures .1) (z .7 .given .0 .0) (z .7 .given .0 .1 .0) (z .7 .given .1)))
     (c .if3 .came)
 
-abbrev at-way : (t : ℕ) (c : judge-value-lts.Joined3 (judge-value-claims t) (judge-value-at t) judge-value.Post) → length (c .if3 .way) ≡ 128
-at-way t c = ⊎-elim (λ z. rw (z .7) (c .before .before .before .before .before .before .before .before .before .before .pre .1 .5)) (λ z. rw (z .9) (z .5 .ensures .0)) (c .if3 .came)
+abbrev at-ended : (t : ℕ) (c : judge-value-lts.Joined3 (judge-value-claims t) (judge-value-at t) judge-value.Post) →
+    let a = c .before .before .before .before .before .before .before .before .before .before .args in
+    Ended (now (a .table)) (now (a .index)) (a .w) (now (a .m)) (a .at) (a .level)
+at-ended t c =
+    record {
+      item = at-item t (c .before .before .before .before .before);
+      stop = c .if3 .stop;
+      count = c .if3 .size;
+      over = at-over t c;
+    }
 
+abbrev at-way : (t : ℕ) (c : judge-value-lts.Joined3 (judge-value-claims t) (judge-value-at t) judge-value.Post) → length (c .if3 .way) ≡ 128
+at-way t c = ⊎-elim (λ z. rw (z .7) (c .before .before .before .before .before .before .before .before .before .before .pre .1 .5))
+    (λ z. rw (z .9) (z .5 .ensures .0)) (c .if3 .came)
+
+-- the half of `judge_value`
 judge-value-half : {M : Type 1} (t : ℕ) → judge-value-lts.Closed (judge-value-claims t) (judge-value-at t) judge-value.Post M
 judge-value-half t =
     judge-value-lts.spec
@@ -179,43 +198,95 @@ judge-value-half t =
     (judge-value-at t)
     judge-value.Post
     (λ c κs. tt) -- judge-value-unpack-requires
-    (λ c κs. let q = c .before .before .before .before .before .before .pre .1 in (now (c .before .before .before .before .before .before .args .index), q .0, q .1, rw (c .before .before .before .unpack .ensures) at (c .before .if1 .taken), q .2, q .3, refl)) -- judge-value-open-requires
+    (λ c κs.
+    let q = c .before .before .before .before .before .before .pre .1 in
+    (now (c .before .before .before .before .before .before .args .index), q .0, q .1,
+    rw (c .before .before .before .unpack .ensures) at (c .before .if1 .taken), q .2, q .3, refl)) -- judge-value-open-requires
     (λ c. search needs) -- judge-value-enum-known-cause
     (λ c κs. tt) -- judge-value-refused-requires
-    (λ c. let a = c .before .before .before .before .before .before .before .before .before .before .before .args in let q = c .before .before .before .before .before .before .before .before .before .before .before .pre .1 in (q .5, c .refused .ensures ∙ answers-unopened (q .0) (q .1) (now (a .m)) (λ i. omega (arith, c .before .before .before .before .before .before .before .before .before .shared-slice-known2 .given i)) (a .at) (a .level) _ (c .before .before .before .before .«open» .result) (c .before .before .before .before .«open» .ensures .1) (c .before .before .cause .given .0 .0) (c .before .before .cause .given .0 .1 .0) (c .before .before .cause .given .1))) -- judge-value-returns
+    (λ c.
+    let a = c .before .before .before .before .before .before .before .before .before .before .before .args in
+    let q = c .before .before .before .before .before .before .before .before .before .before .before .pre .1 in
+    let o = c .before .before .before .before .«open» in
+    let x = c .before .before .cause .given in
+    (q .5, c .refused .ensures ∙ value-unopened (q .0) (q .1) (now (a .m)) (a .at) _ (o .result) (o .ensures .1) (x .0 .0) (x .0 .1 .0) (x .1)
+    (a .level))) -- judge-value-returns
     (λ c. search needs) -- judge-value-enum-known-x
-    (λ c. item-within (at-item t (c .before)) .0) -- judge-value-sub-left
+    (λ c. item-within (at-item t (c .before))) -- judge-value-sub-left
     (λ c. item-around (at-item t (c .before .before))) -- judge-value-slice-aggregate-around
     (λ c κs. tt) -- judge-value-read-requires
     (λ c. search needs) -- judge-value-enum-known-fault
     (λ c κs. tt) -- judge-value-cause-of-requires
     (λ c κs. tt) -- judge-value-refused-requires-2
-    (λ c. (c .before .before .before .before .before .before .before .before .before .before .before .before .before .before .before .pre .1 .5, c .refused2 .ensures ∙ answers-unread (at-item t (c .before .before .before .before .before .before .before .before .before .before)) (c .before .before .before .before .before .before .if2 .taken) (c .before .before .before .before .before .read .result) (c .before .before .before .before .before .read .ensures) (c .before .before .before .fault .given .0 .0) (c .before .before .before .fault .given .1) (c .before .cause-of .result) (c .before .cause-of .ensures))) -- judge-value-returns-2
+    (λ c.
+    let x = at-item t (c .before .before .before .before .before .before .before .before .before .before) in
+    let l = c .before .before .before .before .before .read in
+    let f = c .before .before .before .fault .given in
+    (c .before .before .before .before .before .before .before .before .before .before .before .before .before .before .before .pre .1 .5,
+    c .refused2 .ensures ∙ value-unread x (c .before .before .before .before .before .before .if2 .taken) (l .result) (l .ensures) (f .0 .0) (f .1)
+    (c .before .cause-of .result) (c .before .cause-of .ensures))) -- judge-value-returns-2
     (λ c. search needs) -- judge-value-enum-known-x-2
     (λ c κs. tt) -- judge-value-refused-requires-3
-    (λ c. (c .before .before .before .before .before .before .before .before .before .before .before .before .pre .1 .5, c .refused3 .ensures ∙ answers-marked (at-item t (c .before .before .before .before .before .before .before)) (c .before .before .before .if2 .start) (c .before .before .before .if2 .stop) (c .before .before .before .if2 .marked) (at-contents t (c .before .before .before)) (c .before .before .if3 .taken) (c .before .if4 .taken))) -- judge-value-returns-3
-    (λ c. contents-within (at-item t (c .before .before .before .before .before .before .before .before)) (c .before .before .before .before .if2 .start) (c .before .before .before .before .if2 .stop) (c .before .before .before .before .if2 .marked) (at-contents t (c .before .before .before .before)) .0) -- judge-value-sub-c
-    (λ c. omega (arith, contents-within (at-item t (c .before .before .before .before .before .before .before .before)) (c .before .before .before .before .if2 .start) (c .before .before .before .before .if2 .stop) (c .before .before .before .before .if2 .marked) (at-contents t (c .before .before .before .before)))) -- judge-value-part-c-start
-    (λ c. contents-within (at-item t (c .before .before .before .before .before .before .before .before)) (c .before .before .before .before .if2 .start) (c .before .before .before .before .if2 .stop) (c .before .before .before .before .if2 .marked) (at-contents t (c .before .before .before .before)) .1) -- judge-value-part-c-end
-    (λ c κs. let q = c .before .before .before .before .before .before .before .before .before .before .before .before .before .before .pre .1 in (tableIn (now (c .before .before .before .before .before .before .before .before .before .before .before .before .before .before .args .table)) (q .1 .0), rw (c .before .before .before .before .before .before .before .before .before .before .before .unpack .ensures) (its-entry (q .0) (q .1)), contents-short (at-item t (c .before .before .before .before .before .before .before .before .before)) (c .before .before .before .before .before .if2 .start) (c .before .before .before .before .before .if2 .stop) (c .before .before .before .before .before .if2 .marked) (at-contents t (c .before .before .before .before .before)))) -- judge-value-contents-size-requires
+    (λ c.
+    let y = at-filling t (c .before .before .before) in
+    (c .before .before .before .before .before .before .before .before .before .before .before .before .pre .1 .5, c .refused3 .ensures
+    ∙ value-marked y (c .before .before .if3 .taken) (c .before .if4 .taken))) -- judge-value-returns-3
+    (λ c. contents-within (at-filling t (c .before .before .before .before)) .0) -- judge-value-sub-c
+    (λ c. omega (arith, contents-within (at-filling t (c .before .before .before .before)))) -- judge-value-part-c-start
+    (λ c. contents-within (at-filling t (c .before .before .before .before)) .1) -- judge-value-part-c-end
+    (λ c κs.
+    let a = c .before .before .before .before .before .before .before .before .before .before .before .before .before .before .args in
+    let q = c .before .before .before .before .before .before .before .before .before .before .before .before .before .before .pre .1 in
+    (tableIn (now (a .table)) (q .1 .0),
+    rw (c .before .before .before .before .before .before .before .before .before .before .before .unpack .ensures) (its-entry (q .0) (q .1)),
+    contents-short (at-filling t (c .before .before .before .before .before)))) -- judge-value-contents-size-requires
     (λ c κs. tt) -- judge-value-refused-requires-4
-    (λ c. (c .before .before .before .before .before .before .before .before .before .before .before .before .before .before .before .before .before .pre .1 .5, c .refused4 .ensures ∙ answers-wrong (at-item t (c .before .before .before .before .before .before .before .before .before .before .before .before)) (c .before .before .before .before .before .before .before .before .if2 .start) (c .before .before .before .before .before .before .before .before .if2 .stop) (c .before .before .before .before .before .before .before .before .if2 .marked) (at-contents t (c .before .before .before .before .before .before .before .before)) (c .before .before .before .before .before .before .before .if3 .taken) (c .before .before .before .before .before .before .if4 .left) (c .before .before .contents-size .result) (c .before .before .contents-size .ensures .0) (c .before .if5 .taken))) -- judge-value-returns-4
-    (λ c. contents-within (at-item t (c .before .before .before .before .before .before .before)) (c .before .before .before .if2 .start) (c .before .before .before .if2 .stop) (c .before .before .before .if2 .marked) (at-contents t (c .before .before .before)) .0) -- judge-value-sub-c-2
-    (λ c. omega (arith, contents-within (at-item t (c .before .before .before .before .before .before .before)) (c .before .before .before .if2 .start) (c .before .before .before .if2 .stop) (c .before .before .before .if2 .marked) (at-contents t (c .before .before .before)))) -- judge-value-part-c-start-2
-    (λ c. contents-within (at-item t (c .before .before .before .before .before .before .before)) (c .before .before .before .if2 .start) (c .before .before .before .if2 .stop) (c .before .before .before .if2 .marked) (at-contents t (c .before .before .before)) .1) -- judge-value-part-c-end-2
-    (λ c κs. let p = c .before .before .before .before .before .before .before .before .before .before .before .before .before .before .pre in let q = p .1 in let k = items-known (at-item t (c .before .before .before .before .before .before .before .before .before)) (c .before .before .before .before .before .if2 .start) (c .before .before .before .before .before .if2 .stop) (c .before .before .before .before .before .if2 .marked) (at-contents t (c .before .before .before .before .before)) (c .before .before .before .before .if3 .left) in (omega (arith, p .0), (q .0, k .0, k .1, items-some (at-item t (c .before .before .before .before .before .before .before .before .before)) (c .before .before .before .before .before .if2 .start) (c .before .before .before .before .before .if2 .stop) (c .before .before .before .before .before .if2 .marked) (at-contents t (c .before .before .before .before .before)) (c .before .before .before .before .if3 .left), contents-short (at-item t (c .before .before .before .before .before .before .before .before .before)) (c .before .before .before .before .before .if2 .start) (c .before .before .before .before .before .if2 .stop) (c .before .before .before .before .before .if2 .marked) (at-contents t (c .before .before .before .before .before)), omega (arith, q .4), q .5))) -- judge-value-judge-members-requires
+    (λ c.
+    let y = at-filling t (c .before .before .before .before .before .before .before .before) in
+    let s = c .before .before .contents-size in
+    (c .before .before .before .before .before .before .before .before .before .before .before .before .before .before .before .before .before .pre .1 .5,
+    c .refused4 .ensures ∙ value-wrong y (c .before .before .before .before .before .before .before .if3 .taken)
+    (c .before .before .before .before .before .before .if4 .left) (s .result) (s .ensures .0) (c .before .if5 .taken))) -- judge-value-returns-4
+    (λ c. contents-within (at-filling t (c .before .before .before)) .0) -- judge-value-sub-c-2
+    (λ c. omega (arith, contents-within (at-filling t (c .before .before .before)))) -- judge-value-part-c-start-2
+    (λ c. contents-within (at-filling t (c .before .before .before)) .1) -- judge-value-part-c-end-2
+    (λ c κs.
+    let y = at-filling t (c .before .before .before .before .before) in
+    let p = c .before .before .before .before .before .before .before .before .before .before .before .before .before .before .pre in
+    let q = p .1 in
+    let n = c .before .before .before .before .if3 .left in
+    let k = items-known y n in
+    (omega (arith, p .0), (q .0, k .0, k .1, items-some y n, contents-short y, omega (arith, q .4), q .5))) -- judge-value-judge-members-requires
     (λ c. search needs) -- judge-value-enum-known-cause-2
-    (λ c. contents-within (at-item t (c .before .before .before .before .before .before .before .before .before .before .before .before .before)) (c .before .before .before .before .before .before .before .before .before .if2 .start) (c .before .before .before .before .before .before .before .before .before .if2 .stop) (c .before .before .before .before .before .before .before .before .before .if2 .marked) (at-contents t (c .before .before .before .before .before .before .before .before .before)) .1) -- judge-value-sub-refused
-    (λ c. omega (arith, items-low (at-item t (c .before .before .before .before .before .before .before .before .before .before .before .before .before)) (c .before .before .before .before .before .before .before .before .before .if2 .start) (c .before .before .before .before .before .before .before .before .before .if2 .stop) (c .before .before .before .before .before .before .before .before .before .if2 .marked) (at-contents t (c .before .before .before .before .before .before .before .before .before)) (c .before .before .before .before .before .before .before .before .if3 .left) (c .before .before .before .judge-members .result) (c .before .before .before .judge-members .ensures .1) (c .before .cause2 .given .0 .0) (c .before .cause2 .given .0 .1 .0) (c .before .cause2 .given .1))) -- judge-value-add-refused
+    (λ c. contents-within (at-filling t (c .before .before .before .before .before .before .before .before .before)) .1) -- judge-value-sub-refused
+    (λ c.
+    let y = at-filling t (c .before .before .before .before .before .before .before .before .before) in
+    let r = c .before .before .before .judge-members in
+    let x = c .before .cause2 .given in
+    omega (arith, items-low y (c .before .before .before .before .before .before .before .before .if3 .left) (r .result) (r .ensures .1) (x .0 .0)
+    (x .0 .1 .0) (x .1))) -- judge-value-add-refused
     (λ c κs. tt) -- judge-value-refused-requires-5
-    (λ c. (c .before .before .before .before .judge-members .ensures .0, c .refused5 .ensures ∙ answers-items (at-item t (c .before .before .before .before .before .before .before .before .before .before .before .before .before .before)) (c .before .before .before .before .before .before .before .before .before .before .if2 .start) (c .before .before .before .before .before .before .before .before .before .before .if2 .stop) (c .before .before .before .before .before .before .before .before .before .before .if2 .marked) (at-contents t (c .before .before .before .before .before .before .before .before .before .before)) (c .before .before .before .before .before .before .before .before .before .if3 .left) (c .before .before .before .before .judge-members .result) (c .before .before .before .before .judge-members .ensures .1) (c .before .before .cause2 .given .0 .0) (c .before .before .cause2 .given .0 .1 .0) (c .before .before .cause2 .given .1))) -- judge-value-returns-5
+    (λ c.
+    let y = at-filling t (c .before .before .before .before .before .before .before .before .before .before) in
+    let r = c .before .before .before .before .judge-members in
+    let x = c .before .before .cause2 .given in
+    (r .ensures .0, c .refused5 .ensures ∙ value-unheld y (c .before .before .before .before .before .before .before .before .before .if3 .left)
+    (r .result) (r .ensures .1) (x .0 .0) (x .0 .1 .0) (x .1))) -- judge-value-returns-5
     (λ c. search needs) -- judge-value-enum-known-x-3
-    (λ c. omega (arith, items-high (at-item t (c .before .before .before .before .before .before .before .before .before .before .before .before .before)) (c .before .before .before .before .before .before .before .before .before .if2 .start) (c .before .before .before .before .before .before .before .before .before .if2 .stop) (c .before .before .before .before .before .before .before .before .before .if2 .marked) (at-contents t (c .before .before .before .before .before .before .before .before .before)) (c .before .before .before .before .before .before .before .before .if3 .left) (c .before .before .before .judge-members .result) (c .before .before .before .judge-members .ensures .1) (c .before .x3 .given .0 .0) (c .before .x3 .given .0 .1 .0) (c .before .x3 .given .1))) -- judge-value-add-stop
-    (λ c. omega (arith, item-tags (at-item t (c .before .before .before .before .before .before .before .before .before)) (c .before .before .before .before .if3 .stop) (c .before .before .before .before .if3 .size) (at-over t (c .before .before .before .before)))) -- judge-value-cast-close
-    (λ c κs. item-closes (at-item t (c .before .before .before .before .before .before .before .before .before)) (c .before .before .before .before .if3 .stop) (c .before .before .before .before .if3 .size) (at-over t (c .before .before .before .before))) -- judge-value-close-requires
-    (λ c. (at-way t (c .before .before .before .before .before), answers-closed (at-item t (c .before .before .before .before .before .before .before .before .before .before)) (c .before .before .before .before .before .if3 .stop) (c .before .before .before .before .before .if3 .size) (at-over t (c .before .before .before .before .before)) (c .close .result) (c .close .ensures))) -- judge-value-returns-6
+    (λ c.
+    let y = at-filling t (c .before .before .before .before .before .before .before .before .before) in
+    let r = c .before .before .before .judge-members in
+    let x = c .before .x3 .given in
+    omega (arith, items-high y (c .before .before .before .before .before .before .before .before .if3 .left) (r .result) (r .ensures .1) (x .0 .0)
+    (x .0 .1 .0) (x .1))) -- judge-value-add-stop
+    (λ c. omega (arith, item-tags (at-ended t (c .before .before .before .before)))) -- judge-value-cast-close
+    (λ c κs. item-closes (at-ended t (c .before .before .before .before))) -- judge-value-close-requires
+    (λ c.
+    (at-way t (c .before .before .before .before .before), value-closed (at-ended t (c .before .before .before .before .before)) (c .close .result)
+    (c .close .ensures))) -- judge-value-returns-6
     (λ c κs. tt) -- judge-value-done-requires
-    (λ c. (at-way t (c .before .before .before), c .done .ensures ∙ answers-over (at-item t (c .before .before .before .before .before .before .before .before)) (c .before .before .before .if3 .stop) (c .before .before .before .if3 .size) (at-over t (c .before .before .before)) (c .before .if6 .left))) -- judge-value-returns-7
+    (λ c.
+    (at-way t (c .before .before .before), c .done .ensures ∙ value-over (at-ended t (c .before .before .before)) (c .before .if6 .left))) -- judge-value-returns-7
 
 pub +judge-members+judge-value-spec : {M : Type 1} → statement M
 +judge-members+judge-value-spec = close μ-judge-members μ-judge-value (λ t. judge-members-lts.spec (
@@ -248,61 +319,61 @@ pub +judge-members+judge-value-spec : {M : Type 1} → statement M
     judge-members.Post
     judge-members-Inv-loop
     judge-members-μ-loop
-    (λ c κs. ?) -- judge-members-unpack-requires
-    (λ c κs. ?) -- judge-members-parts-requires
-    (λ c κs. ?) -- judge-members-node-size-requires
-    (λ c. ?) -- judge-members-loop-holds
-    (λ c κs. ?) -- judge-members-next-requires
-    (λ c. ?) -- judge-members-enum-told
-    (λ c. ?) -- judge-members-enum-known-end
-    (λ c κs. ?) -- judge-members-done-requires
-    (λ c. ?) -- judge-members-returns
-    (λ c. ?) -- judge-members-enum-known-cause
-    (λ c. ?) -- judge-members-sub-refused
-    (λ c κs. ?) -- judge-members-refused-requires
-    (λ c. ?) -- judge-members-returns-2
-    (λ c. ?) -- judge-members-add-from
-    (λ c. ?) -- judge-members-mul-if2
-    (λ c. ?) -- judge-members-array-read-if2
-    (λ c. ?) -- judge-members-mul-octet
-    (λ c. ?) -- judge-members-add-octet
-    (λ c κs. ?) -- judge-members-octet-requires
-    (λ c. ?) -- judge-members-mul-first
-    (λ c. ?) -- judge-members-element-copy-out-first
-    (λ c κs. ?) -- judge-members-first-requires
-    (λ c. ?) -- judge-members-shared-slice-read-fits
-    (λ c. ?) -- judge-members-cast-fits
-    (λ c. ?) -- judge-members-sub-rest
-    (λ c. ?) -- judge-members-part-rest-start
-    (λ c. ?) -- judge-members-part-rest-end
-    (λ c κs. ?) -- judge-members-search-requires
-    (λ c. ?) -- judge-members-enum-known-cause-2
-    (λ c. ?) -- judge-members-sub-refused-2
-    (λ c κs. ?) -- judge-members-refused-requires-2
-    (λ c. ?) -- judge-members-returns-3
-    (λ c. ?) -- judge-members-enum-known-x
-    (λ c. ?) -- judge-members-add-from-2
-    (λ c. ?) -- judge-members-sub-refused-3
-    (λ c κs. ?) -- judge-members-refused-requires-3
-    (λ c. ?) -- judge-members-returns-4
-    (λ c. ?) -- judge-members-mul-came
-    (λ c. ?) -- judge-members-array-write-came
-    (λ c. ?) -- judge-members-add-j
-    (λ c. ?) -- judge-members-mul-found
-    (λ c. ?) -- judge-members-element-copy-out-found
-    (λ c. ?) -- judge-members-sub-below
-    (λ c. ?) -- judge-members-sub-below-2
-    (λ c κs. ?) -- judge-members-judge-value-requires
-    (λ c. ?) -- judge-members-enum-known-cause-3
-    (λ c κs. ?) -- judge-members-refused-requires-4
-    (λ c. ?) -- judge-members-returns-5
-    (λ c. ?) -- judge-members-enum-known-end-2
-    (λ c. ?) -- judge-members-mul-grow
-    (λ c. ?) -- judge-members-add-grow
-    (λ c κs. ?) -- judge-members-grow-requires
-    (λ c κs. ?) -- judge-members-holds-one-requires
-    (λ c κs. ?) -- judge-members-done-requires-2
-    (λ c. ?) -- judge-members-returns-6
-    (λ c. ?) -- judge-members-loop-less
-    (λ c. ?)) -- judge-members-loop-again
+    (λ c κs. ?)  -- judge-members-unpack-requires
+    (λ c κs. ?)  -- judge-members-parts-requires
+    (λ c κs. ?)  -- judge-members-node-size-requires
+    (λ c. ?)  -- judge-members-loop-holds
+    (λ c κs. ?)  -- judge-members-next-requires
+    (λ c. ?)  -- judge-members-enum-told
+    (λ c. ?)  -- judge-members-enum-known-end
+    (λ c κs. ?)  -- judge-members-done-requires
+    (λ c. ?)  -- judge-members-returns
+    (λ c. ?)  -- judge-members-enum-known-cause
+    (λ c. ?)  -- judge-members-sub-refused
+    (λ c κs. ?)  -- judge-members-refused-requires
+    (λ c. ?)  -- judge-members-returns-2
+    (λ c. ?)  -- judge-members-add-from
+    (λ c. ?)  -- judge-members-mul-if2
+    (λ c. ?)  -- judge-members-array-read-if2
+    (λ c. ?)  -- judge-members-mul-octet
+    (λ c. ?)  -- judge-members-add-octet
+    (λ c κs. ?)  -- judge-members-octet-requires
+    (λ c. ?)  -- judge-members-mul-first
+    (λ c. ?)  -- judge-members-element-copy-out-first
+    (λ c κs. ?)  -- judge-members-first-requires
+    (λ c. ?)  -- judge-members-shared-slice-read-fits
+    (λ c. ?)  -- judge-members-cast-fits
+    (λ c. ?)  -- judge-members-sub-rest
+    (λ c. ?)  -- judge-members-part-rest-start
+    (λ c. ?)  -- judge-members-part-rest-end
+    (λ c κs. ?)  -- judge-members-search-requires
+    (λ c. ?)  -- judge-members-enum-known-cause-2
+    (λ c. ?)  -- judge-members-sub-refused-2
+    (λ c κs. ?)  -- judge-members-refused-requires-2
+    (λ c. ?)  -- judge-members-returns-3
+    (λ c. ?)  -- judge-members-enum-known-x
+    (λ c. ?)  -- judge-members-add-from-2
+    (λ c. ?)  -- judge-members-sub-refused-3
+    (λ c κs. ?)  -- judge-members-refused-requires-3
+    (λ c. ?)  -- judge-members-returns-4
+    (λ c. ?)  -- judge-members-mul-came
+    (λ c. ?)  -- judge-members-array-write-came
+    (λ c. ?)  -- judge-members-add-j
+    (λ c. ?)  -- judge-members-mul-found
+    (λ c. ?)  -- judge-members-element-copy-out-found
+    (λ c. ?)  -- judge-members-sub-below
+    (λ c. ?)  -- judge-members-sub-below-2
+    (λ c κs. ?)  -- judge-members-judge-value-requires
+    (λ c. ?)  -- judge-members-enum-known-cause-3
+    (λ c κs. ?)  -- judge-members-refused-requires-4
+    (λ c. ?)  -- judge-members-returns-5
+    (λ c. ?)  -- judge-members-enum-known-end-2
+    (λ c. ?)  -- judge-members-mul-grow
+    (λ c. ?)  -- judge-members-add-grow
+    (λ c κs. ?)  -- judge-members-grow-requires
+    (λ c κs. ?)  -- judge-members-holds-one-requires
+    (λ c κs. ?)  -- judge-members-done-requires-2
+    (λ c. ?)  -- judge-members-returns-6
+    (λ c. ?)  -- judge-members-loop-less
+    (λ c. ?))  -- judge-members-loop-again
     judge-value-half
