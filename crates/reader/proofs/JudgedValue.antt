@@ -2,7 +2,7 @@
 -- Assumes nothing.
 use borrow.Author.Tests.{eq-eqb, ne-eqb}
 use lib.Dec.{eqb}
-use lib.ListN.{length, getD, take, drop, length-append, length-drop, drop-of-length-le}
+use lib.ListN.{length, getD, take, drop, length-append, length-drop}
 use lib.Seq.{take-length, take-take, length-take-le, drop-drop, drop-length, drop-append-seam}
 use mathlib.Core.Bool.{Bool, true, false, not, true≢false, false≢true}
 use mathlib.Core.List.{List, [], _∷_, _++_}
@@ -14,7 +14,7 @@ use Prim.Native.Nat.{ℕ, zero, suc, _+_, _-_, _≤_, _<_}
 use Rattle.octets.specs.Answer.{Answer, got, refused, then, if, behind, none-left}
 use Rattle.octets.specs.Numbers.{Octets}
 use Rattle.octets.specs.Permutations.{as-given}
-use Rattle.octets.proofs.Answer.{Holds, Taken, got-holds, if-cases, none-there}
+use Rattle.octets.proofs.Answer.{Holds, Taken, got-holds, if-cases}
 use Rattle.octets.proofs.Tests.{test}
 use Rattle.ber.specs.Codes.{codeOf}
 use Rattle.ber.specs.Reading.{Mode, closed, open-ended, Size, definite, indefinite, readIdentifier, readLength, readHeader, inside as insideSize}
@@ -26,11 +26,11 @@ use Rattle.ber.specs.declared.length.Length.{Length}
 use Rattle.ber.specs.declared.length.Length.the-variants.{Read as ReadLength, Refused as NoLength}
 use Rattle.ber.specs.declared.length.Extent.{Extent}
 use Rattle.ber.proofs.Told.{identifier-refused, length-definite, length-indefinite, length-refused}
-use Rattle.table.specs.Syntax.{Tag, Member, Simple, Boolean, Integer, BitString, OctetString, Null, Enumerated, Body, Plain, Sequence, Set}
+use Rattle.table.specs.Syntax.{Simple, Boolean, Integer, BitString, OctetString, Null, Enumerated, Body, Plain, Sequence, Set}
 use Rattle.table.specs.Syntax.{SequenceOf, SetOf, Choice, Record, Table, isChoice, constructed}
 use Rattle.table.specs.Rules.{members}
 use Rattle.table.specs.Reading.{bodyAt}
-use Rattle.table.specs.Entries.{unpacked, tableIn, countIn, Entered, firstCode}
+use Rattle.table.specs.Entries.{unpacked, tableIn, countIn}
 use Rattle.table.specs.declared.entry.Entry.{Entry}
 use Rattle.table.proofs.Promises.{kind-choice, entered-members}
 use Rattle.coding.specs.Tags.{own, explicit}
@@ -43,11 +43,11 @@ use Rattle.coding.proofs.Refusals.{Says, names, value-shorter, value-says}
 use Rattle.coding.proofs.Sound.{value-sound}
 use Rattle.reader.specs.Answers.{cap, causeOf, causeNumber, told, size}
 use Rattle.reader.specs.Items.{Holder, inside, message, manner, Placed, remains, lacks, following, noted, isSingle, Hand, readPart, next}
-use Rattle.reader.specs.Items.{readItems, assemble, blank, readHeld}
+use Rattle.reader.specs.Items.{readItems, blank, readHeld}
 use Rattle.reader.specs.Records.{Ready, recordIn, IsRecord, Known, of-record, of-message, holderIn, readRecord}
 use Rattle.reader.specs.Sought.{held}
 use Rattle.reader.specs.Weights.{weight, leafWeight}
-use Rattle.reader.specs.Wraps.{ended, shut, innerEnd, closing, Around, identifiers, Headed, readBare, Opens}
+use Rattle.reader.specs.Wraps.{ended, shut, closing, Around, identifiers, Headed, readBare, Opens}
 use Rattle.reader.specs.declared.answer.Cause.{Cause}
 use Rattle.reader.specs.declared.answer.Cause.the-variants.{Cut, Form, NotAwaited, Contents, Trailing, Level}
 use Rattle.reader.specs.declared.answer.Judged.{Judged}
@@ -55,13 +55,12 @@ use Rattle.reader.specs.declared.answer.Judged.the-variants.{Done, Refus
 use Rattle.reader.specs.declared.tags.Inner.{Inner}
 use Rattle.reader.specs.declared.tags.Opened.{Opened}
 use Rattle.reader.specs.declared.tags.Opened.the-variants.{Inside, Refused as NotOpened}
-use Rattle.reader.proofs.Begun.{Fit}
 use Rattle.reader.proofs.Items.{Ending, over, broken, more, ending}
 use Rattle.reader.proofs.ItemsKinds.{Kind, kind-held, message-whole}
 use Rattle.reader.proofs.Opening.{octets-drop, octets-take, slice-is, behind-at, first-by, item-refused, its-count, its-first, its-few}
 use Rattle.reader.proofs.Spans.{held-body}
 use Rattle.reader.proofs.Tagging.{count-identifiers, code-at, same-at, its-entry, its-record, its-fit}
-use Rattle.reader.proofs.Wrapping.{around-end, closing-refused}
+use Rattle.reader.proofs.Wrapping.{closing-refused}
 
 -- u is an end of s
 abbrev pub Tail : List ℕ → List ℕ → Type 0
@@ -536,8 +535,12 @@ module _ {b index : List ℕ} {w : ℕ} {m : List ℕ} {first level : ℕ} (X : 
   under-refused : (c l : ℕ) → Bare ≡ refused c l → Refused (causeOf c) (l + (length m - X .end)) ≡ Wanted
   unfolding told
   under-refused c l e =
-      rw (X .under .whole level, e, closing-refused {A = Value} m (length m) (take (unpacked w .explicit) (X .notes)) (X .end) c l
-          (X .under .around)) refl
+      rw (
+        X .under .whole level,
+        e,
+        closing-refused {A = Value} m (length m) (take (unpacked w .explicit) (X .notes)) (X .end) c l
+            (X .under .around),
+      ) refl
 
   item-unfit : (c : ℕ) → Bare ≡ refused c (length Rest) → Refused (causeOf c) (length m - X .at) ≡ Wanted
   item-unfit c e =

@@ -2,16 +2,12 @@
 -- Assumes nothing.
 use borrow.Author.Needs.{needs}
 use denote.Ref.{now}
-use lib.ListN.{length, getD, take, drop}
-use lib.Seq.{length-take-le}
+use lib.ListN.{length, take}
 use mathlib.Core.Logic.{⊎-elim}
-use mathlib.Core.Path.{_≡_, refl, sym, ap, _∙_}
+use mathlib.Core.Path.{_≡_, refl, _∙_}
 use native.Mathlib.Omega.{arith}
-use Prim.Native.Nat.{ℕ, _+_, _*_, _-_, _≤_, _<_}
-use Rattle.octets.specs.Numbers.{Octets}
+use Prim.Native.Nat.{ℕ, _+_, _*_, _<_}
 use Rattle.table.specs.Entries.{unpacked, tableIn}
-use Rattle.table.specs.declared.entry.Entry.{Entry}
-use Rattle.reader.specs.Records.{recordIn, of-record}
 use Rattle.reader.proofs.JudgedValue.{recordOf, Under, Within, Over, Item, Filling, Ended, under-tags, under-bare}
 use Rattle.reader.proofs.JudgedValue.{item-within, item-around, contents-sized, contents-bare, contents-within, contents-short}
 use Rattle.reader.proofs.JudgedValue.{over-leaf, items-known, items-some, over-items, items-low, items-high, item-tags, item-closes}
@@ -72,11 +68,11 @@ judge-value-below t =
 
 abbrev judge-members-Inv-loop : judge-members-lts.InvT-loop
 judge-members-Inv-loop table index w m marked level way₀ e s came₀ total₀ at₀ j₀ way came total at j =
-    Unit {0}
+    ?
 
 abbrev judge-members-μ-loop : judge-members-lts.MeasureT-loop
 judge-members-μ-loop table index w m marked level way₀ e s came₀ total₀ at₀ j₀ way came total at j =
-    0
+    ?
 
 abbrev judge-value-claims : ℕ → judge-value-lts.Claims
 judge-value-claims t = (
@@ -197,96 +193,119 @@ judge-value-half t =
     (judge-value-claims t)
     (judge-value-at t)
     judge-value.Post
-    (λ c κs. tt) -- judge-value-unpack-requires
+    (λ c κs. tt)  -- judge-value-unpack-requires
     (λ c κs.
-    let q = c .before .before .before .before .before .before .pre .1 in
-    (now (c .before .before .before .before .before .before .args .index), q .0, q .1,
-    rw (c .before .before .before .unpack .ensures) at (c .before .if1 .taken), q .2, q .3, refl)) -- judge-value-open-requires
-    (λ c. search needs) -- judge-value-enum-known-cause
-    (λ c κs. tt) -- judge-value-refused-requires
+    let q = c .before .before .before .before .before .before .pre .1 in (
+      now (c .before .before .before .before .before .before .args .index),
+      q .0,
+      q .1,
+      rw (c .before .before .before .unpack .ensures) at (c .before .if1 .taken),
+      q .2,
+      q .3,
+      refl,
+    ))  -- judge-value-open-requires
+    (λ c. search needs)  -- judge-value-enum-known-cause
+    (λ c κs. tt)  -- judge-value-refused-requires
     (λ c.
     let a = c .before .before .before .before .before .before .before .before .before .before .before .args in
     let q = c .before .before .before .before .before .before .before .before .before .before .before .pre .1 in
     let o = c .before .before .before .before .«open» in
-    let x = c .before .before .cause .given in
-    (q .5, c .refused .ensures ∙ value-unopened (q .0) (q .1) (now (a .m)) (a .at) _ (o .result) (o .ensures .1) (x .0 .0) (x .0 .1 .0) (x .1)
-    (a .level))) -- judge-value-returns
-    (λ c. search needs) -- judge-value-enum-known-x
-    (λ c. item-within (at-item t (c .before))) -- judge-value-sub-left
-    (λ c. item-around (at-item t (c .before .before))) -- judge-value-slice-aggregate-around
-    (λ c κs. tt) -- judge-value-read-requires
-    (λ c. search needs) -- judge-value-enum-known-fault
-    (λ c κs. tt) -- judge-value-cause-of-requires
-    (λ c κs. tt) -- judge-value-refused-requires-2
+    let x = c .before .before .cause .given in (
+      q .5,
+      c .refused .ensures ∙ value-unopened (q .0) (q .1) (now (a .m)) (a .at) _ (o .result) (o .ensures .1) (x .0 .0) (x .0 .1 .0) (x .1)
+          (a .level),
+    ))  -- judge-value-returns
+    (λ c. search needs)  -- judge-value-enum-known-x
+    (λ c. item-within (at-item t (c .before)))  -- judge-value-sub-left
+    (λ c. item-around (at-item t (c .before .before)))  -- judge-value-slice-aggregate-around
+    (λ c κs. tt)  -- judge-value-read-requires
+    (λ c. search needs)  -- judge-value-enum-known-fault
+    (λ c κs. tt)  -- judge-value-cause-of-requires
+    (λ c κs. tt)  -- judge-value-refused-requires-2
     (λ c.
     let x = at-item t (c .before .before .before .before .before .before .before .before .before .before) in
     let l = c .before .before .before .before .before .read in
-    let f = c .before .before .before .fault .given in
-    (c .before .before .before .before .before .before .before .before .before .before .before .before .before .before .before .pre .1 .5,
-    c .refused2 .ensures ∙ value-unread x (c .before .before .before .before .before .before .if2 .taken) (l .result) (l .ensures) (f .0 .0) (f .1)
-    (c .before .cause-of .result) (c .before .cause-of .ensures))) -- judge-value-returns-2
-    (λ c. search needs) -- judge-value-enum-known-x-2
-    (λ c κs. tt) -- judge-value-refused-requires-3
+    let f = c .before .before .before .fault .given in (
+      c .before .before .before .before .before .before .before .before .before .before .before .before .before .before .before .pre .1 .5,
+      c .refused2 .ensures ∙ value-unread x (c .before .before .before .before .before .before .if2 .taken) (l .result) (l .ensures) (f .0 .0) (f .1)
+          (c .before .cause-of .result) (c .before .cause-of .ensures),
+    ))  -- judge-value-returns-2
+    (λ c. search needs)  -- judge-value-enum-known-x-2
+    (λ c κs. tt)  -- judge-value-refused-requires-3
     (λ c.
-    let y = at-filling t (c .before .before .before) in
-    (c .before .before .before .before .before .before .before .before .before .before .before .before .pre .1 .5, c .refused3 .ensures
-    ∙ value-marked y (c .before .before .if3 .taken) (c .before .if4 .taken))) -- judge-value-returns-3
-    (λ c. contents-within (at-filling t (c .before .before .before .before)) .0) -- judge-value-sub-c
-    (λ c. omega (arith, contents-within (at-filling t (c .before .before .before .before)))) -- judge-value-part-c-start
-    (λ c. contents-within (at-filling t (c .before .before .before .before)) .1) -- judge-value-part-c-end
+    let y = at-filling t (c .before .before .before) in (
+      c .before .before .before .before .before .before .before .before .before .before .before .before .pre .1 .5,
+      c .refused3 .ensures
+          ∙ value-marked y (c .before .before .if3 .taken) (c .before .if4 .taken),
+    ))  -- judge-value-returns-3
+    (λ c. contents-within (at-filling t (c .before .before .before .before)) .0)  -- judge-value-sub-c
+    (λ c. omega (arith, contents-within (at-filling t (c .before .before .before .before))))  -- judge-value-part-c-start
+    (λ c. contents-within (at-filling t (c .before .before .before .before)) .1)  -- judge-value-part-c-end
     (λ c κs.
     let a = c .before .before .before .before .before .before .before .before .before .before .before .before .before .before .args in
-    let q = c .before .before .before .before .before .before .before .before .before .before .before .before .before .before .pre .1 in
-    (tableIn (now (a .table)) (q .1 .0),
-    rw (c .before .before .before .before .before .before .before .before .before .before .before .unpack .ensures) (its-entry (q .0) (q .1)),
-    contents-short (at-filling t (c .before .before .before .before .before)))) -- judge-value-contents-size-requires
-    (λ c κs. tt) -- judge-value-refused-requires-4
+    let q = c .before .before .before .before .before .before .before .before .before .before .before .before .before .before .pre .1 in (
+      tableIn (now (a .table)) (q .1 .0),
+      rw (c .before .before .before .before .before .before .before .before .before .before .before .unpack .ensures) (its-entry (q .0) (q .1)),
+      contents-short (at-filling t (c .before .before .before .before .before)),
+    ))  -- judge-value-contents-size-requires
+    (λ c κs. tt)  -- judge-value-refused-requires-4
     (λ c.
     let y = at-filling t (c .before .before .before .before .before .before .before .before) in
-    let s = c .before .before .contents-size in
-    (c .before .before .before .before .before .before .before .before .before .before .before .before .before .before .before .before .before .pre .1 .5,
-    c .refused4 .ensures ∙ value-wrong y (c .before .before .before .before .before .before .before .if3 .taken)
-    (c .before .before .before .before .before .before .if4 .left) (s .result) (s .ensures .0) (c .before .if5 .taken))) -- judge-value-returns-4
-    (λ c. contents-within (at-filling t (c .before .before .before)) .0) -- judge-value-sub-c-2
-    (λ c. omega (arith, contents-within (at-filling t (c .before .before .before)))) -- judge-value-part-c-start-2
-    (λ c. contents-within (at-filling t (c .before .before .before)) .1) -- judge-value-part-c-end-2
+    let s = c .before .before .contents-size in (
+      c .before .before .before .before .before .before .before .before .before .before .before .before .before .before .before .before .before .pre .1 .5,
+      c .refused4 .ensures ∙ value-wrong y (c .before .before .before .before .before .before .before .if3 .taken)
+          (c .before .before .before .before .before .before .if4 .left) (s .result) (s .ensures .0) (c .before .if5 .taken),
+    ))  -- judge-value-returns-4
+    (λ c. contents-within (at-filling t (c .before .before .before)) .0)  -- judge-value-sub-c-2
+    (λ c. omega (arith, contents-within (at-filling t (c .before .before .before))))  -- judge-value-part-c-start-2
+    (λ c. contents-within (at-filling t (c .before .before .before)) .1)  -- judge-value-part-c-end-2
     (λ c κs.
     let y = at-filling t (c .before .before .before .before .before) in
     let p = c .before .before .before .before .before .before .before .before .before .before .before .before .before .before .pre in
     let q = p .1 in
     let n = c .before .before .before .before .if3 .left in
     let k = items-known y n in
-    (omega (arith, p .0), (q .0, k .0, k .1, items-some y n, contents-short y, omega (arith, q .4), q .5))) -- judge-value-judge-members-requires
-    (λ c. search needs) -- judge-value-enum-known-cause-2
-    (λ c. contents-within (at-filling t (c .before .before .before .before .before .before .before .before .before)) .1) -- judge-value-sub-refused
+    (omega (arith, p .0), (q .0, k .0, k .1, items-some y n, contents-short y, omega (arith, q .4), q .5)))  -- judge-value-judge-members-requires
+    (λ c. search needs)  -- judge-value-enum-known-cause-2
+    (λ c. contents-within (at-filling t (c .before .before .before .before .before .before .before .before .before)) .1)  -- judge-value-sub-refused
     (λ c.
     let y = at-filling t (c .before .before .before .before .before .before .before .before .before) in
     let r = c .before .before .before .judge-members in
     let x = c .before .cause2 .given in
-    omega (arith, items-low y (c .before .before .before .before .before .before .before .before .if3 .left) (r .result) (r .ensures .1) (x .0 .0)
-    (x .0 .1 .0) (x .1))) -- judge-value-add-refused
-    (λ c κs. tt) -- judge-value-refused-requires-5
+    omega (
+      arith,
+      items-low y (c .before .before .before .before .before .before .before .before .if3 .left) (r .result) (r .ensures .1) (x .0 .0)
+          (x .0 .1 .0) (x .1),
+    ))  -- judge-value-add-refused
+    (λ c κs. tt)  -- judge-value-refused-requires-5
     (λ c.
     let y = at-filling t (c .before .before .before .before .before .before .before .before .before .before) in
     let r = c .before .before .before .before .judge-members in
-    let x = c .before .before .cause2 .given in
-    (r .ensures .0, c .refused5 .ensures ∙ value-unheld y (c .before .before .before .before .before .before .before .before .before .if3 .left)
-    (r .result) (r .ensures .1) (x .0 .0) (x .0 .1 .0) (x .1))) -- judge-value-returns-5
-    (λ c. search needs) -- judge-value-enum-known-x-3
+    let x = c .before .before .cause2 .given in (
+      r .ensures .0,
+      c .refused5 .ensures ∙ value-unheld y (c .before .before .before .before .before .before .before .before .before .if3 .left)
+          (r .result) (r .ensures .1) (x .0 .0) (x .0 .1 .0) (x .1),
+    ))  -- judge-value-returns-5
+    (λ c. search needs)  -- judge-value-enum-known-x-3
     (λ c.
     let y = at-filling t (c .before .before .before .before .before .before .before .before .before) in
     let r = c .before .before .before .judge-members in
     let x = c .before .x3 .given in
-    omega (arith, items-high y (c .before .before .before .before .before .before .before .before .if3 .left) (r .result) (r .ensures .1) (x .0 .0)
-    (x .0 .1 .0) (x .1))) -- judge-value-add-stop
-    (λ c. omega (arith, item-tags (at-ended t (c .before .before .before .before)))) -- judge-value-cast-close
-    (λ c κs. item-closes (at-ended t (c .before .before .before .before))) -- judge-value-close-requires
+    omega (
+      arith,
+      items-high y (c .before .before .before .before .before .before .before .before .if3 .left) (r .result) (r .ensures .1) (x .0 .0)
+          (x .0 .1 .0) (x .1),
+    ))  -- judge-value-add-stop
+    (λ c. omega (arith, item-tags (at-ended t (c .before .before .before .before))))  -- judge-value-cast-close
+    (λ c κs. item-closes (at-ended t (c .before .before .before .before)))  -- judge-value-close-requires
+    (λ c. (
+      at-way t (c .before .before .before .before .before),
+      value-closed (at-ended t (c .before .before .before .before .before)) (c .close .result)
+          (c .close .ensures),
+    ))  -- judge-value-returns-6
+    (λ c κs. tt)  -- judge-value-done-requires
     (λ c.
-    (at-way t (c .before .before .before .before .before), value-closed (at-ended t (c .before .before .before .before .before)) (c .close .result)
-    (c .close .ensures))) -- judge-value-returns-6
-    (λ c κs. tt) -- judge-value-done-requires
-    (λ c.
-    (at-way t (c .before .before .before), c .done .ensures ∙ value-over (at-ended t (c .before .before .before)) (c .before .if6 .left))) -- judge-value-returns-7
+    (at-way t (c .before .before .before), c .done .ensures ∙ value-over (at-ended t (c .before .before .before)) (c .before .if6 .left)))  -- judge-value-returns-7
 
 pub +judge-members+judge-value-spec : {M : Type 1} → statement M
 +judge-members+judge-value-spec = close μ-judge-members μ-judge-value (λ t. judge-members-lts.spec (
