@@ -118,7 +118,7 @@ SoFar (inside (SetOf t)) j came hand = Unit {0}
 SoFar (inside (Choice ts)) j came hand = length hand ≡ 0
 SoFar (message t) j came hand = length hand ≡ 0
 
-pub isPlain : Holder → Bool
+unfoldable pub isPlain : Holder → Bool
 isPlain (inside (Plain k)) = true
 isPlain (inside (Sequence ms)) = false
 isPlain (inside (Set ms)) = false

@@ -16,6 +16,7 @@ pub mod Finding
 pub mod Wrapping
 pub mod Tagging
 pub mod Opening
+pub mod JudgedValue
 pub mod Ending
 pub mod Weighing
 pub mod Stores
@@ -35,3 +36,4 @@ pub mod Locating
 pub mod Outcomes
 pub mod PlacedValue
 pub mod PlacedMembers
+pub mod JudgedMembers

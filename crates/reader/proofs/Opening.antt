@@ -39,10 +39,10 @@ use Rattle.reader.proofs.Tagging.{zeros, count-identifiers, code-at, sa
 use Rattle.reader.proofs.Wrapping.{closing-last, around-more, closing-refused, note-half, note-mark}
 
 -- octets of a part
-octets-drop : (m : List ℕ) → Octets m → (n : ℕ) → Octets (drop n m)
+pub octets-drop : (m : List ℕ) → Octets m → (n : ℕ) → Octets (drop n m)
 octets-drop m o n i = rw (getD-drop n m i 0) (o (n + i))
 
-octets-take : (m : List ℕ) → Octets m → (e : ℕ) → Octets (take e m)
+pub octets-take : (m : List ℕ) → Octets m → (e : ℕ) → Octets (take e m)
 octets-take m o e i =
     test (ltb i e)
     (λ t. rw (getD-take e m i 0 (ltb-true i e t)) (o i))
@@ -67,7 +67,7 @@ drop-at [] j l = absurd (omega arith)
 drop-at (x ∷ a) zero l = refl
 drop-at (x ∷ a) (suc j) l = drop-at a j (omega arith)
 
-behind-at : (a : List (List ℕ)) (x : List ℕ) → getD (a ++ (x ∷ [])) (length a) [] ≡ x
+pub behind-at : (a : List (List ℕ)) (x : List ℕ) → getD (a ++ (x ∷ [])) (length a) [] ≡ x
 behind-at [] x = refl
 behind-at (y ∷ a) x = behind-at a x
 
@@ -92,7 +92,7 @@ count-of (g ∷ gs) (Set ms) t = length-map (before (g ∷ gs)) (identifierOf tr
 count-of (g ∷ gs) (SequenceOf u) t = length-map (before (g ∷ gs)) (identifierOf true) ∙ before-length g gs ∙ rw (ne-eqb (suc (length gs)) 0 (λ z. omega arith)) (omega arith)
 count-of (g ∷ gs) (SetOf u) t = length-map (before (g ∷ gs)) (identifierOf true) ∙ before-length g gs ∙ rw (ne-eqb (suc (length gs)) 0 (λ z. omega arith)) (omega arith)
 
-first-by : (gs : List Tag) (y : Body) → 0 < length gs
+pub first-by : (gs : List Tag) (y : Body) → 0 < length gs
     → outermostCode gs y ≡ codeBy (getD gs 0 zeros .class) (ltb (0 + 1) (length gs) || constructed y) (getD gs 0 zeros .number)
 unfolding outermostCode
 first-by [] y l = absurd (omega arith)
@@ -159,7 +159,7 @@ sealed-refused m outer inner true c l o = let q : l ≡ l + (outer - inner) = om
 sealed-refused m outer inner false c l o = refl
 
 -- an item whose header is refused
-item-refused : (T : Table) (f : ℕ → List ℕ → Answer Value) (o : List ℕ) (y : Body) (s : List ℕ) (c l : ℕ) → isChoice y ≡ false → readHeader o s ≡ refused c l
+pub item-refused : (T : Table) (f : ℕ → List ℕ → Answer Value) (o : List ℕ) (y : Body) (s : List ℕ) (c l : ℕ) → isChoice y ≡ false → readHeader o s ≡ refused c l
     → readKind T f o y s ≡ refused c l
 unfolding readKind readPrimitive readConstructed then isChoice
 item-refused T f o (Plain k) s c l n e = rw e refl

@@ -1,5 +1,18 @@
+-- The judge of a value and of the items in it: one law for each way through it, by the levels that are left.
+-- Assumes nothing.
+use mathlib.Core.Bool.{true, false, true≢false}
+use mathlib.Core.Logic.{⊎-elim, inl, inr}
+use mathlib.Core.Path.{_≡_, sym, ap, _∙_, refl}
+use native.Mathlib.Omega.{arith}
+use Prim.Native.Nat.{ℕ, _+_, _-_, _*_, _≤_, _<_}
 use borrow.Author.Needs.{needs}
-use Prim.Native.Nat.{ℕ, _<_}
+use borrow.Author.Tests.{eqb-true, not-false}
+use denote.Ref.{now}
+use lib.ListN.{length, take}
+use Rattle.reader.proofs.JudgedMembers.{Judging, Setting, count-few, judging-first, judging-sound}
+use Rattle.reader.proofs.JudgedMembers.{Turn, part-few, part-near, type-few, judged-over, judged-stopped, item-there, judged-unfit, found-low}
+use Rattle.reader.proofs.JudgedMembers.{item-same, item-found, item-here, Comes, place-few, behind-few, number-few, judged-level, is-record, is-headed}
+use Rattle.reader.proofs.JudgedMembers.{Valued, depth-few, judged-refused, sizes-few, value-further, value-low, judged-one, judged-turn}
 use borrow.Fn.Kinds.{In}
 use borrow.Fn.PlainCycle.{Measures, is, falls, and}
 use Rattle.reader.proofs.judge.judge_members.Reads as judge-members
@@ -26,12 +39,18 @@ use Rattle.table.proofs.entry.unpack.Reads as unpack-reads
 use Rattle.table.proofs.kind.holds_one.Reads as holds-one-reads
 use Rattle.reader.proofs.judge.+judge_members+judge_value.{statement}
 use Rattle.reader.proofs.judge.+judge_members+judge_value.Tie.{close}
+use Rattle.table.specs.Entries.{unpacked, tableIn}
+use Rattle.reader.proofs.JudgedValue.{recordOf, Under, Within, Over, Item, Filling, Ended, under-tags, under-bare}
+use Rattle.reader.proofs.JudgedValue.{item-within, item-around, contents-sized, contents-bare, contents-within, contents-short}
+use Rattle.reader.proofs.JudgedValue.{over-leaf, items-known, items-some, over-items, items-low, items-high, item-tags, item-closes}
+use Rattle.reader.proofs.JudgedValue.{value-unopened, value-unread, value-marked, value-wrong, value-unheld, value-closed, value-over}
+use Rattle.reader.proofs.Tagging.{its-entry}
 
 abbrev μ-judge-members : Measures 4 judge-members-kinds.ps ℕ
-μ-judge-members κs a = ?
+μ-judge-members κs a = 2 * a .1 .1 .1 .1 .1 .0
 
 abbrev μ-judge-value : Measures 4 judge-value-kinds.ps ℕ
-μ-judge-value κs a = ?
+μ-judge-value κs a = 2 * a .1 .1 .1 .1 .1 .1 .0 + 1
 
 abbrev judge-members-at : ℕ → In 4 judge-members-kinds.ps
 judge-members-at t =
@@ -55,14 +74,13 @@ judge-value-below t =
 
 abbrev judge-members-Inv-loop : judge-members-lts.InvT-loop
 judge-members-Inv-loop table index w m marked level way₀ e s came₀ total₀ at₀ j₀ way came total at j =
-    ?
+    (at ≤ length m) × (length way ≡ 128) × Judging table w m marked level came total at j
 
 abbrev judge-members-μ-loop : judge-members-lts.MeasureT-loop
-judge-members-μ-loop table index w m marked level way₀ e s came₀ total₀ at₀ j₀ way came total at j =
-    ?
+judge-members-μ-loop table index w m marked level way₀ e s came₀ total₀ at₀ j₀ way came total at j = length m - at
 
-pub +judge-members+judge-value-spec : {M : Type 1} → statement M
-+judge-members+judge-value-spec = close μ-judge-members μ-judge-value (λ t. judge-members-lts.spec (
+abbrev judge-members-claims : ℕ → judge-members-lts.Claims
+judge-members-claims t = (
   unpack-reads.Asked,
   unpack-reads.Learnt,
   parts-reads.Asked,
@@ -88,124 +106,469 @@ pub +judge-members+judge-value-spec : {M : Type 1} → statement M
   holds-one-reads.Asked,
   holds-one-reads.Learnt,
 )
+
+-- where the parts of an entry are known
+abbrev setting : (t : ℕ)
+    (c : judge-members-lts.After-parts (judge-members-claims t) (judge-members-at t) judge-members.Post judge-members-Inv-loop judge-members-μ-loop)
+    → Setting
+setting t c =
+    let a = c .before .before .before .before .args in
+    let q = c .before .before .before .before .pre .1 in
+    record {
+      b = now (a .table);
+      index = now (a .index);
+      w = a .w;
+      e = c .before .unpack .result;
+      s = c .parts .result;
+      ready = q .0;
+      known = q .1;
+      holds = q .2;
+      entry = c .before .unpack .ensures;
+      span = c .parts .ensures;
+    }
+
+-- where it is known what stands at a place
+abbrev turn : (t : ℕ)
+    (c : judge-members-lts.After-next (judge-members-claims t) (judge-members-at t) judge-members.Post judge-members-Inv-loop judge-members-μ-loop)
+    → Turn (setting t (c .before .before .before .before))
+turn t c =
+    let a = c .before .before .before .before .before .before .before .before .args in
+    let l = c .before .before .loop in
+    record {
+      m = now (a .m);
+      marked = a .marked;
+      level = a .level;
+      came = l .came;
+      total = l .total;
+      at = l .at;
+      j = l .j;
+      octets = λ i. omega (arith, c .before .before .before .before .before .before .shared-slice-known2 .given i);
+      short = c .before .before .before .before .before .before .before .before .pre .1 .4;
+      levels = c .before .before .before .before .before .before .before .before .pre .1 .5;
+      low = l .inv .0;
+      so-far = l .inv .2;
+      y = c .next .result;
+      stands = c .next .ensures;
+    }
+
+-- where an item is found to be of a part
+abbrev comes : (t : ℕ)
+    (c : judge-members-lts.Joined3 (judge-members-claims t) (judge-members-at t) judge-members.Post judge-members-Inv-loop judge-members-μ-loop)
+    → Comes (turn t (c .before .before .before .before .before))
+comes t c =
+    let P = turn t (c .before .before .before .before .before) in
+    let i = c .before .before .before .enum-told .given .1 in
+    let x = c .if3 in
+    record {
+      item = i;
+      way = x .way;
+      place = x .place;
+      number = x .«record»;
+      depth = x .depth;
+      from = x .from;
+      is =
+          ⊎-elim
+          (λ v. item-same (v .9) (v .10) (v .11) (v .12) (v .13)
+          (item-found _ _ (P .low) (v .4 .ensures .1) (v .6 .given .1)))
+          (λ v. let y = not-false _ (v .0 .left) in
+          ⊎-elim
+          (λ u. item-same (v .1) (v .2) (v .3 ∙ u .8) (v .4) (v .5)
+          (item-here P i (u .0 .taken) (eqb-true _ _ (u .1 .taken)) _ _ (u .4 .ensures .0) (u .6 .ensures) (eqb-true _ _ (sym (u .9) ∙ y)) _))
+          (λ u. absurd (true≢false (sym y ∙ u .2)))
+          (c .before .if1 .came))
+          (x .came);
+      ways =
+          ⊎-elim (λ v. ap length (v .9) ∙ v .4 .ensures .0)
+          (λ v. ap length (v .1) ∙ c .before .before .before .before .before .before .before .loop .inv .1)
+          (x .came);
+    }
+
+-- where its value is judged
+abbrev valued : (t : ℕ)
+    (c : judge-members-lts.After-judge-value (judge-members-claims t)
+    (judge-members-at t) judge-members.Post judge-members-Inv-loop judge-members-μ-loop)
+    → Valued (comes t (c .before .before .before .before .before .before .before .before .before .before))
+valued t c =
+    record {
+      deep = c .before .before .before .before .before .before .before .before .before .if4 .left;
+      r = c .judge-value .result;
+      said = c .judge-value .ensures .1;
+    }
+
+-- the items in an entry
+judge-members-half : {M : Type 1} (t : ℕ) → judge-members-lts.Closed (judge-members-claims t) (judge-members-at t) judge-members.Post M
+judge-members-half t =
+    judge-members-lts.spec
+    (judge-members-claims t)
     (judge-members-at t)
     judge-members.Post
     judge-members-Inv-loop
     judge-members-μ-loop
-    (λ c κs. ?)  -- judge-members-unpack-requires
-    (λ c κs. ?)  -- judge-members-parts-requires
-    (λ c κs. ?)  -- judge-members-node-size-requires
-    (λ c. ?)  -- judge-members-loop-holds
-    (λ c κs. ?)  -- judge-members-next-requires
-    (λ c. ?)  -- judge-members-enum-told
-    (λ c. ?)  -- judge-members-enum-known-end
-    (λ c κs. ?)  -- judge-members-done-requires
-    (λ c. ?)  -- judge-members-returns
-    (λ c. ?)  -- judge-members-enum-known-cause
-    (λ c. ?)  -- judge-members-sub-refused
-    (λ c κs. ?)  -- judge-members-refused-requires
-    (λ c. ?)  -- judge-members-returns-2
-    (λ c. ?)  -- judge-members-add-from
-    (λ c. ?)  -- judge-members-mul-if2
-    (λ c. ?)  -- judge-members-array-read-if2
-    (λ c. ?)  -- judge-members-mul-octet
-    (λ c. ?)  -- judge-members-add-octet
-    (λ c κs. ?)  -- judge-members-octet-requires
-    (λ c. ?)  -- judge-members-mul-first
-    (λ c. ?)  -- judge-members-element-copy-out-first
-    (λ c κs. ?)  -- judge-members-first-requires
-    (λ c. ?)  -- judge-members-shared-slice-read-fits
-    (λ c. ?)  -- judge-members-cast-fits
-    (λ c. ?)  -- judge-members-sub-rest
-    (λ c. ?)  -- judge-members-part-rest-start
-    (λ c. ?)  -- judge-members-part-rest-end
-    (λ c κs. ?)  -- judge-members-search-requires
-    (λ c. ?)  -- judge-members-enum-known-cause-2
-    (λ c. ?)  -- judge-members-sub-refused-2
-    (λ c κs. ?)  -- judge-members-refused-requires-2
-    (λ c. ?)  -- judge-members-returns-3
-    (λ c. ?)  -- judge-members-enum-known-x
-    (λ c. ?)  -- judge-members-add-from-2
-    (λ c. ?)  -- judge-members-sub-refused-3
-    (λ c κs. ?)  -- judge-members-refused-requires-3
-    (λ c. ?)  -- judge-members-returns-4
-    (λ c. ?)  -- judge-members-mul-came
-    (λ c. ?)  -- judge-members-array-write-came
-    (λ c. ?)  -- judge-members-add-j
-    (λ c. ?)  -- judge-members-mul-found
-    (λ c. ?)  -- judge-members-element-copy-out-found
-    (λ c. ?)  -- judge-members-sub-below
-    (λ c. ?)  -- judge-members-sub-below-2
-    (λ c κs. ?)  -- judge-members-judge-value-requires
-    (λ c. ?)  -- judge-members-enum-known-cause-3
-    (λ c κs. ?)  -- judge-members-refused-requires-4
-    (λ c. ?)  -- judge-members-returns-5
-    (λ c. ?)  -- judge-members-enum-known-end-2
-    (λ c. ?)  -- judge-members-mul-grow
-    (λ c. ?)  -- judge-members-add-grow
-    (λ c κs. ?)  -- judge-members-grow-requires
-    (λ c κs. ?)  -- judge-members-holds-one-requires
-    (λ c κs. ?)  -- judge-members-done-requires-2
-    (λ c. ?)  -- judge-members-returns-6
-    (λ c. ?)  -- judge-members-loop-less
-    (λ c. ?))  -- judge-members-loop-again
-    λ t. judge-value-lts.spec (
-      unpack-reads.Asked,
-      unpack-reads.Learnt,
-      open-reads.Asked,
-      open-reads.Learnt,
-      refused-reads.Asked,
-      refused-reads.Learnt,
-      read-reads.Asked,
-      read-reads.Learnt,
-      cause-of-reads.Asked,
-      cause-of-reads.Learnt,
-      contents-size-reads.Asked,
-      contents-size-reads.Learnt,
-      judge-members-below t,
-      judge-members.Post,
-      close-reads.Asked,
-      close-reads.Learnt,
-      done-reads.Asked,
-      done-reads.Learnt,
-    )
+    (λ c κs. search needs)  -- judge-members-unpack-requires
+    (λ c κs. search needs)  -- judge-members-parts-requires
+    (λ c κs. omega (arith, count-few (setting t c)))  -- judge-members-node-size-requires
+    (λ c. (
+      omega arith,
+      c .before .before .before .before .before .pre .1 .6,
+      judging-first (setting t (c .before)) _
+          (c .node-size .ensures) _ _ _ (c .before .before .before .before .before .pre .1 .3),
+    ))  -- judge-members-loop-holds
+    (λ c κs. (
+      c .before .before .before .before .before .before .before .args .index .now,
+      judging-sound (setting t (c .before .before .before))
+          (c .before .loop .inv .2),
+      c .before .before .before .before .before .before .before .pre .1 .2,
+    ))  -- judge-members-next-requires
+    (λ c. search needs)  -- judge-members-enum-told
+    (λ c. search needs)  -- judge-members-enum-known-end
+    (λ c κs. search needs)  -- judge-members-done-requires
+    (λ c. (
+      c .before .before .before .before .before .before .loop .inv .1,
+      c .done .ensures ∙ judged-over (turn t
+          (c .before .before .before .before)) _ (c .before .before .end .given .1),
+    ))  -- judge-members-returns
+    (λ c. search needs)  -- judge-members-enum-known-cause
+    (λ c. omega arith)  -- judge-members-sub-refused
+    (λ c κs. search needs)  -- judge-members-refused-requires
+    (λ c. (
+      c .before .before .before .before .before .before .loop .inv .1,
+      c .refused .ensures ∙ judged-stopped (turn t
+          (c .before .before .before .before)) _ (c .before .before .cause .given .1),
+    ))  -- judge-members-returns-2
+    (λ c. omega arith)  -- judge-members-add-from
+    (λ c. omega (arith, part-few (turn t (c .before .before .before .before)) (c .if1 .taken)))  -- judge-members-mul-if2
+    (λ c. part-few (turn t (c .before .before .before .before)) (c .if1 .taken))  -- judge-members-array-read-if2
+    (λ c. omega (
+      arith,
+      part-near (turn t (c .before .before .before .before .before .before))
+          (c .before .before .if1 .taken),
+    ))  -- judge-members-mul-octet
+    (λ c. omega (
+      arith,
+      part-near (turn t (c .before .before .before .before .before .before .before))
+          (c .before .before .before .if1 .taken),
+    ))  -- judge-members-add-octet
+    (λ c κs. search needs)  -- judge-members-octet-requires
+    (λ c. omega (arith, c .octet .ensures .1))  -- judge-members-mul-first
+    (λ c. type-few (turn t (c .before .before .before .before .before .before .before .before)) (c .before .before .before .before .if1 .taken) _
+    (c .octet .ensures .0))  -- judge-members-element-copy-out-first
+    (λ c κs. search needs)  -- judge-members-first-requires
+    (λ c. item-there (turn t (c .before .before .before .before .before .before .before .before .before .before .before))
+    (c .before .before .before .before .before .before .before .before .before .enum-told .given .1))  -- judge-members-shared-slice-read-fits
+    (λ c. omega (
+      arith,
+      c .shared-slice-known3 .given (c .before .before .before .before .before .before .before .before .before .before .before
+          .before .before .loop .at),
+    ))  -- judge-members-cast-fits
+    (λ c. omega arith)  -- judge-members-sub-rest
+    (λ c. omega arith)  -- judge-members-part-rest-start
+    (λ c. omega arith)  -- judge-members-part-rest-end
+    (λ c κs. (
+      judging-sound (setting t (c .before .before .before .before .before .before .before .before .before .before .before .before))
+          (c .before .before .before .before .before .before .before .before .before .before .loop .inv .2),
+      c .before .before .before .before
+          .before .before .before .before .before .before .loop .inv .1,
+    ))  -- judge-members-search-requires
+    (λ c. search needs)  -- judge-members-enum-known-cause-2
+    (λ c. omega arith)  -- judge-members-sub-refused-2
+    (λ c κs. search needs)  -- judge-members-refused-requires-2
+    (λ c. (
+      c .before .before .before .before .search .ensures .0,
+      c .refused2 .ensures ∙ judged-unfit (turn t
+          (c .before .before .before .before .before .before .before .before .before .before .before .before .before))
+          (c .before .before .before .before .before .before .before .before .before .before .before .enum-told .given .1) _ _ _
+          (c .before .before .before .before .search .ensures .1) (c .before .before .cause2 .given .1),
+    ))  -- judge-members-returns-3
+    (λ c. search needs)  -- judge-members-enum-known-x
+    (λ c. let z = found-low (turn t (c .before .before .before .before .before .before .before .before .before .before .before .before .before))
+    (c .before .before .before .before .before .before .before .before .before .before .before .enum-told .given .1) _ _ _
+    (c .before .before .before .before .search .ensures .1) (c .before .before .x .given .1) in omega arith)  -- judge-members-add-from-2
+    (λ c. omega arith)  -- judge-members-sub-refused-3
+    (λ c κs. search needs)  -- judge-members-refused-requires-3
+    (λ c. (
+      comes t (c .before .before) .ways,
+      c .refused3 .ensures ∙ judged-level (comes t (c .before .before))
+          (c .before .if4 .taken),
+    ))  -- judge-members-returns-4
+    (λ c. omega (arith, place-few (comes t (c .before .before .before .before))))  -- judge-members-mul-came
+    (λ c. place-few (comes t (c .before .before .before .before)))  -- judge-members-array-write-came
+    (λ c. omega (arith, behind-few (comes t (c .before .before .before .before .before))))  -- judge-members-add-j
+    (λ c. omega (arith, number-few (comes t (c .before .before .before .before .before .before))))  -- judge-members-mul-found
+    (λ c. number-few (comes t (c .before .before .before .before .before .before)))  -- judge-members-element-copy-out-found
+    (λ c. omega arith)  -- judge-members-sub-below
+    (λ c. omega arith)  -- judge-members-sub-below-2
+    (λ c κs.
+    let X = comes t (c .before .before .before .before .before .before .before .before .before) in
+    let q = c .before .before .before .before .before .before .before .before .before .before .before .before .before .before .before .before
+    .before .before .before .before .before .before .pre in
+    (omega (arith, q .0), (q .1 .0, is-record X, is-headed X, q .1 .4, omega (arith, q .1 .5), X .ways)))  -- judge-members-judge-value-requires
+    (λ c. search needs)  -- judge-members-enum-known-cause-3
+    (λ c κs. search needs)  -- judge-members-refused-requires-4
+    (λ c. (
+      c .before .before .before .before .judge-value .ensures .0,
+      c .refused4 .ensures ∙ judged-refused (valued t
+          (c .before .before .before .before)) _ _ (c .before .before .cause3 .given .1),
+    ))  -- judge-members-returns-5
+    (λ c. search needs)  -- judge-members-enum-known-end-2
+    (λ c. omega (arith, depth-few (valued t (c .before .before .before))))  -- judge-members-mul-grow
+    (λ c. omega (arith, sizes-few (valued t (c .before .before .before)) _ _ (c .before .end2 .given .1) .1))  -- judge-members-add-grow
+    (λ c κs. sizes-few (valued t (c .before .before .before)) _ _ (c .before .end2 .given .1))  -- judge-members-grow-requires
+    (λ c κs. search needs)  -- judge-members-holds-one-requires
+    (λ c κs. search needs)  -- judge-members-done-requires-2
+    (λ c. (
+      c .before .before .before .before .before .before .before .judge-value .ensures .0,
+      c .done2 .ensures ∙ judged-one (valued t
+          (c .before .before .before .before .before .before .before)) _ _ (c .before .before .before .before .before .end2 .given .1) _
+          (c .before .before .before .grow .ensures) _ (c .before .before .holds-one .ensures) (c .before .if6 .taken),
+    ))  -- judge-members-returns-6
+    (λ c. let Y = valued t (c .before .before .before .before .before .before) in omega (
+      arith,
+      value-further Y _ _
+          (c .before .before .before .before .end2 .given .1),
+      value-low Y _ _
+          (c .before .before .before .before .end2 .given .1),
+    ))  -- judge-members-loop-less
+    (λ c. let Y = valued t (c .before .before .before .before .before .before) in (
+      value-low Y _ _ (c .before .before .before .before .end2 .given .1),
+      c .before .before .before .before .before .before .judge-value .ensures .0,
+      judged-turn Y _ _ (c .before .before .before .before .end2 .given .1) _ (c .before .before .grow .ensures) _ (c .before .holds-one .ensures)
+          (c .if6 .left) _
+          (⊎-elim (λ v. inl (v .0 .taken, v .2)) (λ v. inr (v .0 .left, v .1))
+          (c .before .before .before .before .before .before .before .before .before .before .before .before .before .if5 .came)),
+    ))  -- judge-members-loop-again
+
+abbrev judge-value-claims : ℕ → judge-value-lts.Claims
+judge-value-claims t = (
+  unpack-reads.Asked,
+  unpack-reads.Learnt,
+  open-reads.Asked,
+  open-reads.Learnt,
+  refused-reads.Asked,
+  refused-reads.Learnt,
+  read-reads.Asked,
+  read-reads.Learnt,
+  cause-of-reads.Asked,
+  cause-of-reads.Learnt,
+  contents-size-reads.Asked,
+  contents-size-reads.Learnt,
+  judge-members-below t,
+  judge-members.Post,
+  close-reads.Asked,
+  close-reads.Learnt,
+  done-reads.Asked,
+  done-reads.Learnt,
+)
+
+-- where the tags are opened
+abbrev at-notes : (t : ℕ) (c : judge-value-lts.Joined1 (judge-value-claims t) (judge-value-at t) judge-value.Post) → length (c .if1 .notes) ≡ 4
+at-notes t c = ⊎-elim (λ z. rw (z .6) (z .2 .ensures .0)) (λ z. rw (z .1) refl) (c .if1 .came)
+
+abbrev at-under : (t : ℕ) (c : judge-value-lts.Joined1 (judge-value-claims t) (judge-value-at t) judge-value.Post) →
+    let a = c .before .before .before .before .before .args in
+    Under (now (a .table)) (recordOf (now (a .table)) (a .w)) (now (a .m)) (a .at) (take (unpacked (a .w) .explicit) (c .if1 .notes))
+    (c .if1 .at) (c .if1 .from) (c .if1 .end)
+at-under t c =
+    let a = c .before .before .before .before .before .args in
+    let q = c .before .before .before .before .before .pre .1 in
+    let u = c .before .before .unpack in
+    ⊎-elim
+    (λ z. rw (z .6, z .7, z .8, z .9)
+    (under-tags (q .0) (q .1) (now (a .m)) (a .at) _ (z .2 .result) (z .2 .ensures .1) (z .4 .given .0 .0) (z .4 .given .1)))
+    (λ z. rw (z .1, z .2, z .3, z .4) (under-bare (q .0) (q .1) (u .result) (u .ensures) (now (a .m)) (a .at) (a .from) (z .0 .left) (q .2) _))
+    (c .if1 .came)
+
+abbrev at-item : (t : ℕ) (c : judge-value-lts.Joined1 (judge-value-claims t) (judge-value-at t) judge-value.Post) →
+    let a = c .before .before .before .before .before .args in Item (now (a .table)) (now (a .index)) (a .w) (now (a .m)) (a .at) (a .level)
+at-item t c =
+    let q = c .before .before .before .before .before .pre .1 in
+    let u = c .before .before .unpack in
+    record {
+      ready = q .0;
+      known = q .1;
+      all-octets = λ i. omega (arith, c .before .before .before .shared-slice-known2 .given i);
+      short = q .3;
+      entry = u .result;
+      entered = u .ensures;
+      notes = c .if1 .notes;
+      four = at-notes t c;
+      at = c .if1 .at;
+      from = c .if1 .from;
+      end = c .if1 .end;
+      under = at-under t c;
+    }
+
+-- where the length is read
+abbrev at-contents : (t : ℕ) (c : judge-value-lts.Joined2 (judge-value-claims t) (judge-value-at t) judge-value.Post) →
+    let a = c .before .before .before .before .before .before .before .before .before .args in
+    let x = c .before .before .before .before .if1 in
+    Within (recordOf (now (a .table)) (a .w)) (take (x .end) (now (a .m))) (x .at) (x .end) (c .if2 .start) (c .if2 .stop) (c .if2 .marked)
+at-contents t c =
+    let x = at-item t (c .before .before .before .before) in
+    ⊎-elim
+    (λ z. rw (z .5, z .6, z .7) (contents-sized x (z .0 .taken) (z .1 .result) (z .1 .ensures) (z .3 .given .0 .0) (z .3 .given .1)))
+    (λ z. rw (z .1, z .2, z .3) (contents-bare x (z .0 .left)))
+    (c .if2 .came)
+
+abbrev at-filling : (t : ℕ) (c : judge-value-lts.Joined2 (judge-value-claims t) (judge-value-at t) judge-value.Post) →
+    let a = c .before .before .before .before .before .before .before .before .before .args in
+    Filling (now (a .table)) (now (a .index)) (a .w) (now (a .m)) (a .at) (a .level)
+at-filling t c =
+    record {
+      item = at-item t (c .before .before .before .before);
+      start = c .if2 .start;
+      stop = c .if2 .stop;
+      marked = c .if2 .marked;
+      within = at-contents t c;
+    }
+
+-- where the contents are judged
+abbrev at-over : (t : ℕ) (c : judge-value-lts.Joined3 (judge-value-claims t) (judge-value-at t) judge-value.Post) →
+    let a = c .before .before .before .before .before .before .before .before .before .before .args in
+    let x = c .before .before .before .before .before .if1 in
+    Over (now (a .table)) (recordOf (now (a .table)) (a .w)) (a .level) (take (x .end) (now (a .m))) (x .at) (x .end) (c .if3 .stop) (c .if3 .size)
+at-over t c =
+    let y = at-filling t (c .before) in
+    ⊎-elim
+    (λ z. rw (z .8, z .9) (over-leaf y (z .0 .taken) (z .1 .left) (z .5 .result) (z .5 .ensures .0) (z .6 .left) (z .5 .ensures .1)))
+    (λ z. rw (z .10, z .11)
+    (over-items y (z .0 .left) (z .5 .result) (z .5 .ensures .1) (z .7 .given .0 .0) (z .7 .given .0 .1 .0) (z .7 .given .1)))
+    (c .if3 .came)
+
+abbrev at-ended : (t : ℕ) (c : judge-value-lts.Joined3 (judge-value-claims t) (judge-value-at t) judge-value.Post) →
+    let a = c .before .before .before .before .before .before .before .before .before .before .args in
+    Ended (now (a .table)) (now (a .index)) (a .w) (now (a .m)) (a .at) (a .level)
+at-ended t c =
+    record {
+      item = at-item t (c .before .before .before .before .before);
+      stop = c .if3 .stop;
+      count = c .if3 .size;
+      over = at-over t c;
+    }
+
+abbrev at-way : (t : ℕ) (c : judge-value-lts.Joined3 (judge-value-claims t) (judge-value-at t) judge-value.Post) → length (c .if3 .way) ≡ 128
+at-way t c = ⊎-elim (λ z. rw (z .7) (c .before .before .before .before .before .before .before .before .before .before .pre .1 .5))
+    (λ z. rw (z .9) (z .5 .ensures .0)) (c .if3 .came)
+
+-- the half of `judge_value`
+judge-value-half : {M : Type 1} (t : ℕ) → judge-value-lts.Closed (judge-value-claims t) (judge-value-at t) judge-value.Post M
+judge-value-half t =
+    judge-value-lts.spec
+    (judge-value-claims t)
     (judge-value-at t)
     judge-value.Post
-    (λ c κs. ?)  -- judge-value-unpack-requires
-    (λ c κs. ?)  -- judge-value-open-requires
-    (λ c. ?)  -- judge-value-enum-known-cause
-    (λ c κs. ?)  -- judge-value-refused-requires
-    (λ c. ?)  -- judge-value-returns
-    (λ c. ?)  -- judge-value-enum-known-x
-    (λ c. ?)  -- judge-value-sub-left
-    (λ c. ?)  -- judge-value-slice-aggregate-around
-    (λ c κs. ?)  -- judge-value-read-requires
-    (λ c. ?)  -- judge-value-enum-known-fault
-    (λ c κs. ?)  -- judge-value-cause-of-requires
-    (λ c κs. ?)  -- judge-value-refused-requires-2
-    (λ c. ?)  -- judge-value-returns-2
-    (λ c. ?)  -- judge-value-enum-known-x-2
-    (λ c κs. ?)  -- judge-value-refused-requires-3
-    (λ c. ?)  -- judge-value-returns-3
-    (λ c. ?)  -- judge-value-sub-c
-    (λ c. ?)  -- judge-value-part-c-start
-    (λ c. ?)  -- judge-value-part-c-end
-    (λ c κs. ?)  -- judge-value-contents-size-requires
-    (λ c κs. ?)  -- judge-value-refused-requires-4
-    (λ c. ?)  -- judge-value-returns-4
-    (λ c. ?)  -- judge-value-sub-c-2
-    (λ c. ?)  -- judge-value-part-c-start-2
-    (λ c. ?)  -- judge-value-part-c-end-2
-    (λ c κs. ?)  -- judge-value-judge-members-requires
-    (λ c. ?)  -- judge-value-enum-known-cause-2
-    (λ c. ?)  -- judge-value-sub-refused
-    (λ c. ?)  -- judge-value-add-refused
-    (λ c κs. ?)  -- judge-value-refused-requires-5
-    (λ c. ?)  -- judge-value-returns-5
-    (λ c. ?)  -- judge-value-enum-known-x-3
-    (λ c. ?)  -- judge-value-add-stop
-    (λ c. ?)  -- judge-value-cast-close
-    (λ c κs. ?)  -- judge-value-close-requires
-    (λ c. ?)  -- judge-value-returns-6
-    (λ c κs. ?)  -- judge-value-done-requires
-    (λ c. ?)  -- judge-value-returns-7
+    (λ c κs. tt)  -- judge-value-unpack-requires
+    (λ c κs.
+    let q = c .before .before .before .before .before .before .pre .1 in (
+      now (c .before .before .before .before .before .before .args .index),
+      q .0,
+      q .1,
+      rw (c .before .before .before .unpack .ensures) at (c .before .if1 .taken),
+      q .2,
+      q .3,
+      refl,
+    ))  -- judge-value-open-requires
+    (λ c. search needs)  -- judge-value-enum-known-cause
+    (λ c κs. tt)  -- judge-value-refused-requires
+    (λ c.
+    let a = c .before .before .before .before .before .before .before .before .before .before .before .args in
+    let q = c .before .before .before .before .before .before .before .before .before .before .before .pre .1 in
+    let o = c .before .before .before .before .«open» in
+    let x = c .before .before .cause .given in (
+      q .5,
+      c .refused .ensures ∙ value-unopened (q .0) (q .1) (now (a .m)) (a .at) _ (o .result) (o .ensures .1) (x .0 .0) (x .0 .1 .0) (x .1)
+          (a .level),
+    ))  -- judge-value-returns
+    (λ c. search needs)  -- judge-value-enum-known-x
+    (λ c. item-within (at-item t (c .before)))  -- judge-value-sub-left
+    (λ c. item-around (at-item t (c .before .before)))  -- judge-value-slice-aggregate-around
+    (λ c κs. tt)  -- judge-value-read-requires
+    (λ c. search needs)  -- judge-value-enum-known-fault
+    (λ c κs. tt)  -- judge-value-cause-of-requires
+    (λ c κs. tt)  -- judge-value-refused-requires-2
+    (λ c.
+    let x = at-item t (c .before .before .before .before .before .before .before .before .before .before) in
+    let l = c .before .before .before .before .before .read in
+    let f = c .before .before .before .fault .given in (
+      c .before .before .before .before .before .before .before .before .before .before .before .before .before .before .before .pre .1 .5,
+      c .refused2 .ensures ∙ value-unread x (c .before .before .before .before .before .before .if2 .taken) (l .result) (l .ensures) (f .0 .0) (f .1)
+          (c .before .cause-of .result) (c .before .cause-of .ensures),
+    ))  -- judge-value-returns-2
+    (λ c. search needs)  -- judge-value-enum-known-x-2
+    (λ c κs. tt)  -- judge-value-refused-requires-3
+    (λ c.
+    let y = at-filling t (c .before .before .before) in (
+      c .before .before .before .before .before .before .before .before .before .before .before .before .pre .1 .5,
+      c .refused3 .ensures
+          ∙ value-marked y (c .before .before .if3 .taken) (c .before .if4 .taken),
+    ))  -- judge-value-returns-3
+    (λ c. contents-within (at-filling t (c .before .before .before .before)) .0)  -- judge-value-sub-c
+    (λ c. omega (arith, contents-within (at-filling t (c .before .before .before .before))))  -- judge-value-part-c-start
+    (λ c. contents-within (at-filling t (c .before .before .before .before)) .1)  -- judge-value-part-c-end
+    (λ c κs.
+    let a = c .before .before .before .before .before .before .before .before .before .before .before .before .before .before .args in
+    let q = c .before .before .before .before .before .before .before .before .before .before .before .before .before .before .pre .1 in (
+      tableIn (now (a .table)) (q .1 .0),
+      rw (c .before .before .before .before .before .before .before .before .before .before .before .unpack .ensures) (its-entry (q .0) (q .1)),
+      contents-short (at-filling t (c .before .before .before .before .before)),
+    ))  -- judge-value-contents-size-requires
+    (λ c κs. tt)  -- judge-value-refused-requires-4
+    (λ c.
+    let y = at-filling t (c .before .before .before .before .before .before .before .before) in
+    let s = c .before .before .contents-size in (
+      c .before .before .before .before .before .before .before .before .before .before .before .before .before .before .before .before .before .pre .1 .5,
+      c .refused4 .ensures ∙ value-wrong y (c .before .before .before .before .before .before .before .if3 .taken)
+          (c .before .before .before .before .before .before .if4 .left) (s .result) (s .ensures .0) (c .before .if5 .taken),
+    ))  -- judge-value-returns-4
+    (λ c. contents-within (at-filling t (c .before .before .before)) .0)  -- judge-value-sub-c-2
+    (λ c. omega (arith, contents-within (at-filling t (c .before .before .before))))  -- judge-value-part-c-start-2
+    (λ c. contents-within (at-filling t (c .before .before .before)) .1)  -- judge-value-part-c-end-2
+    (λ c κs.
+    let y = at-filling t (c .before .before .before .before .before) in
+    let p = c .before .before .before .before .before .before .before .before .before .before .before .before .before .before .pre in
+    let q = p .1 in
+    let n = c .before .before .before .before .if3 .left in
+    let k = items-known y n in
+    (omega (arith, p .0), (q .0, k .0, k .1, items-some y n, contents-short y, omega (arith, q .4), q .5)))  -- judge-value-judge-members-requires
+    (λ c. search needs)  -- judge-value-enum-known-cause-2
+    (λ c. contents-within (at-filling t (c .before .before .before .before .before .before .before .before .before)) .1)  -- judge-value-sub-refused
+    (λ c.
+    let y = at-filling t (c .before .before .before .before .before .before .before .before .before) in
+    let r = c .before .before .before .judge-members in
+    let x = c .before .cause2 .given in
+    omega (
+      arith,
+      items-low y (c .before .before .before .before .before .before .before .before .if3 .left) (r .result) (r .ensures .1) (x .0 .0)
+          (x .0 .1 .0) (x .1),
+    ))  -- judge-value-add-refused
+    (λ c κs. tt)  -- judge-value-refused-requires-5
+    (λ c.
+    let y = at-filling t (c .before .before .before .before .before .before .before .before .before .before) in
+    let r = c .before .before .before .before .judge-members in
+    let x = c .before .before .cause2 .given in (
+      r .ensures .0,
+      c .refused5 .ensures ∙ value-unheld y (c .before .before .before .before .before .before .before .before .before .if3 .left)
+          (r .result) (r .ensures .1) (x .0 .0) (x .0 .1 .0) (x .1),
+    ))  -- judge-value-returns-5
+    (λ c. search needs)  -- judge-value-enum-known-x-3
+    (λ c.
+    let y = at-filling t (c .before .before .before .before .before .before .before .before .before) in
+    let r = c .before .before .before .judge-members in
+    let x = c .before .x3 .given in
+    omega (
+      arith,
+      items-high y (c .before .before .before .before .before .before .before .before .if3 .left) (r .result) (r .ensures .1) (x .0 .0)
+          (x .0 .1 .0) (x .1),
+    ))  -- judge-value-add-stop
+    (λ c. omega (arith, item-tags (at-ended t (c .before .before .before .before))))  -- judge-value-cast-close
+    (λ c κs. item-closes (at-ended t (c .before .before .before .before)))  -- judge-value-close-requires
+    (λ c. (
+      at-way t (c .before .before .before .before .before),
+      value-closed (at-ended t (c .before .before .before .before .before)) (c .close .result)
+          (c .close .ensures),
+    ))  -- judge-value-returns-6
+    (λ c κs. tt)  -- judge-value-done-requires
+    (λ c.
+    (at-way t (c .before .before .before), c .done .ensures ∙ value-over (at-ended t (c .before .before .before)) (c .before .if6 .left)))  -- judge-value-returns-7
+
+pub +judge-members+judge-value-spec : {M : Type 1} → statement M
++judge-members+judge-value-spec = close μ-judge-members μ-judge-value judge-members-half judge-value-half

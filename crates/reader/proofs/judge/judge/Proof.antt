@@ -1,28 +1,66 @@
+-- `reader::judge::judge` meets its contract.
+-- Assumes nothing.
 use borrow.Author.Needs.{needs}
+use denote.Ref.{now}
+use mathlib.Core.Path.{_∙_}
+use native.Mathlib.Omega.{arith}
+use Rattle.table.specs.Entries.{tableIn}
+use Rattle.reader.proofs.JudgedValue.{message-known, message-empty, message-refused, message-trailing, message-done}
 use Rattle.reader.proofs.judge.judge.Statement.{statement}
 use Rattle.reader.proofs.judge.judge.Tie as tie
-use Rattle.reader.proofs.judge.judge.Reads as reads
-use Rattle.reader.proofs.judge.judge.Lts as lts
-use Rattle.reader.proofs.judge.done.Reads as done-reads
-use Rattle.reader.proofs.judge.judge_members.Reads as judge-members-reads
-use Rattle.reader.proofs.judge.refused.Reads as refused-reads
-use Rattle.table.proofs.entry.whole.Reads as whole-reads
 
 pub judge-spec : {M : Type 1} → statement M
 judge-spec =
     tie.close
     (tie.spec
-    (λ c κs. ?)  -- refused-requires
-    (λ c. ?)  -- returns
-    (λ c. ?)  -- cast-whole
-    (λ c κs. ?)  -- whole-requires
-    (λ c κs. ?)  -- judge-members-requires
-    (λ c. ?)  -- enum-known-cause
-    (λ c κs. ?)  -- refused-requires-2
-    (λ c. ?)  -- enum-known-end
-    (λ c. ?)  -- sub-refused
-    (λ c κs. ?)  -- refused-requires-3
-    (λ c. ?)  -- returns-2
-    (λ c κs. ?)  -- done-requires
-    (λ c. ?)  -- returns-3
-    (λ c. ?))  -- returns-4
+    (λ c κs. tt)  -- refused-requires
+    (λ c.
+    let a = c .before .before .before .before .args in (
+      c .before .before .before .before .pre .3,
+      c .refused .ensures ∙ message-empty (tableIn (now (a .table))) 24 (a .t) (now (a .m))
+          (c .before .if1 .taken),
+    ))  -- returns
+    (λ c.
+    let q = c .before .before .before .pre in
+    omega (arith, q .1, q .0 .filled .count, q .0 .filled .few))  -- cast-whole
+    (λ c κs. tt)  -- whole-requires
+    (λ c κs.
+    let q = c .before .before .before .before .before .pre in
+    let k = message-known (c .before .whole .result) (c .before .before .before .before .before .args .t) (q .1) (c .before .whole .ensures) in
+    (q .0, k .0, k .1, (λ _. omega (arith, c .before .before .if1 .left)), q .2, omega arith, q .3))  -- judge-members-requires
+    (λ c. search needs)  -- enum-known-cause
+    (λ c κs. tt)  -- refused-requires-2
+    (λ c. search needs)  -- enum-known-end
+    (λ c. omega (arith, c .if2 .taken))  -- sub-refused
+    (λ c κs. tt)  -- refused-requires-3
+    (λ c.
+    let a = c .before .before .before .before .before .before .before .before .before .before .before .args in
+    let w = c .before .before .before .before .before .before .before .whole in
+    let r = c .before .before .before .before .before .judge-members in
+    let x = c .before .before .before .end .given in (
+      r .ensures .0,
+      c .refused3 .ensures ∙ message-trailing (now (a .table)) (now (a .m)) 24 (a .t)
+          (c .before .before .before .before .before .before .before .before .if1 .left) (w .result) (w .ensures) (r .result) (r .ensures .1) (x .0 .0)
+          (x .0 .1 .0) (x .1) (c .before .if2 .taken),
+    ))  -- returns-2
+    (λ c κs. tt)  -- done-requires
+    (λ c.
+    let a = c .before .before .before .before .before .before .before .before .before .before .args in
+    let w = c .before .before .before .before .before .before .whole in
+    let r = c .before .before .before .before .judge-members in
+    let x = c .before .before .cause .given in (
+      r .ensures .0,
+      c .refused2 .ensures ∙ message-refused (now (a .table)) (now (a .m)) 24 (a .t)
+          (c .before .before .before .before .before .before .before .if1 .left) (w .result) (w .ensures) (r .result) (r .ensures .1) (x .0 .0) (x .0 .1 .0)
+          (x .1),
+    ))  -- returns-3
+    (λ c.
+    let a = c .before .before .before .before .before .before .before .before .before .before .before .args in
+    let w = c .before .before .before .before .before .before .before .whole in
+    let r = c .before .before .before .before .before .judge-members in
+    let x = c .before .before .before .end .given in (
+      r .ensures .0,
+      c .done .ensures ∙ message-done (now (a .table)) (now (a .m)) 24 (a .t)
+          (c .before .before .before .before .before .before .before .before .if1 .left) (w .result) (w .ensures) (r .result) (r .ensures .1) (x .0 .0)
+          (x .0 .1 .0) (x .1) (c .before .if2 .left),
+    )))  -- returns-4
