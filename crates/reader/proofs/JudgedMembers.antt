@@ -12,6 +12,8 @@ use mathlib.Core.Path.{_≡_, refl, sym, ap, _∙_}
 use native.Mathlib.Nat.{add-zero}
 use native.Mathlib.Omega.{arith}
 use Prim.Native.Nat.{ℕ, zero, suc, _+_, _-_, _*_, _/_, _%_, _≤_, _<_}
+use Rattle.octets.specs.declared.cause.Cause.{Cause}
+use Rattle.octets.specs.declared.cause.Cause.the-variants.{Cut, NotAwaited, Trailing, MessageLevel}
 use Rattle.octets.specs.Answer.{Answer, got, refused, then, if}
 use Rattle.octets.specs.Lists.{any}
 use Rattle.octets.specs.Numbers.{Octets}
@@ -19,8 +21,7 @@ use Rattle.octets.proofs.Answer.{got-holds}
 use Rattle.octets.proofs.Tests.{test}
 use Rattle.ber.specs.Codes.{code, codeOf}
 use Rattle.ber.specs.Reading.{readIdentifier}
-use Rattle.ber.specs.Told.{endOf, mode, faultNumber}
-use Rattle.ber.specs.declared.Fault.{Fault}
+use Rattle.ber.specs.Told.{endOf, mode}
 use Rattle.ber.specs.declared.ending.End.{End}
 use Rattle.ber.specs.declared.ending.End.the-variants.{More as GoesOn, Over as EndsAt, Broken as BrokenBy}
 use Rattle.ber.proofs.Codes.{bit-small, code-short, code-long, read-code-small, read-code-short}
@@ -38,7 +39,7 @@ use Rattle.coding.specs.Value.{Value, octets}
 use Rattle.coding.specs.Reading.{begun, notAwaited, readValue}
 use Rattle.coding.proofs.Refusals.{value-shorter}
 use Rattle.coding.proofs.Sound.{value-sound}
-use Rattle.reader.specs.Answers.{cap, causeOf, causeNumber, told, size}
+use Rattle.reader.specs.Answers.{cap, told, size}
 use Rattle.reader.specs.Codes.{firstOf, peeked, hit}
 use Rattle.reader.specs.Items.{Holder, inside, message, Manner, in-turn, each-once, repeated, single, manner, partsOf, Placed}
 use Rattle.reader.specs.Items.{pending, upToMandatory, within, left, some-of, remains, lacks, since, following, noted, isSingle, first, next}
@@ -49,8 +50,6 @@ use Rattle.reader.specs.Sought.{held, Sound, tabledCount, unfit, Sought}
 use Rattle.reader.specs.Standing.{atEnding, standing}
 use Rattle.reader.specs.Ways.{Leads, here, wrapped}
 use Rattle.reader.specs.Wraps.{Headed}
-use Rattle.reader.specs.declared.answer.Cause.{Cause}
-use Rattle.reader.specs.declared.answer.Cause.the-variants.{Cut, Form, NotAwaited, Contents, Trailing, Level}
 use Rattle.reader.specs.declared.answer.Judged.{Judged}
 use Rattle.reader.specs.declared.answer.Judged.the-variants.{Done, Refused}
 use Rattle.reader.specs.declared.judge.Standing.{Standing}
@@ -79,7 +78,7 @@ module _ (m : List ℕ) (x : Answer Value) where
   unfolding told
   told-done v u n e h k = rw (e, left-at m u h, k) refl
 
-  told-refused : (c l : ℕ) → x ≡ refused c l → Refused (causeOf c) l ≡ told m size x
+  told-refused : (c l : ℕ) → x ≡ refused c l → Refused c l ≡ told m size x
   unfolding told
   told-refused c l e = rw e refl
 
@@ -92,16 +91,16 @@ said-done m (got v w) u n e =
     (v, w, refl, sym a, sym b)
 said-done m (refused c l) u n e = let z : _≡_ {A = ℕ} 0 1 = cc in absurd (omega arith)
 
-said-refused : (m : List ℕ) (x : Answer Value) (c : Cause) (l : ℕ) → told m size x ≡ Refused c l → (k : ℕ) × (x ≡ refused k l) × (c ≡ causeOf k)
+said-refused : (m : List ℕ) (x : Answer Value) (c : Cause) (l : ℕ) → told m size x ≡ Refused c l → (k : ℕ) × (x ≡ refused k l) × (c ≡ k)
 unfolding told
 said-refused m (got v w) c l e = let z : _≡_ {A = ℕ} 0 1 = cc in absurd (omega arith)
 said-refused m (refused k i) c l e =
     let a : i ≡ l = cc in
-    let b : causeOf k ≡ c = cc in
+    let b : k ≡ c = cc in
     (k, ap (refused k) a, sym b)
 
-cause-number : (c : Cause) → causeOf (causeNumber c) ≡ c
-unfolding causeOf if
+cause-number : (c : Cause) → c ≡ c
+unfolding if
 cause-number Cut = refl
 cause-number Form = refl
 cause-number NotAwaited = refl
@@ -262,7 +261,7 @@ module _ (h : Holder) (i : ℕ) (came : List ℕ) where
 
   abbrev Stopped : End → Cause → Type 0
   Stopped x c =
-      ((u : ℕ) × (x ≡ EndsAt u) × (lacks h i came ≡ true) × (c ≡ NotAwaited)) ⊎ ((f : Fault) × (x ≡ BrokenBy f) × (c ≡ causeOf (faultNumber f)))
+      ((u : ℕ) × (x ≡ EndsAt u) × (lacks h i came ≡ true) × (c ≡ NotAwaited)) ⊎ ((f : Cause) × (x ≡ BrokenBy f) × (c ≡ f))
 
   ends-stopped : (x : End) (c : Cause) → atEnding h i came x ≡ Stops c → Stopped x c
   unfolding atEnding if
@@ -271,7 +270,7 @@ module _ (h : Holder) (i : ℕ) (came : List ℕ) where
       test (lacks h i came)
       (λ l. let d : Stops NotAwaited ≡ Stops c = rw l at e in let q : NotAwaited ≡ c = cc in inl (v, refl, l, sym q))
       λ l. let d : Ends v ≡ Stops c = rw l at e in let z : _≡_ {A = ℕ} 0 1 = cc in absurd (omega arith)
-  ends-stopped (BrokenBy f) c e = let q : causeOf (faultNumber f) ≡ c = cc in inr (f, refl, sym q)
+  ends-stopped (BrokenBy f) c e = let q : f ≡ c = cc in inr (f, refl, sym q)
 
   ends-item : (x : End) → atEnding h i came x ≡ Item → x ≡ GoesOn
   unfolding atEnding if
@@ -531,9 +530,9 @@ unfit-alike {A} {B} h i came s c l e =
     test (not (remains h i came)) (λ r. rw (q, r) (trailing (rw (q, r) at e))) λ r. rw (q, r) (other (rw (q, r) at e))
   where
     other : notAwaited {A = A} s ≡ refused c l → notAwaited {A = B} s ≡ refused c l
-    other d = sym (unawaited-on {A = A} {B = B} s (λ a u. refused 0 0)) ∙ rw d refl
+    other d = sym (unawaited-on {A = A} {B = B} s (λ a u. refused Cut 0)) ∙ rw d refl
 
-    trailing : _≡_ {A = Answer A} (refused 26 (length s)) (refused c l) → _≡_ {A = Answer B} (refused 26 (length s)) (refused c l)
+    trailing : _≡_ {A = Answer A} (refused Trailing (length s)) (refused c l) → _≡_ {A = Answer B} (refused Trailing (length s)) (refused c l)
     trailing d = let x : 26 ≡ c = cc in let y : length s ≡ l = cc in rw (← x, ← y) refl
 
 -- where one is found, some are left
@@ -670,7 +669,7 @@ module _ {Q : Setting} (P : Turn Q) where
   abbrev E : End
   E = endOf (P .marked) (length (P .m)) (drop (P .at) (P .m))
 
-  refused-here : (c : ℕ) → W ≡ refused c (length Rest) → Refused (causeOf c) (length (P .m) - P .at) ≡ told (P .m) size W
+  refused-here : (c : ℕ) → W ≡ refused c (length Rest) → Refused c (length (P .m) - P .at) ≡ told (P .m) size W
   refused-here c x = told-refused (P .m) W c (length (P .m) - P .at) (x ∙ ap (refused c) (length-drop (P .at) (P .m)))
 
   total-few : P .total < 16386
@@ -696,11 +695,11 @@ module _ {Q : Setting} (P : Turn Q) where
       going-over W (T Q) R (H Q) (mode (P .marked)) (P .m) (P .at) I (P .came) (P .total) (P .so-far .going) n (drop u (P .m))
       (λ A f z. end-over {A = A} f z (P .m) (P .at) (P .marked) E u (P .low) refl a .0) l in
       told-done (P .m) W (g .value) u (P .total) (g .is)
-      (end-over {A = ℕ} (λ z. got 0 z) (λ z. refused 0 0) (P .m) (P .at) (P .marked) E u (P .low) refl a .2) (g .size)
+      (end-over {A = ℕ} (λ z. got 0 z) (λ z. refused Cut 0) (P .m) (P .at) (P .marked) E u (P .low) refl a .2) (g .size)
 
   -- that lack a part, or are broken
   pub judged-stopped : (c : Cause) → P .y ≡ Stops c → Refused c (length (P .m) - P .at) ≡ told (P .m) size W
-  unfolding causeOf if
+  unfolding if
   judged-stopped c d = go (ends-stopped (H Q) I (P .came) E c (sym (many-stands (H Q) I (P .came) E N) ∙ sym (P .stands) ∙ d))
     where
       N : isSingle (manner (H Q)) ≡ false
@@ -712,8 +711,8 @@ module _ {Q : Setting} (P : Turn Q) where
           (going-lacking W (T Q) R (H Q) (mode (P .marked)) (P .m) (P .at) I (P .came) (P .total) (P .so-far .going) N (drop u (P .m))
           (λ A f z. end-over {A = A} f z (P .m) (P .at) (P .marked) E u (P .low) refl a .0) l))
       go (inr (f, a, q)) =
-          rw q (refused-here (faultNumber f)
-          (going-broken W (T Q) R (H Q) (mode (P .marked)) (P .m) (P .at) I (P .came) (P .total) (P .so-far .going) N (faultNumber f) (length Rest)
+          rw q (refused-here f
+          (going-broken W (T Q) R (H Q) (mode (P .marked)) (P .m) (P .at) I (P .came) (P .total) (P .so-far .going) N f (length Rest)
           (λ A g z. end-broken {A = A} g z (P .m) (P .at) (P .marked) E f refl a)))
 
   -- an item
@@ -727,7 +726,7 @@ module _ {Q : Setting} (P : Turn Q) where
     pub item-there : P .at < length (P .m)
     item-there =
         test (isSingle (manner (H Q))) (λ q. P .so-far .one q)
-        λ q. end-more {A = ℕ} (λ z. got 0 z) (λ z. refused 0 0) (P .m) (P .at) (P .marked) E refl (goes-on q) .1
+        λ q. end-more {A = ℕ} (λ z. got 0 z) (λ z. refused Cut 0) (P .m) (P .at) (P .marked) E refl (goes-on q) .1
 
     -- of no part that is awaited
     pub judged-unfit : (way : List ℕ) (c : Cause) (r : Found) → Sought (Q .b) (H Q) I (P .came) (restOf (P .m) (P .at)) way r → r ≡ NotFound c
@@ -735,8 +734,8 @@ module _ {Q : Setting} (P : Turn Q) where
     unfolding unfit if
     judged-unfit way c r q₀ ec =
         let q : Sought (Q .b) (H Q) I (P .came) Rest way (NotFound c) = rw (part-to-end (P .m) (P .at), ec) at q₀ in
-        let x = unfit-alike {A = List ℕ} {B = Value} (H Q) I (P .came) Rest (causeNumber c) (length Rest) (q .1) in
-        rw cause-number at (refused-here (causeNumber c) (whole (q .0) ∙ x))
+        let x = unfit-alike {A = List ℕ} {B = Value} (H Q) I (P .came) Rest c (length Rest) (q .1) in
+        rw cause-number at (refused-here c (whole (q .0) ∙ x))
       where
         whole : next (T Q) (H Q) I (P .came) Rest ≡ none → W ≡ unfit (H Q) I (P .came) Rest
         whole q =
@@ -826,9 +825,9 @@ module _ {Q : Setting} {P : Turn Q} (X : Comes P) where
 
   -- under more CHOICEs than there are levels
   pub judged-level : P .level ≤ X .depth → Refused Level (length (P .m) - P .at) ≡ told (P .m) size (W P)
-  unfolding causeOf if
+  unfolding if
   judged-level h =
-      refused-here P 28 (part-refused 28 (length (Rest P))
+      refused-here P 28 (part-refused MessageLevel (length (Rest P))
       (way-level (T Q) all-fit all-nested C tagged (Rest P) code-tells (X .is .leads) (X .is .its) (P .level) h))
 
   -- the entry of its record

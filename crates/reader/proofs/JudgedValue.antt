@@ -11,6 +11,8 @@ use mathlib.Core.Option.{Option, some, none}
 use mathlib.Core.Path.{_≡_, refl, sym, ap, _∙_}
 use native.Mathlib.Omega.{arith}
 use Prim.Native.Nat.{ℕ, zero, suc, _+_, _-_, _≤_, _<_}
+use Rattle.octets.specs.declared.cause.Cause.{Cause}
+use Rattle.octets.specs.declared.cause.Cause.the-variants.{Cut, Form, NotAwaited, Contents, Trailing}
 use Rattle.octets.specs.Answer.{Answer, got, refused, then, if, behind, none-left}
 use Rattle.octets.specs.Numbers.{Octets}
 use Rattle.octets.specs.Permutations.{as-given}
@@ -19,8 +21,7 @@ use Rattle.octets.proofs.Tests.{test}
 use Rattle.ber.specs.Codes.{codeOf}
 use Rattle.ber.specs.Reading.{Mode, closed, open-ended, Size, definite, indefinite, readIdentifier, readLength, readHeader, inside as insideSize}
 use Rattle.ber.specs.Reading.{readConstructed, contents, readPrimitive, atEnd}
-use Rattle.ber.specs.Told.{toldIdentifier, toldLength, faultOf, faultNumber, mode}
-use Rattle.ber.specs.declared.Fault.{Fault}
+use Rattle.ber.specs.Told.{toldIdentifier, toldLength, faultOf, mode}
 use Rattle.ber.specs.declared.identifier.Identifier.the-variants.{Refused as NoIdentifier}
 use Rattle.ber.specs.declared.length.Length.{Length}
 use Rattle.ber.specs.declared.length.Length.the-variants.{Read as ReadLength, Refused as NoLength}
@@ -41,15 +42,13 @@ use Rattle.coding.proofs.Content.{content-sound, content-complete}
 use Rattle.coding.proofs.FirstTags.{good}
 use Rattle.coding.proofs.Refusals.{Says, names, value-shorter, value-says}
 use Rattle.coding.proofs.Sound.{value-sound}
-use Rattle.reader.specs.Answers.{cap, causeOf, causeNumber, told, size}
+use Rattle.reader.specs.Answers.{cap, told, size}
 use Rattle.reader.specs.Items.{Holder, inside, message, manner, Placed, remains, lacks, following, noted, isSingle, Hand, readPart, next}
 use Rattle.reader.specs.Items.{readItems, blank, readHeld}
 use Rattle.reader.specs.Records.{Ready, recordIn, IsRecord, Known, of-record, of-message, holderIn, readRecord}
 use Rattle.reader.specs.Sought.{held}
 use Rattle.reader.specs.Weights.{weight, leafWeight}
 use Rattle.reader.specs.Wraps.{ended, shut, closing, Around, identifiers, Headed, readBare, Opens}
-use Rattle.reader.specs.declared.answer.Cause.{Cause}
-use Rattle.reader.specs.declared.answer.Cause.the-variants.{Cut, Form, NotAwaited, Contents, Trailing, Level}
 use Rattle.reader.specs.declared.answer.Judged.{Judged}
 use Rattle.reader.specs.declared.answer.Judged.the-variants.{Done, Refused}
 use Rattle.reader.specs.declared.tags.Inner.{Inner}
@@ -134,7 +133,7 @@ unawaited-sane : {A : Type 0} {P : List ℕ → Type 0} (s : List ℕ) → Sane 
 unfolding notAwaited then toldIdentifier
 unawaited-sane {A} {P} s = go (readIdentifier s) refl
   where
-    go : (x : Answer (List ℕ)) → readIdentifier s ≡ x → Sane {A = A} P s (then x λ i s₁. refused 24 (length s))
+    go : (x : Answer (List ℕ)) → readIdentifier s ≡ x → Sane {A = A} P s (then x λ i s₁. refused NotAwaited (length s))
     go (got i u) e = stops {l = length s} (omega arith)
     go (refused c l) e =
         let q : NoIdentifier (faultOf c) ≡ toldIdentifier (length s) (readIdentifier s) = rw e refl in
@@ -186,7 +185,7 @@ module _ (T : Table) (n : ℕ) (h : Holder) where
 
 -- what the judge's answers say
 pub told-refused : {A : Type 0} (m : List ℕ) (f : A → ℕ) (x : Answer A) (y : Judged) → y ≡ told m f x → (c : Cause) (l : ℕ) → y ≡ Refused c l
-    → (k : ℕ) × (x ≡ refused k l) × (c ≡ causeOf k)
+    → (k : ℕ) × (x ≡ refused k l) × (c ≡ k)
 unfolding told
 told-refused m f (got a u) y e c l d = let z : _≡_ {A = ℕ} 0 1 = cc in absurd (omega arith)
 told-refused m f (refused k i) y e c l d = let z : i ≡ l = cc in (k, ap (refused k) z, cc)
@@ -197,8 +196,8 @@ unfolding told
 told-done m f (got a u) y q e n d = (a, u, refl, cc, cc)
 told-done m f (refused k i) y q e n d = let z : _≡_ {A = ℕ} 0 1 = cc in absurd (omega arith)
 
-pub cause-number : (c : Cause) → causeOf (causeNumber c) ≡ c
-unfolding causeOf if
+pub cause-number : (c : Cause) → c ≡ c
+unfolding if
 cause-number Cut = refl
 cause-number Form = refl
 cause-number NotAwaited = refl
@@ -236,11 +235,11 @@ leaf-some null = omega arith
 leaf-some (enumerated k) = omega arith
 
 module _ (k : Simple) (c : List ℕ) (l : ℕ) (s : List ℕ) (n : ℕ) (en : n ≡ weight (decode k 0 c [])) where
-  weight-none : n ≡ 0 → decode k l c s ≡ refused 25 l
+  weight-none : n ≡ 0 → decode k l c s ≡ refused Contents l
   unfolding weight
   weight-none z = go (decode k l c s) refl
     where
-      go : (y : Answer Leaf) → decode k l c s ≡ y → y ≡ refused 25 l
+      go : (y : Answer Leaf) → decode k l c s ≡ y → y ≡ refused Contents l
       go (got x w) e = let q = rw (decode-moves k l c s 0 [] x w e) at en in absurd (omega (arith, leaf-some x))
       go (refused a b) e = let (i, j) = rw e at (decode-only k l c s) in rw (i, j) refl
 
@@ -261,7 +260,7 @@ module _ {A B : Type 0} (a : A) (b : B) where
   unfolding ended then
   ended-alike k x y (inl (u, e, f)) = rw (e, f) (go (ending k u))
     where
-      go : Ending k u → Alike a b (atEnd k u (λ v. got a v) λ _. refused 26 (length u)) (atEnd k u (λ v. got b v) λ _. refused 26 (length u))
+      go : Ending k u → Alike a b (atEnd k u (λ v. got a v) λ _. refused Trailing (length u)) (atEnd k u (λ v. got b v) λ _. refused Trailing (length u))
       go (over w z h) = inl (w, h A _ _, h B _ _)
       go (broken c l z h) = inr (c, l, h A _ _, h B _ _)
       go (more h) = inr (26, length u, h A _ _, h B _ _)
@@ -362,7 +361,7 @@ single-kind (Choice ts) e = refl
 module _ (T : Table) (f : ℕ → List ℕ → Answer Value) (i : List ℕ) (y : Body) (s : List ℕ) (k : Simple) (q : y ≡ Plain k) (z : Bool) (n : ℕ)
     (u : List ℕ)
     (h : readHeader i s ≡ got (sizeOf z n) u) where
-  plain-open : z ≡ true → readKind T f i y s ≡ refused 23 (length s)
+  plain-open : z ≡ true → readKind T f i y s ≡ refused Form (length s)
   unfolding readKind readPrimitive then contents
   plain-open t = let g = rw t at h in rw (q, g) refl
 
@@ -532,7 +531,7 @@ module _ {b index : List ℕ} {w : ℕ} {m : List ℕ} {first level : ℕ} (X : 
   item-around = sym size-part
 
   -- a refusal of the item is one of the value
-  under-refused : (c l : ℕ) → Bare ≡ refused c l → Refused (causeOf c) (l + (length m - X .end)) ≡ Wanted
+  under-refused : (c l : ℕ) → Bare ≡ refused c l → Refused c (l + (length m - X .end)) ≡ Wanted
   unfolding told
   under-refused c l e =
       rw (
@@ -542,7 +541,7 @@ module _ {b index : List ℕ} {w : ℕ} {m : List ℕ} {first level : ℕ} (X : 
             (X .under .around),
       ) refl
 
-  item-unfit : (c : ℕ) → Bare ≡ refused c (length Rest) → Refused (causeOf c) (length m - X .at) ≡ Wanted
+  item-unfit : (c : ℕ) → Bare ≡ refused c (length Rest) → Refused c (length m - X .at) ≡ Wanted
   item-unfit c e =
       let z : length m - X .at ≡ length Rest + (length m - X .end) = omega (arith, left-part, X .under .some, X .under .high) in
       rw z (under-refused c (length Rest) e)
@@ -574,11 +573,11 @@ module _ {b index : List ℕ} {w : ℕ} {m : List ℕ} {first level : ℕ} (X : 
       }
 
   module _ (k : X .entry .kind ≡ 50 → ⊥) (z : Length) (az : (l : ℕ) → z ≡ toldLength (length Part) (readLength l (drop (X .from) Part))) where
-    pub value-unread : (f : Fault) → z ≡ NoLength f → (c : Cause) → c ≡ causeOf (faultNumber f) → Refused c (length m - X .at) ≡ Wanted
+    pub value-unread : (f : Cause) → z ≡ NoLength f → (c : Cause) → c ≡ f → Refused c (length m - X .at) ≡ Wanted
     value-unread f q c ec =
         let l = length Rest in
         let y = own-header (no-choice k) ∙ length-refused Part (X .from) l z (az l) f q in
-        rw ec (item-unfit (faultNumber f) (item-refused (tableIn b) _ (own Rec) (Rec .body) Rest (faultNumber f) l (no-choice k) y))
+        rw ec (item-unfit f (item-refused (tableIn b) _ (own Rec) (Rec .body) Rest f l (no-choice k) y))
 
     pub contents-sized : (x : Extent) → z ≡ ReadLength x → Within Rec Part (X .at) (X .end) (x .start) (x .end) (x .marked)
     contents-sized x q =
@@ -676,7 +675,7 @@ module _ {b index : List ℕ} {w : ℕ} {m : List ℕ} {first level : ℕ} (Y : 
     plain-header k q = W .header (no-alternatives Kept k q)
 
     pub value-marked : Y .marked ≡ true → Refused Form (length m - X .at) ≡ Wanted X
-    unfolding causeOf if
+    unfolding if
     value-marked t =
         let (k, q) = is-plain in
         item-unfit X 23 (plain-open (tableIn b) (readValue (tableIn b) level) Own Kept S k q (Y .marked) Size-of (drop (Y .start) P)
@@ -695,7 +694,7 @@ module _ {b index : List ℕ} {w : ℕ} {m : List ℕ} {first level : ℕ} (Y : 
           ∙ rw (part-c, rest-c) refl
 
       pub value-wrong : i ≡ 0 → Refused Contents (length m - X .at) ≡ Wanted X
-      unfolding then causeOf if
+      unfolding then if
       value-wrong z =
           let (k, q) = is-plain in
           let y = weight-none k C (length S) (drop (Y .stop) P) i (its-weight k q) z in
@@ -875,7 +874,7 @@ pub message-known : {b index : List ℕ} (w t : ℕ) → t < countIn b → unpac
 message-known w t h q = (of-message t h q, ap (λ (x : Entry). x .simple) q)
 
 pub message-empty : (T : Table) (n t : ℕ) (m : List ℕ) → length m ≡ 0 → Refused Cut 0 ≡ told m size (readMessage T n t m)
-unfolding told readMessage none-left causeOf if
+unfolding told readMessage none-left if
 message-empty T n t [] z = refl
 message-empty T n t (x ∷ m) z = absurd (omega arith)
 
@@ -895,7 +894,7 @@ module _ (b m : List ℕ) (n t : ℕ) (some : length m ≡ 0 → ⊥) (w : ℕ)
   its-answer : y ≡ told m size Root
   its-answer = ey ∙ ap (λ (h : Holder). told m size (readHeld (tableIn b) (readValue (tableIn b) n) h closed m)) its-root
 
-  its-whole : readMessage (tableIn b) n t m ≡ then Root λ v r. if (not (none-left r)) (refused 26 (length r)) λ _. got v r
+  its-whole : readMessage (tableIn b) n t m ≡ then Root λ v r. if (not (none-left r)) (refused Trailing (length r)) λ _. got v r
   unfolding if
   its-whole = message-whole (tableIn b) n t closed m ∙ rw (not-none m some) refl
 
@@ -903,7 +902,7 @@ module _ (b m : List ℕ) (n t : ℕ) (some : length m ≡ 0 → ⊥) (w : ℕ)
   unfolding told then
   message-refused c l d = let (k, x, f) = told-refused m size Root y its-answer c l d in go k x f
     where
-      go : (k : ℕ) → Root ≡ refused k l → c ≡ causeOf k → Refused c l ≡ Whole
+      go : (k : ℕ) → Root ≡ refused k l → c ≡ k → Refused c l ≡ Whole
       go k x f = rw (its-whole, x, f) refl
 
   module _ (u i : ℕ) (d : y ≡ Done u i) where
@@ -918,14 +917,14 @@ module _ (b m : List ℕ) (n t : ℕ) (some : length m ≡ 0 → ⊥) (w : ℕ)
         go (refused c l) h e = let z : _≡_ {A = ℕ} 0 1 = cc in absurd (omega arith)
 
     pub message-trailing : u < length m → Refused Trailing (length m - u) ≡ Whole
-    unfolding told then if causeOf none-left
+    unfolding told then if none-left
     message-trailing l =
         let (v, s, x, f, g) = told-done m size Root y its-answer u i d in
         let k : length m - u ≡ length s = omega (arith, rest-length v s x) in
         rw (its-whole, x, k) (go v s (omega arith))
       where
         go : (v : Value) (s : List ℕ) → 0 < length s → Refused Trailing (length s) ≡ told m size
-            (if (not (none-left s)) (refused 26 (length s)) λ _. got v s)
+            (if (not (none-left s)) (refused Trailing (length s)) λ _. got v s)
         go v [] l = absurd (omega arith)
         go v (a ∷ s) l = refl
 
@@ -936,6 +935,6 @@ module _ (b m : List ℕ) (n t : ℕ) (some : length m ≡ 0 → ⊥) (w : ℕ)
         rw (its-whole, x) (go v s (omega (arith, rest-length v s x)) f g)
       where
         go : (v : Value) (s : List ℕ) → length s ≡ 0 → u ≡ length m - length s → i ≡ cap (length (octets v))
-            → Done u i ≡ told m size (if (not (none-left s)) (refused 26 (length s)) λ _. got v s)
+            → Done u i ≡ told m size (if (not (none-left s)) (refused Trailing (length s)) λ _. got v s)
         go v [] z f g = rw (f, g) refl
         go v (a ∷ s) z f g = absurd (omega arith)

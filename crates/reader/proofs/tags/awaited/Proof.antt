@@ -18,5 +18,15 @@ awaited-spec =
     (λ c. search needs)  -- enum-known-code
     (λ c κs. tt)  -- tag-code-requires
     (λ c. awaits-tag (c .before .before .before .before .before .before .before .before .before .before .before .pre .1) (c .before .before .before .before .before .before .before .before .before .before .before .pre .2) (c .before .before .before .before .before .before .before .before .unpack .result) (c .before .before .before .before .before .before .before .before .unpack .ensures) (c .before .before .before .before .before .before .before .tag-count .result) (c .before .before .before .before .before .before .before .tag-count .ensures .0) (c .before .before .before .before .before .before .before .before .before .before .before .args .j) (c .before .before .before .before .before .before .before .before .before .before .before .args .m .now) (c .before .before .before .before .before .before .if1 .left) (λ n. omega (arith, c .before .before .before .before .before .before .before .before .before .shared-slice-known2 .given n)) (c .before .before .before .before .before .read .result) (c .before .before .before .before .before .read .ensures) (c .before .before .before .code .given .0 .0) (c .before .before .before .code .given .0 .1 .0) (c .before .before .before .code .given .1) (c .before .tag-code .result) (c .before .tag-code .ensures) (c .if2 .taken))  -- returns-2
-    (λ c. ?)  -- returns-3
+    (λ c.
+    let c3 = c .before .before .before in
+    let c4 = c3 .before in
+    let c5 = c4 .before in
+    let c6 = c5 .before in
+    let c7 = c6 .before in
+    let c9 = c7 .before .before in
+    awaits-unread (c9 .pre .1) (c9 .pre .2) (c6 .unpack .result) (c6 .unpack .ensures) (c5 .tag-count .result)
+    (c5 .tag-count .ensures .0) (c9 .args .j) (c9 .args .m .now) (c4 .if1 .left) (λ n. omega
+    (arith, c7 .shared-slice-known2 .given n)) (c3 .read .result) (c3 .read .ensures) (c .before .cause .given .0 .0)
+    (c .before .cause .given .1))  -- returns-3
     (λ c. awaits-other (c .before .before .before .before .before .before .before .before .before .before .before .pre .1) (c .before .before .before .before .before .before .before .before .before .before .before .pre .2) (c .before .before .before .before .before .before .before .before .unpack .result) (c .before .before .before .before .before .before .before .before .unpack .ensures) (c .before .before .before .before .before .before .before .tag-count .result) (c .before .before .before .before .before .before .before .tag-count .ensures .0) (c .before .before .before .before .before .before .before .before .before .before .before .args .j) (c .before .before .before .before .before .before .before .before .before .before .before .args .m .now) (c .before .before .before .before .before .before .if1 .left) (λ n. omega (arith, c .before .before .before .before .before .before .before .before .before .shared-slice-known2 .given n)) (c .before .before .before .before .before .read .result) (c .before .before .before .before .before .read .ensures) (c .before .before .before .code .given .0 .0) (c .before .before .before .code .given .0 .1 .0) (c .before .before .before .code .given .1) (c .before .tag-code .result) (c .before .tag-code .ensures) (c .if2 .left)))  -- returns-4

@@ -32,7 +32,15 @@ close-spec =
     (λ c. close-more (c .before .before .before .before .before .before .before .before .args .m .now) (c .before .before .before .before .before .before .before .before .args .notes .now) (c .before .before .before .before .before .before .before .before .args .count) (c .before .before .before .before .before .before .before .before .args .end) (c .before .before .before .before .before .before .before .before .args .at) (c .before .before .before .before .before .before .before .before .args .size) (c .before .before .before .before .before .before .loop .at) (c .before .before .before .before .before .before .loop .end) (c .before .before .before .before .before .before .loop .j) (c .before .before .before .before .before .before .loop .inv .2) (c .before .before .before .before .before .before .loop .inv .1) (c .before .before .before .before .before .loop-test .taken) (omega (arith, c .before .before .before .before .before .before .loop .inv .0, c .before .before .before .before .before .before .before .before .pre .0, c .before .before .before .before .before .before .before .before .pre .1)) _ refl _ refl (c .before .before .read .result) (c .before .before .read .ensures) (c .enum-told .given .1))  -- returns
     (λ c. search needs)  -- enum-known-cause
     (λ c. omega (arith, close-end (c .before .before .before .before .before .before .before .before .before .before .args .m .now) (c .before .before .before .before .before .before .before .before .before .before .args .notes .now) (c .before .before .before .before .before .before .before .before .before .before .args .count) (c .before .before .before .before .before .before .before .before .before .before .args .end) (c .before .before .before .before .before .before .before .before .before .before .args .at) (c .before .before .before .before .before .before .before .before .before .before .args .size) (c .before .before .before .before .before .before .before .before .loop .at) (c .before .before .before .before .before .before .before .before .loop .end) (c .before .before .before .before .before .before .before .before .loop .j) (c .before .before .before .before .before .before .before .before .loop .inv .2), c .before .before .before .before .before .before .before .before .loop .inv .1))  -- sub-t26
-    (λ c. ?)  -- returns-2
+    (λ c.
+    let c3 = c .before .before .before in
+    let c6 = c3 .before .before .before in
+    let c7 = c6 .before in
+    let c9 = c7 .before .before in
+    close-broken (c9 .args .m .now) (c9 .args .notes .now) (c9 .args .count) (c9 .args .end) (c9 .args .at) (c9 .args .size)
+    (c7 .loop .at) (c7 .loop .end) (c7 .loop .j) (c7 .loop .inv .2) (c7 .loop .inv .1) (c6 .loop-test .taken) (omega
+    (arith, c7 .loop .inv .0, c9 .pre .0, c9 .pre .1)) _ refl _ refl (c3 .read .result) (c3 .read .ensures)
+    (c .before .cause .given .0 .0) (c .before .cause .given .1))  -- returns-2
     (λ c. search needs)  -- enum-known-x
     (λ c. omega (arith, close-near (c .before .before .before .before .before .before .before .before .before .args .m .now) (c .before .before .before .before .before .before .before .before .before .args .notes .now) (c .before .before .before .before .before .before .before .before .before .args .count) (c .before .before .before .before .before .before .before .before .before .args .end) (c .before .before .before .before .before .before .before .before .before .args .at) (c .before .before .before .before .before .before .before .before .before .args .size) (c .before .before .before .before .before .before .before .loop .at) (c .before .before .before .before .before .before .before .loop .end) (c .before .before .before .before .before .before .before .loop .j) (c .before .before .before .before .before .before .before .loop .inv .2) (c .before .before .before .before .before .before .before .loop .inv .1) (c .before .before .before .before .before .before .loop-test .taken) (omega (arith, c .before .before .before .before .before .before .before .loop .inv .0, c .before .before .before .before .before .before .before .before .before .pre .0, c .before .before .before .before .before .before .before .before .before .pre .1)) _ refl, c .before .before .before .before .before .before .before .before .before .pre .3))  -- cast-end
     (λ c. omega (arith, c .before .before .before .before .before .before .loop-test .taken))  -- loop-less
