@@ -248,7 +248,7 @@ pub +judge-built+judge-members-spec : {M : Type 1} → statement M
     .before .before .before .before .before .before .before .before .if1 .left) (unpacked (getD (now (a .index)) (a .t) 0)) refl (c .before .before
     .before .before .before .before .before .before .before .if2 .left) _ (rw (c .before .before .before .before .before .before .before .unpack
     .ensures) at (c .before .before .before .before .before .before .agrees .ensures)) (not-false _ (c .before .before .before .before .before .if3
-    .left)) _ (now (a .notes)) _ (c .before .before .before .judge-members .ensures) _ (c .before .cause .given .1))  -- judge-built-returns-4
+    .left)) _ (now (a .notes)) _ (c .before .before .before .judge-members .ensures) _ _ (c .before .cause .given .1))  -- judge-built-returns-4
     (λ c.
     let s = c .before .before .before .before .before .before .before .before .before .before .before .before .before .before .before in
     let a = s .args in
@@ -350,7 +350,7 @@ pub +judge-built+judge-members-spec : {M : Type 1} → statement M
     (λ c. search needs)  -- judge-members-enum-known-judged
     (λ c.
     member-refused (at-member t (c .before .before .before .before .before .before .before .before .before .before)) _ _ (at-said t (c .before .before
-    .before)) _ (c .before .judged .given .1))  -- judge-members-returns-2
+    .before)) _ _ (c .before .judged .given .1))  -- judge-members-returns-2
     (λ c. search needs)  -- judge-members-enum-known-judged-2
     (λ c κs. (
       rw (← c .before .before .before .before .before .before .unpack2 .ensures) (entry-known (at-member t (c .before .before .before .before .before
