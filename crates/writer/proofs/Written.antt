@@ -87,7 +87,7 @@ module _ (T : Table) (n t : ℕ) (v buf : List ℕ) where
 
   whole-refused : (c : Cause) (l : ℕ) → judgeValue T 24 t v ≡ refused c l → judgeWhole T 24 t v ≡ refused c l
   unfolding judgeWhole
-  whole-refused c l q = simp (run, q, then-refused)
+  whole-refused c l q = simp (q, then-refused)
 
   whole-left : (a : Value) (w : List ℕ) → judgeValue T 24 t v ≡ got a w → 0 < length w → judgeWhole T 24 t v ≡ refused ValueShape (length w)
   unfolding judgeWhole
@@ -111,7 +111,7 @@ module _ (T : Table) (n t : ℕ) (v buf : List ℕ) where
       out-left g =
           let (a, w, x, y, z) = done (formAt T 24 t) v (judgeValue T 24 t v) r e s p d in
           let o = judged h l (refused ValueShape (length w)) (whole-left a w x (omega arith)) in
-          (rw o (simp (run, y)), rw o)
+          (rw o (simp y), rw o)
 
       accepted : length v ≤ e → Accepted T t v s
       accepted g =

@@ -38,7 +38,12 @@ pub enum Judged {
 
 // Whether the shaped leaf of a kind with its own part at p agrees with a record.
 fn suits(table: &[u8], e: Entry, v: &[u8], kind: u8, p: usize) -> bool
-    requires { ⌜ (p < 20000) × (kind < 16) × (0 < ownEnd kind (now v) p) × Known (now table) e ⌝ }
+    requires { ⌜
+        (p < 20000)
+        × (kind < 16)
+        × (0 < ownEnd kind (now v) p)
+        × Known (now table) e
+        ⌝ }
     ensures { λ r. ⌜ r ≡ agrees (recordIn (now (table .entry)) e .body) (nodeOf kind (now (v .entry)) p) ⌝ }
 {
     if kind != e.kind {
@@ -52,7 +57,12 @@ fn suits(table: &[u8], e: Entry, v: &[u8], kind: u8, p: usize) -> bool
 
 // A leaf: where it ends, and how many contents octets it has.
 fn judge_leaf(table: &[u8], e: Entry, v: &[u8], at: usize, level: usize) -> Judged
-    requires { ⌜ (length (now v) ≤ 16384) × IsMarked (now v) at × (getD (now v) (at + 2) 0 < 16) × Known (now table) e ⌝ }
+    requires { ⌜
+        (length (now v) ≤ 16384)
+        × IsMarked (now v) at
+        × (getD (now v) (at + 2) 0 < 16)
+        × Known (now table) e
+        ⌝ }
     ensures { λ r. ⌜
         ((T : Table) (t : ℕ) → T t .body ≡ recordIn (now (table .entry)) e .body →
         r ≡ told (contentsForm T (level - 1) (T t .body)) (now (v .entry)) (judgeValue T level t (drop at (now (v .entry)))))
