@@ -1,7 +1,4 @@
 -- The judge of what stands in a node: one law for each way through it, by the levels that are left.
--- where the end of the own part is known
--- where a value is there
--- where it is judged
 -- Assumes nothing.
 use mathlib.Core.Logic.{⊎-elim}
 use mathlib.Core.Path.{refl, sym, _∙_}
@@ -114,6 +111,7 @@ judge-members-claims t = (
   grow-reads.Learnt,
 )
 
+-- where the end of the own part is known
 abbrev at-node : (t : ℕ) (c : judge-built-lts.After-own-end (judge-built-claims t) (judge-built-at t) judge-built.Post) →
     let a = c .before .before .before .before .args in Node (now (a .table)) (now (a .index)) (now (a .v)) (a .t) (a .at)
 at-node t c =
@@ -128,6 +126,7 @@ at-node t c =
       ends = c .own-end .ensures;
     }
 
+-- where a value is there
 abbrev at-member : (t : ℕ) (c : judge-members-lts.Then1 (judge-members-claims t) (judge-members-at t) judge-members.Post judge-members-Inv-loop
     judge-members-μ-loop) →
     let a = c .before .before .before .before .before .before .before .before .before .before .args in Member (now (a .table)) (now (a .index)) (now (a .v))
@@ -148,6 +147,7 @@ at-member t c =
       there = c .if1 .taken;
     }
 
+-- where it is judged
 at-said : (t : ℕ) (c : judge-members-lts.Joined3 (judge-members-claims t) (judge-members-at t) judge-members.Post judge-members-Inv-loop judge-members-μ-loop) →
     Said (at-member t (c .before .before .before .before .before .before .before)) (c .if3 .judged) (c .if3 .notes)
 at-said t c =
