@@ -8,14 +8,13 @@ use native.Mathlib.Omega.{arith}
 use borrow.Author.Tests.{ltb-true, ltb-false, eqb-true, eqb-false}
 use lib.Dec.{ltb, eqb}
 use lib.ListN.{length, drop, length-drop}
+use Rattle.octets.specs.declared.cause.Cause.the-variants.{ValueShape, IllTyped, ValueLevel}
 use Rattle.octets.specs.Answer.{Answer, got, refused, then, if}
 use Rattle.octets.proofs.Tests.{test}
 use Rattle.table.specs.Syntax.{Table}
 use Rattle.coding.specs.Value.{Leaf, Value, leaf}
 use Rattle.coding.specs.Form.{encode}
 use Rattle.coding.specs.Judging.{Node, a-leaf, nodeKind, agrees, readNode, judgeBelow, judgeValue}
-use Rattle.coding.specs.Calls.{valueCause}
-use Rattle.coding.specs.declared.ValueCause.the-variants.{Shape, IllTyped, Level}
 use Rattle.writer.specs.Nodes.{endAt, nodeAt}
 use Rattle.writer.specs.Frames.{cap}
 use Rattle.writer.specs.Rows.{contentsForm}
@@ -26,7 +25,7 @@ use Rattle.writer.proofs.Reading.{Reads, bad, good, node-reads}
 use Rattle.writer.proofs.Rows.{alike-told, below-row}
 use Rattle.writer.proofs.Judging.{JudgedRow}
 
-reads-bad : {v : List ℕ} {l q : ℕ} {x : Node} {e : ℕ} {a : Answer Node} → Reads v l q x e a → e ≡ 0 → 0 < q → a ≡ refused 11 l
+reads-bad : {v : List ℕ} {l q : ℕ} {x : Node} {e : ℕ} {a : Answer Node} → Reads v l q x e a → e ≡ 0 → 0 < q → a ≡ refused ValueShape l
 reads-bad bad h k = refl
 reads-bad (good e g w) h k = absurd (omega arith)
 
@@ -48,18 +47,18 @@ positive r x e h = test (ltb 0 x) (λ t. ltb-true 0 x t) λ t. absurd (h (let k 
 
 -- what is answered at a place, by what stands there
 module _ (T : Table) (t : ℕ) (v : List ℕ) (p : ℕ) (h : p ≤ length v) where
-  no-node : (n : ℕ) → endAt v p ≡ 0 → judgeValue T n t (drop p v) ≡ refused 11 (length (drop p v))
+  no-node : (n : ℕ) → endAt v p ≡ 0 → judgeValue T n t (drop p v) ≡ refused ValueShape (length (drop p v))
   unfolding judgeValue then
   no-node zero e = rw (reads-bad (node-reads v p h) e (omega arith)) refl
   no-node (suc n) e = rw (reads-bad (node-reads v p h) e (omega arith)) refl
 
   module _ (n : ℕ) (e : 0 < endAt v p) where
-    no-level : n ≡ 0 → judgeValue T n t (drop p v) ≡ refused 13 (length (drop p v))
+    no-level : n ≡ 0 → judgeValue T n t (drop p v) ≡ refused ValueLevel (length (drop p v))
     unfolding judgeValue then
     no-level z = rw (z, stands v p h e .is) refl
 
     module _ (z : n ≡ 0 → ⊥) where
-      no-type : agrees (T t .body) (nodeAt v p) ≡ false → judgeValue T n t (drop p v) ≡ refused 12 (length (drop p v))
+      no-type : agrees (T t .body) (nodeAt v p) ≡ false → judgeValue T n t (drop p v) ≡ refused IllTyped (length (drop p v))
       unfolding judgeValue then if
       no-type g = let s : n ≡ suc (n - 1) = omega arith in rw (s, stands v p h e .is, g) refl
 
@@ -73,18 +72,18 @@ module _ (T : Table) (t : ℕ) (v : List ℕ) (p : ℕ) (h : p ≤ length v) (n 
   place : length v - length (drop p v) ≡ p
   place = let l = length-drop p v in omega arith
 
-  pub value-shape : (f : Value → List ℕ) → endAt v p ≡ 0 → Refused (Shape p) ≡ told f v (judgeValue T n t (drop p v))
-  unfolding told valueCause if
+  pub value-shape : (f : Value → List ℕ) → endAt v p ≡ 0 → Refused ValueShape p ≡ told f v (judgeValue T n t (drop p v))
+  unfolding told
   value-shape f e = rw (no-node T t v p h n e, place) refl
 
   module _ (e : 0 < endAt v p) where
-    pub value-level : (f : Value → List ℕ) → n ≡ 0 → Refused (Level p) ≡ told f v (judgeValue T n t (drop p v))
-    unfolding told valueCause if
+    pub value-level : (f : Value → List ℕ) → n ≡ 0 → Refused ValueLevel p ≡ told f v (judgeValue T n t (drop p v))
+    unfolding told
     value-level f z = rw (no-level T t v p h n e z, place) refl
 
     module _ (z : n ≡ 0 → ⊥) where
-      pub value-ill : (f : Value → List ℕ) → agrees (T t .body) (nodeAt v p) ≡ false → Refused (IllTyped p) ≡ told f v (judgeValue T n t (drop p v))
-      unfolding told valueCause if
+      pub value-ill : (f : Value → List ℕ) → agrees (T t .body) (nodeAt v p) ≡ false → Refused IllTyped p ≡ told f v (judgeValue T n t (drop p v))
+      unfolding told
       value-ill f g = rw (no-type T t v p h n e z g, place) refl
 
       module _ (g : agrees (T t .body) (nodeAt v p) ≡ true) where

@@ -7,13 +7,13 @@ use Prim.Native.Nat.{ℕ, _+_, _-_, _/_, _≤_, _<_}
 use native.Mathlib.Omega.{arith}
 use lib.ListN.{length, getD, drop, set}
 use Rattle.octets.specs.Numbers.{Octets}
+use Rattle.octets.specs.declared.cause.Cause.{Cause}
+use Rattle.octets.specs.declared.cause.Cause.the-variants.{ValueShape, IllTyped, ValueLevel}
 use Rattle.table.specs.Syntax.{Table}
 use Rattle.table.specs.Fields.{constructedOf}
 use Rattle.table.specs.Entries.{unpacked, tableIn, countIn}
 use Rattle.table.specs.declared.entry.Entry.{Entry}
 use Rattle.coding.specs.Judging.{agrees, judgeValue}
-use Rattle.coding.specs.declared.ValueCause.{ValueCause}
-use Rattle.coding.specs.declared.ValueCause.the-variants.{Shape, IllTyped, Level}
 use Rattle.writer.specs.Nodes.{ownEnd, endAt, nodeOf, nodeAt, IsMarked}
 use Rattle.writer.specs.Known.{recordIn, Known}
 use Rattle.writer.specs.Standing.{startAt, rowIn, Standing}
@@ -54,8 +54,8 @@ module _ {b index v : List ℕ} {t at : ℕ} (N : Node b index v t at) (n : ℕ)
   within : at ≤ length v
   within = let l = N .marked .0 in omega arith
 
-  pub built-shape : N .end ≡ 0 → (l : List ℕ) → NodeSaid b v t at n (Refused (Shape at)) l l
-  built-shape z l = (value-shape T t v at within n _ (N .marked .1 ∙ sym (N .ends) ∙ z), noting-none at l (Shape at) (λ m. Noted T v m n t at))
+  pub built-shape : N .end ≡ 0 → (l : List ℕ) → NodeSaid b v t at n (Refused ValueShape at) l l
+  built-shape z l = (value-shape T t v at within n _ (N .marked .1 ∙ sym (N .ends) ∙ z), noting-none at l ValueShape at (λ m. Noted T v m n t at))
 
   module _ (s : N .end ≡ 0 → ⊥) where
     pub own-there : 0 < ownEnd (getD v (at + 2) 0) v (at + 3)
@@ -67,8 +67,8 @@ module _ {b index v : List ℕ} {t at : ℕ} (N : Node b index v t at) (n : ℕ)
     pub big : 16 ≤ getD v (at + 2) 0
     big = built-big v (at + 3) (getD v (at + 2) 0) (N .constructed) own-there
 
-    pub built-level : n ≡ 0 → (l : List ℕ) → NodeSaid b v t at n (Refused (Level at)) l l
-    built-level z l = (value-level T t v at within n shaped _ z, noting-none at l (Level at) (λ m. Noted T v m n t at))
+    pub built-level : n ≡ 0 → (l : List ℕ) → NodeSaid b v t at n (Refused ValueLevel at) l l
+    built-level z l = (value-level T t v at within n shaped _ z, noting-none at l ValueLevel at (λ m. Noted T v m n t at))
 
     module _ (e : Entry) (ee : e ≡ unpacked (getD index t 0)) where
       pub built-known : Known b e
@@ -81,8 +81,8 @@ module _ {b index v : List ℕ} {t at : ℕ} (N : Node b index v t at) (n : ℕ)
         agreed : (w : Bool) → r ≡ w → agrees (T t .body) (nodeAt v at) ≡ w
         agreed w f = rw (← is-record) (sym er ∙ f)
 
-        pub built-ill : r ≡ false → (l : List ℕ) → NodeSaid b v t at n (Refused (IllTyped at)) l l
-        built-ill f l = (value-ill T t v at within n shaped z _ (agreed false f), noting-none at l (IllTyped at) (λ m. Noted T v m n t at))
+        pub built-ill : r ≡ false → (l : List ℕ) → NodeSaid b v t at n (Refused IllTyped at) l l
+        built-ill f l = (value-ill T t v at within n shaped z _ (agreed false f), noting-none at l IllTyped at (λ m. Noted T v m n t at))
 
         module _ (f : r ≡ true) where
           end-in : endAt v at ≤ length v
@@ -105,10 +105,10 @@ module _ {b index v : List ℕ} {t at : ℕ} (N : Node b index v t at) (n : ℕ)
             is-told : y ≡ told (contentsForm T (n - 1) (T t .body)) v (judgeValue T n t (drop at v))
             is-told = at-row-said .0 ∙ value-row T t v at within n shaped z (agreed true f) (rw (node-kind (getD v (at + 2) 0) v (at + 3) own-there) big)
 
-            pub built-refused : (k : ValueCause) → y ≡ Refused k → NodeSaid b v t at n (Refused k) first last
-            built-refused k d =
+            pub built-refused : (k : Cause) (q : ℕ) → y ≡ Refused k q → NodeSaid b v t at n (Refused k q) first last
+            built-refused k q d =
                 let g = stands v at within shaped .onward in
-                (sym d ∙ is-told, noting-refused at (endAt v at) first last y k _ _ (omega arith) (at-row-said .1))
+                (sym d ∙ is-told, noting-refused at (endAt v at) first last y k q _ _ (omega arith) (at-row-said .1))
 
             pub built-done : (u s : ℕ) → y ≡ Done u s → length first ≡ 4096 → NodeSaid b v t at n (Done u s) first (set last (at / 4) s)
             built-done u s d l =

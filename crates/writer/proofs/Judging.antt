@@ -5,14 +5,13 @@ use mathlib.Core.Path.{_≡_, refl, sym, ap, _∙_}
 use Prim.Native.Nat.{ℕ, _+_, _-_, _≤_, _<_}
 use native.Mathlib.Omega.{arith}
 use lib.ListN.{length, drop, length-append, length-drop}
+use Rattle.octets.specs.declared.cause.Cause.{Cause}
 use Rattle.octets.specs.Answer.{Answer, got, refused, then}
 use Rattle.octets.proofs.Answer.{got-holds}
 use Rattle.table.specs.Syntax.{Table, constructed}
 use Rattle.coding.specs.Value.{Value}
 use Rattle.coding.specs.Form.{formAt}
 use Rattle.coding.specs.Judging.{judgeValue}
-use Rattle.coding.specs.Calls.{valueCause}
-use Rattle.coding.specs.declared.ValueCause.{ValueCause}
 use Rattle.writer.specs.Frames.{cap, framed}
 use Rattle.writer.specs.Rows.{judgeEach, judgeRow, rowForm, contentsForm}
 use Rattle.writer.specs.Told.{told}
@@ -23,7 +22,7 @@ use Rattle.writer.proofs.Forms.{value-formed}
 use Rattle.writer.proofs.Rows.{row-take, value-behind}
 
 -- the answers apart
-pub apart : {X : Type 0} {e k : ℕ} {c : ValueCause} → Done e k ≡ Refused c → X
+pub apart : {X : Type 0} {e k : ℕ} {c : Cause} {p : ℕ} → Done e k ≡ Refused c p → X
 apart z = let o : _≡_ {A = ℕ} 0 1 = cc in absurd (omega arith)
 
 module _ {A : Type 0} (f : A → List ℕ) (v : List ℕ) where
@@ -33,11 +32,11 @@ module _ {A : Type 0} (f : A → List ℕ) (v : List ℕ) where
   done (got a w) r e k h d = let z = sym h ∙ d in (a, w, refl, cc, cc)
   done (refused c l) r e k h d = apart (sym d ∙ h)
 
-  pub no : (x : Answer A) (r : Judged) (k : ValueCause) → r ≡ told f v x → r ≡ Refused k
-      → (c : ℕ) × (l : ℕ) × (x ≡ refused c l) × (k ≡ valueCause c (length v - l))
+  pub no : (x : Answer A) (r : Judged) (k : Cause) (p : ℕ) → r ≡ told f v x → r ≡ Refused k p
+      → (l : ℕ) × (x ≡ refused k l) × (p ≡ length v - l)
   unfolding told
-  no (got a w) r k h d = apart (sym h ∙ d)
-  no (refused c l) r k h d = let z = sym h ∙ d in (c, l, refl, cc)
+  no (got a w) r k p h d = apart (sym h ∙ d)
+  no (refused c l) r k p h d = let z = sym h ∙ d in (l, cc, cc)
 
   pub told-small : (x : Answer A) (r : Judged) (e k : ℕ) → r ≡ told f v x → r ≡ Done e k → k < 8194
   told-small x r e k h d = let (a, w, y, q, z) = done x r e k h d in rw (← z) (cap-below (length (f a)))
@@ -73,7 +72,7 @@ value-came T n t v at g h r e s k a d ek =
 -- a sum in front of what is judged
 unfoldable pub plus : ℕ → Judged → Judged
 plus t (Done e k) = Done e (cap (t + k))
-plus t (Refused c) = Refused c
+plus t (Refused c p) = Refused c p
 
 plus-none : {A : Type 0} (f : A → List ℕ) (v : List ℕ) (x : Answer A) → told f v x ≡ plus 0 (told f v x)
 unfolding told plus
@@ -83,7 +82,7 @@ plus-none f v (refused c l) = refl
 plus-plus : (t k : ℕ) (z : Judged) → plus t (plus k z) ≡ plus (cap (t + k)) z
 unfolding plus
 plus-plus t k (Done e s) = let q : cap (t + cap (k + s)) ≡ cap (cap (t + k) + s) = omega arith in ap (Done e) q
-plus-plus t k (Refused c) = refl
+plus-plus t k (Refused c p) = refl
 
 -- the form of the first comes before those of the rest
 told-take : (T : Table) (n : ℕ) (v : List ℕ) (t : ℕ) (ts : List ℕ) (x : Value) (J : Answer (List Value))
@@ -126,11 +125,12 @@ module _ (T : Table) (n : ℕ) (w : Judged) (v : List ℕ) (next total : ℕ) wh
               ∙ ap (λ (x : ℕ). plus (cap (total + x)) (JudgedRow T n v ts e)) (sym (z .sized));
         }
 
-    refused-by : (k l : ℕ) → judgeValue T n t (drop next v) ≡ refused k l → w ≡ Refused (valueCause k (length v - l))
+    refused-by : (k : Cause) (l : ℕ) → judgeValue T n t (drop next v) ≡ refused k l → w ≡ Refused k (length v - l)
     unfolding judgeEach told then plus
     refused-by k l x = S .whole ∙ rw x refl
 
-    pub row-refused : (f : Value → List ℕ) (y : Judged) (c : ValueCause) → y ≡ told f v (judgeValue T n t (drop next v)) → y ≡ Refused c → Refused c ≡ w
-    row-refused f y c a d =
-        let (k, l, x, q) = no f v (judgeValue T n t (drop next v)) y c a d in
-        ap Refused q ∙ sym (refused-by k l x)
+    pub row-refused : (f : Value → List ℕ) (y : Judged) (c : Cause) (p : ℕ) → y ≡ told f v (judgeValue T n t (drop next v)) → y ≡ Refused c p
+        → Refused c p ≡ w
+    row-refused f y c p a d =
+        let (l, x, q) = no f v (judgeValue T n t (drop next v)) y c p a d in
+        ap (Refused c) q ∙ sym (refused-by c l x)

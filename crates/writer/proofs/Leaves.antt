@@ -181,7 +181,8 @@ module _ (k : ℕ) (v : List ℕ) (p : ℕ) where
   pub same-kind : (i : ℕ) (r : Extent) → k ≡ i → Measures i v p r → Measures k v p r
   same-kind i r e m = rw e m
 
-  pub no-kind : (r : Extent) → k < 16 → (k ≡ 1 → ⊥) → (k ≡ 2 → ⊥) → (k ≡ 3 → ⊥) → (k ≡ 4 → ⊥) → (k ≡ 5 → ⊥) → (k ≡ 10 → ⊥) → Nothing r → Measures k v p r
+  pub no-kind : (r : Extent) → k < 16 → (k ≡ 1 → ⊥) → (k ≡ 2 → ⊥) → (k ≡ 3 → ⊥) → (k ≡ 4 → ⊥) → (k ≡ 5 → ⊥) → (k ≡ 10 → ⊥)
+      → Nothing r → Measures k v p r
   no-kind r h e₁ e₂ e₃ e₄ e₅ e₁₀ z =
       none-measured v p r k (no-leaf v p k h (ne-eqb k 1 e₁) (ne-eqb k 2 e₂) (ne-eqb k 3 e₃) (ne-eqb k 4 e₄) (ne-eqb k 5 e₅) (ne-eqb k 10 e₁₀)) z
 

@@ -7,13 +7,13 @@ use Prim.Native.Nat.{ℕ, _+_, _-_, _≤_, _<_}
 use native.Mathlib.Omega.{arith}
 use borrow.Author.Tests.{not-true}
 use lib.ListN.{length, getD, drop}
+use Rattle.octets.specs.declared.cause.Cause.{Cause}
+use Rattle.octets.specs.declared.cause.Cause.the-variants.{ValueShape}
 use Rattle.table.specs.Syntax.{Record, Table}
 use Rattle.table.specs.Fields.{constructedOf}
 use Rattle.table.specs.Entries.{unpacked, tableIn, countIn}
 use Rattle.table.specs.declared.entry.Entry.{Entry}
 use Rattle.coding.specs.Judging.{judgeValue}
-use Rattle.coding.specs.declared.ValueCause.{ValueCause}
-use Rattle.coding.specs.declared.ValueCause.the-variants.{Shape}
 use Rattle.writer.specs.Nodes.{IsMarked, Marked}
 use Rattle.writer.specs.Frames.{cap, framed}
 use Rattle.writer.specs.Known.{recordIn, Known}
@@ -107,11 +107,11 @@ module _ {b index v : List ℕ} {e : Entry} {p n : ℕ} {first : List ℕ} (m : 
   pub member-few : m .t < 128
   member-few = let h = member-there in let f = m .ready .filled .few in omega arith
 
-  pub member-unmarked : (r : Bool) → Marked v (m .at) r → r ≡ false → RowSaid b v e p n first (Refused (Shape (m .at))) (m .notes)
+  pub member-unmarked : (r : Bool) → Marked v (m .at) r → r ≡ false → RowSaid b v e p n first (Refused ValueShape (m .at)) (m .notes)
   member-unmarked r k f =
       let x = value-shape T (m .t) v (m .at) (m .so-far .within) n (λ _. []) (k .no f) in (
-        row-refused T n _ v (m .at) (m .total) (m .t) Rest left-now (λ _. []) (Refused (Shape (m .at))) (Shape (m .at)) x refl,
-        going-stopped going-now (Shape (m .at)),
+        row-refused T n _ v (m .at) (m .total) (m .t) Rest left-now (λ _. []) (Refused ValueShape (m .at)) ValueShape (m .at) x refl,
+        going-stopped going-now ValueShape (m .at),
       )
 
   -- what is said of it
@@ -120,9 +120,9 @@ module _ {b index v : List ℕ} {e : Entry} {p n : ℕ} {first : List ℕ} (m : 
       T v l n (m .t) (m .at))
 
   module _ (y : Judged) (last : List ℕ) (S : Said y last) where
-    pub member-refused : (k : ValueCause) → y ≡ Refused k → RowSaid b v e p n first (Refused k) last
-    member-refused k d =
-        (row-refused T n _ v (m .at) (m .total) (m .t) Rest left-now _ y k (S .0) d, going-refused going-now last y k (S .1))
+    pub member-refused : (k : Cause) (q : ℕ) → y ≡ Refused k q → RowSaid b v e p n first (Refused k q) last
+    member-refused k q d =
+        (row-refused T n _ v (m .at) (m .total) (m .t) Rest left-now _ y k q (S .0) d, going-refused going-now last y k q (S .1))
 
     module _ (u s : ℕ) (d : y ≡ Done u s) where
       pub member-small : s < 8194

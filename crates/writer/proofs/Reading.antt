@@ -10,6 +10,7 @@ use borrow.Author.Tests.{ltb-true, ltb-false, leb-true, leb-false, lt-ltb, le-lt
 use lib.Dec.{ltb, leb, eqb}
 use lib.ListN.{length, getD, take, drop, length-drop}
 use lib.Seq.{drop-cons, drop-drop, getD-drop}
+use Rattle.octets.specs.declared.cause.Cause.the-variants.{ValueShape}
 use Rattle.octets.specs.Answer.{Answer, got, refused, if}
 use Rattle.octets.proofs.Answer.{run}
 use Rattle.octets.proofs.Tests.{test, at}
@@ -25,14 +26,14 @@ use Rattle.writer.specs.Nodes.{fixedEnd, booleanEnd, stringEnd, clearAt,
 
 -- e is the end of the own part at p of the node x, where a is read; 0 if it is refused; l octets are left where the node begins
 pub data Reads (v : List ℕ) (l p : ℕ) (x : Node) : ℕ → Answer Node → Type 0 where
-  bad : Reads v l p x 0 (refused 11 l)
+  bad : Reads v l p x 0 (refused ValueShape l)
   good : (e : ℕ) → p ≤ e → e ≤ length v → Reads v l p x e (got x (drop e v))
 
 need-yes : {A : Type 0} (l k : ℕ) (s : List ℕ) (x : Unit {0} → Answer A) → k ≤ length s → need l k s x ≡ x tt
 unfolding need
 need-yes l k s x h = simp (run, le-leb k (length s) h)
 
-need-no : {A : Type 0} (l k : ℕ) (s : List ℕ) (x : Unit {0} → Answer A) → length s < k → need l k s x ≡ refused 11 l
+need-no : {A : Type 0} (l k : ℕ) (s : List ℕ) (x : Unit {0} → Answer A) → length s < k → need l k s x ≡ refused ValueShape l
 unfolding need
 need-no l k s x h = simp (run, lt-leb k (length s) h)
 

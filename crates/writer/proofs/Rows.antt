@@ -8,6 +8,7 @@ use Prim.Native.Nat.{ℕ, zero, suc, _-_, _≤_, _<_}
 use native.Mathlib.Omega.{arith}
 use lib.ListN.{length, getD, drop, replicate}
 use lib.Seq.{append-snoc}
+use Rattle.octets.specs.declared.cause.Cause.{Cause}
 use Rattle.octets.specs.Answer.{Answer, got, refused, then}
 use Rattle.octets.proofs.Answer.{Holds, yields, refuses, then-holds, map-holds, if-holds}
 use Rattle.octets.specs.Lists.{joined}
@@ -26,7 +27,7 @@ use Rattle.writer.proofs.Reading.{Reads, bad, good, node-reads}
 -- two answers with the same form and the same rest, or the same refusal
 pub data Alike {A B : Type 0} (f : A → List ℕ) (g : B → List ℕ) : Answer A → Answer B → Type 0 where
   both : {a : A} {b : B} {s : List ℕ} → f a ≡ g b → Alike f g (got a s) (got b s)
-  neither : {c l : ℕ} → Alike f g (refused c l) (refused c l)
+  neither : {c : Cause} {l : ℕ} → Alike f g (refused c l) (refused c l)
 
 module _ {A B : Type 0} {f : A → List ℕ} {g : B → List ℕ} where
   pub alike-told : {x : Answer A} {y : Answer B} → Alike f g x y → (v : List ℕ) → told f v x ≡ told g v y

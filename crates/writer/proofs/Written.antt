@@ -10,22 +10,19 @@ use borrow.Author.Tests.{lt-ltb, le-ltb, le-leb, lt-leb, leb-true, eqb-true, eqb
 use lib.Dec.{ltb, leb, eqb}
 use lib.ListN.{length, take, drop, take-append-drop}
 use lib.Seq.{sets, sets-eq, length-take-le, drop-append-le}
+use Rattle.octets.specs.declared.cause.Cause.{Cause}
+use Rattle.octets.specs.declared.cause.Cause.the-variants.{NoType, ValueShape, MessageRoom}
 use Rattle.octets.proofs.Tests.{test}
 use Rattle.octets.specs.Answer.{Answer, got, refused, then, if, none-left}
 use Rattle.octets.proofs.Answer.{run, refused≢got, then-refused}
 use Rattle.table.specs.Syntax.{Table}
 use Rattle.table.specs.Entries.{tableIn, Filled}
 use Rattle.table.specs.Passes.{Passes}
-use Rattle.table.specs.declared.TableCause.the-variants.{NoType}
 use Rattle.coding.specs.Value.{Value}
 use Rattle.coding.specs.Form.{formAt}
 use Rattle.coding.specs.Judging.{need, readNode, judgeValue, judgeWhole}
 use Rattle.coding.specs.Outcome.{Outcome, refuse, write-at-start}
-use Rattle.coding.specs.Calls.{valueCause, afterJudging, writeOutcome}
-use Rattle.coding.specs.declared.ValueCause.{ValueCause}
-use Rattle.coding.specs.declared.ValueCause.the-variants.{Shape, Room}
-use Rattle.coding.specs.declared.Refusal.{Refusal}
-use Rattle.coding.specs.declared.Refusal.the-variants.{Table as OfTable, Value as OfValue}
+use Rattle.coding.specs.Calls.{afterJudging, writeOutcome}
 use Rattle.coding.specs.declared.Answer.{Answer as Told}
 use Rattle.coding.specs.declared.Answer.the-variants.{Done as TDone, Refused as TRefused}
 use Rattle.coding.proofs.Checked.{Says}
@@ -52,7 +49,7 @@ none-some [] h = absurd (omega arith)
 none-some (x ∷ w) h = refl
 
 -- no octets are no value
-empty : (T : Table) (t : ℕ) → judgeValue T 24 t [] ≡ refused 11 0
+empty : (T : Table) (t : ℕ) → judgeValue T 24 t [] ≡ refused ValueShape 0
 unfolding judgeValue readNode need then if
 empty T t = refl
 
@@ -69,11 +66,11 @@ record Accepted (T : Table) (t : ℕ) (v : List ℕ) (s : ℕ) : Type 0 where
   size : cap (length (formAt T 24 t value)) ≡ s
 
 module _ (T : Table) (n t : ℕ) (v buf : List ℕ) where
-  pub out-type : n ≤ t → Says (writeOutcome T n t v buf) (TRefused (OfTable NoType)) buf
+  pub out-type : n ≤ t → Says (writeOutcome T n t v buf) (TRefused NoType 0) buf
   unfolding writeOutcome
   out-type h = let e : ltb t n ≡ false = le-ltb t n h in (simp (run, e), simp (run, e))
 
-  pub out-long : t < n → 16384 < length v → Says (writeOutcome T n t v buf) (TRefused (OfValue (Shape 0))) buf
+  pub out-long : t < n → 16384 < length v → Says (writeOutcome T n t v buf) (TRefused ValueShape 0) buf
   unfolding writeOutcome
   out-long h l =
       let e : ltb t n ≡ true = lt-ltb t n h in
@@ -88,11 +85,11 @@ module _ (T : Table) (n t : ℕ) (v buf : List ℕ) where
       let f : leb (length v) 16384 ≡ true = le-leb (length v) 16384 l in
       simp (run, e, f, q)
 
-  whole-refused : (c l : ℕ) → judgeValue T 24 t v ≡ refused c l → judgeWhole T 24 t v ≡ refused c l
+  whole-refused : (c : Cause) (l : ℕ) → judgeValue T 24 t v ≡ refused c l → judgeWhole T 24 t v ≡ refused c l
   unfolding judgeWhole
-  whole-refused c l q = simp (run, q, then-refused)
+  whole-refused c l q = simp (q, then-refused)
 
-  whole-left : (a : Value) (w : List ℕ) → judgeValue T 24 t v ≡ got a w → 0 < length w → judgeWhole T 24 t v ≡ refused 11 (length w)
+  whole-left : (a : Value) (w : List ℕ) → judgeValue T 24 t v ≡ got a w → 0 < length w → judgeWhole T 24 t v ≡ refused ValueShape (length w)
   unfolding judgeWhole
   whole-left a w q h = simp (run, q, none-some w h)
 
@@ -101,20 +98,20 @@ module _ (T : Table) (n t : ℕ) (v buf : List ℕ) where
   whole-got a w q h = simp (run, q, none-nil w h)
 
   module _ (h : t < n) (l : length v ≤ 16384) (r : Judged) (p : r ≡ told (formAt T 24 t) v (judgeValue T 24 t v)) where
-    pub out-refused : (k : ValueCause) → r ≡ Refused k → Says (writeOutcome T n t v buf) (TRefused (OfValue k)) buf
+    pub out-refused : (k : Cause) (q : ℕ) → r ≡ Refused k q → Says (writeOutcome T n t v buf) (TRefused k q) buf
     unfolding afterJudging
-    out-refused k e =
-        let (c, i, x, y) = no (formAt T 24 t) v (judgeValue T 24 t v) r k p e in
-        let o = judged h l (refused c i) (whole-refused c i x) in
-        (rw o (ap (λ (z : ValueCause). TRefused (OfValue z)) y), rw o)
+    out-refused k q e =
+        let (i, x, y) = no (formAt T 24 t) v (judgeValue T 24 t v) r k q p e in
+        let o = judged h l (refused k i) (whole-refused k i x) in
+        (rw o (ap (TRefused k) y), rw o)
 
     module _ (e s : ℕ) (d : r ≡ Done e s) where
-      pub out-left : e < length v → Says (writeOutcome T n t v buf) (TRefused (OfValue (Shape e))) buf
-      unfolding afterJudging valueCause
+      pub out-left : e < length v → Says (writeOutcome T n t v buf) (TRefused ValueShape e) buf
+      unfolding afterJudging
       out-left g =
           let (a, w, x, y, z) = done (formAt T 24 t) v (judgeValue T 24 t v) r e s p d in
-          let o = judged h l (refused 11 (length w)) (whole-left a w x (omega arith)) in
-          (rw o (simp (run, y)), rw o)
+          let o = judged h l (refused ValueShape (length w)) (whole-left a w x (omega arith)) in
+          (rw o (simp y), rw o)
 
       accepted : length v ≤ e → Accepted T t v s
       accepted g =
@@ -128,7 +125,7 @@ module _ (T : Table) (n t : ℕ) (v buf : List ℕ) where
         whole x = judged h l (got (x .value) (x .rest)) (whole-got (x .value) (x .rest) (x .is) (x .none))
 
         module _ (room : length buf ≤ 8192) where
-          pub out-room : length buf < s → Says (writeOutcome T n t v buf) (TRefused (OfValue Room)) buf
+          pub out-room : length buf < s → Says (writeOutcome T n t v buf) (TRefused MessageRoom 0) buf
           unfolding afterJudging
           out-room k =
               let x = accepted g in
@@ -169,8 +166,8 @@ module _ (buf : List ℕ) (long : 8192 < length buf) where
   abbrev Grown : Outcome → Outcome → Type 0
   Grown x y = (x .answer ≡ y .answer) × (x .buffer ++ drop 8192 buf ≡ y .buffer)
 
-  grown-refuse : (r : Refusal) → Grown (refuse r Front) (refuse r buf)
-  grown-refuse r = (refl, take-append-drop 8192 buf)
+  grown-refuse : (c : Cause) (p : ℕ) → Grown (refuse c p Front) (refuse c p buf)
+  grown-refuse c p = (refl, take-append-drop 8192 buf)
 
   grown-write : (w : List ℕ) → length w ≤ 8192 → Grown (write-at-start w Front) (write-at-start w buf)
   grown-write w h =
@@ -185,16 +182,15 @@ module _ (buf : List ℕ) (long : 8192 < length buf) where
       let l = front-length in
       let m : min 8192 (length Front) ≡ 8192 = omega arith in
       let k : min 8192 (length buf) ≡ 8192 = omega arith in
-      rw (m, k) (test (leb (length (f x)) 8192) (λ t. rw t (grown-write (f x) (leb-true _ _ t))) λ t. rw t (grown-refuse (OfValue Room)))
-  grown-judged f v (refused c l) = grown-refuse (OfValue (valueCause c (length v - l)))
+      rw (m, k) (test (leb (length (f x)) 8192) (λ t. rw t (grown-write (f x) (leb-true _ _ t))) λ t. rw t (grown-refuse MessageRoom 0))
+  grown-judged f v (refused c l) = grown-refuse c (length v - l)
 
   grown : (T : Table) (n t : ℕ) (v : List ℕ) → Grown (writeOutcome T n t v Front) (writeOutcome T n t v buf)
   unfolding writeOutcome if
   grown T n t v =
       test (ltb t n)
-      (λ a. test (leb (length v) 16384) (λ c. rw (a, c) (grown-judged (formAt T 24 t) v (judgeWhole T 24 t v))) λ c. rw (a, c) (grown-refuse (OfValue (Shape
-      0))))
-      (λ a. rw a (grown-refuse (OfTable NoType)))
+      (λ a. test (leb (length v) 16384) (λ c. rw (a, c) (grown-judged (formAt T 24 t) v (judgeWhole T 24 t v))) λ c. rw (a, c) (grown-refuse ValueShape 0))
+      (λ a. rw a (grown-refuse NoType 0))
 
   pub out-front : (T : Table) (n t : ℕ) (v : List ℕ) (r : Told) (w : List ℕ) → Says (writeOutcome T n t v Front) r w
       → Says (writeOutcome T n t v buf) r (w ++ drop 8192 buf)

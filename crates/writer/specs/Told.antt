@@ -4,7 +4,6 @@ use mathlib.Core.List.{List, []}
 use Prim.Native.Nat.{ℕ, _-_}
 use lib.ListN.{length}
 use Rattle.octets.specs.Answer.{Answer, got, refused}
-use Rattle.coding.specs.Calls.{valueCause}
 use Rattle.writer.specs.Frames.{cap}
 use Rattle.writer.specs.declared.judge.Judged.{Judged}
 use Rattle.writer.specs.declared.judge.Judged.the-variants.{Done, Refused}
@@ -12,7 +11,7 @@ use Rattle.writer.specs.declared.judge.Judged.the-variants.{Done, Refuse
 -- where it ends in v and how many octets are written of it, to 8,193; or the cause with its place in v
 unfoldable pub told : {A : Type 0} → (A → List ℕ) → List ℕ → Answer A → Judged
 told f v (got a w) = Done (length v - length w) (cap (length (f a)))
-told f v (refused c l) = Refused (valueCause c (length v - l))
+told f v (refused c l) = Refused c (length v - l)
 
 unfoldable pub written : {A : Type 0} → (A → List ℕ) → Answer A → List ℕ
 written f (got a w) = f a

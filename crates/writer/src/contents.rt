@@ -22,7 +22,10 @@ use table::kind::OCTET_STRING;
 // The number that two octets at p stand for.
 pub fn number(v: &[u8], p: usize) -> usize
     requires { ⌜ p + 2 ≤ length (now v) ⌝ }
-    ensures { λ r. ⌜ (r ≡ two (now (v .entry)) p) × (r < 65536) ⌝ }
+    ensures { λ r. ⌜
+        (r ≡ two (now (v .entry)) p)
+        × (r < 65536)
+        ⌝ }
 {
     let q = p + 1;
     v[p] as usize * 256 + v[q] as usize
@@ -36,7 +39,10 @@ pub struct Extent {
 
 // A leaf that is not shaped.
 fn none() -> Extent
-    ensures { λ r. ⌜ (r .end ≡ 0) × (r .size ≡ 0) ⌝ }
+    ensures { λ r. ⌜
+        (r .end ≡ 0)
+        × (r .size ≡ 0)
+        ⌝ }
 {
     Extent { end: 0, size: 0 }
 }
@@ -53,14 +59,22 @@ fn eight(v: &[u8], p: usize) -> i64
 // How many contents octets an ENUMERATED number has.
 fn number_size(n: usize) -> usize
     requires { ⌜ n < 65536 ⌝ }
-    ensures { λ r. ⌜ (r ≡ length (fewestOf (pos n))) × (r ≤ 8) ⌝ }
+    ensures { λ r. ⌜
+        (r ≡ length (fewestOf (pos n)))
+        × (r ≤ 8)
+        ⌝ }
 {
     integer::size(n as i64)
 }
 
 // Whether n bits from p on have 0 behind them to the end of their last octet, the one before e.
 fn clear(v: &[u8], p: usize, e: usize, n: usize) -> bool
-    requires { ⌜ (p < 30000) × (n < 65536) × (e ≡ p + (n + 7) / 8) × (e ≤ length (now v)) ⌝ }
+    requires { ⌜
+        (p < 30000)
+        × (n < 65536)
+        × (e ≡ p + (n + 7) / 8)
+        × (e ≤ length (now v))
+        ⌝ }
     ensures { λ r. ⌜ r ≡ clearAt (now (v .entry)) p n ⌝ }
 {
     if n % 8 == 0 {
@@ -152,7 +166,10 @@ fn enumerated(v: &[u8], p: usize) -> Extent
 
 // The leaf of a kind.
 pub fn measure(kind: u8, v: &[u8], p: usize) -> Extent
-    requires { ⌜ (p < 20000) × (kind < 16) ⌝ }
+    requires { ⌜
+        (p < 20000)
+        × (kind < 16)
+        ⌝ }
     ensures { λ r. ⌜ Measures kind (now (v .entry)) p r ⌝ }
 {
     if kind == BOOLEAN {
@@ -178,8 +195,15 @@ pub fn measure(kind: u8, v: &[u8], p: usize) -> Extent
 
 // How many contents octets the shaped leaf of a kind has.
 pub fn size(kind: u8, v: &[u8], p: usize) -> usize
-    requires { ⌜ (p < 20000) × (kind < 16) × (0 < ownEnd kind (now v) p) ⌝ }
-    ensures { λ r. ⌜ (r ≡ length (encode (leafOf kind (now (v .entry)) p))) × (r < 65536) ⌝ }
+    requires { ⌜
+        (p < 20000)
+        × (kind < 16)
+        × (0 < ownEnd kind (now v) p)
+        ⌝ }
+    ensures { λ r. ⌜
+        (r ≡ length (encode (leafOf kind (now (v .entry)) p)))
+        × (r < 65536)
+        ⌝ }
 {
     if kind == BOOLEAN {
         return 1;
@@ -201,7 +225,10 @@ pub fn size(kind: u8, v: &[u8], p: usize) -> usize
 
 // Copies n octets of v from p on into the buffer.
 fn put_part(v: &[u8], p: usize, n: usize, buf: &mut [u8], to: usize)
-    requires { ⌜ (p + n ≤ length (now v)) × (to + n ≤ length (now buf)) ⌝ }
+    requires { ⌜
+        (p + n ≤ length (now v))
+        × (to + n ≤ length (now buf))
+        ⌝ }
     ensures { λ _. ⌜ now (buf .exit) ≡ sets (now (buf .entry)) to (take n (drop p (now (v .entry)))) ⌝ }
 {
     let end = p + n;
@@ -212,7 +239,10 @@ fn put_part(v: &[u8], p: usize, n: usize, buf: &mut [u8], to: usize)
 
 // Puts the `size` contents octets of an integer.
 fn put_integer(z: i64, size: usize, buf: &mut [u8], to: usize)
-    requires { ⌜ (size ≡ length (fewestOf z)) × (to + size ≤ length (now buf)) ⌝ }
+    requires { ⌜
+        (size ≡ length (fewestOf z))
+        × (to + size ≤ length (now buf))
+        ⌝ }
     ensures { λ _. ⌜ now (buf .exit) ≡ sets (now (buf .entry)) to (fewestOf z) ⌝ }
 {
     let last = to + size;

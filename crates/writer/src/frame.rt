@@ -16,8 +16,14 @@ use table::entry::unpack;
 
 // The sum; 8,193 if it is over 8,192.
 pub fn grow(a: usize, b: usize) -> usize
-    requires { ⌜ (a < 100000) × (b < 100000) ⌝ }
-    ensures { λ r. ⌜ (r ≡ cap (a + b)) × (r < 8194) ⌝ }
+    requires { ⌜
+        (a < 100000)
+        × (b < 100000)
+        ⌝ }
+    ensures { λ r. ⌜
+        (r ≡ cap (a + b))
+        × (r < 8194)
+        ⌝ }
 {
     let c = a + b;
     if 8193 < c {
@@ -28,8 +34,14 @@ pub fn grow(a: usize, b: usize) -> usize
 
 // The length of the items by the tags from the j-th on, around n contents octets.
 fn size_from(table: &[u8], w: u64, j: usize, n: usize) -> usize
-    requires { ⌜ Known (now table) (unpacked w) × (n < 8194) ⌝ }
-    ensures { λ r. ⌜ (r ≡ framed (tagsFrom (now (table .entry)) (unpacked w) j) n) × (r < 8194) ⌝ }
+    requires { ⌜
+        Known (now table) (unpacked w)
+        × (n < 8194)
+        ⌝ }
+    ensures { λ r. ⌜
+        (r ≡ framed (tagsFrom (now (table .entry)) (unpacked w) j) n)
+        × (r < 8194)
+        ⌝ }
 {
     let e = unpack(w);
     let mut i = tag_count(e);
@@ -58,8 +70,14 @@ fn is_short(w: u64, n: usize) -> bool
 
 // The length of all items, around n contents octets.
 pub fn size(table: &[u8], w: u64, n: usize) -> usize
-    requires { ⌜ Known (now table) (unpacked w) × (n < 8194) ⌝ }
-    ensures { λ r. ⌜ (r ≡ framed (recordIn (now (table .entry)) (unpacked w) .tags) n) × (r < 8194) ⌝ }
+    requires { ⌜
+        Known (now table) (unpacked w)
+        × (n < 8194)
+        ⌝ }
+    ensures { λ r. ⌜
+        (r ≡ framed (recordIn (now (table .entry)) (unpacked w) .tags) n)
+        × (r < 8194)
+        ⌝ }
 {
     if is_short(w, n) {
         return n + 2;

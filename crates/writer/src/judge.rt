@@ -21,7 +21,7 @@ use crate::contents;
 use crate::contents::number;
 use crate::frame;
 use crate::node;
-use coding::ValueCause;
+use octets::cause::Cause;
 use table::entry::Entry;
 use table::entry::lists;
 use table::entry::parts;
@@ -33,12 +33,17 @@ use table::kind::constructed;
 // Where a part of the value ends, and how many octets are written of it, to 8,193; or why it is refused.
 pub enum Judged {
     Done { end: usize, size: usize },
-    Refused(ValueCause),
+    Refused { cause: Cause, place: usize },
 }
 
 // Whether the shaped leaf of a kind with its own part at p agrees with a record.
 fn suits(table: &[u8], e: Entry, v: &[u8], kind: u8, p: usize) -> bool
-    requires { ⌜ (p < 20000) × (kind < 16) × (0 < ownEnd kind (now v) p) × Known (now table) e ⌝ }
+    requires { ⌜
+        (p < 20000)
+        × (kind < 16)
+        × (0 < ownEnd kind (now v) p)
+        × Known (now table) e
+        ⌝ }
     ensures { λ r. ⌜ r ≡ agrees (recordIn (now (table .entry)) e .body) (nodeOf kind (now (v .entry)) p) ⌝ }
 {
     if kind != e.kind {
@@ -52,7 +57,12 @@ fn suits(table: &[u8], e: Entry, v: &[u8], kind: u8, p: usize) -> bool
 
 // A leaf: where it ends, and how many contents octets it has.
 fn judge_leaf(table: &[u8], e: Entry, v: &[u8], at: usize, level: usize) -> Judged
-    requires { ⌜ (length (now v) ≤ 16384) × IsMarked (now v) at × (getD (now v) (at + 2) 0 < 16) × Known (now table) e ⌝ }
+    requires { ⌜
+        (length (now v) ≤ 16384)
+        × IsMarked (now v) at
+        × (getD (now v) (at + 2) 0 < 16)
+        × Known (now table) e
+        ⌝ }
     ensures { λ r. ⌜
         ((T : Table) (t : ℕ) → T t .body ≡ recordIn (now (table .entry)) e .body →
         r ≡ told (contentsForm T (level - 1) (T t .body)) (now (v .entry)) (judgeValue T level t (drop at (now (v .entry)))))
@@ -64,13 +74,22 @@ fn judge_leaf(table: &[u8], e: Entry, v: &[u8], at: usize, level: usize) -> Judg
     let x = contents::measure(kind, v, p);
     let end = x.end;
     if end == 0 {
-        return Judged::Refused(ValueCause::Shape(at));
+        return Judged::Refused {
+            cause: Cause::ValueShape,
+            place: at,
+        };
     }
     if level == 0 {
-        return Judged::Refused(ValueCause::Level(at));
+        return Judged::Refused {
+            cause: Cause::ValueLevel,
+            place: at,
+        };
     }
     if !suits(table, e, v, kind, p) {
-        return Judged::Refused(ValueCause::IllTyped(at));
+        return Judged::Refused {
+            cause: Cause::IllTyped,
+            place: at,
+        };
     }
     let size = frame::grow(0, x.size);
     Judged::Done { end, size }
@@ -115,17 +134,26 @@ fn judge_built(
     let kind = v[mark];
     let p = at + 3;
     if node::own_end(v, kind, p) == 0 {
-        return Judged::Refused(ValueCause::Shape(at));
+        return Judged::Refused {
+            cause: Cause::ValueShape,
+            place: at,
+        };
     }
     if level == 0 {
-        return Judged::Refused(ValueCause::Level(at));
+        return Judged::Refused {
+            cause: Cause::ValueLevel,
+            place: at,
+        };
     }
     let w = index[t];
     if !node::agrees(table, unpack(w), v, kind, p) {
-        return Judged::Refused(ValueCause::IllTyped(at));
+        return Judged::Refused {
+            cause: Cause::IllTyped,
+            place: at,
+        };
     }
     match judge_members(table, index, w, v, p, level - 1, notes) {
-        Judged::Refused(cause) => Judged::Refused(cause),
+        Judged::Refused { cause, place } => Judged::Refused { cause, place },
         Judged::Done { end, size } => {
             let i = at / 4;
             notes[i] = size as u16;
@@ -169,7 +197,10 @@ fn judge_members(
         i += 1;
         if t < 256 {
             if !node::marked(v, at) {
-                return Judged::Refused(ValueCause::Shape(at));
+                return Judged::Refused {
+                    cause: Cause::ValueShape,
+                    place: at,
+                };
             }
             let x = index[t];
             let r = unpack(x);
@@ -180,8 +211,8 @@ fn judge_members(
                 judge_built(table, index, t, v, at, level, notes)
             };
             match judged {
-                Judged::Refused(cause) => {
-                    return Judged::Refused(cause);
+                Judged::Refused { cause, place } => {
+                    return Judged::Refused { cause, place };
                 }
                 Judged::Done { end, size } => {
                     at = end;

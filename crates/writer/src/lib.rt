@@ -12,10 +12,8 @@ ghost use Rattle.table.specs.Entries.{tableIn, Filled};
 ghost use Rattle.table.specs.Passes.{Passes};
 ghost use Rattle.coding.specs.Calls.{writeOutcome, wholeWrite};
 use coding::Answer;
-use coding::Refusal;
-use coding::ValueCause;
 use judge::Judged;
-use table::TableCause;
+use octets::cause::Cause;
 use table::Verdict;
 
 // Writes a value of type t, by a table of n records that passed.
@@ -39,20 +37,32 @@ fn write_passed(
         ⌝ }
 {
     if n <= t {
-        return Answer::Refused(Refusal::Table(TableCause::NoType));
+        return Answer::Refused {
+            cause: Cause::NoType,
+            place: 0,
+        };
     }
     if 16384 < value.len() {
-        return Answer::Refused(Refusal::Value(ValueCause::Shape(0)));
+        return Answer::Refused {
+            cause: Cause::ValueShape,
+            place: 0,
+        };
     }
     let mut notes = [1u16; 4096];
     match judge::judge(table, index, t, value, &mut notes) {
-        Judged::Refused(cause) => Answer::Refused(Refusal::Value(cause)),
+        Judged::Refused { cause, place } => Answer::Refused { cause, place },
         Judged::Done { end, size } => {
             if end < value.len() {
-                return Answer::Refused(Refusal::Value(ValueCause::Shape(end)));
+                return Answer::Refused {
+                    cause: Cause::ValueShape,
+                    place: end,
+                };
             }
             if buf.len() < size {
-                return Answer::Refused(Refusal::Value(ValueCause::Room));
+                return Answer::Refused {
+                    cause: Cause::MessageRoom,
+                    place: 0,
+                };
             }
             put::put(table, index, t, value, &notes, buf);
             Answer::Done(size)
@@ -72,7 +82,7 @@ pub fn write(table: &[u8], t: usize, value: &[u8], buf: &mut [u8]) -> Answer
     let c = table::check_into(table, &mut index);
     let verdict = c.verdict;
     match verdict {
-        Verdict::Refused(cause) => Answer::Refused(Refusal::Table(cause)),
+        Verdict::Refused { cause, place } => Answer::Refused { cause, place },
         Verdict::Passed => {
             if 8192 < buf.len() {
                 let room = &mut buf[..8192];

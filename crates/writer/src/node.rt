@@ -40,7 +40,10 @@ pub fn marked(v: &[u8], at: usize) -> bool
 
 // Whether n octets from p on are there, each 0 or 1.
 fn are_flags(v: &[u8], p: usize, n: usize) -> bool
-    requires { ⌜ (p < 30000) × (n < 256) ⌝ }
+    requires { ⌜
+        (p < 30000)
+        × (n < 256)
+        ⌝ }
     ensures { λ r. ⌜ (let o = now (v .entry) in r ≡ (leb (p + n) (length o) && all (λ x. ltb x 2) (everyAt 1 o p n))) ⌝ }
 {
     let end = p + n;
@@ -82,7 +85,10 @@ fn fixed_end(v: &[u8], e: usize) -> usize
 
 // Where the own part of a node of a constructed kind ends; 0 if it is not shaped.
 pub fn own_end(v: &[u8], kind: u8, p: usize) -> usize
-    requires { ⌜ (p < 20000) × (constructedOf kind ≡ true) ⌝ }
+    requires { ⌜
+        (p < 20000)
+        × (constructedOf kind ≡ true)
+        ⌝ }
     ensures { λ r. ⌜ r ≡ ownEnd kind (now (v .entry)) p ⌝ }
 {
     if has_members(kind) {
@@ -99,7 +105,11 @@ pub fn own_end(v: &[u8], kind: u8, p: usize) -> usize
 
 // Whether the mandatory ones of the n members from p on are present; which are present says v, from q on.
 fn is_complete(table: &[u8], p: usize, n: usize, v: &[u8], q: usize) -> bool
-    requires { ⌜ (p < 70000) × (n < 256) × (q + n ≤ length (now v)) ⌝ }
+    requires { ⌜
+        (p < 70000)
+        × (n < 256)
+        × (q + n ≤ length (now v))
+        ⌝ }
     ensures { λ r. ⌜ r ≡ agreeing (membersAt (now (table .entry)) p n) (flags (everyAt 1 (now (v .entry)) q n)) ⌝ }
 {
     let mut at = p;
@@ -120,7 +130,12 @@ fn is_complete(table: &[u8], p: usize, n: usize, v: &[u8], q: usize) -> bool
 
 // Whether the shaped node of a constructed kind agrees with a record.
 pub fn agrees(table: &[u8], e: Entry, v: &[u8], kind: u8, p: usize) -> bool
-    requires { ⌜ (p < 20000) × (16 ≤ kind) × (0 < ownEnd kind (now v) p) × Known (now table) e ⌝ }
+    requires { ⌜
+        (p < 20000)
+        × (16 ≤ kind)
+        × (0 < ownEnd kind (now v) p)
+        × Known (now table) e
+        ⌝ }
     ensures { λ r. ⌜ r ≡ Judging·agrees (recordIn (now (table .entry)) e .body) (nodeOf kind (now (v .entry)) p) ⌝ }
 {
     if kind != e.kind {
@@ -160,7 +175,10 @@ pub fn start(e: Entry, v: &[u8], p: usize) -> usize
 // How many values stand in it, at most.
 pub fn count(e: Entry, v: &[u8], p: usize) -> usize
     requires { ⌜ startAt e (now v) p ≤ length (now v) ⌝ }
-    ensures { λ r. ⌜ (r ≡ countAt e (now (v .entry)) p) × (r < 65536) ⌝ }
+    ensures { λ r. ⌜
+        (r ≡ countAt e (now (v .entry)) p)
+        × (r < 65536)
+        ⌝ }
 {
     if has_members(e.kind) {
         return v[p] as usize;
@@ -174,7 +192,10 @@ pub fn count(e: Entry, v: &[u8], p: usize) -> usize
 // The record number of the j-th part.
 fn part(table: &[u8], s: Span, j: usize) -> usize
     requires { ⌜ placeOf s j < length (now table) ⌝ }
-    ensures { λ r. ⌜ (r ≡ getD (now (table .entry)) (placeOf s j) 0) × (r < 256) ⌝ }
+    ensures { λ r. ⌜
+        (r ≡ getD (now (table .entry)) (placeOf s j) 0)
+        × (r < 256)
+        ⌝ }
 {
     let q = s.first + s.step * j;
     table[q] as usize
@@ -182,7 +203,11 @@ fn part(table: &[u8], s: Span, j: usize) -> usize
 
 // The record number of the i-th of them, where s are the parts of e; 256 for a member that is not present.
 pub fn below(table: &[u8], e: Entry, s: Span, v: &[u8], p: usize, i: usize) -> usize
-    requires { ⌜ (s ≡ partsOf (now table) e) × Standing (now table) (now v) e p × (i < countAt e (now v) p) ⌝ }
+    requires { ⌜
+        (s ≡ partsOf (now table) e)
+        × Standing (now table) (now v) e p
+        × (i < countAt e (now v) p)
+        ⌝ }
     ensures { λ r. ⌜ r ≡ belowAt (now (table .entry)) e (now (v .entry)) p i ⌝ }
 {
     if has_members(e.kind) {

@@ -56,7 +56,7 @@ write-spec =
     let a = c .before .before .before .before .before .before .before .before .args in
     let b = now (a .table) in
     let w = now (a .buf) in
-    out-table b _ (c .before .before .before .check-into .ensures .0) w (λ T n. writeOutcome T n (a .t) (now (a .value)) w) _ (c .before .verdict
+    out-table b _ (c .before .before .before .check-into .ensures .0) w (λ T n. writeOutcome T n (a .t) (now (a .value)) w) _ _ (c .before .verdict
     .given .1))  -- returns-2
     (λ c. search needs)  -- same-length-2
     (λ c.

@@ -1,7 +1,4 @@
 -- The judge of what stands in a node: one law for each way through it, by the levels that are left.
--- where the end of the own part is known
--- where a value is there
--- where it is judged
 -- Assumes nothing.
 use mathlib.Core.Logic.{⊎-elim}
 use mathlib.Core.Path.{refl, sym, _∙_}
@@ -114,6 +111,7 @@ judge-members-claims t = (
   grow-reads.Learnt,
 )
 
+-- where the end of the own part is known
 abbrev at-node : (t : ℕ) (c : judge-built-lts.After-own-end (judge-built-claims t) (judge-built-at t) judge-built.Post) →
     let a = c .before .before .before .before .args in Node (now (a .table)) (now (a .index)) (now (a .v)) (a .t) (a .at)
 at-node t c =
@@ -128,6 +126,7 @@ at-node t c =
       ends = c .own-end .ensures;
     }
 
+-- where a value is there
 abbrev at-member : (t : ℕ) (c : judge-members-lts.Then1 (judge-members-claims t) (judge-members-at t) judge-members.Post judge-members-Inv-loop
     judge-members-μ-loop) →
     let a = c .before .before .before .before .before .before .before .before .before .before .args in Member (now (a .table)) (now (a .index)) (now (a .v))
@@ -148,6 +147,7 @@ at-member t c =
       there = c .if1 .taken;
     }
 
+-- where it is judged
 at-said : (t : ℕ) (c : judge-members-lts.Joined3 (judge-members-claims t) (judge-members-at t) judge-members.Post judge-members-Inv-loop judge-members-μ-loop) →
     Said (at-member t (c .before .before .before .before .before .before .before)) (c .if3 .judged) (c .if3 .notes)
 at-said t c =
@@ -248,7 +248,7 @@ pub +judge-built+judge-members-spec : {M : Type 1} → statement M
     .before .before .before .before .before .before .before .before .if1 .left) (unpacked (getD (now (a .index)) (a .t) 0)) refl (c .before .before
     .before .before .before .before .before .before .before .if2 .left) _ (rw (c .before .before .before .before .before .before .before .unpack
     .ensures) at (c .before .before .before .before .before .before .agrees .ensures)) (not-false _ (c .before .before .before .before .before .if3
-    .left)) _ (now (a .notes)) _ (c .before .before .before .judge-members .ensures) _ (c .before .cause .given .1))  -- judge-built-returns-4
+    .left)) _ (now (a .notes)) _ (c .before .before .before .judge-members .ensures) _ _ (c .before .cause .given .1))  -- judge-built-returns-4
     (λ c.
     let s = c .before .before .before .before .before .before .before .before .before .before .before .before .before .before .before in
     let a = s .args in
@@ -350,7 +350,7 @@ pub +judge-built+judge-members-spec : {M : Type 1} → statement M
     (λ c. search needs)  -- judge-members-enum-known-judged
     (λ c.
     member-refused (at-member t (c .before .before .before .before .before .before .before .before .before .before)) _ _ (at-said t (c .before .before
-    .before)) _ (c .before .judged .given .1))  -- judge-members-returns-2
+    .before)) _ _ (c .before .judged .given .1))  -- judge-members-returns-2
     (λ c. search needs)  -- judge-members-enum-known-judged-2
     (λ c κs. (
       rw (← c .before .before .before .before .before .before .unpack2 .ensures) (entry-known (at-member t (c .before .before .before .before .before
