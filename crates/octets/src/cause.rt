@@ -3,27 +3,28 @@ ghost use mathlib.Core.Path.{_≡_};
 ghost use Prim.Native.Nat.{_<_};
 ghost use Rattle.octets.specs.Causes.{causeNumber};
 
-// In the order of their numbers: of a table and a type, of a value, of a message.
+// Of a message, of a value, of a type and a table. Those of a message stand first, so that the one that is made most often costs no
+// constant.
 pub enum Cause {
+    Cut,
+    Form,
+    NotAwaited,
+    Contents,
+    Trailing,
+    MessageLevel,
+    MessageLength,
+    ValueRoom,
+    ValueShape,
+    IllTyped,
+    ValueLevel,
+    MessageRoom,
+    NoType,
     TableShape,
     NoRecord,
     WrongTag,
     ChoiceLoop,
     SharedTag,
     NoValue,
-    NoType,
-    ValueShape,
-    IllTyped,
-    ValueLevel,
-    MessageRoom,
-    MessageLength,
-    Cut,
-    Form,
-    NotAwaited,
-    Contents,
-    Trailing,
-    ValueRoom,
-    MessageLevel,
 }
 
 // The number of a cause.

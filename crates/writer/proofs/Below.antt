@@ -72,17 +72,17 @@ module _ (T : Table) (t : ℕ) (v : List ℕ) (p : ℕ) (h : p ≤ length v) (n 
   place : length v - length (drop p v) ≡ p
   place = let l = length-drop p v in omega arith
 
-  pub value-shape : (f : Value → List ℕ) → endAt v p ≡ 0 → Refused ValueShape p ≡ told f v (judgeValue T n t (drop p v))
+  pub value-shape : (f : Value → List ℕ) → endAt v p ≡ 0 → Refused p ValueShape ≡ told f v (judgeValue T n t (drop p v))
   unfolding told
   value-shape f e = rw (no-node T t v p h n e, place) refl
 
   module _ (e : 0 < endAt v p) where
-    pub value-level : (f : Value → List ℕ) → n ≡ 0 → Refused ValueLevel p ≡ told f v (judgeValue T n t (drop p v))
+    pub value-level : (f : Value → List ℕ) → n ≡ 0 → Refused p ValueLevel ≡ told f v (judgeValue T n t (drop p v))
     unfolding told
     value-level f z = rw (no-level T t v p h n e z, place) refl
 
     module _ (z : n ≡ 0 → ⊥) where
-      pub value-ill : (f : Value → List ℕ) → agrees (T t .body) (nodeAt v p) ≡ false → Refused IllTyped p ≡ told f v (judgeValue T n t (drop p v))
+      pub value-ill : (f : Value → List ℕ) → agrees (T t .body) (nodeAt v p) ≡ false → Refused p IllTyped ≡ told f v (judgeValue T n t (drop p v))
       unfolding told
       value-ill f g = rw (no-type T t v p h n e z g, place) refl
 

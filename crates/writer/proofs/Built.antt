@@ -54,7 +54,7 @@ module _ {b index v : List ℕ} {t at : ℕ} (N : Node b index v t at) (n : ℕ)
   within : at ≤ length v
   within = let l = N .marked .0 in omega arith
 
-  pub built-shape : N .end ≡ 0 → (l : List ℕ) → NodeSaid b v t at n (Refused ValueShape at) l l
+  pub built-shape : N .end ≡ 0 → (l : List ℕ) → NodeSaid b v t at n (Refused at ValueShape) l l
   built-shape z l = (value-shape T t v at within n _ (N .marked .1 ∙ sym (N .ends) ∙ z), noting-none at l ValueShape at (λ m. Noted T v m n t at))
 
   module _ (s : N .end ≡ 0 → ⊥) where
@@ -67,7 +67,7 @@ module _ {b index v : List ℕ} {t at : ℕ} (N : Node b index v t at) (n : ℕ)
     pub big : 16 ≤ getD v (at + 2) 0
     big = built-big v (at + 3) (getD v (at + 2) 0) (N .constructed) own-there
 
-    pub built-level : n ≡ 0 → (l : List ℕ) → NodeSaid b v t at n (Refused ValueLevel at) l l
+    pub built-level : n ≡ 0 → (l : List ℕ) → NodeSaid b v t at n (Refused at ValueLevel) l l
     built-level z l = (value-level T t v at within n shaped _ z, noting-none at l ValueLevel at (λ m. Noted T v m n t at))
 
     module _ (e : Entry) (ee : e ≡ unpacked (getD index t 0)) where
@@ -81,7 +81,7 @@ module _ {b index v : List ℕ} {t at : ℕ} (N : Node b index v t at) (n : ℕ)
         agreed : (w : Bool) → r ≡ w → agrees (T t .body) (nodeAt v at) ≡ w
         agreed w f = rw (← is-record) (sym er ∙ f)
 
-        pub built-ill : r ≡ false → (l : List ℕ) → NodeSaid b v t at n (Refused IllTyped at) l l
+        pub built-ill : r ≡ false → (l : List ℕ) → NodeSaid b v t at n (Refused at IllTyped) l l
         built-ill f l = (value-ill T t v at within n shaped z _ (agreed false f), noting-none at l IllTyped at (λ m. Noted T v m n t at))
 
         module _ (f : r ≡ true) where
@@ -105,7 +105,7 @@ module _ {b index v : List ℕ} {t at : ℕ} (N : Node b index v t at) (n : ℕ)
             is-told : y ≡ told (contentsForm T (n - 1) (T t .body)) v (judgeValue T n t (drop at v))
             is-told = at-row-said .0 ∙ value-row T t v at within n shaped z (agreed true f) (rw (node-kind (getD v (at + 2) 0) v (at + 3) own-there) big)
 
-            pub built-refused : (k : Cause) (q : ℕ) → y ≡ Refused k q → NodeSaid b v t at n (Refused k q) first last
+            pub built-refused : (k : Cause) (q : ℕ) → y ≡ Refused q k → NodeSaid b v t at n (Refused q k) first last
             built-refused k q d =
                 let g = stands v at within shaped .onward in
                 (sym d ∙ is-told, noting-refused at (endAt v at) first last y k q _ _ (omega arith) (at-row-said .1))

@@ -107,10 +107,10 @@ module _ {b index v : List ℕ} {e : Entry} {p n : ℕ} {first : List ℕ} (m : 
   pub member-few : m .t < 128
   member-few = let h = member-there in let f = m .ready .filled .few in omega arith
 
-  pub member-unmarked : (r : Bool) → Marked v (m .at) r → r ≡ false → RowSaid b v e p n first (Refused ValueShape (m .at)) (m .notes)
+  pub member-unmarked : (r : Bool) → Marked v (m .at) r → r ≡ false → RowSaid b v e p n first (Refused (m .at) ValueShape) (m .notes)
   member-unmarked r k f =
       let x = value-shape T (m .t) v (m .at) (m .so-far .within) n (λ _. []) (k .no f) in (
-        row-refused T n _ v (m .at) (m .total) (m .t) Rest left-now (λ _. []) (Refused ValueShape (m .at)) ValueShape (m .at) x refl,
+        row-refused T n _ v (m .at) (m .total) (m .t) Rest left-now (λ _. []) (Refused (m .at) ValueShape) ValueShape (m .at) x refl,
         going-stopped going-now ValueShape (m .at),
       )
 
@@ -120,7 +120,7 @@ module _ {b index v : List ℕ} {e : Entry} {p n : ℕ} {first : List ℕ} (m : 
       T v l n (m .t) (m .at))
 
   module _ (y : Judged) (last : List ℕ) (S : Said y last) where
-    pub member-refused : (k : Cause) (q : ℕ) → y ≡ Refused k q → RowSaid b v e p n first (Refused k q) last
+    pub member-refused : (k : Cause) (q : ℕ) → y ≡ Refused q k → RowSaid b v e p n first (Refused q k) last
     member-refused k q d =
         (row-refused T n _ v (m .at) (m .total) (m .t) Rest left-now _ y k q (S .0) d, going-refused going-now last y k q (S .1))
 

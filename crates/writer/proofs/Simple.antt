@@ -61,21 +61,21 @@ module _ (b : List ℕ) (e : Entry) (v : List ℕ) (at n : ℕ) (M : IsMarked v 
   end-is : x .end ≡ endAt v at
   end-is = m .ends ∙ sym (M .1)
 
-  pub leaf-shape : x .end ≡ 0 → Refused ValueShape at ≡ Tells
+  pub leaf-shape : x .end ≡ 0 → Refused at ValueShape ≡ Tells
   leaf-shape h = value-shape T t v at within n _ (sym end-is ∙ h)
 
   module _ (h : x .end ≡ 0 → ⊥) where
     is-shaped : 0 < endAt v at
     is-shaped = positive (x .end) (endAt v at) end-is h
 
-    pub leaf-level : n ≡ 0 → Refused ValueLevel at ≡ Tells
+    pub leaf-level : n ≡ 0 → Refused at ValueLevel ≡ Tells
     leaf-level z = value-level T t v at within n is-shaped _ z
 
     module _ (z : n ≡ 0 → ⊥) (r : Bool) (er : r ≡ agrees (recordIn b e .body) (nodeOf (getD v (at + 2) 0) v (at + 3))) where
       agreed : (w : Bool) → r ≡ w → agrees (T t .body) (nodeOf (getD v (at + 2) 0) v (at + 3)) ≡ w
       agreed w f = rw same (sym er ∙ f)
 
-      pub leaf-ill : r ≡ false → Refused IllTyped at ≡ Tells
+      pub leaf-ill : r ≡ false → Refused at IllTyped ≡ Tells
       leaf-ill f = value-ill T t v at within n is-shaped z _ (agreed false f)
 
       pub leaf-done : r ≡ true → getD v (at + 2) 0 < 16 → (size : ℕ) → size ≡ cap (0 + x .size) → Done (x .end) size ≡ Tells

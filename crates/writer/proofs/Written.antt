@@ -98,7 +98,7 @@ module _ (T : Table) (n t : ℕ) (v buf : List ℕ) where
   whole-got a w q h = simp (run, q, none-nil w h)
 
   module _ (h : t < n) (l : length v ≤ 16384) (r : Judged) (p : r ≡ told (formAt T 24 t) v (judgeValue T 24 t v)) where
-    pub out-refused : (k : Cause) (q : ℕ) → r ≡ Refused k q → Says (writeOutcome T n t v buf) (TRefused k q) buf
+    pub out-refused : (k : Cause) (q : ℕ) → r ≡ Refused q k → Says (writeOutcome T n t v buf) (TRefused k q) buf
     unfolding afterJudging
     out-refused k q e =
         let (i, x, y) = no (formAt T 24 t) v (judgeValue T 24 t v) r k q p e in

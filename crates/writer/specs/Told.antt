@@ -11,7 +11,7 @@ use Rattle.writer.specs.declared.judge.Judged.the-variants.{Done, Refuse
 -- where it ends in v and how many octets are written of it, to 8,193; or the cause with its place in v
 unfoldable pub told : {A : Type 0} → (A → List ℕ) → List ℕ → Answer A → Judged
 told f v (got a w) = Done (length v - length w) (cap (length (f a)))
-told f v (refused c l) = Refused c (length v - l)
+told f v (refused c l) = Refused (length v - l) c
 
 unfoldable pub written : {A : Type 0} → (A → List ℕ) → Answer A → List ℕ
 written f (got a w) = f a

@@ -33,7 +33,7 @@ use table::kind::constructed;
 // Where a part of the value ends, and how many octets are written of it, to 8,193; or why it is refused.
 pub enum Judged {
     Done { end: usize, size: usize },
-    Refused { cause: Cause, place: usize },
+    Refused { place: usize, cause: Cause },
 }
 
 // Whether the shaped leaf of a kind with its own part at p agrees with a record.

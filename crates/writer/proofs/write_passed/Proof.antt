@@ -40,7 +40,7 @@ write-passed-spec =
       length-replicate
           {A = ℕ} 4096 1,
     ))  -- judge-requires
-    (λ c. search needs)  -- enum-known-cause
+    (λ c. search needs)  -- enum-known-place
     (λ c. search needs)  -- enum-known-end
     (λ c.
     let s = c .before .before .before .before .before .before .before .before .before .before .before in
@@ -85,7 +85,7 @@ write-passed-spec =
     let b = now (a .table) in
     let v = now (a .value) in
     out-refused (tableIn b) (a .n) (a .t) v (now (a .buf)) (c .before .before .before .before .before .before .if1 .left) (c .before .before .before
-    .before .before .if2 .left) _ (c .before .before .before .judge .ensures .0) _ _ (c .before .cause .given .1))  -- returns-5
+    .before .before .if2 .left) _ (c .before .before .before .judge .ensures .0) _ _ (c .before .place .given .1))  -- returns-5
     (λ c. search needs)  -- same-length
     (λ c.
     let s = c .before .before .before .before .before .before .before .before .before .before .before .before .before .before .before .before .before in

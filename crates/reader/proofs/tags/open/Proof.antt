@@ -39,12 +39,14 @@ open-spec =
     let c6 = c5 .before in
     let c8 = c6 .before .before in
     let c9 = c8 .before in
-    let c11 = c9 .before .before in
-    (c6 .loop .inv .0, open-unread (c11 .args .table .now) (recordIn (c11 .args .table .now) (unpacked (c11 .args .w))) (its-fit
-    (c11 .pre .1) (c11 .pre .2)) (c11 .args .m .now) (λ n. omega (arith, c9 .shared-slice-known2 .given n)) (c11 .args .at)
-    (c6 .loop .notes) (c6 .loop .at) (c6 .loop .from) (c6 .loop .end) (c6 .loop .j) (c6 .loop .inv .1) (omega
-    (arith, c5 .loop-test .taken, ap (λ (e : Entry). e .explicit) (c8 .unpack .ensures), its-count (c11 .pre .1) (c11 .pre .2)))
-    (c3 .read .result) (c3 .read .ensures) (c .before .cause .given .0 .0) (c .before .cause .given .1) (c6 .loop .notes)))  -- returns
+    let c11 = c9 .before .before in (
+      c6 .loop .inv .0,
+      open-unread (c11 .args .table .now) (recordIn (c11 .args .table .now) (unpacked (c11 .args .w))) (its-fit
+          (c11 .pre .1) (c11 .pre .2)) (c11 .args .m .now) (λ n. omega (arith, c9 .shared-slice-known2 .given n)) (c11 .args .at)
+          (c6 .loop .notes) (c6 .loop .at) (c6 .loop .from) (c6 .loop .end) (c6 .loop .j) (c6 .loop .inv .1) (omega
+          (arith, c5 .loop-test .taken, ap (λ (e : Entry). e .explicit) (c8 .unpack .ensures), its-count (c11 .pre .1) (c11 .pre .2)))
+          (c3 .read .result) (c3 .read .ensures) (c .before .cause .given .0 .0) (c .before .cause .given .1) (c6 .loop .notes),
+    ))  -- returns
     (λ c. search needs)  -- enum-known-x
     (λ c κs. omega (arith, c .before .before .before .before .before .before .loop .inv .1 .high, c .before .before .before .before .before .before .before .before .before .before .before .pre .5))  -- note-requires
     (λ c. omega (arith, its-few (c .before .before .before .before .before .before .before .before .before .before .before .before .pre .1) (c .before .before .before .before .before .before .before .before .before .before .before .before .pre .2), its-count (c .before .before .before .before .before .before .before .before .before .before .before .before .pre .1) (c .before .before .before .before .before .before .before .before .before .before .before .before .pre .2), c .before .before .before .before .before .before .loop-test .taken, ap (λ (e : Entry). e .explicit) (c .before .before .before .before .before .before .before .before .before .unpack .ensures)))  -- mul-notes

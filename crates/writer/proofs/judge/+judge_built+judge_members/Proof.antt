@@ -225,7 +225,7 @@ pub +judge-built+judge-members-spec : {M : Type 1} → statement M
         q .4,
       ),
     ))  -- judge-built-judge-members-requires
-    (λ c. search needs)  -- judge-built-enum-known-cause
+    (λ c. search needs)  -- judge-built-enum-known-place
     (λ c. search needs)  -- judge-built-enum-known-end
     (λ c.
     let k = told-small _ _ _ _ _ _ (c .before .before .before .judge-members .ensures .0) (c .before .end .given .1) in
@@ -248,7 +248,7 @@ pub +judge-built+judge-members-spec : {M : Type 1} → statement M
     .before .before .before .before .before .before .before .before .if1 .left) (unpacked (getD (now (a .index)) (a .t) 0)) refl (c .before .before
     .before .before .before .before .before .before .before .if2 .left) _ (rw (c .before .before .before .before .before .before .before .unpack
     .ensures) at (c .before .before .before .before .before .before .agrees .ensures)) (not-false _ (c .before .before .before .before .before .if3
-    .left)) _ (now (a .notes)) _ (c .before .before .before .judge-members .ensures) _ _ (c .before .cause .given .1))  -- judge-built-returns-4
+    .left)) _ (now (a .notes)) _ (c .before .before .before .judge-members .ensures) _ _ (c .before .place .given .1))  -- judge-built-returns-4
     (λ c.
     let s = c .before .before .before .before .before .before .before .before .before .before .before .before .before .before .before in
     let a = s .args in
