@@ -32,9 +32,9 @@ own-requires c κs = search needs
 
 returns-4 : tie.Need-returns-4
 returns-4 c = λ r x.
-    let s = c .before .before .before .before .before in
     rw (c .before .tag-place .ensures .0) at (c .wrong-own .ensures)
-    ∙ wrong-own x (s .before .before .if1 .left) (sym (s .before .explicit-universal .ensures) ∙ s .if2 .left)
+    ∙ wrong-own x (c .before .before .before .before .before .before .before .if1 .left)
+    (sym (c .before .before .before .before .before .before .explicit-universal .ensures) ∙ c .before .before .before .before .before .if2 .left)
     (ne-eqb _ _ (c .before .before .before .if3 .left))
 
 pub wrong-spec : {M : Type 1} → statement M
