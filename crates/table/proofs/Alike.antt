@@ -86,8 +86,8 @@ tags-head b p (suc n) g gs e = ap (λ h. h .number) (sym (head e))
 
 -- what is so of the first tag of a record, by its entry
 record Fronted (e : Entry) (g : Tag) : Type 0 where
-  class : g .class < 4
-  number : g .number < 65536
+  low : g .class < 4
+  small : g .number < 65536
   is : tagOf (e .code) ≡ code (g .class) false (g .number)
 
 module _ {b : List ℕ} {e : Entry} {r : Record} (o : Octets b) (x : Entered b e r) (s : recordShaped r ≡ true) where
@@ -99,8 +99,8 @@ module _ {b : List ℕ} {e : Entry} {r : Record} (o : Octets b) (x : Entered b e
       let l = o (e .own - 3 * length (r .tags) + 1) in
       let h = o (e .own - 3 * length (r .tags) + 1 + 1) in
       record {
-        class = omega arith;
-        number = omega arith;
+        low = omega arith;
+        small = omega arith;
         is = ap (λ z. tagOf z) (rw t at (x .code)) ∙ tag-of (g .class) (more gs || constructed (r .body)) (g .number) (omega arith);
       }
 
@@ -112,7 +112,7 @@ module _ {b : List ℕ} {e : Entry} {r : Record} (o : Octets b) (x : Entered b e
       by [] t = t
       by (g ∷ gs) t =
           let f = fronted g gs t in
-          absurd (omega (arith, code-small (g .class) (g .number) (f .class) (f .number), f .is, ap (λ z. tagOf z) q))
+          absurd (omega (arith, code-small (g .class) (g .number) (f .low) (f .small), f .is, ap (λ z. tagOf z) q))
 
 pub code-some : {b : List ℕ} {e : Entry} {r : Record} → Entered b e r → r .tags ≡ [] → e .code ≡ untagged
 unfolding outermostCode
@@ -134,7 +134,7 @@ code-test e f g h x y =
     let p = code (g .class) false (g .number) in
     let q = code (h .class) false (h .number) in
     rw (x .is, y .is) (test (eqb p q)
-    (λ i. let (c, n) = code-same (g .class) (h .class) (g .number) (h .number) (x .class) (y .class) (eqb-true p q i) in
+    (λ i. let (c, n) = code-same (g .class) (h .class) (g .number) (h .number) (x .low) (y .low) (eqb-true p q i) in
     rw (i, eq-eqb (g .class) (h .class) c, eq-eqb (g .number) (h .number) n))
     λ i. test (eqb (g .class) (h .class))
     (λ c. test (eqb (g .number) (h .number))
@@ -149,7 +149,7 @@ module _ {b : List ℕ} {e : Entry} {r : Record} (o : Octets b) (x : Entered b e
     where
       by : (hs : List Tag) → r .tags ≡ hs → eqb (tagOf (e .code)) (tagOf (f .code)) ≡ sameOutermost (r .tags) (g ∷ gs)
       by [] t =
-          rw (t, code-some x t, ne-eqb untagged (tagOf (f .code)) (λ z. omega (arith, z, y .is, code-small (g .class) (g .number) (y .class) (y .number))))
+          rw (t, code-some x t, ne-eqb untagged (tagOf (f .code)) (λ z. omega (arith, z, y .is, code-small (g .class) (g .number) (y .low) (y .small))))
       by (h ∷ hs) t = rw t (code-test e f h g (fronted o x s h hs t) y)
 
 module _ (b index : List ℕ) (n : ℕ) (o : Octets b) (x : Filled b index n) (t : ℕ) (h : t < n) where
@@ -165,7 +165,7 @@ module _ (b index : List ℕ) (n : ℕ) (o : Octets b) (x : Filled b index n) (t
       by (g ∷ gs) q =
           let f = fronted o (x .entered t h) (x .shaped t h) g gs q in
           rw (ne-eqb (tagOf (unpacked (getD index t 0) .code)) untagged
-          (λ z. omega (arith, z, f .is, code-small (g .class) (g .number) (f .class) (f .number))))
+          (λ z. omega (arith, z, f .is, code-small (g .class) (g .number) (f .low) (f .small))))
           (lowest-same _ (λ u. sameOutermost (T u .tags) (T t .tags)) t
           (λ u l. rw q (front-test o (x .entered u (omega arith)) (x .shaped u (omega arith)) (unpacked (getD index t 0)) g gs f)))
 

@@ -32,7 +32,8 @@ use Rattle.table.proofs.Scan.{Found, all-table, table-beyond, scan-spel
 use Rattle.table.proofs.Spelled.{spells-scan, spells-looks, spells-not-misshapen, misshapen-unique}
 use Rattle.table.proofs.Straight.{ends, below-there}
 use Rattle.table.proofs.Limits.{tag-numbers, listed-numbers}
-use Rattle.table.proofs.Decided.{dangling-sound, dangling-complete, mistagged-sound, mistagged-complete, circular-sound, circular-complete, sharing-sound, sharing-complete, infinite-true, infinite-false}
+use Rattle.table.proofs.Decided.{dangling-sound, dangling-complete, mistagged-sound, mistagged-complete, circular-sound}
+use Rattle.table.proofs.Decided.{circular-complete, sharing-sound, sharing-complete, infinite-true, infinite-false}
 
 -- they are of a table
 pub stage : {b : List ℕ} {p : ℕ} {c : Cause} → Breaks b p c → (1 ≤ causeNumber c) × (causeNumber c < 7)
@@ -61,13 +62,13 @@ module _ (b : List ℕ) (T : Table) (n : ℕ) (beyond : (t : ℕ) → n ≤ t �
 
   -- the test of the cause with the number k agrees with its rule
   record Agrees (k : ℕ) (x : Test) : Type 0 where
-    number : causeNumber (x .0) ≡ k
+    rank : causeNumber (x .0) ≡ k
     sound : (p : ℕ) → p < n → x .1 T n p ≡ true → Breaks b p (x .0)
     complete : (p : ℕ) → Breaks b p (x .0) → (p < n) × (x .1 T n p ≡ true)
 
   dangling-agrees : Agrees 2 (NoRecord, λ T n p. Decide·dangling T n p)
   dangling-agrees = record {
-    number = refl;
+    rank = refl;
     sound = λ p h e. dangling (to p (λ T n. Dangling T n p) h (dangling-sound T n p e));
     complete = λ p x. by p x;
   }
@@ -77,7 +78,7 @@ module _ (b : List ℕ) (T : Table) (n : ℕ) (beyond : (t : ℕ) → n ≤ t �
 
   mistagged-agrees : Agrees 3 (WrongTag, λ T n p. Decide·mistagged T p)
   mistagged-agrees = record {
-    number = refl;
+    rank = refl;
     sound = λ p h e. mistagged (to p (λ T n. Mistagged (T p)) h (mistagged-sound T p e));
     complete = λ p x. by p x;
   }
@@ -87,7 +88,7 @@ module _ (b : List ℕ) (T : Table) (n : ℕ) (beyond : (t : ℕ) → n ≤ t �
 
   circular-agrees : Agrees 4 (ChoiceLoop, Decide·circular)
   circular-agrees = record {
-    number = refl;
+    rank = refl;
     sound = λ p h e. circular (to p (λ T n. Circular T p) h (circular-sound T n p e));
     complete = λ p x. by p x;
   }
@@ -97,7 +98,7 @@ module _ (b : List ℕ) (T : Table) (n : ℕ) (beyond : (t : ℕ) → n ≤ t �
 
   sharing-agrees : Agrees 5 (SharedTag, Decide·sharing)
   sharing-agrees = record {
-    number = refl;
+    rank = refl;
     sound = λ p h e. sharing (to p (λ T n. Sharing T p) h (sharing-sound T n p e));
     complete = λ p x. by p x;
   }
@@ -107,7 +108,7 @@ module _ (b : List ℕ) (T : Table) (n : ℕ) (beyond : (t : ℕ) → n ≤ t �
 
   infinite-agrees : Agrees 6 (NoValue, isInfinite)
   infinite-agrees = record {
-    number = refl;
+    rank = refl;
     sound = λ p h e. infinite (to p (λ T n. Infinite T p) h (infinite-true T n beyond p e));
     complete = λ p x. by p x;
   }
@@ -129,7 +130,7 @@ module _ (b : List ℕ) (T : Table) (n : ℕ) (beyond : (t : ℕ) → n ≤ t �
     -- none of its number holds below the lowest record that is found
     none-lower : (d : Cause) (q : ℕ) → causeNumber d ≡ k → Breaks b q d → (q < n) × (q < lowest (x .1 T n) n → ⊥)
     none-lower d q e h =
-        let s : d ≡ x .0 = same-cause d (x .0) (e ∙ sym (its .number)) in
+        let s : d ≡ x .0 = same-cause d (x .0) (e ∙ sym (its .rank)) in
         let y = its .complete q (subst (Breaks b q) s h) in
         (y .0, λ l. true≢false (sym (y .1) ∙ before-lowest (x .1 T n) n q l))
 
@@ -140,8 +141,8 @@ module _ (b : List ℕ) (T : Table) (n : ℕ) (beyond : (t : ℕ) → n ≤ t �
         let h = ltb-true (lowest (x .1 T n) n) n e in
         rw e (record {
           holds = its .sound (lowest (x .1 T n) n) h (lowest-passes (x .1 T n) n h);
-          earlier = λ d q i. before d q (rw (its .number) at i);
-          lower = λ q i y. none-lower (x .0) q (its .number) y .1 i;
+          earlier = λ d q i. before d q (rw (its .rank) at i);
+          lower = λ q i y. none-lower (x .0) q (its .rank) y .1 i;
         }))
         λ e.
         let h = ltb-false (lowest (x .1 T n) n) n e in

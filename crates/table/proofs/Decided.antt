@@ -1,7 +1,8 @@
 -- Each test of a rule agrees with the rule.
 -- Assumes nothing.
 use mathlib.Core.Bool.{Bool, true, false, not, _||_, false≢true}
-use mathlib.Core.List.{List, [], _∷_, _++_, append-assoc, List·Memᴰ as In, List·Memᴰ·head as in-head, List·Memᴰ·tail as in-tail, List·Memᴰ·not-nil as in-none, Memᴰ·append-right as in-right}
+use mathlib.Core.List.{List, [], _∷_, _++_, append-assoc, List·Memᴰ as In, List·Memᴰ·head as in-head, List·Memᴰ·tail as in-tail}
+use mathlib.Core.List.{List·Memᴰ·not-nil as in-none, Memᴰ·append-right as in-right}
 use mathlib.Core.Logic.{⊎-elim}
 use mathlib.Core.Path.{_≡_, refl, sym, ap, _∙_}
 use Prim.Native.Nat.{ℕ, zero, suc, _≤_, _<_}
@@ -14,8 +15,10 @@ use Rattle.octets.specs.Lists.{any}
 use Rattle.octets.proofs.Lists.{both}
 use Rattle.octets.proofs.Members.{or-cases, or-left, or-right, not-both, Some, any-some, some-any, all-each, each-all, in-place, place-in, in-below}
 use Rattle.table.specs.Syntax.{Tag, Member, Body, Plain, Sequence, Set, SequenceOf, SetOf, Choice, Record, Table, absent, isChoice, universal}
-use Rattle.table.specs.Rules.{Dangling, Mistagged, missing, not-last, not-its-number, on-choice, bodyBelow, tagsBelow, below, Reaches, here, through, Circular, First, outermost, inside, parts, Sharing, members, Finite, all-mandatory, one-alternative, Infinite}
-use Rattle.table.specs.Decide.{rounds, found, dangling, wrongTags, mistagged, reachStep, circular, sameTag, begins, firstStep, firstOfBoth, share, pair, sharing, finiteBody, finiteStep, infinite}
+use Rattle.table.specs.Rules.{Dangling, Mistagged, missing, not-last, not-its-number, on-choice, bodyBelow, tagsBelow, below, Reaches, here, through}
+use Rattle.table.specs.Rules.{Circular, First, outermost, inside, parts, Sharing, members, Finite, all-mandatory, one-alternative, Infinite}
+use Rattle.table.specs.Decide.{rounds, found, dangling, wrongTags, mistagged, reachStep, circular, sameTag, begins}
+use Rattle.table.specs.Decide.{firstStep, firstOfBoth, share, pair, sharing, finiteBody, finiteStep, infinite}
 use Rattle.table.proofs.Rounds.{rounds-sound, rounds-closed}
 
 -- 6
@@ -70,10 +73,10 @@ pub record Shared (T : Table) (a c : ℕ) : Type 0 where
 
 -- a record with this outermost tag
 record Owner (T : Table) (n : ℕ) (g : Tag) : Type 0 where
-  number : ℕ
-  there : number < n
+  place : ℕ
+  there : place < n
   rest : List Tag
-  is : T number .tags ≡ g ∷ rest
+  is : T place .tags ≡ g ∷ rest
 
 -- two places of a list that the test relates
 pub record Pair (f : ℕ → ℕ → Bool) (l : List ℕ) : Type 0 where
@@ -285,14 +288,14 @@ module _ (T : Table) (n : ℕ) where
     first-complete {g} (inside {t} a i f) = first-there g t a i (first-complete f)
 
     owner : {g : Tag} {t : ℕ} → First T g t → Owner T n g
-    owner {g} (outermost {t} gs e) = record { number = t; there = outermost-there g t gs e; rest = gs; is = e }
+    owner {g} (outermost {t} gs e) = record { place = t; there = outermost-there g t gs e; rest = gs; is = e }
     owner (inside a i f) = owner f
 
     pub share-complete : {g : Tag} {a c : ℕ} → First T g a → First T g c → share T n a c ≡ true
     unfolding share firstOfBoth
     share-complete {g} {a} {c} f h =
         let o = owner f in
-        some-any (λ u. firstOfBoth T n a c (T u .tags)) (in-below n (o .number) (o .there)) (rw (o .is, first-complete f, first-complete h))
+        some-any (λ u. firstOfBoth T n a c (T u .tags)) (in-below n (o .place) (o .there)) (rw (o .is, first-complete f, first-complete h))
 
     pub sharing-complete : (t : ℕ) → Sharing T t → sharing T n t ≡ true
     unfolding sharing

@@ -12,14 +12,16 @@ use borrow.Author.Tests.{leb-false, ltb-true, ltb-false, lt-ltb, le-ltb, le-leb,
 use Rattle.octets.specs.Tests.{if}
 use Rattle.octets.specs.Numbers.{Octets}
 use Rattle.octets.proofs.Tests.{test, at}
-use Rattle.table.specs.Syntax.{Tag, Member, Boolean, Integer, BitString, OctetString, Null, Enumerated, Body, Plain, Sequence, Set, SequenceOf, SetOf, Choice, Record, references, isChoice, constructed}
+use Rattle.table.specs.Syntax.{Tag, Member, Boolean, Integer, BitString, OctetString, Null, Enumerated, Body, Plain}
+use Rattle.table.specs.Syntax.{Sequence, Set, SequenceOf, SetOf, Choice, Record, references, isChoice, constructed}
 use Rattle.table.specs.Octets.{kind}
 use Rattle.table.specs.Reading.{tagsAt, numbersAt, membersAt, everyAt, bodyAt, ownAt, recordAt, countedEnd, enumeratedEnd, membersEnd, referenceEnd, ownEnd, recordEnd}
 use Rattle.table.specs.Fields.{constructedOf}
-use Rattle.table.specs.Entries.{outermostCode, outermostIn, allButLast, explicitCount, tagCount, tagPlace, hasMembers, isList, counted, spanOf, Entered, WithMembers, WithAlternatives, WithElements, WithNumbers}
+use Rattle.table.specs.Entries.{outermostCode, outermostIn, allButLast, explicitCount, tagCount, tagPlace, hasMembers}
+use Rattle.table.specs.Entries.{counted, spanOf, Entered, WithMembers, WithAlternatives, WithElements, WithNumbers}
 use Rattle.table.specs.declared.entry.Entry.{Entry}
-use Rattle.table.proofs.Pieces.{tagAt, length-tags, length-numbers, length-members, length-every}
-use Rattle.table.proofs.Fields.{types-every, constructed-of}
+use Rattle.table.proofs.Pieces.{tagAt, length-tags, length-numbers, length-members, length-every, types-every}
+use Rattle.table.proofs.Fields.{constructed-of}
 use Rattle.table.proofs.Own.{Counted, counted-back, above-five}
 use Rattle.table.proofs.Reading.{headed, record-back}
 
@@ -118,20 +120,6 @@ members-kind (SequenceOf t) = refl
 members-kind (SetOf t) = refl
 members-kind (Choice ts) = refl
 
-list-kind : (x : Body) → (eqb (kind x) 48 || eqb (kind x) 49) ≡ isList x
-unfolding kind isList
-list-kind (Plain Boolean) = refl
-list-kind (Plain Integer) = refl
-list-kind (Plain BitString) = refl
-list-kind (Plain OctetString) = refl
-list-kind (Plain Null) = refl
-list-kind (Plain (Enumerated ns)) = refl
-list-kind (Sequence ms) = refl
-list-kind (Set ms) = refl
-list-kind (SequenceOf t) = refl
-list-kind (SetOf t) = refl
-list-kind (Choice ts) = refl
-
 -- the outermost tag, of as many tags from p on
 not-not : (t : Bool) → not (not t) ≡ t
 not-not true = refl
@@ -212,21 +200,6 @@ module _ {b : List ℕ} {p : ℕ} where
   part-owned (set-of l) j h = omega arith
   part-owned (choice c) j h = omega arith
 
-  member-owned : {k : ℕ} {x : Body} → Owned b p k x → hasMembers x ≡ true
-      → let s = spanOf b k p in (j : ℕ) → j < s .count → s .first + s .step * j + 1 < length b
-  unfolding spanOf hasMembers
-  member-owned boolean m j h = absurd (omega arith)
-  member-owned integer m j h = absurd (omega arith)
-  member-owned bit-string m j h = absurd (omega arith)
-  member-owned octet-string m j h = absurd (omega arith)
-  member-owned null m j h = absurd (omega arith)
-  member-owned (enumerated c) m j h = absurd (omega arith)
-  member-owned (sequence c) m j h = omega arith
-  member-owned (set c) m j h = omega arith
-  member-owned (sequence-of l) m j h = absurd (false≢true m)
-  member-owned (set-of l) m j h = absurd (false≢true m)
-  member-owned (choice c) m j h = absurd (false≢true m)
-
 -- the tags, one by one
 tags-at : (b : List ℕ) (p n : ℕ) (d : Tag) (j : ℕ) → j < n → tagAt b (p + 3 * j) ≡ getD (tagsAt b p n) j d
 unfolding tagsAt
@@ -276,18 +249,11 @@ module _ {b : List ℕ} {e : Entry} {r : Record} (x : Entered b e r) where
   pub kind-members : (eqb (e .kind) 16 || eqb (e .kind) 17) ≡ hasMembers (r .body)
   kind-members = ap (λ k. eqb k 16 || eqb k 17) entered-kind ∙ members-kind (r .body)
 
-  pub kind-list : (eqb (e .kind) 48 || eqb (e .kind) 49) ≡ isList (r .body)
-  kind-list = ap (λ k. eqb k 48 || eqb k 49) entered-kind ∙ list-kind (r .body)
-
   pub entered-span : let s = spanOf b (e .kind) (e .own) in everyAt (s .step) b (s .first) (s .count) ≡ references (r .body)
   entered-span = span-owned entered-owned
 
   pub part-inside : let s = spanOf b (e .kind) (e .own) in (j : ℕ) → j < s .count → s .first + s .step * j < length b
   part-inside = part-owned entered-owned
-
-  pub member-inside : hasMembers (r .body) ≡ true
-      → let s = spanOf b (e .kind) (e .own) in (j : ℕ) → j < s .count → s .first + s .step * j + 1 < length b
-  member-inside = member-owned entered-owned
 
   with-members : (ms : List Member) → membersAt b (e .own + 1) (getD b (e .own) 0) ≡ ms → spanOf b (e .kind) (e .own) ≡ counted b (e .own) 2
       → Counted 2 0 16 b (e .own) → WithMembers b e ms

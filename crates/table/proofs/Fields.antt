@@ -1,9 +1,9 @@
--- The fields of a record by its kind's form: what the code reads is what the record says.
+-- What the kind of a record says without its own part, and the identifier octets of the kinds.
 -- Assumes nothing.
 use mathlib.Core.Bool.{Bool, true, false, not}
-use mathlib.Core.List.{List, [], _∷_, map}
-use mathlib.Core.Path.{_≡_, refl, sym, ap}
-use Prim.Native.Nat.{ℕ, zero, suc, _+_, _*_, _/_, _%_, _≤_, _<_}
+use mathlib.Core.List.{List, [], _∷_}
+use mathlib.Core.Path.{_≡_, refl, sym}
+use Prim.Native.Nat.{ℕ, _/_, _%_, _≤_, _<_}
 use native.Mathlib.Omega.{arith}
 use lib.Dec.{eqb}
 use lib.ListN.{getD}
@@ -11,130 +11,9 @@ use borrow.Author.Tests.{ne-eqb, eqb-true, not-true, not-false}
 use Rattle.octets.specs.Lists.{lowestFrom}
 use Rattle.octets.proofs.Tests.{at}
 use Rattle.octets.proofs.Search.{upto}
-use Rattle.table.specs.Syntax.{Member, Boolean, Integer, BitString, OctetString, Null, Enumerated, Body, Plain, Sequence, Set, SequenceOf, SetOf, Choice, references, isChoice, universal, constructed}
-use Rattle.table.specs.Rules.{bodyBelow, tagsBelow, parts}
-use Rattle.table.specs.Reading.{tagsAt, numbersAt, membersAt, everyAt, bodyAt, ownAt, recordAt}
-use Rattle.table.specs.Fields.{formOf, universalOf, constructedOf, choiceOf, choiceBy, Viewed, plain, sequence, set, sequence-of, set-of, choice}
-use Rattle.table.specs.declared.kind.Form.{Form}
-use Rattle.table.specs.declared.kind.Form.the-variants.{Simple as FSimple, Members as FMembers, Of as FOf, Choice as FChoice}
-
-abbrev ViewedAt : List ℕ → ℕ → ℕ → Type 0
-ViewedAt b p k = Viewed b p (formOf k) (bodyAt b k p)
-
-pub viewed : (b : List ℕ) (k p : ℕ) → Viewed b p (formOf k) (bodyAt b k p)
-unfolding formOf bodyAt
-viewed b k p =
-    at k 1 (ViewedAt b p) (plain Boolean) λ e₁.
-    at k 2 (ViewedAt b p) (plain Integer) λ e₂.
-    at k 3 (ViewedAt b p) (plain BitString) λ e₃.
-    at k 4 (ViewedAt b p) (plain OctetString) λ e₄.
-    at k 5 (ViewedAt b p) (plain Null) λ e₅.
-    at k 10 (ViewedAt b p) (plain (Enumerated (numbersAt b (p + 1) (getD b p 0)))) λ e₁₀.
-    at k 16 (ViewedAt b p) sequence λ e₁₆.
-    at k 17 (ViewedAt b p) set λ e₁₇.
-    at k 48 (ViewedAt b p) sequence-of λ e₄₈.
-    at k 49 (ViewedAt b p) set-of λ e₄₉.
-    rw (e₁, e₂, e₃, e₄, e₅, e₁₀, e₁₆, e₁₇, e₄₈, e₄₉) choice
-
-pub types-every : (b : List ℕ) (p n : ℕ) → map (λ m. m .type) (membersAt b p n) ≡ everyAt 2 b p n
-unfolding membersAt everyAt
-types-every b p zero = refl
-types-every b p (suc n) = ap {B = List ℕ} (λ l. getD b p 0 ∷ l) (types-every b (p + 2) n)
-
--- the record numbers that a body names, its members or alternatives, those below it, by its form
-
-abbrev pub referencesBy : List ℕ → ℕ → Form → List ℕ
-referencesBy b p FSimple = []
-referencesBy b p FMembers = everyAt 2 b (p + 1) (getD b p 0)
-referencesBy b p FOf = everyAt 1 b p 1
-referencesBy b p FChoice = everyAt 1 b (p + 1) (getD b p 0)
-
-abbrev pub partsBy : List ℕ → ℕ → Form → List ℕ
-partsBy b p FSimple = []
-partsBy b p FMembers = everyAt 2 b (p + 1) (getD b p 0)
-partsBy b p FOf = []
-partsBy b p FChoice = everyAt 1 b (p + 1) (getD b p 0)
-
-abbrev pub belowBy : List ℕ → ℕ → Form → List ℕ
-belowBy b p FSimple = []
-belowBy b p FMembers = []
-belowBy b p FOf = []
-belowBy b p FChoice = everyAt 1 b (p + 1) (getD b p 0)
-
-module _ {b : List ℕ} {p : ℕ} where
-  references-view : {f : Form} {x : Body} → Viewed b p f x → references x ≡ referencesBy b p f
-  unfolding references everyAt
-  references-view (plain s) = refl
-  references-view sequence = types-every b (p + 1) (getD b p 0)
-  references-view set = types-every b (p + 1) (getD b p 0)
-  references-view sequence-of = refl
-  references-view set-of = refl
-  references-view choice = refl
-
-  parts-view : {f : Form} {x : Body} → Viewed b p f x → parts x ≡ partsBy b p f
-  unfolding references parts
-  parts-view (plain s) = refl
-  parts-view sequence = types-every b (p + 1) (getD b p 0)
-  parts-view set = types-every b (p + 1) (getD b p 0)
-  parts-view sequence-of = refl
-  parts-view set-of = refl
-  parts-view choice = refl
-
-  below-view : {f : Form} {x : Body} → Viewed b p f x → bodyBelow x ≡ belowBy b p f
-  unfolding bodyBelow
-  below-view (plain s) = refl
-  below-view sequence = refl
-  below-view set = refl
-  below-view sequence-of = refl
-  below-view set-of = refl
-  below-view choice = refl
-
-  choice-view : {f : Form} {x : Body} → Viewed b p f x → isChoice x ≡ choiceBy f
-  unfolding isChoice
-  choice-view (plain s) = refl
-  choice-view sequence = refl
-  choice-view set = refl
-  choice-view sequence-of = refl
-  choice-view set-of = refl
-  choice-view choice = refl
-
-pub choice-by : (b : List ℕ) (k p : ℕ) → isChoice (bodyAt b k p) ≡ choiceBy (formOf k)
-choice-by b k p = choice-view (viewed b k p)
-
-below-tagged : (b : List ℕ) (p : ℕ) (x : Body) (n : ℕ) → (n ≡ 0 → ⊥) → tagsBelow (tagsAt b p n) x ≡ []
-unfolding tagsBelow tagsAt
-below-tagged b p x zero h = absurd (h refl)
-below-tagged b p x (suc n) h = refl
-
-module _ (b : List ℕ) (o : ℕ) where
-  pub references-at : references (recordAt b o .body) ≡ referencesBy b (ownAt b o) (formOf (getD b (o + 2) 0))
-  unfolding recordAt
-  references-at = references-view (viewed b (getD b (o + 2) 0) (ownAt b o))
-
-  pub parts-at : parts (recordAt b o .body) ≡ partsBy b (ownAt b o) (formOf (getD b (o + 2) 0))
-  unfolding recordAt
-  parts-at = parts-view (viewed b (getD b (o + 2) 0) (ownAt b o))
-
-  -- with tags there is nothing below
-  pub below-none : (getD b (o + 3) 0 ≡ 0 → ⊥) → tagsBelow (recordAt b o .tags) (recordAt b o .body) ≡ []
-  unfolding recordAt
-  below-none h = below-tagged b (o + 4) _ (getD b (o + 3) 0) h
-
-  pub below-at : getD b (o + 3) 0 ≡ 0
-      → tagsBelow (recordAt b o .tags) (recordAt b o .body) ≡ belowBy b (ownAt b o) (formOf (getD b (o + 2) 0))
-  unfolding recordAt tagsBelow tagsAt
-  below-at e = rw e (below-view (viewed b (getD b (o + 2) 0) (o + 4 + 3 * 0)))
-
--- the same over what the code has in hand: the own part's place, the kind and its form
-module _ (b : List ℕ) (o p k : ℕ) (f : Form) (own : p ≡ ownAt b o) (kind : k ≡ getD b (o + 2) 0) (form : f ≡ formOf k) where
-  pub references-spans : referencesBy b p f ≡ references (recordAt b o .body)
-  references-spans = rw (references-at, own, form, kind)
-
-  pub parts-spans : partsBy b p f ≡ parts (recordAt b o .body)
-  parts-spans = rw (parts-at, own, form, kind)
-
-  pub below-spans : getD b (o + 3) 0 ≡ 0 → belowBy b p f ≡ tagsBelow (recordAt b o .tags) (recordAt b o .body)
-  below-spans e = rw (below-at b o e, own, form, kind)
+use Rattle.table.specs.Syntax.{Member, Enumerated, Body, Plain, Sequence, Set, SequenceOf, SetOf, Choice, universal, constructed}
+use Rattle.table.specs.Reading.{everyAt, bodyAt}
+use Rattle.table.specs.Fields.{universalOf, constructedOf}
 
 -- bodies of one kind
 data Alike : Body → Body → Type 0 where
@@ -184,25 +63,12 @@ constructed-alike (sequence-ofs t u) = refl
 constructed-alike (set-ofs t u) = refl
 constructed-alike (choices l m) = refl
 
-choice-alike : {x y : Body} → Alike x y → isChoice x ≡ isChoice y
-unfolding isChoice
-choice-alike same = refl
-choice-alike (numbers l m) = refl
-choice-alike (sequences l m) = refl
-choice-alike (sets l m) = refl
-choice-alike (sequence-ofs t u) = refl
-choice-alike (set-ofs t u) = refl
-choice-alike (choices l m) = refl
-
 module _ (b : List ℕ) (k p : ℕ) where
   pub universal-of : universal (bodyAt b k p) ≡ universalOf k
   universal-of = universal-alike (alike b k p)
 
   pub constructed-of : constructed (bodyAt b k p) ≡ constructedOf k
   constructed-of = constructed-alike (alike b k p)
-
-  pub choice-of : isChoice (bodyAt b k p) ≡ choiceOf k
-  choice-of = choice-alike (alike b k p)
 
 -- a number that is no kind
 pub no-kind : (k : ℕ) → 50 ≤ k → bodyAt [] k 0 ≡ Choice []
@@ -232,7 +98,10 @@ constructed-beyond k h = rw no-kind
 -- the identifier octets of the kinds, by computing each
 abbrev identifiers : List ℕ
 identifiers =
-    32 ∷ 1 ∷ 2 ∷ 3 ∷ 4 ∷ 5 ∷ 32 ∷ 32 ∷ 32 ∷ 32 ∷ 10 ∷ 32 ∷ 32 ∷ 32 ∷ 32 ∷ 32 ∷ 48 ∷ 49 ∷ 32 ∷ 32 ∷ 32 ∷ 32 ∷ 32 ∷ 32 ∷ 32 ∷ 32 ∷ 32 ∷ 32 ∷ 32 ∷ 32 ∷ 32 ∷ 32 ∷ 32 ∷ 32 ∷ 32 ∷ 32 ∷ 32 ∷ 32 ∷ 32 ∷ 32 ∷ 32 ∷ 32 ∷ 32 ∷ 32 ∷ 32 ∷ 32 ∷ 32 ∷ 32 ∷ 48 ∷ 49 ∷ []
+    32 ∷ 1 ∷ 2 ∷ 3 ∷ 4 ∷ 5 ∷ 32 ∷ 32 ∷ 32 ∷ 32 ∷ 10 ∷ 32 ∷ 32 ∷ 32 ∷ 32 ∷ 32 ∷
+    48 ∷ 49 ∷ 32 ∷ 32 ∷ 32 ∷ 32 ∷ 32 ∷ 32 ∷ 32 ∷ 32 ∷ 32 ∷ 32 ∷ 32 ∷ 32 ∷ 32 ∷ 32 ∷
+    32 ∷ 32 ∷ 32 ∷ 32 ∷ 32 ∷ 32 ∷ 32 ∷ 32 ∷ 32 ∷ 32 ∷ 32 ∷ 32 ∷ 32 ∷ 32 ∷ 32 ∷ 32 ∷
+    48 ∷ 49 ∷ []
 
 abbrev agree : Bool → Bool → Bool
 agree true t = t

@@ -23,7 +23,6 @@ mod Fields
 mod Rules
 mod Alike
 mod Loops
-mod Filling
 mod Marks
 mod Packing
 mod Listed

@@ -16,7 +16,8 @@ use Rattle.octets.proofs.Lists.{both, behind, length-behind, at-first, drop-one
 use Rattle.table.specs.Syntax.{Member, Boolean, Integer, BitString, OctetString, Null, Enumerated, Body, Plain, Sequence, Set, SequenceOf, SetOf, Choice}
 use Rattle.table.specs.Octets.{kind, memberOctets, own, rising, bodyShaped}
 use Rattle.table.specs.Reading.{numbersAt, membersAt, everyAt, bodyAt, countedEnd, enumeratedEnd, membersEnd, ownEnd}
-use Rattle.table.proofs.Pieces.{length-numbers, length-members, length-every, numbers-back, members-back, every-back, numbers-only, members-only, flags-only, every-only, length-numbered, length-membered}
+use Rattle.table.proofs.Pieces.{length-numbers, length-members, length-every, numbers-back, members-back, every-back}
+use Rattle.table.proofs.Pieces.{numbers-only, members-only, flags-only, every-only, length-numbered, length-membered}
 
 -- the body x of kind k is what stands from p to e
 pub record Own (b : List ℕ) (k p e : ℕ) (x : Body) : Type 0 where

@@ -58,6 +58,12 @@ unfolding everyAt
 length-every step b p zero = refl
 length-every step b p (suc n) = ap suc (length-every step b (p + step) n)
 
+-- the record numbers of members
+pub types-every : (b : List ℕ) (p n : ℕ) → map (λ m. m .type) (membersAt b p n) ≡ everyAt 2 b p n
+unfolding membersAt everyAt
+types-every b p zero = refl
+types-every b p (suc n) = ap {B = List ℕ} (λ l. getD b p 0 ∷ l) (types-every b (p + 2) n)
+
 -- what is read has the octets
 
 module _ (b : List ℕ) (o : Octets b) where

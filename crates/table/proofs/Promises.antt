@@ -1,30 +1,27 @@
 -- What the crates above may use of tables beside the theorems (`Theorems`) and the contracts of the functions. No other law of this crate is for them.
 -- Assumes nothing.
 use mathlib.Core.Bool.{Bool, true, false, not, _||_}
-use mathlib.Core.List.{List, _∷_}
+use mathlib.Core.List.{List}
 use mathlib.Core.Logic.{_⊎_}
 use mathlib.Core.Path.{_≡_}
 use Prim.Native.Nat.{ℕ, _+_, _-_, _*_, _≤_, _<_}
 use lib.Dec.{ltb, leb, eqb}
-use lib.ListN.{length, getD, take}
+use lib.ListN.{length, getD}
 use Rattle.octets.specs.Lists.{all}
 use Rattle.octets.specs.Numbers.{two}
 use Rattle.octets.specs.declared.cause.Cause.{Cause}
-use Rattle.table.specs.Syntax.{Tag, Member, Enumerated, Plain, Sequence, Set, SequenceOf, SetOf, Choice, Record, references, isChoice, universal, constructed}
+use Rattle.table.specs.Syntax.{Tag, Member, Enumerated, Plain, Sequence, Set, SequenceOf, SetOf, Choice, Record, references, isChoice, constructed}
 use Rattle.table.specs.Octets.{kind, recordShaped, bodyShaped}
-use Rattle.table.specs.Reading.{membersAt, everyAt, bodyAt, scan}
-use Rattle.table.specs.Fields.{formOf, universalOf, constructedOf, choiceOf, choiceBy, Viewed}
-use Rattle.table.specs.Index.{Indexed}
-use Rattle.table.specs.Entries.{tagCount, tagPlace, hasMembers, isList, spanOf, Entered, WithMembers, WithAlternatives, WithElements, WithNumbers}
+use Rattle.table.specs.Reading.{membersAt, everyAt, bodyAt}
+use Rattle.table.specs.Fields.{constructedOf}
+use Rattle.table.specs.Entries.{tagCount, tagPlace, spanOf, Entered, WithMembers, WithAlternatives, WithElements, WithNumbers}
 use Rattle.table.specs.Verdict.{verdict}
 use Rattle.table.specs.declared.entry.Entry.{Entry}
-use Rattle.table.specs.declared.index.Index.{Index}
 use Rattle.table.specs.declared.Verdict.the-variants.{Passed, Refused}
 use Rattle.table.proofs.Pieces as pieces
 use Rattle.table.proofs.Reading as reading
 use Rattle.table.proofs.Fields as fields
 use Rattle.table.proofs.Loops as loops
-use Rattle.table.proofs.Filling as filling
 use Rattle.table.proofs.Entries as entries
 use Rattle.table.proofs.Places as places
 
@@ -36,35 +33,12 @@ place-small = places.place-small
 pub passed-short : (b : List ℕ) → verdict b ≡ Passed → length b ≤ 8192
 passed-short = places.passed-short
 
--- An index: how many places it has, and which are those of the records.
-
-pub index-size : {b : List ℕ} {x : Index} → Indexed b x → length (x .offsets) ≡ 128
-index-size = filling.index-size
-
-pub index-places : {b : List ℕ} {x : Index} → Indexed b x → take (x .count) (x .offsets) ≡ scan b .offsets
-index-places = filling.index-places
-
--- The body of kind k whose own part begins at p: what goes by the kind's form, and what by the kind alone.
-
-pub viewed : (b : List ℕ) (k p : ℕ) → Viewed b p (formOf k) (bodyAt b k p)
-viewed = fields.viewed
-
-pub choice-by : (b : List ℕ) (k p : ℕ) → isChoice (bodyAt b k p) ≡ choiceBy (formOf k)
-choice-by = fields.choice-by
-
-pub choice-of : (b : List ℕ) (k p : ℕ) → isChoice (bodyAt b k p) ≡ choiceOf k
-choice-of = fields.choice-of
-
-pub universal-of : (b : List ℕ) (k p : ℕ) → universal (bodyAt b k p) ≡ universalOf k
-universal-of = fields.universal-of
+-- The body of kind k whose own part begins at p: the constructed bit goes by the kind alone.
 
 pub constructed-of : (b : List ℕ) (k p : ℕ) → constructed (bodyAt b k p) ≡ constructedOf k
 constructed-of = fields.constructed-of
 
--- A shaped record: how many tags it has, their classes, and its body.
-
-pub shaped-few : (r : Record) → recordShaped r ≡ true → length (r .tags) ≤ 4
-shaped-few r e = reading.limits r e .few
+-- A shaped record: the classes of its tags, and its body.
 
 pub shaped-classes : (r : Record) → recordShaped r ≡ true → all (λ g. leb (g .class) 3) (r .tags) ≡ true
 shaped-classes r e = reading.limits r e .classed
@@ -76,9 +50,6 @@ shaped-body r e = reading.limits r e .shaped
 
 pub length-members : (b : List ℕ) (p n : ℕ) → length (membersAt b p n) ≡ n
 length-members = pieces.length-members
-
-pub every-step : (b : List ℕ) (p n : ℕ) → 0 < n → (step : ℕ) → everyAt step b p n ≡ getD b p 0 ∷ everyAt step b (p + step) (n - 1)
-every-step = loops.every-step
 
 module _ (f : ℕ → Bool) (step : ℕ) (b : List ℕ) (p n : ℕ) (w : Bool) where
   pub all-stops : all f (everyAt step b p n) ≡ w → 0 < n → f (getD b p 0) ≡ false → false ≡ w
@@ -99,21 +70,11 @@ module _ {b : List ℕ} {e : Entry} {r : Record} (x : Entered b e r) where
   pub kind-choice : eqb (e .kind) 50 ≡ isChoice (r .body)
   kind-choice = entries.kind-choice x
 
-  pub kind-members : (eqb (e .kind) 16 || eqb (e .kind) 17) ≡ hasMembers (r .body)
-  kind-members = entries.kind-members x
-
-  pub kind-list : (eqb (e .kind) 48 || eqb (e .kind) 49) ≡ isList (r .body)
-  kind-list = entries.kind-list x
-
   pub entered-span : let s = spanOf b (e .kind) (e .own) in everyAt (s .step) b (s .first) (s .count) ≡ references (r .body)
   entered-span = entries.entered-span x
 
   pub part-inside : let s = spanOf b (e .kind) (e .own) in (j : ℕ) → j < s .count → s .first + s .step * j < length b
   part-inside = entries.part-inside x
-
-  pub member-inside : hasMembers (r .body) ≡ true
-      → let s = spanOf b (e .kind) (e .own) in (j : ℕ) → j < s .count → s .first + s .step * j + 1 < length b
-  member-inside = entries.member-inside x
 
   pub entered-members : (ms : List Member) → (r .body ≡ Sequence ms) ⊎ (r .body ≡ Set ms) → WithMembers b e ms
   entered-members = entries.entered-members x

@@ -1,7 +1,8 @@
 -- The ways through the code that judges circles and shared first tags.
 -- Assumes nothing.
 use mathlib.Core.Bool.{Bool, true, false, not, true≢false, false≢true}
-use mathlib.Core.List.{List, [], _∷_, _++_, append-assoc, append-nil, List·Memᴰ as In, List·Memᴰ·head as first-of, List·Memᴰ·tail as later, List·Memᴰ·not-nil as not-in-nil, List·Memᴰ·eq-of-singleton as in-one, Memᴰ·append-right as in-right}
+use mathlib.Core.List.{List, [], _∷_, _++_, append-assoc, append-nil, List·Memᴰ as In, List·Memᴰ·head as first-of, List·Memᴰ·tail as later}
+use mathlib.Core.List.{List·Memᴰ·not-nil as not-in-nil, List·Memᴰ·eq-of-singleton as in-one, Memᴰ·append-right as in-right}
 use mathlib.Core.Logic.{_⊎_, inl, inr, ⊎-elim}
 use mathlib.Core.Path.{_≡_, refl, sym, ap, _∙_}
 use Prim.Native.Nat.{ℕ, zero, suc, _+_, _-_, _≤_, _<_}

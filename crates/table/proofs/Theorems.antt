@@ -7,7 +7,7 @@ use mathlib.Core.Path.{_≡_, refl, sym, subst, _∙_}
 use Prim.Native.Nat.{ℕ, _≤_, _<_}
 use native.Mathlib.Omega.{arith}
 use lib.Dec.{ltb}
-use lib.ListN.{length, take}
+use lib.ListN.{length}
 use borrow.Author.Tests.{ltb-true, ltb-false}
 use Rattle.octets.proofs.Tests.{test}
 use Rattle.octets.specs.Numbers.{Octets}
@@ -20,15 +20,12 @@ use Rattle.table.specs.Octets.{Spells, Misshapen}
 use Rattle.table.specs.Reading.{scan, look}
 use Rattle.table.specs.Cause.{Breaks, FirstCause}
 use Rattle.table.specs.Verdict.{verdict}
-use Rattle.table.specs.Index.{CheckedTable}
 use Rattle.table.specs.Passes.{Passes}
-use Rattle.table.specs.declared.Checked.{Checked}
 use Rattle.table.specs.declared.Verdict.{Verdict}
 use Rattle.table.specs.declared.Verdict.the-variants.{Passed, Refused}
 use Rattle.table.proofs.Scan.{scan-spells}
 use Rattle.table.proofs.Spelled.{unique, spells-scan, spells-not-misshapen, misshapen-unique}
 use Rattle.table.proofs.Causes.{stage, Right, looks, right, sound, keeps}
-use Rattle.table.proofs.Filling.{index-places}
 
 -- Octets are those of one list of records at most.
 pub records-unique : {b : List ℕ} {rs rs′ : List Record} → Spells b rs → Spells b rs′ → rs ≡ rs′
@@ -106,11 +103,3 @@ module _ (b : List ℕ) (o : Octets b) where
   -- Of what is read of it, all that the crates above rely on.
   pub passes : verdict b ≡ Passed → Passes b (look b (scan b .offsets)) (length (scan b .offsets))
   passes e = let (rs, x, l, n) = passed-records e in rw (l, n) (rules-kept x (passed-none e))
-
-  -- What a check that passes answers: an index through which the octets read as such a table.
-  pub checked-passes : (c : Checked) → CheckedTable b c → c .verdict ≡ Passed
-      → Passes b (look b (take (c .index .count) (c .index .offsets))) (c .index .count)
-  checked-passes c x e =
-      let p = passes (sym (x .is) ∙ e) in
-      let i = x .index (p .short) in
-      rw (index-places i, i .count) p

@@ -10,9 +10,7 @@ use lib.ListN.{length}
 use Rattle.octets.specs.declared.cause.Cause.the-variants.{TableShape}
 use Rattle.table.specs.Reading.{scan}
 use Rattle.table.specs.Verdict.{judge, verdict}
-use Rattle.table.specs.Index.{Indexed, noIndex, CheckedTable}
 use Rattle.table.specs.Entries.{tableIn, countIn, Filled}
-use Rattle.table.specs.declared.index.Index.{Index}
 use Rattle.table.specs.declared.Verdict.{Verdict}
 use Rattle.table.specs.declared.Verdict.the-variants.{Refused}
 
@@ -42,10 +40,3 @@ module _ (b : List ℕ) where
 
     pub into-judged : (v : Verdict) → true ≡ scan b .whole → v ≡ judge (tableIn b) n → Into before after v n
     into-judged v w e = (e ∙ rw (f .count) (verdict-judged h w), λ _. f, λ l. absurd (omega arith))
-
-  -- with the index of places
-  pub checked-long : 8192 < length b → CheckedTable b (record { verdict = Refused TableShape 0; index = noIndex })
-  checked-long h = record { is = verdict-long h; index = λ l. absurd (omega arith); over-long = λ _. refl }
-
-  pub checked-indexed : (x : Index) (v : Verdict) → length b ≤ 8192 → Indexed b x → v ≡ verdict b → CheckedTable b (record { verdict = v; index = x })
-  checked-indexed x v h i e = record { is = e; index = λ _. i; over-long = λ l. absurd (omega arith) }

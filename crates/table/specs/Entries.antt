@@ -70,7 +70,7 @@ tagPlace e j = e .own - 3 * (tagCount e - j)
 abbrev pub counted : List ℕ → ℕ → ℕ → Span
 counted b p step = record { first = p + 1; count = getD b p 0; step = step }
 
--- whether a body has members, or elements of one type
+-- whether a body has members
 unfoldable pub hasMembers : Body → Bool
 hasMembers (Plain k) = false
 hasMembers (Sequence ms) = true
@@ -78,14 +78,6 @@ hasMembers (Set ms) = true
 hasMembers (SequenceOf t) = false
 hasMembers (SetOf t) = false
 hasMembers (Choice ts) = false
-
-unfoldable pub isList : Body → Bool
-isList (Plain k) = false
-isList (Sequence ms) = false
-isList (Set ms) = false
-isList (SequenceOf t) = true
-isList (SetOf t) = true
-isList (Choice ts) = false
 
 -- members, alternatives, or the one type of elements, of kind k whose own part is at p
 unfoldable pub spanOf : List ℕ → ℕ → ℕ → Span

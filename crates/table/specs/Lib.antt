@@ -10,6 +10,5 @@ pub mod Cause
 pub mod Passes
 pub mod Fields
 pub mod Entries
-pub mod Index
 pub mod Walk
 pub mod Marks

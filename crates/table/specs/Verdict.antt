@@ -1,6 +1,6 @@
 -- The verdict on a table's octets, as it is computed (FORMATS, "Order of refusals"). That it names the first cause is proved in `proofs/`.
 -- Assumes nothing.
-use mathlib.Core.Bool.{Bool, false, not}
+use mathlib.Core.Bool.{Bool, not}
 use mathlib.Core.List.{List, [], _∷_}
 use Prim.Native.Nat.{ℕ}
 use lib.Dec.{ltb}

@@ -2,7 +2,7 @@
 // (FORMATS, "Tables"). Every function is total.
 ghost use mathlib.Core.Path.{_≡_};
 ghost use mathlib.Core.Bool.{true, false, not, _&&_, _||_};
-ghost use Prim.Native.Nat.{_<_, _≤_, _+_, _-_, _*_};
+ghost use Prim.Native.Nat.{_<_, _+_, _-_, _*_};
 ghost use lib.Dec.{eqb, leb, ltb};
 ghost use lib.ListN.{length, getD};
 ghost use Rattle.octets.specs.Numbers.{two};
@@ -104,7 +104,11 @@ pub fn tag_place(e: Entry, j: usize) -> usize
 
 // The code of its j-th tag; the explicit ones are constructed, the last one as its kind is.
 pub fn tag_code(table: &[u8], e: Entry, j: usize) -> u32
-    ensures { λ r. ⌜ (let p = tagPlace e j in let b = now (table .entry) in r ≡ code (getD b p 0) (ltb j (e .explicit) || not (e .simple)) (two b (p + 1))) ⌝ }
+    ensures { λ r. ⌜
+        (let p = tagPlace e j in
+        let b = now (table .entry) in
+        r ≡ code (getD b p 0) (ltb j (e .explicit) || not (e .simple)) (two b (p + 1)))
+        ⌝ }
 {
     let p = tag_place(e, j);
     let class = octet(table, p);
@@ -182,7 +186,11 @@ pub fn optional(table: &[u8], p: usize) -> bool
 
 // Whether an ENUMERATED whose numbers are all there lists a number.
 pub fn lists(table: &[u8], e: Entry, z: i64) -> bool
-    ensures { λ r. ⌜ (let b = now (table .entry) in let n = getD b (e .own) 0 in r ≡ (leb (e .own + 1 + 2 * n) (length b) && listsNumber (numbersAt b (e .own + 1) n) z)) ⌝ }
+    ensures { λ r. ⌜
+        (let b = now (table .entry) in
+        let n = getD b (e .own) 0 in
+        r ≡ (leb (e .own + 1 + 2 * n) (length b) && listsNumber (numbersAt b (e .own + 1) n) z))
+        ⌝ }
 {
     if z < 0 {
         return false;

@@ -1,11 +1,9 @@
-// Where the records of a table begin (FORMATS, "Tables").
-ghost use Prim.Native.Nat.{_≤_};
+// The index of a table: an entry for each of its records (FORMATS, "Tables").
+ghost use Prim.Native.Nat.{_≤_, _<_};
 ghost use lib.ListN.{length};
-ghost use Prim.Native.Nat.{_<_};
 ghost use mathlib.Core.Path.{_≡_};
 ghost use lib.Dec.{eqb};
 ghost use Rattle.octets.specs.Tests.{if};
-ghost use Rattle.table.specs.Index.{Indexed};
 ghost use Rattle.table.specs.Reading.{recordEnd, recordAt, scan};
 ghost use Rattle.table.specs.Entries.{unpacked, outermostIn, allButLast, Entered, Filled};
 use crate::entry::LACKING;
@@ -17,47 +15,6 @@ use crate::shape::record_end;
 use ber::identifier::code_of;
 use octets::number;
 use octets::octet;
-
-// The places of the first `count` records, and 0 behind them. Whole if nothing is left behind the last record.
-pub struct Index {
-    pub offsets: [u16; 128],
-    pub count: usize,
-    pub whole: bool,
-}
-
-pub(crate) fn build(table: &[u8]) -> Index
-    requires { ⌜ length (now table) ≤ 8192 ⌝ }
-    ensures { λ r. ⌜ Indexed (now (table .entry)) r ⌝ }
-{
-    let mut offsets = [0u16; 128];
-    let mut n: usize = 0;
-    let mut at: usize = 0;
-    while n < 128 {
-        let end = record_end(table, at);
-        if end == 0 {
-            return Index {
-                offsets,
-                count: n,
-                whole: false,
-            };
-        }
-        offsets[n] = at as u16;
-        n += 1;
-        if end == table.len() {
-            return Index {
-                offsets,
-                count: n,
-                whole: true,
-            };
-        }
-        at = end;
-    }
-    Index {
-        offsets,
-        count: n,
-        whole: false,
-    }
-}
 
 // How many records were indexed. Whole if nothing is left behind them.
 pub struct Count {

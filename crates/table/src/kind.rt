@@ -2,7 +2,7 @@
 ghost use mathlib.Core.Path.{_≡_};
 ghost use mathlib.Core.Bool.{_||_};
 ghost use lib.Dec.{eqb};
-ghost use Rattle.table.specs.Fields.{formOf, universalOf, constructedOf};
+ghost use Rattle.table.specs.Fields.{universalOf, constructedOf};
 
 pub const BOOLEAN: u8 = 1;
 
@@ -132,48 +132,4 @@ pub fn constructed(kind: usize) -> bool
         return IDENTIFIER[kind] / 32 == 1;
     }
     true
-}
-
-// How the own part of a kind is made.
-pub enum Form {
-    Simple,
-    Members,
-    Of,
-    Choice,
-}
-
-pub fn form_of(kind: usize) -> Form
-    ensures { λ r. ⌜ r ≡ formOf kind ⌝ }
-{
-    if kind == 1 {
-        return Form::Simple;
-    }
-    if kind == 2 {
-        return Form::Simple;
-    }
-    if kind == 3 {
-        return Form::Simple;
-    }
-    if kind == 4 {
-        return Form::Simple;
-    }
-    if kind == 5 {
-        return Form::Simple;
-    }
-    if kind == 10 {
-        return Form::Simple;
-    }
-    if kind == 16 {
-        return Form::Members;
-    }
-    if kind == 17 {
-        return Form::Members;
-    }
-    if kind == 48 {
-        return Form::Of;
-    }
-    if kind == 49 {
-        return Form::Of;
-    }
-    Form::Choice
 }

@@ -60,13 +60,13 @@ lists-spec =
     listed-in (a .args .table .now) (a .args .e .own) _ (c .before .before .before .before .before .before .before .octet .ensures .0) (a .args .z) _
     (c .before .before .before .before .before .before .holds .ensures) (c .before .before .before .before .before .if2 .left) (a .fits .z)
     (c .before .before .before .before .before .before .before .before .before .if1 .left) _
-    (listed-stops _ _ _ _ _ (c .before .before .before .before .loop .inv .1) (c .before .before .before .loop-test .taken) (c .if3 .taken)))  -- returns-3
+    (listed-stops _ _ _ _ _ (c .before .before .before .before .loop .inv .1) (omega arith) (c .if3 .taken)))  -- returns-3
     (λ c. omega arith)  -- add-at-2
     (λ c. omega arith)  -- sub-left
     (λ c. omega arith)  -- loop-less
     (λ c. (
       omega arith,
-      listed-goes _ _ _ _ _ (c .before .before .before .before .loop .inv .1) (c .before .before .before .loop-test .taken)
+      listed-goes _ _ _ _ _ (c .before .before .before .before .loop .inv .1) (omega arith)
           (c .if3 .left),
     ))  -- loop-again
     (λ c.

@@ -26,4 +26,10 @@ tag-code-spec =
     let e : c .before .if1 .constructed ≡ (ltb (a .j) (a .e .explicit) || not (a .e .simple)) =
     ⊎-elim (λ w. w .1 ∙ rw (lt-ltb (a .j) (a .e .explicit) (w .0 .taken))) (λ w. w .2 ∙ rw (le-ltb (a .j) (a .e .explicit) (w .0 .left)))
     (c .before .if1 .came) in
-    rw (c .code-of .ensures .0, c .before .before .before .before .octet .ensures .0, c .before .before .before .number .ensures .0, c .before .before .before .before .before .tag-place .ensures .0, e)))  -- returns
+    rw (
+      c .code-of .ensures .0,
+      c .before .before .before .before .octet .ensures .0,
+      c .before .before .before .number .ensures .0,
+      c .before .before .before .before .before .tag-place .ensures .0,
+      e,
+    )))  -- returns

@@ -29,8 +29,14 @@ lowest-spec =
     (λ c. omega (arith, c .before .before .before .pre .few))  -- element-copy-out-unpack
     (λ c κs. search needs)  -- unpack-requires
     (λ c κs. search needs)  -- names-beyond-requires
-    (λ c. rest-here _ _ _ (c .before .before .before .before .before .loop .inv) (c .before .before .before .before .loop-test .taken) (sym (c .before .names-beyond .ensures _ (entry-at (c .before .before .before .before .before .before .before .pre) _ (c .before .before .before .before .loop-test .taken) (c .before .before .unpack .ensures))) ∙ c .if1 .taken))  -- returns
+    (λ c.
+    let s = c .before .before .before .before in
+    let x = entry-at (s .before .before .before .pre) _ (s .loop-test .taken) (c .before .before .unpack .ensures) in
+    rest-here _ _ _ (s .before .loop .inv) (s .loop-test .taken) (sym (c .before .names-beyond .ensures _ x) ∙ c .if1 .taken))  -- returns
     (λ c. search needs)  -- add-t
     (λ c. omega arith)  -- loop-less
-    (λ c. rest-next _ _ _ (c .before .before .before .before .before .loop .inv) (c .before .before .before .before .loop-test .taken) (sym (c .before .names-beyond .ensures _ (entry-at (c .before .before .before .before .before .before .before .pre) _ (c .before .before .before .before .loop-test .taken) (c .before .before .unpack .ensures))) ∙ c .if1 .left))  -- loop-again
+    (λ c.
+    let s = c .before .before .before .before in
+    let x = entry-at (s .before .before .before .pre) _ (s .loop-test .taken) (c .before .before .unpack .ensures) in
+    rest-next _ _ _ (s .before .loop .inv) (s .loop-test .taken) (sym (c .before .names-beyond .ensures _ x) ∙ c .if1 .left))  -- loop-again
     (λ c. rest-none _ _ _ (c .before .loop .inv) (c .loop-test .left)))  -- returns-2

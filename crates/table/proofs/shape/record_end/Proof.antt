@@ -21,15 +21,37 @@ record-end-spec =
     (λ c. rw (← c .before .before .before .octet .ensures .0, ← c .before .octet2 .ensures .0) (search tests))  -- returns-3
     (λ c. search needs)  -- add-octet-2
     (λ c κs. search needs)  -- octet-requires-3
-    (λ c. rw (← c .before .before .before .before .before .octet .ensures .0, ← c .before .before .before .octet2 .ensures .0, ← c .before .octet3 .ensures .0) (search tests))  -- returns-4
+    (λ c. rw (
+      ← c .before .before .before .before .before .octet .ensures .0,
+      ← c .before .before .before .octet2 .ensures .0,
+      ← c .before .octet3 .ensures .0,
+    ) (search tests))  -- returns-4
     (λ c. search needs)  -- add-own
     (λ c. search needs)  -- mul-own
     (λ c. search needs)  -- add-own-2
-    (λ c. rw (← c .before .before .before .before .before .before .octet .ensures .0, ← c .before .before .before .before .octet2 .ensures .0, ← c .before .before .octet3 .ensures .0) (search tests))  -- returns-5
+    (λ c. rw (
+      ← c .before .before .before .before .before .before .octet .ensures .0,
+      ← c .before .before .before .before .octet2 .ensures .0,
+      ← c .before .before .octet3 .ensures .0,
+    ) (search tests))  -- returns-5
     (λ c. search needs)  -- add-each-at-most
     (λ c κs. omega arith)  -- each-at-most-requires
-    (λ c. rw (← c .before .before .before .before .before .before .before .before .octet .ensures .0, ← c .before .before .before .before .before .before .octet2 .ensures .0, ← c .before .before .before .before .octet3 .ensures .0, ← c .before .each-at-most .ensures, c .if6 .taken) (search tests))  -- returns-6
+    (λ c. rw (
+      ← c .before .before .before .before .before .before .before .before .octet .ensures .0,
+      ← c .before .before .before .before .before .before .octet2 .ensures .0,
+      ← c .before .before .before .before .octet3 .ensures .0,
+      ← c .before .each-at-most .ensures,
+      c .if6 .taken,
+    ) (search tests))  -- returns-6
     (λ c. search needs)  -- add-octet-3
     (λ c κs. search needs)  -- octet-requires-4
     (λ c κs. omega arith)  -- own-end-requires
-    (λ c. rw (← c .before .before .before .before .before .before .before .before .before .before .octet .ensures .0, ← c .before .before .before .before .before .before .before .before .octet2 .ensures .0, ← c .before .before .before .before .before .before .octet3 .ensures .0, ← c .before .before .before .each-at-most .ensures, c .before .before .if6 .left, ← c .before .octet4 .ensures .0, ← c .own-end .ensures) (search tests)))  -- returns-7
+    (λ c. rw (
+      ← c .before .before .before .before .before .before .before .before .before .before .octet .ensures .0,
+      ← c .before .before .before .before .before .before .before .before .octet2 .ensures .0,
+      ← c .before .before .before .before .before .before .octet3 .ensures .0,
+      ← c .before .before .before .each-at-most .ensures,
+      c .before .before .if6 .left,
+      ← c .before .octet4 .ensures .0,
+      ← c .own-end .ensures,
+    ) (search tests)))  -- returns-7

@@ -30,5 +30,7 @@ rises-spec =
     (λ c. omega arith)  -- add-at
     (λ c. omega arith)  -- sub-left
     (λ c. omega arith)  -- loop-less
-    (λ c. (omega arith, rw (c .before .number .ensures .0) (rising-goes _ _ _ _ _ (c .before .before .before .loop .inv .1) (omega arith) (rw (c .before .number .ensures .0) at (c .if1 .left)))))  -- loop-again
+    (λ c.
+    let e = c .before .number .ensures .0 in
+    (omega arith, rw e (rising-goes _ _ _ _ _ (c .before .before .before .loop .inv .1) (omega arith) (rw e at (c .if1 .left)))))  -- loop-again
     (λ c. rising-ends _ _ _ _ _ (c .before .loop .inv .1) (omega arith)))  -- returns-2

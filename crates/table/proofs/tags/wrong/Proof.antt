@@ -17,7 +17,9 @@ returns-2 : tie.Need-returns-2
 returns-2 c = λ r x. wrong-explicit x (c .before .before .if1 .left) (sym (c .before .explicit-universal .ensures) ∙ c .if2 .taken)
 
 returns-3 : tie.Need-returns-3
-returns-3 c = λ r x. wrong-none x (c .before .before .before .before .if1 .left) (sym (c .before .before .before .explicit-universal .ensures) ∙ c .before .before .if2 .left) (eq-eqb _ _ (c .if3 .taken))
+returns-3 c = λ r x.
+    let s = c .before .before in
+    wrong-none x (s .before .before .if1 .left) (sym (s .before .explicit-universal .ensures) ∙ s .if2 .left) (eq-eqb _ _ (c .if3 .taken))
 
 cast-place : tie.Need-cast-tag-place
 cast-place c = search needs
@@ -29,7 +31,11 @@ own-requires : tie.Need-wrong-own-requires
 own-requires c κs = search needs
 
 returns-4 : tie.Need-returns-4
-returns-4 c = λ r x. rw (c .before .tag-place .ensures .0) at (c .wrong-own .ensures) ∙ wrong-own x (c .before .before .before .before .before .before .before .if1 .left) (sym (c .before .before .before .before .before .before .explicit-universal .ensures) ∙ c .before .before .before .before .before .if2 .left) (ne-eqb _ _ (c .before .before .before .if3 .left))
+returns-4 c = λ r x.
+    rw (c .before .tag-place .ensures .0) at (c .wrong-own .ensures)
+    ∙ wrong-own x (c .before .before .before .before .before .before .before .if1 .left)
+    (sym (c .before .before .before .before .before .before .explicit-universal .ensures) ∙ c .before .before .before .before .before .if2 .left)
+    (ne-eqb _ _ (c .before .before .before .if3 .left))
 
 pub wrong-spec : {M : Type 1} → statement M
 wrong-spec =
