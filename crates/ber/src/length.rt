@@ -126,13 +126,13 @@ pub fn again(m: &[u8], at: usize) -> Extent
 pub fn size(n: u16) -> usize
     ensures { λ r. ⌜ (r ≡ length (lengthOctets n)) × (r < 4) ⌝ }
 {
-    if n < 128 {
-        return 1;
+    if 255 < n {
+        return 3;
     }
-    if n < 256 {
+    if 127 < n {
         return 2;
     }
-    3
+    1
 }
 
 // Puts the length n; where it ends, or the place itself if there is no room.
