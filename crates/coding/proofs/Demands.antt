@@ -26,15 +26,14 @@ use Rattle.coding.specs.Encodes.{Encodes}
 use Rattle.coding.specs.Typed.{WellTyped}
 use Rattle.coding.specs.Shaped.{Shaped}
 use Rattle.coding.specs.Judging.{judgeWhole}
-use Rattle.coding.specs.Causes.{OfValue, OfMessage}
-use Rattle.coding.specs.Outcome.{levels, longestValue, longestMessage, done, refusal, Outcome, refuse}
+use Rattle.coding.specs.Outcome.{levels, longestValue, longestMessage, Refusal, of-table, of-value, of-message, done, refusal, Outcome, refuse}
 use Rattle.coding.specs.Calls.{readOutcome, writeOutcome, wholeRead, wholeWrite, checkAnswer}
 use Rattle.coding.specs.Demands.{Accepted, NoSuchType, OfType, MessageRefused, NoRoomForValue, Read, ValueRefused, NoRoomForMessage, Wrote, Received, Sent}
 use Rattle.coding.proofs.FirstTags.{Good, good}
 use Rattle.coding.proofs.Levels.{retype}
 use Rattle.coding.proofs.Judging.{judge-octets}
 use Rattle.coding.proofs.Shaped.{Limited, limited, encodes-shaped}
-use Rattle.coding.proofs.Outcomes.{Beyond, reading, writing, long-exactly, refused-exactly, lacks-exactly, read-exactly, received, read-beyond, read-unchanged, read-stage, read-never-value, write-stage, write-never-message, judged-exactly, full-exactly, written-exactly, sent, write-beyond, write-unchanged, done≢refusal, message-later, value-number, later-beyond, done-beyond, same-refusal}
+use Rattle.coding.proofs.Outcomes.{Beyond, reading, writing, long-exactly, refused-exactly, lacks-exactly, read-exactly, received, read-beyond, read-unchanged, read-stage, read-never-value, write-stage, write-never-message, judged-exactly, full-exactly, written-exactly, sent, write-beyond, write-unchanged, done≢refusal, message-beyond, value-beyond, done-beyond}
 use Rattle.coding.proofs.Stages.{never, call, call-found, found-exactly, table-exactly, type-exactly, call-unchanged}
 
 -- both outcomes are those of a call: the table is judged, the type is looked for, then it is read or written
@@ -82,11 +81,11 @@ module _ {b : List ℕ} (o : Octets b) where
 
 module _ (b : List ℕ) (o : Octets b) where
   -- check, 1 to 6: the first cause is named
-  pub check-refuses : (c : Cause) (p : ℕ) → (checkAnswer (verdict b) ≡ refusal c p) ↔ FirstCause b c p
+  pub check-refuses : (c : Cause) (p : ℕ) → (checkAnswer (verdict b) ≡ refusal (of-table c p)) ↔ FirstCause b c p
   unfolding checkAnswer
   check-refuses c p = (λ e. by (verdict b) refl e, λ x. ap checkAnswer (first-named b o c p x))
     where
-      by : (v : Verdict) → verdict b ≡ v → checkAnswer v ≡ refusal c p → FirstCause b c p
+      by : (v : Verdict) → verdict b ≡ v → checkAnswer v ≡ refusal (of-table c p) → FirstCause b c p
       by Passed q e = done≢refusal e
       by (Refused d r) q e = let s : (d ≡ c) × (r ≡ p) = (cc, cc) in rw (← s .0, ← s .1) (named-first b o d r q)
 
@@ -101,72 +100,75 @@ module _ (b : List ℕ) (o : Octets b) where
 
   module _ (t : ℕ) (m buf : List ℕ) (o′ : Octets m) where
     -- read, 1 to 6
-    pub read-refuses-table : (c : Cause) (p : ℕ) → causeNumber c < 7 → (wholeRead b t m buf ≡ refuse c p buf) ↔ FirstCause b c p
+    pub read-refuses-table : (c : Cause) (p : ℕ) → (c ≡ NoType → ⊥) → (wholeRead b t m buf ≡ refuse (of-table c p) buf) ↔ FirstCause b c p
     read-refuses-table c p k = along (read-call b t m buf) (table-exactly b t buf (λ T. reading T t m buf) o (λ T. read-beyond T t m buf) c p k)
 
     -- 7
-    pub read-refuses-type : (p : ℕ) → (wholeRead b t m buf ≡ refuse NoType p buf) ↔ (NoSuchType b t × (p ≡ 0))
+    pub read-refuses-type : (p : ℕ) → (wholeRead b t m buf ≡ refuse (of-table NoType p) buf) ↔ (NoSuchType b t × (p ≡ 0))
     read-refuses-type p = along (read-call b t m buf) (type-exactly b t buf (λ T. reading T t m buf) o (λ T. read-beyond T t m buf) p)
 
     -- 21
-    pub read-refuses-length : (p : ℕ) → (wholeRead b t m buf ≡ refuse MessageLength p buf) ↔ OfType b t (λ T. (longestMessage < length m) × (p ≡ 0))
+    pub read-refuses-length : (p : ℕ) → (wholeRead b t m buf ≡ refuse (of-message MessageLength p) buf) ↔ OfType b t (λ T. (longestMessage < length m) × (p ≡ 0))
     read-refuses-length p =
-        read-later o t m buf (refuse MessageLength p buf) (later-beyond MessageLength p buf (omega arith)) λ rs a. long-exactly (table rs) t m buf o′ p
+        read-later o t m buf (refuse (of-message MessageLength p) buf) (message-beyond MessageLength p buf) λ rs a. long-exactly (table rs) t m buf o′ p
 
     -- 22 to 26, 28
-    pub read-refuses-message : (c : Cause) (p : ℕ) → OfMessage c → (wholeRead b t m buf ≡ refuse c p buf) ↔ OfType b t (λ T. MessageRefused T t m c p)
-    read-refuses-message c p i = read-later o t m buf (refuse c p buf) (later-beyond c p buf (message-later i)) λ rs a. refused-exactly (table rs) t m buf o′ c p i
+    pub read-refuses-message : (c : Cause) (p : ℕ) → (c ≡ MessageLength → ⊥) → (c ≡ ValueRoom → ⊥)
+        → (wholeRead b t m buf ≡ refuse (of-message c p) buf) ↔ OfType b t (λ T. MessageRefused T t m c p)
+    read-refuses-message c p i j =
+        read-later o t m buf (refuse (of-message c p) buf) (message-beyond c p buf) λ rs a. refused-exactly (table rs) t m buf o′ c p i j
 
     -- 27
-    pub read-refuses-room : (p : ℕ) → (wholeRead b t m buf ≡ refuse ValueRoom p buf) ↔ OfType b t (λ T. NoRoomForValue T t m buf × (p ≡ 0))
+    pub read-refuses-room : (p : ℕ) → (wholeRead b t m buf ≡ refuse (of-message ValueRoom p) buf) ↔ OfType b t (λ T. NoRoomForValue T t m buf × (p ≡ 0))
     read-refuses-room p =
-        read-later o t m buf (refuse ValueRoom p buf) (later-beyond ValueRoom p buf (omega arith)) λ rs a. lacks-exactly (table rs) t m buf o′ (good-of o a) p
+        read-later o t m buf (refuse (of-message ValueRoom p) buf) (message-beyond ValueRoom p buf) λ rs a. lacks-exactly (table rs) t m buf o′ (good-of o a) p
 
     -- done
     pub read-is-done : (k : ℕ) (after : List ℕ) → (wholeRead b t m buf ≡ record { answer = done k; buffer = after }) ↔ OfType b t (λ T. Read T t m buf k after)
     read-is-done k after = read-later o t m buf (record { answer = done k; buffer = after }) (done-beyond k after) λ rs a. read-exactly (table rs) t m buf o′ (good-of o a) k after
 
     -- 11 to 14, never
-    pub read-refuses-no-value : (c : Cause) (p : ℕ) → 7 < causeNumber c → causeNumber c < 21 → wholeRead b t m buf .answer ≡ refusal c p → ⊥
+    pub read-refuses-no-value : (c : Cause) (p : ℕ) → wholeRead b t m buf .answer ≡ refusal (of-value c p) → ⊥
     unfolding wholeRead readOutcome
-    read-refuses-no-value c p h k =
-        never b t buf (λ T. reading T t m buf) o (refusal c p) (later-beyond c p buf h) (λ T e. read-never-value T t m buf c p k (read-stage T t m buf o′) e)
+    read-refuses-no-value c p =
+        never b t buf (λ T. reading T t m buf) o (refusal (of-value c p)) (value-beyond c p buf) (λ T e. read-never-value T t m buf c p (read-stage T t m buf o′) e)
 
   module _ (t : ℕ) (v buf : List ℕ) (o′ : Octets v) where
     -- write, 1 to 6
-    pub write-refuses-table : (c : Cause) (p : ℕ) → causeNumber c < 7 → (wholeWrite b t v buf ≡ refuse c p buf) ↔ FirstCause b c p
-    write-refuses-table c p k = along (write-call b t v buf) (table-exactly b t buf (λ T. writing T t v buf) o (λ T. write-beyond T t v buf o′) c p k)
+    pub write-refuses-table : (c : Cause) (p : ℕ) → (c ≡ NoType → ⊥) → (wholeWrite b t v buf ≡ refuse (of-table c p) buf) ↔ FirstCause b c p
+    write-refuses-table c p k = along (write-call b t v buf) (table-exactly b t buf (λ T. writing T t v buf) o (λ T. write-beyond T t v buf) c p k)
 
     -- 7
-    pub write-refuses-type : (p : ℕ) → (wholeWrite b t v buf ≡ refuse NoType p buf) ↔ (NoSuchType b t × (p ≡ 0))
-    write-refuses-type p = along (write-call b t v buf) (type-exactly b t buf (λ T. writing T t v buf) o (λ T. write-beyond T t v buf o′) p)
+    pub write-refuses-type : (p : ℕ) → (wholeWrite b t v buf ≡ refuse (of-table NoType p) buf) ↔ (NoSuchType b t × (p ≡ 0))
+    write-refuses-type p = along (write-call b t v buf) (type-exactly b t buf (λ T. writing T t v buf) o (λ T. write-beyond T t v buf) p)
 
     -- 11 to 13
-    pub write-refuses-value : (c : Cause) (p : ℕ) → OfValue c → (wholeWrite b t v buf ≡ refuse c p buf) ↔ OfType b t (λ T. ValueRefused T t v c p)
-    write-refuses-value c p i = write-later o t v buf (refuse c p buf) (later-beyond c p buf (value-number i .0)) λ rs a. judged-exactly (table rs) t v buf o′ c p i
+    pub write-refuses-value : (c : Cause) (p : ℕ) → (c ≡ MessageRoom → ⊥)
+        → (wholeWrite b t v buf ≡ refuse (of-value c p) buf) ↔ OfType b t (λ T. ValueRefused T t v c p)
+    write-refuses-value c p i = write-later o t v buf (refuse (of-value c p) buf) (value-beyond c p buf) λ rs a. judged-exactly (table rs) t v buf o′ c p i
 
     -- 14
-    pub write-refuses-room : (p : ℕ) → (wholeWrite b t v buf ≡ refuse MessageRoom p buf) ↔ OfType b t (λ T. NoRoomForMessage T t v buf × (p ≡ 0))
+    pub write-refuses-room : (p : ℕ) → (wholeWrite b t v buf ≡ refuse (of-value MessageRoom p) buf) ↔ OfType b t (λ T. NoRoomForMessage T t v buf × (p ≡ 0))
     write-refuses-room p =
-        write-later o t v buf (refuse MessageRoom p buf) (later-beyond MessageRoom p buf (omega arith)) λ rs a. full-exactly (table rs) t v buf o′ p
+        write-later o t v buf (refuse (of-value MessageRoom p) buf) (value-beyond MessageRoom p buf) λ rs a. full-exactly (table rs) t v buf o′ p
 
     -- done
     pub write-is-done : (k : ℕ) (after : List ℕ) → (wholeWrite b t v buf ≡ record { answer = done k; buffer = after }) ↔ OfType b t (λ T. Wrote T t v buf k after)
     write-is-done k after = write-later o t v buf (record { answer = done k; buffer = after }) (done-beyond k after) λ rs a. written-exactly (table rs) t v buf o′ k after
 
     -- 21 to 28, never
-    pub write-refuses-no-message : (c : Cause) (p : ℕ) → 14 < causeNumber c → wholeWrite b t v buf .answer ≡ refusal c p → ⊥
+    pub write-refuses-no-message : (c : Cause) (p : ℕ) → wholeWrite b t v buf .answer ≡ refusal (of-message c p) → ⊥
     unfolding wholeWrite writeOutcome
-    write-refuses-no-message c p k =
-        never b t buf (λ T. writing T t v buf) o (refusal c p) (later-beyond c p buf (omega arith)) (λ T e. write-never-message T t v buf c p k (write-stage T t v buf o′) e)
+    write-refuses-no-message c p =
+        never b t buf (λ T. writing T t v buf) o (refusal (of-message c p)) (message-beyond c p buf) (λ T e. write-never-message T t v buf c p (write-stage T t v buf o′) e)
 
 -- a refusal leaves the buffer as it was
 
-pub read-leaves : (b : List ℕ) (t : ℕ) (m buf : List ℕ) (c : Cause) (p : ℕ) → wholeRead b t m buf .answer ≡ refusal c p → wholeRead b t m buf .buffer ≡ buf
+pub read-leaves : (b : List ℕ) (t : ℕ) (m buf : List ℕ) (r : Refusal) → wholeRead b t m buf .answer ≡ refusal r → wholeRead b t m buf .buffer ≡ buf
 unfolding wholeRead readOutcome
 read-leaves b t m buf = call-unchanged b t buf (λ T. reading T t m buf) (λ T. read-unchanged T t m buf)
 
-pub write-leaves : (b : List ℕ) (t : ℕ) (v buf : List ℕ) (c : Cause) (p : ℕ) → wholeWrite b t v buf .answer ≡ refusal c p → wholeWrite b t v buf .buffer ≡ buf
+pub write-leaves : (b : List ℕ) (t : ℕ) (v buf : List ℕ) (r : Refusal) → wholeWrite b t v buf .answer ≡ refusal r → wholeWrite b t v buf .buffer ≡ buf
 unfolding wholeWrite writeOutcome
 write-leaves b t v buf = call-unchanged b t buf (λ T. writing T t v buf) (λ T. write-unchanged T t v buf)
 

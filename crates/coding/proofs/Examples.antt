@@ -6,7 +6,6 @@ use mathlib.Core.List.{List, [], _∷_, _++_}
 use mathlib.Core.Path.{_≡_, refl}
 use Prim.Native.Nat.{ℕ, suc}
 use lib.ListN.{length, drop, replicate}
-use Rattle.octets.specs.Causes.{causeNumber}
 use Rattle.octets.specs.Answer.{if, then, behind, none-left}
 use Rattle.octets.specs.Lists.{any, all, joined, tabulate, lowestFrom, same}
 use Rattle.ber.specs.Identifier.{leading, following, identifier}
@@ -30,7 +29,7 @@ use Rattle.coding.specs.Judging.{need, flags, ownMembers, ownCount, ownB
 use Rattle.coding.specs.Awaited.{beginsBody, beginsItem, beginsIn, begins}
 use Rattle.coding.specs.Reading.{isListed, decode, passes, begun, notAwaited, nothing, full, unwanted, readWrapped, readSequence, place, readSet, readMany, choose, readBody, readKind, readValue, readMessage}
 use Rattle.coding.specs.Calls.{afterReading, readOutcome, afterJudging, writeOutcome, afterCheck, wholeWrite, wholeRead, checkAnswer}
-use Rattle.coding.specs.Outcome.{Outcome, Told, done, refusal}
+use Rattle.coding.specs.Outcome.{Outcome, Told, done, refusal, numberOf, placeOf}
 
 -- at most 64 octets as one hexadecimal number; the first is not 00
 abbrev hex : ℕ → List ℕ
@@ -86,7 +85,7 @@ said (Said.no n p) buf = 1 ∷ n ∷ p ∷ buf
 
 abbrev told : Told → List ℕ → List ℕ
 told (done n) buf = 0 ∷ n ∷ buf
-told (refusal c p) buf = 1 ∷ causeNumber c ∷ p ∷ buf
+told (refusal r) buf = 1 ∷ numberOf r ∷ placeOf r ∷ buf
 
 abbrev agree : Outcome → Said → List ℕ → Bool
 agree o x buf = same (told (o .answer) (o .buffer)) (said x buf)

@@ -25,9 +25,8 @@ use Rattle.coding.specs.Shaped.{Shaped}
 use Rattle.coding.specs.Form.{formAt}
 use Rattle.coding.specs.Judging.{judgeWhole}
 use Rattle.coding.specs.Reading.{readMessage}
-use Rattle.coding.specs.Causes.{OfMessage, is-22, is-23, is-24, is-25, is-26, is-28, OfValue, is-11, is-12, is-13}
 use Rattle.coding.specs.Calls.{afterReading, afterJudging}
-use Rattle.coding.specs.Outcome.{levels, longestValue, longestMessage, Told, done, refusal, Outcome, refuse, write-at-start}
+use Rattle.coding.specs.Outcome.{levels, longestValue, longestMessage, Refusal, of-table, of-value, of-message, Told, done, refusal, Outcome, refuse, write-at-start}
 use Rattle.coding.specs.Demands.{MessageRefused, NoRoomForValue, Read, ValueRefused, over-long, as-judged, NoRoomForMessage, Wrote, Received, Sent}
 use Rattle.coding.proofs.FirstTags.{Good}
 use Rattle.coding.proofs.Levels.{relevel, retype, deep}
@@ -35,41 +34,48 @@ use Rattle.coding.proofs.Form.{form-encodes}
 use Rattle.coding.proofs.Judging.{judge-whole, judge-octets}
 use Rattle.coding.proofs.Shaped.{Limited, encodes-shaped}
 use Rattle.coding.proofs.Equivalence.{equivalent-length}
-use Rattle.coding.proofs.Refusals.{Says, Speaks, names, message-says, whole-says}
+use Rattle.coding.proofs.Refusals.{OfMessage, is-22, is-23, is-24, is-25, is-26, is-28, OfValue, is-11, is-12, is-13, Says, Speaks, names, message-says, whole-says}
 use Rattle.coding.proofs.Messages.{sound, message-complete, accepts-as-given}
-
--- What an outcome tells as a number: 0 for done, else that of the refusal. Outcomes with different numbers differ.
-
-abbrev numberTold : Told → ℕ
-numberTold (done k) = 0
-numberTold (refusal c p) = causeNumber c
-
-pub same-number : {x y : Outcome} → x ≡ y → numberTold (x .answer) ≡ numberTold (y .answer)
-same-number e = ap (λ (o : Outcome). numberTold (o .answer)) e
 
 -- the outcome is no refusal of the table or the type
 abbrev pub Beyond : Outcome → Type 0
-Beyond x = (c : Cause) (p : ℕ) → causeNumber c < 8 → x .answer ≡ refusal c p → ⊥
+Beyond x = (c : Cause) (p : ℕ) → x .answer ≡ refusal (of-table c p) → ⊥
 
 -- where an outcome refuses, the buffer is as it was
 abbrev pub Unchanged : List ℕ → Outcome → Type 0
-Unchanged buf x = (c : Cause) (p : ℕ) → x .answer ≡ refusal c p → x .buffer ≡ buf
+Unchanged buf x = (r : Refusal) → x .answer ≡ refusal r → x .buffer ≡ buf
+
+-- the stage of an answer: done, of the table, of the value, of the message
+abbrev stageOf : Told → ℕ
+stageOf (done k) = 0
+stageOf (refusal (of-table c p)) = 1
+stageOf (refusal (of-value c p)) = 2
+stageOf (refusal (of-message c p)) = 3
+
+pub message-beyond : (c : Cause) (p : ℕ) (buf : List ℕ) → Beyond (refuse (of-message c p) buf)
+message-beyond c p buf d q e = let h : _≡_ {A = ℕ} 3 1 = ap stageOf e in omega arith
+
+pub value-beyond : (c : Cause) (p : ℕ) (buf : List ℕ) → Beyond (refuse (of-value c p) buf)
+value-beyond c p buf d q e = let h : _≡_ {A = ℕ} 2 1 = ap stageOf e in omega arith
+
+pub done-beyond : (k : ℕ) (after : List ℕ) → Beyond (record { answer = done k; buffer = after })
+done-beyond k after c p e = let h : _≡_ {A = ℕ} 0 1 = ap stageOf e in omega arith
 
 abbrev isRefusal : Told → ℕ
 isRefusal (done k) = 0
-isRefusal (refusal c p) = 1
+isRefusal (refusal r) = 1
 
-pub done≢refusal : {C : Type 0} {c : Cause} {k p : ℕ} → done k ≡ refusal c p → C
+pub done≢refusal : {C : Type 0} {r : Refusal} {k : ℕ} → done k ≡ refusal r → C
 done≢refusal e = let h : _≡_ {A = ℕ} 0 1 = ap isRefusal e in absurd (omega arith)
 
-pub later-beyond : (c : Cause) (p : ℕ) (buf : List ℕ) → 7 < causeNumber c → Beyond (refuse c p buf)
-later-beyond c p buf h d q k e = let z : causeNumber c ≡ causeNumber d = ap numberTold e in omega arith
+answers : {x y : Outcome} → x ≡ y → x .answer ≡ y .answer
+answers e = ap (λ (o : Outcome). o .answer) e
 
-pub done-beyond : (k : ℕ) (after : List ℕ) → Beyond (record { answer = done k; buffer = after })
-done-beyond k after c p h e = done≢refusal e
+same-message : {c d : Cause} {p q : ℕ} {b w : List ℕ} → refuse (of-message c p) b ≡ refuse (of-message d q) w → (c ≡ d) × (p ≡ q)
+same-message {c} {d} {p} {q} e = let z : refusal (of-message c p) ≡ refusal (of-message d q) = answers e in (cc, cc)
 
-pub same-refusal : {c d : Cause} {p q : ℕ} {b w : List ℕ} → refuse c p b ≡ refuse d q w → (c ≡ d) × (p ≡ q)
-same-refusal {c} {d} {p} {q} e = let z : refusal c p ≡ refusal d q = ap (λ (o : Outcome). o .answer) e in (cc, cc)
+same-value : {c d : Cause} {p q : ℕ} {b w : List ℕ} → refuse (of-value c p) b ≡ refuse (of-value d q) w → (c ≡ d) × (p ≡ q)
+same-value {c} {d} {p} {q} e = let z : refusal (of-value c p) ≡ refusal (of-value d q) = answers e in (cc, cc)
 
 same-length : {j k : ℕ} {b c : List ℕ} → _≡_ {A = Outcome} (record { answer = done j; buffer = b }) (record { answer = done k; buffer = c }) → j ≡ k
 same-length e = let z : done _ ≡ done _ = ap (λ (o : Outcome). o .answer) e in cc
@@ -77,40 +83,37 @@ same-length e = let z : done _ ≡ done _ = ap (λ (o : Outcome). o .answer) e i
 same-buffer : {j k : ℕ} {b c : List ℕ} → _≡_ {A = Outcome} (record { answer = done j; buffer = b }) (record { answer = done k; buffer = c }) → b ≡ c
 same-buffer e = ap (λ (o : Outcome). o .buffer) e
 
--- the numbers of the stages
+-- none of these is 21 or 27, none of those 14
 
-pub message-number : {c : Cause} → OfMessage c → (21 < causeNumber c) × (causeNumber c ≡ 27 → ⊥)
-message-number is-22 = (omega arith, λ e. omega arith)
-message-number is-23 = (omega arith, λ e. omega arith)
-message-number is-24 = (omega arith, λ e. omega arith)
-message-number is-25 = (omega arith, λ e. omega arith)
-message-number is-26 = (omega arith, λ e. omega arith)
-message-number is-28 = (omega arith, λ e. omega arith)
+message-other : {c d : Cause} → OfMessage c → c ≡ d → (causeNumber d ≡ 21 → ⊥) × (causeNumber d ≡ 27 → ⊥)
+message-other {d = d} i e = by i (ap causeNumber e)
+  where
+    by : {c : Cause} → OfMessage c → causeNumber c ≡ causeNumber d → (causeNumber d ≡ 21 → ⊥) × (causeNumber d ≡ 27 → ⊥)
+    by is-22 e = (λ f. omega arith, λ f. omega arith)
+    by is-23 e = (λ f. omega arith, λ f. omega arith)
+    by is-24 e = (λ f. omega arith, λ f. omega arith)
+    by is-25 e = (λ f. omega arith, λ f. omega arith)
+    by is-26 e = (λ f. omega arith, λ f. omega arith)
+    by is-28 e = (λ f. omega arith, λ f. omega arith)
 
-pub value-number : {c : Cause} → OfValue c → (7 < causeNumber c) × (causeNumber c < 14)
-value-number is-11 = (omega arith, omega arith)
-value-number is-12 = (omega arith, omega arith)
-value-number is-13 = (omega arith, omega arith)
-
-no-21 : {c : Cause} {C : Type 0} → OfMessage c → causeNumber c ≡ 21 → C
-no-21 i e = let h = message-number i .0 in absurd (omega arith)
-
-no-27 : {c : Cause} {C : Type 0} → OfMessage c → causeNumber c ≡ 27 → C
-no-27 i e = absurd (message-number i .1 e)
-
-pub message-later : {c : Cause} → OfMessage c → 7 < causeNumber c
-message-later i = let h = message-number i .0 in omega arith
+value-other : {c d : Cause} → OfValue c → c ≡ d → causeNumber d ≡ 14 → ⊥
+value-other {d = d} i e f = by i (ap causeNumber e)
+  where
+    by : {c : Cause} → OfValue c → causeNumber c ≡ causeNumber d → ⊥
+    by is-11 e = omega arith
+    by is-12 e = omega arith
+    by is-13 e = omega arith
 
 -- Reading.
 
 abbrev pub reading : Table → ℕ → List ℕ → List ℕ → Outcome
-reading T t m buf = if (not (leb (length m) longestMessage)) (refuse MessageLength 0 buf) λ _. afterReading m buf (readMessage T levels t m)
+reading T t m buf = if (not (leb (length m) longestMessage)) (refuse (of-message MessageLength 0) buf) λ _. afterReading m buf (readMessage T levels t m)
 
 -- the stages of reading, each with its rule and its answer
 pub data ReadStage (T : Table) (t : ℕ) (m buf : List ℕ) (x : Outcome) : Type 0 where
-  too-long : longestMessage < length m → x ≡ refuse MessageLength 0 buf → ReadStage T t m buf x
-  refused-at : (c : Cause) (p : ℕ) → OfMessage c → MessageRefused T t m c p → x ≡ refuse c p buf → ReadStage T t m buf x
-  no-room : NoRoomForValue T t m buf → x ≡ refuse ValueRoom 0 buf → ReadStage T t m buf x
+  too-long : longestMessage < length m → x ≡ refuse (of-message MessageLength 0) buf → ReadStage T t m buf x
+  refused-at : (c : Cause) (p : ℕ) → OfMessage c → MessageRefused T t m c p → x ≡ refuse (of-message c p) buf → ReadStage T t m buf x
+  no-room : NoRoomForValue T t m buf → x ≡ refuse (of-message ValueRoom 0) buf → ReadStage T t m buf x
   is-read : (k : ℕ) (after : List ℕ) → Read T t m buf k after → x ≡ record { answer = done k; buffer = after } → ReadStage T t m buf x
 
 module _ (T : Table) (t : ℕ) (m buf : List ℕ) where
@@ -136,44 +139,44 @@ module _ (T : Table) (t : ℕ) (m buf : List ℕ) where
       λ f. after-read o (leb-true (length m) longestMessage (not-false _ f)) (readMessage T levels t m) refl (message-says T levels t m)
 
   -- no refusal of the value stage
-  pub read-never-value : (c : Cause) (p : ℕ) → causeNumber c < 21 → {x : Outcome} → ReadStage T t m buf x → x .answer ≡ refusal c p → ⊥
-  read-never-value c p k (too-long h z) e = let q : 21 ≡ causeNumber c = ap numberTold (sym (ap (λ (o : Outcome). o .answer) z) ∙ e) in omega arith
-  read-never-value c p k (refused-at d j i x z) e =
-      let q : causeNumber d ≡ causeNumber c = ap numberTold (sym (ap (λ (o : Outcome). o .answer) z) ∙ e) in let h = message-number i .0 in omega arith
-  read-never-value c p k (no-room x z) e = let q : 27 ≡ causeNumber c = ap numberTold (sym (ap (λ (o : Outcome). o .answer) z) ∙ e) in omega arith
-  read-never-value c p k (is-read j after x z) e = done≢refusal (sym (ap (λ (o : Outcome). o .answer) z) ∙ e)
+  pub read-never-value : (c : Cause) (p : ℕ) {x : Outcome} → ReadStage T t m buf x → x .answer ≡ refusal (of-value c p) → ⊥
+  read-never-value c p (too-long h z) e = let q : _≡_ {A = ℕ} 3 2 = ap stageOf (sym (answers z) ∙ e) in omega arith
+  read-never-value c p (refused-at d j i x z) e = let q : _≡_ {A = ℕ} 3 2 = ap stageOf (sym (answers z) ∙ e) in omega arith
+  read-never-value c p (no-room x z) e = let q : _≡_ {A = ℕ} 3 2 = ap stageOf (sym (answers z) ∙ e) in omega arith
+  read-never-value c p (is-read j after x z) e = done≢refusal (sym (answers z) ∙ e)
 
   pub read-within : length m ≤ longestMessage → (x : Answer Value) → readMessage T levels t m ≡ x → reading T t m buf ≡ afterReading m buf x
   read-within h x e = simp (run, le-leb (length m) longestMessage h, e)
 
-  read-long : longestMessage < length m → reading T t m buf ≡ refuse MessageLength 0 buf
+  read-long : longestMessage < length m → reading T t m buf ≡ refuse (of-message MessageLength 0) buf
   read-long h = simp (run, lt-leb (length m) longestMessage h)
 
-  read-refuses : (c : Cause) (p : ℕ) → MessageRefused T t m c p → reading T t m buf ≡ refuse c p buf
+  read-refuses : (c : Cause) (p : ℕ) → MessageRefused T t m c p → reading T t m buf ≡ refuse (of-message c p) buf
   unfolding afterReading
-  read-refuses c p x = read-within (x .within) (refused c (x .left)) (x .reading) ∙ ap (λ (j : ℕ). refuse c j buf) (sym (x .place))
+  read-refuses c p x = read-within (x .within) (refused c (x .left)) (x .reading) ∙ ap (λ (j : ℕ). refuse (of-message c j) buf) (sym (x .place))
 
   -- 21
-  pub long-exactly : Octets m → (p : ℕ) → (reading T t m buf ≡ refuse MessageLength p buf) ↔ ((longestMessage < length m) × (p ≡ 0))
-  long-exactly o p = (λ e. from (read-stage o) e, λ h. read-long (h .0) ∙ ap (λ (j : ℕ). refuse MessageLength j buf) (sym (h .1)))
+  pub long-exactly : Octets m → (p : ℕ) → (reading T t m buf ≡ refuse (of-message MessageLength p) buf) ↔ ((longestMessage < length m) × (p ≡ 0))
+  long-exactly o p = (λ e. from (read-stage o) e, λ h. read-long (h .0) ∙ ap (λ (j : ℕ). refuse (of-message MessageLength j) buf) (sym (h .1)))
     where
-      from : {x : Outcome} → ReadStage T t m buf x → x ≡ refuse MessageLength p buf → (longestMessage < length m) × (p ≡ 0)
-      from (too-long h z) e = (h, sym (same-refusal (sym z ∙ e) .1))
-      from (refused-at c q i x z) e = no-21 i (same-number (sym z ∙ e))
-      from (no-room x z) e = let h : _≡_ {A = ℕ} 27 21 = same-number (sym z ∙ e) in absurd (omega arith)
-      from (is-read k after x z) e = done≢refusal (ap (λ (o : Outcome). o .answer) (sym z ∙ e))
+      from : {x : Outcome} → ReadStage T t m buf x → x ≡ refuse (of-message MessageLength p) buf → (longestMessage < length m) × (p ≡ 0)
+      from (too-long h z) e = (h, sym (same-message (sym z ∙ e) .1))
+      from (refused-at c q i x z) e = absurd (message-other i (same-message (sym z ∙ e) .0) .0 refl)
+      from (no-room x z) e = let h : _≡_ {A = ℕ} 27 21 = ap causeNumber (same-message (sym z ∙ e) .0) in absurd (omega arith)
+      from (is-read k after x z) e = done≢refusal (answers (sym z ∙ e))
 
   -- 22 to 26, 28
-  pub refused-exactly : Octets m → (c : Cause) (p : ℕ) → OfMessage c → (reading T t m buf ≡ refuse c p buf) ↔ MessageRefused T t m c p
-  refused-exactly o c p i = (λ e. from (read-stage o) e, read-refuses c p)
+  pub refused-exactly : Octets m → (c : Cause) (p : ℕ) → (c ≡ MessageLength → ⊥) → (c ≡ ValueRoom → ⊥)
+      → (reading T t m buf ≡ refuse (of-message c p) buf) ↔ MessageRefused T t m c p
+  refused-exactly o c p a b = (λ e. from (read-stage o) e, read-refuses c p)
     where
-      from : {x : Outcome} → ReadStage T t m buf x → x ≡ refuse c p buf → MessageRefused T t m c p
-      from (too-long h z) e = no-21 i (sym (same-number (sym z ∙ e)))
-      from (refused-at d q y x z) e = let s = same-refusal (sym z ∙ e) in rw (← s .0, ← s .1) x
-      from (no-room x z) e = no-27 i (sym (same-number (sym z ∙ e)))
-      from (is-read j after x z) e = done≢refusal (ap (λ (o : Outcome). o .answer) (sym z ∙ e))
+      from : {x : Outcome} → ReadStage T t m buf x → x ≡ refuse (of-message c p) buf → MessageRefused T t m c p
+      from (too-long h z) e = absurd (a (sym (same-message (sym z ∙ e) .0)))
+      from (refused-at d q y x z) e = let s = same-message (sym z ∙ e) in rw (← s .0, ← s .1) x
+      from (no-room x z) e = absurd (b (sym (same-message (sym z ∙ e) .0)))
+      from (is-read j after x z) e = done≢refusal (answers (sym z ∙ e))
 
-  read-lacks : Good T → NoRoomForValue T t m buf → reading T t m buf ≡ refuse ValueRoom 0 buf
+  read-lacks : Good T → NoRoomForValue T t m buf → reading T t m buf ≡ refuse (of-message ValueRoom 0) buf
   unfolding afterReading
   read-lacks good x =
       read-within (x .within) (got (x .value) []) (accepts-as-given T good levels t (x .value) m (x .arrives) (x .deep))
@@ -186,14 +189,14 @@ module _ (T : Table) (t : ℕ) (m buf : List ℕ) where
 
   module _ (o : Octets m) (good : Good T) where
     -- 27
-    pub lacks-exactly : (p : ℕ) → (reading T t m buf ≡ refuse ValueRoom p buf) ↔ (NoRoomForValue T t m buf × (p ≡ 0))
-    lacks-exactly p = (λ e. from (read-stage o) e, λ h. read-lacks good (h .0) ∙ ap (λ (j : ℕ). refuse ValueRoom j buf) (sym (h .1)))
+    pub lacks-exactly : (p : ℕ) → (reading T t m buf ≡ refuse (of-message ValueRoom p) buf) ↔ (NoRoomForValue T t m buf × (p ≡ 0))
+    lacks-exactly p = (λ e. from (read-stage o) e, λ h. read-lacks good (h .0) ∙ ap (λ (j : ℕ). refuse (of-message ValueRoom j) buf) (sym (h .1)))
       where
-        from : {x : Outcome} → ReadStage T t m buf x → x ≡ refuse ValueRoom p buf → NoRoomForValue T t m buf × (p ≡ 0)
-        from (too-long h z) e = let h : _≡_ {A = ℕ} 21 27 = same-number (sym z ∙ e) in absurd (omega arith)
-        from (refused-at c q y x z) e = no-27 y (same-number (sym z ∙ e))
-        from (no-room x z) e = (x, sym (same-refusal (sym z ∙ e) .1))
-        from (is-read j after x z) e = done≢refusal (ap (λ (o : Outcome). o .answer) (sym z ∙ e))
+        from : {x : Outcome} → ReadStage T t m buf x → x ≡ refuse (of-message ValueRoom p) buf → NoRoomForValue T t m buf × (p ≡ 0)
+        from (too-long h z) e = let h : _≡_ {A = ℕ} 21 27 = ap causeNumber (same-message (sym z ∙ e) .0) in absurd (omega arith)
+        from (refused-at c q y x z) e = absurd (message-other y (same-message (sym z ∙ e) .0) .1 refl)
+        from (no-room x z) e = (x, sym (same-message (sym z ∙ e) .1))
+        from (is-read j after x z) e = done≢refusal (answers (sym z ∙ e))
 
     -- done
     pub read-exactly : (k : ℕ) (after : List ℕ) → (reading T t m buf ≡ record { answer = done k; buffer = after }) ↔ Read T t m buf k after
@@ -202,7 +205,7 @@ module _ (T : Table) (t : ℕ) (m buf : List ℕ) where
       λ r. read-fits (r .value) (r .within) (accepts-as-given T good levels t (r .value) m (r .arrives) (r .deep)) (r .short) (r .room) ∙ told-same (r .told) (r .buffer),
     )
       where
-        refused-done : {c : Cause} {p : ℕ} {x : Outcome} → x ≡ refuse c p buf → x ≡ record { answer = done k; buffer = after } → Read T t m buf k after
+        refused-done : {r : Refusal} {x : Outcome} → x ≡ refuse r buf → x ≡ record { answer = done k; buffer = after } → Read T t m buf k after
         refused-done z e = done≢refusal (ap (λ (o : Outcome). o .answer) (sym e ∙ z))
 
         from : {x : Outcome} → ReadStage T t m buf x → x ≡ record { answer = done k; buffer = after } → Read T t m buf k after
@@ -235,33 +238,31 @@ module _ (T : Table) (t : ℕ) (m buf : List ℕ) where
           deep = y .deep;
         }
 
-  after-read-beyond : (x : Answer Value) → Says (length m) x → Beyond (afterReading m buf x)
+  after-read-beyond : (x : Answer Value) → Beyond (afterReading m buf x)
   unfolding afterReading
-  after-read-beyond (refused c l) (names i q) = later-beyond c _ buf (message-later i)
-  after-read-beyond (got v r) q = if-cases Beyond (not (leb (length (octets v)) (min longestValue (length buf)))) _ _ (λ f. later-beyond ValueRoom 0 buf (omega arith)) λ f. done-beyond _ buf
+  after-read-beyond (refused c l) = message-beyond c _ buf
+  after-read-beyond (got v r) = if-cases Beyond (not (leb (length (octets v)) (min longestValue (length buf)))) _ _ (λ f. message-beyond ValueRoom 0 buf) λ f. done-beyond _ buf
 
   pub read-beyond : Beyond (reading T t m buf)
-  read-beyond =
-      if-cases Beyond (not (leb (length m) longestMessage)) _ _ (λ f. later-beyond MessageLength 0 buf (omega arith)) λ f.
-      after-read-beyond (readMessage T levels t m) (message-says T levels t m)
+  read-beyond = if-cases Beyond (not (leb (length m) longestMessage)) _ _ (λ f. message-beyond MessageLength 0 buf) λ f. after-read-beyond (readMessage T levels t m)
 
   after-read-unchanged : (x : Answer Value) → Unchanged buf (afterReading m buf x)
   unfolding afterReading
-  after-read-unchanged (refused c l) = λ d p z. refl
-  after-read-unchanged (got v r) = if-cases (Unchanged buf) (not (leb (length (octets v)) (min longestValue (length buf)))) _ _ (λ f c p z. refl) λ f c p z. done≢refusal z
+  after-read-unchanged (refused c l) = λ r z. refl
+  after-read-unchanged (got v r) = if-cases (Unchanged buf) (not (leb (length (octets v)) (min longestValue (length buf)))) _ _ (λ f r z. refl) λ f r z. done≢refusal z
 
   pub read-unchanged : Unchanged buf (reading T t m buf)
-  read-unchanged = if-cases (Unchanged buf) (not (leb (length m) longestMessage)) _ _ (λ f c p z. refl) λ f. after-read-unchanged (readMessage T levels t m)
+  read-unchanged = if-cases (Unchanged buf) (not (leb (length m) longestMessage)) _ _ (λ f r z. refl) λ f. after-read-unchanged (readMessage T levels t m)
 
 -- Writing.
 
 abbrev pub writing : Table → ℕ → List ℕ → List ℕ → Outcome
-writing T t v buf = if (not (leb (length v) longestValue)) (refuse ValueShape 0 buf) λ _. afterJudging (formAt T levels t) v buf (judgeWhole T levels t v)
+writing T t v buf = if (not (leb (length v) longestValue)) (refuse (of-value ValueShape 0) buf) λ _. afterJudging (formAt T levels t) v buf (judgeWhole T levels t v)
 
 -- the stages of writing, each with its rule and its answer
 pub data WriteStage (T : Table) (t : ℕ) (v buf : List ℕ) (x : Outcome) : Type 0 where
-  refused-at : (c : Cause) (p : ℕ) → OfValue c → ValueRefused T t v c p → x ≡ refuse c p buf → WriteStage T t v buf x
-  no-room : NoRoomForMessage T t v buf → x ≡ refuse MessageRoom 0 buf → WriteStage T t v buf x
+  refused-at : (c : Cause) (p : ℕ) → OfValue c → ValueRefused T t v c p → x ≡ refuse (of-value c p) buf → WriteStage T t v buf x
+  no-room : NoRoomForMessage T t v buf → x ≡ refuse (of-value MessageRoom 0) buf → WriteStage T t v buf x
   is-written : (k : ℕ) (after : List ℕ) → Wrote T t v buf k after → x ≡ record { answer = done k; buffer = after } → WriteStage T t v buf x
 
 form-permitted : (T : Table) (t : ℕ) (v : Value) → WellTypedAt T levels t v → length (formAt T levels t v) ≤ longestMessage → Encodes T t v (formAt T levels t v)
@@ -294,48 +295,44 @@ module _ (T : Table) (t : ℕ) (v buf : List ℕ) where
       λ f. after-judged o (leb-true (length v) longestValue (not-false _ f)) (judgeWhole T levels t v) refl (whole-says T levels t v (all-octets v o))
 
   -- no refusal of the message stage
-  pub write-never-message : (c : Cause) (p : ℕ) → 14 < causeNumber c → {x : Outcome} → WriteStage T t v buf x → x .answer ≡ refusal c p → ⊥
-  write-never-message c p k (WriteStage.refused-at d q i x z) e =
-      let q : causeNumber d ≡ causeNumber c = ap numberTold (sym (ap (λ (o : Outcome). o .answer) z) ∙ e) in let h = value-number i .1 in omega arith
-  write-never-message c p k (WriteStage.no-room x z) e = let q : 14 ≡ causeNumber c = ap numberTold (sym (ap (λ (o : Outcome). o .answer) z) ∙ e) in omega arith
-  write-never-message c p k (is-written j after x z) e = done≢refusal (sym (ap (λ (o : Outcome). o .answer) z) ∙ e)
+  pub write-never-message : (c : Cause) (p : ℕ) {x : Outcome} → WriteStage T t v buf x → x .answer ≡ refusal (of-message c p) → ⊥
+  write-never-message c p (WriteStage.refused-at d j i x z) e = let q : _≡_ {A = ℕ} 2 3 = ap stageOf (sym (answers z) ∙ e) in omega arith
+  write-never-message c p (WriteStage.no-room x z) e = let q : _≡_ {A = ℕ} 2 3 = ap stageOf (sym (answers z) ∙ e) in omega arith
+  write-never-message c p (is-written j after x z) e = done≢refusal (sym (answers z) ∙ e)
 
   write-within : length v ≤ longestValue → (x : Answer Value) → judgeWhole T levels t v ≡ x → writing T t v buf ≡ afterJudging (formAt T levels t) v buf x
   write-within h x e = simp (run, le-leb (length v) longestValue h, e)
 
-  write-refuses : (c : Cause) (p : ℕ) → ValueRefused T t v c p → writing T t v buf ≡ refuse c p buf
+  write-refuses : (c : Cause) (p : ℕ) → ValueRefused T t v c p → writing T t v buf ≡ refuse (of-value c p) buf
   unfolding afterJudging
   write-refuses c p (over-long h q r) = rw (q, r) (simp (run, lt-leb (length v) longestValue h))
-  write-refuses c p (as-judged l h g e r) = write-within h (refused c l) e ∙ ap (λ (j : ℕ). refuse c j buf) (sym r)
+  write-refuses c p (as-judged l h g e r) = write-within h (refused c l) e ∙ ap (λ (j : ℕ). refuse (of-value c j) buf) (sym r)
 
   -- 11 to 13
-  pub judged-exactly : Octets v → (c : Cause) (p : ℕ) → OfValue c → (writing T t v buf ≡ refuse c p buf) ↔ ValueRefused T t v c p
-  judged-exactly o c p i = (λ e. from (write-stage o) e, write-refuses c p)
+  pub judged-exactly : Octets v → (c : Cause) (p : ℕ) → (c ≡ MessageRoom → ⊥) → (writing T t v buf ≡ refuse (of-value c p) buf) ↔ ValueRefused T t v c p
+  judged-exactly o c p a = (λ e. from (write-stage o) e, write-refuses c p)
     where
-      from : {x : Outcome} → WriteStage T t v buf x → x ≡ refuse c p buf → ValueRefused T t v c p
-      from (WriteStage.refused-at d q y x z) e = let s = same-refusal (sym z ∙ e) in rw (← s .0, ← s .1) x
-      from (WriteStage.no-room x z) e = let q : 14 ≡ causeNumber c = same-number (sym z ∙ e) in let h = value-number i .1 in absurd (omega arith)
-      from (is-written j after x z) e = done≢refusal (ap (λ (o : Outcome). o .answer) (sym z ∙ e))
+      from : {x : Outcome} → WriteStage T t v buf x → x ≡ refuse (of-value c p) buf → ValueRefused T t v c p
+      from (WriteStage.refused-at d q y x z) e = let s = same-value (sym z ∙ e) in rw (← s .0, ← s .1) x
+      from (WriteStage.no-room x z) e = absurd (a (sym (same-value (sym z ∙ e) .0)))
+      from (is-written j after x z) e = done≢refusal (answers (sym z ∙ e))
 
-  after-judged-beyond : (x : Answer Value) → Speaks OfValue (length v) x → Beyond (afterJudging (formAt T levels t) v buf x)
+  after-judged-beyond : (x : Answer Value) → Beyond (afterJudging (formAt T levels t) v buf x)
   unfolding afterJudging
-  after-judged-beyond (refused c l) (names i q) = later-beyond c _ buf (value-number i .0)
-  after-judged-beyond (got w r) q =
-      if-cases Beyond (not (leb (length (formAt T levels t w)) (min longestMessage (length buf)))) _ _ (λ f. later-beyond MessageRoom 0 buf (omega arith)) λ f.
-      done-beyond _ buf
+  after-judged-beyond (refused c l) = value-beyond c _ buf
+  after-judged-beyond (got w r) =
+      if-cases Beyond (not (leb (length (formAt T levels t w)) (min longestMessage (length buf)))) _ _ (λ f. value-beyond MessageRoom 0 buf) λ f. done-beyond _ buf
 
-  pub write-beyond : Octets v → Beyond (writing T t v buf)
-  write-beyond o =
-      if-cases Beyond (not (leb (length v) longestValue)) _ _ (λ f. later-beyond ValueShape 0 buf (omega arith)) λ f.
-      after-judged-beyond (judgeWhole T levels t v) (whole-says T levels t v (all-octets v o))
+  pub write-beyond : Beyond (writing T t v buf)
+  write-beyond = if-cases Beyond (not (leb (length v) longestValue)) _ _ (λ f. value-beyond ValueShape 0 buf) λ f. after-judged-beyond (judgeWhole T levels t v)
 
   after-judged-unchanged : (x : Answer Value) → Unchanged buf (afterJudging (formAt T levels t) v buf x)
   unfolding afterJudging
-  after-judged-unchanged (refused c l) = λ d p z. refl
-  after-judged-unchanged (got w r) = if-cases (Unchanged buf) (not (leb (length (formAt T levels t w)) (min longestMessage (length buf)))) _ _ (λ f c p z. refl) λ f c p z. done≢refusal z
+  after-judged-unchanged (refused c l) = λ r z. refl
+  after-judged-unchanged (got w r) = if-cases (Unchanged buf) (not (leb (length (formAt T levels t w)) (min longestMessage (length buf)))) _ _ (λ f r z. refl) λ f r z. done≢refusal z
 
   pub write-unchanged : Unchanged buf (writing T t v buf)
-  write-unchanged = if-cases (Unchanged buf) (not (leb (length v) longestValue)) _ _ (λ f c p z. refl) λ f. after-judged-unchanged (judgeWhole T levels t v)
+  write-unchanged = if-cases (Unchanged buf) (not (leb (length v) longestValue)) _ _ (λ f r z. refl) λ f. after-judged-unchanged (judgeWhole T levels t v)
 
 -- the octets of a value of the type: what is written for them
 module _ (T : Table) (t : ℕ) (buf : List ℕ) (w : Value) (typed : WellTyped T t w) (low : depth w ≤ levels) (shaped : Shaped w) (h : length (octets w) ≤ longestValue) where
@@ -349,7 +346,7 @@ module _ (T : Table) (t : ℕ) (buf : List ℕ) (w : Value) (typed : WellTyped T
   unfolding afterJudging
   write-fits k l = written ∙ simp (run, le-leb (length (formAt T levels t w)) (min longestMessage (length buf)) (omega arith))
 
-  write-lacks : min longestMessage (length buf) < length (formAt T levels t w) → writing T t (octets w) buf ≡ refuse MessageRoom 0 buf
+  write-lacks : min longestMessage (length buf) < length (formAt T levels t w) → writing T t (octets w) buf ≡ refuse (of-value MessageRoom 0) buf
   unfolding afterJudging
   write-lacks k = written ∙ simp (run, lt-leb (length (formAt T levels t w)) (min longestMessage (length buf)) k)
 
@@ -359,15 +356,15 @@ module _ (T : Table) (t : ℕ) (buf : List ℕ) (w : Value) (typed : WellTyped T
 
 module _ (T : Table) (t : ℕ) (v buf : List ℕ) (o : Octets v) where
   -- 14
-  pub full-exactly : (p : ℕ) → (writing T t v buf ≡ refuse MessageRoom p buf) ↔ (NoRoomForMessage T t v buf × (p ≡ 0))
-  full-exactly p = (λ e. from (write-stage T t v buf o) e, λ h. to (h .0) ∙ ap (λ (j : ℕ). refuse MessageRoom j buf) (sym (h .1)))
+  pub full-exactly : (p : ℕ) → (writing T t v buf ≡ refuse (of-value MessageRoom p) buf) ↔ (NoRoomForMessage T t v buf × (p ≡ 0))
+  full-exactly p = (λ e. from (write-stage T t v buf o) e, λ h. to (h .0) ∙ ap (λ (j : ℕ). refuse (of-value MessageRoom j) buf) (sym (h .1)))
     where
-      from : {x : Outcome} → WriteStage T t v buf x → x ≡ refuse MessageRoom p buf → NoRoomForMessage T t v buf × (p ≡ 0)
-      from (WriteStage.refused-at d q y x z) e = let q : causeNumber d ≡ 14 = same-number (sym z ∙ e) in let h = value-number y .1 in absurd (omega arith)
-      from (WriteStage.no-room x z) e = (x, sym (same-refusal (sym z ∙ e) .1))
-      from (is-written j after x z) e = done≢refusal (ap (λ (o : Outcome). o .answer) (sym z ∙ e))
+      from : {x : Outcome} → WriteStage T t v buf x → x ≡ refuse (of-value MessageRoom p) buf → NoRoomForMessage T t v buf × (p ≡ 0)
+      from (WriteStage.refused-at d q y x z) e = absurd (value-other y (same-value (sym z ∙ e) .0) refl)
+      from (WriteStage.no-room x z) e = (x, sym (same-value (sym z ∙ e) .1))
+      from (is-written j after x z) e = done≢refusal (answers (sym z ∙ e))
 
-      to : NoRoomForMessage T t v buf → writing T t v buf ≡ refuse MessageRoom 0 buf
+      to : NoRoomForMessage T t v buf → writing T t v buf ≡ refuse (of-value MessageRoom 0) buf
       to x =
           let s : length (octets (x .value)) ≤ longestValue = rw (← x .is) (x .short) in
           ap (λ (l : List ℕ). writing T t l buf) (x .is) ∙ write-lacks T t buf (x .value) (x .typed) (x .deep) (x .shaped) s (x .over)
@@ -376,7 +373,7 @@ module _ (T : Table) (t : ℕ) (v buf : List ℕ) (o : Octets v) where
   pub written-exactly : (k : ℕ) (after : List ℕ) → (writing T t v buf ≡ record { answer = done k; buffer = after }) ↔ Wrote T t v buf k after
   written-exactly k after = (λ e. from (write-stage T t v buf o) e, to)
     where
-      refused-done : {c : Cause} {p : ℕ} {x : Outcome} → x ≡ refuse c p buf → x ≡ record { answer = done k; buffer = after } → Wrote T t v buf k after
+      refused-done : {r : Refusal} {x : Outcome} → x ≡ refuse r buf → x ≡ record { answer = done k; buffer = after } → Wrote T t v buf k after
       refused-done z e = done≢refusal (ap (λ (o : Outcome). o .answer) (sym e ∙ z))
 
       from : {x : Outcome} → WriteStage T t v buf x → x ≡ record { answer = done k; buffer = after } → Wrote T t v buf k after

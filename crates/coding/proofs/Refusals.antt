@@ -9,6 +9,7 @@ use Prim.Native.Nat.{ℕ, zero, suc, _+_, _-_, _≤_, _<_}
 use lib.ListN.{length, take, drop, length-append}
 use lib.Seq.{length-take-le}
 use Rattle.octets.specs.declared.cause.Cause.{Cause}
+use Rattle.octets.specs.declared.cause.Cause.the-variants.{ValueShape, IllTyped, ValueLevel, Cut, Form, NotAwaited, Contents, Trailing, MessageLevel}
 use Rattle.octets.specs.Answer.{Answer, got, refused, then, if, behind}
 use Rattle.octets.specs.Permutations.{AllOctets, Order, as-given}
 use Rattle.octets.proofs.Answer.{Holds, yields, if-holds, then-holds, map-holds, got-holds, Taken}
@@ -24,10 +25,24 @@ use Rattle.coding.specs.Reading.{decode, notAwaited, unwanted, nothing, 
 use Rattle.coding.specs.Tags.{own, explicit}
 use Rattle.coding.specs.Encodes.{Coding, Codes, is-plain, is-sequence, is-set, is-sequence-of, is-set-of, is-choice, Wrapped, bare, tagged, EncodesAt}
 use Rattle.coding.specs.Judging.{Node, a-leaf, a-sequence, a-set, a-sequence-of, a-set-of, a-choice, need, ownMembers, ownCount, ownBoolean, ownInteger, ownString, ownBits, ownEnumerated, ownChoice, readOwn, readNode, judgeMembers, judgeElements, judgeBelow, judgeValue, judgeWhole}
-use Rattle.coding.specs.Causes.{OfMessage, is-22, is-23, is-24, is-25, is-26, is-28, OfValue, is-11, is-12, is-13}
 use Rattle.coding.proofs.Sound.{wrapped-sound, kind-sound, value-sound, not-awaited}
 use Rattle.coding.proofs.Nodes.{nodeOctets, node-sound}
 use Rattle.coding.proofs.Judging.{judge-sound}
+
+-- The causes that judging gives.
+pub data OfValue : Cause → Type 0 where
+  is-11 : OfValue ValueShape
+  is-12 : OfValue IllTyped
+  is-13 : OfValue ValueLevel
+
+-- The causes that reading gives.
+pub data OfMessage : Cause → Type 0 where
+  is-22 : OfMessage Cut
+  is-23 : OfMessage Form
+  is-24 : OfMessage NotAwaited
+  is-25 : OfMessage Contents
+  is-26 : OfMessage Trailing
+  is-28 : OfMessage MessageLevel
 
 -- An answer that refuses names a cause that K allows, and a place where at most n octets are left.
 pub data Speaks {A : Type 0} (K : Cause → Type 0) (n : ℕ) : Answer A → Type 0 where

@@ -23,21 +23,24 @@ use Rattle.table.specs.Verdict.{verdict}
 use Rattle.table.specs.declared.Verdict.{Verdict}
 use Rattle.table.specs.declared.Verdict.the-variants.{Passed, Refused}
 use Rattle.table.proofs.Theorems.{records-found, table-cause, named-first, first-named, passed-none, none-passed, passed-records}
-use Rattle.coding.specs.Outcome.{Outcome, refuse, Told}
+use Rattle.coding.specs.Outcome.{of-table, refusal, Outcome, refuse, Told}
 use Rattle.coding.specs.Calls.{afterCheck}
 use Rattle.coding.specs.Demands.{Accepted, NoSuchType, OfType}
-use Rattle.coding.proofs.Outcomes.{Beyond, Unchanged, same-refusal}
+use Rattle.coding.proofs.Outcomes.{Beyond, Unchanged}
+
+same-table : {c d : Cause} {p q : ℕ} {b w : List ℕ} → refuse (of-table c p) b ≡ refuse (of-table d q) w → (c ≡ d) × (p ≡ q)
+same-table {c} {d} {p} {q} e = let z : refusal (of-table c p) ≡ refusal (of-table d q) = ap (λ (o : Outcome). o .answer) e in (cc, cc)
 
 -- g is what a call does with the records by number, once it has found the type among them
 module _ (b : List ℕ) (t : ℕ) (buf : List ℕ) (g : Table → Outcome) where
   abbrev pub step : Table → ℕ → Outcome
-  step T n = if (not (ltb t n)) (refuse NoType 0 buf) λ _. g T
+  step T n = if (not (ltb t n)) (refuse (of-table NoType 0) buf) λ _. g T
 
   abbrev pub call : Outcome
   call = afterCheck b buf step (verdict b)
 
   module _ (o : Octets b) where
-    call-refused : (c : Cause) (p : ℕ) → FirstCause b c p → call ≡ refuse c p buf
+    call-refused : (c : Cause) (p : ℕ) → FirstCause b c p → call ≡ refuse (of-table c p) buf
     unfolding afterCheck
     call-refused c p x = ap (afterCheck b buf step) (first-named b o c p x)
 
@@ -47,7 +50,7 @@ module _ (b : List ℕ) (t : ℕ) (buf : List ℕ) (g : Table → Outcome) where
         let f = records-found o (a .spells) in
         ap (afterCheck b buf step) (none-passed b o (a .no-cause)) ∙ rw (f .2, f .1)
 
-    call-unknown : {rs : List Record} → Accepted b rs → length rs ≤ t → call ≡ refuse NoType 0 buf
+    call-unknown : {rs : List Record} → Accepted b rs → length rs ≤ t → call ≡ refuse (of-table NoType 0) buf
     call-unknown {rs} a h = call-accepted a ∙ simp (run, le-ltb t (length rs) h)
 
     pub call-found : {rs : List Record} → Accepted b rs → t < length rs → call ≡ g (table rs)
@@ -76,8 +79,8 @@ module _ (b : List ℕ) (t : ℕ) (buf : List ℕ) (g : Table → Outcome) where
       where
         from : Stage → call ≡ x → OfType b t (λ T. g T ≡ x)
         from (at-table c p f) e =
-            let k = table-cause (f .holds) in absurd (far c p (omega arith) (ap (λ (o : Outcome). o .answer) (sym e ∙ call-refused c p f)))
-        from (at-type f) e = absurd (far NoType 0 (omega arith) (ap (λ (o : Outcome). o .answer) (sym e ∙ call-unknown (f .accepted) (f .beyond))))
+            absurd (far c p (ap (λ (o : Outcome). o .answer) (sym e ∙ call-refused c p f)))
+        from (at-type f) e = absurd (far NoType 0 (ap (λ (o : Outcome). o .answer) (sym e ∙ call-unknown (f .accepted) (f .beyond))))
         from (at-records rs a h) e = record { records = rs; accepted = a; there = h; holds = sym (call-found a h) ∙ e }
 
     -- an answer that none of the stages gives
@@ -92,37 +95,34 @@ module _ (b : List ℕ) (t : ℕ) (buf : List ℕ) (g : Table → Outcome) where
 
     module _ (far : (T : Table) → Beyond (g T)) where
       -- 1 to 6
-      pub table-exactly : (c : Cause) (p : ℕ) → causeNumber c < 7 → (call ≡ refuse c p buf) ↔ FirstCause b c p
+      pub table-exactly : (c : Cause) (p : ℕ) → (c ≡ NoType → ⊥) → (call ≡ refuse (of-table c p) buf) ↔ FirstCause b c p
       table-exactly c p k = (λ e. from stage e, call-refused c p)
         where
-          not-7 : NoType ≡ c → FirstCause b c p
-          not-7 z = let h : 7 ≡ causeNumber c = ap causeNumber z in absurd (omega arith)
-
-          from : Stage → call ≡ refuse c p buf → FirstCause b c p
-          from (at-table d q f) e = let s = same-refusal (sym (call-refused d q f) ∙ e) in rw (← s .0, ← s .1) f
-          from (at-type f) e = not-7 (same-refusal (sym (call-unknown (f .accepted) (f .beyond)) ∙ e) .0)
-          from (at-records rs a h) e = absurd (far (table rs) c p (omega arith) (ap (λ (o : Outcome). o .answer) (sym (call-found a h) ∙ e)))
+          from : Stage → call ≡ refuse (of-table c p) buf → FirstCause b c p
+          from (at-table d q f) e = let s = same-table (sym (call-refused d q f) ∙ e) in rw (← s .0, ← s .1) f
+          from (at-type f) e = absurd (k (sym (same-table (sym (call-unknown (f .accepted) (f .beyond)) ∙ e) .0)))
+          from (at-records rs a h) e = absurd (far (table rs) c p (ap (λ (o : Outcome). o .answer) (sym (call-found a h) ∙ e)))
 
       -- 7
-      pub type-exactly : (p : ℕ) → (call ≡ refuse NoType p buf) ↔ (NoSuchType b t × (p ≡ 0))
-      type-exactly p = (λ e. from stage e, λ x. call-unknown (x .0 .accepted) (x .0 .beyond) ∙ ap (λ (j : ℕ). refuse NoType j buf) (sym (x .1)))
+      pub type-exactly : (p : ℕ) → (call ≡ refuse (of-table NoType p) buf) ↔ (NoSuchType b t × (p ≡ 0))
+      type-exactly p = (λ e. from stage e, λ x. call-unknown (x .0 .accepted) (x .0 .beyond) ∙ ap (λ (j : ℕ). refuse (of-table NoType j) buf) (sym (x .1)))
         where
-          from : Stage → call ≡ refuse NoType p buf → NoSuchType b t × (p ≡ 0)
+          from : Stage → call ≡ refuse (of-table NoType p) buf → NoSuchType b t × (p ≡ 0)
           from (at-table d q f) e =
-              let s : d ≡ NoType = same-refusal (sym (call-refused d q f) ∙ e) .0 in
+              let s : d ≡ NoType = same-table (sym (call-refused d q f) ∙ e) .0 in
               let h : causeNumber d ≡ 7 = ap causeNumber s in
               let k = table-cause (f .holds) in
               absurd (omega arith)
-          from (at-type f) e = (f, sym (same-refusal (sym (call-unknown (f .accepted) (f .beyond)) ∙ e) .1))
-          from (at-records rs a h) e = absurd (far (table rs) NoType p (omega arith) (ap (λ (o : Outcome). o .answer) (sym (call-found a h) ∙ e)))
+          from (at-type f) e = (f, sym (same-table (sym (call-unknown (f .accepted) (f .beyond)) ∙ e) .1))
+          from (at-records rs a h) e = absurd (far (table rs) NoType p (ap (λ (o : Outcome). o .answer) (sym (call-found a h) ∙ e)))
 
   step-unchanged : ((T : Table) → Unchanged buf (g T)) → (T : Table) (n : ℕ) → Unchanged buf (step T n)
-  step-unchanged f T n = if-cases (Unchanged buf) (not (ltb t n)) _ _ (λ e c p z. refl) λ e. f T
+  step-unchanged f T n = if-cases (Unchanged buf) (not (ltb t n)) _ _ (λ e r z. refl) λ e. f T
 
   after-unchanged : ((T : Table) → Unchanged buf (g T)) → (v : Verdict) → Unchanged buf (afterCheck b buf step v)
   unfolding afterCheck
   after-unchanged f Passed = step-unchanged f (look b (scan b .offsets)) (length (scan b .offsets))
-  after-unchanged f (Refused c p) = λ d q z. refl
+  after-unchanged f (Refused c p) = λ r z. refl
 
   -- a refusal leaves the buffer as it was, whatever the octets are
   pub call-unchanged : ((T : Table) → Unchanged buf (g T)) → Unchanged buf call

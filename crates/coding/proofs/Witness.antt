@@ -29,6 +29,7 @@ use Rattle.table.specs.Reading.{tagsAt, numbersAt, membersAt, everyAt, bodyAt, 
 use Rattle.table.specs.Decide.{round, rounds, found, dangling, wrongTags, reachStep, circular, sameTag, begins as firstBegins, firstStep, firstOfBoth, share, pair, sharing, finiteBody, finiteStep, infinite}
 use Rattle.table.specs.Cause.{Breaks, FirstCause}
 use Rattle.table.specs.Verdict.{judgeChoices, judge, verdict}
+use Rattle.octets.specs.Causes.{causeNumber}
 use Rattle.octets.specs.declared.cause.Cause.{Cause}
 use Rattle.octets.specs.declared.cause.Cause.the-variants.{TableShape, NoType, ValueShape, MessageRoom, MessageLength, Cut, ValueRoom}
 use Rattle.table.specs.declared.Verdict.the-variants.{Passed}
@@ -43,8 +44,7 @@ use Rattle.coding.specs.Form.{encode, element, alternatives, formMembers
 use Rattle.coding.specs.Judging.{need, flags, ownMembers, ownCount, ownBoolean, ownInteger, ownString, ownBits, ownEnumerated, ownChoice, readOwn, readNode, leafKind, nodeKind, numbers, leafAgrees, agreeing, counts, agrees, judgeMembers, judgeElements, judgeBelow, judgeValue, judgeWhole}
 use Rattle.coding.specs.Awaited.{beginsBody, beginsItem, beginsIn, begins}
 use Rattle.coding.specs.Reading.{isListed, decode, passes, begun, notAwaited, nothing, full, unwanted, readWrapped, readSequence, place, readSet, readMany, choose, readBody, readKind, readValue, readMessage}
-use Rattle.coding.specs.Causes.{is-11, is-22}
-use Rattle.coding.specs.Outcome.{levels, longestMessage, done as done-with, refusal, Outcome, refuse}
+use Rattle.coding.specs.Outcome.{levels, longestMessage, done as done-with, refusal, of-table, of-value, of-message, Outcome, refuse}
 use Rattle.coding.specs.Calls.{afterReading, readOutcome, afterJudging, writeOutcome, afterCheck, wholeRead, wholeWrite, checkAnswer}
 use Rattle.coding.specs.Demands.{Accepted, NoSuchType, OfType, MessageRefused, NoRoomForValue, Read, ValueRefused, NoRoomForMessage, Wrote, Received, Sent}
 use Rattle.coding.proofs.Demands as page
@@ -148,17 +148,17 @@ abbrev after-writing : Outcome
 after-writing = record { answer = done-with 8; buffer = form ++ room 1 }
 
 outcomes :
-    (checkAnswer (verdict []) ≡ refusal TableShape 0)
-    × (wholeRead [] 2 message [] ≡ refuse TableShape 0 [])
-    × (wholeRead S 3 message [] ≡ refuse NoType 0 [])
-    × (wholeRead S 2 (room 8193) [] ≡ refuse MessageLength 0 [])
-    × (wholeRead S 2 (0x31 ∷ 0x80 ∷ []) [] ≡ refuse Cut 2 [])
-    × (wholeRead S 2 message (room 3) ≡ refuse ValueRoom 0 (room 3))
+    (checkAnswer (verdict []) ≡ refusal (of-table TableShape 0))
+    × (wholeRead [] 2 message [] ≡ refuse (of-table TableShape 0) [])
+    × (wholeRead S 3 message [] ≡ refuse (of-table NoType 0) [])
+    × (wholeRead S 2 (room 8193) [] ≡ refuse (of-message MessageLength 0) [])
+    × (wholeRead S 2 (0x31 ∷ 0x80 ∷ []) [] ≡ refuse (of-message Cut 2) [])
+    × (wholeRead S 2 message (room 3) ≡ refuse (of-message ValueRoom 0) (room 3))
     × (wholeRead S 2 message (room 24) ≡ after-reading)
-    × (wholeWrite [] 2 valueOctets [] ≡ refuse TableShape 0 [])
-    × (wholeWrite S 3 valueOctets [] ≡ refuse NoType 0 [])
-    × (wholeWrite S 2 [] [] ≡ refuse ValueShape 0 [])
-    × (wholeWrite S 2 valueOctets (room 7) ≡ refuse MessageRoom 0 (room 7))
+    × (wholeWrite [] 2 valueOctets [] ≡ refuse (of-table TableShape 0) [])
+    × (wholeWrite S 3 valueOctets [] ≡ refuse (of-table NoType 0) [])
+    × (wholeWrite S 2 [] [] ≡ refuse (of-value ValueShape 0) [])
+    × (wholeWrite S 2 valueOctets (room 7) ≡ refuse (of-value MessageRoom 0) (room 7))
     × (wholeWrite S 2 valueOctets (room 9) ≡ after-writing)
 unfolding if then behind none-left any all joined tabulate lowestFrom same references isChoice universal constructed kind members rising bodyBelow tagsBelow parts tagsAt numbersAt membersAt everyAt bodyAt recordAt countedEnd enumeratedEnd membersEnd ownEnd recordEnd scanFrom scan look round rounds found dangling wrongTags reachStep circular sameTag firstBegins firstStep firstOfBoth share pair sharing finiteBody finiteStep infinite judgeChoices judge verdict leading following identifier number digits lengthOctets item negative pile integerOf spare minimal eight fewest unused masked readFollowing readIdentifier fit readLong readLength atEnd readHeader inside readConstructed contents readPrimitive slots bag leafOctets count presence octets listed identifierOf last before explicitTags own explicit allowed encode element alternatives formMembers formElements formBody wrap formAt need flags ownMembers ownCount ownBoolean ownInteger ownString ownBits ownEnumerated ownChoice readOwn readNode leafKind nodeKind numbers leafAgrees agreeing counts agrees judgeMembers judgeElements judgeBelow judgeValue judgeWhole beginsBody beginsItem beginsIn begins isListed decode passes begun notAwaited nothing full unwanted readWrapped readSequence place readSet readMany choose readBody readKind readValue readMessage afterReading readOutcome afterJudging writeOutcome afterCheck wholeRead wholeWrite checkAnswer
 outcomes = (refl, refl, refl, refl, refl, refl, refl, refl, refl, refl, refl, refl)
@@ -193,10 +193,11 @@ pub reading :
     × OfType S 2 (λ T. NoRoomForValue T 2 message (room 3) × (_≡_ {A = ℕ} 0 0))
     × OfType S 2 (λ T. Read T 2 message (room 24) 21 (valueOctets ++ room 3))
 reading = (
-  page.read-refuses-table [] none-octets 2 message [] message-octets TableShape 0 (omega arith) .0 (outcomes .1),
+  page.read-refuses-table [] none-octets 2 message [] message-octets TableShape 0 (λ e. let h : _≡_ {A = ℕ} 1 7 = ap causeNumber e in omega arith) .0 (outcomes .1),
   page.read-refuses-type S table-octets 3 message [] message-octets 0 .0 (outcomes .2),
   page.read-refuses-length S table-octets 2 (room 8193) [] read-octets 0 .0 (outcomes .3),
-  page.read-refuses-message S table-octets 2 (0x31 ∷ 0x80 ∷ []) [] cut-octets Cut 2 is-22 .0 (outcomes .4),
+  page.read-refuses-message S table-octets 2 (0x31 ∷ 0x80 ∷ []) [] cut-octets Cut 2 (λ e. let h : _≡_ {A = ℕ} 22 21 = ap causeNumber e in omega arith)
+      (λ e. let h : _≡_ {A = ℕ} 22 27 = ap causeNumber e in omega arith) .0 (outcomes .4),
   page.read-refuses-room S table-octets 2 message (room 3) message-octets 0 .0 (outcomes .5),
   page.read-is-done S table-octets 2 message (room 24) message-octets 21 (valueOctets ++ room 3) .0 (outcomes .6),
 )
@@ -208,23 +209,23 @@ pub writing :
     × OfType S 2 (λ T. NoRoomForMessage T 2 valueOctets (room 7) × (_≡_ {A = ℕ} 0 0))
     × OfType S 2 (λ T. Wrote T 2 valueOctets (room 9) 8 (form ++ room 1))
 writing = (
-  page.write-refuses-table [] none-octets 2 valueOctets [] value-octets TableShape 0 (omega arith) .0 (outcomes .7),
+  page.write-refuses-table [] none-octets 2 valueOctets [] value-octets TableShape 0 (λ e. let h : _≡_ {A = ℕ} 1 7 = ap causeNumber e in omega arith) .0 (outcomes .7),
   page.write-refuses-type S table-octets 3 valueOctets [] value-octets 0 .0 (outcomes .8),
-  page.write-refuses-value S table-octets 2 [] [] none-octets ValueShape 0 is-11 .0 (outcomes .9),
+  page.write-refuses-value S table-octets 2 [] [] none-octets ValueShape 0 (λ e. let h : _≡_ {A = ℕ} 11 14 = ap causeNumber e in omega arith) .0 (outcomes .9),
   page.write-refuses-room S table-octets 2 valueOctets (room 7) value-octets 0 .0 (outcomes .10),
   page.write-is-done S table-octets 2 valueOctets (room 9) value-octets 8 (form ++ room 1) .0 (outcomes .11),
 )
 
-pub never : (wholeRead S 2 message (room 3) .answer ≡ refusal MessageRoom 0 → ⊥) × (wholeWrite S 2 valueOctets (room 7) .answer ≡ refusal ValueRoom 0 → ⊥)
+pub never : (wholeRead S 2 message (room 3) .answer ≡ refusal (of-value MessageRoom 0) → ⊥) × (wholeWrite S 2 valueOctets (room 7) .answer ≡ refusal (of-message ValueRoom 0) → ⊥)
 never = (
-  page.read-refuses-no-value S table-octets 2 message (room 3) message-octets MessageRoom 0 (omega arith) (omega arith),
-  page.write-refuses-no-message S table-octets 2 valueOctets (room 7) value-octets ValueRoom 0 (omega arith),
+  page.read-refuses-no-value S table-octets 2 message (room 3) message-octets MessageRoom 0,
+  page.write-refuses-no-message S table-octets 2 valueOctets (room 7) value-octets ValueRoom 0,
 )
 
 pub left : (wholeRead S 2 message (room 3) .buffer ≡ room 3) × (wholeWrite S 2 valueOctets (room 7) .buffer ≡ room 7)
 left = (
-  page.read-leaves S 2 message (room 3) ValueRoom 0 (ap (λ (x : Outcome). x .answer) (outcomes .5)),
-  page.write-leaves S 2 valueOctets (room 7) MessageRoom 0 (ap (λ (x : Outcome). x .answer) (outcomes .10)),
+  page.read-leaves S 2 message (room 3) (of-message ValueRoom 0) (ap (λ (x : Outcome). x .answer) (outcomes .5)),
+  page.write-leaves S 2 valueOctets (room 7) (of-value MessageRoom 0) (ap (λ (x : Outcome). x .answer) (outcomes .10)),
 )
 
 pub is-read : Read (table records) 2 message (room 24) 21 (valueOctets ++ room 3)

@@ -19,7 +19,7 @@ use Rattle.coding.specs.Equivalent.{Equivalent}
 use Rattle.coding.specs.Form.{formAt}
 use Rattle.coding.specs.Judging.{judgeWhole}
 use Rattle.coding.specs.Reading.{readMessage}
-use Rattle.coding.specs.Outcome.{levels, longestValue, longestMessage, Outcome, done, refuse, write-at-start}
+use Rattle.coding.specs.Outcome.{levels, longestValue, longestMessage, Outcome, done, refuse, write-at-start, of-value}
 
 -- A table that is not refused: b are the octets of the records rs, and none of the causes 1 to 6 holds of b.
 pub record Accepted (b : List ℕ) (rs : List Record) : Type 0 where
@@ -116,5 +116,5 @@ pub record Received (T : Table) (t : ℕ) (v : Value) (m buf : List ℕ) (x : Ou
 -- length it tells, is that form, and one of the permitted encodings.
 pub record Sent (T : Table) (t : ℕ) (v : Value) (buf : List ℕ) (x : Outcome) : Type 0 where
   pub when-it-fits : length (formAt T levels t v) ≤ longestMessage → length (formAt T levels t v) ≤ length buf → x ≡ write-at-start (formAt T levels t v) buf
-  pub else-14 : min longestMessage (length buf) < length (formAt T levels t v) → x ≡ refuse MessageRoom 0 buf
+  pub else-14 : min longestMessage (length buf) < length (formAt T levels t v) → x ≡ refuse (of-value MessageRoom 0) buf
   pub encodes : length (formAt T levels t v) ≤ longestMessage → Encodes T t v (formAt T levels t v)

@@ -13,7 +13,6 @@ pub mod Form
 pub mod Judging
 pub mod Awaited
 pub mod Reading
-pub mod Causes
 pub mod Outcome
 pub mod Calls
 -- What the demands say.

@@ -13,7 +13,7 @@ use Rattle.table.specs.Verdict.{verdict}
 use Rattle.table.specs.declared.Verdict.{Verdict}
 use Rattle.table.specs.declared.Verdict.the-variants.{Passed, Refused}
 use Rattle.table.proofs.Promises.{place-small}
-use Rattle.octets.specs.Causes.{Cause}
+use Rattle.octets.specs.declared.cause.Cause.{Cause}
 use Rattle.octets.specs.Numbers.{Octets}
 use Rattle.coding.specs.declared.Answer.{Answer as Told}
 use Rattle.coding.specs.Outcome.{Outcome}
