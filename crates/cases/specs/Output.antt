@@ -9,8 +9,7 @@ use lib.ListN.{length, take, drop, replicate}
 use Rattle.io.specs.Digits.{glyph}
 use Rattle.coding.specs.declared.Answer.{Answer}
 use Rattle.coding.specs.declared.Answer.the-variants.{Done, Refused}
-use Rattle.octets.specs.Causes.{causeNumber}
-use Rattle.coding.specs.Outcome.{Outcome}
+use Rattle.coding.specs.Outcome.{numberOf, placeOf, Outcome}
 use Rattle.coding.specs.Calls.{checkAnswer, wholeWrite, wholeRead}
 use Rattle.table.specs.Verdict.{verdict}
 
@@ -70,7 +69,7 @@ cutLine number = decimal number ++ cut ++ feed
 -- FORMATS, "The program of cases": the line for an answer, where buf is what the lent buffer then holds; a result is as long as the answer says.
 unfoldable pub outputLine : ℕ → Answer → List ℕ → List ℕ
 outputLine number (Done n) buf = doneLine number (take n buf)
-outputLine number (Refused c p) buf = refusedLine number (causeNumber c) p
+outputLine number (Refused r) buf = refusedLine number (numberOf r) (placeOf r)
 
 -- FORMATS, "The program of cases": the engine is lent a buffer of 16,384 octets.
 unfoldable pub lent : List ℕ

@@ -10,7 +10,6 @@ use crate::text::put_decimal;
 use crate::text::put_shown;
 use crate::text::put_text;
 use coding::Answer;
-use octets::cause::cause_number;
 
 // The number of a case, and the text behind it.
 fn begin(number: u64, text: &[u8], line: &mut [u8]) -> usize
@@ -83,6 +82,9 @@ pub fn line_of(number: u64, a: Answer, buf: &[u8; 16384], line: &mut [u8]) -> us
                 done_line(number, all, line)
             }
         }
-        Answer::Refused { cause, place } => refused_line(number, cause_number(cause), place, line),
+        Answer::Refused(r) => {
+            let p = engine::refusal::parts_of(r);
+            refused_line(number, p.number, p.place, line)
+        }
     }
 }

@@ -2,17 +2,17 @@
 -- Assumes nothing.
 use mathlib.Core.Path.{_≡_}
 use Prim.Native.Nat.{ℕ, _+_, _*_, _/_, _%_}
-use Rattle.octets.specs.Causes.{causeNumber}
+use Rattle.coding.specs.Outcome.{numberOf, placeOf}
 use Rattle.coding.specs.declared.Answer.{Answer}
 use Rattle.coding.specs.declared.Answer.the-variants.{Done, Refused}
 
 abbrev pub number : Answer → ℕ
 number (Done n) = 0
-number (Refused c p) = causeNumber c
+number (Refused r) = numberOf r
 
 abbrev pub place : Answer → ℕ
 place (Done n) = n
-place (Refused c p) = p
+place (Refused r) = placeOf r
 
 abbrev pub packed : Answer → ℕ
 packed a = number a * 65536 + place a

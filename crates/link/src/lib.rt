@@ -5,7 +5,6 @@ ghost use Rattle.table.specs.Verdict.{verdict};
 ghost use Rattle.coding.specs.Calls.{checkAnswer, wholeWrite, wholeRead};
 ghost use Rattle.link.specs.Pack.{place, packed};
 use coding::Answer;
-use octets::cause::cause_number;
 
 fn join(number: u64, place: usize) -> u64
     requires { ⌜ (number < 29) × (place < 65536) ⌝ }
@@ -21,7 +20,10 @@ fn pack(a: Answer) -> u64
 {
     match a {
         Answer::Done(n) => join(0, n),
-        Answer::Refused { cause, place: p } => join(cause_number(cause), p),
+        Answer::Refused(r) => {
+            let p = engine::refusal::parts_of(r);
+            join(p.number, p.place)
+        }
     }
 }
 

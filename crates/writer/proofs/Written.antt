@@ -24,6 +24,8 @@ use Rattle.coding.specs.Judging.{need, readNode, judgeValue, judgeWhole}
 use Rattle.coding.specs.Outcome.{Outcome, refuse, write-at-start}
 use Rattle.coding.specs.Calls.{afterJudging, writeOutcome}
 use Rattle.coding.specs.declared.Answer.{Answer as Told}
+use Rattle.coding.specs.declared.Refusal.{Refusal}
+use Rattle.coding.specs.declared.Refusal.the-variants.{Table as OfTable, Value as OfValue}
 use Rattle.coding.specs.declared.Answer.the-variants.{Done as TDone, Refused as TRefused}
 use Rattle.coding.proofs.Checked.{Says}
 use Rattle.writer.specs.Frames.{cap}
@@ -66,11 +68,11 @@ record Accepted (T : Table) (t : ℕ) (v : List ℕ) (s : ℕ) : Type 0 where
   size : cap (length (formAt T 24 t value)) ≡ s
 
 module _ (T : Table) (n t : ℕ) (v buf : List ℕ) where
-  pub out-type : n ≤ t → Says (writeOutcome T n t v buf) (TRefused NoType 0) buf
+  pub out-type : n ≤ t → Says (writeOutcome T n t v buf) (TRefused (OfTable NoType 0)) buf
   unfolding writeOutcome
   out-type h = let e : ltb t n ≡ false = le-ltb t n h in (simp (run, e), simp (run, e))
 
-  pub out-long : t < n → 16384 < length v → Says (writeOutcome T n t v buf) (TRefused ValueShape 0) buf
+  pub out-long : t < n → 16384 < length v → Says (writeOutcome T n t v buf) (TRefused (OfValue ValueShape 0)) buf
   unfolding writeOutcome
   out-long h l =
       let e : ltb t n ≡ true = lt-ltb t n h in
@@ -98,15 +100,15 @@ module _ (T : Table) (n t : ℕ) (v buf : List ℕ) where
   whole-got a w q h = simp (run, q, none-nil w h)
 
   module _ (h : t < n) (l : length v ≤ 16384) (r : Judged) (p : r ≡ told (formAt T 24 t) v (judgeValue T 24 t v)) where
-    pub out-refused : (k : Cause) (q : ℕ) → r ≡ Refused q k → Says (writeOutcome T n t v buf) (TRefused k q) buf
+    pub out-refused : (k : Cause) (q : ℕ) → r ≡ Refused q k → Says (writeOutcome T n t v buf) (TRefused (OfValue k q)) buf
     unfolding afterJudging
     out-refused k q e =
         let (i, x, y) = no (formAt T 24 t) v (judgeValue T 24 t v) r k q p e in
         let o = judged h l (refused k i) (whole-refused k i x) in
-        (rw o (ap (TRefused k) y), rw o)
+        (rw o (ap (λ (z : ℕ). TRefused (OfValue k z)) y), rw o)
 
     module _ (e s : ℕ) (d : r ≡ Done e s) where
-      pub out-left : e < length v → Says (writeOutcome T n t v buf) (TRefused ValueShape e) buf
+      pub out-left : e < length v → Says (writeOutcome T n t v buf) (TRefused (OfValue ValueShape e)) buf
       unfolding afterJudging
       out-left g =
           let (a, w, x, y, z) = done (formAt T 24 t) v (judgeValue T 24 t v) r e s p d in
@@ -125,7 +127,7 @@ module _ (T : Table) (n t : ℕ) (v buf : List ℕ) where
         whole x = judged h l (got (x .value) (x .rest)) (whole-got (x .value) (x .rest) (x .is) (x .none))
 
         module _ (room : length buf ≤ 8192) where
-          pub out-room : length buf < s → Says (writeOutcome T n t v buf) (TRefused MessageRoom 0) buf
+          pub out-room : length buf < s → Says (writeOutcome T n t v buf) (TRefused (OfValue MessageRoom 0)) buf
           unfolding afterJudging
           out-room k =
               let x = accepted g in
@@ -166,8 +168,8 @@ module _ (buf : List ℕ) (long : 8192 < length buf) where
   abbrev Grown : Outcome → Outcome → Type 0
   Grown x y = (x .answer ≡ y .answer) × (x .buffer ++ drop 8192 buf ≡ y .buffer)
 
-  grown-refuse : (c : Cause) (p : ℕ) → Grown (refuse c p Front) (refuse c p buf)
-  grown-refuse c p = (refl, take-append-drop 8192 buf)
+  grown-refuse : (r : Refusal) → Grown (refuse r Front) (refuse r buf)
+  grown-refuse r = (refl, take-append-drop 8192 buf)
 
   grown-write : (w : List ℕ) → length w ≤ 8192 → Grown (write-at-start w Front) (write-at-start w buf)
   grown-write w h =
@@ -182,15 +184,15 @@ module _ (buf : List ℕ) (long : 8192 < length buf) where
       let l = front-length in
       let m : min 8192 (length Front) ≡ 8192 = omega arith in
       let k : min 8192 (length buf) ≡ 8192 = omega arith in
-      rw (m, k) (test (leb (length (f x)) 8192) (λ t. rw t (grown-write (f x) (leb-true _ _ t))) λ t. rw t (grown-refuse MessageRoom 0))
-  grown-judged f v (refused c l) = grown-refuse c (length v - l)
+      rw (m, k) (test (leb (length (f x)) 8192) (λ t. rw t (grown-write (f x) (leb-true _ _ t))) λ t. rw t (grown-refuse (OfValue MessageRoom 0)))
+  grown-judged f v (refused c l) = grown-refuse (OfValue c (length v - l))
 
   grown : (T : Table) (n t : ℕ) (v : List ℕ) → Grown (writeOutcome T n t v Front) (writeOutcome T n t v buf)
   unfolding writeOutcome if
   grown T n t v =
       test (ltb t n)
-      (λ a. test (leb (length v) 16384) (λ c. rw (a, c) (grown-judged (formAt T 24 t) v (judgeWhole T 24 t v))) λ c. rw (a, c) (grown-refuse ValueShape 0))
-      (λ a. rw a (grown-refuse NoType 0))
+      (λ a. test (leb (length v) 16384) (λ c. rw (a, c) (grown-judged (formAt T 24 t) v (judgeWhole T 24 t v))) λ c. rw (a, c) (grown-refuse (OfValue ValueShape 0)))
+      (λ a. rw a (grown-refuse (OfTable NoType 0)))
 
   pub out-front : (T : Table) (n t : ℕ) (v : List ℕ) (r : Told) (w : List ℕ) → Says (writeOutcome T n t v Front) r w
       → Says (writeOutcome T n t v buf) r (w ++ drop 8192 buf)

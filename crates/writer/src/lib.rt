@@ -12,6 +12,7 @@ ghost use Rattle.table.specs.Entries.{tableIn, Filled};
 ghost use Rattle.table.specs.Passes.{Passes};
 ghost use Rattle.coding.specs.Calls.{writeOutcome, wholeWrite};
 use coding::Answer;
+use coding::Refusal;
 use judge::Judged;
 use octets::cause::Cause;
 use table::Verdict;
@@ -37,32 +38,32 @@ fn write_passed(
         ⌝ }
 {
     if n <= t {
-        return Answer::Refused {
+        return Answer::Refused(Refusal::Table {
             cause: Cause::NoType,
             place: 0,
-        };
+        });
     }
     if 16384 < value.len() {
-        return Answer::Refused {
+        return Answer::Refused(Refusal::Value {
             cause: Cause::ValueShape,
             place: 0,
-        };
+        });
     }
     let mut notes = [1u16; 4096];
     match judge::judge(table, index, t, value, &mut notes) {
-        Judged::Refused { cause, place } => Answer::Refused { cause, place },
+        Judged::Refused { cause, place } => Answer::Refused(Refusal::Value { cause, place }),
         Judged::Done { end, size } => {
             if end < value.len() {
-                return Answer::Refused {
+                return Answer::Refused(Refusal::Value {
                     cause: Cause::ValueShape,
                     place: end,
-                };
+                });
             }
             if buf.len() < size {
-                return Answer::Refused {
+                return Answer::Refused(Refusal::Value {
                     cause: Cause::MessageRoom,
                     place: 0,
-                };
+                });
             }
             put::put(table, index, t, value, &notes, buf);
             Answer::Done(size)
@@ -82,7 +83,7 @@ pub fn write(table: &[u8], t: usize, value: &[u8], buf: &mut [u8]) -> Answer
     let c = table::check_into(table, &mut index);
     let verdict = c.verdict;
     match verdict {
-        Verdict::Refused { cause, place } => Answer::Refused { cause, place },
+        Verdict::Refused { cause, place } => Answer::Refused(Refusal::Table { cause, place }),
         Verdict::Passed => {
             if 8192 < buf.len() {
                 let room = &mut buf[..8192];
