@@ -20,21 +20,22 @@ use Rattle.table.specs.Passes.{Passes}
 use Rattle.table.specs.Verdict.{verdict}
 use Rattle.table.specs.declared.Verdict.{Verdict}
 use Rattle.table.specs.declared.Verdict.the-variants.{Passed, Refused}
+use Rattle.table.proofs.Promises.{cause-low}
 use Rattle.table.proofs.Theorems.{rules-kept, named-first, first-named, passed-none, none-passed}
 use Rattle.coding.specs.Value.{Value, octets, depth}
 use Rattle.coding.specs.Encodes.{Encodes}
 use Rattle.coding.specs.Typed.{WellTyped}
 use Rattle.coding.specs.Shaped.{Shaped}
 use Rattle.coding.specs.Judging.{judgeWhole}
-use Rattle.coding.specs.Outcome.{levels, longestValue, longestMessage, Refusal, of-table, of-value, of-message, done, refusal, Outcome, refuse}
+use Rattle.coding.specs.Outcome.{levels, longestValue, longestMessage, Refusal, of-table, of-value, of-message, OfStage, done, refusal, Outcome, refuse}
 use Rattle.coding.specs.Calls.{readOutcome, writeOutcome, wholeRead, wholeWrite, checkAnswer}
 use Rattle.coding.specs.Demands.{Accepted, NoSuchType, OfType, MessageRefused, NoRoomForValue, Read, ValueRefused, NoRoomForMessage, Wrote, Received, Sent}
 use Rattle.coding.proofs.FirstTags.{Good, good}
 use Rattle.coding.proofs.Levels.{retype}
 use Rattle.coding.proofs.Judging.{judge-octets}
 use Rattle.coding.proofs.Shaped.{Limited, limited, encodes-shaped}
-use Rattle.coding.proofs.Outcomes.{Beyond, reading, writing, long-exactly, refused-exactly, lacks-exactly, read-exactly, received, read-beyond, read-unchanged, read-stage, read-never-value, write-stage, write-never-message, judged-exactly, full-exactly, written-exactly, sent, write-beyond, write-unchanged, done≢refusal, message-beyond, value-beyond, done-beyond}
-use Rattle.coding.proofs.Stages.{never, call, call-found, found-exactly, table-exactly, type-exactly, call-unchanged}
+use Rattle.coding.proofs.Outcomes.{Beyond, reading, writing, long-exactly, refused-exactly, lacks-exactly, read-exactly, received, read-beyond, read-unchanged, read-stage, read-never-value, write-stage, write-never-message, judged-exactly, full-exactly, written-exactly, sent, write-beyond, write-unchanged, done≢refusal, message-beyond, value-beyond, done-beyond, staged-by, read-staged, write-staged}
+use Rattle.coding.proofs.Stages.{never, call, call-found, found-exactly, table-exactly, type-exactly, call-unchanged, call-staged}
 
 -- both outcomes are those of a call: the table is judged, the type is looked for, then it is read or written
 
@@ -161,6 +162,26 @@ module _ (b : List ℕ) (o : Octets b) where
     unfolding wholeWrite writeOutcome
     write-refuses-no-message c p =
         never b t buf (λ T. writing T t v buf) o (refusal (of-message c p)) (message-beyond c p buf) (λ T e. write-never-message T t v buf c p (write-stage T t v buf o′) e)
+
+-- every refusal is of the stage that its number says
+
+pub check-stages : (b : List ℕ) (r : Refusal) → checkAnswer (verdict b) ≡ refusal r → OfStage r
+unfolding checkAnswer
+check-stages b r e = by (verdict b) refl e
+  where
+    by : (v : Verdict) → verdict b ≡ v → checkAnswer v ≡ refusal r → OfStage r
+    by Passed q e = done≢refusal e
+    by (Refused c p) q e =
+        let k = cause-low b c p q in
+        staged-by {x = refuse (of-table c p) []} (of-table c p) (omega arith) refl r e
+
+pub read-stages : (b : List ℕ) (t : ℕ) (m buf : List ℕ) → Octets m → (r : Refusal) → wholeRead b t m buf .answer ≡ refusal r → OfStage r
+unfolding wholeRead readOutcome
+read-stages b t m buf o = call-staged b t buf (λ T. reading T t m buf) (λ T. read-staged T t m buf o)
+
+pub write-stages : (b : List ℕ) (t : ℕ) (v buf : List ℕ) → Octets v → (r : Refusal) → wholeWrite b t v buf .answer ≡ refusal r → OfStage r
+unfolding wholeWrite writeOutcome
+write-stages b t v buf o = call-staged b t buf (λ T. writing T t v buf) (λ T. write-staged T t v buf o)
 
 -- a refusal leaves the buffer as it was
 

@@ -26,7 +26,7 @@ use Rattle.coding.specs.Form.{formAt}
 use Rattle.coding.specs.Judging.{judgeWhole}
 use Rattle.coding.specs.Reading.{readMessage}
 use Rattle.coding.specs.Calls.{afterReading, afterJudging}
-use Rattle.coding.specs.Outcome.{levels, longestValue, longestMessage, Refusal, of-table, of-value, of-message, Told, done, refusal, Outcome, refuse, write-at-start}
+use Rattle.coding.specs.Outcome.{levels, longestValue, longestMessage, Refusal, of-table, of-value, of-message, OfStage, Told, done, refusal, Outcome, refuse, write-at-start}
 use Rattle.coding.specs.Demands.{MessageRefused, NoRoomForValue, Read, ValueRefused, over-long, as-judged, NoRoomForMessage, Wrote, Received, Sent}
 use Rattle.coding.proofs.FirstTags.{Good}
 use Rattle.coding.proofs.Levels.{relevel, retype, deep}
@@ -44,6 +44,16 @@ Beyond x = (c : Cause) (p : ℕ) → x .answer ≡ refusal (of-table c p) → �
 -- where an outcome refuses, the buffer is as it was
 abbrev pub Unchanged : List ℕ → Outcome → Type 0
 Unchanged buf x = (r : Refusal) → x .answer ≡ refusal r → x .buffer ≡ buf
+
+-- every refusal is of the stage that its number says
+abbrev pub Staged : Outcome → Type 0
+Staged x = (r : Refusal) → x .answer ≡ refusal r → OfStage r
+
+pub staged-by : {x : Outcome} {buf : List ℕ} (s : Refusal) → OfStage s → x ≡ refuse s buf → Staged x
+staged-by s h z r e = let q : s ≡ r = same s r (sym (ap (λ (o : Outcome). o .answer) z) ∙ e) in rw (← q) h
+  where
+    same : (s r : Refusal) → refusal s ≡ refusal r → s ≡ r
+    same s r e = cc
 
 -- the stage of an answer: done, of the table, of the value, of the message
 abbrev stageOf : Told → ℕ
@@ -144,6 +154,23 @@ module _ (T : Table) (t : ℕ) (m buf : List ℕ) where
   read-never-value c p (refused-at d j i x z) e = let q : _≡_ {A = ℕ} 3 2 = ap stageOf (sym (answers z) ∙ e) in omega arith
   read-never-value c p (no-room x z) e = let q : _≡_ {A = ℕ} 3 2 = ap stageOf (sym (answers z) ∙ e) in omega arith
   read-never-value c p (is-read j after x z) e = done≢refusal (sym (answers z) ∙ e)
+
+  pub read-staged : Octets m → Staged (reading T t m buf)
+  read-staged o = by (read-stage o)
+    where
+      late : {c : Cause} → OfMessage c → 21 ≤ causeNumber c
+      late is-22 = omega arith
+      late is-23 = omega arith
+      late is-24 = omega arith
+      late is-25 = omega arith
+      late is-26 = omega arith
+      late is-28 = omega arith
+
+      by : {x : Outcome} → ReadStage T t m buf x → Staged x
+      by (too-long h z) = staged-by (of-message MessageLength 0) (omega arith) z
+      by (refused-at c p i x z) = staged-by (of-message c p) (late i) z
+      by (no-room x z) = staged-by (of-message ValueRoom 0) (omega arith) z
+      by (is-read k after x z) = λ r e. done≢refusal (sym (answers z) ∙ e)
 
   pub read-within : length m ≤ longestMessage → (x : Answer Value) → readMessage T levels t m ≡ x → reading T t m buf ≡ afterReading m buf x
   read-within h x e = simp (run, le-leb (length m) longestMessage h, e)
@@ -299,6 +326,19 @@ module _ (T : Table) (t : ℕ) (v buf : List ℕ) where
   write-never-message c p (WriteStage.refused-at d j i x z) e = let q : _≡_ {A = ℕ} 2 3 = ap stageOf (sym (answers z) ∙ e) in omega arith
   write-never-message c p (WriteStage.no-room x z) e = let q : _≡_ {A = ℕ} 2 3 = ap stageOf (sym (answers z) ∙ e) in omega arith
   write-never-message c p (is-written j after x z) e = done≢refusal (sym (answers z) ∙ e)
+
+  pub write-staged : Octets v → Staged (writing T t v buf)
+  write-staged o = by (write-stage o)
+    where
+      low : {c : Cause} → OfValue c → (11 ≤ causeNumber c) × (causeNumber c ≤ 14)
+      low is-11 = (omega arith, omega arith)
+      low is-12 = (omega arith, omega arith)
+      low is-13 = (omega arith, omega arith)
+
+      by : {x : Outcome} → WriteStage T t v buf x → Staged x
+      by (WriteStage.refused-at c p i x z) = staged-by (of-value c p) (low i) z
+      by (WriteStage.no-room x z) = staged-by (of-value MessageRoom 0) (omega arith, omega arith) z
+      by (is-written k after x z) = λ r e. done≢refusal (sym (answers z) ∙ e)
 
   write-within : length v ≤ longestValue → (x : Answer Value) → judgeWhole T levels t v ≡ x → writing T t v buf ≡ afterJudging (formAt T levels t) v buf x
   write-within h x e = simp (run, le-leb (length v) longestValue h, e)

@@ -22,11 +22,12 @@ use Rattle.table.specs.Reading.{scan, look}
 use Rattle.table.specs.Verdict.{verdict}
 use Rattle.table.specs.declared.Verdict.{Verdict}
 use Rattle.table.specs.declared.Verdict.the-variants.{Passed, Refused}
+use Rattle.table.proofs.Promises.{cause-low}
 use Rattle.table.proofs.Theorems.{records-found, table-cause, named-first, first-named, passed-none, none-passed, passed-records}
 use Rattle.coding.specs.Outcome.{of-table, refusal, Outcome, refuse, Told}
 use Rattle.coding.specs.Calls.{afterCheck}
 use Rattle.coding.specs.Demands.{Accepted, NoSuchType, OfType}
-use Rattle.coding.proofs.Outcomes.{Beyond, Unchanged}
+use Rattle.coding.proofs.Outcomes.{Beyond, Unchanged, Staged, staged-by}
 
 same-table : {c d : Cause} {p q : ℕ} {b w : List ℕ} → refuse (of-table c p) b ≡ refuse (of-table d q) w → (c ≡ d) × (p ≡ q)
 same-table {c} {d} {p} {q} e = let z : refusal (of-table c p) ≡ refusal (of-table d q) = ap (λ (o : Outcome). o .answer) e in (cc, cc)
@@ -127,3 +128,15 @@ module _ (b : List ℕ) (t : ℕ) (buf : List ℕ) (g : Table → Outcome) where
   -- a refusal leaves the buffer as it was, whatever the octets are
   pub call-unchanged : ((T : Table) → Unchanged buf (g T)) → Unchanged buf call
   call-unchanged f = after-unchanged f (verdict b)
+
+  -- a refusal is of the stage that its number says
+  pub call-staged : ((T : Table) → Staged (g T)) → Staged call
+  unfolding afterCheck
+  call-staged f = after-staged (verdict b) refl
+    where
+      step-staged : (T : Table) (n : ℕ) → Staged (step T n)
+      step-staged T n = if-cases Staged (not (ltb t n)) _ _ (λ e. staged-by (of-table NoType 0) (omega arith) refl) λ e. f T
+
+      after-staged : (v : Verdict) → verdict b ≡ v → Staged (afterCheck b buf step v)
+      after-staged Passed e = step-staged (look b (scan b .offsets)) (length (scan b .offsets))
+      after-staged (Refused c p) e = let k = cause-low b c p e in staged-by (of-table c p) (omega arith) refl

@@ -1,7 +1,7 @@
 -- The outcomes of check, write and read: the answer, and what the lent buffer then holds (FORMATS, "Refusals" and "Limits").
 -- Assumes nothing.
 use mathlib.Core.List.{List, _++_}
-use Prim.Native.Nat.{ℕ}
+use Prim.Native.Nat.{ℕ, _≤_}
 use lib.ListN.{length, drop}
 use Rattle.octets.specs.Causes.{causeNumber}
 pub use Rattle.coding.specs.declared.Refusal.{Refusal}
@@ -29,6 +29,12 @@ abbrev pub placeOf : Refusal → ℕ
 placeOf (of-table c p) = p
 placeOf (of-value c p) = p
 placeOf (of-message c p) = p
+
+-- 1 to 7 are of the table, 11 to 14 of the value, all others of the message
+abbrev pub OfStage : Refusal → Type 0
+OfStage (of-table c p) = causeNumber c ≤ 7
+OfStage (of-value c p) = (11 ≤ causeNumber c) × (causeNumber c ≤ 14)
+OfStage (of-message c p) = 21 ≤ causeNumber c
 
 -- what is told, and what the lent buffer then holds; done tells the length written
 pub record Outcome : Type 0 where

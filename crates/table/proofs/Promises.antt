@@ -8,6 +8,7 @@ use Prim.Native.Nat.{ℕ, _+_, _-_, _*_, _≤_, _<_}
 use lib.Dec.{ltb, leb, eqb}
 use lib.ListN.{length, getD}
 use Rattle.octets.specs.Lists.{all}
+use Rattle.octets.specs.Causes.{causeNumber}
 use Rattle.octets.specs.Numbers.{two}
 use Rattle.octets.specs.declared.cause.Cause.{Cause}
 use Rattle.table.specs.Syntax.{Tag, Member, Enumerated, Plain, Sequence, Set, SequenceOf, SetOf, Choice, Record, references, isChoice, constructed}
@@ -25,10 +26,13 @@ use Rattle.table.proofs.Loops as loops
 use Rattle.table.proofs.Entries as entries
 use Rattle.table.proofs.Places as places
 
--- The verdict, of any list: the place of a refusal, and the length of what passes.
+-- The verdict, of any list: the place and the cause of a refusal, and the length of what passes.
 
 pub place-small : (b : List ℕ) (c : Cause) (p : ℕ) → verdict b ≡ Refused c p → p ≤ 128
 place-small = places.place-small
+
+pub cause-low : (b : List ℕ) (c : Cause) (p : ℕ) → verdict b ≡ Refused c p → causeNumber c < 7
+cause-low = places.cause-low
 
 pub passed-short : (b : List ℕ) → verdict b ≡ Passed → length b ≤ 8192
 passed-short = places.passed-short
