@@ -6,7 +6,7 @@ use mathlib.Core.Path.{_≡_, refl, sym, _∙_}
 use Prim.Native.Nat.{ℕ, zero, suc, _+_, _-_, _≤_, _<_}
 use native.Mathlib.Omega.{arith}
 use lib.Dec.{eqb}
-use lib.ListN.{length, getD, set}
+use lib.ListN.{length, getD, set, length-set}
 use lib.Seq.{getD-set-same, getD-set-other}
 use borrow.Author.Tests.{eqb-true, eqb-false}
 use Rattle.octets.proofs.Tests.{test}
@@ -22,7 +22,7 @@ use Rattle.table.proofs.Loops.{every-step}
 use Rattle.table.proofs.Nodes.{like-low}
 use Rattle.table.proofs.Rules.{near-counted, entered-below, entry-at}
 use Rattle.table.proofs.Alike.{code-none}
-use Rattle.table.proofs.Walk.{walks-append, Kept, kept, newly, keeps, marked}
+use Rattle.table.proofs.Walk.{walks-append, Kept, kept, newly, keeps, stays, marked}
 
 -- no octet is left
 pub every-none : (step : ℕ) (b : List ℕ) (p n : ℕ) → n ≤ 0 → everyAt step b p n ≡ []
@@ -81,6 +81,10 @@ module _ {T : Table} {m : ℕ} {v ks w : List ℕ} (step : ℕ) (b : List ℕ) (
   pub next-turn : {u : List ℕ} {r : Bool} → Gathered T m w a r u → r ≡ false → Going T m v ks u (everyAt step b (p + step) (n - 1))
   next-turn y f = going-turn next-is (y .walked f)
 
+-- the mark behind the marks of the records stays
+pub going-mark : {T : Table} {v ks w rest : List ℕ} → Going T (getD v 128 0) v ks w rest → getD w 128 0 ≡ getD v 128 0
+going-mark x = stays (x .walked) 128 refl
+
 -- the four ways out of `gather`; q stands for record k
 module _ (T : Table) (m : ℕ) (v : List ℕ) (k q : ℕ) (e : q ≡ like T k) where
   pub gathered-seen : getD v q 0 ≡ m → Gathered T m v k false v
@@ -123,7 +127,7 @@ module _ (T : Table) (m : ℕ) (v : List ℕ) (k : ℕ) {w : List ℕ} (b : List
       record { met = λ z. absurd (false≢true z); walked = λ _. going-done (rw (every-none 1 b p n h) at x); fewer = g }
 
 pub gathers-from : {b index nodes : List ℕ} {n : ℕ} → Filled b index n → Ready (tableIn b) n nodes → Named (tableIn b) n → {v : List ℕ} {t : ℕ}
-    → length v ≡ 128 → t < n → Gathers b index nodes v t
+    → length v ≡ 129 → t < n → Gathers b index nodes v t
 gathers-from x r m l h =
     record { filled = rw (x .count) at x; ready = rw (x .count) at r; named = rw (x .count) at m; marks = l; there = rw (x .count) at h }
 
@@ -135,8 +139,24 @@ module _ {b index nodes v : List ℕ} {t : ℕ} (x : Gathers b index nodes v t) 
   pub stand-in-small : getD nodes t 0 < 128
   stand-in-small = omega (arith, stand-in, like-low (tableIn b) t, x .there, x .filled .few)
 
-  pub gathers-at : {w : List ℕ} (a : ℕ) → length w ≡ 128 → a < countIn b → Gathers b index nodes w a
+  pub stand-in-within : getD nodes t 0 < length v
+  stand-in-within = omega (arith, stand-in-small, x .marks)
+
+  pub gathers-at : {w : List ℕ} (a : ℕ) → length w ≡ 129 → a < countIn b → Gathers b index nodes w a
   gathers-at a l h = record { filled = x .filled; ready = x .ready; named = x .named; marks = l; there = h }
+
+  -- the mark behind the marks of the records, put on the record that stands for t
+  abbrev pub put : List ℕ
+  put = set v (getD nodes t 0) (getD v 128 0)
+
+  pub put-fewer : getD v (getD nodes t 0) 0 ≡ 0 → (getD v 128 0 ≡ 0 → ⊥) → free put < free v
+  put-fewer e z = omega (arith, marked v (getD nodes t 0) (getD v 128 0) stand-in-within e z)
+
+  pub put-mark : getD put 128 0 ≡ getD v 128 0
+  put-mark = getD-set-other v (getD nodes t 0) 128 (getD v 128 0) 0 (λ z. omega (arith, stand-in-small, z))
+
+  pub put-gathers : Gathers b index nodes put t
+  put-gathers = gathers-at t (length-set v (getD nodes t 0) (getD v 128 0) ∙ x .marks) (x .there)
 
   module _ {e : Entry} (d : e ≡ unpacked (getD index t 0)) {s : Span} (q : s ≡ counted b (e .own) 1) (o : Octets b) where
     pub alternatives-near : Near s

@@ -11,6 +11,7 @@ mod Own
 mod Walk
 mod Nodes
 mod Straight
+mod Flags
 mod Gather
 mod Shared
 mod Judged

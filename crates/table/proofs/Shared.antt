@@ -9,8 +9,8 @@ use Prim.Native.Nat.{ℕ, zero, suc, _+_, _-_, _≤_, _<_}
 use native.Mathlib.Nat.{not-suc-le-zero, le-of-suc-le-suc}
 use native.Mathlib.Omega.{arith}
 use lib.Dec.{eqb, ltb, leb}
-use lib.ListN.{length, getD, length-append, length-map, List·getD-append}
-use lib.Seq.{getD-append-seam}
+use lib.ListN.{length, getD, set, take, length-append, length-map, List·getD-append}
+use lib.Seq.{getD-append-seam, getD-take}
 use borrow.Author.Tests.{ltb-true, ltb-false, leb-true, eq-eqb}
 use Rattle.octets.specs.Lists.{any}
 use Rattle.octets.proofs.Tests.{test}
@@ -23,6 +23,7 @@ use Rattle.table.specs.Decide.{circular, pair, sharing}
 use Rattle.table.specs.Walk.{like, Hits, Walks, Met, GatheredUnder, Straight}
 use Rattle.table.proofs.Nodes.{hits-reaches, reaches-hits, first-record, first-hits}
 use Rattle.table.proofs.Walk.{Kept, kept, newly, keeps, complete}
+use Rattle.table.proofs.Flags.{walked-low, met-low}
 use Rattle.table.proofs.Pieces.{length-every}
 use Rattle.table.proofs.Reading.{limits}
 use Rattle.table.proofs.Straight.{share-tag}
@@ -36,10 +37,6 @@ at-in [] i h = absurd (not-suc-le-zero h)
 at-in (x ∷ l) zero h = first-of refl
 at-in (x ∷ l) (suc i) h = later (at-in l i (le-of-suc-le-suc h))
 
--- with one mark alone, no other is met
-one-mark : {T : Table} {v w : List ℕ} {k : ℕ} (r : Bool) → Zero v → GatheredUnder T 1 v k r w → r ≡ false
-one-mark r z x = test r (λ e. let (a, i, y) = x .met e in absurd (y .marked (z (y .node)))) (λ e. e)
-
 -- a record that has something below it has no tags
 untagged : (gs : List Tag) (b : Body) (a : ℕ) → In a (tagsBelow gs b) → gs ≡ []
 unfolding tagsBelow
@@ -47,13 +44,10 @@ untagged [] b a i = refl
 untagged (g ∷ gs) b a i = absurd (not-in-nil i)
 
 -- whether a walk from the alternatives comes back to the record
-pub circle-end : (T : Table) (t : ℕ) {v w : List ℕ} {q : Bool} (r : Bool) → Zero v → GatheredUnder T 1 v t q w → r ≡ not (eqb (getD w t 0) 0)
+circle-by : (T : Table) (t : ℕ) {v w : List ℕ} (r : Bool) → Zero v → Walks T 1 v (below T t) w → r ≡ not (eqb (getD w t 0) 0)
     → (r ≡ true → Circular T t) × (r ≡ false → Circular T t → ⊥)
-circle-end T t {v} {w} {q} r z x e = (λ f. yes f (keeps y t), λ f c. none f c)
+circle-by T t {v} {w} r z y e = (λ f. yes f (keeps y t), λ f c. none f c)
   where
-    y : Walks T 1 v (below T t) w
-    y = x .walked (one-mark q z x)
-
     yes : r ≡ true → Kept T 1 v (below T t) w t → Circular T t
     yes f (kept q) = absurd (false≢true (sym (rw (eq-eqb (getD w t 0) 0 (q ∙ z t)) at e) ∙ f))
     yes f (newly o q k i hit) = record { alternative = k; of = i; back = hits-reaches T (untagged (T t .tags) (T t .body) k i) hit }
@@ -61,8 +55,19 @@ circle-end T t {v} {w} {q} r z x e = (λ f. yes f (keeps y t), λ f c. none f c)
     none : r ≡ false → Circular T t → ⊥
     none f c =
         let g = untagged (T t .tags) (T t .body) (c .alternative) (c .of) in
-        let q = complete {m = 1} (λ o. omega arith) (λ j o. omega (arith, z j, o)) y (c .alternative) (c .of) (reaches-hits T g (c .back)) in
+        let q = complete {m = 1} (λ j o. omega (arith, z j, o)) y (c .alternative) (c .of) (reaches-hits T g (c .back)) in
         true≢false (sym (rw q at e) ∙ f)
+
+module _ {T : Table} {n : ℕ} (few : n ≤ 128) (there : (s a : ℕ) → s < n → In a (below T s) → a < n) (t : ℕ) (h : t < n)
+    (v : List ℕ) (l : length v ≡ 129) (z : Zero (take 128 v)) {w : List ℕ} {q : Bool}
+    (x : GatheredUnder T (getD (set v 128 1) 128 0) (set v 128 1) t q w) where
+  -- with one mark alone, no other is met
+  one-mark : q ≡ false
+  one-mark = test q (λ e. let (a, i, y) = x .met e in let k = met-low v 1 l y in absurd (k .marked (z (k .node)))) (λ e. e)
+
+  pub circle-end : (r : Bool) → r ≡ not (eqb (getD w t 0) 0) → (r ≡ true → Circular T t) × (r ≡ false → Circular T t → ⊥)
+  circle-end r e =
+      circle-by T t r z (walked-low v 1 l few there (λ a. there t a h) (x .walked one-mark)) (rw (← getD-take 128 w t 0 (omega arith)) at e)
 
 -- a record with tags is in no circle
 pub no-circle : (T : Table) (n t : ℕ) → below T t ≡ [] → circular T n t ≡ false
@@ -97,7 +102,7 @@ module _ (T : Table) (m : ℕ) (ps w u rest : List ℕ) (a : ℕ) (x : Owned T p
         test (ltb i (length (x .past)))
         (λ t. let k = ltb-true i (length (x .past)) t in before k (x .own i q k (rw (List·getD-append (x .past) (a ∷ []) 0 i k) at h)) (keeps y q))
         (λ t. let k : i ≡ length (x .past) = omega (arith, ltb-false i (length (x .past)) t, size) in
-        complete (λ z. omega (arith, e, z)) fresh-mark y a (first-of refl) (rw getD-append-seam at (rw k at h)) ∙ e ∙ ap suc (sym k))
+        complete fresh-mark y a (first-of refl) (rw getD-append-seam at (rw k at h)) ∙ e ∙ ap suc (sym k))
       where
         before : i < length (x .past) → getD w q 0 ≡ suc i → Kept T m w (a ∷ []) u q → getD u q 0 ≡ suc i
         before k f (kept p) = p ∙ f

@@ -70,22 +70,22 @@ module _ {T : Table} {m : ℕ} where
   keeps (down {v} {u} {w} {ks} {k} h e x y) j = three v u w ks k j h e (keeps x j) (keeps y j)
 
   -- a mark stays
-  pub stays : {v ks w : List ℕ} → Walks T m v ks w → (j : ℕ) → getD v j 0 ≡ m → (m ≡ 0 → ⊥) → getD w j 0 ≡ m
-  stays {v} {ks} {w} x j e z = by (keeps x j)
+  pub stays : {v ks w : List ℕ} → Walks T m v ks w → (j : ℕ) → getD v j 0 ≡ m → getD w j 0 ≡ m
+  stays {v} {ks} {w} x j e = by (keeps x j)
     where
       by : Kept T m v ks w j → getD w j 0 ≡ m
       by (kept p) = p ∙ e
       by (newly y p a i h) = p
 
   -- each record that was to be walked is marked
-  pub walked : {v ks w : List ℕ} → Walks T m v ks w → (m ≡ 0 → ⊥) → (k : ℕ) → In k ks → getD w (like T k) 0 ≡ m
-  walked done z k i = absurd (not-in-nil i)
-  walked (seen {v = v} {w = w} {ks = ks} {k = a} e x) z k i =
-      ⊎-elim (λ q. rw q (stays x (like T a) e z)) (λ l. walked x z k l) (in-cons i)
-  walked (down {v = v} {u = u} {w = w} {ks = ks} {k = a} h e x y) z k i =
+  pub walked : {v ks w : List ℕ} → Walks T m v ks w → (k : ℕ) → In k ks → getD w (like T k) 0 ≡ m
+  walked done k i = absurd (not-in-nil i)
+  walked (seen {v = v} {w = w} {ks = ks} {k = a} e x) k i =
+      ⊎-elim (λ q. rw q (stays x (like T a) e)) (λ l. walked x k l) (in-cons i)
+  walked (down {v = v} {u = u} {w = w} {ks = ks} {k = a} h e x y) k i =
       ⊎-elim
-      (λ q. rw q (stays y (like T a) (stays x (like T a) (getD-set-same v (like T a) m 0 h) z) z))
-      (λ l. walked y z k l)
+      (λ q. rw q (stays y (like T a) (stays x (like T a) (getD-set-same v (like T a) m 0 h))))
+      (λ l. walked y k l)
       (in-cons i)
 
 -- what stands for the records under a record that j stands for
@@ -102,7 +102,7 @@ like-below T k l e = by (T k .tags) refl (T l .tags) refl
     by (g ∷ gs) p [] q = ap (λ t. below T t) (like-alone T k l q (sym (like-untagged T l q) ∙ sym e))
     by (g ∷ gs) p (h ∷ hs) q = rw (p, q)
 
-module _ {T : Table} {m : ℕ} (z : m ≡ 0 → ⊥) where
+module _ {T : Table} {m : ℕ} where
   -- a node that the walk marks has all marked that stands under it
   pub closed : {v ks w : List ℕ} → Walks T m v ks w → (j : ℕ) → getD w j 0 ≡ m → (getD v j 0 ≡ m) ⊎ Under T m w j
   closed done j e = inl e
@@ -111,9 +111,9 @@ module _ {T : Table} {m : ℕ} (z : m ≡ 0 → ⊥) where
       ⊎-elim
       (λ p. ⊎-elim
       (λ q. test (eqb j (like T k))
-      (λ s. inr (λ l r a i. stays y (like T a) (walked x z a (rw (like-below T l k (r ∙ eqb-true j (like T k) s)) at i)) z))
+      (λ s. inr (λ l r a i. stays y (like T a) (walked x a (rw (like-below T l k (r ∙ eqb-true j (like T k) s)) at i))))
       (λ n. inl (sym (getD-set-other v (like T k) j m 0 (eqb-false j (like T k) n)) ∙ q)))
-      (λ c. inr (λ l r a i. stays y (like T a) (c l r a i) z))
+      (λ c. inr (λ l r a i. stays y (like T a) (c l r a i)))
       (closed x j p))
       (λ c. inr c)
       (closed y j e)
@@ -124,4 +124,4 @@ module _ {T : Table} {m : ℕ} (z : m ≡ 0 → ⊥) where
 
   -- from no such mark, all that is hit is marked
   pub complete : {v ks w : List ℕ} → ((j : ℕ) → getD v j 0 ≡ m → ⊥) → Walks T m v ks w → (k : ℕ) → In k ks → {q : ℕ} → Hits T q k → getD w q 0 ≡ m
-  complete {w = w} n x k i h = spread w (λ j e. ⊎-elim (λ p. absurd (n j p)) (λ c. c) (closed x j e)) h (walked x z k i)
+  complete {w = w} n x k i h = spread w (λ j e. ⊎-elim (λ p. absurd (n j p)) (λ c. c) (closed x j e)) h (walked x k i)

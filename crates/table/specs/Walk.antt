@@ -89,10 +89,10 @@ pub record GatheredUnder (T : Table) (m : ℕ) (v : List ℕ) (k : ℕ) (r : Boo
   pub walked : r ≡ false → Walks T m v (below T k) w
   pub fewer : free w ≤ free v
 
--- what a walk from t needs: the index, what stands for each record, and marks
+-- what a walk from t needs: the index, what stands for each record, and the marks of 128 records with the one that is put behind them
 pub record Gathers (b index nodes flags : List ℕ) (t : ℕ) : Type 0 where
   pub filled : Filled b index (countIn b)
   pub ready : Ready (tableIn b) (countIn b) nodes
   pub named : Named (tableIn b) (countIn b)
-  pub marks : length flags ≡ 128
+  pub marks : length flags ≡ 129
   pub there : t < countIn b

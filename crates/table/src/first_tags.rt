@@ -54,20 +54,24 @@ pub(crate) fn stand_ins(table: &[u8], index: &[u64; 128], n: usize, nodes: &mut 
     }
 }
 
+// Where the mark stands that a walk puts: behind the flags of the 128 records. As a parameter it would widen each frame of `gather` and
+// `gather_under`, a recursion of up to 127 calls.
+const MARK: usize = 128;
+
 // Marks what stands for record t, and for the records under it through CHOICEs without tags. True if another mark was met.
 fn gather(
     table: &[u8],
     index: &[u64; 128],
     nodes: &[u8; 128],
-    flags: &mut [u8; 128],
+    flags: &mut [u8; 129],
     t: usize,
-    mark: u8,
 ) -> bool
     requires { ⌜ Gathers (now table) (now index) (now nodes) (now flags) t ⌝ }
-    ensures { λ r. ⌜ Gathered (tableIn (now (table .entry))) mark (now (flags .entry)) t r (now (flags .exit)) ⌝ }
+    ensures { λ r. ⌜ Gathered (tableIn (now (table .entry))) (getD (now (flags .entry)) 128 0) (now (flags .entry)) t r (now (flags .exit)) ⌝ }
 {
     let q = nodes[t] as usize;
     let f = flags[q];
+    let mark = flags[MARK];
     if f == mark {
         return false;
     }
@@ -78,7 +82,7 @@ fn gather(
     if first(index[t]) != UNTAGGED {
         return false;
     }
-    gather_under(table, index, nodes, flags, t, mark)
+    gather_under(table, index, nodes, flags, t)
 }
 
 // The same for the alternatives of the CHOICE without tags t.
@@ -86,19 +90,18 @@ fn gather_under(
     table: &[u8],
     index: &[u64; 128],
     nodes: &[u8; 128],
-    flags: &mut [u8; 128],
+    flags: &mut [u8; 129],
     t: usize,
-    mark: u8,
 ) -> bool
     requires { ⌜ Gathers (now table) (now index) (now nodes) (now flags) t × (unpacked (getD (now index) t 0) .code ≡ untagged) ⌝ }
-    ensures { λ r. ⌜ GatheredUnder (tableIn (now (table .entry))) mark (now (flags .entry)) t r (now (flags .exit)) ⌝ }
+    ensures { λ r. ⌜ GatheredUnder (tableIn (now (table .entry))) (getD (now (flags .entry)) 128 0) (now (flags .entry)) t r (now (flags .exit)) ⌝ }
 {
     let s = alternatives(table, unpack(index[t]));
     let mut at = s.first;
     let mut left = s.count;
     while 0 < left {
         let a = octet(table, at);
-        if gather(table, index, nodes, flags, a, mark) {
+        if gather(table, index, nodes, flags, a) {
             return true;
         }
         at += 1;
@@ -109,11 +112,12 @@ fn gather_under(
 
 // Whether the CHOICE without tags t reaches itself through such CHOICEs alone.
 fn is_circular(table: &[u8], index: &[u64; 128], nodes: &[u8; 128], t: usize) -> bool
-    requires { ⌜ Gathers (now table) (now index) (now nodes) (replicate 128 0) t × (unpacked (getD (now index) t 0) .code ≡ untagged) ⌝ }
+    requires { ⌜ Gathers (now table) (now index) (now nodes) (replicate 129 0) t × (unpacked (getD (now index) t 0) .code ≡ untagged) ⌝ }
     ensures { λ r. ⌜ (let T = tableIn (now (table .entry)) in (r ≡ true → Circular T t) × (r ≡ false → Circular T t → ⊥)) ⌝ }
 {
-    let mut flags = [0u8; 128];
-    gather_under(table, index, nodes, &mut flags, t, 1);
+    let mut flags = [0u8; 129];
+    flags[MARK] = 1;
+    gather_under(table, index, nodes, &mut flags, t);
     flags[t] != 0
 }
 
@@ -141,17 +145,18 @@ pub(crate) fn lowest_circular(
 
 // Whether two parts of a record share a first tag.
 fn is_sharing(table: &[u8], index: &[u64; 128], nodes: &[u8; 128], t: usize) -> bool
-    requires { ⌜ Gathers (now table) (now index) (now nodes) (replicate 128 0) t × Straight (tableIn (now table)) (countIn (now table)) ⌝ }
+    requires { ⌜ Gathers (now table) (now index) (now nodes) (replicate 129 0) t × Straight (tableIn (now table)) (countIn (now table)) ⌝ }
     ensures { λ r. ⌜ (let T = tableIn (now (table .entry)) in (r ≡ true → Sharing T t) × (r ≡ false → Sharing T t → ⊥)) ⌝ }
 {
     let s = parts(table, unpack(index[t]));
     let mut at = s.first;
     let mut left = s.count;
-    let mut flags = [0u8; 128];
+    let mut flags = [0u8; 129];
     let mut mark: u8 = 1;
     while 0 < left {
         let a = octet(table, at);
-        if gather(table, index, nodes, &mut flags, a, mark) {
+        flags[MARK] = mark;
+        if gather(table, index, nodes, &mut flags, a) {
             return true;
         }
         mark += 1;

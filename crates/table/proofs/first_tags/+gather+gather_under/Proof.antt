@@ -4,15 +4,16 @@ use borrow.Author.Needs.{needs}
 use Prim.Native.Nat.{ℕ, _<_, _≤_, _+_, _*_}
 use mathlib.Core.Path.{_≡_, sym, _∙_}
 use native.Mathlib.Omega.{arith}
-use lib.ListN.{length, getD, length-set}
+use lib.ListN.{length, getD}
 use Rattle.table.specs.Rules.{below}
 use Rattle.table.specs.Reading.{everyAt}
 use Rattle.table.specs.Entries.{tableIn}
 use Rattle.table.specs.Walk.{free}
-use Rattle.table.proofs.Walk.{marked, same-size}
+use Rattle.table.proofs.Walk.{same-size}
 use Rattle.table.proofs.Alike.{below-none}
-use Rattle.table.proofs.Gather.{Going, going-from, next-in, next-turn, gathered-seen, gathered-met, gathered-alone, gathered-under}
-use Rattle.table.proofs.Gather.{under-met, under-done, stand-in, stand-in-small, gathers-at, alternatives-near, alternatives-below}
+use Rattle.table.proofs.Gather.{Going, going-from, going-mark, next-in, next-turn, gathered-seen, gathered-met, gathered-alone, gathered-under}
+use Rattle.table.proofs.Gather.{under-met, under-done, stand-in, stand-in-small, stand-in-within, gathers-at}
+use Rattle.table.proofs.Gather.{put-fewer, put-mark, put-gathers, alternatives-near, alternatives-below}
 use borrow.Fn.Kinds.{In}
 use borrow.Fn.PlainCycle.{Measures, is, falls, and}
 use Rattle.table.proofs.first_tags.gather.Reads as gather
@@ -47,12 +48,12 @@ abbrev gather-under-below : ℕ → In 4 gather-under-kinds.ps
 gather-under-below t = and 4 gather-under-kinds.ps (falls 4 gather-under-kinds.ps _<_ μ-gather-under t) gather-under.Pre
 
 abbrev gather-under-Inv-loop : gather-under-lts.InvT-loop
-gather-under-Inv-loop table index nodes flags₀ t mark at₀ left₀ flags at left =
-    (length flags ≡ 128) × (free flags ≤ free flags₀) × (at + left ≤ 80000)
-    × Going (tableIn table) mark flags₀ (below (tableIn table) t) flags (everyAt 1 table at left)
+gather-under-Inv-loop table index nodes flags₀ t at₀ left₀ flags at left =
+    (length flags ≡ 129) × (free flags ≤ free flags₀) × (at + left ≤ 80000)
+    × Going (tableIn table) (getD flags₀ 128 0) flags₀ (below (tableIn table) t) flags (everyAt 1 table at left)
 
 abbrev gather-under-μ-loop : gather-under-lts.MeasureT-loop
-gather-under-μ-loop table index nodes flags₀ t mark at₀ left₀ flags at left = left
+gather-under-μ-loop table index nodes flags₀ t at₀ left₀ flags at left = left
 
 pub +gather+gather-under-spec : {M : Type 1} → statement M
 +gather+gather-under-spec =
@@ -65,59 +66,32 @@ pub +gather+gather-under-spec : {M : Type 1} → statement M
     gather.Post
     (λ c. omega (arith, c .before .pre .1 .there, c .before .pre .1 .filled .few))  -- gather-element-copy-out-q
     (λ c. omega (arith, stand-in-small (c .before .before .pre .1)))  -- gather-cast-q
-    (λ c. stand-in-small (c .before .before .pre .1))  -- gather-element-copy-out-f
-    (λ c. gathered-seen _ _ _ _ _ (stand-in (c .before .before .before .before .pre .1)) (c .if1 .taken))  -- gather-returns
-    (λ c. gathered-met _ _ _ _ _ (stand-in (c .before .before .before .before .before .pre .1)) (c .if2 .taken) (c .before .if1 .left))  -- gather-returns-2
-    (λ c. stand-in-small (c .before .before .before .before .before .pre .1))  -- gather-element-write-flags
-    (λ c. omega (
-      arith,
-      c .before .before .before .before .before .pre .1 .there,
-      c .before .before .before .before .before .pre .1 .filled .few,
-    ))  -- gather-mul-first
-    (λ c. omega (
-      arith,
-      c .before .before .before .before .before .pre .1 .there,
-      c .before .before .before .before .before .pre .1 .filled .few,
-    ))  -- gather-element-copy-out-first
+    (λ c. omega (arith, stand-in-small (c .before .before .pre .1)))  -- gather-element-copy-out-f
+    (λ c. search needs)  -- gather-element-copy-out-mark
+    (λ c. gathered-seen _ _ _ _ _ (stand-in (c .before .before .before .before .before .pre .1)) (c .if1 .taken))  -- gather-returns
+    (λ c. gathered-met _ _ _ _ _ (stand-in (c .before .before .before .before .before .before .pre .1)) (c .if2 .taken)
+    (c .before .if1 .left))  -- gather-returns-2
+    (λ c. omega (arith, stand-in-small (c .before .before .before .before .before .before .pre .1)))  -- gather-element-write-flags
+    (λ c. let x = c .before .before .before .before .before .before .pre .1 in omega (arith, x .there, x .filled .few))  -- gather-mul-first
+    (λ c. let x = c .before .before .before .before .before .before .pre .1 in omega (arith, x .there, x .filled .few))  -- gather-element-copy-out-first
     (λ c κs. search needs)  -- gather-first-requires
-    (λ c. gathered-alone _ _ _ _ _ (stand-in (c .before .before .before .before .before .before .before .before .pre .1))
-    (omega (
-      arith,
-      stand-in-small (c .before .before .before .before .before .before .before .before .pre .1),
-      c .before .before .before .before .before .before .before .before .pre .1 .marks,
-    )) (c .before .before .before .if2 .left)
+    (λ c. let x = c .before .before .before .before .before .before .before .before .before .pre .1 in
+    gathered-alone _ _ _ _ _ (stand-in x) (stand-in-within x) (c .before .before .before .if2 .left)
     (λ z. c .before .before .before .before .if1 .left (c .before .before .before .if2 .left ∙ sym z))
-    (below-none (c .before .before .before .before .before .before .before .before .pre .1 .filled .entered _
-    (c .before .before .before .before .before .before .before .before .pre .1 .there))
-    (λ z. c .if3 .taken (c .before .first .ensures ∙ z))))  -- gather-returns-3
-    (λ c κs. let a = c .before .before .before .before .before .before .before .before .before .args in let q = getD (a .nodes .now) (a .t) 0 in (
+    (below-none (x .filled .entered _ (x .there)) (λ z. c .if3 .taken (c .before .first .ensures ∙ z))))  -- gather-returns-3
+    (λ c κs. let x = c .before .before .before .before .before .before .before .before .before .before .pre .1 in (
       omega (
         arith,
-        marked (a .flags .now) q (a .mark) (omega (
-          arith,
-          stand-in-small
-              (c .before .before .before .before .before .before .before .before .before .pre .1),
-          c .before .before .before .before .before .before .before .before .before .pre .1 .marks,
-        )) (c .before .before .before .before .if2 .left)
+        put-fewer x (c .before .before .before .before .if2 .left)
             (λ z. c .before .before .before .before .before .if1 .left (c .before .before .before .before .if2 .left ∙ sym z)),
-        c .before .before .before .before .before .before .before .before .before .pre .0,
+        c .before .before .before .before .before .before .before .before .before .before .pre .0,
       ),
-      (
-        gathers-at (c .before .before .before .before .before .before .before .before .before .pre .1) _
-            (length-set (a .flags .now) q (a .mark) ∙ c .before .before .before .before .before .before .before .before .before .pre .1 .marks)
-            (c .before .before .before .before .before .before .before .before .before .pre .1 .there),
-        sym (c .before .before .first .ensures) ∙
-            c .before .if3 .left,
-      ),
+      (put-gathers x, sym (c .before .before .first .ensures) ∙ c .before .if3 .left),
     ))  -- gather-gather-under-requires
-    (λ c. gathered-under _ _ _ _ _ (stand-in (c .before .before .before .before .before .before .before .before .before .before .pre .1))
-    (omega (
-      arith,
-      stand-in-small (c .before .before .before .before .before .before .before .before .before .before .pre .1),
-      c .before .before .before .before .before .before .before .before .before .before .pre .1 .marks,
-    )) (c .before .before .before .before .before .if2 .left)
+    (λ c. let x = c .before .before .before .before .before .before .before .before .before .before .before .pre .1 in
+    gathered-under _ _ _ _ _ (stand-in x) (stand-in-within x) (c .before .before .before .before .before .if2 .left)
     (λ z. c .before .before .before .before .before .before .if1 .left (c .before .before .before .before .before .if2 .left ∙ sym z))
-    (c .gather-under .ensures)))  -- gather-returns-4
+    (rw (put-mark x) at (c .gather-under .ensures))))  -- gather-returns-4
     λ t. gather-under-lts.spec (
       unpack-reads.Asked,
       unpack-reads.Learnt,
@@ -153,8 +127,8 @@ pub +gather+gather-under-spec : {M : Type 1} → statement M
           (next-in 1 _ _ _ _ (c .before .before .before .loop .inv .3) (c .before .before .loop-test .taken) (c .before .octet .ensures .0))),
     ))  -- gather-under-gather-requires
     (λ c. under-met _ _ _ _ _ _ _ (c .before .before .before .before .before .loop .inv .3) _ (c .before .before .before .before .loop-test .taken)
-    (c .before .before .before .octet .ensures .0) (c .before .before .before .before .before .loop .inv .1) (c .before .gather .ensures)
-    (c .if1 .taken))  -- gather-under-returns
+    (c .before .before .before .octet .ensures .0) (c .before .before .before .before .before .loop .inv .1)
+    (rw (going-mark (c .before .before .before .before .before .loop .inv .3)) at (c .before .gather .ensures)) (c .if1 .taken))  -- gather-under-returns
     (λ c. omega (arith, c .before .before .before .before .before .loop .inv .2))  -- gather-under-add-at
     (λ c. omega (arith, c .before .before .before .before .loop-test .taken))  -- gather-under-sub-left
     (λ c. omega (arith, c .before .before .before .before .loop-test .taken))  -- gather-under-loop-less
@@ -163,6 +137,7 @@ pub +gather+gather-under-spec : {M : Type 1} → statement M
       omega (arith, c .before .before .before .before .before .loop .inv .1, c .before .gather .ensures .fewer),
       omega (arith, c .before .before .before .before .before .loop .inv .2, c .before .before .before .before .loop-test .taken),
       next-turn 1 _ _ _ _ (c .before .before .before .before .before .loop .inv .3) (c .before .before .before .before .loop-test .taken)
-          (c .before .before .before .octet .ensures .0) (c .before .gather .ensures) (c .if1 .left),
+          (c .before .before .before .octet .ensures .0)
+          (rw (going-mark (c .before .before .before .before .before .loop .inv .3)) at (c .before .gather .ensures)) (c .if1 .left),
     ))  -- gather-under-loop-again
     (λ c. under-done _ _ _ _ _ _ _ (c .before .loop .inv .3) (c .loop-test .left) (c .before .loop .inv .1))  -- gather-under-returns-2

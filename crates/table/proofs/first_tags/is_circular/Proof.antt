@@ -3,7 +3,8 @@
 use borrow.Author.Needs.{needs}
 use mathlib.Core.Path.{refl}
 use native.Mathlib.Omega.{arith}
-use Rattle.table.specs.Entries.{tableIn}
+use lib.ListN.{replicate}
+use Rattle.table.proofs.Gather.{gathers-at}
 use Rattle.table.proofs.Straight.{zeros}
 use Rattle.table.proofs.Shared.{circle-end}
 use Rattle.table.proofs.first_tags.is_circular.Statement.{statement}
@@ -13,7 +14,8 @@ pub is-circular-spec : {M : Type 1} → statement M
 is-circular-spec =
     tie.close
     (tie.spec
-    (λ c κs. search needs)  -- gather-under-requires
+    (λ c. search needs)  -- array-write-flags
+    (λ c κs. (gathers-at (c .before .before .pre .0) _ refl (c .before .before .pre .0 .there), c .before .before .pre .1))  -- gather-under-requires
     (λ c. omega (arith, c .before .before .before .pre .0 .there, c .before .before .before .pre .0 .filled .few))  -- array-read-result
-    (λ c. circle-end (tableIn (c .before .before .before .args .table .now)) (c .before .before .before .args .t) _ (zeros 128) (c .gather-under .ensures)
-    refl))  -- returns
+    (λ c. let x = c .before .before .before .pre .0 in
+    circle-end (x .filled .few) (x .ready .closed) _ (x .there) (replicate 129 0) refl (zeros 128) (c .gather-under .ensures) _ refl))  -- returns

@@ -5,12 +5,13 @@ use Prim.Native.Nat.{_+_, _*_, _≤_, _<_}
 use mathlib.Core.Bool.{true≢false, false≢true}
 use mathlib.Core.Path.{_≡_, refl, sym, _∙_}
 use native.Mathlib.Omega.{arith}
-use lib.ListN.{length}
+use lib.ListN.{length, take, length-set}
 use Rattle.table.specs.Syntax.{references}
 use Rattle.table.specs.Reading.{everyAt}
 use Rattle.table.specs.Entries.{tableIn}
 use Rattle.table.proofs.Rules.{span-near, span-named}
 use Rattle.table.proofs.Walk.{same-size}
+use Rattle.table.proofs.Flags.{walked-one, met-low}
 use Rattle.table.proofs.Gather.{every-none, gathers-at}
 use Rattle.table.proofs.Straight.{zeros, named-there}
 use Rattle.table.proofs.Shared.{named-few, Owned, owned-start, owned-next, owned-in, owned-turn, owned-met, owned-end, pairing-shares, sharing-names}
@@ -19,8 +20,8 @@ use Rattle.table.proofs.first_tags.is_sharing.Tie as tie
 
 abbrev Inv-loop : tie.InvT-loop
 Inv-loop table index nodes t s at₀ left₀ flags₀ mark₀ at left flags mark =
-    (length flags ≡ 128) × (at + 3 * left ≤ 100000) × (s .step < 3) × (mark + left ≤ 17)
-    × Owned (tableIn table) (references (tableIn table t .body)) flags mark (everyAt (s .step) table at left)
+    (length flags ≡ 129) × (at + 3 * left ≤ 100000) × (s .step < 3) × (mark + left ≤ 17)
+    × Owned (tableIn table) (references (tableIn table t .body)) (take 128 flags) mark (everyAt (s .step) table at left)
 
 abbrev μ-loop : tie.MeasureT-loop
 μ-loop table index nodes t s at₀ left₀ flags₀ mark₀ at left flags mark = left
@@ -51,15 +52,16 @@ is-sharing-spec =
       owned-start _ (zeros 128) (sym named),
     ))  -- loop-holds
     (λ c κs. search needs)  -- octet-requires
-    (λ c κs. let x = c .before .before .before .before .before .before .before .before .pre .0 in
-    gathers-at x _ (c .before .before .before .loop .inv .0) (named-there _ _ (x .named) _ _ (x .there)
-    (owned-in (owned-next _ _ _ _ _ (c .before .before .before .loop .inv .4) (c .before .before .loop-test .taken)
-    (c .before .octet .ensures .0)))))  -- gather-requires
-    (λ c. let x = c .before .before .before .before .before .before .before .before .before .before .pre .0 in (
-      λ _. pairing-shares _ _ (owned-met _ _ (c .before .before .before .before .before .before .before .before .before .before .pre .1) (x .ready .closed) _
-          (λ a i. named-there _ _ (x .named) _ a (x .there) i) _ _
-          (owned-next _ _ _ _ _ (c .before .before .before .before .before .loop .inv .4) (c .before .before .before .before .loop-test .taken)
-          (c .before .before .before .octet .ensures .0)) (c .before .gather .ensures .met (c .if1 .taken))),
+    (λ c. search needs)  -- array-write-flags
+    (λ c κs. let x = c .before .before .before .before .before .before .before .before .pre .0 in let l = c .before .before .before .loop in
+    gathers-at x _ (length-set (l .flags) 128 (l .mark) ∙ l .inv .0) (named-there _ _ (x .named) _ _ (x .there)
+    (owned-in (owned-next _ _ _ _ _ (l .inv .4) (c .before .before .loop-test .taken) (c .before .octet .ensures .0)))))  -- gather-requires
+    (λ c. let x = c .before .before .before .before .before .before .before .before .before .before .pre in
+    let l = c .before .before .before .before .before .loop in (
+      λ _. pairing-shares _ _ (owned-met _ _ (x .1) (x .0 .ready .closed) _
+          (λ a i. named-there _ _ (x .0 .named) _ a (x .0 .there) i) _ _
+          (owned-next _ _ _ _ _ (l .inv .4) (c .before .before .before .before .loop-test .taken) (c .before .before .before .octet .ensures .0))
+          (met-low (l .flags) (l .mark) (l .inv .0) (c .before .gather .ensures .met (c .if1 .taken)))),
       λ z. absurd (true≢false z),
     ))  -- returns
     (λ c. omega (arith, c .before .before .before .before .before .loop .inv .3, c .before .before .before .before .loop-test .taken))  -- add-mark
@@ -71,19 +73,18 @@ is-sharing-spec =
     ))  -- add-at
     (λ c. omega (arith, c .before .before .before .before .before .loop-test .taken))  -- sub-left
     (λ c. omega (arith, c .before .before .before .before .before .loop-test .taken))  -- loop-less
-    (λ c. (
-      same-size (c .before .before .gather .ensures .walked (c .before .if1 .left)) ∙ c .before .before .before .before .before .before .loop .inv .0,
-      omega (
-        arith,
-        c .before .before .before .before .before .before .loop .inv .1,
-        c .before .before .before .before .before .before .loop .inv .2,
-        c .before .before .before .before .before .loop-test .taken,
-      ),
-      c .before .before .before .before .before .before .loop .inv .2,
-      omega (arith, c .before .before .before .before .before .before .loop .inv .3, c .before .before .before .before .before .loop-test .taken),
-      owned-turn _ _ _ _ _ _ _ (owned-next _ _ _ _ _ (c .before .before .before .before .before .before .loop .inv .4)
-          (c .before .before .before .before .before .loop-test .taken) (c .before .before .before .before .octet .ensures .0))
-          (c .before .before .gather .ensures .walked (c .before .if1 .left)),
+    (λ c.
+    let x = c .before .before .before .before .before .before .before .before .before .before .before .pre .0 in
+    let l = c .before .before .before .before .before .before .loop in
+    let o = owned-next _ _ _ _ _ (l .inv .4) (c .before .before .before .before .before .loop-test .taken)
+    (c .before .before .before .before .octet .ensures .0) in
+    let w = c .before .before .gather .ensures .walked (c .before .if1 .left) in (
+      same-size w ∙ length-set (l .flags) 128 (l .mark) ∙ l .inv .0,
+      omega (arith, l .inv .1, l .inv .2, c .before .before .before .before .before .loop-test .taken),
+      l .inv .2,
+      omega (arith, l .inv .3, c .before .before .before .before .before .loop-test .taken),
+      owned-turn _ _ _ _ _ _ _ o (walked-one (l .flags) (l .mark) (l .inv .0) (x .filled .few) (x .ready .closed)
+          (named-there _ _ (x .named) _ _ (x .there) (owned-in o)) w),
     ))  -- loop-again
     (λ c. (
       λ z. absurd (false≢true z),
