@@ -1,23 +1,42 @@
 -- A packed answer tells that very answer, and no other.
 -- Assumes nothing.
-use mathlib.Core.Path.{_≡_, refl, sym, ap, _∙_}
+use mathlib.Core.Path.{_≡_, sym, ap, _∙_}
 use Prim.Native.Nat.{ℕ, _<_}
 use native.Mathlib.Omega.{arith}
 use Rattle.octets.specs.Causes.{causeNumber}
 use Rattle.octets.proofs.Causes.{same-cause, never-0}
+use Rattle.coding.specs.Outcome.{numberOf, placeOf, OfStage}
+use Rattle.coding.specs.declared.Refusal.{Refusal}
+use Rattle.coding.specs.declared.Refusal.the-variants.{Table, Value, Message}
 use Rattle.coding.specs.declared.Answer.{Answer}
 use Rattle.coding.specs.declared.Answer.the-variants.{Done, Refused}
-use Rattle.link.specs.Pack.{number, place, packed, Tells}
+use Rattle.link.specs.Pack.{number, place, packed, Staged, Tells}
 
-pub told : (a : Answer) → place a < 65536 → Tells (packed a) a
-told a h = record { high = omega arith; low = omega arith }
+pub told : (a : Answer) → place a < 65536 → Staged a → Tells (packed a) a
+told a h s = record { high = omega arith; low = omega arith; staged = s }
 
--- no two answers share a number and a place
-same-answer : (a b : Answer) → number a ≡ number b → place a ≡ place b → a ≡ b
-same-answer (Done n) (Done m) e f = ap Done f
-same-answer (Done n) (Refused c p) e f = absurd (never-0 c (sym e))
-same-answer (Refused c p) (Done m) e f = absurd (never-0 c e)
-same-answer (Refused c p) (Refused d q) e f = let s = same-cause c d e in rw (s, f)
+-- no two refusals of their stages share a number and a place
+same-refusal : (r s : Refusal) → OfStage r → OfStage s → numberOf r ≡ numberOf s → placeOf r ≡ placeOf s → r ≡ s
+same-refusal (Table c p) (Table d q) x y e f = let s = same-cause c d e in rw (s, f)
+same-refusal (Table c p) (Value d q) x y e f = absurd (omega arith)
+same-refusal (Table c p) (Message d q) x y e f = absurd (omega arith)
+same-refusal (Value c p) (Table d q) x y e f = absurd (omega arith)
+same-refusal (Value c p) (Value d q) x y e f = let s = same-cause c d e in rw (s, f)
+same-refusal (Value c p) (Message d q) x y e f = absurd (omega arith)
+same-refusal (Message c p) (Table d q) x y e f = absurd (omega arith)
+same-refusal (Message c p) (Value d q) x y e f = absurd (omega arith)
+same-refusal (Message c p) (Message d q) x y e f = let s = same-cause c d e in rw (s, f)
+
+number-some : (r : Refusal) → numberOf r ≡ 0 → ⊥
+number-some (Table c p) e = never-0 c e
+number-some (Value c p) e = never-0 c e
+number-some (Message c p) e = never-0 c e
+
+same-answer : (a b : Answer) → Staged a → Staged b → number a ≡ number b → place a ≡ place b → a ≡ b
+same-answer (Done n) (Done m) x y e f = ap Done f
+same-answer (Done n) (Refused r) x y e f = absurd (number-some r (sym e))
+same-answer (Refused r) (Done m) x y e f = absurd (number-some r e)
+same-answer (Refused r) (Refused s) x y e f = ap Refused (same-refusal r s x y e f)
 
 pub one-told : {u : ℕ} {a b : Answer} → Tells u a → Tells u b → a ≡ b
-one-told {u} {a} {b} x y = same-answer a b (sym (x .high) ∙ y .high) (sym (x .low) ∙ y .low)
+one-told {u} {a} {b} x y = same-answer a b (x .staged) (y .staged) (sym (x .high) ∙ y .high) (sym (x .low) ∙ y .low)

@@ -2,7 +2,7 @@
 -- Assumes nothing.
 use mathlib.Core.Path.{_≡_}
 use Prim.Native.Nat.{ℕ, _+_, _*_, _/_, _%_}
-use Rattle.coding.specs.Outcome.{numberOf, placeOf}
+use Rattle.coding.specs.Outcome.{numberOf, placeOf, OfStage}
 use Rattle.coding.specs.declared.Answer.{Answer}
 use Rattle.coding.specs.declared.Answer.the-variants.{Done, Refused}
 
@@ -17,7 +17,13 @@ place (Refused r) = placeOf r
 abbrev pub packed : Answer → ℕ
 packed a = number a * 65536 + place a
 
+-- done, or a refusal of the stage that its number says
+abbrev pub Staged : Answer → Type 0
+Staged (Done n) = Unit {0}
+Staged (Refused r) = OfStage r
+
 -- what the number u tells in C, taken apart, is the answer a
 pub record Tells (u : ℕ) (a : Answer) : Type 0 where
   pub high : u / 65536 ≡ number a
   pub low : u % 65536 ≡ place a
+  pub staged : Staged a
