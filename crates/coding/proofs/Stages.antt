@@ -135,8 +135,8 @@ module _ (b : List ℕ) (t : ℕ) (buf : List ℕ) (g : Table → Outcome) where
   call-staged f = after-staged (verdict b) refl
     where
       step-staged : (T : Table) (n : ℕ) → Staged (step T n)
-      step-staged T n = if-cases Staged (not (ltb t n)) _ _ (λ e. staged-by (of-table NoType 0) (omega arith) refl) λ e. f T
+      step-staged T n = if-cases Staged (not (ltb t n)) _ _ (λ e. staged-by {buf = buf} (of-table NoType 0) (omega arith) refl) λ e. f T
 
       after-staged : (v : Verdict) → verdict b ≡ v → Staged (afterCheck b buf step v)
       after-staged Passed e = step-staged (look b (scan b .offsets)) (length (scan b .offsets))
-      after-staged (Refused c p) e = let k = cause-low b c p e in staged-by (of-table c p) (omega arith) refl
+      after-staged (Refused c p) e = let k = cause-low b c p e in staged-by {buf = buf} (of-table c p) (omega arith) refl
