@@ -15,6 +15,7 @@ ghost use Rattle.table.specs.Passes.{Passes};
 ghost use Rattle.coding.specs.Calls.{readOutcome, wholeRead};
 use answer::Judged;
 use coding::Answer;
+use coding::Refusal;
 use octets::cause::Cause;
 use table::Verdict;
 
@@ -38,35 +39,35 @@ fn read_passed(
         ⌝ }
 {
     if n <= t {
-        return Answer::Refused {
+        return Answer::Refused(Refusal::Table {
             cause: Cause::NoType,
             place: 0,
-        };
+        });
     }
     if 8192 < message.len() {
-        return Answer::Refused {
+        return Answer::Refused(Refusal::Message {
             cause: Cause::MessageLength,
             place: 0,
-        };
+        });
     }
     let mut way = [0u16; 128];
     match judge::judge(table, index, t, message, &mut way) {
         Judged::Refused { cause, left } => {
             let place = message.len() - left;
-            Answer::Refused { cause, place }
+            Answer::Refused(Refusal::Message { cause, place })
         }
         Judged::Done { end: _, size } => {
             if 16384 < size {
-                return Answer::Refused {
+                return Answer::Refused(Refusal::Message {
                     cause: Cause::ValueRoom,
                     place: 0,
-                };
+                });
             }
             if buf.len() < size {
-                return Answer::Refused {
+                return Answer::Refused(Refusal::Message {
                     cause: Cause::ValueRoom,
                     place: 0,
-                };
+                });
             }
             place::place(table, index, t, message, buf, &mut way);
             Answer::Done(size)
@@ -86,7 +87,7 @@ pub fn read(table: &[u8], t: usize, message: &[u8], buf: &mut [u8]) -> Answer
     let c = table::check_into(table, &mut index);
     let verdict = c.verdict;
     match verdict {
-        Verdict::Refused { cause, place } => Answer::Refused { cause, place },
+        Verdict::Refused { cause, place } => Answer::Refused(Refusal::Table { cause, place }),
         Verdict::Passed => read_passed(table, &index, c.count, t, message, buf),
     }
 }
