@@ -3,23 +3,22 @@
 use borrow.Author.Tests.{ltb-true, ltb-false}
 use lib.Dec.{ltb}
 use lib.ListN.{length, getD, set}
-use mathlib.Core.List.{List, [], _∷_}
+use mathlib.Core.List.{List}
 use mathlib.Core.Path.{_≡_, refl, sym, ap, _∙_}
 use native.Mathlib.Numerals.{add-one}
 use native.Mathlib.Omega.{arith}
 use Prim.Native.Nat.{ℕ, zero, suc, _+_, _-_, _*_, _/_, _%_, _≤_, _<_}
 use Rattle.octets.proofs.Members.{place-in}
 use Rattle.octets.proofs.Tests.{test}
-use Rattle.table.specs.Syntax.{Choice, Record, Table, references}
+use Rattle.table.specs.Syntax.{Record, Table, references}
 use Rattle.table.specs.Rules.{parts}
 use Rattle.table.specs.Reading.{everyAt}
-use Rattle.table.specs.Entries.{unpacked, counted, tableIn, countIn, Entered}
+use Rattle.table.specs.Entries.{unpacked, counted, tableIn, countIn}
 use Rattle.table.specs.declared.entry.Span.{Span}
 use Rattle.table.proofs.Promises.{entered-choice}
-use Rattle.reader.specs.Codes.{firstOf, untagged, searchIn}
-use Rattle.reader.specs.Ways.{Leads, here}
+use Rattle.reader.specs.Codes.{firstOf, untagged}
+use Rattle.reader.specs.Ways.{here}
 use Rattle.reader.specs.Records.{Ready, Finds}
-use Rattle.reader.specs.declared.search.Under.{Under}
 use Rattle.reader.specs.declared.search.Under.the-variants.{Nothing, At}
 use Rattle.reader.proofs.Begun.{Fit, bare, fit, nested, nested-all}
 use Rattle.reader.proofs.ItemsWay.{Looking, look-first, look-found, look-down, look-next, look-none, look-back, look-above, look-deep, turnsLeft, fewer-down, fewer-next, fewer-back, search-here, search-other}

@@ -26,7 +26,7 @@ use Rattle.ber.specs.declared.ending.End.{End}
 use Rattle.ber.specs.declared.ending.End.the-variants.{More as GoesOn, Over as EndsAt, Broken as BrokenBy}
 use Rattle.ber.proofs.Codes.{bit-small, code-short, code-long, read-code-small, read-code-short}
 use Rattle.ber.proofs.Ends.{end-more, end-over, end-broken}
-use Rattle.ber.proofs.Places.{left-at, some-at, part-to-end}
+use Rattle.ber.proofs.Places.{some-at, part-to-end}
 use Rattle.table.specs.Syntax.{Tag, Member, Body, Plain, Sequence, Set, SequenceOf, SetOf, Choice, Record, Table, constructed}
 use Rattle.table.specs.Octets.{kind}
 use Rattle.table.specs.Entries.{unpacked, untagged, more, outermostCode, spanOf, tableIn, countIn}
@@ -71,42 +71,7 @@ use Rattle.reader.proofs.Searching.{spanned, type-low, clear-turn}
 use Rattle.reader.proofs.Finding.{good-held}
 use Rattle.reader.proofs.Spans.{PartAt, Spanned, held-body, its, awaits-hit}
 use Rattle.reader.proofs.Tagging.{its-record}
-
--- what an answer of the judge says, and how it is said
-module _ (m : List ℕ) (x : Answer Value) where
-  told-done : (v : Value) (u n : ℕ) → x ≡ got v (drop u m) → u ≤ length m → n ≡ cap (length (octets v)) → Done u n ≡ told m size x
-  unfolding told
-  told-done v u n e h k = rw (e, left-at m u h, k) refl
-
-  told-refused : (c l : ℕ) → x ≡ refused c l → Refused c l ≡ told m size x
-  unfolding told
-  told-refused c l e = rw e refl
-
-said-done : (m : List ℕ) (x : Answer Value) (u n : ℕ) → told m size x ≡ Done u n
-    → (v : Value) × (w : List ℕ) × (x ≡ got v w) × (u ≡ length m - length w) × (n ≡ cap (length (octets v)))
-unfolding told
-said-done m (got v w) u n e =
-    let a : length m - length w ≡ u = cc in
-    let b : cap (length (octets v)) ≡ n = cc in
-    (v, w, refl, sym a, sym b)
-said-done m (refused c l) u n e = let z : _≡_ {A = ℕ} 0 1 = cc in absurd (omega arith)
-
-said-refused : (m : List ℕ) (x : Answer Value) (c : Cause) (l : ℕ) → told m size x ≡ Refused c l → (k : ℕ) × (x ≡ refused k l) × (c ≡ k)
-unfolding told
-said-refused m (got v w) c l e = let z : _≡_ {A = ℕ} 0 1 = cc in absurd (omega arith)
-said-refused m (refused k i) c l e =
-    let a : i ≡ l = cc in
-    let b : k ≡ c = cc in
-    (k, ap (refused k) a, sym b)
-
-cause-number : (c : Cause) → c ≡ c
-unfolding if
-cause-number Cut = refl
-cause-number Form = refl
-cause-number NotAwaited = refl
-cause-number Contents = refl
-cause-number Trailing = refl
-cause-number Level = refl
+use Rattle.reader.proofs.Told.{told-refused, told-done, tell-refused, tell-done}
 
 -- the kind of an entry is that of what it stands for
 not-not : (a : Bool) → false ≡ not a → a ≡ true
@@ -522,7 +487,7 @@ pub record Judging (b : List ℕ) (w : ℕ) (m : List ℕ) (marked : Bool) (leve
       (mode marked) m at (since (manner (held b w)) j) came total
 
 -- a refusal that an item is not awaited says the same of whatever was to be read
-unfit-alike : {A B : Type 0} (h : Holder) (i : ℕ) (came s : List ℕ) (c l : ℕ) → unfit {A = A} h i came s ≡ refused c l
+unfit-alike : {A B : Type 0} (h : Holder) (i : ℕ) (came s : List ℕ) (c : Cause) (l : ℕ) → unfit {A = A} h i came s ≡ refused c l
     → unfit {A = B} h i came s ≡ refused c l
 unfolding unfit if then
 unfit-alike {A} {B} h i came s c l e =
@@ -533,7 +498,7 @@ unfit-alike {A} {B} h i came s c l e =
     other d = sym (unawaited-on {A = A} {B = B} s (λ a u. refused Cut 0)) ∙ rw d refl
 
     trailing : _≡_ {A = Answer A} (refused Trailing (length s)) (refused c l) → _≡_ {A = Answer B} (refused Trailing (length s)) (refused c l)
-    trailing d = let x : 26 ≡ c = cc in let y : length s ≡ l = cc in rw (← x, ← y) refl
+    trailing d = let x : Trailing ≡ c = cc in let y : length s ≡ l = cc in rw (← x, ← y) refl
 
 -- where one is found, some are left
 within-some : (v : Manner) (f : Placed → Bool) (l : List Placed) (x : Placed) → first f (within v l) ≡ some x → some-of l ≡ true
@@ -669,8 +634,8 @@ module _ {Q : Setting} (P : Turn Q) where
   abbrev E : End
   E = endOf (P .marked) (length (P .m)) (drop (P .at) (P .m))
 
-  refused-here : (c : ℕ) → W ≡ refused c (length Rest) → Refused c (length (P .m) - P .at) ≡ told (P .m) size W
-  refused-here c x = told-refused (P .m) W c (length (P .m) - P .at) (x ∙ ap (refused c) (length-drop (P .at) (P .m)))
+  refused-here : (c : Cause) → W ≡ refused c (length Rest) → Refused c (length (P .m) - P .at) ≡ told (P .m) size W
+  refused-here c x = tell-refused (P .m) size W c (length (P .m) - P .at) (x ∙ ap (refused c) (length-drop (P .at) (P .m)))
 
   total-few : P .total < 16386
   total-few = omega (arith, P .so-far .going .sized)
@@ -694,7 +659,7 @@ module _ {Q : Setting} (P : Turn Q) where
       let g =
       going-over W (T Q) R (H Q) (mode (P .marked)) (P .m) (P .at) I (P .came) (P .total) (P .so-far .going) n (drop u (P .m))
       (λ A f z. end-over {A = A} f z (P .m) (P .at) (P .marked) E u (P .low) refl a .0) l in
-      told-done (P .m) W (g .value) u (P .total) (g .is)
+      tell-done (P .m) size W (g .value) u (P .total) (g .is)
       (end-over {A = ℕ} (λ z. got 0 z) (λ z. refused Cut 0) (P .m) (P .at) (P .marked) E u (P .low) refl a .2) (g .size)
 
   -- that lack a part, or are broken
@@ -707,7 +672,7 @@ module _ {Q : Setting} (P : Turn Q) where
 
       go : Stopped (H Q) I (P .came) E c → Refused c (length (P .m) - P .at) ≡ told (P .m) size W
       go (inl (u, a, l, q)) =
-          rw q (refused-here 24
+          rw q (refused-here NotAwaited
           (going-lacking W (T Q) R (H Q) (mode (P .marked)) (P .m) (P .at) I (P .came) (P .total) (P .so-far .going) N (drop u (P .m))
           (λ A f z. end-over {A = A} f z (P .m) (P .at) (P .marked) E u (P .low) refl a .0) l))
       go (inr (f, a, q)) =
@@ -735,7 +700,7 @@ module _ {Q : Setting} (P : Turn Q) where
     judged-unfit way c r q₀ ec =
         let q : Sought (Q .b) (H Q) I (P .came) Rest way (NotFound c) = rw (part-to-end (P .m) (P .at), ec) at q₀ in
         let x = unfit-alike {A = List ℕ} {B = Value} (H Q) I (P .came) Rest c (length Rest) (q .1) in
-        rw cause-number at (refused-here c (whole (q .0) ∙ x))
+        refused-here c (whole (q .0) ∙ x)
       where
         whole : next (T Q) (H Q) I (P .came) Rest ≡ none → W ≡ unfit (H Q) I (P .came) Rest
         whole q =
@@ -814,7 +779,7 @@ module _ {Q : Setting} {P : Turn Q} (X : Comes P) where
   pub number-few : X .number < 128
   number-few = omega (arith, X .is .there, Q .ready .filled .few)
 
-  part-refused : (c l : ℕ) → R P Type-of (Rest P) ≡ refused c l → W P ≡ refused c l
+  part-refused : (c : Cause) (l : ℕ) → R P Type-of (Rest P) ≡ refused c l → W P ≡ refused c l
   part-refused c l q =
       test (isSingle (manner (H Q)))
       (λ n. one-refused (W P) (T Q) (R P) (H Q) (mode (P .marked)) (P .m) (P .at) (I P) (P .came) (P .total) (P .so-far .going) n
@@ -824,10 +789,10 @@ module _ {Q : Setting} {P : Turn Q} (X : Comes P) where
       (its-more P (X .item) n) some-remain (X .place, X .is .part) (X .is .found) c l q
 
   -- under more CHOICEs than there are levels
-  pub judged-level : P .level ≤ X .depth → Refused Level (length (P .m) - P .at) ≡ told (P .m) size (W P)
+  pub judged-level : P .level ≤ X .depth → Refused MessageLevel (length (P .m) - P .at) ≡ told (P .m) size (W P)
   unfolding if
   judged-level h =
-      refused-here P 28 (part-refused MessageLevel (length (Rest P))
+      refused-here P MessageLevel (part-refused MessageLevel (length (Rest P))
       (way-level (T Q) all-fit all-nested C tagged (Rest P) code-tells (X .is .leads) (X .is .its) (P .level) h))
 
   -- the entry of its record
@@ -882,13 +847,12 @@ module _ {Q : Setting} {P : Turn Q} {X : Comes P} (Y : Valued X) where
   pub judged-refused : (c : Cause) (l : ℕ) → Y .r ≡ Refused c l → Refused c l ≡ told (P .m) size (W P)
   unfolding then
   judged-refused c l q =
-      let (k, x, y) = said-refused (P .m) Below c l (sym is-said ∙ q) in
-      ap (λ (z : Cause). Refused z l) y ∙ told-refused (P .m) (W P) k l (part-refused X k l (through-way ∙ ap Through x))
+      tell-refused (P .m) size (W P) c l (part-refused X c l (through-way ∙ ap Through (told-refused (P .m) size Below (Y .r) is-said c l q)))
 
   -- or accepted
   module _ (end n : ℕ) (q : Y .r ≡ Done end n) where
     abbrev Its : (v : Value) × (u : List ℕ) × (Below ≡ got v u) × (end ≡ length (P .m) - length u) × (n ≡ cap (length (octets v)))
-    Its = said-done (P .m) Below end n (sym is-said ∙ q)
+    Its = told-done (P .m) size Below (Y .r) is-said end n q
 
     its-behind : (Its .1 ≡ drop (length (P .m) - length (Its .1)) (P .m)) × (P .at < length (P .m) - length (Its .1))
     its-behind = value-behind (T Q) (P .level - X .depth) (X .number) (P .m) (P .at) (P .low) (Its .0) (Its .1) (Its .2)
@@ -920,7 +884,7 @@ module _ {Q : Setting} {P : Turn Q} {X : Comes P} (Y : Valued X) where
             let g =
             one-done (W P) (T Q) (R P) (H Q) (mode (P .marked)) (P .m) (P .at) (I P) (P .came) (P .total) (P .so-far .going) (one-is Q k ek ∙ z)
             (X .place, X .is .part) (X .is .found) Whole (drop end (P .m)) (cap (length (octets Whole))) last its-value refl grown in
-            told-done (P .m) (W P) (g .value) end last (g .is) value-low (g .size)
+            tell-done (P .m) size (W P) (g .value) end last (g .is) value-low (g .size)
 
         -- before the next one
         pub judged-turn : k ≡ false → (came′ : List ℕ) → Notes (Q .e .kind) (P .came) (X .place) came′

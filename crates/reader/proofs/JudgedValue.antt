@@ -16,12 +16,12 @@ use Rattle.octets.specs.declared.cause.Cause.the-variants.{Cut, Form, NotAwaite
 use Rattle.octets.specs.Answer.{Answer, got, refused, then, if, behind, none-left}
 use Rattle.octets.specs.Numbers.{Octets}
 use Rattle.octets.specs.Permutations.{as-given}
-use Rattle.octets.proofs.Answer.{Holds, Taken, got-holds, if-cases}
+use Rattle.octets.proofs.Answer.{Holds, Taken, got-holds, if-cases, refused≢got}
 use Rattle.octets.proofs.Tests.{test}
 use Rattle.ber.specs.Codes.{codeOf}
 use Rattle.ber.specs.Reading.{Mode, closed, open-ended, Size, definite, indefinite, readIdentifier, readLength, readHeader, inside as insideSize}
 use Rattle.ber.specs.Reading.{readConstructed, contents, readPrimitive, atEnd}
-use Rattle.ber.specs.Told.{toldIdentifier, toldLength, faultOf, mode}
+use Rattle.ber.specs.Told.{toldIdentifier, toldLength, mode}
 use Rattle.ber.specs.declared.identifier.Identifier.the-variants.{Refused as NoIdentifier}
 use Rattle.ber.specs.declared.length.Length.{Length}
 use Rattle.ber.specs.declared.length.Length.the-variants.{Read as ReadLength, Refused as NoLength}
@@ -59,6 +59,7 @@ use Rattle.reader.proofs.ItemsKinds.{Kind, kind-held, message-whole}
 use Rattle.reader.proofs.Opening.{octets-drop, octets-take, slice-is, behind-at, first-by, item-refused, its-count, its-first, its-few}
 use Rattle.reader.proofs.Spans.{held-body}
 use Rattle.reader.proofs.Tagging.{count-identifiers, code-at, same-at, its-entry, its-record, its-fit}
+use Rattle.reader.proofs.Told.{told-refused, told-done}
 use Rattle.reader.proofs.Wrapping.{closing-refused}
 
 -- u is an end of s
@@ -94,7 +95,7 @@ some-left (b ∷ s) h = omega arith
 -- What was read leaves an end of what was given, of which P holds; or no more octets are left at the place of a refusal than were given.
 pub data Sane {A : Type 0} (P : List ℕ → Type 0) (s : List ℕ) : Answer A → Type 0 where
   leaves : {a : A} {u : List ℕ} → Tail s u → P u → Sane P s (got a u)
-  stops : {c l : ℕ} → l ≤ length s → Sane P s (refused c l)
+  stops : {c : Cause} {l : ℕ} → l ≤ length s → Sane P s (refused c l)
 
 module _ {A : Type 0} {P : List ℕ → Type 0} where
   sane-wider : (s t : List ℕ) → Tail s t → {x : Answer A} → Sane P t x → Sane P s x
@@ -136,9 +137,9 @@ unawaited-sane {A} {P} s = go (readIdentifier s) refl
     go : (x : Answer (List ℕ)) → readIdentifier s ≡ x → Sane {A = A} P s (then x λ i s₁. refused NotAwaited (length s))
     go (got i u) e = stops {l = length s} (omega arith)
     go (refused c l) e =
-        let q : NoIdentifier (faultOf c) ≡ toldIdentifier (length s) (readIdentifier s) = rw e refl in
-        let y = identifier-refused s (NoIdentifier (faultOf c)) q (faultOf c) refl in
-        let z : _≡_ {A = Answer (List ℕ)} (refused c l) (refused (faultNumber (faultOf c)) (length s)) = sym e ∙ y in
+        let q : NoIdentifier c ≡ toldIdentifier (length s) (readIdentifier s) = rw e refl in
+        let y = identifier-refused s (NoIdentifier c) q c refl in
+        let z : _≡_ {A = Answer (List ℕ)} (refused c l) (refused c (length s)) = sym e ∙ y in
         let v : l ≡ length s = cc in
         stops {l = l} (omega arith)
 
@@ -148,7 +149,7 @@ Any u = Unit {0}
 value-sane : (T : Table) (n t : ℕ) (s : List ℕ) → Sane Any s (readValue T n t s)
 value-sane T n t s = go (readValue T n t s) (value-sound as-given T n t s) (value-says T n t s)
   where
-    few : {c l : ℕ} → Says {A = Value} (length s) (refused c l) → l ≤ length s
+    few : {c : Cause} {l : ℕ} → Says {A = Value} (length s) (refused c l) → l ≤ length s
     few (names k h) = h
 
     go : (x : Answer Value) → Holds (Taken (EncodesAt as-given T n t) s) x → Says (length s) x → Sane Any s x
@@ -183,32 +184,10 @@ module _ (T : Table) (n : ℕ) (h : Holder) where
   unfolding readHeld
   held-sane e s = sane-then s (items-sane (suc (length s)) 0 blank [] e s) λ hand u t q. leaves t q
 
--- what the judge's answers say
-pub told-refused : {A : Type 0} (m : List ℕ) (f : A → ℕ) (x : Answer A) (y : Judged) → y ≡ told m f x → (c : Cause) (l : ℕ) → y ≡ Refused c l
-    → (k : ℕ) × (x ≡ refused k l) × (c ≡ k)
-unfolding told
-told-refused m f (got a u) y e c l d = let z : _≡_ {A = ℕ} 0 1 = cc in absurd (omega arith)
-told-refused m f (refused k i) y e c l d = let z : i ≡ l = cc in (k, ap (refused k) z, cc)
-
-pub told-done : {A : Type 0} (m : List ℕ) (f : A → ℕ) (x : Answer A) (y : Judged) → y ≡ told m f x → (e n : ℕ) → y ≡ Done e n
-    → (a : A) × (u : List ℕ) × (x ≡ got a u) × (e ≡ length m - length u) × (n ≡ cap (f a))
-unfolding told
-told-done m f (got a u) y q e n d = (a, u, refl, cc, cc)
-told-done m f (refused k i) y q e n d = let z : _≡_ {A = ℕ} 0 1 = cc in absurd (omega arith)
-
-pub cause-number : (c : Cause) → c ≡ c
-unfolding if
-cause-number Cut = refl
-cause-number Form = refl
-cause-number NotAwaited = refl
-cause-number Contents = refl
-cause-number Trailing = refl
-cause-number Level = refl
-
 -- Simple contents are read alike wherever they stand: their leaf has a size, and wrong ones are refused at the item.
 abbrev Only : ℕ → Answer Leaf → Type 0
 Only l (got x s) = Unit {0}
-Only l (refused c k) = (c ≡ 25) × (k ≡ l)
+Only l (refused c k) = (c ≡ Contents) × (k ≡ l)
 
 decode-only : (k : Simple) (l : ℕ) (c s : List ℕ) → Only l (decode k l c s)
 unfolding decode
@@ -253,7 +232,7 @@ module _ (k : Simple) (c : List ℕ) (l : ℕ) (s : List ℕ) (n : ℕ) (en : n 
 
 -- Closing tags looks at the octets alone: what is read under them is kept, or refused alike.
 abbrev Alike : {A B : Type 0} → A → B → Answer A → Answer B → Type 0
-Alike a b x y = ((u : List ℕ) × (x ≡ got a u) × (y ≡ got b u)) ⊎ ((c : ℕ) × (l : ℕ) × (x ≡ refused c l) × (y ≡ refused c l))
+Alike a b x y = ((u : List ℕ) × (x ≡ got a u) × (y ≡ got b u)) ⊎ ((c : Cause) × (l : ℕ) × (x ≡ refused c l) × (y ≡ refused c l))
 
 module _ {A B : Type 0} (a : A) (b : B) where
   ended-alike : (k : Mode) (x : Answer A) (y : Answer B) → Alike a b x y → Alike a b (ended k x) (ended k y)
@@ -263,7 +242,7 @@ module _ {A B : Type 0} (a : A) (b : B) where
       go : Ending k u → Alike a b (atEnd k u (λ v. got a v) λ _. refused Trailing (length u)) (atEnd k u (λ v. got b v) λ _. refused Trailing (length u))
       go (over w z h) = inl (w, h A _ _, h B _ _)
       go (broken c l z h) = inr (c, l, h A _ _, h B _ _)
-      go (more h) = inr (26, length u, h A _ _, h B _ _)
+      go (more h) = inr (Trailing, length u, h A _ _, h B _ _)
   ended-alike k x y (inr (c, l, e, f)) = inr (c, l, rw e refl, rw f refl)
 
   shut-alike : (m : List ℕ) (outer inner : ℕ) (k : Bool) (x : Answer A) (y : Answer B) → Alike a b x y
@@ -483,7 +462,7 @@ module _ {b index : List ℕ} (R : Ready b index) {w : ℕ} (I : IsRecord b inde
     unfolding told
     value-unopened c l e n =
         let (_, q) : Opens b r m first ns (NotOpened c l) = rw e at o in
-        rw (q n, cause-number c) refl
+        rw (q n) refl
 
 -- An item of a record where its tags are opened: what the value stands in, and where. The values in it have `level` levels.
 pub record Item (b index : List ℕ) (w : ℕ) (m : List ℕ) (first level : ℕ) : Type 0 where
@@ -531,7 +510,7 @@ module _ {b index : List ℕ} {w : ℕ} {m : List ℕ} {first level : ℕ} (X : 
   item-around = sym size-part
 
   -- a refusal of the item is one of the value
-  under-refused : (c l : ℕ) → Bare ≡ refused c l → Refused c (l + (length m - X .end)) ≡ Wanted
+  under-refused : (c : Cause) (l : ℕ) → Bare ≡ refused c l → Refused c (l + (length m - X .end)) ≡ Wanted
   unfolding told
   under-refused c l e =
       rw (
@@ -541,7 +520,7 @@ module _ {b index : List ℕ} {w : ℕ} {m : List ℕ} {first level : ℕ} (X : 
             (X .under .around),
       ) refl
 
-  item-unfit : (c : ℕ) → Bare ≡ refused c (length Rest) → Refused c (length m - X .at) ≡ Wanted
+  item-unfit : (c : Cause) → Bare ≡ refused c (length Rest) → Refused c (length m - X .at) ≡ Wanted
   item-unfit c e =
       let z : length m - X .at ≡ length Rest + (length m - X .end) = omega (arith, left-part, X .under .some, X .under .high) in
       rw z (under-refused c (length Rest) e)
@@ -573,11 +552,11 @@ module _ {b index : List ℕ} {w : ℕ} {m : List ℕ} {first level : ℕ} (X : 
       }
 
   module _ (k : X .entry .kind ≡ 50 → ⊥) (z : Length) (az : (l : ℕ) → z ≡ toldLength (length Part) (readLength l (drop (X .from) Part))) where
-    pub value-unread : (f : Cause) → z ≡ NoLength f → (c : Cause) → c ≡ f → Refused c (length m - X .at) ≡ Wanted
-    value-unread f q c ec =
+    pub value-unread : (c : Cause) → z ≡ NoLength c → Refused c (length m - X .at) ≡ Wanted
+    value-unread c q =
         let l = length Rest in
-        let y = own-header (no-choice k) ∙ length-refused Part (X .from) l z (az l) f q in
-        rw ec (item-unfit f (item-refused (tableIn b) _ (own Rec) (Rec .body) Rest f l (no-choice k) y))
+        let y = own-header (no-choice k) ∙ length-refused Part (X .from) l z (az l) c q in
+        item-unfit c (item-refused (tableIn b) _ (own Rec) (Rec .body) Rest c l (no-choice k) y)
 
     pub contents-sized : (x : Extent) → z ≡ ReadLength x → Within Rec Part (X .at) (X .end) (x .start) (x .end) (x .marked)
     contents-sized x q =
@@ -678,7 +657,7 @@ module _ {b index : List ℕ} {w : ℕ} {m : List ℕ} {first level : ℕ} (Y : 
     unfolding if
     value-marked t =
         let (k, q) = is-plain in
-        item-unfit X 23 (plain-open (tableIn b) (readValue (tableIn b) level) Own Kept S k q (Y .marked) Size-of (drop (Y .start) P)
+        item-unfit X Form (plain-open (tableIn b) (readValue (tableIn b) level) Own Kept S k q (Y .marked) Size-of (drop (Y .start) P)
         (plain-header k q) t)
 
     module _ (sized : Y .marked ≡ false) (i : ℕ) (ei : i ≡ leafWeight (bodyAt b (X .entry .kind) (X .entry .own)) C) where
@@ -698,7 +677,7 @@ module _ {b index : List ℕ} {w : ℕ} {m : List ℕ} {first level : ℕ} (Y : 
       value-wrong z =
           let (k, q) = is-plain in
           let y = weight-none k C (length S) (drop (Y .stop) P) i (its-weight k q) z in
-          item-unfit X 25 (leaf-read k q ∙ rw y refl)
+          item-unfit X Contents (leaf-read k q ∙ rw y refl)
 
       pub over-leaf : (i ≡ 0 → ⊥) → i < 16386 → Over b (recordOf b w) level P (X .at) (X .end) (Y .stop) i
       unfolding then octets
@@ -787,22 +766,21 @@ module _ {b index : List ℕ} {w : ℕ} {m : List ℕ} {first level : ℕ} (Y : 
         reads-open z (kept-built .0 k ∙ built-open Own S (Y .marked) Size-of (drop (Y .start) P) (W .header k) HeldIn t ∙ i) x d y)
         λ t. reads-sized k t x d y
 
-    few-left : (l : ℕ) (x : Answer Value) → Fine x → (k : ℕ) → x ≡ refused k l → l ≤ length C
-    few-left l (got v u) s k q = let z : _≡_ {A = ℕ} 0 1 = cc in absurd (omega arith)
-    few-left l (refused a i) (stops h) k q = let z : i ≡ l = cc in omega arith
+    few-left : (c : Cause) (l : ℕ) (x : Answer Value) → Fine x → x ≡ refused c l → l ≤ length C
+    few-left c l (got v u) s q = refused≢got (sym q)
+    few-left c l (refused a i) (stops h) q = let z : i ≡ l = cc in omega arith
 
     module _ (y : Judged) (ey : y ≡ told C size Held) where
       module _ (c : Cause) (l : ℕ) (d : y ≡ Refused c l) where
         pub items-low : l + (length m - Y .stop) ≤ 8192
         items-low =
-            let (k, x, _) = told-refused C size Held y ey c l d in
-            omega (arith, few-left l Held fine k x, size-C, contents-within, X .short)
+            omega (arith, few-left c l Held fine (told-refused C size Held y ey c l d), size-C, contents-within, X .short)
 
         pub value-unheld : Refused c (l + (length m - Y .stop)) ≡ Wanted X
         value-unheld =
-            let (k, x, f) = told-refused C size Held y ey c l d in
+            let x = told-refused C size Held y ey c l d in
             let q : l + (length m - Y .stop) ≡ l + (X .end - Y .stop) + (length m - X .end) = omega (arith, W .high, U .high) in
-            rw (f, q) (under-refused X k (l + (X .end - Y .stop)) (reads (refused k l) x (rw x at fine)))
+            rw q (under-refused X c (l + (X .end - Y .stop)) (reads (refused c l) x (rw x at fine)))
 
       module _ (u i : ℕ) (d : y ≡ Done u i) where
         pub over-items : Over b (recordOf b w) level P (X .at) (X .end) (Y .start + u) i
@@ -900,10 +878,7 @@ module _ (b m : List ℕ) (n t : ℕ) (some : length m ≡ 0 → ⊥) (w : ℕ)
 
   pub message-refused : (c : Cause) (l : ℕ) → y ≡ Refused c l → Refused c l ≡ Whole
   unfolding told then
-  message-refused c l d = let (k, x, f) = told-refused m size Root y its-answer c l d in go k x f
-    where
-      go : (k : ℕ) → Root ≡ refused k l → c ≡ k → Refused c l ≡ Whole
-      go k x f = rw (its-whole, x, f) refl
+  message-refused c l d = rw (its-whole, told-refused m size Root y its-answer c l d) refl
 
   module _ (u i : ℕ) (d : y ≡ Done u i) where
     pub message-end : u ≤ length m
@@ -914,7 +889,7 @@ module _ (b m : List ℕ) (n t : ℕ) (some : length m ≡ 0 → ⊥) (w : ℕ)
       where
         go : (z : Answer Value) → Sane (Closes (tableIn b) n (message t) closed) m z → z ≡ got v s → length s ≤ length m
         go (got a r) (leaves h p) e = let k : r ≡ s = cc in omega (arith, tail-less h, ap length k)
-        go (refused c l) h e = let z : _≡_ {A = ℕ} 0 1 = cc in absurd (omega arith)
+        go (refused c l) h e = refused≢got e
 
     pub message-trailing : u < length m → Refused Trailing (length m - u) ≡ Whole
     unfolding told then if none-left

@@ -16,6 +16,7 @@ pub mod Finding
 pub mod Wrapping
 pub mod Tagging
 pub mod Opening
+pub mod Told
 pub mod JudgedValue
 pub mod Ending
 pub mod Weighing

@@ -1,31 +1,31 @@
 -- The explicit tags of a record, opened from the outermost in.
 -- Assumes nothing.
-use borrow.Author.Tests.{eq-eqb, ne-eqb, ltb-true, ltb-false, lt-ltb, le-ltb}
+use borrow.Author.Tests.{eq-eqb, ne-eqb, ltb-true, ltb-false, lt-ltb}
 use lib.Dec.{eqb, ltb}
 use lib.ListN.{length, getD, take, drop, set, length-take, length-drop, length-map, length-append, List·getD-eq-default}
 use lib.Seq.{getD-take, getD-drop, take-length, take-take, take-suc-set, length-take-le, take-add, drop-drop, drop-length, drop-append-seam}
 use mathlib.Core.Bool.{Bool, true, false, not, _||_, true≢false, false≢true}
-use mathlib.Core.List.{List, [], _∷_, _++_, map, append-nil}
+use mathlib.Core.List.{List, [], _∷_, _++_, append-nil}
 use mathlib.Core.Logic.{_⊎_, inl, inr}
 use mathlib.Core.Path.{_≡_, refl, sym, ap, _∙_}
 use native.Mathlib.Numerals.{add-one}
 use native.Mathlib.Omega.{arith}
-use Prim.Native.Nat.{ℕ, zero, suc, _+_, _-_, _*_, _/_, _%_, _≤_, _<_}
+use Prim.Native.Nat.{ℕ, zero, suc, _+_, _-_, _/_, _%_, _≤_, _<_}
 use Rattle.octets.specs.declared.cause.Cause.{Cause}
-use Rattle.octets.specs.declared.cause.Cause.the-variants.{NotAwaited}
+use Rattle.octets.specs.declared.cause.Cause.the-variants.{Cut, Form, NotAwaited}
 use Rattle.octets.specs.Answer.{Answer, got, refused, then, if, behind, none-left}
 use Rattle.octets.specs.Lists.{same}
 use Rattle.octets.specs.Numbers.{Octets}
 use Rattle.octets.proofs.Tests.{test}
 use Rattle.ber.specs.Codes.{codeOf, code as codeBy}
-use Rattle.ber.specs.Reading.{Mode, closed, open-ended, Size, definite, indefinite, readIdentifier, readLength, readHeader, inside, readConstructed, readPrimitive, atEnd}
+use Rattle.ber.specs.Reading.{Mode, closed, open-ended, readIdentifier, readLength, readHeader, inside, readConstructed, readPrimitive, atEnd}
 use Rattle.ber.specs.Told.{toldLength, mode}
 use Rattle.ber.specs.declared.length.Length.{Length}
 use Rattle.ber.specs.declared.length.Length.the-variants.{Read as ReadLength, Refused as NoLength}
 use Rattle.ber.specs.declared.length.Extent.{Extent}
 use Rattle.ber.proofs.Told.{length-definite, length-indefinite, length-refused}
 use Rattle.table.specs.Syntax.{Tag, Body, Plain, Sequence, Set, SequenceOf, SetOf, Choice, Record, Table, isChoice, constructed}
-use Rattle.table.specs.Entries.{unpacked, tableIn, countIn, Entered, firstCode, outermostCode, more, explicitCount}
+use Rattle.table.specs.Entries.{unpacked, tableIn, firstCode, outermostCode, explicitCount}
 use Rattle.coding.specs.Tags.{identifierOf, before, explicitTags, own, explicit}
 use Rattle.coding.specs.Value.{Value}
 use Rattle.coding.specs.Reading.{readWrapped, readKind}
@@ -100,7 +100,7 @@ first-by (g ∷ []) y l = refl
 first-by (g ∷ h ∷ gs) y l = rw (lt-ltb (0 + 1) (suc (suc (length gs))) (omega arith)) refl
 
 -- contents of a tag: they go on, or they are refused, whatever comes then
-clash : {A : Type 0} (a : A) (s : List ℕ) (c l : ℕ) → _≡_ {A = Answer A} (got a s) (refused c l) → ⊥
+clash : {A : Type 0} (a : A) (s : List ℕ) (c : Cause) (l : ℕ) → _≡_ {A = Answer A} (got a s) (refused c l) → ⊥
 clash a s c l e = let z : _≡_ {A = ℕ} 0 1 = cc in omega arith
 
 module _ (A B : Type 0) (s : List ℕ) (l : ℕ) where
@@ -109,18 +109,18 @@ module _ (A B : Type 0) (s : List ℕ) (l : ℕ) where
 
   abbrev Stops : Mode → Type 0
   Stops k =
-      (c : ℕ) × (n : ℕ) × ((x : Unit {0} → Answer A) → atEnd k s (λ _. refused NotAwaited l) x ≡ refused c n) × ((y : Unit {0} → Answer B) → atEnd k s (λ _. refused NotAwaited l) y ≡ refused c n)
+      (c : Cause) × (n : ℕ) × ((x : Unit {0} → Answer A) → atEnd k s (λ _. refused NotAwaited l) x ≡ refused c n) × ((y : Unit {0} → Answer B) → atEnd k s (λ _. refused NotAwaited l) y ≡ refused c n)
 
   either : (k : Mode) → Goes k ⊎ Stops k
   unfolding atEnd if
-  either closed = test (none-left s) (λ a. inr (24, l, (λ x. rw a refl), λ y. rw a refl)) λ a. inl ((λ x. rw a refl), λ y. rw a refl)
+  either closed = test (none-left s) (λ a. inr (NotAwaited, l, (λ x. rw a refl), λ y. rw a refl)) λ a. inl ((λ x. rw a refl), λ y. rw a refl)
   either open-ended =
-      test (none-left s) (λ a. inr (22, 0, (λ x. rw a refl), λ y. rw a refl)) λ a.
+      test (none-left s) (λ a. inr (Cut, 0, (λ x. rw a refl), λ y. rw a refl)) λ a.
       test (eqb (getD s 0 0) 0)
       (λ d.
-      test (none-left (drop 1 s)) (λ f. inr (22, length s, (λ x. rw (a, d, f) refl), λ y. rw (a, d, f) refl)) λ f.
-      test (eqb (getD s 1 0) 0) (λ g. inr (24, l, (λ x. rw (a, d, f, g) refl), λ y. rw (a, d, f, g) refl))
-      λ g. inr (23, length s, (λ x. rw (a, d, f, g) refl), λ y. rw (a, d, f, g) refl))
+      test (none-left (drop 1 s)) (λ f. inr (Cut, length s, (λ x. rw (a, d, f) refl), λ y. rw (a, d, f) refl)) λ f.
+      test (eqb (getD s 1 0) 0) (λ g. inr (NotAwaited, l, (λ x. rw (a, d, f, g) refl), λ y. rw (a, d, f, g) refl))
+      λ g. inr (Form, length s, (λ x. rw (a, d, f, g) refl), λ y. rw (a, d, f, g) refl))
       λ d. inl ((λ x. rw (a, d) refl), λ y. rw (a, d) refl)
 
 going : {B : Type 0} (k : Mode) (s u : List ℕ) (l : ℕ) → atEnd k s (λ _. refused NotAwaited l) (λ _. got u s) ≡ got u s → (y : Unit {0} → Answer B)
@@ -131,11 +131,11 @@ going {B} k s u l e y = go (either (List ℕ) B s l k)
     go (inl h) = h .1 y
     go (inr h) = absurd (clash u s (h .0) (h .1) (sym e ∙ h .2 (λ _. got u s)))
 
-stopping : {B : Type 0} (k : Mode) (s u : List ℕ) (l c n : ℕ) → atEnd k s (λ _. refused NotAwaited l) (λ _. got u s) ≡ refused c n → (y : Unit {0} → Answer B)
+stopping : {B : Type 0} (k : Mode) (s u : List ℕ) (l : ℕ) (c : Cause) (n : ℕ) → atEnd k s (λ _. refused NotAwaited l) (λ _. got u s) ≡ refused c n → (y : Unit {0} → Answer B)
     → atEnd k s (λ _. refused NotAwaited l) y ≡ refused c n
 stopping {B} k s u l c n e y = go (either (List ℕ) B s l k)
   where
-    same-refusal : (a b p q : ℕ) → _≡_ {A = Answer (List ℕ)} (refused a b) (refused p q) → _≡_ {A = Answer B} (refused a b) (refused p q)
+    same-refusal : (a : Cause) (b : ℕ) (p : Cause) (q : ℕ) → _≡_ {A = Answer (List ℕ)} (refused a b) (refused p q) → _≡_ {A = Answer B} (refused a b) (refused p q)
     same-refusal a b p q z = let v : a ≡ p = cc in let w : b ≡ q = cc in rw (v, w) refl
 
     go : Goes (List ℕ) B s l k ⊎ Stops (List ℕ) B s l k → atEnd k s (λ _. refused NotAwaited l) y ≡ refused c n
@@ -152,14 +152,14 @@ unfolding sealed shut
 sealed-shut m outer inner true x = refl
 sealed-shut m outer inner false x = refl
 
-sealed-refused : {A : Type 0} (m : List ℕ) (outer inner : ℕ) (k : Bool) (c l : ℕ) → (k ≡ true → inner ≡ outer)
+sealed-refused : {A : Type 0} (m : List ℕ) (outer inner : ℕ) (k : Bool) (c : Cause) (l : ℕ) → (k ≡ true → inner ≡ outer)
     → sealed {A = A} m outer inner k (refused c l) ≡ refused c (l + (outer - inner))
 unfolding sealed then behind
 sealed-refused m outer inner true c l o = let q : l ≡ l + (outer - inner) = omega (arith, o refl) in ap (refused c) q
 sealed-refused m outer inner false c l o = refl
 
 -- an item whose header is refused
-pub item-refused : (T : Table) (f : ℕ → List ℕ → Answer Value) (o : List ℕ) (y : Body) (s : List ℕ) (c l : ℕ) → isChoice y ≡ false → readHeader o s ≡ refused c l
+pub item-refused : (T : Table) (f : ℕ → List ℕ → Answer Value) (o : List ℕ) (y : Body) (s : List ℕ) (c : Cause) (l : ℕ) → isChoice y ≡ false → readHeader o s ≡ refused c l
     → readKind T f o y s ≡ refused c l
 unfolding readKind readPrimitive readConstructed then isChoice
 item-refused T f o (Plain k) s c l n e = rw e refl
@@ -169,19 +169,19 @@ item-refused T f o (SequenceOf u) s c l n e = rw e refl
 item-refused T f o (SetOf u) s c l n e = rw e refl
 item-refused T f o (Choice ts) s c l n e = absurd (true≢false n)
 
-wrapped-refused : {A : Type 0} (i : List ℕ) (is : List (List ℕ)) (r : List ℕ → Answer A) (s : List ℕ) (c l : ℕ) → readHeader i s ≡ refused c l
+wrapped-refused : {A : Type 0} (i : List ℕ) (is : List (List ℕ)) (r : List ℕ → Answer A) (s : List ℕ) (c : Cause) (l : ℕ) → readHeader i s ≡ refused c l
     → readWrapped (i ∷ is) r s ≡ refused c l
 unfolding readWrapped readConstructed then
 wrapped-refused i is r s c l e = rw e refl
 
-header-none : (i s : List ℕ) (c : ℕ) → then (readIdentifier s) (λ j u. if (same i j) (got j u) λ _. refused NotAwaited (length s)) ≡ refused c (length s)
+header-none : (i s : List ℕ) (c : Cause) → then (readIdentifier s) (λ j u. if (same i j) (got j u) λ _. refused NotAwaited (length s)) ≡ refused c (length s)
     → readHeader i s ≡ refused c (length s)
 unfolding readHeader then if
 header-none i s c e = go (readIdentifier s) e
   where
     go : (x : Answer (List ℕ)) → then x (λ j u. if (same i j) (got j u) λ _. refused NotAwaited (length s)) ≡ refused c (length s)
         → then x (λ j u. if (not (same i j)) (refused NotAwaited (length s)) λ _. readLength (length s) u) ≡ refused c (length s)
-    go (got j u) e = test (same i j) (λ t. absurd (clash j u c (length s) (rw t at e))) λ t. rw t (let k = rw t at e in let v : 24 ≡ c = cc in rw v refl)
+    go (got j u) e = test (same i j) (λ t. absurd (clash j u c (length s) (rw t at e))) λ t. rw t (let k = rw t at e in let v : NotAwaited ≡ c = cc in rw v refl)
     go (refused a n) e = let v : a ≡ c = cc in let w : n ≡ length s = cc in rw (v, w) refl
 
 -- the tags that are opened: j notes are made, and what is read next stands from `at` to `end`, with its identifier up to `from`

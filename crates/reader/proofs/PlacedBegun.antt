@@ -9,7 +9,7 @@ use native.Mathlib.Omega.{arith}
 use borrow.Author.Tests.{eq-eqb, ne-eqb}
 use lib.Dec.{eqb}
 use lib.ListN.{getD, drop}
-use Rattle.octets.specs.Answer.{Answer, got, refused, if}
+use Rattle.octets.specs.Answer.{Answer, got, refused}
 use Rattle.octets.proofs.Answer.{Holds, got-holds, refused≢got}
 use Rattle.octets.proofs.Tests.{test, and-right}
 use Rattle.octets.proofs.Lists.{same-true}

@@ -7,6 +7,7 @@ use mathlib.Core.Path.{_≡_}
 use Prim.Native.Nat.{ℕ, zero, suc, _+_, _-_, _≤_}
 use native.Mathlib.Omega.{arith}
 use lib.ListN.{take}
+use Rattle.octets.specs.declared.cause.Cause.{Cause}
 use Rattle.octets.specs.Answer.{Answer, got, refused, then, if, behind}
 use Rattle.octets.proofs.Answer.{refused≢got}
 use Rattle.ber.specs.Reading.{Size, definite, indefinite, Mode, closed, open-ended, atEnd, inside, readConstructed}
@@ -21,7 +22,7 @@ use Rattle.reader.specs.Items.{blank}
 -- the second answer is the first, if that is no refusal
 pub data Kept {A : Type 0} : Answer A → Answer A → Type 0 where
   same : {x : Answer A} → Kept x x
-  refusal : {c l : ℕ} {y : Answer A} → Kept (refused c l) y
+  refusal : {c : Cause} {l : ℕ} {y : Answer A} → Kept (refused c l) y
 
 pub kept-got : {A : Type 0} {x y : Answer A} {a : A} {w : List ℕ} → Kept x y → x ≡ got a w → y ≡ got a w
 kept-got same e = e

@@ -6,7 +6,7 @@ use lib.ListN.{length, getD, drop}
 use mathlib.Core.Bool.{Bool, true, false, not, _||_, true≢false}
 use mathlib.Core.List.{List, [], _∷_, List·Memᴰ as In, List·Memᴰ·head, List·Memᴰ·tail}
 use mathlib.Core.Logic.{_⊎_, inl, inr}
-use mathlib.Core.Option.{Option, some, none}
+use mathlib.Core.Option.{some, none}
 use mathlib.Core.Path.{_≡_, refl, sym, ap, _∙_}
 use native.Mathlib.Omega.{arith}
 use Prim.Native.Nat.{ℕ, zero, suc, _+_, _*_, _≤_, _<_}
@@ -21,7 +21,7 @@ use Rattle.table.specs.declared.entry.Entry.{Entry}
 use Rattle.table.specs.declared.entry.Span.{Span}
 use Rattle.coding.specs.Awaited.{types}
 use Rattle.reader.specs.Codes.{firstOf, searchIn, hit}
-use Rattle.reader.specs.Items.{Holder, inside, message, Manner, in-turn, each-once, repeated, single, manner, partsOf, optionals, Placed, pending, left, awaits, remains, some-of, since, isSingle, first}
+use Rattle.reader.specs.Items.{Holder, inside, message, Manner, in-turn, each-once, repeated, single, manner, partsOf, optionals, Placed, left, awaits, remains, some-of, since, isSingle, first}
 use Rattle.reader.specs.Records.{Ready, Known, of-record, of-message, holderIn, Finds}
 use Rattle.reader.specs.Sought.{held, Sound, placeOf, tabled, tabledCount, direct, unfitCause, Indirect}
 use Rattle.reader.specs.declared.search.Found.{Found}

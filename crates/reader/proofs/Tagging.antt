@@ -1,22 +1,22 @@
 -- The identifiers of a record by its tags, and whether octets begin with the one that is awaited.
 -- Assumes nothing.
-use borrow.Author.Tests.{lt-ltb, le-ltb, ltb-true, ltb-false, eq-eqb, ne-eqb}
+use borrow.Author.Tests.{lt-ltb, le-ltb, ltb-true, ltb-false, ne-eqb}
 use lib.Dec.{ltb, eqb}
-use lib.ListN.{length, getD, drop, length-drop}
+use lib.ListN.{length, getD, drop}
 use mathlib.Core.Bool.{Bool, true, false, not, _||_, false≢true}
 use mathlib.Core.List.{List, [], _∷_, _++_, map}
 use mathlib.Core.Path.{_≡_, refl, sym, ap, _∙_}
 use native.Mathlib.Omega.{arith}
-use Prim.Native.Nat.{ℕ, zero, suc, _+_, _*_, _-_, _≤_, _<_}
+use Prim.Native.Nat.{ℕ, zero, suc, _+_, _-_, _≤_, _<_}
 use Rattle.octets.specs.declared.cause.Cause.{Cause}
 use Rattle.octets.specs.declared.cause.Cause.the-variants.{NotAwaited}
-use Rattle.octets.specs.Answer.{Answer, got, refused, then, if}
+use Rattle.octets.specs.Answer.{got, refused, then, if}
 use Rattle.octets.specs.Lists.{same}
 use Rattle.octets.specs.Numbers.{Octets, two}
 use Rattle.octets.proofs.Tests.{test}
 use Rattle.ber.specs.Codes.{codeOf, code as codeBy}
 use Rattle.ber.specs.Reading.{readIdentifier}
-use Rattle.ber.specs.Told.{toldIdentifier, endOf, mode}
+use Rattle.ber.specs.Told.{toldIdentifier, endOf}
 use Rattle.ber.specs.declared.ending.End.{End}
 use Rattle.ber.specs.declared.ending.End.the-variants.{More, Over, Broken}
 use Rattle.ber.specs.declared.identifier.Identifier.{Identifier}
@@ -25,12 +25,12 @@ use Rattle.ber.proofs.Codes.{code-of-identifier, code-awaited}
 use Rattle.ber.proofs.Ends.{end-more, end-over, end-broken}
 use Rattle.ber.proofs.Told.{identifier-read, identifier-refused}
 use Rattle.table.specs.Syntax.{Tag, Body, Plain, Sequence, Set, SequenceOf, SetOf, Choice, Record, isChoice, constructed}
-use Rattle.table.specs.Entries.{unpacked, tagCount, tagPlace, tableIn, countIn, Entered, firstCode, outermostCode, explicitCount}
+use Rattle.table.specs.Entries.{unpacked, tagCount, tagPlace, tableIn, countIn, Entered}
 use Rattle.table.specs.declared.entry.Entry.{Entry}
 use Rattle.table.proofs.Promises.{entered-tags, entered-tag, entered-bit}
 use Rattle.coding.specs.Tags.{identifierOf, last, before, explicitTags, own, explicit}
 use Rattle.reader.specs.Records.{Ready, recordIn, IsRecord}
-use Rattle.reader.specs.Wraps.{identifiers, Headed, AwaitsTag, behind-last, is-tag, no-tag, EntersTag, goes-on, is-over}
+use Rattle.reader.specs.Wraps.{identifiers, AwaitsTag, behind-last, is-tag, no-tag, EntersTag, goes-on, is-over}
 use Rattle.reader.specs.declared.tags.Tag.{Tag as TagRead}
 use Rattle.reader.specs.declared.tags.Tag.the-variants.{Read as ReadTag, Refused as NoTag}
 use Rattle.reader.proofs.Begun.{AllFine, Fit, fit}

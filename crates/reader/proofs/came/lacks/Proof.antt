@@ -1,7 +1,6 @@
 -- `reader::came::lacks` meets its contract. What the members from the k-th on say is what all from the i-th on say.
 -- Assumes nothing.
 use borrow.Author.Tests.{not-true, not-false}
-use lib.ListN.{length}
 use mathlib.Core.Bool.{not, _||_}
 use mathlib.Core.Logic.{⊎-elim}
 use mathlib.Core.Path.{_≡_, refl, sym, ap, _∙_}

@@ -1,7 +1,7 @@
-use mathlib.Core.Path.{_≡_, refl, sym, ap, _∙_}
+use mathlib.Core.Path.{refl, _∙_}
 use native.Mathlib.Omega.{arith}
 use denote.Ref.{now}
-use lib.ListN.{length, getD, drop}
+use lib.ListN.{getD, drop}
 use Rattle.ber.specs.Integer.{eight}
 use Rattle.ber.proofs.BitString.{length-masked}
 use Rattle.reader.specs.Leaves.{leafOf}

@@ -1,10 +1,10 @@
-use mathlib.Core.Path.{_≡_, refl, sym, ap, _∙_}
+use mathlib.Core.Path.{refl, sym, ap, _∙_}
 use native.Mathlib.Omega.{arith}
 use Prim.Native.Nat.{ℕ, _+_}
 use denote.Ref.{now}
 use lib.ListN.{length, length-set}
 use lib.Seq.{sets, length-sets}
-use Rattle.reader.proofs.NodeStores.{opening-none, opening-members, opening-others, opening-long, node-members, four-stores}
+use Rattle.reader.proofs.NodeStores.{opening-none, opening-members, opening-others, opening-long, four-stores}
 use borrow.Author.Needs.{needs}
 use Rattle.reader.proofs.node.begin.Statement.{statement}
 use Rattle.reader.proofs.node.begin.Tie as tie

@@ -4,14 +4,14 @@ use borrow.Author.Needs.{needs}
 use borrow.Author.Tests.{not-true, not-false}
 use lib.ListN.{length}
 use mathlib.Core.Logic.{⊎-elim, inl, inr}
-use mathlib.Core.Path.{_≡_, refl, sym, ap, _∙_}
+use mathlib.Core.Path.{_≡_, refl, ap, _∙_}
 use native.Mathlib.Omega.{arith}
 use Prim.Native.Nat.{_-_}
 use Rattle.table.specs.Entries.{tableIn}
 use Rattle.reader.specs.Codes.{searchIn, hit}
 use Rattle.reader.specs.Items.{awaits, first}
 use Rattle.reader.specs.Sought.{held}
-use Rattle.reader.proofs.Searching.{near, Counted, few-parts, table-part, turn-part, candidate, candidate-low, indirect-part, indirect-stop, indirect-optional, indirect-other, indirect-come, indirect-end, indirect-none}
+use Rattle.reader.proofs.Searching.{near, few-parts, table-part, turn-part, candidate, candidate-low, indirect-part, indirect-stop, indirect-optional, indirect-other, indirect-come, indirect-end, indirect-none}
 use Rattle.reader.proofs.search.indirect.Statement.{statement}
 use Rattle.reader.proofs.search.indirect.Tie as tie
 

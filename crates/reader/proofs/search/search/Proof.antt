@@ -2,7 +2,6 @@
 -- Assumes nothing.
 use borrow.Author.Needs.{needs}
 use mathlib.Core.Logic.{⊎-elim, inl, inr}
-use mathlib.Core.Path.{sym}
 use native.Mathlib.Omega.{arith}
 use Rattle.reader.proofs.Searching.{near, since-is, since-again}
 use Rattle.reader.proofs.Finding.{sought-unread, code-small, sought-direct, sought-indirect}

@@ -2,7 +2,6 @@
 -- Assumes nothing.
 use mathlib.Core.Path.{sym, _∙_}
 use native.Mathlib.Omega.{arith}
-use borrow.Author.Needs.{needs}
 use Rattle.reader.proofs.Among.{code-is, seek-here, seek-other}
 use Rattle.reader.proofs.search.seek.Statement.{statement}
 use Rattle.reader.proofs.search.seek.Tie as tie
