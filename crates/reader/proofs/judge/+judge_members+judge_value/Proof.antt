@@ -23,7 +23,6 @@ use Rattle.reader.proofs.judge.judge_value.Kinds as judge-value-kinds
 use Rattle.reader.proofs.judge.+judge_members+judge_value.Lts-judge_value as judge-value-lts
 use Rattle.ber.proofs.length.read.Reads as read-reads
 use Rattle.octets.proofs.octet.Reads as octet-reads
-use Rattle.reader.proofs.answer.cause_of.Reads as cause-of-reads
 use Rattle.reader.proofs.answer.grow.Reads as grow-reads
 use Rattle.reader.proofs.contents.contents_size.Reads as contents-size-reads
 use Rattle.reader.proofs.judge.done.Reads as done-reads
@@ -347,8 +346,6 @@ judge-value-claims t = (
   refused-reads.Learnt,
   read-reads.Asked,
   read-reads.Learnt,
-  cause-of-reads.Asked,
-  cause-of-reads.Learnt,
   contents-size-reads.Asked,
   contents-size-reads.Learnt,
   judge-members-below t,
@@ -482,16 +479,15 @@ judge-value-half t =
     (λ c. item-within (at-item t (c .before)))  -- judge-value-sub-left
     (λ c. item-around (at-item t (c .before .before)))  -- judge-value-slice-aggregate-around
     (λ c κs. tt)  -- judge-value-read-requires
-    (λ c. search needs)  -- judge-value-enum-known-fault
-    (λ c κs. tt)  -- judge-value-cause-of-requires
+    (λ c. search needs)  -- judge-value-enum-known-cause-2
     (λ c κs. tt)  -- judge-value-refused-requires-2
     (λ c.
-    let x = at-item t (c .before .before .before .before .before .before .before .before .before .before) in
-    let l = c .before .before .before .before .before .read in
-    let f = c .before .before .before .fault .given in (
-      c .before .before .before .before .before .before .before .before .before .before .before .before .before .before .before .pre .1 .5,
-      c .refused2 .ensures ∙ value-unread x (c .before .before .before .before .before .before .if2 .taken) (l .result) (l .ensures) (f .0 .0) (f .1)
-          (c .before .cause-of .result) (c .before .cause-of .ensures),
+    let c4 = c .before .before .before .before in
+    let c9 = c4 .before .before .before .before .before in
+    let f = c .before .before .cause2 .given in (
+      c9 .before .before .before .before .before .pre .1 .5,
+      c .refused2 .ensures
+          ∙ value-unread (at-item t c9) (c4 .before .if2 .taken) (c4 .read .result) (c4 .read .ensures) (f .0 .0) (f .1),
     ))  -- judge-value-returns-2
     (λ c. search needs)  -- judge-value-enum-known-x-2
     (λ c κs. tt)  -- judge-value-refused-requires-3
@@ -529,12 +525,12 @@ judge-value-half t =
     let n = c .before .before .before .before .if3 .left in
     let k = items-known y n in
     (omega (arith, p .0), (q .0, k .0, k .1, items-some y n, contents-short y, omega (arith, q .4), q .5)))  -- judge-value-judge-members-requires
-    (λ c. search needs)  -- judge-value-enum-known-cause-2
+    (λ c. search needs)  -- judge-value-enum-known-cause-3
     (λ c. contents-within (at-filling t (c .before .before .before .before .before .before .before .before .before)) .1)  -- judge-value-sub-refused
     (λ c.
     let y = at-filling t (c .before .before .before .before .before .before .before .before .before) in
     let r = c .before .before .before .judge-members in
-    let x = c .before .cause2 .given in
+    let x = c .before .cause3 .given in
     omega (
       arith,
       items-low y (c .before .before .before .before .before .before .before .before .if3 .left) (r .result) (r .ensures .1) (x .0 .0)
@@ -544,7 +540,7 @@ judge-value-half t =
     (λ c.
     let y = at-filling t (c .before .before .before .before .before .before .before .before .before .before) in
     let r = c .before .before .before .before .judge-members in
-    let x = c .before .before .cause2 .given in (
+    let x = c .before .before .cause3 .given in (
       r .ensures .0,
       c .refused5 .ensures ∙ value-unheld y (c .before .before .before .before .before .before .before .before .before .if3 .left)
           (r .result) (r .ensures .1) (x .0 .0) (x .0 .1 .0) (x .1),

@@ -16,7 +16,7 @@ search-spec =
     (λ c κs. tt)  -- parts-requires
     (λ c κs. tt)  -- read-requires
     (λ c. search needs)  -- enum-known-cause
-    (λ c κs. (_, c .before .before .before .before .before .before .before .before .before .before .before .pre .0, since-again (c .before .before .before .before .before .before .before .before .before .before .before .pre .0) (c .before .before .before .before .before .before .before .before .unpack .result) (c .before .before .before .before .before .before .before .before .unpack .ensures) (c .before .before .before .before .before .before .before .parts .result) (c .before .before .before .before .before .before .before .parts .ensures) (c .before .before .before .before .before .if1 .i) (c .before .before .before .before .before .before .before .before .before .before .before .args .j) (since-is (c .before .before .before .before .before .before .before .before .before .before .before .pre .0) (c .before .before .before .before .before .before .before .before .unpack .result) (c .before .before .before .before .before .before .before .before .unpack .ensures) (c .before .before .before .before .before .before .before .parts .result) (c .before .before .before .before .before .before .before .parts .ensures) (c .before .before .before .before .before .if1 .i) (c .before .before .before .before .before .before .before .before .before .before .before .args .j) (⊎-elim (λ x. inl (x .0 .taken, x .1)) (λ x. inr (x .0 .left, x .1)) (c .before .before .before .before .before .if1 .came)))))  -- unawaited-requires
+    (λ c κs. (_, c .before .before .before .before .before .before .before .before .before .before .pre .0, since-again (c .before .before .before .before .before .before .before .before .before .before .pre .0) (c .before .before .before .before .before .before .before .unpack .result) (c .before .before .before .before .before .before .before .unpack .ensures) (c .before .before .before .before .before .before .parts .result) (c .before .before .before .before .before .before .parts .ensures) (c .before .before .before .before .if1 .i) (c .before .before .before .before .before .before .before .before .before .before .args .j) (since-is (c .before .before .before .before .before .before .before .before .before .before .pre .0) (c .before .before .before .before .before .before .before .unpack .result) (c .before .before .before .before .before .before .before .unpack .ensures) (c .before .before .before .before .before .before .parts .result) (c .before .before .before .before .before .before .parts .ensures) (c .before .before .before .before .if1 .i) (c .before .before .before .before .before .before .before .before .before .before .args .j) (⊎-elim (λ x. inl (x .0 .taken, x .1)) (λ x. inr (x .0 .left, x .1)) (c .before .before .before .before .if1 .came)))))  -- unawaited-requires
     (λ c. search needs)  -- enum-known-code
     (λ c κs. c .before .before .before .before .before .before .before .before .before .before .pre .0)  -- direct-requires
     (λ c. omega (arith, near (c .before .before .before .before .before .before .before .before .before .before .before .before .before .before .pre .0) (c .before .before .before .before .before .before .before .before .before .before .before .unpack .result) (c .before .before .before .before .before .before .before .before .before .before .before .unpack .ensures) (c .before .before .before .before .before .before .before .before .before .before .parts .result) (c .before .before .before .before .before .before .before .before .before .before .parts .ensures) (c .before .before .before .direct .result) (c .before .if2 .taken)))  -- mul-octet

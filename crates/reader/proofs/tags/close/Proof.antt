@@ -31,7 +31,7 @@ close-spec =
     (λ c. omega (arith, close-end (c .before .before .before .before .before .before .before .before .args .m .now) (c .before .before .before .before .before .before .before .before .args .notes .now) (c .before .before .before .before .before .before .before .before .args .count) (c .before .before .before .before .before .before .before .before .args .end) (c .before .before .before .before .before .before .before .before .args .at) (c .before .before .before .before .before .before .before .before .args .size) (c .before .before .before .before .before .before .loop .at) (c .before .before .before .before .before .before .loop .end) (c .before .before .before .before .before .before .loop .j) (c .before .before .before .before .before .before .loop .inv .2), c .before .before .before .before .before .before .loop .inv .1))  -- sub-t23
     (λ c. close-more (c .before .before .before .before .before .before .before .before .args .m .now) (c .before .before .before .before .before .before .before .before .args .notes .now) (c .before .before .before .before .before .before .before .before .args .count) (c .before .before .before .before .before .before .before .before .args .end) (c .before .before .before .before .before .before .before .before .args .at) (c .before .before .before .before .before .before .before .before .args .size) (c .before .before .before .before .before .before .loop .at) (c .before .before .before .before .before .before .loop .end) (c .before .before .before .before .before .before .loop .j) (c .before .before .before .before .before .before .loop .inv .2) (c .before .before .before .before .before .before .loop .inv .1) (c .before .before .before .before .before .loop-test .taken) (omega (arith, c .before .before .before .before .before .before .loop .inv .0, c .before .before .before .before .before .before .before .before .pre .0, c .before .before .before .before .before .before .before .before .pre .1)) _ refl _ refl (c .before .before .read .result) (c .before .before .read .ensures) (c .enum-told .given .1))  -- returns
     (λ c. search needs)  -- enum-known-cause
-    (λ c. omega (arith, close-end (c .before .before .before .before .before .before .before .before .before .before .args .m .now) (c .before .before .before .before .before .before .before .before .before .before .args .notes .now) (c .before .before .before .before .before .before .before .before .before .before .args .count) (c .before .before .before .before .before .before .before .before .before .before .args .end) (c .before .before .before .before .before .before .before .before .before .before .args .at) (c .before .before .before .before .before .before .before .before .before .before .args .size) (c .before .before .before .before .before .before .before .before .loop .at) (c .before .before .before .before .before .before .before .before .loop .end) (c .before .before .before .before .before .before .before .before .loop .j) (c .before .before .before .before .before .before .before .before .loop .inv .2), c .before .before .before .before .before .before .before .before .loop .inv .1))  -- sub-t26
+    (λ c. omega (arith, close-end (c .before .before .before .before .before .before .before .before .before .args .m .now) (c .before .before .before .before .before .before .before .before .before .args .notes .now) (c .before .before .before .before .before .before .before .before .before .args .count) (c .before .before .before .before .before .before .before .before .before .args .end) (c .before .before .before .before .before .before .before .before .before .args .at) (c .before .before .before .before .before .before .before .before .before .args .size) (c .before .before .before .before .before .before .before .loop .at) (c .before .before .before .before .before .before .before .loop .end) (c .before .before .before .before .before .before .before .loop .j) (c .before .before .before .before .before .before .before .loop .inv .2), c .before .before .before .before .before .before .before .loop .inv .1))  -- sub-t25
     (λ c.
     let c3 = c .before .before .before in
     let c6 = c3 .before .before .before in

@@ -32,7 +32,7 @@ open-spec =
     (λ c. sym (length-take-le (c .before .before .loop .end) (c .before .before .before .before .before .before .before .args .m .now) (c .before .before .loop .inv .1 .high)))  -- slice-aggregate-around
     (λ c κs. tt)  -- read-requires
     (λ c. search needs)  -- enum-known-cause
-    (λ c. omega (arith, c .before .before .before .before .before .before .before .loop .inv .1 .some, c .before .before .before .before .before .before .before .loop .inv .1 .high))  -- sub-t25
+    (λ c. omega (arith, c .before .before .before .before .before .before .loop .inv .1 .some, c .before .before .before .before .before .before .loop .inv .1 .high))  -- sub-t24
     (λ c.
     let c3 = c .before .before .before in
     let c5 = c3 .before .before in
@@ -54,9 +54,9 @@ open-spec =
     (λ c. omega (arith, (extent (c .before .before .before .before .before .before .before .before .before .before .before .before .args .table .now) (recordIn (c .before .before .before .before .before .before .before .before .before .before .before .before .args .table .now) (unpacked (c .before .before .before .before .before .before .before .before .before .before .before .before .args .w))) (its-fit (c .before .before .before .before .before .before .before .before .before .before .before .before .pre .1) (c .before .before .before .before .before .before .before .before .before .before .before .before .pre .2)) (c .before .before .before .before .before .before .before .before .before .before .before .before .args .m .now) (λ n. omega (arith, c .before .before .before .before .before .before .before .before .before .before .shared-slice-known2 .given n)) (c .before .before .before .before .before .before .before .before .before .before .before .before .args .at) (c .before .before .before .before .before .before .before .loop .notes) (c .before .before .before .before .before .before .before .loop .at) (c .before .before .before .before .before .before .before .loop .from) (c .before .before .before .before .before .before .before .loop .end) (c .before .before .before .before .before .before .before .loop .j) (c .before .before .before .before .before .before .before .loop .inv .1) (omega (arith, c .before .before .before .before .before .before .loop-test .taken, ap (λ (e : Entry). e .explicit) (c .before .before .before .before .before .before .before .before .before .unpack .ensures), its-count (c .before .before .before .before .before .before .before .before .before .before .before .before .pre .1) (c .before .before .before .before .before .before .before .before .before .before .before .before .pre .2))) (c .before .before .before .before .read .result) (c .before .before .before .before .read .ensures) (c .before .before .x .given .0 .0) (c .before .before .x .given .1)) .1, (extent (c .before .before .before .before .before .before .before .before .before .before .before .before .args .table .now) (recordIn (c .before .before .before .before .before .before .before .before .before .before .before .before .args .table .now) (unpacked (c .before .before .before .before .before .before .before .before .before .before .before .before .args .w))) (its-fit (c .before .before .before .before .before .before .before .before .before .before .before .before .pre .1) (c .before .before .before .before .before .before .before .before .before .before .before .before .pre .2)) (c .before .before .before .before .before .before .before .before .before .before .before .before .args .m .now) (λ n. omega (arith, c .before .before .before .before .before .before .before .before .before .before .shared-slice-known2 .given n)) (c .before .before .before .before .before .before .before .before .before .before .before .before .args .at) (c .before .before .before .before .before .before .before .loop .notes) (c .before .before .before .before .before .before .before .loop .at) (c .before .before .before .before .before .before .before .loop .from) (c .before .before .before .before .before .before .before .loop .end) (c .before .before .before .before .before .before .before .loop .j) (c .before .before .before .before .before .before .before .loop .inv .1) (omega (arith, c .before .before .before .before .before .before .loop-test .taken, ap (λ (e : Entry). e .explicit) (c .before .before .before .before .before .before .before .before .before .unpack .ensures), its-count (c .before .before .before .before .before .before .before .before .before .before .before .before .pre .1) (c .before .before .before .before .before .before .before .before .before .before .before .before .pre .2))) (c .before .before .before .before .read .result) (c .before .before .before .before .read .ensures) (c .before .before .x .given .0 .0) (c .before .before .x .given .1)) .2, c .before .before .before .before .before .before .before .loop .inv .1 .high))  -- part-inside-start
     (λ c. omega (arith, (extent (c .before .before .before .before .before .before .before .before .before .before .before .before .args .table .now) (recordIn (c .before .before .before .before .before .before .before .before .before .before .before .before .args .table .now) (unpacked (c .before .before .before .before .before .before .before .before .before .before .before .before .args .w))) (its-fit (c .before .before .before .before .before .before .before .before .before .before .before .before .pre .1) (c .before .before .before .before .before .before .before .before .before .before .before .before .pre .2)) (c .before .before .before .before .before .before .before .before .before .before .before .before .args .m .now) (λ n. omega (arith, c .before .before .before .before .before .before .before .before .before .before .shared-slice-known2 .given n)) (c .before .before .before .before .before .before .before .before .before .before .before .before .args .at) (c .before .before .before .before .before .before .before .loop .notes) (c .before .before .before .before .before .before .before .loop .at) (c .before .before .before .before .before .before .before .loop .from) (c .before .before .before .before .before .before .before .loop .end) (c .before .before .before .before .before .before .before .loop .j) (c .before .before .before .before .before .before .before .loop .inv .1) (omega (arith, c .before .before .before .before .before .before .loop-test .taken, ap (λ (e : Entry). e .explicit) (c .before .before .before .before .before .before .before .before .before .unpack .ensures), its-count (c .before .before .before .before .before .before .before .before .before .before .before .before .pre .1) (c .before .before .before .before .before .before .before .before .before .before .before .before .pre .2))) (c .before .before .before .before .read .result) (c .before .before .before .before .read .ensures) (c .before .before .x .given .0 .0) (c .before .before .x .given .1)) .2, c .before .before .before .before .before .before .before .loop .inv .1 .high))  -- part-inside-end
     (λ c κs. (c .before .before .before .before .before .before .before .before .before .before .before .before .before .pre .0, c .before .before .before .before .before .before .before .before .before .before .before .before .before .pre .1, c .before .before .before .before .before .before .before .before .before .before .before .before .before .pre .2))  -- enter-requires
-    (λ c. search needs)  -- enum-known-cause
-    (λ c. omega (arith, (extent (c .before .before .before .before .before .before .before .before .before .before .before .before .before .before .before .before .before .args .table .now) (recordIn (c .before .before .before .before .before .before .before .before .before .before .before .before .before .before .before .before .before .args .table .now) (unpacked (c .before .before .before .before .before .before .before .before .before .before .before .before .before .before .before .before .before .args .w))) (its-fit (c .before .before .before .before .before .before .before .before .before .before .before .before .before .before .before .before .before .pre .1) (c .before .before .before .before .before .before .before .before .before .before .before .before .before .before .before .before .before .pre .2)) (c .before .before .before .before .before .before .before .before .before .before .before .before .before .before .before .before .before .args .m .now) (λ n. omega (arith, c .before .before .before .before .before .before .before .before .before .before .before .before .before .before .before .shared-slice-known2 .given n)) (c .before .before .before .before .before .before .before .before .before .before .before .before .before .before .before .before .before .args .at) (c .before .before .before .before .before .before .before .before .before .before .before .before .loop .notes) (c .before .before .before .before .before .before .before .before .before .before .before .before .loop .at) (c .before .before .before .before .before .before .before .before .before .before .before .before .loop .from) (c .before .before .before .before .before .before .before .before .before .before .before .before .loop .end) (c .before .before .before .before .before .before .before .before .before .before .before .before .loop .j) (c .before .before .before .before .before .before .before .before .before .before .before .before .loop .inv .1) (omega (arith, c .before .before .before .before .before .before .before .before .before .before .before .loop-test .taken, ap (λ (e : Entry). e .explicit) (c .before .before .before .before .before .before .before .before .before .before .before .before .before .before .unpack .ensures), its-count (c .before .before .before .before .before .before .before .before .before .before .before .before .before .before .before .before .before .pre .1) (c .before .before .before .before .before .before .before .before .before .before .before .before .before .before .before .before .before .pre .2))) (c .before .before .before .before .before .before .before .before .before .read .result) (c .before .before .before .before .before .before .before .before .before .read .ensures) (c .before .before .before .before .before .before .before .x .given .0 .0) (c .before .before .before .before .before .before .before .x .given .1)) .1, (extent (c .before .before .before .before .before .before .before .before .before .before .before .before .before .before .before .before .before .args .table .now) (recordIn (c .before .before .before .before .before .before .before .before .before .before .before .before .before .before .before .before .before .args .table .now) (unpacked (c .before .before .before .before .before .before .before .before .before .before .before .before .before .before .before .before .before .args .w))) (its-fit (c .before .before .before .before .before .before .before .before .before .before .before .before .before .before .before .before .before .pre .1) (c .before .before .before .before .before .before .before .before .before .before .before .before .before .before .before .before .before .pre .2)) (c .before .before .before .before .before .before .before .before .before .before .before .before .before .before .before .before .before .args .m .now) (λ n. omega (arith, c .before .before .before .before .before .before .before .before .before .before .before .before .before .before .before .shared-slice-known2 .given n)) (c .before .before .before .before .before .before .before .before .before .before .before .before .before .before .before .before .before .args .at) (c .before .before .before .before .before .before .before .before .before .before .before .before .loop .notes) (c .before .before .before .before .before .before .before .before .before .before .before .before .loop .at) (c .before .before .before .before .before .before .before .before .before .before .before .before .loop .from) (c .before .before .before .before .before .before .before .before .before .before .before .before .loop .end) (c .before .before .before .before .before .before .before .before .before .before .before .before .loop .j) (c .before .before .before .before .before .before .before .before .before .before .before .before .loop .inv .1) (omega (arith, c .before .before .before .before .before .before .before .before .before .before .before .loop-test .taken, ap (λ (e : Entry). e .explicit) (c .before .before .before .before .before .before .before .before .before .before .before .before .before .before .unpack .ensures), its-count (c .before .before .before .before .before .before .before .before .before .before .before .before .before .before .before .before .before .pre .1) (c .before .before .before .before .before .before .before .before .before .before .before .before .before .before .before .before .before .pre .2))) (c .before .before .before .before .before .before .before .before .before .read .result) (c .before .before .before .before .before .before .before .before .before .read .ensures) (c .before .before .before .before .before .before .before .x .given .0 .0) (c .before .before .before .before .before .before .before .x .given .1)) .2, c .before .before .before .before .before .before .before .before .before .before .before .before .loop .inv .1 .high))  -- sub-t34
-    (λ c. (simp length-set (c .before .before .before .before .before .before .before .before .before .before .before .before .loop .inv .0), open-refused (c .before .before .before .before .before .before .before .before .before .before .before .before .before .before .before .before .before .args .table .now) (recordIn (c .before .before .before .before .before .before .before .before .before .before .before .before .before .before .before .before .before .args .table .now) (unpacked (c .before .before .before .before .before .before .before .before .before .before .before .before .before .before .before .before .before .args .w))) (its-fit (c .before .before .before .before .before .before .before .before .before .before .before .before .before .before .before .before .before .pre .1) (c .before .before .before .before .before .before .before .before .before .before .before .before .before .before .before .before .before .pre .2)) (c .before .before .before .before .before .before .before .before .before .before .before .before .before .before .before .before .before .args .m .now) (λ n. omega (arith, c .before .before .before .before .before .before .before .before .before .before .before .before .before .before .before .shared-slice-known2 .given n)) (c .before .before .before .before .before .before .before .before .before .before .before .before .before .before .before .before .before .args .at) (c .before .before .before .before .before .before .before .before .before .before .before .before .loop .notes) (c .before .before .before .before .before .before .before .before .before .before .before .before .loop .at) (c .before .before .before .before .before .before .before .before .before .before .before .before .loop .from) (c .before .before .before .before .before .before .before .before .before .before .before .before .loop .end) (c .before .before .before .before .before .before .before .before .before .before .before .before .loop .j) (c .before .before .before .before .before .before .before .before .before .before .before .before .loop .inv .1) (omega (arith, c .before .before .before .before .before .before .before .before .before .before .before .loop-test .taken, ap (λ (e : Entry). e .explicit) (c .before .before .before .before .before .before .before .before .before .before .before .before .before .before .unpack .ensures), its-count (c .before .before .before .before .before .before .before .before .before .before .before .before .before .before .before .before .before .pre .1) (c .before .before .before .before .before .before .before .before .before .before .before .before .before .before .before .before .before .pre .2))) (c .before .before .before .before .before .before .before .before .before .read .result) (c .before .before .before .before .before .before .before .before .before .read .ensures) (c .before .before .before .before .before .before .before .x .given .0 .0) (c .before .before .before .before .before .before .before .x .given .1) _ (slice-is _ _ (c .before .before .before .before .before .before .before .before .before .before .before .before .before .before .before .before .before .args .m .now) ((extent (c .before .before .before .before .before .before .before .before .before .before .before .before .before .before .before .before .before .args .table .now) (recordIn (c .before .before .before .before .before .before .before .before .before .before .before .before .before .before .before .before .before .args .table .now) (unpacked (c .before .before .before .before .before .before .before .before .before .before .before .before .before .before .before .before .before .args .w))) (its-fit (c .before .before .before .before .before .before .before .before .before .before .before .before .before .before .before .before .before .pre .1) (c .before .before .before .before .before .before .before .before .before .before .before .before .before .before .before .before .before .pre .2)) (c .before .before .before .before .before .before .before .before .before .before .before .before .before .before .before .before .before .args .m .now) (λ n. omega (arith, c .before .before .before .before .before .before .before .before .before .before .before .before .before .before .before .shared-slice-known2 .given n)) (c .before .before .before .before .before .before .before .before .before .before .before .before .before .before .before .before .before .args .at) (c .before .before .before .before .before .before .before .before .before .before .before .before .loop .notes) (c .before .before .before .before .before .before .before .before .before .before .before .before .loop .at) (c .before .before .before .before .before .before .before .before .before .before .before .before .loop .from) (c .before .before .before .before .before .before .before .before .before .before .before .before .loop .end) (c .before .before .before .before .before .before .before .before .before .before .before .before .loop .j) (c .before .before .before .before .before .before .before .before .before .before .before .before .loop .inv .1) (omega (arith, c .before .before .before .before .before .before .before .before .before .before .before .loop-test .taken, ap (λ (e : Entry). e .explicit) (c .before .before .before .before .before .before .before .before .before .before .before .before .before .before .unpack .ensures), its-count (c .before .before .before .before .before .before .before .before .before .before .before .before .before .before .before .before .before .pre .1) (c .before .before .before .before .before .before .before .before .before .before .before .before .before .before .before .before .before .pre .2))) (c .before .before .before .before .before .before .before .before .before .read .result) (c .before .before .before .before .before .before .before .before .before .read .ensures) (c .before .before .before .before .before .before .before .x .given .0 .0) (c .before .before .before .before .before .before .before .x .given .1)) .1) (omega (arith, (extent (c .before .before .before .before .before .before .before .before .before .before .before .before .before .before .before .before .before .args .table .now) (recordIn (c .before .before .before .before .before .before .before .before .before .before .before .before .before .before .before .before .before .args .table .now) (unpacked (c .before .before .before .before .before .before .before .before .before .before .before .before .before .before .before .before .before .args .w))) (its-fit (c .before .before .before .before .before .before .before .before .before .before .before .before .before .before .before .before .before .pre .1) (c .before .before .before .before .before .before .before .before .before .before .before .before .before .before .before .before .before .pre .2)) (c .before .before .before .before .before .before .before .before .before .before .before .before .before .before .before .before .before .args .m .now) (λ n. omega (arith, c .before .before .before .before .before .before .before .before .before .before .before .before .before .before .before .shared-slice-known2 .given n)) (c .before .before .before .before .before .before .before .before .before .before .before .before .before .before .before .before .before .args .at) (c .before .before .before .before .before .before .before .before .before .before .before .before .loop .notes) (c .before .before .before .before .before .before .before .before .before .before .before .before .loop .at) (c .before .before .before .before .before .before .before .before .before .before .before .before .loop .from) (c .before .before .before .before .before .before .before .before .before .before .before .before .loop .end) (c .before .before .before .before .before .before .before .before .before .before .before .before .loop .j) (c .before .before .before .before .before .before .before .before .before .before .before .before .loop .inv .1) (omega (arith, c .before .before .before .before .before .before .before .before .before .before .before .loop-test .taken, ap (λ (e : Entry). e .explicit) (c .before .before .before .before .before .before .before .before .before .before .before .before .before .before .unpack .ensures), its-count (c .before .before .before .before .before .before .before .before .before .before .before .before .before .before .before .before .before .pre .1) (c .before .before .before .before .before .before .before .before .before .before .before .before .before .before .before .before .before .pre .2))) (c .before .before .before .before .before .before .before .before .before .read .result) (c .before .before .before .before .before .before .before .before .before .read .ensures) (c .before .before .before .before .before .before .before .x .given .0 .0) (c .before .before .before .before .before .before .before .x .given .1)) .2, c .before .before .before .before .before .before .before .before .before .before .before .before .loop .inv .1 .high))) (c .before .before .before .enter .result) (c .before .before .before .enter .ensures) (c .before .cause .given .0 .0) (c .before .cause .given .1) (c .before .before .before .before .before .before .before .before .before .before .before .before .loop .notes)))  -- returns-2
+    (λ c. search needs)  -- enum-known-cause-2
+    (λ c. omega (arith, (extent (c .before .before .before .before .before .before .before .before .before .before .before .before .before .before .before .before .before .args .table .now) (recordIn (c .before .before .before .before .before .before .before .before .before .before .before .before .before .before .before .before .before .args .table .now) (unpacked (c .before .before .before .before .before .before .before .before .before .before .before .before .before .before .before .before .before .args .w))) (its-fit (c .before .before .before .before .before .before .before .before .before .before .before .before .before .before .before .before .before .pre .1) (c .before .before .before .before .before .before .before .before .before .before .before .before .before .before .before .before .before .pre .2)) (c .before .before .before .before .before .before .before .before .before .before .before .before .before .before .before .before .before .args .m .now) (λ n. omega (arith, c .before .before .before .before .before .before .before .before .before .before .before .before .before .before .before .shared-slice-known2 .given n)) (c .before .before .before .before .before .before .before .before .before .before .before .before .before .before .before .before .before .args .at) (c .before .before .before .before .before .before .before .before .before .before .before .before .loop .notes) (c .before .before .before .before .before .before .before .before .before .before .before .before .loop .at) (c .before .before .before .before .before .before .before .before .before .before .before .before .loop .from) (c .before .before .before .before .before .before .before .before .before .before .before .before .loop .end) (c .before .before .before .before .before .before .before .before .before .before .before .before .loop .j) (c .before .before .before .before .before .before .before .before .before .before .before .before .loop .inv .1) (omega (arith, c .before .before .before .before .before .before .before .before .before .before .before .loop-test .taken, ap (λ (e : Entry). e .explicit) (c .before .before .before .before .before .before .before .before .before .before .before .before .before .before .unpack .ensures), its-count (c .before .before .before .before .before .before .before .before .before .before .before .before .before .before .before .before .before .pre .1) (c .before .before .before .before .before .before .before .before .before .before .before .before .before .before .before .before .before .pre .2))) (c .before .before .before .before .before .before .before .before .before .read .result) (c .before .before .before .before .before .before .before .before .before .read .ensures) (c .before .before .before .before .before .before .before .x .given .0 .0) (c .before .before .before .before .before .before .before .x .given .1)) .1, (extent (c .before .before .before .before .before .before .before .before .before .before .before .before .before .before .before .before .before .args .table .now) (recordIn (c .before .before .before .before .before .before .before .before .before .before .before .before .before .before .before .before .before .args .table .now) (unpacked (c .before .before .before .before .before .before .before .before .before .before .before .before .before .before .before .before .before .args .w))) (its-fit (c .before .before .before .before .before .before .before .before .before .before .before .before .before .before .before .before .before .pre .1) (c .before .before .before .before .before .before .before .before .before .before .before .before .before .before .before .before .before .pre .2)) (c .before .before .before .before .before .before .before .before .before .before .before .before .before .before .before .before .before .args .m .now) (λ n. omega (arith, c .before .before .before .before .before .before .before .before .before .before .before .before .before .before .before .shared-slice-known2 .given n)) (c .before .before .before .before .before .before .before .before .before .before .before .before .before .before .before .before .before .args .at) (c .before .before .before .before .before .before .before .before .before .before .before .before .loop .notes) (c .before .before .before .before .before .before .before .before .before .before .before .before .loop .at) (c .before .before .before .before .before .before .before .before .before .before .before .before .loop .from) (c .before .before .before .before .before .before .before .before .before .before .before .before .loop .end) (c .before .before .before .before .before .before .before .before .before .before .before .before .loop .j) (c .before .before .before .before .before .before .before .before .before .before .before .before .loop .inv .1) (omega (arith, c .before .before .before .before .before .before .before .before .before .before .before .loop-test .taken, ap (λ (e : Entry). e .explicit) (c .before .before .before .before .before .before .before .before .before .before .before .before .before .before .unpack .ensures), its-count (c .before .before .before .before .before .before .before .before .before .before .before .before .before .before .before .before .before .pre .1) (c .before .before .before .before .before .before .before .before .before .before .before .before .before .before .before .before .before .pre .2))) (c .before .before .before .before .before .before .before .before .before .read .result) (c .before .before .before .before .before .before .before .before .before .read .ensures) (c .before .before .before .before .before .before .before .x .given .0 .0) (c .before .before .before .before .before .before .before .x .given .1)) .2, c .before .before .before .before .before .before .before .before .before .before .before .before .loop .inv .1 .high))  -- sub-t33
+    (λ c. (simp length-set (c .before .before .before .before .before .before .before .before .before .before .before .before .loop .inv .0), open-refused (c .before .before .before .before .before .before .before .before .before .before .before .before .before .before .before .before .before .args .table .now) (recordIn (c .before .before .before .before .before .before .before .before .before .before .before .before .before .before .before .before .before .args .table .now) (unpacked (c .before .before .before .before .before .before .before .before .before .before .before .before .before .before .before .before .before .args .w))) (its-fit (c .before .before .before .before .before .before .before .before .before .before .before .before .before .before .before .before .before .pre .1) (c .before .before .before .before .before .before .before .before .before .before .before .before .before .before .before .before .before .pre .2)) (c .before .before .before .before .before .before .before .before .before .before .before .before .before .before .before .before .before .args .m .now) (λ n. omega (arith, c .before .before .before .before .before .before .before .before .before .before .before .before .before .before .before .shared-slice-known2 .given n)) (c .before .before .before .before .before .before .before .before .before .before .before .before .before .before .before .before .before .args .at) (c .before .before .before .before .before .before .before .before .before .before .before .before .loop .notes) (c .before .before .before .before .before .before .before .before .before .before .before .before .loop .at) (c .before .before .before .before .before .before .before .before .before .before .before .before .loop .from) (c .before .before .before .before .before .before .before .before .before .before .before .before .loop .end) (c .before .before .before .before .before .before .before .before .before .before .before .before .loop .j) (c .before .before .before .before .before .before .before .before .before .before .before .before .loop .inv .1) (omega (arith, c .before .before .before .before .before .before .before .before .before .before .before .loop-test .taken, ap (λ (e : Entry). e .explicit) (c .before .before .before .before .before .before .before .before .before .before .before .before .before .before .unpack .ensures), its-count (c .before .before .before .before .before .before .before .before .before .before .before .before .before .before .before .before .before .pre .1) (c .before .before .before .before .before .before .before .before .before .before .before .before .before .before .before .before .before .pre .2))) (c .before .before .before .before .before .before .before .before .before .read .result) (c .before .before .before .before .before .before .before .before .before .read .ensures) (c .before .before .before .before .before .before .before .x .given .0 .0) (c .before .before .before .before .before .before .before .x .given .1) _ (slice-is _ _ (c .before .before .before .before .before .before .before .before .before .before .before .before .before .before .before .before .before .args .m .now) ((extent (c .before .before .before .before .before .before .before .before .before .before .before .before .before .before .before .before .before .args .table .now) (recordIn (c .before .before .before .before .before .before .before .before .before .before .before .before .before .before .before .before .before .args .table .now) (unpacked (c .before .before .before .before .before .before .before .before .before .before .before .before .before .before .before .before .before .args .w))) (its-fit (c .before .before .before .before .before .before .before .before .before .before .before .before .before .before .before .before .before .pre .1) (c .before .before .before .before .before .before .before .before .before .before .before .before .before .before .before .before .before .pre .2)) (c .before .before .before .before .before .before .before .before .before .before .before .before .before .before .before .before .before .args .m .now) (λ n. omega (arith, c .before .before .before .before .before .before .before .before .before .before .before .before .before .before .before .shared-slice-known2 .given n)) (c .before .before .before .before .before .before .before .before .before .before .before .before .before .before .before .before .before .args .at) (c .before .before .before .before .before .before .before .before .before .before .before .before .loop .notes) (c .before .before .before .before .before .before .before .before .before .before .before .before .loop .at) (c .before .before .before .before .before .before .before .before .before .before .before .before .loop .from) (c .before .before .before .before .before .before .before .before .before .before .before .before .loop .end) (c .before .before .before .before .before .before .before .before .before .before .before .before .loop .j) (c .before .before .before .before .before .before .before .before .before .before .before .before .loop .inv .1) (omega (arith, c .before .before .before .before .before .before .before .before .before .before .before .loop-test .taken, ap (λ (e : Entry). e .explicit) (c .before .before .before .before .before .before .before .before .before .before .before .before .before .before .unpack .ensures), its-count (c .before .before .before .before .before .before .before .before .before .before .before .before .before .before .before .before .before .pre .1) (c .before .before .before .before .before .before .before .before .before .before .before .before .before .before .before .before .before .pre .2))) (c .before .before .before .before .before .before .before .before .before .read .result) (c .before .before .before .before .before .before .before .before .before .read .ensures) (c .before .before .before .before .before .before .before .x .given .0 .0) (c .before .before .before .before .before .before .before .x .given .1)) .1) (omega (arith, (extent (c .before .before .before .before .before .before .before .before .before .before .before .before .before .before .before .before .before .args .table .now) (recordIn (c .before .before .before .before .before .before .before .before .before .before .before .before .before .before .before .before .before .args .table .now) (unpacked (c .before .before .before .before .before .before .before .before .before .before .before .before .before .before .before .before .before .args .w))) (its-fit (c .before .before .before .before .before .before .before .before .before .before .before .before .before .before .before .before .before .pre .1) (c .before .before .before .before .before .before .before .before .before .before .before .before .before .before .before .before .before .pre .2)) (c .before .before .before .before .before .before .before .before .before .before .before .before .before .before .before .before .before .args .m .now) (λ n. omega (arith, c .before .before .before .before .before .before .before .before .before .before .before .before .before .before .before .shared-slice-known2 .given n)) (c .before .before .before .before .before .before .before .before .before .before .before .before .before .before .before .before .before .args .at) (c .before .before .before .before .before .before .before .before .before .before .before .before .loop .notes) (c .before .before .before .before .before .before .before .before .before .before .before .before .loop .at) (c .before .before .before .before .before .before .before .before .before .before .before .before .loop .from) (c .before .before .before .before .before .before .before .before .before .before .before .before .loop .end) (c .before .before .before .before .before .before .before .before .before .before .before .before .loop .j) (c .before .before .before .before .before .before .before .before .before .before .before .before .loop .inv .1) (omega (arith, c .before .before .before .before .before .before .before .before .before .before .before .loop-test .taken, ap (λ (e : Entry). e .explicit) (c .before .before .before .before .before .before .before .before .before .before .before .before .before .before .unpack .ensures), its-count (c .before .before .before .before .before .before .before .before .before .before .before .before .before .before .before .before .before .pre .1) (c .before .before .before .before .before .before .before .before .before .before .before .before .before .before .before .before .before .pre .2))) (c .before .before .before .before .before .before .before .before .before .read .result) (c .before .before .before .before .before .before .before .before .before .read .ensures) (c .before .before .before .before .before .before .before .x .given .0 .0) (c .before .before .before .before .before .before .before .x .given .1)) .2, c .before .before .before .before .before .before .before .before .before .before .before .before .loop .inv .1 .high))) (c .before .before .before .enter .result) (c .before .before .before .enter .ensures) (c .before .cause2 .given .0 .0) (c .before .cause2 .given .1) (c .before .before .before .before .before .before .before .before .before .before .before .before .loop .notes)))  -- returns-2
     (λ c. search needs)  -- enum-known-next
     (λ c. omega (arith, open-next (c .before .before .before .before .before .before .before .before .before .before .before .before .before .before .before .before .before .args .table .now) (recordIn (c .before .before .before .before .before .before .before .before .before .before .before .before .before .before .before .before .before .args .table .now) (unpacked (c .before .before .before .before .before .before .before .before .before .before .before .before .before .before .before .before .before .args .w))) (its-fit (c .before .before .before .before .before .before .before .before .before .before .before .before .before .before .before .before .before .pre .1) (c .before .before .before .before .before .before .before .before .before .before .before .before .before .before .before .before .before .pre .2)) (c .before .before .before .before .before .before .before .before .before .before .before .before .before .before .before .before .before .args .m .now) (λ n. omega (arith, c .before .before .before .before .before .before .before .before .before .before .before .before .before .before .before .shared-slice-known2 .given n)) (c .before .before .before .before .before .before .before .before .before .before .before .before .before .before .before .before .before .args .at) (c .before .before .before .before .before .before .before .before .before .before .before .before .loop .notes) (c .before .before .before .before .before .before .before .before .before .before .before .before .loop .at) (c .before .before .before .before .before .before .before .before .before .before .before .before .loop .from) (c .before .before .before .before .before .before .before .before .before .before .before .before .loop .end) (c .before .before .before .before .before .before .before .before .before .before .before .before .loop .j) (c .before .before .before .before .before .before .before .before .before .before .before .before .loop .inv .1) (omega (arith, c .before .before .before .before .before .before .before .before .before .before .before .loop-test .taken, ap (λ (e : Entry). e .explicit) (c .before .before .before .before .before .before .before .before .before .before .before .before .before .before .unpack .ensures), its-count (c .before .before .before .before .before .before .before .before .before .before .before .before .before .before .before .before .before .pre .1) (c .before .before .before .before .before .before .before .before .before .before .before .before .before .before .before .before .before .pre .2))) (c .before .before .before .before .before .before .before .before .before .read .result) (c .before .before .before .before .before .before .before .before .before .read .ensures) (c .before .before .before .before .before .before .before .x .given .0 .0) (c .before .before .before .before .before .before .before .x .given .1) _ (slice-is _ _ (c .before .before .before .before .before .before .before .before .before .before .before .before .before .before .before .before .before .args .m .now) ((extent (c .before .before .before .before .before .before .before .before .before .before .before .before .before .before .before .before .before .args .table .now) (recordIn (c .before .before .before .before .before .before .before .before .before .before .before .before .before .before .before .before .before .args .table .now) (unpacked (c .before .before .before .before .before .before .before .before .before .before .before .before .before .before .before .before .before .args .w))) (its-fit (c .before .before .before .before .before .before .before .before .before .before .before .before .before .before .before .before .before .pre .1) (c .before .before .before .before .before .before .before .before .before .before .before .before .before .before .before .before .before .pre .2)) (c .before .before .before .before .before .before .before .before .before .before .before .before .before .before .before .before .before .args .m .now) (λ n. omega (arith, c .before .before .before .before .before .before .before .before .before .before .before .before .before .before .before .shared-slice-known2 .given n)) (c .before .before .before .before .before .before .before .before .before .before .before .before .before .before .before .before .before .args .at) (c .before .before .before .before .before .before .before .before .before .before .before .before .loop .notes) (c .before .before .before .before .before .before .before .before .before .before .before .before .loop .at) (c .before .before .before .before .before .before .before .before .before .before .before .before .loop .from) (c .before .before .before .before .before .before .before .before .before .before .before .before .loop .end) (c .before .before .before .before .before .before .before .before .before .before .before .before .loop .j) (c .before .before .before .before .before .before .before .before .before .before .before .before .loop .inv .1) (omega (arith, c .before .before .before .before .before .before .before .before .before .before .before .loop-test .taken, ap (λ (e : Entry). e .explicit) (c .before .before .before .before .before .before .before .before .before .before .before .before .before .before .unpack .ensures), its-count (c .before .before .before .before .before .before .before .before .before .before .before .before .before .before .before .before .before .pre .1) (c .before .before .before .before .before .before .before .before .before .before .before .before .before .before .before .before .before .pre .2))) (c .before .before .before .before .before .before .before .before .before .read .result) (c .before .before .before .before .before .before .before .before .before .read .ensures) (c .before .before .before .before .before .before .before .x .given .0 .0) (c .before .before .before .before .before .before .before .x .given .1)) .1) (omega (arith, (extent (c .before .before .before .before .before .before .before .before .before .before .before .before .before .before .before .before .before .args .table .now) (recordIn (c .before .before .before .before .before .before .before .before .before .before .before .before .before .before .before .before .before .args .table .now) (unpacked (c .before .before .before .before .before .before .before .before .before .before .before .before .before .before .before .before .before .args .w))) (its-fit (c .before .before .before .before .before .before .before .before .before .before .before .before .before .before .before .before .before .pre .1) (c .before .before .before .before .before .before .before .before .before .before .before .before .before .before .before .before .before .pre .2)) (c .before .before .before .before .before .before .before .before .before .before .before .before .before .before .before .before .before .args .m .now) (λ n. omega (arith, c .before .before .before .before .before .before .before .before .before .before .before .before .before .before .before .shared-slice-known2 .given n)) (c .before .before .before .before .before .before .before .before .before .before .before .before .before .before .before .before .before .args .at) (c .before .before .before .before .before .before .before .before .before .before .before .before .loop .notes) (c .before .before .before .before .before .before .before .before .before .before .before .before .loop .at) (c .before .before .before .before .before .before .before .before .before .before .before .before .loop .from) (c .before .before .before .before .before .before .before .before .before .before .before .before .loop .end) (c .before .before .before .before .before .before .before .before .before .before .before .before .loop .j) (c .before .before .before .before .before .before .before .before .before .before .before .before .loop .inv .1) (omega (arith, c .before .before .before .before .before .before .before .before .before .before .before .loop-test .taken, ap (λ (e : Entry). e .explicit) (c .before .before .before .before .before .before .before .before .before .before .before .before .before .before .unpack .ensures), its-count (c .before .before .before .before .before .before .before .before .before .before .before .before .before .before .before .before .before .pre .1) (c .before .before .before .before .before .before .before .before .before .before .before .before .before .before .before .before .before .pre .2))) (c .before .before .before .before .before .before .before .before .before .read .result) (c .before .before .before .before .before .before .before .before .before .read .ensures) (c .before .before .before .before .before .before .before .x .given .0 .0) (c .before .before .before .before .before .before .before .x .given .1)) .2, c .before .before .before .before .before .before .before .before .before .before .before .before .loop .inv .1 .high))) (c .before .before .before .enter .result) (c .before .before .before .enter .ensures) (c .before .next .given .0 .0) (c .before .next .given .1), (extent (c .before .before .before .before .before .before .before .before .before .before .before .before .before .before .before .before .before .args .table .now) (recordIn (c .before .before .before .before .before .before .before .before .before .before .before .before .before .before .before .before .before .args .table .now) (unpacked (c .before .before .before .before .before .before .before .before .before .before .before .before .before .before .before .before .before .args .w))) (its-fit (c .before .before .before .before .before .before .before .before .before .before .before .before .before .before .before .before .before .pre .1) (c .before .before .before .before .before .before .before .before .before .before .before .before .before .before .before .before .before .pre .2)) (c .before .before .before .before .before .before .before .before .before .before .before .before .before .before .before .before .before .args .m .now) (λ n. omega (arith, c .before .before .before .before .before .before .before .before .before .before .before .before .before .before .before .shared-slice-known2 .given n)) (c .before .before .before .before .before .before .before .before .before .before .before .before .before .before .before .before .before .args .at) (c .before .before .before .before .before .before .before .before .before .before .before .before .loop .notes) (c .before .before .before .before .before .before .before .before .before .before .before .before .loop .at) (c .before .before .before .before .before .before .before .before .before .before .before .before .loop .from) (c .before .before .before .before .before .before .before .before .before .before .before .before .loop .end) (c .before .before .before .before .before .before .before .before .before .before .before .before .loop .j) (c .before .before .before .before .before .before .before .before .before .before .before .before .loop .inv .1) (omega (arith, c .before .before .before .before .before .before .before .before .before .before .before .loop-test .taken, ap (λ (e : Entry). e .explicit) (c .before .before .before .before .before .before .before .before .before .before .before .before .before .before .unpack .ensures), its-count (c .before .before .before .before .before .before .before .before .before .before .before .before .before .before .before .before .before .pre .1) (c .before .before .before .before .before .before .before .before .before .before .before .before .before .before .before .before .before .pre .2))) (c .before .before .before .before .before .before .before .before .before .read .result) (c .before .before .before .before .before .before .before .before .before .read .ensures) (c .before .before .before .before .before .before .before .x .given .0 .0) (c .before .before .before .before .before .before .before .x .given .1)) .1, (extent (c .before .before .before .before .before .before .before .before .before .before .before .before .before .before .before .before .before .args .table .now) (recordIn (c .before .before .before .before .before .before .before .before .before .before .before .before .before .before .before .before .before .args .table .now) (unpacked (c .before .before .before .before .before .before .before .before .before .before .before .before .before .before .before .before .before .args .w))) (its-fit (c .before .before .before .before .before .before .before .before .before .before .before .before .before .before .before .before .before .pre .1) (c .before .before .before .before .before .before .before .before .before .before .before .before .before .before .before .before .before .pre .2)) (c .before .before .before .before .before .before .before .before .before .before .before .before .before .before .before .before .before .args .m .now) (λ n. omega (arith, c .before .before .before .before .before .before .before .before .before .before .before .before .before .before .before .shared-slice-known2 .given n)) (c .before .before .before .before .before .before .before .before .before .before .before .before .before .before .before .before .before .args .at) (c .before .before .before .before .before .before .before .before .before .before .before .before .loop .notes) (c .before .before .before .before .before .before .before .before .before .before .before .before .loop .at) (c .before .before .before .before .before .before .before .before .before .before .before .before .loop .from) (c .before .before .before .before .before .before .before .before .before .before .before .before .loop .end) (c .before .before .before .before .before .before .before .before .before .before .before .before .loop .j) (c .before .before .before .before .before .before .before .before .before .before .before .before .loop .inv .1) (omega (arith, c .before .before .before .before .before .before .before .before .before .before .before .loop-test .taken, ap (λ (e : Entry). e .explicit) (c .before .before .before .before .before .before .before .before .before .before .before .before .before .before .unpack .ensures), its-count (c .before .before .before .before .before .before .before .before .before .before .before .before .before .before .before .before .before .pre .1) (c .before .before .before .before .before .before .before .before .before .before .before .before .before .before .before .before .before .pre .2))) (c .before .before .before .before .before .before .before .before .before .read .result) (c .before .before .before .before .before .before .before .before .before .read .ensures) (c .before .before .before .before .before .before .before .x .given .0 .0) (c .before .before .before .before .before .before .before .x .given .1)) .2, c .before .before .before .before .before .before .before .before .before .before .before .before .loop .inv .1 .high, c .before .before .before .before .before .before .before .before .before .before .before .before .before .before .before .before .before .pre .5))  -- add-from
     (λ c. omega (arith, c .before .before .before .before .before .before .before .before .before .before .before .loop-test .taken))  -- loop-less
