@@ -152,7 +152,8 @@ module _ (T : Table) (F : (t : ℕ) → Fit (T t)) where
   search-nothing : (k t : ℕ) → hit (searchIn T k t none) ≡ false
   unfolding searchIn
   search-nothing zero t = refl
-  search-nothing (suc k) t = step-none t (λ a. hit (searchIn T k a none)) (λ a. searchIn T k a none) (λ a. refl) (λ a. search-nothing k a) (T t .tags) (T t .body) (F t .fine)
+  search-nothing (suc k) t = step-none t (λ a. hit (searchIn T k a none)) (λ a. searchIn T k a none) (λ a. refl)
+      (λ a. search-nothing k a) (T t .tags) (T t .body) (F t .fine)
 
   pub begun-hit : (t : ℕ) (s : List ℕ) → Octets s → begun T t s ≡ hit (searchIn T 129 t (peeked (readIdentifier s)))
   unfolding begun passes begins peeked

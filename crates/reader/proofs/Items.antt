@@ -23,7 +23,8 @@ use Rattle.coding.specs.Reading.{passes, begun, notAwaited}
 use Rattle.coding.specs.Awaited.{begins}
 use Rattle.coding.proofs.FirstTags.{Good, Proper, proper-begun}
 use Rattle.coding.proofs.Complete.{never}
-use Rattle.reader.specs.Items.{Holder, Manner, in-turn, each-once, repeated, single, manner, partsOf, Placed, pending, upToMandatory, within, left, awaits, remains, lacks, following, noted, isSingle, first, Hand, readPart, next, readItems}
+use Rattle.reader.specs.Items.{Holder, Manner, in-turn, each-once, repeated, single, manner, partsOf, Placed, pending, upToMandatory, within}
+use Rattle.reader.specs.Items.{left, awaits, remains, lacks, following, noted, isSingle, first, Hand, readPart, next, readItems}
 
 -- lists
 pub drop-tail : {A : Type 0} (l : List A) (j : ℕ) (x : A) (w : List A) → drop j l ≡ x ∷ w → drop (suc j) l ≡ w

@@ -18,8 +18,11 @@ use Rattle.table.specs.Syntax.{Member, Set, Table}
 use Rattle.coding.specs.Value.{Value}
 use Rattle.coding.specs.Encodes.{allowed}
 use Rattle.coding.specs.Reading.{begun, notAwaited, nothing, full, place, readSet}
-use Rattle.reader.specs.Items.{Holder, inside, manner, partsOf, Placed, pending, within, some-of, following, noted, isSingle, first, Hand, readItems, filled}
-use Rattle.reader.proofs.Items.{Over, Broken, More, Clear, then-same, then-then, Ending, over, broken, more, ending, unawaited-on, pending-free, pending-come, IfFound, Found, found-of, pending-found, awaits-found, items-over, items-lacking, items-broken, items-full, items-unawaited, items-refused, items-turn}
+use Rattle.reader.specs.Items.{Holder, inside, manner, partsOf, Placed, pending, within, some-of, following, noted, isSingle, first, Hand}
+use Rattle.reader.specs.Items.{readItems, filled}
+use Rattle.reader.proofs.Items.{Over, Broken, More, Clear, then-same, then-then, Ending, over, broken, more, ending, unawaited-on}
+use Rattle.reader.proofs.Items.{pending-free, pending-come, IfFound, Found, found-of, pending-found, awaits-found, items-over, items-lacking}
+use Rattle.reader.proofs.Items.{items-broken, items-full, items-unawaited, items-refused, items-turn}
 use Rattle.reader.proofs.ItemsInTurn.{filled-snoc}
 
 -- 0 is noted from place k on for those members that are missing

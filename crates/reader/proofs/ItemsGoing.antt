@@ -15,8 +15,10 @@ use Rattle.table.specs.Syntax.{Table}
 use Rattle.coding.specs.Value.{Value, octets}
 use Rattle.coding.specs.Reading.{begun, notAwaited}
 use Rattle.reader.specs.Answers.{cap}
-use Rattle.reader.specs.Items.{Holder, Manner, in-turn, each-once, repeated, single, manner, partsOf, Placed, remains, lacks, since, following, noted, isSingle, next, Hand, readItems, assemble, nodeSize, sizesOf, blank, readHeld}
-use Rattle.reader.proofs.Items.{Over, Broken, More, unawaited-on, found-of, awaits-found, items-over, items-lacking, items-broken, items-full, items-unawaited, items-refused, items-turn, single-unawaited, single-refused, single-done}
+use Rattle.reader.specs.Items.{Holder, Manner, in-turn, each-once, repeated, single, manner, partsOf, Placed, remains, lacks, since, following}
+use Rattle.reader.specs.Items.{noted, isSingle, next, Hand, readItems, assemble, nodeSize, sizesOf, blank, readHeld}
+use Rattle.reader.proofs.Items.{Over, Broken, More, unawaited-on, found-of, awaits-found, items-over, items-lacking, items-broken, items-full}
+use Rattle.reader.proofs.Items.{items-unawaited, items-refused, items-turn, single-unawaited, single-refused, single-done}
 use Rattle.reader.proofs.ItemsSizes.{SoFar, sofar-none, sofar-over, sofar-one, sofar-turn, sizes-snoc, assemble-size, isPlain}
 
 pub since-following : (w : Manner) (p : ℕ) → since w (p + 1) ≡ following w p
@@ -34,7 +36,8 @@ since-first repeated = refl
 since-first single = refl
 
 -- before the item at a place of m: W is all the items give, in terms of those in hand and what is left
-pub record Going (W : Answer Value) (T : Table) (r : ℕ → List ℕ → Answer Value) (h : Holder) (mode : Mode) (m : List ℕ) (at j : ℕ) (came : List ℕ) (total : ℕ) : Type 0 where
+pub record Going (W : Answer Value) (T : Table) (r : ℕ → List ℕ → Answer Value) (h : Holder) (mode : Mode) (m : List ℕ) (at j : ℕ)
+    (came : List ℕ) (total : ℕ) : Type 0 where
   pub hand : Hand
   pub fuel : ℕ
   pub enough : length (drop at m) ≤ fuel

@@ -20,8 +20,11 @@ use Rattle.table.specs.Syntax.{Member, Sequence, Table}
 use Rattle.coding.specs.Value.{Value}
 use Rattle.coding.specs.Reading.{begun, notAwaited, unwanted, nothing, readSequence}
 use Rattle.coding.proofs.FirstTags.{Good}
-use Rattle.reader.specs.Items.{Holder, inside, manner, partsOf, Placed, pending, upToMandatory, within, some-of, following, noted, isSingle, first, Hand, readItems, filled}
-use Rattle.reader.proofs.Items.{Over, Broken, More, Clear, Shortens, then-same, drop-tail, drop-later, Ending, over, broken, more, ending, begun-zero, unawaited-on, pending-free, Found, found-of, awaits-found, items-over, items-lacking, items-broken, items-full, items-unawaited, items-refused, items-turn}
+use Rattle.reader.specs.Items.{Holder, inside, manner, partsOf, Placed, pending, upToMandatory, within, some-of, following, noted, isSingle}
+use Rattle.reader.specs.Items.{first, Hand, readItems, filled}
+use Rattle.reader.proofs.Items.{Over, Broken, More, Clear, Shortens, then-same, drop-tail, drop-later, Ending, over, broken, more, ending}
+use Rattle.reader.proofs.Items.{begun-zero, unawaited-on, pending-free, Found, found-of, awaits-found, items-over, items-lacking, items-broken}
+use Rattle.reader.proofs.Items.{items-full, items-unawaited, items-refused, items-turn}
 
 -- what is in hand, with one more
 pub filled-snoc : (hand : Hand) (p : ℕ) (v : Value) (os : List (Option Value)) → filled (hand ++ ((p, v) ∷ [])) os ≡ setAt (filled hand os) p (some v)

@@ -17,8 +17,11 @@ use Rattle.table.specs.Rules.{members}
 use Rattle.coding.specs.Value.{Value, choice, sequence, set, sequenceOf, setOf, slots, bag}
 use Rattle.coding.specs.Reading.{begun, notAwaited, nothing, readMany, choose, readBody, readKind, readValue, readMessage}
 use Rattle.coding.proofs.FirstTags.{Good}
-use Rattle.reader.specs.Items.{Holder, inside, message, repeated, single, manner, partsOf, optionals, Placed, pending, within, left, awaits, remains, lacks, some-of, following, noted, isSingle, first, Hand, next, readItems, filled, values, only, assemble, blank, readHeld}
-use Rattle.reader.proofs.Items.{More, Clear, Shortens, then-self, Ending, over, broken, more, ending, unawaited-on, pending-free, items-over, items-broken, items-unawaited, items-refused, items-turn, single-unawaited, single-refused, single-done}
+use Rattle.reader.specs.Items.{Holder, inside, message, repeated, single, manner, partsOf, optionals, Placed, pending, within, left, awaits}
+use Rattle.reader.specs.Items.{remains, lacks, some-of, following, noted, isSingle, first, Hand, next, readItems, filled, values, only}
+use Rattle.reader.specs.Items.{assemble, blank, readHeld}
+use Rattle.reader.proofs.Items.{More, Clear, Shortens, then-self, Ending, over, broken, more, ending, unawaited-on, pending-free, items-over}
+use Rattle.reader.proofs.Items.{items-broken, items-unawaited, items-refused, items-turn, single-unawaited, single-refused, single-done}
 use Rattle.reader.proofs.ItemsInTurn.{sequence-items}
 use Rattle.reader.proofs.ItemsEachOnce.{set-items, marked-none}
 

@@ -21,7 +21,8 @@ use Rattle.coding.proofs.FirstTags.{Distinct, Apart, GoodBody}
 use Rattle.reader.specs.Codes.{firstOf, peeked, hit, searchIn}
 use Rattle.reader.specs.declared.search.Under.the-variants.{At}
 use Rattle.reader.proofs.Begun.{Fit, begun-hit}
-use Rattle.reader.specs.Items.{Holder, inside, message, in-turn, manner, partsOf, optionals, Placed, pending, upToMandatory, within, awaits, first}
+use Rattle.reader.specs.Items.{Holder, inside, message, in-turn, manner, partsOf, optionals, Placed, pending, upToMandatory, within, awaits}
+use Rattle.reader.specs.Items.{first}
 use Rattle.reader.proofs.Items.{Clear, first-same, pending-free, pending-come}
 
 -- at most one passes

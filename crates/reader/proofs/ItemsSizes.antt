@@ -12,7 +12,8 @@ use Prim.Native.Nat.{ℕ, zero, suc, _+_, _-_, _≤_, _<_}
 use Rattle.table.specs.Syntax.{Member, Plain, Sequence, Set, SequenceOf, SetOf, Choice}
 use Rattle.coding.specs.Value.{Value, slots, bag, octets, parts, presence}
 use Rattle.coding.specs.Reading.{nothing}
-use Rattle.reader.specs.Items.{Holder, inside, message, manner, partsOf, Placed, following, noted, isSingle, Hand, filled, values, only, assemble, nodeSize, sizesOf, blank}
+use Rattle.reader.specs.Items.{Holder, inside, message, manner, partsOf, Placed, following, noted, isSingle, Hand, filled, values, only}
+use Rattle.reader.specs.Items.{assemble, nodeSize, sizesOf, blank}
 use Rattle.reader.proofs.Items.{drop-later, Found}
 use Rattle.reader.proofs.ItemsInTurn.{filled-snoc, filled-length, nothing-length}
 use Rattle.reader.proofs.ItemsEachOnce.{Marked, no-more, vacant, taken, marked-none, marked-set}

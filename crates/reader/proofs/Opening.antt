@@ -5,7 +5,7 @@ use lib.Dec.{eqb, ltb}
 use lib.ListN.{length, getD, take, drop, set, length-take, length-drop, length-map, length-append, List·getD-eq-default}
 use lib.Seq.{getD-take, getD-drop, take-length, take-take, take-suc-set, length-take-le, take-add, drop-drop, drop-length, drop-append-seam}
 use mathlib.Core.Bool.{Bool, true, false, not, _||_, true≢false, false≢true}
-use mathlib.Core.List.{List, [], _∷_, _++_, append-nil}
+use mathlib.Core.List.{List, [], _∷_, _++_, map, append-nil}
 use mathlib.Core.Logic.{_⊎_, inl, inr}
 use mathlib.Core.Path.{_≡_, refl, sym, ap, _∙_}
 use native.Mathlib.Numerals.{add-one}
@@ -30,7 +30,8 @@ use Rattle.coding.specs.Tags.{identifierOf, before, explicitTags, own, explicit
 use Rattle.coding.specs.Value.{Value}
 use Rattle.coding.specs.Reading.{readWrapped, readKind}
 use Rattle.reader.specs.Records.{Ready, recordIn, IsRecord, readRecord}
-use Rattle.reader.specs.Wraps.{ended, shut, closing, noteOf, Around, identifiers, Headed, readBare, AwaitsTag, behind-last, is-tag, no-tag, mustGoOn, EntersTag, goes-on, is-over, Opens}
+use Rattle.reader.specs.Wraps.{ended, shut, closing, noteOf, Around, identifiers, Headed, readBare, AwaitsTag, behind-last, is-tag, no-tag}
+use Rattle.reader.specs.Wraps.{mustGoOn, EntersTag, goes-on, is-over, Opens}
 use Rattle.reader.specs.declared.tags.Tag.{Tag as TagRead}
 use Rattle.reader.specs.declared.tags.Tag.the-variants.{Read as ReadTag, Refused as NoTag}
 use Rattle.reader.specs.declared.tags.Opened.the-variants.{Inside, Refused as NotOpened}
@@ -77,6 +78,12 @@ unfolding before
 before-length g [] = refl
 before-length g (h ∷ gs) = ap suc (before-length h gs)
 
+but-one : (g : Tag) (gs : List Tag)
+    → length (map (identifierOf true) (before (g ∷ gs))) ≡ if (eqb (suc (length gs)) 0) 0 λ _. suc (length gs) - 1
+unfolding if
+but-one g gs =
+    length-map (before (g ∷ gs)) (identifierOf true) ∙ before-length g gs ∙ rw (ne-eqb (suc (length gs)) 0 (λ z. omega arith)) (omega arith)
+
 count-of : (gs : List Tag) (y : Body) → (gs ≡ [] → isChoice y ≡ true)
     → length (explicit (record { tags = gs; body = y })) ≡ explicitCount (record { tags = gs; body = y })
 unfolding explicit explicitTags isChoice explicitCount if
@@ -86,11 +93,11 @@ count-of [] (Sequence ms) t = absurd (false≢true (t refl))
 count-of [] (Set ms) t = absurd (false≢true (t refl))
 count-of [] (SequenceOf u) t = absurd (false≢true (t refl))
 count-of [] (SetOf u) t = absurd (false≢true (t refl))
-count-of (g ∷ gs) (Plain k) t = length-map (before (g ∷ gs)) (identifierOf true) ∙ before-length g gs ∙ rw (ne-eqb (suc (length gs)) 0 (λ z. omega arith)) (omega arith)
-count-of (g ∷ gs) (Sequence ms) t = length-map (before (g ∷ gs)) (identifierOf true) ∙ before-length g gs ∙ rw (ne-eqb (suc (length gs)) 0 (λ z. omega arith)) (omega arith)
-count-of (g ∷ gs) (Set ms) t = length-map (before (g ∷ gs)) (identifierOf true) ∙ before-length g gs ∙ rw (ne-eqb (suc (length gs)) 0 (λ z. omega arith)) (omega arith)
-count-of (g ∷ gs) (SequenceOf u) t = length-map (before (g ∷ gs)) (identifierOf true) ∙ before-length g gs ∙ rw (ne-eqb (suc (length gs)) 0 (λ z. omega arith)) (omega arith)
-count-of (g ∷ gs) (SetOf u) t = length-map (before (g ∷ gs)) (identifierOf true) ∙ before-length g gs ∙ rw (ne-eqb (suc (length gs)) 0 (λ z. omega arith)) (omega arith)
+count-of (g ∷ gs) (Plain k) t = but-one g gs
+count-of (g ∷ gs) (Sequence ms) t = but-one g gs
+count-of (g ∷ gs) (Set ms) t = but-one g gs
+count-of (g ∷ gs) (SequenceOf u) t = but-one g gs
+count-of (g ∷ gs) (SetOf u) t = but-one g gs
 
 pub first-by : (gs : List Tag) (y : Body) → 0 < length gs
     → outermostCode gs y ≡ codeBy (getD gs 0 zeros .class) (ltb (0 + 1) (length gs) || constructed y) (getD gs 0 zeros .number)
@@ -105,11 +112,14 @@ clash a s c l e = let z : _≡_ {A = ℕ} 0 1 = cc in omega arith
 
 module _ (A B : Type 0) (s : List ℕ) (l : ℕ) where
   abbrev Goes : Mode → Type 0
-  Goes k = ((x : Unit {0} → Answer A) → atEnd k s (λ _. refused NotAwaited l) x ≡ x tt) × ((y : Unit {0} → Answer B) → atEnd k s (λ _. refused NotAwaited l) y ≡ y tt)
+  Goes k =
+      ((x : Unit {0} → Answer A) → atEnd k s (λ _. refused NotAwaited l) x ≡ x tt)
+      × ((y : Unit {0} → Answer B) → atEnd k s (λ _. refused NotAwaited l) y ≡ y tt)
 
   abbrev Stops : Mode → Type 0
   Stops k =
-      (c : Cause) × (n : ℕ) × ((x : Unit {0} → Answer A) → atEnd k s (λ _. refused NotAwaited l) x ≡ refused c n) × ((y : Unit {0} → Answer B) → atEnd k s (λ _. refused NotAwaited l) y ≡ refused c n)
+      (c : Cause) × (n : ℕ) × ((x : Unit {0} → Answer A) → atEnd k s (λ _. refused NotAwaited l) x ≡ refused c n)
+      × ((y : Unit {0} → Answer B) → atEnd k s (λ _. refused NotAwaited l) y ≡ refused c n)
 
   either : (k : Mode) → Goes k ⊎ Stops k
   unfolding atEnd if
@@ -131,7 +141,8 @@ going {B} k s u l e y = go (either (List ℕ) B s l k)
     go (inl h) = h .1 y
     go (inr h) = absurd (clash u s (h .0) (h .1) (sym e ∙ h .2 (λ _. got u s)))
 
-stopping : {B : Type 0} (k : Mode) (s u : List ℕ) (l : ℕ) (c : Cause) (n : ℕ) → atEnd k s (λ _. refused NotAwaited l) (λ _. got u s) ≡ refused c n → (y : Unit {0} → Answer B)
+stopping : {B : Type 0} (k : Mode) (s u : List ℕ) (l : ℕ) (c : Cause) (n : ℕ)
+    → atEnd k s (λ _. refused NotAwaited l) (λ _. got u s) ≡ refused c n → (y : Unit {0} → Answer B)
     → atEnd k s (λ _. refused NotAwaited l) y ≡ refused c n
 stopping {B} k s u l c n e y = go (either (List ℕ) B s l k)
   where
@@ -159,8 +170,8 @@ sealed-refused m outer inner true c l o = let q : l ≡ l + (outer - inner) = om
 sealed-refused m outer inner false c l o = refl
 
 -- an item whose header is refused
-pub item-refused : (T : Table) (f : ℕ → List ℕ → Answer Value) (o : List ℕ) (y : Body) (s : List ℕ) (c : Cause) (l : ℕ) → isChoice y ≡ false → readHeader o s ≡ refused c l
-    → readKind T f o y s ≡ refused c l
+pub item-refused : (T : Table) (f : ℕ → List ℕ → Answer Value) (o : List ℕ) (y : Body) (s : List ℕ) (c : Cause) (l : ℕ)
+    → isChoice y ≡ false → readHeader o s ≡ refused c l → readKind T f o y s ≡ refused c l
 unfolding readKind readPrimitive readConstructed then isChoice
 item-refused T f o (Plain k) s c l n e = rw e refl
 item-refused T f o (Sequence ms) s c l n e = rw e refl
@@ -256,7 +267,10 @@ module _ (b : List ℕ) (r : Record) (F : Fit r) (m : List ℕ) (om : Octets m) 
               let w : getD Ids j [] ≡ own r = ap (λ (i : ℕ). getD Ids i []) q ∙ own-last n in
               let y = longer n in let u : j < length Ids = omega (arith, q, y) in
               rw (← w) (S .headed u)),
-          λ n. S .whole n ∙ ap (λ (z : List (List ℕ)). closing m (take j notes) end (readWrapped z (readBare b n r) (drop at (take end m)))) (ap (λ (i : ℕ). drop i (explicit r)) q ∙ drop-length (explicit r)),
+          λ n.
+              S .whole n
+              ∙ ap (λ (z : List (List ℕ)). closing m (take j notes) end (readWrapped z (readBare b n r) (drop at (take end m))))
+              (ap (λ (i : ℕ). drop i (explicit r)) q ∙ drop-length (explicit r)),
         )
       where
         longer : isChoice (r .body) ≡ false → Count < length Ids
@@ -303,7 +317,8 @@ module _ (b : List ℕ) (r : Record) (F : Fit r) (m : List ℕ) (om : Octets m) 
         open-unread c q ns =
             let k = length (drop at P) in
             let y = header-is ∙ length-refused P from k z (az k) c q in
-            refused-all c k (length m - at) ns (λ n. wrapped-refused Id Rest (readBare b n r) (drop at P) c k y) (omega (arith, left-part, S .some, S .high)) (omega arith)
+            refused-all c k (length m - at) ns (λ n. wrapped-refused Id Rest (readBare b n r) (drop at P) c k y)
+            (omega (arith, left-part, S .some, S .high)) (omega arith)
 
         module _ (x : Extent) (q : z ≡ ReadLength x) where
           abbrev K : ℕ
@@ -312,7 +327,9 @@ module _ (b : List ℕ) (r : Record) (F : Fit r) (m : List ℕ) (om : Octets m) 
           pub extent : (at < x .start) × (x .start ≤ x .end) × (x .end ≤ end) × (x .marked ≡ true → x .end ≡ end)
           extent =
               test (x .marked)
-              (λ t. let y = length-indefinite P from K z (az K) x q t in (omega (arith, y .1, head .further), omega (arith, y .2, y .3), omega (arith, y .3, size-part), λ _. y .3 ∙ size-part))
+              (λ t.
+              let y = length-indefinite P from K z (az K) x q t in
+              (omega (arith, y .1, head .further), omega (arith, y .2, y .3), omega (arith, y .3, size-part), λ _. y .3 ∙ size-part))
               λ t. let y = length-definite P from K z (az K) x q t in
               (omega (arith, y .1, head .further), y .2, omega (arith, y .3, size-part), λ v. absurd (true≢false (sym v ∙ t)))
 
@@ -384,7 +401,8 @@ module _ (b : List ℕ) (r : Record) (F : Fit r) (m : List ℕ) (om : Octets m) 
             open-refused c e ns =
                 let k = length U + (end - x .end) in
                 refused-all c k (length m - x .start) ns
-                (λ n. tag-inside (readBare b n r) ∙ ap (sealed m end (x .end) (x .marked)) (no-entry c (its (NoTag c) e) n) ∙ sealed-refused m end (x .end) (x .marked) c (length U) (extent .3))
+                (λ n. tag-inside (readBare b n r) ∙ ap (sealed m end (x .end) (x .marked)) (no-entry c (its (NoTag c) e) n)
+                ∙ sealed-refused m end (x .end) (x .marked) c (length U) (extent .3))
                 (omega (arith, size-inside, extent .1, extent .2, S .high)) (omega arith)
 
             module _ (next : ℕ) (e : y ≡ ReadTag next) where
@@ -398,7 +416,8 @@ module _ (b : List ℕ) (r : Record) (F : Fit r) (m : List ℕ) (om : Octets m) 
                   let (h, k) = next-head next w in
                   let half : note / 2 ≡ end = ap (λ (i : ℕ). i / 2) en ∙ note-half end (x .marked) in
                   let mark : eqb (note % 2) 1 ≡ x .marked = ap (λ (i : ℕ). eqb (i % 2) 1) en ∙ note-mark end (x .marked) in
-                  let made : take (j + 1) (set notes j note) ≡ take j notes ++ (note ∷ []) = ap (λ (i : ℕ). take i (set notes j note)) (add-one j) ∙ take-suc-set notes j note g in
+                  let made : take (j + 1) (set notes j note) ≡ take j notes ++ (note ∷ [])
+                  = ap (λ (i : ℕ). take i (set notes j note)) (add-one j) ∙ take-suc-set notes j note g in
                   let fit-end : length (take (x .end) m) ≡ x .end = length-take-le (x .end) m (omega (arith, extent .2, S .high)) in
                   let one = add-one j in
                   record {
@@ -407,7 +426,9 @@ module _ (b : List ℕ) (r : Record) (F : Fit r) (m : List ℕ) (om : Octets m) 
                     later = λ _. omega (arith, S .low, extent .0);
                     some = omega (arith, s, size-inside);
                     high = omega (arith, extent .2, S .high);
-                    around = rw made (around-more (length m) (take j notes) note (x .end) (rw half (S .around)) (omega (arith, half, extent .2)) (λ v. extent .3 (sym mark ∙ eq-eqb (note % 2) 1 v) ∙ sym half));
+                    around = rw made
+                        (around-more (length m) (take j notes) note (x .end) (rw half (S .around))
+                        (omega (arith, half, extent .2)) (λ v. extent .3 (sym mark ∙ eq-eqb (note % 2) 1 v) ∙ sym half));
                     headed = λ v.
                         let f = h (omega arith) in
                         rw one
@@ -422,7 +443,8 @@ module _ (b : List ℕ) (r : Record) (F : Fit r) (m : List ℕ) (om : Octets m) 
                         under n
                         ∙ ap (closing m (take j notes) end)
                         (tag-inside (readBare b n r)
-                        ∙ ap (sealed m end (x .end) (x .marked)) (going (mode (x .marked)) U [] (length U) a (λ _. ended (mode (x .marked)) (readWrapped Rest (readBare b n r) U)))
+                        ∙ ap (sealed m end (x .end) (x .marked))
+                        (going (mode (x .marked)) U [] (length U) a (λ _. ended (mode (x .marked)) (readWrapped Rest (readBare b n r) U)))
                         ∙ sealed-shut m end (x .end) (x .marked) (readWrapped Rest (readBare b n r) U))
                         ∙ rw (one, rw one at made, closing-last m (take j notes) note (x .end), half, mark) refl;
                   }

@@ -21,7 +21,8 @@ use Rattle.ber.specs.Told.{mode}
 use Rattle.reader.specs.Items.{Holder, inside, manner, partsOf, Placed, since, Hand, next as nextPart, readItems, filled, assemble}
 use Rattle.reader.specs.Items.{nodeSize, blank}
 use Rattle.reader.specs.Ways.{wrapped}
-use Rattle.reader.specs.Placing.{kindOf, hasMembers, holdsOne, onward, notedIn, absentIn, finishedIn, said, wayOctets, countOf, nodeOf, openingOf}
+use Rattle.reader.specs.Placing.{kindOf, hasMembers, holdsOne, onward, notedIn, absentIn, finishedIn, said, wayOctets, countOf, nodeOf}
+use Rattle.reader.specs.Placing.{openingOf}
 use Rattle.reader.specs.Placing.{endAt, Spotted}
 use Rattle.reader.specs.Placed.{Final}
 use Rattle.reader.proofs.ItemsKinds.{blank-clear}

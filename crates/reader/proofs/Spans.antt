@@ -14,14 +14,16 @@ use Prim.Native.Nat.{ℕ, zero, suc, _+_, _*_, _≤_, _<_}
 use Rattle.octets.specs.Answer.{if}
 use Rattle.octets.specs.Lists.{any}
 use Rattle.octets.proofs.Tests.{or-by}
-use Rattle.table.specs.Syntax.{Member, Simple, Boolean, Integer, BitString, OctetString, Null, Enumerated, Body, Plain, Sequence, Set, SequenceOf, SetOf, Choice, Record}
+use Rattle.table.specs.Syntax.{Member, Simple, Boolean, Integer, BitString, OctetString, Null, Enumerated, Body, Plain, Sequence, Set, SequenceOf}
+use Rattle.table.specs.Syntax.{SetOf, Choice, Record}
 use Rattle.table.specs.Octets.{kind}
 use Rattle.table.specs.Reading.{membersAt, everyAt}
 use Rattle.table.specs.Entries.{unpacked, spanOf, Entered, tableIn, countIn}
 use Rattle.table.specs.declared.entry.Entry.{Entry}
 use Rattle.table.specs.declared.entry.Span.{Span}
 use Rattle.table.proofs.Promises.{entered-kind, entered-members, entered-choice, entered-list}
-use Rattle.reader.specs.Items.{Holder, inside, message, Manner, in-turn, each-once, repeated, single, manner, partsOf, optionals, Placed, pending, upToMandatory, within, left, awaits, first}
+use Rattle.reader.specs.Items.{Holder, inside, message, Manner, in-turn, each-once, repeated, single, manner, partsOf, optionals, Placed}
+use Rattle.reader.specs.Items.{pending, upToMandatory, within, left, awaits, first}
 use Rattle.reader.specs.Records.{Ready, holderIn, Known, of-record, of-message}
 use Rattle.reader.specs.Sought.{held, tabled, tabledCount}
 use Rattle.reader.proofs.Items.{pending-free, pending-come}

@@ -19,7 +19,8 @@ use Rattle.reader.proofs.search.indirect.Tie as tie
 abbrev Inv-loop : tie.InvT-loop
 Inv-loop table index w i came code from way₀ e s whole n k₀ way k =
     (length way ≡ 128)
-    × (first (λ y. hit (searchIn (tableIn table) 129 (y .1 .type) code)) (awaits (held table w) i came) ≡ first (λ y. hit (searchIn (tableIn table) 129 (y .1 .type) code)) (awaits (held table w) k came))
+    × (first (λ y. hit (searchIn (tableIn table) 129 (y .1 .type) code)) (awaits (held table w) i came)
+    ≡ first (λ y. hit (searchIn (tableIn table) 129 (y .1 .type) code)) (awaits (held table w) k came))
 
 abbrev μ-loop : tie.MeasureT-loop
 μ-loop table index w i came code from way₀ e s whole n k₀ way k = n - k
@@ -131,7 +132,8 @@ indirect-spec =
     (c .before .before .if4 .taken))))  -- add-optional
     (λ c κs. tt)  -- optional-requires
     (λ c κs.
-    let q = c .before .before .before .before .before .before .before .before .before .before .before .before .before .before .before .before .before .before .before .before .pre in
+    let c10 = c .before .before .before .before .before .before .before .before .before .before in
+    let q = c10 .before .before .before .before .before .before .before .before .before .before .pre in
     (_, q .0, q .1))  -- unawaited-requires
     (λ c.
     let c2 = c .before .before in

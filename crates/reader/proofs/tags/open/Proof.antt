@@ -16,7 +16,8 @@ use Rattle.reader.proofs.tags.open.Statement.{statement}
 use Rattle.reader.proofs.tags.open.Tie as tie
 
 abbrev Inv-loop : tie.InvT-loop
-Inv-loop table w m at from notes₀ count at₁ end₁ from₁ j₁ notes at' end' from' j = (length notes ≡ 4) × Opening table (recordIn table (unpacked w)) m at notes at' from' end' j
+Inv-loop table w m at from notes₀ count at₁ end₁ from₁ j₁ notes at' end' from' j =
+    (length notes ≡ 4) × Opening table (recordIn table (unpacked w)) m at notes at' from' end' j
 
 abbrev μ-loop : tie.MeasureT-loop
 μ-loop table w m at from notes₀ count at₁ end₁ from₁ j₁ notes at' end' from' j = count - j
