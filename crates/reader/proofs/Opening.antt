@@ -25,7 +25,7 @@ use Rattle.ber.specs.declared.length.Length.the-variants.{Read as ReadLength, R
 use Rattle.ber.specs.declared.length.Extent.{Extent}
 use Rattle.ber.proofs.Told.{length-definite, length-indefinite, length-refused}
 use Rattle.table.specs.Syntax.{Tag, Body, Plain, Sequence, Set, SequenceOf, SetOf, Choice, Record, Table, isChoice, constructed}
-use Rattle.table.specs.Entries.{unpacked, tableIn, firstCode, outermostCode, explicitCount}
+use Rattle.table.specs.Entries.{allButLast, unpacked, tableIn, firstCode, outermostCode, explicitCount}
 use Rattle.coding.specs.Tags.{identifierOf, before, explicitTags, own, explicit}
 use Rattle.coding.specs.Value.{Value}
 use Rattle.coding.specs.Reading.{readWrapped, readKind}
@@ -79,7 +79,7 @@ before-length g [] = refl
 before-length g (h ∷ gs) = ap suc (before-length h gs)
 
 but-one : (g : Tag) (gs : List Tag)
-    → length (map (identifierOf true) (before (g ∷ gs))) ≡ if (eqb (suc (length gs)) 0) 0 λ _. suc (length gs) - 1
+    → length (map (identifierOf true) (before (g ∷ gs))) ≡ allButLast (suc (length gs))
 unfolding if
 but-one g gs =
     length-map (before (g ∷ gs)) (identifierOf true) ∙ before-length g gs ∙ rw (ne-eqb (suc (length gs)) 0 (λ z. omega arith)) (omega arith)
