@@ -1,188 +1,59 @@
 -- A value of a record in a message: under its explicit tags, its length, its contents, simple ones or items, and what stands behind them.
 -- Assumes nothing.
 use borrow.Author.Tests.{eq-eqb, ne-eqb}
-use lib.Dec.{eqb}
-use lib.ListN.{length, getD, take, drop, length-append, length-drop}
-use lib.Seq.{take-length, take-take, length-take-le, drop-drop, drop-length, drop-append-seam}
+use lib.ListN.{length, take, drop, length-drop}
+use lib.Seq.{take-length, take-take, length-take-le, drop-drop}
 use mathlib.Core.Bool.{Bool, true, false, not, true≢false, false≢true}
-use mathlib.Core.List.{List, [], _∷_, _++_}
-use mathlib.Core.Logic.{_⊎_, inl, inr}
-use mathlib.Core.Option.{Option, some, none}
+use mathlib.Core.List.{List, [], _∷_}
+use mathlib.Core.Option.{some}
 use mathlib.Core.Path.{_≡_, refl, sym, ap, _∙_}
 use native.Mathlib.Omega.{arith}
-use Prim.Native.Nat.{ℕ, zero, suc, _+_, _-_, _≤_, _<_}
+use Prim.Native.Nat.{ℕ, _+_, _-_, _≤_, _<_}
 use Rattle.octets.specs.declared.cause.Cause.{Cause}
-use Rattle.octets.specs.declared.cause.Cause.the-variants.{Cut, Form, NotAwaited, Contents, Trailing}
+use Rattle.octets.specs.declared.cause.Cause.the-variants.{Cut, Form, Contents, Trailing}
 use Rattle.octets.specs.Answer.{Answer, got, refused, then, if, behind, none-left}
 use Rattle.octets.specs.Numbers.{Octets}
-use Rattle.octets.specs.Permutations.{as-given}
-use Rattle.octets.proofs.Answer.{Holds, Taken, got-holds, if-cases, refused≢got}
+use Rattle.octets.proofs.Answer.{got-holds, if-cases, refused≢got}
 use Rattle.octets.proofs.Tests.{test}
 use Rattle.ber.specs.Codes.{codeOf}
-use Rattle.ber.specs.Reading.{Mode, closed, open-ended, Size, definite, indefinite, readIdentifier, readLength, readHeader, inside as insideSize}
-use Rattle.ber.specs.Reading.{readConstructed, contents, readPrimitive, atEnd}
-use Rattle.ber.specs.Told.{toldIdentifier, toldLength, mode}
-use Rattle.ber.specs.declared.identifier.Identifier.the-variants.{Refused as NoIdentifier}
+use Rattle.ber.specs.Reading.{Mode, closed, open-ended, Size, definite, indefinite, readLength, readHeader, inside as insideSize}
+use Rattle.ber.specs.Reading.{readConstructed, contents, readPrimitive}
+use Rattle.ber.specs.Told.{toldLength, mode}
 use Rattle.ber.specs.declared.length.Length.{Length}
 use Rattle.ber.specs.declared.length.Length.the-variants.{Read as ReadLength, Refused as NoLength}
 use Rattle.ber.specs.declared.length.Extent.{Extent}
-use Rattle.ber.proofs.Told.{identifier-refused, length-definite, length-indefinite, length-refused}
-use Rattle.table.specs.Syntax.{Simple, Boolean, Integer, BitString, OctetString, Null, Enumerated, Body, Plain, Sequence, Set}
-use Rattle.table.specs.Syntax.{SequenceOf, SetOf, Choice, Record, Table, isChoice, constructed}
-use Rattle.table.specs.Rules.{members}
+use Rattle.ber.proofs.Told.{length-definite, length-indefinite, length-refused}
+use Rattle.table.specs.Syntax.{Simple, Boolean, Integer, BitString, OctetString, Null, Enumerated, Body, Plain}
+use Rattle.table.specs.Syntax.{Record, Table, isChoice, constructed}
 use Rattle.table.specs.Reading.{bodyAt}
 use Rattle.table.specs.Entries.{unpacked, tableIn, countIn}
 use Rattle.table.specs.declared.entry.Entry.{Entry}
-use Rattle.table.proofs.Promises.{kind-choice, entered-members}
 use Rattle.coding.specs.Tags.{own, explicit}
 use Rattle.coding.specs.Value.{Value, leaf, Leaf, boolean, integer, bits, string, null, enumerated, leafOctets, octets}
-use Rattle.coding.specs.Encodes.{EncodesAt}
-use Rattle.coding.specs.Reading.{decode, notAwaited, readWrapped, readKind, readValue, readMessage}
+use Rattle.coding.specs.Reading.{decode, readWrapped, readKind, readValue, readMessage}
 use Rattle.coding.proofs.Content.{content-sound, content-complete}
-use Rattle.coding.proofs.FirstTags.{good}
-use Rattle.coding.proofs.Refusals.{Says, names, value-shorter, value-says}
-use Rattle.coding.proofs.Sound.{value-sound}
 use Rattle.reader.specs.Answers.{cap, told, size}
-use Rattle.reader.specs.Items.{Holder, inside, message, manner, Placed, remains, lacks, following, noted, isSingle, Hand, readPart, next}
-use Rattle.reader.specs.Items.{readItems, blank, readHeld}
-use Rattle.reader.specs.Records.{Ready, recordIn, IsRecord, Known, of-record, of-message, holderIn, readRecord}
+use Rattle.reader.specs.Items.{Holder, inside, message, manner, isSingle}
+use Rattle.reader.specs.Items.{readHeld}
+use Rattle.reader.specs.Records.{Ready, IsRecord, Known, of-record, of-message, holderIn, readRecord}
 use Rattle.reader.specs.Sought.{held}
 use Rattle.reader.specs.Weights.{weight, leafWeight}
-use Rattle.reader.specs.Wraps.{ended, shut, closing, Around, identifiers, Headed, readBare, Opens}
+use Rattle.reader.specs.Wraps.{closing, Around, Headed, readBare, Opens}
 use Rattle.reader.specs.declared.answer.Judged.{Judged}
 use Rattle.reader.specs.declared.answer.Judged.the-variants.{Done, Refused}
 use Rattle.reader.specs.declared.tags.Inner.{Inner}
 use Rattle.reader.specs.declared.tags.Opened.{Opened}
 use Rattle.reader.specs.declared.tags.Opened.the-variants.{Inside, Refused as NotOpened}
-use Rattle.reader.proofs.Items.{Ending, over, broken, more, ending}
-use Rattle.reader.proofs.ItemsKinds.{Kind, kind-held, message-whole}
-use Rattle.reader.proofs.Opening.{octets-drop, octets-take, slice-is, behind-at, first-by, item-refused, its-count, its-first, its-few}
-use Rattle.reader.proofs.Spans.{held-body}
-use Rattle.reader.proofs.Tagging.{count-identifiers, code-at, same-at, its-entry, its-record, its-fit}
+use Rattle.reader.proofs.Items.{over}
+use Rattle.reader.proofs.ItemsKinds.{message-whole}
+use Rattle.reader.proofs.Bodies.{recordOf, nil-of, plain-of, no-alternatives, single-kind, Built, its-body, its-holder, its-built}
+use Rattle.reader.proofs.Bodies.{its-choice, its-simple}
+use Rattle.reader.proofs.Opening.{octets-drop, octets-take, slice-is, item-refused, its-count, its-first, its-few}
+use Rattle.reader.proofs.Tagging.{own-at, own-low, own-first, same-at, its-fit}
+use Rattle.reader.proofs.Tails.{Sane, leaves, stops, tail-at, tail-less, Closes, held-sane, not-none}
 use Rattle.reader.proofs.Told.{told-refused, told-done}
 use Rattle.reader.proofs.Wrapping.{closing-refused}
-
--- u is an end of s
-abbrev pub Tail : List ℕ → List ℕ → Type 0
-Tail s u = (k : ℕ) × (k ≤ length s) × (u ≡ drop k s)
-
-tail-of : (s : List ℕ) {u : List ℕ} (p : List ℕ) → s ≡ p ++ u → Tail s u
-tail-of s {u} p e = (length p, omega (arith, ap length e, length-append p u), sym (ap (drop (length p)) e ∙ drop-append-seam p u))
-
-tail-on : (s t u : List ℕ) → Tail s t → Tail t u → Tail s u
-tail-on s t u (k, h, e) (i, l, f) =
-    (k + i, omega (arith, ap length e, length-drop k s), f ∙ ap (drop i) e ∙ drop-drop i k s)
-
-tail-less : {s u : List ℕ} → Tail s u → length u ≤ length s
-tail-less {s} {u} (k, h, e) = omega (arith, ap length e, length-drop k s)
-
--- the end that is as long
-tail-at : (s u : List ℕ) → Tail s u → u ≡ drop (length s - length u) s
-tail-at s u (k, h, e) =
-    let q : length s - length u ≡ k = omega (arith, ap length e, length-drop k s) in
-    rw q e
-
-not-none : (s : List ℕ) → (length s ≡ 0 → ⊥) → none-left s ≡ false
-unfolding none-left
-not-none [] h = absurd (h refl)
-not-none (x ∷ s) h = refl
-
-some-left : (s : List ℕ) → none-left s ≡ false → 0 < length s
-unfolding none-left
-some-left [] h = absurd (true≢false h)
-some-left (b ∷ s) h = omega arith
-
--- What was read leaves an end of what was given, of which P holds; or no more octets are left at the place of a refusal than were given.
-pub data Sane {A : Type 0} (P : List ℕ → Type 0) (s : List ℕ) : Answer A → Type 0 where
-  leaves : {a : A} {u : List ℕ} → Tail s u → P u → Sane P s (got a u)
-  stops : {c : Cause} {l : ℕ} → l ≤ length s → Sane P s (refused c l)
-
-module _ {A : Type 0} {P : List ℕ → Type 0} where
-  sane-wider : (s t : List ℕ) → Tail s t → {x : Answer A} → Sane P t x → Sane P s x
-  sane-wider s t h (leaves {u = u} i p) = leaves (tail-on s t u h i) p
-  sane-wider s t h (stops {l = l} i) = stops {l = l} (omega (arith, tail-less h))
-
-  sane-if : (s : List ℕ) (b : Bool) {x : Answer A} {y : Unit {0} → Answer A} → (b ≡ true → Sane P s x) → (b ≡ false → (u : Unit {0}) → Sane P s (y u))
-      → Sane P s (if b x y)
-  unfolding if
-  sane-if s true h k = h refl
-  sane-if s false h k = k refl tt
-
-  sane-then : {B : Type 0} {Q : List ℕ → Type 0} (s : List ℕ) {x : Answer B} {f : B → List ℕ → Answer A} → Sane Q s x
-      → ((a : B) (u : List ℕ) → Tail s u → Q u → Sane P s (f a u)) → Sane P s (then x f)
-  unfolding then
-  sane-then s (leaves {a = a} {u = u} h q) k = k a u h q
-  sane-then s (stops {l = l} h) k = stops {l = l} h
-
-  sane-end : (k : Mode) (s : List ℕ) {f : List ℕ → Answer A} {x : Unit {0} → Answer A}
-      → ((u : List ℕ) → Tail s u → (k ≡ closed → u ≡ []) → Sane P s (f u))
-      → ((u : Unit {0}) → Sane P s (x u)) → Sane P s (atEnd k s f x)
-  unfolding atEnd
-  sane-end closed s h i = sane-if s _ (λ e. h [] (length s, omega arith, sym (drop-length s)) (λ _. refl)) λ e. i
-  sane-end open-ended s h i =
-      sane-if s _ (λ e. stops {l = 0} (omega arith)) λ e _.
-      sane-if s _ (λ e. i tt) λ e _.
-      sane-if s _ (λ e. stops {l = length s} (omega arith)) λ f _.
-      sane-if s _ (λ e. stops {l = length s} (omega arith)) λ g _.
-      h (drop 2 s) (2, omega (arith, some-left (drop 1 s) f, length-drop 1 s), refl) λ q. absurd (open-not q)
-    where
-      open-not : open-ended ≡ closed → ⊥
-      open-not q = let z : _≡_ {A = ℕ} 0 1 = cc in omega arith
-
--- an item that is not awaited, and a value
-unawaited-sane : {A : Type 0} {P : List ℕ → Type 0} (s : List ℕ) → Sane {A = A} P s (notAwaited s)
-unfolding notAwaited then toldIdentifier
-unawaited-sane {A} {P} s = go (readIdentifier s) refl
-  where
-    go : (x : Answer (List ℕ)) → readIdentifier s ≡ x → Sane {A = A} P s (then x λ i s₁. refused NotAwaited (length s))
-    go (got i u) e = stops {l = length s} (omega arith)
-    go (refused c l) e =
-        let q : NoIdentifier c ≡ toldIdentifier (length s) (readIdentifier s) = rw e refl in
-        let y = identifier-refused s (NoIdentifier c) q c refl in
-        let z : _≡_ {A = Answer (List ℕ)} (refused c l) (refused c (length s)) = sym e ∙ y in
-        let v : l ≡ length s = cc in
-        stops {l = l} (omega arith)
-
-abbrev Any : List ℕ → Type 0
-Any u = Unit {0}
-
-value-sane : (T : Table) (n t : ℕ) (s : List ℕ) → Sane Any s (readValue T n t s)
-value-sane T n t s = go (readValue T n t s) (value-sound as-given T n t s) (value-says T n t s)
-  where
-    few : {c : Cause} {l : ℕ} → Says {A = Value} (length s) (refused c l) → l ≤ length s
-    few (names k h) = h
-
-    go : (x : Answer Value) → Holds (Taken (EncodesAt as-given T n t) s) x → Says (length s) x → Sane Any s x
-    go (got v u) h k = let y = got-holds h refl in leaves (tail-of s (y .piece) (y .cut)) tt
-    go (refused c l) h k = stops {l = l} (few k)
-
--- items: closed contents of which they are all leave nothing
-module _ (T : Table) (n : ℕ) (h : Holder) where
-  abbrev pub Closes : Mode → List ℕ → Type 0
-  Closes k u = isSingle (manner h) ≡ false → k ≡ closed → u ≡ []
-
-  part-sane : (x : Option Placed) (s : List ℕ) → Sane Any s (readPart T (readValue T n) x s)
-  unfolding readPart
-  part-sane none s = unawaited-sane s
-  part-sane (some x) s = sane-then s (value-sane T n (x .1 .type) s) λ v u t _. leaves t tt
-
-  items-sane : (k j : ℕ) (came : List ℕ) (hand : Hand) (e : Mode) (s : List ℕ) → Sane (Closes e) s (readItems T (readValue T n) h k j came hand e s)
-  unfolding readItems
-  items-sane zero j came hand e s = stops {l = 0} (omega arith)
-  items-sane (suc k) j came hand e s =
-      sane-if s (isSingle (manner h))
-      (λ one. sane-then s (part-sane (next T h j came s) s) λ x u t _. leaves t λ many. absurd (true≢false (sym one ∙ many)))
-      λ many _.
-      sane-end e s
-      (λ u t q. sane-if s (lacks h j came) (λ f. stops {l = length s} (omega arith)) λ f _. leaves t λ _. q)
-      λ _.
-      sane-if s (not (remains h j came)) (λ f. stops {l = length s} (omega arith)) λ f _.
-      sane-then s (part-sane (next T h j came s) s) λ x u t _.
-      sane-wider s u t (items-sane k (following (manner h) (x .0)) (noted (manner h) came (x .0)) (hand ++ (x ∷ [])) e u)
-
-  pub held-sane : (e : Mode) (s : List ℕ) → Sane (Closes e) s (readHeld T (readValue T n) h e s)
-  unfolding readHeld
-  held-sane e s = sane-then s (items-sane (suc (length s)) 0 blank [] e s) λ hand u t q. leaves t q
+use Rattle.reader.proofs.ClosedAlike.{closing-size}
 
 -- Simple contents are read alike wherever they stand: their leaf has a size, and wrong ones are refused at the item.
 abbrev Only : ℕ → Answer Leaf → Type 0
@@ -230,48 +101,6 @@ module _ (k : Simple) (c : List ℕ) (l : ℕ) (s : List ℕ) (n : ℕ) (en : n 
       go (got x w) e = (x, decode-moves k 0 c [] l s x w e, rw e at en)
       go (refused a b) e = absurd (z (rw e at en))
 
--- Closing tags looks at the octets alone: what is read under them is kept, or refused alike.
-abbrev Alike : {A B : Type 0} → A → B → Answer A → Answer B → Type 0
-Alike a b x y = ((u : List ℕ) × (x ≡ got a u) × (y ≡ got b u)) ⊎ ((c : Cause) × (l : ℕ) × (x ≡ refused c l) × (y ≡ refused c l))
-
-module _ {A B : Type 0} (a : A) (b : B) where
-  ended-alike : (k : Mode) (x : Answer A) (y : Answer B) → Alike a b x y → Alike a b (ended k x) (ended k y)
-  unfolding ended then
-  ended-alike k x y (inl (u, e, f)) = rw (e, f) (go (ending k u))
-    where
-      go : Ending k u → Alike a b (atEnd k u (λ v. got a v) λ _. refused Trailing (length u)) (atEnd k u (λ v. got b v) λ _. refused Trailing (length u))
-      go (over w z h) = inl (w, h A _ _, h B _ _)
-      go (broken c l z h) = inr (c, l, h A _ _, h B _ _)
-      go (more h) = inr (Trailing, length u, h A _ _, h B _ _)
-  ended-alike k x y (inr (c, l, e, f)) = inr (c, l, rw e refl, rw f refl)
-
-  shut-alike : (m : List ℕ) (outer inner : ℕ) (k : Bool) (x : Answer A) (y : Answer B) → Alike a b x y
-      → Alike a b (shut m outer inner k x) (shut m outer inner k y)
-  unfolding shut then behind
-  shut-alike m outer inner true x y h = ended-alike open-ended x y h
-  shut-alike m outer inner false x y h = go (ended-alike closed x y h)
-    where
-      go : Alike a b (ended closed x) (ended closed y)
-          → Alike a b (then (behind (outer - inner) (ended closed x)) λ v r. got v (drop inner (take outer m)))
-          (then (behind (outer - inner) (ended closed y)) λ v r. got v (drop inner (take outer m)))
-      go (inl (u, e, f)) = inl (drop inner (take outer m), rw e refl, rw f refl)
-      go (inr (c, l, e, f)) = inr (c, l + (outer - inner), rw e refl, rw f refl)
-
-  closing-alike : (m ns : List ℕ) (e : ℕ) (x : Answer A) (y : Answer B) → Alike a b x y → Alike a b (closing m ns e x) (closing m ns e y)
-  unfolding closing
-  closing-alike m [] e x y h = h
-  closing-alike m (n ∷ ns) e x y h = shut-alike m _ _ _ (closing m ns e x) (closing m ns e y) (closing-alike m ns e x y h)
-
--- so a size may be closed in place of the value
-pub closing-size : {A B : Type 0} (m ns : List ℕ) (e : ℕ) (a : A) (b : B) (u : List ℕ) (f : A → ℕ) (g : B → ℕ) → cap (f a) ≡ cap (g b)
-    → told m f (closing m ns e (got a u)) ≡ told m g (closing m ns e (got b u))
-unfolding told
-closing-size m ns e a b u f g q = go (closing-alike a b m ns e (got a u) (got b u) (inl (u, refl, refl)))
-  where
-    go : Alike a b (closing m ns e (got a u)) (closing m ns e (got b u)) → told m f (closing m ns e (got a u)) ≡ told m g (closing m ns e (got b u))
-    go (inl (w, x, y)) = rw (x, y, q) refl
-    go (inr (c, l, x, y)) = rw (x, y) refl
-
 -- Under the explicit tags of r, the item of r stands from `at` on, in octets that end at `end`; its identifier, if it has one, ends at `from`.
 -- The value of r is what closing the tags makes of what is read there.
 pub record Under (b : List ℕ) (r : Record) (m : List ℕ) (first : ℕ) (ns : List ℕ) (at from end : ℕ) : Type 0 where
@@ -301,24 +130,6 @@ pub record Over (b : List ℕ) (r : Record) (n : ℕ) (p : List ℕ) (at end sto
   pub is : readBare b n r (drop at p) ≡ got value (drop stop p)
   pub sized : count ≡ cap (length (octets value))
 
-nil-of : (l : List (List ℕ)) → length l ≡ 0 → l ≡ []
-nil-of [] e = refl
-nil-of (x ∷ l) e = absurd (omega arith)
-
--- kinds of bodies
-plain-of : (y : Body) → constructed y ≡ false → (k : Simple) × (y ≡ Plain k)
-unfolding constructed
-plain-of (Plain k) e = (k, refl)
-plain-of (Sequence ms) e = absurd (true≢false e)
-plain-of (Set ms) e = absurd (true≢false e)
-plain-of (SequenceOf t) e = absurd (true≢false e)
-plain-of (SetOf t) e = absurd (true≢false e)
-plain-of (Choice ts) e = absurd (true≢false e)
-
-no-alternatives : (y : Body) (k : Simple) → y ≡ Plain k → isChoice y ≡ false
-unfolding isChoice
-no-alternatives y k q = rw q refl
-
 not-is : (t : Bool) → true ≡ not t → t ≡ false
 not-is true e = e
 not-is false e = refl
@@ -326,15 +137,6 @@ not-is false e = refl
 is-not : (t : Bool) → false ≡ not t → t ≡ true
 is-not true e = refl
 is-not false e = e
-
-single-kind : (y : Body) → constructed y ≡ true → isSingle (manner (inside y)) ≡ isChoice y
-unfolding constructed manner isSingle isChoice
-single-kind (Plain k) e = absurd (false≢true e)
-single-kind (Sequence ms) e = refl
-single-kind (Set ms) e = refl
-single-kind (SequenceOf t) e = refl
-single-kind (SetOf t) e = refl
-single-kind (Choice ts) e = refl
 
 -- the item of a simple kind, by its header
 module _ (T : Table) (f : ℕ → List ℕ → Answer Value) (i : List ℕ) (y : Body) (s : List ℕ) (k : Simple) (q : y ≡ Plain k) (z : Bool) (n : ℕ)
@@ -359,72 +161,12 @@ module _ (i : List ℕ) (s : List ℕ) (z : Bool) (n : ℕ) (u : List ℕ) (h : 
   unfolding readConstructed then insideSize
   built-sized t = let g = rw t at h in rw g refl
 
--- and by the items in it
-module _ (T : Table) (f : ℕ → List ℕ → Answer Value) (i s : List ℕ) where
-  abbrev Built : Body → Answer Value → Type 0
-  Built y x =
-      (isChoice y ≡ false → x ≡ readConstructed i (readHeld T f (inside y)) s) × (isChoice y ≡ true → (k : Mode) → x ≡ readHeld T f (inside y) k s)
-
-  built : (g : _) (h : _) (y : Body) → constructed y ≡ true → (x : Answer Value) → Kind T f g h i s y x → Built y x
-  unfolding constructed isChoice
-  built g h (Plain k) c x q = absurd (false≢true c)
-  built g h (Sequence ms) c x q = ((λ _. q), λ e. absurd (false≢true e))
-  built g h (Set ms) c x q = ((λ _. q), λ e. absurd (false≢true e))
-  built g h (SequenceOf t) c x q = ((λ _. q), λ e. absurd (false≢true e))
-  built g h (SetOf t) c x q = ((λ _. q), λ e. absurd (false≢true e))
-  built g h (Choice ts) c x q = ((λ e. absurd (true≢false e)), λ _. q)
-
--- the record of an entry
-abbrev pub recordOf : List ℕ → ℕ → Record
-recordOf b w = recordIn b (unpacked w)
-
+-- the notes of the explicit tags of an entry
 module _ {b index : List ℕ} (R : Ready b index) {w : ℕ} (I : IsRecord b index w) where
   abbrev r : Record
   r = recordOf b w
 
-  its-body : bodyAt b (unpacked w .kind) (unpacked w .own) ≡ r .body
-  its-body = its-entry R I .body ∙ ap (λ (x : Record). x .body) (sym (its-record R I))
-
-  its-holder : held b w ≡ inside (r .body)
-  its-holder = held-body (its-entry R I) (R .filled .short) ∙ ap (λ (x : Record). inside (x .body)) (sym (its-record R I))
-
-  few-members : (y : Body) → tableIn b (I .0) .body ≡ y → length (members y) ≤ 16
-  unfolding members
-  few-members (Plain k) h = omega arith
-  few-members (Sequence ms) h = entered-members (its-entry R I) ms (inl h) .few
-  few-members (Set ms) h = entered-members (its-entry R I) ms (inr h) .few
-  few-members (SequenceOf t) h = omega arith
-  few-members (SetOf t) h = omega arith
-  few-members (Choice ts) h = omega arith
-
-  its-built : (n : ℕ) (s : List ℕ) → constructed (r .body) ≡ true → Built (tableIn b) (readValue (tableIn b) n) (own r) s (r .body) (readBare b n r s)
-  its-built n s c =
-      let T = tableIn b in
-      let g = good b T (countIn b) (R .passes) in
-      let h = value-shorter T n in
-      let l : length (members (r .body)) ≤ 16 = few-members (r .body) (ap (λ (x : Record). x .body) (sym (its-record R I))) in
-      built T (readValue T n) (own r) s g h (r .body) c (readBare b n r s) (kind-held T (readValue T n) g h (own r) s (r .body) l)
-
-  -- its own identifier is the last
-  own-at : isChoice (r .body) ≡ false → getD (identifiers r) (length (explicit r)) [] ≡ own r
-  unfolding if
-  own-at n = rw n (behind-at (explicit r) (own r))
-
-  own-last : isChoice (r .body) ≡ false → length (explicit r) < length (r .tags)
-  unfolding if
-  own-last n =
-      let q : length (identifiers r) ≡ length (explicit r) + 1 = rw n (length-append (explicit r) (own r ∷ [])) in
-      omega (arith, count-identifiers r (its-fit R I))
-
   module _ (e : Entry) (ee : e ≡ unpacked w) where
-    its-choice : eqb (e .kind) 50 ≡ isChoice (r .body)
-    its-choice = ap (λ (x : Entry). eqb (x .kind) 50) ee ∙ kind-choice (its-entry R I)
-        ∙ ap (λ (x : Record). isChoice (x .body)) (sym (its-record R I))
-
-    its-simple : e .simple ≡ not (constructed (r .body))
-    its-simple =
-        ap (λ (x : Entry). x .simple) ee ∙ its-entry R I .simple ∙ ap (λ (x : Record). not (constructed (x .body))) (sym (its-record R I))
-
     its-notes : (notes : List ℕ) → take (e .explicit) notes ≡ take (unpacked w .explicit) notes
     its-notes notes = ap (λ (x : Entry). take (x .explicit) notes) ee
 
@@ -442,12 +184,7 @@ module _ {b index : List ℕ} (R : Ready b index) {w : ℕ} (I : IsRecord b inde
           some = omega (arith, h .further, h .low);
           high = omega arith;
           around = refl;
-          headed = λ n.
-              let k : 0 < length (r .tags) = omega (arith, own-last n) in
-              let q : getD (identifiers r) 0 [] ≡ own r = ap (λ (i : ℕ). getD (identifiers r) i []) (sym z) ∙ own-at n in
-              let c : unpacked w .code ≡ codeOf (own r)
-              = its-first R I ∙ first-by (r .tags) (r .body) k ∙ sym (code-at r (its-fit R I) 0 k) ∙ ap codeOf q in
-              rw (take-length m, ← c) h;
+          headed = λ n. rw (take-length m, own-first r (its-fit R I) z n, ← its-first R I) h;
           whole = λ n. rw (nil-of (explicit r) z, take-length m) refl;
         })
 
@@ -531,8 +268,8 @@ module _ {b index : List ℕ} {w : ℕ} {m : List ℕ} {first level : ℕ} (X : 
       let h = X .under .headed n in
       let o = octets-drop Part (octets-take m (X .all-octets) (X .end)) (X .at) in
       let F = its-fit (X .ready) (X .known) in
-      let y = same-at Rec F (length (explicit Rec)) (own-last (X .ready) (X .known) n) Rest (h .identifier) (drop (X .from) Part) o (h .is) in
-      let v = rw (own-at (X .ready) (X .known) n) at y in
+      let y = same-at Rec F (length (explicit Rec)) (own-low Rec F n) Rest (h .identifier) (drop (X .from) Part) o (h .is) in
+      let v = rw (own-at Rec n) at y in
       rw (h .is, v, eq-eqb (codeOf (h .identifier)) (codeOf (own Rec)) (h .coded)) refl
 
   no-choice : (X .entry .kind ≡ 50 → ⊥) → isChoice (Rec .body) ≡ false

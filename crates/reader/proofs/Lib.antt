@@ -14,9 +14,12 @@ pub mod Spans
 pub mod Searching
 pub mod Finding
 pub mod Wrapping
+pub mod ClosedAlike
 pub mod Tagging
 pub mod Opening
 pub mod Told
+pub mod Tails
+pub mod Bodies
 pub mod JudgedValue
 pub mod Ending
 pub mod Weighing

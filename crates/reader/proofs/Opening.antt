@@ -1,10 +1,10 @@
 -- The explicit tags of a record, opened from the outermost in.
 -- Assumes nothing.
-use borrow.Author.Tests.{eq-eqb, ne-eqb, ltb-true, ltb-false, lt-ltb}
+use borrow.Author.Tests.{eq-eqb, ne-eqb, ltb-true, ltb-false}
 use lib.Dec.{eqb, ltb}
 use lib.ListN.{length, getD, take, drop, set, length-take, length-drop, length-map, length-append, List·getD-eq-default}
 use lib.Seq.{getD-take, getD-drop, take-length, take-take, take-suc-set, length-take-le, take-add, drop-drop, drop-length, drop-append-seam}
-use mathlib.Core.Bool.{Bool, true, false, not, _||_, true≢false, false≢true}
+use mathlib.Core.Bool.{Bool, true, false, not, true≢false, false≢true}
 use mathlib.Core.List.{List, [], _∷_, _++_, map, append-nil}
 use mathlib.Core.Logic.{_⊎_, inl, inr}
 use mathlib.Core.Path.{_≡_, refl, sym, ap, _∙_}
@@ -17,15 +17,15 @@ use Rattle.octets.specs.Answer.{Answer, got, refused, then, if, behind, none-le
 use Rattle.octets.specs.Lists.{same}
 use Rattle.octets.specs.Numbers.{Octets}
 use Rattle.octets.proofs.Tests.{test}
-use Rattle.ber.specs.Codes.{codeOf, code as codeBy}
+use Rattle.ber.specs.Codes.{codeOf}
 use Rattle.ber.specs.Reading.{Mode, closed, open-ended, readIdentifier, readLength, readHeader, inside, readConstructed, readPrimitive, atEnd}
 use Rattle.ber.specs.Told.{toldLength, mode}
 use Rattle.ber.specs.declared.length.Length.{Length}
 use Rattle.ber.specs.declared.length.Length.the-variants.{Read as ReadLength, Refused as NoLength}
 use Rattle.ber.specs.declared.length.Extent.{Extent}
 use Rattle.ber.proofs.Told.{length-definite, length-indefinite, length-refused}
-use Rattle.table.specs.Syntax.{Tag, Body, Plain, Sequence, Set, SequenceOf, SetOf, Choice, Record, Table, isChoice, constructed}
-use Rattle.table.specs.Entries.{allButLast, unpacked, tableIn, firstCode, outermostCode, explicitCount}
+use Rattle.table.specs.Syntax.{Tag, Body, Plain, Sequence, Set, SequenceOf, SetOf, Choice, Record, Table, isChoice}
+use Rattle.table.specs.Entries.{allButLast, unpacked, tableIn, firstCode, explicitCount}
 use Rattle.coding.specs.Tags.{identifierOf, before, explicitTags, own, explicit}
 use Rattle.coding.specs.Value.{Value}
 use Rattle.coding.specs.Reading.{readWrapped, readKind}
@@ -36,7 +36,7 @@ use Rattle.reader.specs.declared.tags.Tag.{Tag as TagRead}
 use Rattle.reader.specs.declared.tags.Tag.the-variants.{Read as ReadTag, Refused as NoTag}
 use Rattle.reader.specs.declared.tags.Opened.the-variants.{Inside, Refused as NotOpened}
 use Rattle.reader.proofs.Begun.{Fit}
-use Rattle.reader.proofs.Tagging.{zeros, count-identifiers, code-at, same-at, its-entry, its-record, its-fit}
+use Rattle.reader.proofs.Tagging.{first-code, own-at, own-low, count-identifiers, same-at, its-entry, its-record, its-fit}
 use Rattle.reader.proofs.Wrapping.{closing-last, around-more, closing-refused, note-half, note-mark}
 
 -- octets of a part
@@ -68,10 +68,6 @@ drop-at [] j l = absurd (omega arith)
 drop-at (x ∷ a) zero l = refl
 drop-at (x ∷ a) (suc j) l = drop-at a j (omega arith)
 
-pub behind-at : (a : List (List ℕ)) (x : List ℕ) → getD (a ++ (x ∷ [])) (length a) [] ≡ x
-behind-at [] x = refl
-behind-at (y ∷ a) x = behind-at a x
-
 -- how many are explicit
 before-length : (g : Tag) (gs : List Tag) → length (before (g ∷ gs)) ≡ length gs
 unfolding before
@@ -98,13 +94,6 @@ count-of (g ∷ gs) (Sequence ms) t = but-one g gs
 count-of (g ∷ gs) (Set ms) t = but-one g gs
 count-of (g ∷ gs) (SequenceOf u) t = but-one g gs
 count-of (g ∷ gs) (SetOf u) t = but-one g gs
-
-pub first-by : (gs : List Tag) (y : Body) → 0 < length gs
-    → outermostCode gs y ≡ codeBy (getD gs 0 zeros .class) (ltb (0 + 1) (length gs) || constructed y) (getD gs 0 zeros .number)
-unfolding outermostCode
-first-by [] y l = absurd (omega arith)
-first-by (g ∷ []) y l = refl
-first-by (g ∷ h ∷ gs) y l = rw (lt-ltb (0 + 1) (suc (suc (length gs))) (omega arith)) refl
 
 -- contents of a tag: they go on, or they are refused, whatever comes then
 clash : {A : Type 0} (a : A) (s : List ℕ) (c : Cause) (l : ℕ) → _≡_ {A = Answer A} (got a s) (refused c l) → ⊥
@@ -223,10 +212,6 @@ module _ (b : List ℕ) (r : Record) (F : Fit r) (m : List ℕ) (om : Octets m) 
   wraps-at : (j : ℕ) → j < Count → drop j (explicit r) ≡ getD Ids j [] ∷ drop (suc j) (explicit r)
   wraps-at j l = drop-at (explicit r) j l ∙ ap (λ (z : List ℕ). z ∷ drop (suc j) (explicit r)) (sym (id-explicit j l))
 
-  own-last : isChoice (r .body) ≡ false → getD Ids Count [] ≡ own r
-  unfolding if
-  own-last n = rw n (behind-at (explicit r) (own r))
-
   is-last : Count < length Ids → isChoice (r .body) ≡ false
   unfolding if
   is-last l = test (isChoice (r .body)) (λ t. absurd (short (isChoice (r .body)) t l)) λ t. t
@@ -239,7 +224,7 @@ module _ (b : List ℕ) (r : Record) (F : Fit r) (m : List ℕ) (om : Octets m) 
   unfolding Around closing readRecord
   open-none notes from l h =
       let k : 0 < length (r .tags) = omega (arith, more-ids, count-identifiers r F) in
-      let c : codeOf (getD Ids 0 []) ≡ firstCode r = code-at r F 0 k ∙ sym (first-by (r .tags) (r .body) k) in
+      let c : codeOf (getD Ids 0 []) ≡ firstCode r = first-code r F k in
       record {
         within = omega arith;
         low = omega arith;
@@ -264,17 +249,14 @@ module _ (b : List ℕ) (r : Record) (F : Fit r) (m : List ℕ) (om : Octets m) 
           S .high,
           S .around,
           (λ n.
-              let w : getD Ids j [] ≡ own r = ap (λ (i : ℕ). getD Ids i []) q ∙ own-last n in
-              let y = longer n in let u : j < length Ids = omega (arith, q, y) in
+              let w : getD Ids j [] ≡ own r = ap (λ (i : ℕ). getD Ids i []) q ∙ own-at r n in
+              let y = own-low r F n in let u : j < length Ids = omega (arith, q, y, count-identifiers r F) in
               rw (← w) (S .headed u)),
           λ n.
               S .whole n
               ∙ ap (λ (z : List (List ℕ)). closing m (take j notes) end (readWrapped z (readBare b n r) (drop at (take end m))))
               (ap (λ (i : ℕ). drop i (explicit r)) q ∙ drop-length (explicit r)),
         )
-      where
-        longer : isChoice (r .body) ≡ false → Count < length Ids
-        longer n = let q = length-append (explicit r) (own r ∷ []) in rw n (omega (arith, q))
 
     module _ (l : j < Count) where
       abbrev P : List ℕ
@@ -371,7 +353,7 @@ module _ (b : List ℕ) (r : Record) (F : Fit r) (m : List ℕ) (om : Octets m) 
               λ t.
               let k : suc j ≡ Count = omega (arith, ltb-false (suc j) Count t) in
               let v = is-last (omega (arith, w, k)) in
-              let u : getD Ids (suc j) [] ≡ own r = ap (λ (i : ℕ). getD Ids i []) k ∙ own-last v in
+              let u : getD Ids (suc j) [] ≡ own r = ap (λ (i : ℕ). getD Ids i []) k ∙ own-at r v in
               let y = header-none (own r) U c (rw u at e) in
               ap (λ (a : List (List ℕ)). readWrapped a (readBare b n r) U) (ap (λ (i : ℕ). drop i (explicit r)) k ∙ drop-length (explicit r))
               ∙ item-refused (tableIn b) _ (own r) (r .body) U c (length U) v y

@@ -21,7 +21,6 @@ use Rattle.reader.specs.Wraps.{ended, shut, innerEnd, closing, noteOf, A
 use Rattle.reader.specs.declared.answer.Judged.{Judged}
 use Rattle.reader.specs.declared.answer.Judged.the-variants.{Done, Refused}
 
-
 pub around-end : (n : ℕ) (ns : List ℕ) (e : ℕ) → Around n ns e → e ≤ n
 unfolding Around innerEnd
 around-end n [] e a = omega arith

@@ -40,7 +40,8 @@ use Rattle.table.proofs.kind.holds_one.Reads as holds-one-reads
 use Rattle.reader.proofs.judge.+judge_members+judge_value.{statement}
 use Rattle.reader.proofs.judge.+judge_members+judge_value.Tie.{close}
 use Rattle.table.specs.Entries.{unpacked, tableIn}
-use Rattle.reader.proofs.JudgedValue.{recordOf, Under, Within, Over, Item, Filling, Ended, under-tags, under-bare}
+use Rattle.reader.proofs.Bodies.{recordOf}
+use Rattle.reader.proofs.JudgedValue.{Under, Within, Over, Item, Filling, Ended, under-tags, under-bare}
 use Rattle.reader.proofs.JudgedValue.{item-within, item-around, contents-sized, contents-bare, contents-within, contents-short}
 use Rattle.reader.proofs.JudgedValue.{over-leaf, items-known, items-some, over-items, items-low, items-high, item-tags, item-closes}
 use Rattle.reader.proofs.JudgedValue.{value-unopened, value-unread, value-marked, value-wrong, value-unheld, value-closed, value-over}
