@@ -20,6 +20,7 @@ pub mod Opening
 pub mod Told
 pub mod Tails
 pub mod Bodies
+pub mod ValueParts
 pub mod JudgedValue
 pub mod Ending
 pub mod Weighing

@@ -41,10 +41,10 @@ use Rattle.reader.proofs.judge.+judge_members+judge_value.{statement}
 use Rattle.reader.proofs.judge.+judge_members+judge_value.Tie.{close}
 use Rattle.table.specs.Entries.{unpacked, tableIn}
 use Rattle.reader.proofs.Bodies.{recordOf}
-use Rattle.reader.proofs.JudgedValue.{Under, Within, Over, Item, Filling, Ended, under-tags, under-bare}
-use Rattle.reader.proofs.JudgedValue.{item-within, item-around, contents-sized, contents-bare, contents-within, contents-short}
-use Rattle.reader.proofs.JudgedValue.{over-leaf, items-known, items-some, over-items, items-low, items-high, item-tags, item-closes}
+use Rattle.reader.proofs.JudgedValue.{Over, Ended, over-leaf, over-items, items-low, items-high, item-tags, item-closes}
 use Rattle.reader.proofs.JudgedValue.{value-unopened, value-unread, value-marked, value-wrong, value-unheld, value-closed, value-over}
+use Rattle.reader.proofs.ValueParts.{Under, Within, Item, Filling, under-tags, under-bare, item-within, item-around, contents-sized, contents-bare}
+use Rattle.reader.proofs.ValueParts.{contents-within, contents-short, items-known, items-some}
 use Rattle.reader.proofs.Tagging.{its-entry}
 
 abbrev μ-judge-members : Measures 4 judge-members-kinds.ps ℕ
@@ -404,7 +404,7 @@ abbrev at-contents : (t : ℕ) (c : judge-value-lts.Joined2 (judge-value-claims 
 at-contents t c =
     let x = at-item t (c .before .before .before .before) in
     ⊎-elim
-    (λ z. rw (z .5, z .6, z .7) (contents-sized x (z .0 .taken) (z .1 .result) (z .1 .ensures) (z .3 .given .0 .0) (z .3 .given .1)))
+    (λ z. rw (z .5, z .6, z .7) (contents-sized x (z .0 .taken) (z .1 .result) (z .1 .ensures _) (z .3 .given .0 .0) (z .3 .given .1)))
     (λ z. rw (z .1, z .2, z .3) (contents-bare x (z .0 .left)))
     (c .if2 .came)
 
@@ -489,7 +489,7 @@ judge-value-half t =
     let f = c .before .before .cause2 .given in (
       c9 .before .before .before .before .before .pre .1 .5,
       c .refused2 .ensures
-          ∙ value-unread (at-item t c9) (c4 .before .if2 .taken) (c4 .read .result) (c4 .read .ensures) (f .0 .0) (f .1),
+          ∙ value-unread (at-item t c9) (c4 .before .if2 .taken) (c4 .read .result) (c4 .read .ensures _) (f .0 .0) (f .1),
     ))  -- judge-value-returns-2
     (λ c. search needs)  -- judge-value-enum-known-x-2
     (λ c κs. tt)  -- judge-value-refused-requires-3
