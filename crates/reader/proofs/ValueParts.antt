@@ -61,6 +61,7 @@ pub record Within (r : Record) (p : List ℕ) (at end start stop : ℕ) (marked 
   pub ordered : start ≤ stop
   pub high : stop ≤ end
   pub unsized : marked ≡ true → stop ≡ end
+  pub further : isChoice (r .body) ≡ false → at < start
   pub bare : isChoice (r .body) ≡ true → (start ≡ at) × (stop ≡ end)
   pub header : isChoice (r .body) ≡ false → readHeader (own r) (drop at p) ≡ got (sizeOf marked (stop - start)) (drop start p)
 
@@ -188,6 +189,7 @@ module _ {b index : List ℕ} {w : ℕ} {m : List ℕ} {first level : ℕ} (X : 
         ordered = omega (arith, X .under .some);
         high = omega arith;
         unsized = λ e. absurd (false≢true e);
+        further = λ n. absurd (true≢false (sym (is-choice y) ∙ n));
         bare = λ _. (refl, refl);
         header = λ n. absurd (true≢false (sym (is-choice y) ∙ n));
       }
@@ -203,6 +205,7 @@ module _ {b index : List ℕ} {w : ℕ} {m : List ℕ} {first level : ℕ} (X : 
           ordered = omega (arith, y .2, y .3);
           high = omega (arith, y .3, size-part);
           unsized = λ _. y .3 ∙ size-part;
+          further = λ _. omega (arith, y .1, X .under .headed n .further);
           bare = λ c. absurd (true≢false (sym c ∙ n));
           header = λ _. own-header n ∙ rw t (y .0);
         })
@@ -212,6 +215,7 @@ module _ {b index : List ℕ} {w : ℕ} {m : List ℕ} {first level : ℕ} (X : 
           ordered = y .2;
           high = omega (arith, y .3, size-part);
           unsized = λ e. absurd (true≢false (sym e ∙ t));
+          further = λ _. omega (arith, y .1, X .under .headed n .further);
           bare = λ c. absurd (true≢false (sym c ∙ n));
           header = λ _. own-header n ∙ rw t (y .0);
         }
