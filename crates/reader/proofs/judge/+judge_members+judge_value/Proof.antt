@@ -9,9 +9,10 @@ use borrow.Author.Needs.{needs}
 use borrow.Author.Tests.{eqb-true, not-false}
 use denote.Ref.{now}
 use lib.ListN.{length, take}
+use Rattle.reader.proofs.ItemsFound.{item-same, item-found}
 use Rattle.reader.proofs.JudgedMembers.{Judging, Setting, count-few, judging-first, judging-sound}
 use Rattle.reader.proofs.JudgedMembers.{Turn, part-few, part-near, type-few, judged-over, judged-stopped, item-there, judged-unfit, found-low}
-use Rattle.reader.proofs.JudgedMembers.{item-same, item-found, item-here, Comes, place-few, behind-few, number-few, judged-level, is-record}
+use Rattle.reader.proofs.JudgedMembers.{item-here, Comes, place-few, behind-few, number-few, judged-level, is-record}
 use Rattle.reader.proofs.JudgedMembers.{is-headed}
 use Rattle.reader.proofs.JudgedMembers.{Valued, depth-few, judged-refused, sizes-few, value-further, value-low, judged-one, judged-turn}
 use borrow.Fn.Kinds.{In}
