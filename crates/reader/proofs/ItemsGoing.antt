@@ -21,13 +21,6 @@ use Rattle.reader.proofs.Items.{Over, Broken, More, unawaited-on, found
 use Rattle.reader.proofs.Items.{items-unawaited, items-refused, items-turn, single-unawaited, single-refused, single-done}
 use Rattle.reader.proofs.ItemsSizes.{SoFar, sofar-none, sofar-over, sofar-one, sofar-turn, sizes-snoc, assemble-size, isPlain}
 
-pub since-following : (w : Manner) (p : ℕ) → since w (p + 1) ≡ following w p
-unfolding since following
-since-following in-turn p = omega arith
-since-following each-once p = refl
-since-following repeated p = refl
-since-following single p = refl
-
 pub since-first : (w : Manner) → since w 0 ≡ 0
 unfolding since
 since-first in-turn = refl

@@ -1,9 +1,9 @@
 -- The items of a record or of a message, judged one after another: what holds before each, and one law for each way out.
 -- Assumes nothing.
 use lib.Dec.{eqb}
-use lib.ListN.{length, getD, drop, set as setAt, length-drop, length-append, length-set, length-map}
+use lib.ListN.{length, getD, drop, set as setAt, length-drop, length-append, length-set}
 use lib.Seq.{drop-drop, drop-append-seam}
-use mathlib.Core.Bool.{Bool, true, false, not, _||_, true≢false, false≢true}
+use mathlib.Core.Bool.{Bool, true, false, not, _||_, true≢false}
 use mathlib.Core.List.{List, [], _∷_}
 use mathlib.Core.Logic.{_⊎_, inl, inr}
 use mathlib.Core.Option.{Option, some, none}
@@ -22,12 +22,11 @@ use Rattle.ber.specs.declared.ending.End.{End}
 use Rattle.ber.specs.declared.ending.End.the-variants.{More as GoesOn, Over as EndsAt, Broken as BrokenBy}
 use Rattle.ber.proofs.Ends.{end-more, end-over, end-broken}
 use Rattle.ber.proofs.Places.{part-to-end}
-use Rattle.table.specs.Syntax.{Body, Plain, Sequence, Set, SequenceOf, SetOf, Choice, Record, Table, constructed}
+use Rattle.table.specs.Syntax.{Plain, Sequence, Set, SequenceOf, SetOf, Choice, Record, Table}
 use Rattle.table.specs.Octets.{kind}
 use Rattle.table.specs.Entries.{unpacked, spanOf, tableIn}
 use Rattle.table.specs.declared.entry.Entry.{Entry}
 use Rattle.table.specs.declared.entry.Span.{Span}
-use Rattle.table.proofs.Promises.{entered-kind}
 use Rattle.octets.specs.Permutations.{as-given}
 use Rattle.coding.specs.Value.{Value, octets}
 use Rattle.coding.specs.Reading.{begun, notAwaited, readValue}
@@ -37,9 +36,9 @@ use Rattle.reader.specs.Answers.{cap, told, size}
 use Rattle.reader.specs.Items.{Holder, inside, message, Manner, in-turn, each-once, repeated, single, manner, partsOf, Placed}
 use Rattle.reader.specs.Items.{upToMandatory, within, left, some-of, remains, lacks, since, following, noted, isSingle, first, next}
 use Rattle.reader.specs.Items.{nodeSize, blank, readHeld}
-use Rattle.reader.specs.Placing.{kindOf, countOf, nodeOf, holdsOne}
-use Rattle.reader.specs.Records.{Ready, Known, of-record, of-message, IsRecord, recordIn, holderIn, readRecord}
-use Rattle.reader.specs.Sought.{held, Sound, tabledCount, unfit, Sought}
+use Rattle.reader.specs.Placing.{kindOf, onward, nodeOf}
+use Rattle.reader.specs.Records.{Ready, Known, IsRecord, recordIn, readRecord}
+use Rattle.reader.specs.Sought.{held, Sound, unfit, Sought}
 use Rattle.reader.specs.Standing.{atEnding, standing}
 use Rattle.reader.specs.Ways.{wrapped}
 use Rattle.reader.specs.Wraps.{Headed}
@@ -57,85 +56,12 @@ use Rattle.reader.proofs.ItemsKinds.{blank-clear}
 use Rattle.reader.proofs.ItemsSizes.{isPlain}
 use Rattle.reader.proofs.ItemsWay.{wrapped-size}
 use Rattle.reader.proofs.ItemsFound.{At-item, item-found, item-fits, restOf, item-level, item-value, item-headed}
-use Rattle.reader.proofs.PlacedNodes.{node-is}
+use Rattle.reader.proofs.Held.{held-some, held-kind, held-one, held-span, held-few, held-node, held-onward, onward-most}
+use Rattle.reader.proofs.PlacedTurns.{since-onward}
 use Rattle.reader.proofs.Searching.{type-low}
-use Rattle.reader.proofs.Spans.{Spanned, held-body, its}
+use Rattle.reader.proofs.Spans.{Spanned}
 use Rattle.reader.proofs.Tagging.{its-record}
 use Rattle.reader.proofs.Told.{told-refused, told-done, tell-refused, tell-done}
-
--- the kind of an entry is that of what it stands for
-not-not : (a : Bool) → false ≡ not a → a ≡ true
-not-not true e = refl
-not-not false e = absurd (false≢true e)
-
-kind-inside : (y : Body) → constructed y ≡ true → kind y ≡ kindOf (inside y)
-unfolding kind kindOf constructed
-kind-inside (Plain k) c = absurd (false≢true c)
-kind-inside (Sequence ms) c = refl
-kind-inside (Set ms) c = refl
-kind-inside (SequenceOf t) c = refl
-kind-inside (SetOf t) c = refl
-kind-inside (Choice ts) c = refl
-
-plain-inside : (y : Body) → constructed y ≡ true → isPlain (inside y) ≡ false
-unfolding isPlain constructed
-plain-inside (Plain k) c = absurd (false≢true c)
-plain-inside (Sequence ms) c = refl
-plain-inside (Set ms) c = refl
-plain-inside (SequenceOf t) c = refl
-plain-inside (SetOf t) c = refl
-plain-inside (Choice ts) c = refl
-
-held-kind : {b index : List ℕ} → Ready b index → (w : ℕ) → Known b index w → unpacked w .simple ≡ false → unpacked w .kind ≡ kindOf (held b w)
-unfolding holderIn if kindOf
-held-kind {b} R w (of-record t h q) n =
-    let x = R .filled .entered t h in
-    let c = not-not (constructed (tableIn b t .body)) (sym (rw q at n) ∙ x .simple) in
-    rw (q, held-body x (R .filled .short)) (entered-kind x ∙ kind-inside (tableIn b t .body) c)
-held-kind R w (of-message t h q) n = rw q refl
-
-held-some : {b index : List ℕ} → Ready b index → (w : ℕ) → Known b index w → unpacked w .simple ≡ false → isPlain (held b w) ≡ false
-unfolding holderIn if isPlain
-held-some {b} R w (of-record t h q) n =
-    let x = R .filled .entered t h in
-    let c = not-not (constructed (tableIn b t .body)) (sym (rw q at n) ∙ x .simple) in
-    rw (q, held-body x (R .filled .short)) (plain-inside (tableIn b t .body) c)
-held-some R w (of-message t h q) n = rw q refl
-
-some-kind : (h : Holder) → isPlain h ≡ false → kindOf h ≡ 0 → ⊥
-unfolding kindOf isPlain
-some-kind (inside (Plain k)) e z = true≢false e
-some-kind (inside (Sequence ms)) e z = omega arith
-some-kind (inside (Set ms)) e z = omega arith
-some-kind (inside (SequenceOf t)) e z = omega arith
-some-kind (inside (SetOf t)) e z = omega arith
-some-kind (inside (Choice ts)) e z = omega arith
-some-kind (message t) e z = omega arith
-
-one-kind : (h : Holder) → isPlain h ≡ false → holdsOne (kindOf h) ≡ isSingle (manner h)
-unfolding kindOf manner isSingle isPlain
-one-kind (inside (Plain k)) e = absurd (true≢false e)
-one-kind (inside (Sequence ms)) e = refl
-one-kind (inside (Set ms)) e = refl
-one-kind (inside (SequenceOf t)) e = refl
-one-kind (inside (SetOf t)) e = refl
-one-kind (inside (Choice ts)) e = refl
-one-kind (message t) e = refl
-
-count-is : (h : Holder) → countOf h ≡ tabledCount h
-unfolding countOf tabledCount partsOf
-count-is (inside (Plain k)) = refl
-count-is (inside (Sequence ms)) = refl
-count-is (inside (Set ms)) = refl
-count-is (inside (SequenceOf t)) = refl
-count-is (inside (SetOf t)) = refl
-count-is (inside (Choice ts)) = sym (length-map ts _)
-count-is (message t) = refl
-
-parts-few : (h : Holder) → tabledCount h ≤ 16 → length (partsOf h) ≤ 16
-unfolding tabledCount partsOf
-parts-few (inside y) l = l
-parts-few (message t) l = omega arith
 
 node-small : (h : Holder) → length (partsOf h) ≤ 16 → nodeSize h ≤ 20
 unfolding nodeSize partsOf
@@ -146,27 +72,6 @@ node-small (inside (SequenceOf t)) l = omega arith
 node-small (inside (SetOf t)) l = omega arith
 node-small (inside (Choice ts)) l = omega arith
 node-small (message t) l = omega arith
-
--- behind a part: half a step is a member
-follows : (b : List ℕ) (h : Holder) (p place : ℕ) → since (manner h) (place + spanOf b (kindOf h) p .step / 2) ≡ following (manner h) place
-unfolding kindOf manner since following spanOf if
-follows b (inside (Plain k)) p place = refl
-follows b (inside (Sequence ms)) p place = omega arith
-follows b (inside (Set ms)) p place = refl
-follows b (inside (SequenceOf t)) p place = refl
-follows b (inside (SetOf t)) p place = refl
-follows b (inside (Choice ts)) p place = refl
-follows b (message t) p place = refl
-
-step-small : (b : List ℕ) (h : Holder) (p : ℕ) → spanOf b (kindOf h) p .step ≤ 2
-unfolding kindOf spanOf if
-step-small b (inside (Plain k)) p = omega arith
-step-small b (inside (Sequence ms)) p = omega arith
-step-small b (inside (Set ms)) p = omega arith
-step-small b (inside (SequenceOf t)) p = omega arith
-step-small b (inside (SetOf t)) p = omega arith
-step-small b (inside (Choice ts)) p = omega arith
-step-small b (message t) p = omega arith
 
 -- what is noted of a part
 abbrev Notes : ℕ → List ℕ → ℕ → List ℕ → Type 0
@@ -331,34 +236,29 @@ H Q = held (Q .b) (Q .w)
 
 module _ (Q : Setting) where
   no-plain : isPlain (H Q) ≡ false
-  no-plain = held-some (Q .ready) (Q .w) (Q .known) (Q .holds)
+  no-plain = held-some (Q .ready) (Q .known) (Q .holds)
 
   kind-is : Q .e .kind ≡ kindOf (H Q)
-  kind-is = ap (λ (x : Entry). x .kind) (Q .entry) ∙ held-kind (Q .ready) (Q .w) (Q .known) (Q .holds)
+  kind-is = held-kind (Q .ready) (Q .known) (Q .holds) (Q .e) (Q .entry)
 
   its-span : Spanned (Q .b) (H Q) (unpacked (Q .w) .kind) (Q .s)
-  its-span = its (Q .ready) (Q .w) (Q .known) (Q .s) (Q .span ∙ ap (λ (x : Entry). spanOf (Q .b) (x .kind) (x .own)) (Q .entry))
+  its-span = held-span (Q .ready) (Q .known) (Q .holds) (Q .e) (Q .entry) (Q .s) (Q .span)
 
   few : length (partsOf (H Q)) ≤ 16
-  few = parts-few (H Q) (omega (arith, its-span .count, its-span .few))
+  few = held-few (Q .ready) (Q .known) (Q .holds) (Q .e) (Q .entry) (Q .s) (Q .span)
 
-  step-is : Q .s .step ≡ spanOf (Q .b) (kindOf (H Q)) (Q .e .own) .step
-  step-is = ap (λ (x : Span). x .step) (Q .span) ∙ ap (λ (k : ℕ). spanOf (Q .b) k (Q .e .own) .step) kind-is
-
-  step-two : Q .s .step ≤ 2
-  step-two = omega (arith, step-is, step-small (Q .b) (H Q) (Q .e .own))
+  onward-is : (place : ℕ) → place + Q .s .step / 2 ≡ onward (kindOf (H Q)) place
+  onward-is = held-onward (Q .ready) (Q .known) (Q .holds) (Q .e) (Q .entry) (Q .s) (Q .span)
 
   pub count-few : Q .s .count ≤ 16
   count-few = its-span .few
 
   one-is : (g : Bool) → g ≡ (eqb (Q .e .kind) 50 || eqb (Q .e .kind) 51) → isSingle (manner (H Q)) ≡ g
-  one-is g eg = sym (eg ∙ ap holdsOne kind-is ∙ one-kind (H Q) no-plain)
+  one-is g eg = sym (eg ∙ held-one (Q .ready) (Q .known) (Q .holds) (Q .e) (Q .entry))
 
   module _ (n : ℕ) (en : n ≡ nodeOf (Q .e .kind) (Q .s .count)) where
     node-total : n ≡ nodeSize (H Q)
-    node-total =
-        en ∙ ap (λ (k : ℕ). nodeOf k (Q .s .count)) kind-is ∙ ap (nodeOf (kindOf (H Q))) (its-span .count ∙ sym (count-is (H Q)))
-        ∙ node-is (H Q) (some-kind (H Q) no-plain)
+    node-total = en ∙ held-node (Q .ready) (Q .known) (Q .holds) (Q .e) (Q .entry) (Q .s) (Q .span)
 
     node-few : n ≤ 20
     node-few = omega (arith, node-total, node-small (H Q) few)
@@ -534,7 +434,7 @@ module _ {Q : Setting} {P : Turn Q} (X : Comes P) where
       omega (arith, F .place, F .low, length-drop (I P) (partsOf (H Q)), few Q)
 
   pub behind-few : X .place + Q .s .step / 2 ≤ 16
-  behind-few = omega (arith, place-few, step-two Q)
+  behind-few = omega (arith, place-few, onward-is Q (X .place), onward-most (kindOf (H Q)) (X .place))
 
   pub number-few : X .number < 128
   number-few = omega (arith, X .is .there, Q .ready .filled .few)
@@ -643,7 +543,7 @@ module _ {Q : Setting} {P : Turn Q} {X : Comes P} (Y : Valued X) where
             let y = one-is Q k ek ∙ z in
             let a : came′ ≡ noted (manner (H Q)) (P .came) (X .place) = notes-are (H Q) (P .came) (X .place) came′ (rw (← kind-is Q) ec) in
             let f : since (manner (H Q)) (X .place + Q .s .step / 2) ≡ following (manner (H Q)) (X .place) =
-            ap (λ (k : ℕ). since (manner (H Q)) (X .place + k / 2)) (step-is Q) ∙ follows (Q .b) (H Q) (Q .e .own) (X .place) in
+            ap (λ (k : ℕ). since (manner (H Q)) k) (onward-is Q (X .place)) ∙ since-onward (H Q) (X .place) in
             record {
               one = λ z. absurd (true≢false (sym z ∙ y));
               noted = ap length a ∙ noted-length (manner (H Q)) (P .came) (X .place) ∙ P .so-far .noted;

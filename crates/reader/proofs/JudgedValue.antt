@@ -292,9 +292,6 @@ module _ (b m : List ℕ) (n t : ℕ) (some : length m ≡ 0 → ⊥) (w : ℕ)
   message-refused c l d = rw (its-whole, told-refused m size Root y its-answer c l d) refl
 
   module _ (u i : ℕ) (d : y ≡ Done u i) where
-    pub message-end : u ≤ length m
-    message-end = let (v, s, x, f, g) = told-done m size Root y its-answer u i d in omega arith
-
     rest-length : (v : Value) (s : List ℕ) → Root ≡ got v s → length s ≤ length m
     rest-length v s x = go (got v s) (rw x at (held-sane (tableIn b) n (message t) closed m)) refl
       where

@@ -32,6 +32,7 @@ pub mod PlacedLevels
 pub mod PlacedWays
 pub mod PlacedSets
 pub mod PlacedSpots
+pub mod Held
 pub mod ItemsFound
 pub mod PlacedBegun
 pub mod PlacedLoop

@@ -1,4 +1,4 @@
--- Which part an item begins: what is accepted is begun, the part at hand is the first that is awaited, and a SET has one that is begun.
+-- What is accepted begins as its type does.
 -- Assumes nothing.
 use mathlib.Core.Bool.{true}
 use mathlib.Core.List.{List, [], _∷_}

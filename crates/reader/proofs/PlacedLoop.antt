@@ -21,13 +21,12 @@ use Rattle.ber.specs.Told.{mode}
 use Rattle.reader.specs.Items.{Holder, inside, manner, partsOf, Placed, since, Hand, next as nextPart, readItems, filled, assemble}
 use Rattle.reader.specs.Items.{nodeSize, blank}
 use Rattle.reader.specs.Ways.{wrapped}
-use Rattle.reader.specs.Placing.{kindOf, hasMembers, holdsOne, onward, notedIn, absentIn, finishedIn, said, wayOctets, countOf, nodeOf}
-use Rattle.reader.specs.Placing.{openingOf}
+use Rattle.reader.specs.Placing.{kindOf, hasMembers, holdsOne, onward, notedIn, absentIn, finishedIn, said, wayOctets}
 use Rattle.reader.specs.Placing.{endAt, Spotted}
 use Rattle.reader.specs.Placed.{Final}
 use Rattle.reader.proofs.ItemsKinds.{blank-clear}
 use Rattle.reader.proofs.ItemsSearch.{GoodHolder}
-use Rattle.reader.proofs.PlacedNodes.{Standing, stands-more, stands-absent, stands-elsewhere, stands-turn, opening-is, node-is}
+use Rattle.reader.proofs.PlacedNodes.{Standing, stands-more, stands-absent, stands-elsewhere, stands-turn}
 use Rattle.reader.proofs.PlacedTurns.{overAt, behindEnd, Placing, placing-first, placing-turn, placing-awaited, placing-room}
 use Rattle.reader.proofs.PlacedTurns.{placing-next, placing-one, placing-over, placing-end}
 use Rattle.reader.proofs.PlacedWays.{way-length, Inner, inner-under}
@@ -178,16 +177,14 @@ pub loop-first : {T : Table} {n : ℕ} {h : Holder} {b : Bool} {m : List ℕ} {a
     (end : ℕ) {buf : List ℕ} {next : ℕ}
     → (kindOf h ≡ 0 → ⊥)
     → readItems T (readValue T n) h (suc (length m)) 0 blank [] (mode b) m ≡ got all last → to + length (octets (assemble h all)) ≤ length first
-    → ((ms : List Member) → h ≡ inside (Set ms) → Spotted T ms b m ns end) → buf ≡ sets first to (openingOf (kindOf h) (countOf h))
-    → next ≡ to + nodeOf (kindOf h) (countOf h)
+    → ((ms : List Member) → h ≡ inside (Set ms) → Spotted T ms b m ns end) → buf ≡ sets first to (said h 0 [])
+    → next ≡ to + nodeSize h
     → Loop T n h b m all last ns first to buf 0 next 0 0
 unfolding assemble
 loop-first {T} {n} {h} {b} {m} {all} {last} ns {first} {to} end {buf} {next} kind W room L eb en =
-    let fb = rw (opening-is h kind) at eb in
-    let fn = rw (node-is h kind) at en in
     record {
-      arriving = λ other. placing-first kind other (length m) W room fb fn;
-      sorted = λ ms e. of-set ms (rw e at W) (rw e at room) (L ms e) (rw e at fb) (rw e at fn);
+      arriving = λ other. placing-first kind other (length m) W room eb en;
+      sorted = λ ms e. of-set ms (rw e at W) (rw e at room) (L ms e) (rw e at eb) (rw e at en);
       few = λ e. omega arith;
     }
   where

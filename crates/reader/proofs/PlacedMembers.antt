@@ -1,6 +1,6 @@
 -- The placing of the items in an entry's contents: what is known before its loop, and one law for each way through it.
 -- Assumes nothing.
-use mathlib.Core.Bool.{Bool, true, false, not, _||_, _&&_, true≢false}
+use mathlib.Core.Bool.{Bool, true, false, _||_, _&&_, true≢false}
 use mathlib.Core.List.{List, []}
 use mathlib.Core.Option.{Option, some, none}
 use mathlib.Core.Path.{_≡_, refl, sym, ap, _∙_}
@@ -9,19 +9,18 @@ use native.Mathlib.Omega.{arith}
 use native.Mathlib.Nat.{mul-comm}
 use borrow.Author.Tests.{eqb-true, eqb-false, ltb-true, ltb-false}
 use lib.Dec.{eqb, ltb}
-use lib.ListN.{length, getD, take, drop, length-append, length-drop, length-map}
+use lib.ListN.{length, getD, take, drop, length-append, length-drop}
 use lib.Seq.{sets, length-sets, length-take-le, getD-drop}
 use Rattle.octets.specs.Answer.{Answer, got, refused, then, if, none-left}
 use Rattle.octets.specs.Numbers.{Octets}
 use Rattle.octets.proofs.Answer.{refused≢got, got-value, got-rest, got-holds}
 use Rattle.octets.proofs.Tests.{test}
 use Rattle.ber.specs.Told.{mode}
-use Rattle.table.specs.Syntax.{Member, Body, Plain, Sequence, Set, SequenceOf, SetOf, Choice, Table, constructed}
+use Rattle.table.specs.Syntax.{Member, Plain, Sequence, Set, SequenceOf, SetOf, Choice, Table}
 use Rattle.table.specs.Octets.{kind}
 use Rattle.table.specs.Entries.{unpacked, spanOf, tableIn, countIn}
 use Rattle.table.specs.declared.entry.Entry.{Entry}
 use Rattle.table.specs.declared.entry.Span.{Span}
-use Rattle.table.proofs.Promises.{entered-kind}
 use Rattle.coding.specs.Value.{Value, octets}
 use Rattle.coding.specs.Value as Value-of
 use Rattle.coding.specs.Reading.{nothing, readValue}
@@ -29,14 +28,14 @@ use Rattle.coding.proofs.FirstTags.{good}
 use Rattle.coding.proofs.Refusals.{value-shorter}
 use Rattle.reader.specs.Codes.{firstOf, untagged}
 use Rattle.reader.specs.Items.{Holder, inside, message, manner, partsOf, Placed, since, Hand, next as nextPart, readItems, filled, assemble}
-use Rattle.reader.specs.Items.{optionals, nodeSize, blank, readHeld}
-use Rattle.reader.specs.Records.{Ready, Known, of-record, of-message, holderIn, readRecord}
+use Rattle.reader.specs.Items.{nodeSize, blank, readHeld}
+use Rattle.reader.specs.Records.{Ready, Known, readRecord}
 use Rattle.reader.specs.Sought.{held, Sound, Sought, tabledCount}
 use Rattle.reader.specs.Ways.{wrapped}
 use Rattle.reader.specs.declared.search.Choice.{Choice as Choice-found}
 use Rattle.reader.specs.declared.search.Found.the-variants.{Part}
 use Rattle.reader.specs.declared.place.Placed.{Placed as Spot}
-use Rattle.reader.specs.Placing.{kindOf, countOf, hasMembers, isList, holdsOne, onward, nodeOf, openingOf, absentIn, finishedIn, notedIn, said}
+use Rattle.reader.specs.Placing.{kindOf, hasMembers, holdsOne, onward, nodeOf, openingOf, absentIn, finishedIn, notedIn, said}
 use Rattle.reader.specs.Placing.{flags, wayOctets, endAt, Spotted}
 use Rattle.reader.specs.Placed.{Fits, Final, IsPlaced, heldIn, valueIn, ToPlaceValue, Following}
 use Rattle.reader.specs.Wraps.{Headed}
@@ -47,61 +46,15 @@ use Rattle.reader.proofs.Tagging.{record-is}
 use Rattle.reader.proofs.PlacedLevels.{kept-got, value-kept}
 use Rattle.reader.proofs.Finding.{good-held}
 use Rattle.reader.proofs.ItemsKinds.{blank-clear}
-use Rattle.reader.proofs.PlacedNodes.{slots-flags, nothing-is, row-length, members-size, opening-is, node-is}
+use Rattle.reader.proofs.PlacedNodes.{slots-flags, nothing-is, row-length, members-size}
 use Rattle.reader.proofs.PlacedTurns.{overAt}
 use Rattle.reader.proofs.PlacedLoop.{Loop, Comes, Goes, Ready as Prepared, ready-found, ready-node, ready-room, ready-placed}
 use Rattle.reader.proofs.PlacedLoop.{ready-further}
 use Rattle.reader.proofs.PlacedLoop.{loop-first, arriving-comes, arriving-over, sorted-comes, sorted-end}
 use Rattle.reader.proofs.PlacedTurns.{Placing}
 use Rattle.reader.proofs.PlacedSets.{Filling, filling-skip}
-use Rattle.reader.proofs.Spans.{Spanned, held-body, its as spanned-of}
-
--- the kind of an entry that is not simple
-body-kind : (y : Body) → not (constructed y) ≡ false → kindOf (inside y) ≡ kind y
-unfolding constructed kindOf kind
-body-kind (Plain k) e = absurd (true≢false e)
-body-kind (Sequence ms) e = refl
-body-kind (Set ms) e = refl
-body-kind (SequenceOf t) e = refl
-body-kind (SetOf t) e = refl
-body-kind (Choice ts) e = refl
-
-body-some : (y : Body) → not (constructed y) ≡ false → kindOf (inside y) ≡ 0 → ⊥
-unfolding constructed kindOf
-body-some (Plain k) e z = true≢false e
-body-some (Sequence ms) e z = omega arith
-body-some (Set ms) e z = omega arith
-body-some (SequenceOf t) e z = omega arith
-body-some (SetOf t) e z = omega arith
-body-some (Choice ts) e z = omega arith
-
-module _ {b index : List ℕ} (R : Ready b index) where
-  kind-held : (w : ℕ) → Known b index w → unpacked w .simple ≡ false → kindOf (held b w) ≡ unpacked w .kind
-  unfolding holderIn if kindOf
-  kind-held w (of-record t h q) e =
-      let x = R .filled .entered t h in
-      let f = rw q at e in
-      rw (q, held-body x (R .filled .short)) (body-kind (tableIn b t .body) (sym (x .simple) ∙ f) ∙ sym (entered-kind x))
-  kind-held w (of-message t h q) e = rw q refl
-
-  kind-some : (w : ℕ) → Known b index w → unpacked w .simple ≡ false → kindOf (held b w) ≡ 0 → ⊥
-  unfolding holderIn if kindOf
-  kind-some w (of-record t h q) e =
-      let x = R .filled .entered t h in
-      let f = rw q at e in
-      rw (q, held-body x (R .filled .short)) (body-some (tableIn b t .body) (sym (x .simple) ∙ f))
-  kind-some w (of-message t h q) e = rw q (λ z. omega arith)
-
--- how many parts the table has for it
-count-is : (h : Holder) → tabledCount h ≡ countOf h
-unfolding tabledCount countOf partsOf
-count-is (inside (Plain k)) = refl
-count-is (inside (Sequence ms)) = refl
-count-is (inside (Set ms)) = refl
-count-is (inside (SequenceOf t)) = refl
-count-is (inside (SetOf t)) = refl
-count-is (inside (Choice ts)) = length-map ts _
-count-is (message t) = refl
+use Rattle.reader.proofs.Held.{held-kind, held-kinded, held-span, held-few, held-node, held-opening, held-onward, onward-most}
+use Rattle.reader.proofs.Spans.{Spanned}
 
 set-is : (h : Holder) → kindOf h ≡ 17 → (ms : List Member) × (h ≡ inside (Set ms))
 unfolding kindOf
@@ -113,14 +66,9 @@ set-is (inside (SetOf t)) e = absurd (omega arith)
 set-is (inside (Choice ts)) e = absurd (omega arith)
 set-is (message t) e = absurd (omega arith)
 
-count-parts : (h : Holder) → holdsOne (kindOf h) ≡ false → countOf h ≡ length (partsOf h)
-unfolding kindOf countOf partsOf
-count-parts (inside (Plain k)) e = refl
-count-parts (inside (Sequence ms)) e = refl
-count-parts (inside (Set ms)) e = refl
-count-parts (inside (SequenceOf t)) e = refl
-count-parts (inside (SetOf t)) e = refl
-count-parts (inside (Choice ts)) e = absurd (true≢false e)
+count-parts : (h : Holder) → holdsOne (kindOf h) ≡ false → tabledCount h ≡ length (partsOf h)
+unfolding kindOf tabledCount
+count-parts (inside y) e = refl
 count-parts (message t) e = absurd (true≢false e)
 
 -- the node of elements
@@ -144,32 +92,9 @@ choice-node (inside (SetOf t)) e = absurd (omega arith)
 choice-node (inside (Choice ts)) e = refl
 choice-node (message t) e = absurd (omega arith)
 
-few-parts : (h : Holder) → countOf h ≤ 16 → length (partsOf h) ≤ 16
-unfolding countOf partsOf
-few-parts (inside (Plain k)) l = omega arith
-few-parts (inside (Sequence ms)) l = l
-few-parts (inside (Set ms)) l = l
-few-parts (inside (SequenceOf t)) l = omega arith
-few-parts (inside (SetOf t)) l = omega arith
-few-parts (inside (Choice ts)) l = let z : length (optionals ts) ≡ length ts = length-map ts _ in omega arith
-few-parts (message t) l = omega arith
-
 -- the octet at a place
 first-at : (m : List ℕ) (at : ℕ) → getD (drop at m) 0 0 ≡ getD m at 0
 first-at m at = getD-drop at m 0 0 ∙ ap (λ (i : ℕ). getD m i 0) (omega arith)
-
--- behind a part
-onward-is : (b : List ℕ) (k p place : ℕ) → place + spanOf b k p .step / 2 ≡ onward k place
-unfolding spanOf onward if
-onward-is b k p place =
-    test (hasMembers k)
-    (λ c. rw c (omega arith))
-    λ c. test (eqb k 50) (λ d. rw (c, d) (omega arith)) λ d.
-    test (isList k) (λ f. rw (c, d, f) (omega arith)) λ f. rw (c, d, f) (omega arith)
-
-onward-most : (k p : ℕ) → onward k p ≤ suc p
-unfolding onward if
-onward-most k p = test (hasMembers k) (λ c. rw c (omega arith)) λ c. rw c (omega arith)
 
 set-onward : (k p : ℕ) → k ≡ 17 → onward k p ≡ suc p
 unfolding onward if
@@ -229,10 +154,10 @@ module _ {b index : List ℕ} {w : ℕ} {m : List ℕ} {marked : Bool} {first : 
   T = tableIn b
 
   pub its-kind : e .kind ≡ kindOf H
-  its-kind = ap (λ (x : Entry). x .kind) (G .entry) ∙ sym (kind-held (G .ready) w (G .known) (G .holds))
+  its-kind = held-kind (G .ready) (G .known) (G .holds) e (G .entry)
 
   its-some : kindOf H ≡ 0 → ⊥
-  its-some = kind-some (G .ready) w (G .known) (G .holds)
+  its-some = held-kinded (G .ready) (G .known) (G .holds)
 
   -- all the items
   pub record Items : Type 0 where
@@ -251,22 +176,25 @@ module _ {b index : List ℕ} {w : ℕ} {m : List ℕ} {marked : Bool} {first : 
       go (refused c l) q f = refused≢got f
 
   its-spanned : Spanned b H (unpacked w .kind) s
-  its-spanned = spanned-of (G .ready) w (G .known) s (G .span ∙ ap (λ (x : Entry). spanOf b (x .kind) (x .own)) (G .entry))
+  its-spanned = held-span (G .ready) (G .known) (G .holds) e (G .entry) s (G .span)
 
-  its-count : s .count ≡ countOf H
-  its-count = its-spanned .count ∙ count-is H
+  its-count : s .count ≡ tabledCount H
+  its-count = its-spanned .count
+
+  parts-few : length (partsOf H) ≤ 16
+  parts-few = held-few (G .ready) (G .known) (G .holds) e (G .entry) s (G .span)
 
   pub its-few : s .count ≤ 16
   its-few = its-spanned .few
 
   its-onward : (place : ℕ) → place + s .step / 2 ≡ onward (kindOf H) place
-  its-onward place = rw (G .span, ← its-kind) (onward-is b (e .kind) (e .own) place)
+  its-onward = held-onward (G .ready) (G .known) (G .holds) e (G .entry) s (G .span)
 
   its-node : nodeOf (e .kind) (s .count) ≡ nodeSize H
-  its-node = rw (its-kind, its-count) (node-is H its-some)
+  its-node = held-node (G .ready) (G .known) (G .holds) e (G .entry) s (G .span)
 
   its-opening : openingOf (e .kind) (s .count) ≡ said H 0 []
-  its-opening = rw (its-kind, its-count) (opening-is H its-some)
+  its-opening = held-opening (G .ready) (G .known) (G .holds) e (G .entry) s (G .span)
 
   its-room : to + length (octets (assemble H (items .all))) ≤ length first
   its-room = rw (items .value) (G .fits .room)
@@ -310,7 +238,7 @@ module _ {b index : List ℕ} {w : ℕ} {m : List ℕ} {marked : Bool} {first : 
   state-first next en =
       let G = X .given in
       loop-first ns last (its-some G) (items G .read) (its-room G) (X .spotted)
-      (rw (its-kind G, its-count G) at (X .opening)) (rw (its-kind G, its-count G) at en)
+      (X .opening ∙ ap (sets first to) (its-opening G)) (en ∙ ap (λ (k : ℕ). to + k) (its-node G))
 
   module _ {buf : List ℕ} {at next j count : ℕ} (L : State buf at next j count) where
     -- a SET
@@ -319,8 +247,8 @@ module _ {b index : List ℕ} {w : ℕ} {m : List ℕ} {marked : Bool} {first : 
       its-set = set-is (held b w) (sym (its-kind (X .given)) ∙ k17)
 
       set-count : s .count ≡ length (its-set .0)
-      unfolding countOf
-      set-count = its-count (X .given) ∙ ap countOf (its-set .1)
+      unfolding tabledCount partsOf
+      set-count = its-count (X .given) ∙ ap tabledCount (its-set .1)
 
       its-filling : Filling (tableIn b) 24 (its-set .0) m ns (filled All (nothing (its-set .0))) first to buf next j
       its-filling = L .sorted (its-set .0) (its-set .1)
@@ -575,16 +503,13 @@ module _ {b index : List ℕ} {w : ℕ} {m : List ℕ} {marked : Bool} {first : 
           λ c. let z = members-size (held b w) (rw k at c) in omega arith,
           λ c.
               let z = choice-node (held b w) (sym k ∙ c) in
-              let q = its-count G in
-              (omega arith, omega (arith, few-parts (held b w) (omega (arith, its-few G)))),
+              (omega arith, omega (arith, parts-few G)),
         )
 
     pub chosen-onward : place + s .step / 2 ≤ 16
     chosen-onward =
         let G = X .given in
-        let q = its-count G in
-        rw (its-onward G place)
-        (omega (arith, onward-most (kindOf (held b w)) place, R .prepared .most, few-parts (held b w) (omega (arith, its-few G))))
+        rw (its-onward G place) (omega (arith, onward-most (kindOf (held b w)) place, R .prepared .most, parts-few G))
 
     module _ {buf₁ : List ℕ} (e₁ : buf₁ ≡ notedIn (e .kind) place buf to) where
       its-noted : buf₁ ≡ notedIn (kindOf (held b w)) place buf to

@@ -12,7 +12,7 @@ use Rattle.octets.specs.declared.cause.Cause.{Cause}
 use Rattle.octets.specs.declared.cause.Cause.the-variants.{NotAwaited}
 use Rattle.octets.specs.Answer.{Answer, got, refused, then, if, none-left}
 use Rattle.octets.specs.Permutations.{as-given}
-use Rattle.octets.proofs.Answer.{Holds, Taken, got-holds, refused≢got, got-rest}
+use Rattle.octets.proofs.Answer.{Holds, Taken, got-holds}
 use Rattle.ber.specs.Reading.{Mode, closed, open-ended, readIdentifier}
 use Rattle.ber.specs.Reading.{atEnd}
 use Rattle.ber.specs.Told.{toldIdentifier}
@@ -148,12 +148,3 @@ module _ (T : Table) (n : ℕ) (h : Holder) where
   pub held-sane : (e : Mode) (s : List ℕ) → Sane (Closes e) s (readHeld T (readValue T n) h e s)
   unfolding readHeld
   held-sane e s = sane-then s (items-sane (suc (length s)) 0 blank [] e s) λ hand u t q. leaves t q
-
--- what is read of closed contents that hold more items than one leaves nothing
-pub held-closed : (T : Table) (n : ℕ) (h : Holder) → isSingle (manner h) ≡ false → (s : List ℕ) (v : Value) (u : List ℕ)
-    → readHeld T (readValue T n) h closed s ≡ got v u → u ≡ []
-held-closed T n h many s v u e = go (got v u) (rw e at (held-sane T n h closed s)) refl
-  where
-    go : (x : Answer Value) → Sane (Closes T n h closed) s x → x ≡ got v u → u ≡ []
-    go (got a r) (leaves i p) q = sym (got-rest q) ∙ p many refl
-    go (refused c l) i q = refused≢got q
