@@ -3,26 +3,26 @@
 use borrow.Author.Tests.{ltb-true, ltb-false}
 use lib.Dec.{ltb}
 use lib.ListN.{length, getD, set}
-use mathlib.Core.List.{List, [], _∷_}
+use mathlib.Core.List.{List}
 use mathlib.Core.Path.{_≡_, refl, sym, ap, _∙_}
 use native.Mathlib.Numerals.{add-one}
 use native.Mathlib.Omega.{arith}
 use Prim.Native.Nat.{ℕ, zero, suc, _+_, _-_, _*_, _/_, _%_, _≤_, _<_}
 use Rattle.octets.proofs.Members.{place-in}
 use Rattle.octets.proofs.Tests.{test}
-use Rattle.table.specs.Syntax.{Choice, Record, Table, references}
+use Rattle.table.specs.Syntax.{Record, Table, references}
 use Rattle.table.specs.Rules.{parts}
 use Rattle.table.specs.Reading.{everyAt}
-use Rattle.table.specs.Entries.{unpacked, counted, tableIn, countIn, Entered}
+use Rattle.table.specs.Entries.{unpacked, counted, tableIn, countIn}
 use Rattle.table.specs.declared.entry.Span.{Span}
 use Rattle.table.proofs.Promises.{entered-choice}
-use Rattle.reader.specs.Codes.{firstOf, untagged, searchIn}
-use Rattle.reader.specs.Ways.{Leads, here}
+use Rattle.reader.specs.Codes.{firstOf, untagged}
+use Rattle.reader.specs.Ways.{here}
 use Rattle.reader.specs.Records.{Ready, Finds}
-use Rattle.reader.specs.declared.search.Under.{Under}
 use Rattle.reader.specs.declared.search.Under.the-variants.{Nothing, At}
 use Rattle.reader.proofs.Begun.{Fit, bare, fit, nested, nested-all}
-use Rattle.reader.proofs.ItemsWay.{Looking, look-first, look-found, look-down, look-next, look-none, look-back, look-above, look-deep, turnsLeft, fewer-down, fewer-next, fewer-back, search-here, search-other}
+use Rattle.reader.proofs.ItemsWay.{Looking, look-first, look-found, look-down, look-next, look-none, look-back, look-above, look-deep}
+use Rattle.reader.proofs.ItemsWay.{turnsLeft, fewer-down, fewer-next, fewer-back, search-here, search-other}
 
 every-at : (b : List ℕ) (p n j : ℕ) → j < n → getD (everyAt 1 b p n) j 0 ≡ getD b (p + j) 0
 unfolding everyAt
@@ -75,7 +75,9 @@ module _ {b ix : List ℕ} (R : Ready b ix) where
       let y = bare (T x) (F x) e in
       let a = getD (parts (T x .body)) j 0 in
       test (ltb a (countIn b)) (λ z. ltb-true a (countIn b) z)
-      λ z. absurd (R .passes .there x h (record { number = a; named = rw (y .is) (rw (y .is) at (place-in (parts (T x .body)) j 0 k)); beyond = ltb-false a (countIn b) z }))
+      λ z.
+      absurd (R .passes .there x h
+      (record { number = a; named = rw (y .is) (rw (y .is) at (place-in (parts (T x .body)) j 0 k)); beyond = ltb-false a (countIn b) z }))
 
   above-low : (x j : ℕ) → j < length (parts (T x .body)) → x < countIn b
   unfolding parts
@@ -145,7 +147,8 @@ module _ {b ix : List ℕ} (R : Ready b ix) where
             rw add-one
             (record {
               looking =
-                  look-next T F (nested-all b T (countIn b) (R .passes)) code not-tag way t d x j (S .looking) within (next .few) room-way (λ z. e (its-first ∙ z)) (λ z. g (its-first ∙ z));
+                  look-next T F (nested-all b T (countIn b) (R .passes)) code not-tag way t d x j (S .looking) within
+                  (next .few) room-way (λ z. e (its-first ∙ z)) (λ z. g (its-first ∙ z));
               low = S .low;
               deep = S .deep;
             })

@@ -1,26 +1,24 @@
 -- The code of an identifier stands for it: what begins a type is what the search finds under it, and the search goes step by step.
 -- Assumes nothing.
-use borrow.Author.Tests.{eqb-true, eqb-false, eq-eqb, ne-eqb, ltb-true, ltb-false, leb-true}
+use borrow.Author.Tests.{eqb-true, eqb-false, ne-eqb, ltb-true, ltb-false, leb-true}
 use lib.Dec.{ltb, leb, eqb}
-use lib.ListN.{length}
-use mathlib.Core.Bool.{Bool, true, false, not, _||_, true≢false, false≢true}
-use mathlib.Core.List.{List, [], _∷_, map, List·Memᴰ as In, List·Memᴰ·head, List·Memᴰ·tail, List·Memᴰ·not-nil}
+use mathlib.Core.Bool.{Bool, true, false, not, _||_, false≢true}
+use mathlib.Core.List.{List, [], _∷_, List·Memᴰ as In, List·Memᴰ·head, List·Memᴰ·tail, List·Memᴰ·not-nil}
 use mathlib.Core.Path.{_≡_, refl, sym, ap, _∙_}
 use native.Mathlib.Omega.{arith}
-use Prim.Native.Nat.{ℕ, zero, suc, _+_, _*_, _≤_, _<_}
+use Prim.Native.Nat.{ℕ, zero, suc, _≤_, _<_}
 use Rattle.octets.specs.Answer.{Answer, got, refused, if}
 use Rattle.octets.specs.Lists.{any, all, same}
 use Rattle.octets.specs.Numbers.{Octets}
 use Rattle.octets.proofs.Lists.{both}
 use Rattle.octets.proofs.Tests.{test}
-use Rattle.ber.specs.Identifier.{bit}
 use Rattle.ber.specs.Reading.{readIdentifier}
 use Rattle.ber.specs.Codes.{code, codeOf}
 use Rattle.ber.proofs.Codes.{bit-small, code-short, code-long, read-code-small, code-same}
 use Rattle.table.specs.Syntax.{Tag, Body, Plain, Sequence, Set, SequenceOf, SetOf, Choice, Record, Table, isChoice, constructed}
-use Rattle.table.specs.Rules.{tagsBelow, bodyBelow, below, parts, Mistagged, missing}
+use Rattle.table.specs.Rules.{tagsBelow, bodyBelow, below, parts, missing}
 use Rattle.table.specs.Passes.{Nested, Passes}
-use Rattle.table.specs.Entries.{more, outermostCode, firstCode}
+use Rattle.table.specs.Entries.{more, outermostCode}
 use Rattle.table.proofs.Promises.{shaped-classes}
 use Rattle.coding.specs.Tags.{identifierOf, last, before, explicitTags, own, explicit}
 use Rattle.coding.specs.Awaited.{beginsBody, beginsItem, beginsIn, begins}
@@ -154,7 +152,8 @@ module _ (T : Table) (F : (t : ℕ) → Fit (T t)) where
   search-nothing : (k t : ℕ) → hit (searchIn T k t none) ≡ false
   unfolding searchIn
   search-nothing zero t = refl
-  search-nothing (suc k) t = step-none t (λ a. hit (searchIn T k a none)) (λ a. searchIn T k a none) (λ a. refl) (λ a. search-nothing k a) (T t .tags) (T t .body) (F t .fine)
+  search-nothing (suc k) t = step-none t (λ a. hit (searchIn T k a none)) (λ a. searchIn T k a none) (λ a. refl)
+      (λ a. search-nothing k a) (T t .tags) (T t .body) (F t .fine)
 
   pub begun-hit : (t : ℕ) (s : List ℕ) → Octets s → begun T t s ≡ hit (searchIn T 129 t (peeked (readIdentifier s)))
   unfolding begun passes begins peeked

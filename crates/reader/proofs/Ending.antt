@@ -2,7 +2,7 @@
 -- Assumes nothing.
 use borrow.Author.Tests.{eqb-true, eqb-false}
 use lib.Dec.{eqb}
-use lib.ListN.{length, getD, drop}
+use lib.ListN.{getD, drop}
 use mathlib.Core.Bool.{Bool, true, false, not, _||_, true≢false, false≢true}
 use mathlib.Core.List.{List, [], _∷_}
 use mathlib.Core.Path.{_≡_, refl, sym, ap, _∙_}
@@ -14,12 +14,12 @@ use Rattle.octets.specs.Lists.{any}
 use Rattle.octets.proofs.Tests.{test}
 use Rattle.ber.specs.declared.ending.End.{End}
 use Rattle.ber.specs.declared.ending.End.the-variants.{More, Over as EndsAt, Broken}
-use Rattle.table.specs.Syntax.{Simple, Body, Plain, Sequence, Set, SequenceOf, SetOf, Choice, constructed}
+use Rattle.table.specs.Syntax.{Body, Plain, Sequence, Set, SequenceOf, SetOf, Choice, constructed}
 use Rattle.table.specs.Octets.{kind}
-use Rattle.table.specs.Entries.{unpacked, tableIn, countIn}
+use Rattle.table.specs.Entries.{unpacked, tableIn}
 use Rattle.table.specs.declared.entry.Entry.{Entry}
 use Rattle.table.proofs.Promises.{entered-kind}
-use Rattle.reader.specs.Items.{Holder, inside, message, manner, isSingle, partsOf, optionals, pending, left, lacks}
+use Rattle.reader.specs.Items.{Holder, inside, message, manner, isSingle, partsOf, optionals, pending, lacks}
 use Rattle.reader.specs.Records.{Ready, Known, of-record, of-message, holderIn}
 use Rattle.reader.specs.Sought.{held, Sound}
 use Rattle.reader.specs.Standing.{atEnding, standing}

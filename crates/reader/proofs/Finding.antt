@@ -4,15 +4,15 @@ use borrow.Author.Tests.{eqb-true}
 use lib.Dec.{eqb}
 use lib.ListN.{length, getD, drop}
 use lib.Seq.{drop-drop}
-use mathlib.Core.Bool.{Bool, true, false, not, true≢false}
+use mathlib.Core.Bool.{Bool, true, false}
 use mathlib.Core.List.{List, [], _∷_}
 use mathlib.Core.Option.{Option, some, none}
 use mathlib.Core.Path.{_≡_, refl, sym, ap, _∙_}
 use native.Mathlib.Omega.{arith}
-use Prim.Native.Nat.{ℕ, zero, suc, _+_, _*_, _≤_, _<_}
+use Prim.Native.Nat.{ℕ, suc, _+_, _*_, _≤_, _<_}
 use Rattle.octets.specs.declared.cause.Cause.{Cause}
 use Rattle.octets.specs.declared.cause.Cause.the-variants.{NotAwaited}
-use Rattle.octets.specs.Answer.{Answer, got, refused, if, then}
+use Rattle.octets.specs.Answer.{got, refused, if, then}
 use Rattle.octets.specs.Numbers.{Octets}
 use Rattle.octets.proofs.Tests.{test}
 use Rattle.ber.specs.Codes.{codeOf}
@@ -26,13 +26,12 @@ use Rattle.table.specs.Syntax.{Member, Table}
 use Rattle.table.specs.Entries.{unpacked, spanOf, tableIn, countIn}
 use Rattle.table.specs.declared.entry.Entry.{Entry}
 use Rattle.table.specs.declared.entry.Span.{Span}
-use Rattle.coding.specs.Awaited.{begins}
 use Rattle.coding.specs.Reading.{passes, begun, notAwaited}
 use Rattle.coding.proofs.FirstTags.{good}
-use Rattle.reader.specs.Codes.{firstOf, untagged, peeked, searchIn, hit}
-use Rattle.reader.specs.Items.{Holder, inside, message, Manner, in-turn, each-once, manner, partsOf, Placed, awaits, remains, since, isSingle, first, next}
+use Rattle.reader.specs.Codes.{firstOf, untagged, peeked}
+use Rattle.reader.specs.Items.{Holder, manner, partsOf, Placed, awaits, remains, isSingle, first, next}
 use Rattle.reader.specs.Records.{Ready, Known, of-record, of-message, holderIn, Finds}
-use Rattle.reader.specs.Sought.{held, Sound, placeOf, tabled, tabledCount, direct, unfit, unfitCause, Indirect, Sought}
+use Rattle.reader.specs.Sought.{held, Sound, placeOf, tabledCount, direct, unfit, unfitCause, Indirect, Sought}
 use Rattle.reader.specs.Ways.{here}
 use Rattle.reader.specs.declared.search.Found.{Found}
 use Rattle.reader.specs.declared.search.Found.the-variants.{Part, Refused}

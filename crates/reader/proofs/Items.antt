@@ -2,21 +2,20 @@
 -- Assumes nothing.
 use borrow.Author.Tests.{eq-eqb, ne-eqb, eqb-true, eqb-false}
 use lib.Dec.{eqb}
-use lib.ListN.{length, getD, drop, set as setAt}
-use lib.Seq.{drop-drop, getD-drop, getD-set-same, getD-set-other}
-use mathlib.Core.Bool.{Bool, true, false, not, true≢false, false≢true}
+use lib.ListN.{length, getD, drop}
+use lib.Seq.{drop-drop}
+use mathlib.Core.Bool.{Bool, true, false}
 use mathlib.Core.List.{List, [], _∷_, _++_}
 use mathlib.Core.Option.{Option, some, none}
 use mathlib.Core.Path.{_≡_, refl, sym, ap, _∙_}
-use native.Mathlib.Nat.{add-zero}
 use native.Mathlib.Numerals.{add-one}
 use native.Mathlib.Omega.{arith}
 use Prim.Native.Nat.{ℕ, zero, suc, _+_, _-_, _≤_, _<_}
+use Rattle.octets.specs.declared.cause.Cause.{Cause}
 use Rattle.octets.specs.declared.cause.Cause.the-variants.{Cut, Form, NotAwaited, Trailing}
 use Rattle.octets.specs.Answer.{Answer, got, refused, then, if, none-left}
-use Rattle.octets.specs.Lists.{any}
 use Rattle.octets.proofs.Answer.{Holds}
-use Rattle.octets.proofs.Tests.{test, or-false}
+use Rattle.octets.proofs.Tests.{test}
 use Rattle.ber.specs.Reading.{readIdentifier, Mode, closed, open-ended, atEnd}
 use Rattle.table.specs.Syntax.{Member, Table}
 use Rattle.coding.specs.Value.{Value}
@@ -24,7 +23,8 @@ use Rattle.coding.specs.Reading.{passes, begun, notAwaited}
 use Rattle.coding.specs.Awaited.{begins}
 use Rattle.coding.proofs.FirstTags.{Good, Proper, proper-begun}
 use Rattle.coding.proofs.Complete.{never}
-use Rattle.reader.specs.Items.{Holder, Manner, in-turn, each-once, repeated, single, manner, partsOf, Placed, pending, upToMandatory, within, left, awaits, some-of, remains, lacks, following, noted, isSingle, first, Hand, readPart, next, readItems}
+use Rattle.reader.specs.Items.{Holder, Manner, in-turn, each-once, repeated, single, manner, partsOf, Placed, pending, upToMandatory, within}
+use Rattle.reader.specs.Items.{left, awaits, remains, lacks, following, noted, isSingle, first, Hand, readPart, next, readItems}
 
 -- lists
 pub drop-tail : {A : Type 0} (l : List A) (j : ℕ) (x : A) (w : List A) → drop j l ≡ x ∷ w → drop (suc j) l ≡ w
@@ -59,7 +59,7 @@ module _ {A : Type 0} where
 abbrev pub Over : Mode → List ℕ → List ℕ → Type 1
 Over mode s u = (A : Type 0) (f : List ℕ → Answer A) (x : Unit {0} → Answer A) → atEnd mode s f x ≡ f u
 
-abbrev pub Broken : Mode → List ℕ → ℕ → ℕ → Type 1
+abbrev pub Broken : Mode → List ℕ → Cause → ℕ → Type 1
 Broken mode s c l = (A : Type 0) (f : List ℕ → Answer A) (x : Unit {0} → Answer A) → atEnd mode s f x ≡ refused c l
 
 abbrev pub More : Mode → List ℕ → Type 1
@@ -75,7 +75,7 @@ Shortens r = (t : ℕ) (s : List ℕ) → Holds (λ v u. length u < length s) (r
 -- where contents may end: no octet is left or the next one is 00, and no item begins; else items go on
 pub data Ending (mode : Mode) (s : List ℕ) : Type 1 where
   over : (u : List ℕ) → getD s 0 0 ≡ 0 → Over mode s u → Ending mode s
-  broken : (c l : ℕ) → getD s 0 0 ≡ 0 → Broken mode s c l → Ending mode s
+  broken : (c : Cause) (l : ℕ) → getD s 0 0 ≡ 0 → Broken mode s c l → Ending mode s
   more : (More mode s) → Ending mode s
 
 pub ending : (mode : Mode) (s : List ℕ) → Ending mode s
@@ -205,7 +205,7 @@ module _ (T : Table) (r : ℕ → List ℕ → Answer Value) (h : Holder) (k j :
     single-unawaited e = rw (one, e) (unawaited-on s (λ x s₁. got (hand ++ (x ∷ [])) s₁))
 
     module _ (x : Placed) (e : next T h j came s ≡ some x) where
-      pub single-refused : (c l : ℕ) → r (x .1 .type) s ≡ refused c l → Whole ≡ refused c l
+      pub single-refused : (c : Cause) (l : ℕ) → r (x .1 .type) s ≡ refused c l → Whole ≡ refused c l
       unfolding readItems if readPart then
       single-refused c l d = rw (one, e, d) refl
 
@@ -224,7 +224,7 @@ module _ (T : Table) (r : ℕ → List ℕ → Answer Value) (h : Holder) (k j :
       unfolding readItems if
       items-lacking e = rw (many, end, e) refl
 
-    pub items-broken : (c l : ℕ) → Broken mode s c l → Whole ≡ refused c l
+    pub items-broken : (c : Cause) (l : ℕ) → Broken mode s c l → Whole ≡ refused c l
     unfolding readItems if
     items-broken c l end = rw (many, end) refl
 
@@ -240,7 +240,7 @@ module _ (T : Table) (r : ℕ → List ℕ → Answer Value) (h : Holder) (k j :
         items-unawaited e = rw (many, end, some-left, e) (unawaited-on s _)
 
         module _ (x : Placed) (e : next T h j came s ≡ some x) where
-          pub items-refused : (c l : ℕ) → r (x .1 .type) s ≡ refused c l → Whole ≡ refused c l
+          pub items-refused : (c : Cause) (l : ℕ) → r (x .1 .type) s ≡ refused c l → Whole ≡ refused c l
           unfolding readItems if readPart then
           items-refused c l d = rw (many, end, some-left, e, d) refl
 

@@ -1,27 +1,28 @@
 -- The members of a SET, put where they belong one by one, are read item by item.
 -- Assumes nothing.
-use borrow.Author.Tests.{eq-eqb, ne-eqb}
-use lib.Dec.{eqb}
-use lib.ListN.{length, getD, drop, set as setAt, length-set}
+use lib.ListN.{length, getD, set as setAt, length-set}
 use lib.Seq.{getD-set-same, getD-set-other}
-use mathlib.Core.Bool.{Bool, true, false, not, _||_, _&&_}
+use mathlib.Core.Bool.{Bool, true, false, not}
 use mathlib.Core.List.{List, [], _∷_, _++_}
 use mathlib.Core.Option.{Option, some, none}
-use mathlib.Core.Path.{_≡_, refl, sym, ap, subst, _∙_}
-use native.Mathlib.Nat.{add-zero}
+use mathlib.Core.Path.{_≡_, refl, sym, ap, _∙_}
 use native.Mathlib.Omega.{arith}
 use Prim.Native.Nat.{ℕ, zero, suc, _+_, _-_, _≤_, _<_}
+use Rattle.octets.specs.declared.cause.Cause.{Cause}
 use Rattle.octets.specs.declared.cause.Cause.the-variants.{Trailing}
 use Rattle.octets.specs.Answer.{Answer, got, refused, then, if}
 use Rattle.octets.specs.Lists.{any}
 use Rattle.octets.proofs.Tests.{test}
-use Rattle.ber.specs.Reading.{Mode, atEnd}
+use Rattle.ber.specs.Reading.{Mode}
 use Rattle.table.specs.Syntax.{Member, Set, Table}
 use Rattle.coding.specs.Value.{Value}
 use Rattle.coding.specs.Encodes.{allowed}
 use Rattle.coding.specs.Reading.{begun, notAwaited, nothing, full, place, readSet}
-use Rattle.reader.specs.Items.{Holder, inside, each-once, manner, partsOf, Placed, pending, within, some-of, following, noted, isSingle, first, Hand, readItems, filled}
-use Rattle.reader.proofs.Items.{Over, Broken, More, Clear, then-same, then-then, first-hit, first-miss, Ending, over, broken, more, ending, unawaited-on, pending-free, pending-come, IfFound, Found, found-of, pending-found, awaits-found, items-over, items-lacking, items-broken, items-full, items-unawaited, items-refused, items-turn}
+use Rattle.reader.specs.Items.{Holder, inside, manner, partsOf, Placed, pending, within, some-of, following, noted, isSingle, first, Hand}
+use Rattle.reader.specs.Items.{readItems, filled}
+use Rattle.reader.proofs.Items.{Over, Broken, More, Clear, then-same, then-then, Ending, over, broken, more, ending, unawaited-on}
+use Rattle.reader.proofs.Items.{pending-free, pending-come, IfFound, Found, found-of, pending-found, awaits-found, items-over, items-lacking}
+use Rattle.reader.proofs.Items.{items-broken, items-full, items-unawaited, items-refused, items-turn}
 use Rattle.reader.proofs.ItemsInTurn.{filled-snoc}
 
 -- 0 is noted from place k on for those members that are missing
@@ -131,7 +132,7 @@ module _ (T : Table) (r : ℕ → List ℕ → Answer Value) (ms : List Member) 
         (λ e. rw (end, allowed-marked came d, e, items-lacking T r H k 0 came hand mode s refl u end e) refl)
         λ e. rw (end, allowed-marked came d, e, items-over T r H k 0 came hand mode s refl u end e) refl
 
-    at-broken : (c l : ℕ) → Broken mode s c l → readSet T r (suc k) ms (Slots hand) mode s ≡ Result (suc k) came hand s
+    at-broken : (c : Cause) (l : ℕ) → Broken mode s c l → readSet T r (suc k) ms (Slots hand) mode s ≡ Result (suc k) came hand s
     unfolding readSet isSingle manner then
     at-broken c l end = rw (end, items-broken T r H k 0 came hand mode s refl c l end) refl
 

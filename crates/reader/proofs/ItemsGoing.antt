@@ -1,29 +1,25 @@
 -- The loop over items, by ways out: what holds before each item, and what it gives where the contents end, where an item is refused, and where one more is read.
 -- Assumes nothing.
 use lib.ListN.{length, drop, length-drop}
-use mathlib.Core.Bool.{Bool, true, false, not}
+use mathlib.Core.Bool.{true, false}
 use mathlib.Core.List.{List, [], _∷_, _++_}
-use mathlib.Core.Option.{Option, some, none}
+use mathlib.Core.Option.{some, none}
 use mathlib.Core.Path.{_≡_, refl, sym, ap, _∙_}
 use native.Mathlib.Omega.{arith}
-use Prim.Native.Nat.{ℕ, zero, suc, _+_, _-_, _*_, _≤_, _<_}
+use Prim.Native.Nat.{ℕ, suc, _+_, _-_, _≤_, _<_}
+use Rattle.octets.specs.declared.cause.Cause.{Cause}
 use Rattle.octets.specs.declared.cause.Cause.the-variants.{NotAwaited, Trailing}
-use Rattle.octets.specs.Answer.{Answer, got, refused, then, if}
+use Rattle.octets.specs.Answer.{Answer, got, refused, then}
 use Rattle.ber.specs.Reading.{Mode}
 use Rattle.table.specs.Syntax.{Table}
 use Rattle.coding.specs.Value.{Value, octets}
 use Rattle.coding.specs.Reading.{begun, notAwaited}
 use Rattle.reader.specs.Answers.{cap}
-use Rattle.reader.specs.Items.{Holder, Manner, in-turn, each-once, repeated, single, manner, partsOf, Placed, remains, lacks, since, following, noted, isSingle, next, Hand, readItems, assemble, nodeSize, sizesOf, blank, readHeld}
-use Rattle.reader.proofs.Items.{Over, Broken, More, unawaited-on, found-of, awaits-found, items-over, items-lacking, items-broken, items-full, items-unawaited, items-refused, items-turn, single-unawaited, single-refused, single-done}
+use Rattle.reader.specs.Items.{Holder, Manner, in-turn, each-once, repeated, single, manner, partsOf, Placed, remains, lacks, since, following}
+use Rattle.reader.specs.Items.{noted, isSingle, next, Hand, readItems, assemble, nodeSize, sizesOf, blank, readHeld}
+use Rattle.reader.proofs.Items.{Over, Broken, More, unawaited-on, found-of, awaits-found, items-over, items-lacking, items-broken, items-full}
+use Rattle.reader.proofs.Items.{items-unawaited, items-refused, items-turn, single-unawaited, single-refused, single-done}
 use Rattle.reader.proofs.ItemsSizes.{SoFar, sofar-none, sofar-over, sofar-one, sofar-turn, sizes-snoc, assemble-size, isPlain}
-
-pub since-following : (w : Manner) (p : ℕ) → since w (p + 1) ≡ following w p
-unfolding since following
-since-following in-turn p = omega arith
-since-following each-once p = refl
-since-following repeated p = refl
-since-following single p = refl
 
 pub since-first : (w : Manner) → since w 0 ≡ 0
 unfolding since
@@ -33,7 +29,8 @@ since-first repeated = refl
 since-first single = refl
 
 -- before the item at a place of m: W is all the items give, in terms of those in hand and what is left
-pub record Going (W : Answer Value) (T : Table) (r : ℕ → List ℕ → Answer Value) (h : Holder) (mode : Mode) (m : List ℕ) (at j : ℕ) (came : List ℕ) (total : ℕ) : Type 0 where
+pub record Going (W : Answer Value) (T : Table) (r : ℕ → List ℕ → Answer Value) (h : Holder) (mode : Mode) (m : List ℕ) (at j : ℕ)
+    (came : List ℕ) (total : ℕ) : Type 0 where
   pub hand : Hand
   pub fuel : ℕ
   pub enough : length (drop at m) ≤ fuel
@@ -57,7 +54,7 @@ module _ (W : Answer Value) (T : Table) (r : ℕ → List ℕ → Answer Value) 
   abbrev Items : Answer Hand
   Items = readItems T r h (suc (S .fuel)) j came (S .hand) mode Rest
 
-  gives-refused : (c l : ℕ) → Items ≡ refused c l → W ≡ refused c l
+  gives-refused : (c : Cause) (l : ℕ) → Items ≡ refused c l → W ≡ refused c l
   unfolding then
   gives-refused c l e = S .whole ∙ rw e refl
 
@@ -84,7 +81,7 @@ module _ (W : Answer Value) (T : Table) (r : ℕ → List ℕ → Answer Value) 
     one-unawaited e = gives-unawaited (single-unawaited T r h (S .fuel) j came (S .hand) mode Rest one e)
 
     module _ (x : Placed) (e : next T h j came Rest ≡ some x) where
-      pub one-refused : (c l : ℕ) → r (x .1 .type) Rest ≡ refused c l → W ≡ refused c l
+      pub one-refused : (c : Cause) (l : ℕ) → r (x .1 .type) Rest ≡ refused c l → W ≡ refused c l
       one-refused c l d = gives-refused c l (single-refused T r h (S .fuel) j came (S .hand) mode Rest one x e c l d)
 
       pub one-done : (v : Value) (u : List ℕ) (i n : ℕ) → r (x .1 .type) Rest ≡ got v u → i ≡ cap (length (octets v)) → n ≡ cap (total + i) → Gives u n
@@ -109,7 +106,7 @@ module _ (W : Answer Value) (T : Table) (r : ℕ → List ℕ → Answer Value) 
     pub going-lacking : (u : List ℕ) → Over mode Rest u → lacks h j came ≡ true → W ≡ refused NotAwaited (length Rest)
     going-lacking u end e = gives-refused NotAwaited (length Rest) (items-lacking T r h (S .fuel) j came (S .hand) mode Rest many u end e)
 
-    pub going-broken : (c l : ℕ) → Broken mode Rest c l → W ≡ refused c l
+    pub going-broken : (c : Cause) (l : ℕ) → Broken mode Rest c l → W ≡ refused c l
     going-broken c l end = gives-refused c l (items-broken T r h (S .fuel) j came (S .hand) mode Rest many c l end)
 
     module _ (end : More mode Rest) where
@@ -121,7 +118,7 @@ module _ (W : Answer Value) (T : Table) (r : ℕ → List ℕ → Answer Value) 
 
       -- an item of a part that is left
       module _ (e : remains h j came ≡ true) (x : Placed) (f : next T h j came Rest ≡ some x) where
-        pub going-refused : (c l : ℕ) → r (x .1 .type) Rest ≡ refused c l → W ≡ refused c l
+        pub going-refused : (c : Cause) (l : ℕ) → r (x .1 .type) Rest ≡ refused c l → W ≡ refused c l
         going-refused c l d = gives-refused c l (items-refused T r h (S .fuel) j came (S .hand) mode Rest many end e x f c l d)
 
         pub going-turn : (v : Value) (end i n : ℕ) → r (x .1 .type) Rest ≡ got v (drop end m) → at < end → end ≤ length m → i ≡ cap (length (octets v))

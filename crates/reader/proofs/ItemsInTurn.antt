@@ -1,26 +1,30 @@
 -- The members of a SEQUENCE, read member by member, are read item by item: passing over optional members is what the awaited parts say.
 -- Assumes nothing.
 use lib.ListN.{length, getD, take, drop, set as setAt, length-set, take-append-drop}
-use lib.Seq.{append-snoc, drop-drop, drop-set-lt, take-suc, take-suc-set, getD-drop}
+use lib.Seq.{append-snoc, drop-set-lt, take-suc, take-suc-set, getD-drop}
 use mathlib.Core.Bool.{Bool, true, false, not, _||_}
 use mathlib.Core.List.{List, [], _∷_, _++_}
 use mathlib.Core.Option.{Option, some, none}
 use mathlib.Core.Path.{_≡_, refl, sym, ap, _∙_}
 use native.Mathlib.Nat.{add-zero}
 use native.Mathlib.Omega.{arith}
-use Prim.Native.Nat.{ℕ, zero, suc, _+_, _-_, _≤_, _<_}
-use Rattle.octets.specs.declared.cause.Cause.the-variants.{NotAwaited}
+use Prim.Native.Nat.{ℕ, zero, suc, _+_, _-_, _<_}
+use Rattle.octets.specs.declared.cause.Cause.{Cause}
+use Rattle.octets.specs.declared.cause.Cause.the-variants.{NotAwaited, Trailing}
 use Rattle.octets.specs.Answer.{Answer, got, refused, then, if}
 use Rattle.octets.specs.Lists.{any}
-use Rattle.octets.proofs.Answer.{Holds, got-holds}
+use Rattle.octets.proofs.Answer.{got-holds}
 use Rattle.octets.proofs.Tests.{test}
-use Rattle.ber.specs.Reading.{Mode, atEnd}
+use Rattle.ber.specs.Reading.{Mode}
 use Rattle.table.specs.Syntax.{Member, Sequence, Table}
 use Rattle.coding.specs.Value.{Value}
 use Rattle.coding.specs.Reading.{begun, notAwaited, unwanted, nothing, readSequence}
 use Rattle.coding.proofs.FirstTags.{Good}
-use Rattle.reader.specs.Items.{Holder, inside, in-turn, manner, partsOf, Placed, pending, upToMandatory, within, some-of, following, noted, isSingle, first, Hand, readItems, filled}
-use Rattle.reader.proofs.Items.{Over, Broken, More, Clear, Shortens, then-same, then-then, drop-tail, drop-later, first-hit, first-miss, Ending, over, broken, more, ending, begun-zero, unawaited-on, pending-free, IfFound, Found, found-of, awaits-found, items-over, items-lacking, items-broken, items-full, items-unawaited, items-refused, items-turn}
+use Rattle.reader.specs.Items.{Holder, inside, manner, partsOf, Placed, pending, upToMandatory, within, some-of, following, noted, isSingle}
+use Rattle.reader.specs.Items.{first, Hand, readItems, filled}
+use Rattle.reader.proofs.Items.{Over, Broken, More, Clear, Shortens, then-same, drop-tail, drop-later, Ending, over, broken, more, ending}
+use Rattle.reader.proofs.Items.{begun-zero, unawaited-on, pending-free, Found, found-of, awaits-found, items-over, items-lacking, items-broken}
+use Rattle.reader.proofs.Items.{items-full, items-unawaited, items-refused, items-turn}
 
 -- what is in hand, with one more
 pub filled-snoc : (hand : Hand) (p : ℕ) (v : Value) (os : List (Option Value)) → filled (hand ++ ((p, v) ∷ [])) os ≡ setAt (filled hand os) p (some v)
@@ -61,7 +65,7 @@ module _ (T : Table) (r : ℕ → List ℕ → Answer Value) (came : List ℕ) (
         (λ o. rw o (sequence-over u end l (suc j) (os ++ (none ∷ [])) true ∙ rw (append-snoc os none (nothing l)) refl))
         λ o. rw (o, end) refl)
 
-    sequence-broken : (c k : ℕ) → Broken mode s c k → (l : List Member) (os : List (Option Value)) (w : Bool)
+    sequence-broken : (c : Cause) (k : ℕ) → Broken mode s c k → (l : List Member) (os : List (Option Value)) (w : Bool)
         → readSequence T r l os w mode s ≡ refused c k
     unfolding readSequence if
     sequence-broken c k end [] os w = rw end refl
@@ -173,7 +177,7 @@ module _ (T : Table) (good : Good T) (r : ℕ → List ℕ → Answer Value) (sh
   unfolding then
   got-result k j hand s x u e = rw e refl
 
-  refused-result : (k j : ℕ) (hand : Hand) (s : List ℕ) (c l : ℕ) → readItems T r H k j came hand mode s ≡ refused c l → Result k j hand s ≡ refused c l
+  refused-result : (k j : ℕ) (hand : Hand) (s : List ℕ) (c : Cause) (l : ℕ) → readItems T r H k j came hand mode s ≡ refused c l → Result k j hand s ≡ refused c l
   unfolding then
   refused-result k j hand s c l e = rw e refl
 
@@ -187,12 +191,12 @@ module _ (T : Table) (good : Good T) (r : ℕ → List ℕ → Answer Value) (sh
     at-over u z end =
         sequence-over T r came clear mode s (λ t. begun-zero T good t s z) u end (drop j ms) j (take j (Slots hand)) false
         ∙ test (any (λ x. not (x .1 .optional)) Left)
-        (λ e. rw e (sym (refused-result (suc k) j hand s 24 (length s) (items-lacking T r H k j came hand mode s refl u end e))))
+        (λ e. rw e (sym (refused-result (suc k) j hand s NotAwaited (length s) (items-lacking T r H k j came hand mode s refl u end e))))
         λ e.
         let q : take j (Slots hand) ++ nothing (drop j ms) ≡ Slots hand = rw (← nothing-drop j ms, ← rest) (take-append-drop j (Slots hand)) in
         rw (e, q) (sym (got-result (suc k) j hand s hand u (items-over T r H k j came hand mode s refl u end e)))
 
-    at-broken : (c l : ℕ) → getD s 0 0 ≡ 0 → Broken mode s c l
+    at-broken : (c : Cause) (l : ℕ) → getD s 0 0 ≡ 0 → Broken mode s c l
         → readSequence T r (drop j ms) (take j (Slots hand)) false mode s ≡ Result (suc k) j hand s
     unfolding isSingle manner
     at-broken c l z end =
@@ -244,7 +248,7 @@ module _ (T : Table) (good : Good T) (r : ℕ → List ℕ → Answer Value) (sh
         → Next T r came clear mode s ms (Slots hand) as-long end false l o ≡ Result (suc k) j hand s
     unfolding isSingle manner partsOf within some-of unwanted
     on-next [] e none f =
-        sym (refused-result (suc k) j hand s 26 (length s) (items-full T r H k j came hand mode s refl end (some-left (drop j ms) j ∙ ap some-of e)))
+        sym (refused-result (suc k) j hand s Trailing (length s) (items-full T r H k j came hand mode s refl end (some-left (drop j ms) j ∙ ap some-of e)))
     on-next [] e (some x) f =
         let y : Found came j (drop j ms) x = found-of came j (drop j ms) _ x (awaits-found H j came (λ x. begun T (x .1 .type) s)) f in
         let z : length (drop j ms) ≡ 0 = ap length e in

@@ -1,26 +1,27 @@
 -- The contents of each kind are the items that stand in them: elements, the alternative of a CHOICE, the value of a message, and members.
 -- Assumes nothing.
-use borrow.Author.Tests.{eqb-true}
-use lib.ListN.{length, getD, drop, replicate}
+use lib.ListN.{length, getD, replicate}
 use mathlib.Core.Bool.{Bool, true, false, not}
-use mathlib.Core.List.{List, [], _∷_, _++_, map}
+use mathlib.Core.List.{List, [], _∷_, _++_}
 use mathlib.Core.Option.{Option, some, none}
 use mathlib.Core.Path.{_≡_, refl, sym, ap, _∙_}
 use native.Mathlib.Omega.{arith}
-use Prim.Native.Nat.{ℕ, zero, suc, _+_, _-_, _≤_, _<_}
+use Prim.Native.Nat.{ℕ, zero, suc, _+_, _-_, _≤_}
 use Rattle.octets.specs.declared.cause.Cause.the-variants.{Cut, Trailing}
 use Rattle.octets.specs.Answer.{Answer, got, refused, then, if, none-left}
 use Rattle.octets.specs.Lists.{any}
-use Rattle.octets.proofs.Answer.{Holds}
 use Rattle.octets.proofs.Tests.{test}
-use Rattle.ber.specs.Reading.{Mode, atEnd, readConstructed}
+use Rattle.ber.specs.Reading.{Mode, readConstructed}
 use Rattle.table.specs.Syntax.{Member, Body, Plain, Sequence, Set, SequenceOf, SetOf, Choice, Table}
 use Rattle.table.specs.Rules.{members}
 use Rattle.coding.specs.Value.{Value, choice, sequence, set, sequenceOf, setOf, slots, bag}
-use Rattle.coding.specs.Reading.{begun, notAwaited, nothing, readSequence, readSet, readMany, choose, readBody, readKind, readValue, readMessage}
+use Rattle.coding.specs.Reading.{begun, notAwaited, nothing, readMany, choose, readBody, readKind, readValue, readMessage}
 use Rattle.coding.proofs.FirstTags.{Good}
-use Rattle.reader.specs.Items.{Holder, inside, message, Manner, in-turn, each-once, repeated, single, manner, partsOf, optionals, Placed, pending, within, left, awaits, remains, lacks, some-of, following, noted, isSingle, first, Hand, next, readItems, filled, values, only, assemble, blank, readHeld}
-use Rattle.reader.proofs.Items.{Over, Broken, More, Clear, Shortens, then-self, then-same, then-then, first-hit, first-miss, Ending, over, broken, more, ending, unawaited-on, pending-free, items-over, items-broken, items-unawaited, items-refused, items-turn, single-unawaited, single-refused, single-done}
+use Rattle.reader.specs.Items.{Holder, inside, message, repeated, single, manner, partsOf, optionals, Placed, pending, within, left, awaits}
+use Rattle.reader.specs.Items.{remains, lacks, some-of, following, noted, isSingle, first, Hand, next, readItems, filled, values, only}
+use Rattle.reader.specs.Items.{assemble, blank, readHeld}
+use Rattle.reader.proofs.Items.{More, Clear, Shortens, then-self, Ending, over, broken, more, ending, unawaited-on, pending-free, items-over}
+use Rattle.reader.proofs.Items.{items-broken, items-unawaited, items-refused, items-turn, single-unawaited, single-refused, single-done}
 use Rattle.reader.proofs.ItemsInTurn.{sequence-items}
 use Rattle.reader.proofs.ItemsEachOnce.{set-items, marked-none}
 

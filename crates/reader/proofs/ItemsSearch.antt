@@ -2,9 +2,9 @@
 -- Assumes nothing.
 use borrow.Author.Tests.{eqb-true, eqb-false}
 use lib.Dec.{eqb}
-use lib.ListN.{length, getD, drop}
-use mathlib.Core.Bool.{Bool, true, false, not, _||_, true≢false}
-use mathlib.Core.List.{List, [], _∷_, map}
+use lib.ListN.{getD, drop}
+use mathlib.Core.Bool.{Bool, true, false, true≢false}
+use mathlib.Core.List.{List, [], _∷_}
 use mathlib.Core.Option.{Option, some, none}
 use mathlib.Core.Path.{_≡_, refl, sym, ap, _∙_}
 use native.Mathlib.Omega.{arith}
@@ -14,15 +14,16 @@ use Rattle.octets.specs.Lists.{any}
 use Rattle.octets.specs.Numbers.{Octets}
 use Rattle.octets.proofs.Tests.{test, or-false}
 use Rattle.ber.specs.Reading.{readIdentifier}
-use Rattle.table.specs.Syntax.{Member, Body, Plain, Sequence, Set, SequenceOf, SetOf, Choice, Table}
-use Rattle.coding.specs.Awaited.{types, awaited, further, begins}
+use Rattle.table.specs.Syntax.{Member, Plain, Sequence, Set, SequenceOf, SetOf, Choice, Table}
+use Rattle.coding.specs.Awaited.{types, awaited, begins}
 use Rattle.coding.specs.Reading.{passes, begun}
 use Rattle.coding.proofs.FirstTags.{Distinct, Apart, GoodBody}
 use Rattle.reader.specs.Codes.{firstOf, peeked, hit, searchIn}
-use Rattle.reader.specs.declared.search.Under.the-variants.{Nothing, At}
+use Rattle.reader.specs.declared.search.Under.the-variants.{At}
 use Rattle.reader.proofs.Begun.{Fit, begun-hit}
-use Rattle.reader.specs.Items.{Holder, inside, message, Manner, in-turn, each-once, repeated, single, manner, partsOf, optionals, Placed, pending, upToMandatory, within, left, awaits, first}
-use Rattle.reader.proofs.Items.{Clear, first-hit, first-miss, first-same, pending-free, pending-come}
+use Rattle.reader.specs.Items.{Holder, inside, message, in-turn, manner, partsOf, optionals, Placed, pending, upToMandatory, within, awaits}
+use Rattle.reader.specs.Items.{first}
+use Rattle.reader.proofs.Items.{Clear, first-same, pending-free, pending-come}
 
 -- at most one passes
 module _ {A : Type 0} where

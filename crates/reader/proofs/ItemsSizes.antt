@@ -3,17 +3,17 @@
 use lib.ListN.{length, getD, drop, set as setAt, length-append, length-set, length-drop}
 use lib.Seq.{drop-set-lt, getD-drop}
 use mathlib.Core.Bool.{Bool, true, false, true≢false}
-use mathlib.Core.List.{List, [], _∷_, _++_, map}
+use mathlib.Core.List.{List, [], _∷_, _++_}
 use mathlib.Core.Option.{Option, some, none}
 use mathlib.Core.Path.{_≡_, refl, sym, ap, _∙_}
 use native.Mathlib.Nat.{add-zero, zero-add}
 use native.Mathlib.Omega.{arith}
 use Prim.Native.Nat.{ℕ, zero, suc, _+_, _-_, _≤_, _<_}
-use Rattle.octets.specs.Numbers.{octetsOf}
-use Rattle.table.specs.Syntax.{Member, Body, Plain, Sequence, Set, SequenceOf, SetOf, Choice}
-use Rattle.coding.specs.Value.{Value, Slots, slots, bag, octets, parts, presence, count}
+use Rattle.table.specs.Syntax.{Member, Plain, Sequence, Set, SequenceOf, SetOf, Choice}
+use Rattle.coding.specs.Value.{Value, slots, bag, octets, parts, presence}
 use Rattle.coding.specs.Reading.{nothing}
-use Rattle.reader.specs.Items.{Holder, inside, message, manner, partsOf, Placed, following, noted, isSingle, Hand, filled, values, only, assemble, nodeSize, sizesOf, blank}
+use Rattle.reader.specs.Items.{Holder, inside, message, manner, partsOf, Placed, following, noted, isSingle, Hand, filled, values, only}
+use Rattle.reader.specs.Items.{assemble, nodeSize, sizesOf, blank}
 use Rattle.reader.proofs.Items.{drop-later, Found}
 use Rattle.reader.proofs.ItemsInTurn.{filled-snoc, filled-length, nothing-length}
 use Rattle.reader.proofs.ItemsEachOnce.{Marked, no-more, vacant, taken, marked-none, marked-set}

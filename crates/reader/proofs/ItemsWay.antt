@@ -2,29 +2,28 @@
 -- Assumes nothing.
 use borrow.Author.Tests.{eq-eqb, ne-eqb, eqb-true, eqb-false}
 use lib.Dec.{eqb}
-use lib.ListN.{length, getD, drop, set as setAt, drop-of-length-le, length-append}
+use lib.ListN.{length, getD, drop, set as setAt, drop-of-length-le}
 use lib.Seq.{getD-set-same, getD-set-other, drop-cons}
-use mathlib.Core.Bool.{Bool, true, false, not}
+use mathlib.Core.Bool.{true, false}
 use mathlib.Core.List.{List, [], _∷_, List·Memᴰ as In, List·Memᴰ·not-nil}
-use mathlib.Core.Path.{_≡_, refl, sym, ap, subst, _∙_}
+use mathlib.Core.Path.{_≡_, refl, sym, ap, _∙_}
 use native.Mathlib.Omega.{arith}
 use Prim.Native.Nat.{ℕ, zero, suc, _+_, _-_, _*_, _/_, _%_, _≤_, _<_}
 use Rattle.octets.specs.declared.cause.Cause.the-variants.{MessageLevel}
 use Rattle.octets.specs.Answer.{Answer, got, refused, then, if}
 use Rattle.octets.proofs.Members.{place-in}
 use Rattle.octets.proofs.Tests.{test}
-use Rattle.table.specs.Syntax.{Choice, Table}
+use Rattle.table.specs.Syntax.{Table}
 use Rattle.table.specs.Rules.{parts, below}
 use Rattle.table.specs.Passes.{Nested}
 use Rattle.coding.specs.Value.{Value, choice, octets}
-use Rattle.coding.specs.Tags.{explicit, own}
 use Rattle.coding.specs.Reading.{begun, readWrapped, readKind, choose, readValue}
 use Rattle.reader.specs.Codes.{firstOf, untagged, hit, pick, among, searchIn}
 use Rattle.reader.specs.declared.search.Under.{Under as Found}
 use Rattle.reader.specs.declared.search.Under.the-variants.{Nothing, At}
 use Rattle.reader.proofs.Begun.{Fit}
 use Rattle.reader.specs.Ways.{Leads, here, through, wrapped}
-use Rattle.reader.proofs.Begun.{Step, search-step, bare, Bare}
+use Rattle.reader.proofs.Begun.{search-step, bare}
 use Rattle.reader.proofs.Items.{then-self, then-same, then-then}
 use Rattle.reader.proofs.ItemsSearch.{Tells}
 

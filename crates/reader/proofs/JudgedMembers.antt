@@ -1,54 +1,46 @@
 -- The items of a record or of a message, judged one after another: what holds before each, and one law for each way out.
 -- Assumes nothing.
-use borrow.Author.Tests.{eq-eqb, eqb-true, eqb-false, lt-ltb, ltb-true, ltb-false}
-use lib.Dec.{eqb, ltb}
-use lib.ListN.{length, getD, take, drop, set as setAt, length-drop, length-append, length-set, length-map}
-use lib.Seq.{drop-drop, getD-drop, drop-append-seam}
-use mathlib.Core.Bool.{Bool, true, false, not, _||_, true≢false, false≢true}
+use lib.Dec.{eqb}
+use lib.ListN.{length, getD, drop, set as setAt, length-drop, length-append, length-set}
+use lib.Seq.{drop-drop, drop-append-seam}
+use mathlib.Core.Bool.{Bool, true, false, not, _||_, true≢false}
 use mathlib.Core.List.{List, [], _∷_}
 use mathlib.Core.Logic.{_⊎_, inl, inr}
 use mathlib.Core.Option.{Option, some, none}
 use mathlib.Core.Path.{_≡_, refl, sym, ap, _∙_}
-use native.Mathlib.Nat.{add-zero}
 use native.Mathlib.Omega.{arith}
-use Prim.Native.Nat.{ℕ, zero, suc, _+_, _-_, _*_, _/_, _%_, _≤_, _<_}
+use Prim.Native.Nat.{ℕ, suc, _+_, _-_, _*_, _/_, _≤_, _<_}
 use Rattle.octets.specs.declared.cause.Cause.{Cause}
 use Rattle.octets.specs.declared.cause.Cause.the-variants.{Cut, NotAwaited, Trailing, MessageLevel}
 use Rattle.octets.specs.Answer.{Answer, got, refused, then, if}
-use Rattle.octets.specs.Lists.{any}
 use Rattle.octets.specs.Numbers.{Octets}
 use Rattle.octets.proofs.Answer.{got-holds}
 use Rattle.octets.proofs.Tests.{test}
-use Rattle.ber.specs.Codes.{code, codeOf}
-use Rattle.ber.specs.Reading.{readIdentifier}
+use Rattle.ber.specs.Codes.{code}
 use Rattle.ber.specs.Told.{endOf, mode}
 use Rattle.ber.specs.declared.ending.End.{End}
 use Rattle.ber.specs.declared.ending.End.the-variants.{More as GoesOn, Over as EndsAt, Broken as BrokenBy}
-use Rattle.ber.proofs.Codes.{bit-small, code-short, code-long, read-code-small, read-code-short}
 use Rattle.ber.proofs.Ends.{end-more, end-over, end-broken}
-use Rattle.ber.proofs.Places.{left-at, some-at, part-to-end}
-use Rattle.table.specs.Syntax.{Tag, Member, Body, Plain, Sequence, Set, SequenceOf, SetOf, Choice, Record, Table, constructed}
+use Rattle.ber.proofs.Places.{part-to-end}
+use Rattle.table.specs.Syntax.{Plain, Sequence, Set, SequenceOf, SetOf, Choice, Record, Table}
 use Rattle.table.specs.Octets.{kind}
-use Rattle.table.specs.Entries.{unpacked, untagged, more, outermostCode, spanOf, tableIn, countIn}
+use Rattle.table.specs.Entries.{unpacked, spanOf, tableIn}
 use Rattle.table.specs.declared.entry.Entry.{Entry}
 use Rattle.table.specs.declared.entry.Span.{Span}
-use Rattle.table.specs.Passes.{Nested}
-use Rattle.table.proofs.Promises.{entered-kind}
 use Rattle.octets.specs.Permutations.{as-given}
 use Rattle.coding.specs.Value.{Value, octets}
 use Rattle.coding.specs.Reading.{begun, notAwaited, readValue}
 use Rattle.coding.proofs.Refusals.{value-shorter}
 use Rattle.coding.proofs.Sound.{value-sound}
 use Rattle.reader.specs.Answers.{cap, told, size}
-use Rattle.reader.specs.Codes.{firstOf, peeked, hit}
 use Rattle.reader.specs.Items.{Holder, inside, message, Manner, in-turn, each-once, repeated, single, manner, partsOf, Placed}
-use Rattle.reader.specs.Items.{pending, upToMandatory, within, left, some-of, remains, lacks, since, following, noted, isSingle, first, next}
+use Rattle.reader.specs.Items.{upToMandatory, within, left, some-of, remains, lacks, since, following, noted, isSingle, first, next}
 use Rattle.reader.specs.Items.{nodeSize, blank, readHeld}
-use Rattle.reader.specs.Placing.{kindOf, countOf, nodeOf, holdsOne}
-use Rattle.reader.specs.Records.{Ready, Known, of-record, of-message, IsRecord, recordIn, holderIn, readRecord}
-use Rattle.reader.specs.Sought.{held, Sound, tabledCount, unfit, Sought}
+use Rattle.reader.specs.Placing.{kindOf, onward, nodeOf}
+use Rattle.reader.specs.Records.{Ready, Known, IsRecord, recordIn, readRecord}
+use Rattle.reader.specs.Sought.{held, Sound, unfit, Sought}
 use Rattle.reader.specs.Standing.{atEnding, standing}
-use Rattle.reader.specs.Ways.{Leads, here, wrapped}
+use Rattle.reader.specs.Ways.{wrapped}
 use Rattle.reader.specs.Wraps.{Headed}
 use Rattle.reader.specs.declared.answer.Judged.{Judged}
 use Rattle.reader.specs.declared.answer.Judged.the-variants.{Done, Refused}
@@ -57,130 +49,19 @@ use Rattle.reader.specs.declared.judge.Standing.the-variants.{Item, Over
 use Rattle.reader.specs.declared.search.Choice.{Choice as Chosen}
 use Rattle.reader.specs.declared.search.Found.{Found}
 use Rattle.reader.specs.declared.search.Found.the-variants.{Part, Refused as NotFound}
-use Rattle.reader.proofs.Among.{code-is}
-use Rattle.reader.proofs.Begun.{AllFine, Fit, fit, nested-all}
-use Rattle.reader.proofs.Items.{More, unawaited-on, first-hit, first-miss, pending-free, pending-come, found-of, awaits-found}
+use Rattle.reader.proofs.Items.{More, unawaited-on, found-of, awaits-found}
 use Rattle.reader.proofs.ItemsGoing.{Going, since-first, going-first, going-over, going-lacking, going-broken}
 use Rattle.reader.proofs.ItemsGoing.{going-full, going-unawaited, going-refused, going-turn, one-unawaited, one-refused, one-done}
 use Rattle.reader.proofs.ItemsKinds.{blank-clear}
-use Rattle.reader.proofs.ItemsSearch.{Lone, GoodHolder, lone-awaits, Tells, tells, search-itself}
 use Rattle.reader.proofs.ItemsSizes.{isPlain}
-use Rattle.reader.proofs.ItemsWay.{way-level, way-value, wrapped-size}
-use Rattle.reader.proofs.PlacedNodes.{node-is}
-use Rattle.reader.proofs.Searching.{spanned, type-low, clear-turn}
-use Rattle.reader.proofs.Finding.{good-held}
-use Rattle.reader.proofs.Spans.{PartAt, Spanned, held-body, its, awaits-hit}
+use Rattle.reader.proofs.ItemsWay.{wrapped-size}
+use Rattle.reader.proofs.ItemsFound.{At-item, item-found, item-fits, restOf, item-level, item-value, item-headed}
+use Rattle.reader.proofs.Held.{held-some, held-kind, held-one, held-span, held-few, held-node, held-onward, onward-most}
+use Rattle.reader.proofs.PlacedTurns.{since-onward}
+use Rattle.reader.proofs.Searching.{type-low}
+use Rattle.reader.proofs.Spans.{Spanned}
 use Rattle.reader.proofs.Tagging.{its-record}
-
--- what an answer of the judge says, and how it is said
-module _ (m : List ℕ) (x : Answer Value) where
-  told-done : (v : Value) (u n : ℕ) → x ≡ got v (drop u m) → u ≤ length m → n ≡ cap (length (octets v)) → Done u n ≡ told m size x
-  unfolding told
-  told-done v u n e h k = rw (e, left-at m u h, k) refl
-
-  told-refused : (c l : ℕ) → x ≡ refused c l → Refused c l ≡ told m size x
-  unfolding told
-  told-refused c l e = rw e refl
-
-said-done : (m : List ℕ) (x : Answer Value) (u n : ℕ) → told m size x ≡ Done u n
-    → (v : Value) × (w : List ℕ) × (x ≡ got v w) × (u ≡ length m - length w) × (n ≡ cap (length (octets v)))
-unfolding told
-said-done m (got v w) u n e =
-    let a : length m - length w ≡ u = cc in
-    let b : cap (length (octets v)) ≡ n = cc in
-    (v, w, refl, sym a, sym b)
-said-done m (refused c l) u n e = let z : _≡_ {A = ℕ} 0 1 = cc in absurd (omega arith)
-
-said-refused : (m : List ℕ) (x : Answer Value) (c : Cause) (l : ℕ) → told m size x ≡ Refused c l → (k : ℕ) × (x ≡ refused k l) × (c ≡ k)
-unfolding told
-said-refused m (got v w) c l e = let z : _≡_ {A = ℕ} 0 1 = cc in absurd (omega arith)
-said-refused m (refused k i) c l e =
-    let a : i ≡ l = cc in
-    let b : k ≡ c = cc in
-    (k, ap (refused k) a, sym b)
-
-cause-number : (c : Cause) → c ≡ c
-unfolding if
-cause-number Cut = refl
-cause-number Form = refl
-cause-number NotAwaited = refl
-cause-number Contents = refl
-cause-number Trailing = refl
-cause-number Level = refl
-
--- the kind of an entry is that of what it stands for
-not-not : (a : Bool) → false ≡ not a → a ≡ true
-not-not true e = refl
-not-not false e = absurd (false≢true e)
-
-kind-inside : (y : Body) → constructed y ≡ true → kind y ≡ kindOf (inside y)
-unfolding kind kindOf constructed
-kind-inside (Plain k) c = absurd (false≢true c)
-kind-inside (Sequence ms) c = refl
-kind-inside (Set ms) c = refl
-kind-inside (SequenceOf t) c = refl
-kind-inside (SetOf t) c = refl
-kind-inside (Choice ts) c = refl
-
-plain-inside : (y : Body) → constructed y ≡ true → isPlain (inside y) ≡ false
-unfolding isPlain constructed
-plain-inside (Plain k) c = absurd (false≢true c)
-plain-inside (Sequence ms) c = refl
-plain-inside (Set ms) c = refl
-plain-inside (SequenceOf t) c = refl
-plain-inside (SetOf t) c = refl
-plain-inside (Choice ts) c = refl
-
-held-kind : {b index : List ℕ} → Ready b index → (w : ℕ) → Known b index w → unpacked w .simple ≡ false → unpacked w .kind ≡ kindOf (held b w)
-unfolding holderIn if kindOf
-held-kind {b} R w (of-record t h q) n =
-    let x = R .filled .entered t h in
-    let c = not-not (constructed (tableIn b t .body)) (sym (rw q at n) ∙ x .simple) in
-    rw (q, held-body x (R .filled .short)) (entered-kind x ∙ kind-inside (tableIn b t .body) c)
-held-kind R w (of-message t h q) n = rw q refl
-
-held-some : {b index : List ℕ} → Ready b index → (w : ℕ) → Known b index w → unpacked w .simple ≡ false → isPlain (held b w) ≡ false
-unfolding holderIn if isPlain
-held-some {b} R w (of-record t h q) n =
-    let x = R .filled .entered t h in
-    let c = not-not (constructed (tableIn b t .body)) (sym (rw q at n) ∙ x .simple) in
-    rw (q, held-body x (R .filled .short)) (plain-inside (tableIn b t .body) c)
-held-some R w (of-message t h q) n = rw q refl
-
-some-kind : (h : Holder) → isPlain h ≡ false → kindOf h ≡ 0 → ⊥
-unfolding kindOf isPlain
-some-kind (inside (Plain k)) e z = true≢false e
-some-kind (inside (Sequence ms)) e z = omega arith
-some-kind (inside (Set ms)) e z = omega arith
-some-kind (inside (SequenceOf t)) e z = omega arith
-some-kind (inside (SetOf t)) e z = omega arith
-some-kind (inside (Choice ts)) e z = omega arith
-some-kind (message t) e z = omega arith
-
-one-kind : (h : Holder) → isPlain h ≡ false → holdsOne (kindOf h) ≡ isSingle (manner h)
-unfolding kindOf manner isSingle isPlain
-one-kind (inside (Plain k)) e = absurd (true≢false e)
-one-kind (inside (Sequence ms)) e = refl
-one-kind (inside (Set ms)) e = refl
-one-kind (inside (SequenceOf t)) e = refl
-one-kind (inside (SetOf t)) e = refl
-one-kind (inside (Choice ts)) e = refl
-one-kind (message t) e = refl
-
-count-is : (h : Holder) → countOf h ≡ tabledCount h
-unfolding countOf tabledCount partsOf
-count-is (inside (Plain k)) = refl
-count-is (inside (Sequence ms)) = refl
-count-is (inside (Set ms)) = refl
-count-is (inside (SequenceOf t)) = refl
-count-is (inside (SetOf t)) = refl
-count-is (inside (Choice ts)) = sym (length-map ts _)
-count-is (message t) = refl
-
-parts-few : (h : Holder) → tabledCount h ≤ 16 → length (partsOf h) ≤ 16
-unfolding tabledCount partsOf
-parts-few (inside y) l = l
-parts-few (message t) l = omega arith
+use Rattle.reader.proofs.Told.{told-refused, told-done, tell-refused, tell-done}
 
 node-small : (h : Holder) → length (partsOf h) ≤ 16 → nodeSize h ≤ 20
 unfolding nodeSize partsOf
@@ -191,27 +72,6 @@ node-small (inside (SequenceOf t)) l = omega arith
 node-small (inside (SetOf t)) l = omega arith
 node-small (inside (Choice ts)) l = omega arith
 node-small (message t) l = omega arith
-
--- behind a part: half a step is a member
-follows : (b : List ℕ) (h : Holder) (p place : ℕ) → since (manner h) (place + spanOf b (kindOf h) p .step / 2) ≡ following (manner h) place
-unfolding kindOf manner since following spanOf if
-follows b (inside (Plain k)) p place = refl
-follows b (inside (Sequence ms)) p place = omega arith
-follows b (inside (Set ms)) p place = refl
-follows b (inside (SequenceOf t)) p place = refl
-follows b (inside (SetOf t)) p place = refl
-follows b (inside (Choice ts)) p place = refl
-follows b (message t) p place = refl
-
-step-small : (b : List ℕ) (h : Holder) (p : ℕ) → spanOf b (kindOf h) p .step ≤ 2
-unfolding kindOf spanOf if
-step-small b (inside (Plain k)) p = omega arith
-step-small b (inside (Sequence ms)) p = omega arith
-step-small b (inside (Set ms)) p = omega arith
-step-small b (inside (SequenceOf t)) p = omega arith
-step-small b (inside (SetOf t)) p = omega arith
-step-small b (inside (Choice ts)) p = omega arith
-step-small b (message t) p = omega arith
 
 -- what is noted of a part
 abbrev Notes : ℕ → List ℕ → ℕ → List ℕ → Type 0
@@ -302,217 +162,6 @@ module _ (h : Holder) (i : ℕ) (came : List ℕ) where
         (λ q. let d : Item ≡ Stops c = sym (one-stands q) ∙ e in let z : _≡_ {A = ℕ} 0 1 = cc in absurd (omega arith))
         λ q. q
 
--- the part at hand, which has not come, is the one that the item begins, if the item begins it
-first-any : {A : Type 0} (f : A → Bool) (l : List A) (x : A) → first f l ≡ some x → any f l ≡ true
-unfolding first any if
-first-any {A} f [] x e = absurd (no-value e)
-  where
-    no-value : _≡_ {A = Option A} none (some x) → ⊥
-    no-value e = let z : _≡_ {A = ℕ} 0 1 = cc in omega arith
-first-any f (y ∷ l) x e = test (f y) (λ b. rw b refl) λ b. rw b (first-any f l x (rw b at e))
-
-no-cons : {A : Type 0} (x : A) (l : List A) → _≡_ {A = List A} [] (x ∷ l) → ⊥
-no-cons x l e = let q = ap length e in omega arith
-
-module _ (f : Placed → Bool) (came : List ℕ) (k : Member) where
-  pending-first : (p i : ℕ) (ms : List Member) (d : ℕ) (rest : List Member) → drop d ms ≡ k ∷ rest → p ≡ i + d → getD came p 0 ≡ 0 → f (p, k) ≡ true
-      → Lone f (pending came i ms) → first f (pending came i ms) ≡ some (p, k)
-  unfolding Lone
-  pending-first p i [] zero rest e q z g u = absurd (no-cons k rest e)
-  pending-first p i [] (suc d) rest e q z g u = absurd (no-cons k rest e)
-  pending-first p i (m ∷ ms) zero rest e q z g u =
-      let y : m ≡ k = ap (λ (l : List Member). getD l 0 k) e in
-      let x : i ≡ p = omega arith in
-      rw (x, y, pending-free came p k ms z) (first-hit f (p, k) (pending came (suc p) ms) g)
-  pending-first p i (m ∷ ms) (suc d) rest e q z g u =
-      test (eqb (getD came i 0) 0)
-      (λ v.
-      let free = pending-free came i m ms (eqb-true (getD came i 0) 0 v) in
-      let L : Lone f ((i, m) ∷ pending came (suc i) ms) = rw free at u in
-      let G = pending-first p (suc i) ms d rest e (omega arith) z g (L .1) in
-      rw free
-      (test (f (i, m))
-      (λ t. absurd (true≢false (sym (first-any f (pending came (suc i) ms) (p, k) G) ∙ L .0 t)))
-      λ t. first-miss f (i, m) (pending came (suc i) ms) t ∙ G))
-      λ v.
-      let come = pending-come came i m ms (eqb-false (getD came i 0) 0 v) in
-      rw come (pending-first p (suc i) ms d rest e (omega arith) z g (rw come at u))
-
-since-turn : (v : Manner) (j : ℕ) → v ≡ in-turn → since v j ≡ j
-unfolding since
-since-turn v j e = rw e refl
-
-since-other : (v : Manner) (j : ℕ) → (v ≡ in-turn → ⊥) → since v j ≡ 0
-unfolding since
-since-other in-turn j n = absurd (n refl)
-since-other each-once j n = refl
-since-other repeated j n = refl
-since-other single j n = refl
-
-within-other : (v : Manner) (l : List Placed) → (v ≡ in-turn → ⊥) → within v l ≡ l
-unfolding within
-within-other in-turn l n = absurd (n refl)
-within-other each-once l n = refl
-within-other repeated l n = refl
-within-other single l n = refl
-
-by-turn : {X : Type 0} (v : Manner) → (v ≡ in-turn → X) → ((v ≡ in-turn → ⊥) → X) → X
-by-turn in-turn f g = f refl
-by-turn each-once f g = g (λ e. no-turn e)
-  where
-    no-turn : each-once ≡ in-turn → ⊥
-    no-turn e = let z : _≡_ {A = ℕ} 0 1 = cc in omega arith
-by-turn repeated f g = g (λ e. no-turn e)
-  where
-    no-turn : repeated ≡ in-turn → ⊥
-    no-turn e = let z : _≡_ {A = ℕ} 0 1 = cc in omega arith
-by-turn single f g = g (λ e. no-turn e)
-  where
-    no-turn : single ≡ in-turn → ⊥
-    no-turn e = let z : _≡_ {A = ℕ} 0 1 = cc in omega arith
-
-module _ (T : Table) (h : Holder) (good : GoodHolder T h) (came s : List ℕ) (clear : (p : ℕ) → manner h ≡ in-turn → getD came p 0 ≡ 0) where
-  next-at : (j : ℕ) (k : Member) → drop j (partsOf h) ≡ k ∷ drop (suc j) (partsOf h) → getD came j 0 ≡ 0 → begun T (k .type) s ≡ true
-      → next T h (since (manner h) j) came s ≡ some (j, k)
-  next-at j k e z b =
-      by-turn (manner h)
-      (λ t. rw (since-turn (manner h) j t) (awaits-hit h came j (λ x. begun T (x .1 .type) s) k e z b))
-      λ n.
-      let w = within-other (manner h) (pending came 0 (partsOf h)) n in
-      let L = lone-awaits T s h good 0 came clear in
-      rw (since-other (manner h) j n, w)
-      (pending-first (λ x. begun T (x .1 .type) s) came k j 0 (partsOf h) j (drop (suc j) (partsOf h)) e (omega arith) z b (rw w at L))
-
--- a code of one octet is of a short form
-short-of : (c : ℕ) (b : Bool) (n : ℕ) → c < 4 → code c b n < 256 → code c b n % 32 < 31
-short-of c b n h k =
-    let s = bit-small b in
-    test (ltb n 31)
-    (λ e. rw (code-short c b n (ltb-true n 31 e)) (omega (arith, ltb-true n 31 e)))
-    λ e. let q = code-long c b n (ltb-false n 31 e) in absurd (omega (arith, ltb-false n 31 e, q))
-
-short-tags : (gs : List Tag) (y : Body) → AllFine gs → outermostCode gs y < 256 → outermostCode gs y % 32 < 31
-unfolding outermostCode
-short-tags [] y f h = absurd (omega arith)
-short-tags (g ∷ gs) y f h = short-of (g .class) (more gs || constructed y) (g .number) (f .0 .0) h
-
-short-first : (r : Record) → Fit r → firstOf r < 256 → firstOf r % 32 < 31
-short-first r F h = short-tags (r .tags) (r .body) (F .fine) h
-
-read-one : (m : List ℕ) (at : ℕ) → at < length m → getD m at 0 % 32 < 31 → readIdentifier (drop at m) ≡ got (getD m at 0 ∷ []) (drop (at + 1) m)
-unfolding readIdentifier if
-read-one m at h k = rw (some-at m at h, lt-ltb (getD m at 0 % 32) 31 k) refl
-
-octets-from : (m : List ℕ) (at : ℕ) → Octets m → Octets (drop at m)
-octets-from m at o i = rw getD-drop (o (at + i))
-
--- the item at a place of m: the part that it begins, and the record under that part which begins with its code
-pub record At-item (b : List ℕ) (h : Holder) (m : List ℕ) (at i : ℕ) (came way : List ℕ) (place number depth from : ℕ) : Type 0 where
-  pub part : Member
-  pub identifier : List ℕ
-  pub found : next (tableIn b) h i came (drop at m) ≡ some (place, part)
-  pub read : readIdentifier (drop at m) ≡ got identifier (drop from m)
-  pub further : at < from
-  pub low : from ≤ length m
-  pub leads : Leads (tableIn b) (codeOf identifier) way (part .type) depth number
-  pub its : firstOf (tableIn b number) ≡ codeOf identifier
-  pub there : number < countIn b
-
--- what was sought
-item-sought : {b : List ℕ} {h : Holder} {m : List ℕ} {at i : ℕ} {came way : List ℕ} (x : Chosen) → at ≤ length m
-    → Sought b h i came (drop at m) way (Part x)
-    → At-item b h m at i came way (x .place) (x .record) (x .depth) (at + x .from)
-item-sought {m = m} {at = at} x low q =
-    record {
-      part = q .0;
-      identifier = q .1;
-      found = q .2;
-      read = rw (← drop-drop (x .from) at m) (q .3);
-      further = omega (arith, q .4);
-      low = omega (arith, q .5, length-drop at m);
-      leads = q .6 .1;
-      its = q .6 .2;
-      there = q .6 .3;
-    }
-
-pub item-same : {b : List ℕ} {h : Holder} {m : List ℕ} {at i : ℕ} {came way way₁ : List ℕ} {place number depth from place₁ number₁ depth₁ from₁ : ℕ}
-    → way ≡ way₁ → place ≡ place₁ → number ≡ number₁ → depth ≡ depth₁ → from ≡ from₁
-    → At-item b h m at i came way₁ place₁ number₁ depth₁ from₁
-    → At-item b h m at i came way place number depth from
-item-same e f g h k X = rw (e, f, g, h, k) X
-
--- of the rest of m, as a callee sees it
-abbrev restOf : List ℕ → ℕ → List ℕ
-restOf m at = take (length m - at) (drop at m)
-
-pub item-found : {b : List ℕ} {h : Holder} {m : List ℕ} {at i : ℕ} {came way : List ℕ} (r : Found) (x : Chosen) → at ≤ length m
-    → Sought b h i came (restOf m at) way r → r ≡ Part x
-    → At-item b h m at i came way (x .place) (x .record) (x .depth) (at + x .from)
-item-found {m = m} {at = at} r x low q ex = item-sought x low (rw (part-to-end m at, ex) at q)
-
--- or the part at hand, which begins with the octet at the place
-module _ {b index : List ℕ} {w : ℕ} {came : List ℕ} (Z : Sound b index w came) (e : Entry) (ee : e ≡ unpacked w)
-    (s : Span) (es : s ≡ spanOf b (e .kind) (e .own))
-    (m : List ℕ) (o : Octets m) (at : ℕ) (here-is : at < length m) (j : ℕ) (l : j < s .count) (z : getD came j 0 ≡ 0)
-    (t f : ℕ) (et : t ≡ getD b (s .first + s .step * j) 0) (ef : f ≡ unpacked (getD index t 0) .code) (q : f ≡ getD m at 0) where
-  abbrev Records : Table
-  Records = tableIn b
-
-  abbrev Held : Holder
-  Held = held b w
-
-  its-number : t < countIn b
-  its-number = type-low Z e ee s es j l t et
-
-  its-code : getD m at 0 ≡ firstOf (Records t)
-  its-code = sym q ∙ code-is (Z .ready) t f its-number ef
-
-  abbrev F : (t : ℕ) → Fit (Records t)
-  F = fit b Records (countIn b) (Z .ready .passes)
-
-  its-short : getD m at 0 % 32 < 31
-  its-short = let k = o at in let c = its-code in rw c (short-first (Records t) (F t) (omega arith))
-
-  its-read : readIdentifier (drop at m) ≡ got (getD m at 0 ∷ []) (drop (at + 1) m)
-  its-read = read-one m at here-is its-short
-
-  its-coded : codeOf (getD m at 0 ∷ []) ≡ getD m at 0
-  its-coded =
-      let g : getD (drop at m) 0 0 ≡ getD m at 0 = getD-drop at m 0 0 ∙ ap (λ (i : ℕ). getD m i 0) (add-zero at) in
-      let k : getD (drop at m) 0 0 % 32 < 31 = rw g its-short in
-      read-code-short (drop at m) (getD m at 0 ∷ []) (drop (at + 1) m) its-read k ∙ g
-
-  its-tells : Tells Records (drop at m) (codeOf (getD m at 0 ∷ []))
-  unfolding peeked
-  its-tells = rw its-read at (tells Records F (drop at m) (octets-from m at o))
-
-  its-first : firstOf (Records t) ≡ codeOf (getD m at 0 ∷ [])
-  its-first = sym its-code ∙ sym its-coded
-
-  its-begun : begun Records t (drop at m) ≡ true
-  its-begun =
-      let c = codeOf (getD m at 0 ∷ []) in
-      its-tells t ∙ ap hit (search-itself Records (drop at m) c its-tells t (eq-eqb (firstOf (Records t)) c its-first))
-
-  abbrev Part-j : PartAt b Held (unpacked w .kind) s j
-  Part-j = spanned Z e ee s es .at j l
-
-  item-fits : (way : List ℕ) → At-item b Held m at (since (manner Held) j) came way j t 0 (at + 1)
-  item-fits way =
-      let y : t ≡ Part-j .part .type = et ∙ Part-j .type in
-      record {
-        part = Part-j .part;
-        identifier = getD m at 0 ∷ [];
-        found = next-at Records Held (good-held (Z .ready) w (Z .known)) came (drop at m) (λ p v. clear-turn Z e ee s es v p)
-            j (Part-j .part) (Part-j .is) z (rw (← y) its-begun);
-        read = its-read;
-        further = omega arith;
-        low = omega arith;
-        leads = rw (← y) here;
-        its = its-first;
-        there = its-number;
-      }
-
 -- before the item at a place of m
 pub record Judging (b : List ℕ) (w : ℕ) (m : List ℕ) (marked : Bool) (level : ℕ) (came : List ℕ) (total at j : ℕ) : Type 0 where
   pub one : isSingle (manner (held b w)) ≡ true → at < length m
@@ -522,7 +171,7 @@ pub record Judging (b : List ℕ) (w : ℕ) (m : List ℕ) (marked : Bool) (leve
       (mode marked) m at (since (manner (held b w)) j) came total
 
 -- a refusal that an item is not awaited says the same of whatever was to be read
-unfit-alike : {A B : Type 0} (h : Holder) (i : ℕ) (came s : List ℕ) (c l : ℕ) → unfit {A = A} h i came s ≡ refused c l
+unfit-alike : {A B : Type 0} (h : Holder) (i : ℕ) (came s : List ℕ) (c : Cause) (l : ℕ) → unfit {A = A} h i came s ≡ refused c l
     → unfit {A = B} h i came s ≡ refused c l
 unfolding unfit if then
 unfit-alike {A} {B} h i came s c l e =
@@ -533,7 +182,7 @@ unfit-alike {A} {B} h i came s c l e =
     other d = sym (unawaited-on {A = A} {B = B} s (λ a u. refused Cut 0)) ∙ rw d refl
 
     trailing : _≡_ {A = Answer A} (refused Trailing (length s)) (refused c l) → _≡_ {A = Answer B} (refused Trailing (length s)) (refused c l)
-    trailing d = let x : 26 ≡ c = cc in let y : length s ≡ l = cc in rw (← x, ← y) refl
+    trailing d = let x : Trailing ≡ c = cc in let y : length s ≡ l = cc in rw (← x, ← y) refl
 
 -- where one is found, some are left
 within-some : (v : Manner) (f : Placed → Bool) (l : List Placed) (x : Placed) → first f (within v l) ≡ some x → some-of l ≡ true
@@ -587,34 +236,29 @@ H Q = held (Q .b) (Q .w)
 
 module _ (Q : Setting) where
   no-plain : isPlain (H Q) ≡ false
-  no-plain = held-some (Q .ready) (Q .w) (Q .known) (Q .holds)
+  no-plain = held-some (Q .ready) (Q .known) (Q .holds)
 
   kind-is : Q .e .kind ≡ kindOf (H Q)
-  kind-is = ap (λ (x : Entry). x .kind) (Q .entry) ∙ held-kind (Q .ready) (Q .w) (Q .known) (Q .holds)
+  kind-is = held-kind (Q .ready) (Q .known) (Q .holds) (Q .e) (Q .entry)
 
   its-span : Spanned (Q .b) (H Q) (unpacked (Q .w) .kind) (Q .s)
-  its-span = its (Q .ready) (Q .w) (Q .known) (Q .s) (Q .span ∙ ap (λ (x : Entry). spanOf (Q .b) (x .kind) (x .own)) (Q .entry))
+  its-span = held-span (Q .ready) (Q .known) (Q .holds) (Q .e) (Q .entry) (Q .s) (Q .span)
 
   few : length (partsOf (H Q)) ≤ 16
-  few = parts-few (H Q) (omega (arith, its-span .count, its-span .few))
+  few = held-few (Q .ready) (Q .known) (Q .holds) (Q .e) (Q .entry) (Q .s) (Q .span)
 
-  step-is : Q .s .step ≡ spanOf (Q .b) (kindOf (H Q)) (Q .e .own) .step
-  step-is = ap (λ (x : Span). x .step) (Q .span) ∙ ap (λ (k : ℕ). spanOf (Q .b) k (Q .e .own) .step) kind-is
-
-  step-two : Q .s .step ≤ 2
-  step-two = omega (arith, step-is, step-small (Q .b) (H Q) (Q .e .own))
+  onward-is : (place : ℕ) → place + Q .s .step / 2 ≡ onward (kindOf (H Q)) place
+  onward-is = held-onward (Q .ready) (Q .known) (Q .holds) (Q .e) (Q .entry) (Q .s) (Q .span)
 
   pub count-few : Q .s .count ≤ 16
   count-few = its-span .few
 
   one-is : (g : Bool) → g ≡ (eqb (Q .e .kind) 50 || eqb (Q .e .kind) 51) → isSingle (manner (H Q)) ≡ g
-  one-is g eg = sym (eg ∙ ap holdsOne kind-is ∙ one-kind (H Q) no-plain)
+  one-is g eg = sym (eg ∙ held-one (Q .ready) (Q .known) (Q .holds) (Q .e) (Q .entry))
 
   module _ (n : ℕ) (en : n ≡ nodeOf (Q .e .kind) (Q .s .count)) where
     node-total : n ≡ nodeSize (H Q)
-    node-total =
-        en ∙ ap (λ (k : ℕ). nodeOf k (Q .s .count)) kind-is ∙ ap (nodeOf (kindOf (H Q))) (its-span .count ∙ sym (count-is (H Q)))
-        ∙ node-is (H Q) (some-kind (H Q) no-plain)
+    node-total = en ∙ held-node (Q .ready) (Q .known) (Q .holds) (Q .e) (Q .entry) (Q .s) (Q .span)
 
     node-few : n ≤ 20
     node-few = omega (arith, node-total, node-small (H Q) few)
@@ -669,8 +313,8 @@ module _ {Q : Setting} (P : Turn Q) where
   abbrev E : End
   E = endOf (P .marked) (length (P .m)) (drop (P .at) (P .m))
 
-  refused-here : (c : ℕ) → W ≡ refused c (length Rest) → Refused c (length (P .m) - P .at) ≡ told (P .m) size W
-  refused-here c x = told-refused (P .m) W c (length (P .m) - P .at) (x ∙ ap (refused c) (length-drop (P .at) (P .m)))
+  refused-here : (c : Cause) → W ≡ refused c (length Rest) → Refused c (length (P .m) - P .at) ≡ told (P .m) size W
+  refused-here c x = tell-refused (P .m) size W c (length (P .m) - P .at) (x ∙ ap (refused c) (length-drop (P .at) (P .m)))
 
   total-few : P .total < 16386
   total-few = omega (arith, P .so-far .going .sized)
@@ -694,7 +338,7 @@ module _ {Q : Setting} (P : Turn Q) where
       let g =
       going-over W (T Q) R (H Q) (mode (P .marked)) (P .m) (P .at) I (P .came) (P .total) (P .so-far .going) n (drop u (P .m))
       (λ A f z. end-over {A = A} f z (P .m) (P .at) (P .marked) E u (P .low) refl a .0) l in
-      told-done (P .m) W (g .value) u (P .total) (g .is)
+      tell-done (P .m) size W (g .value) u (P .total) (g .is)
       (end-over {A = ℕ} (λ z. got 0 z) (λ z. refused Cut 0) (P .m) (P .at) (P .marked) E u (P .low) refl a .2) (g .size)
 
   -- that lack a part, or are broken
@@ -707,7 +351,7 @@ module _ {Q : Setting} (P : Turn Q) where
 
       go : Stopped (H Q) I (P .came) E c → Refused c (length (P .m) - P .at) ≡ told (P .m) size W
       go (inl (u, a, l, q)) =
-          rw q (refused-here 24
+          rw q (refused-here NotAwaited
           (going-lacking W (T Q) R (H Q) (mode (P .marked)) (P .m) (P .at) I (P .came) (P .total) (P .so-far .going) N (drop u (P .m))
           (λ A f z. end-over {A = A} f z (P .m) (P .at) (P .marked) E u (P .low) refl a .0) l))
       go (inr (f, a, q)) =
@@ -735,7 +379,7 @@ module _ {Q : Setting} (P : Turn Q) where
     judged-unfit way c r q₀ ec =
         let q : Sought (Q .b) (H Q) I (P .came) Rest way (NotFound c) = rw (part-to-end (P .m) (P .at), ec) at q₀ in
         let x = unfit-alike {A = List ℕ} {B = Value} (H Q) I (P .came) Rest c (length Rest) (q .1) in
-        rw cause-number at (refused-here c (whole (q .0) ∙ x))
+        refused-here c (whole (q .0) ∙ x)
       where
         whole : next (T Q) (H Q) I (P .came) Rest ≡ none → W ≡ unfit (H Q) I (P .came) Rest
         whole q =
@@ -777,25 +421,6 @@ module _ {Q : Setting} {P : Turn Q} (X : Comes P) where
   abbrev Type-of : ℕ
   Type-of = X .is .part .type
 
-  abbrev C : ℕ
-  C = codeOf (X .is .identifier)
-
-  all-fit : (t : ℕ) → Fit (T Q t)
-  all-fit = fit (Q .b) (T Q) (countIn (Q .b)) (Q .ready .passes)
-
-  all-nested : (t : ℕ) → Nested (T Q) 128 t
-  all-nested = nested-all (Q .b) (T Q) (countIn (Q .b)) (Q .ready .passes)
-
-  its-octets : Octets (Rest P)
-  its-octets = octets-from (P .m) (P .at) (P .octets)
-
-  tagged : C ≡ untagged → ⊥
-  tagged z = omega (arith, read-code-small (Rest P) (X .is .identifier) (drop (X .from) (P .m)) its-octets (X .is .read), z)
-
-  code-tells : Tells (T Q) (Rest P) C
-  unfolding peeked
-  code-tells = rw (X .is .read) at (tells (T Q) all-fit (Rest P) its-octets)
-
   abbrev Begins : Placed → Bool
   Begins x = begun (T Q) (x .1 .type) (Rest P)
 
@@ -809,12 +434,12 @@ module _ {Q : Setting} {P : Turn Q} (X : Comes P) where
       omega (arith, F .place, F .low, length-drop (I P) (partsOf (H Q)), few Q)
 
   pub behind-few : X .place + Q .s .step / 2 ≤ 16
-  behind-few = omega (arith, place-few, step-two Q)
+  behind-few = omega (arith, place-few, onward-is Q (X .place), onward-most (kindOf (H Q)) (X .place))
 
   pub number-few : X .number < 128
   number-few = omega (arith, X .is .there, Q .ready .filled .few)
 
-  part-refused : (c l : ℕ) → R P Type-of (Rest P) ≡ refused c l → W P ≡ refused c l
+  part-refused : (c : Cause) (l : ℕ) → R P Type-of (Rest P) ≡ refused c l → W P ≡ refused c l
   part-refused c l q =
       test (isSingle (manner (H Q)))
       (λ n. one-refused (W P) (T Q) (R P) (H Q) (mode (P .marked)) (P .m) (P .at) (I P) (P .came) (P .total) (P .so-far .going) n
@@ -824,11 +449,10 @@ module _ {Q : Setting} {P : Turn Q} (X : Comes P) where
       (its-more P (X .item) n) some-remain (X .place, X .is .part) (X .is .found) c l q
 
   -- under more CHOICEs than there are levels
-  pub judged-level : P .level ≤ X .depth → Refused Level (length (P .m) - P .at) ≡ told (P .m) size (W P)
+  pub judged-level : P .level ≤ X .depth → Refused MessageLevel (length (P .m) - P .at) ≡ told (P .m) size (W P)
   unfolding if
   judged-level h =
-      refused-here P 28 (part-refused MessageLevel (length (Rest P))
-      (way-level (T Q) all-fit all-nested C tagged (Rest P) code-tells (X .is .leads) (X .is .its) (P .level) h))
+      refused-here P MessageLevel (part-refused MessageLevel (length (Rest P)) (item-level (Q .ready) (P .octets) (X .is) (P .level) h))
 
   -- the entry of its record
   abbrev Entry-of : ℕ
@@ -838,14 +462,7 @@ module _ {Q : Setting} {P : Turn Q} (X : Comes P) where
   is-record = (X .number, X .is .there, refl)
 
   pub is-headed : Headed (P .m) (P .at) (X .from) (unpacked Entry-of .code)
-  is-headed =
-      record {
-        identifier = X .is .identifier;
-        is = X .is .read;
-        coded = sym (X .is .its) ∙ sym (Q .ready .filled .entered (X .number) (X .is .there) .code);
-        further = X .is .further;
-        low = X .is .low;
-      }
+  is-headed = item-headed (Q .ready) (P .octets) (X .is)
 
 -- whose value was judged
 pub record Valued {Q : Setting} {P : Turn Q} (X : Comes P) : Type 0 where
@@ -868,9 +485,7 @@ module _ {Q : Setting} {P : Turn Q} {X : Comes P} (Y : Valued X) where
   Through z = then z λ v u. got (wrapped (X .way) (X .depth) v) u
 
   through-way : R P (Type-of X) (Rest P) ≡ Through Below
-  through-way =
-      way-value (T Q) (all-fit X) (all-nested X) (C X) (tagged X) (Rest P) (code-tells X) (X .is .leads) (X .is .its) (P .level)
-      (omega (arith, Y .deep))
+  through-way = item-value (Q .ready) (P .octets) (X .is) (P .level) (omega (arith, Y .deep))
 
   is-said : Y .r ≡ told (P .m) size Below
   is-said = Y .said ∙ ap (told (P .m) size) record-value
@@ -882,13 +497,12 @@ module _ {Q : Setting} {P : Turn Q} {X : Comes P} (Y : Valued X) where
   pub judged-refused : (c : Cause) (l : ℕ) → Y .r ≡ Refused c l → Refused c l ≡ told (P .m) size (W P)
   unfolding then
   judged-refused c l q =
-      let (k, x, y) = said-refused (P .m) Below c l (sym is-said ∙ q) in
-      ap (λ (z : Cause). Refused z l) y ∙ told-refused (P .m) (W P) k l (part-refused X k l (through-way ∙ ap Through x))
+      tell-refused (P .m) size (W P) c l (part-refused X c l (through-way ∙ ap Through (told-refused (P .m) size Below (Y .r) is-said c l q)))
 
   -- or accepted
   module _ (end n : ℕ) (q : Y .r ≡ Done end n) where
     abbrev Its : (v : Value) × (u : List ℕ) × (Below ≡ got v u) × (end ≡ length (P .m) - length u) × (n ≡ cap (length (octets v)))
-    Its = said-done (P .m) Below end n (sym is-said ∙ q)
+    Its = told-done (P .m) size Below (Y .r) is-said end n q
 
     its-behind : (Its .1 ≡ drop (length (P .m) - length (Its .1)) (P .m)) × (P .at < length (P .m) - length (Its .1))
     its-behind = value-behind (T Q) (P .level - X .depth) (X .number) (P .m) (P .at) (P .low) (Its .0) (Its .1) (Its .2)
@@ -920,7 +534,7 @@ module _ {Q : Setting} {P : Turn Q} {X : Comes P} (Y : Valued X) where
             let g =
             one-done (W P) (T Q) (R P) (H Q) (mode (P .marked)) (P .m) (P .at) (I P) (P .came) (P .total) (P .so-far .going) (one-is Q k ek ∙ z)
             (X .place, X .is .part) (X .is .found) Whole (drop end (P .m)) (cap (length (octets Whole))) last its-value refl grown in
-            told-done (P .m) (W P) (g .value) end last (g .is) value-low (g .size)
+            tell-done (P .m) size (W P) (g .value) end last (g .is) value-low (g .size)
 
         -- before the next one
         pub judged-turn : k ≡ false → (came′ : List ℕ) → Notes (Q .e .kind) (P .came) (X .place) came′
@@ -929,7 +543,7 @@ module _ {Q : Setting} {P : Turn Q} {X : Comes P} (Y : Valued X) where
             let y = one-is Q k ek ∙ z in
             let a : came′ ≡ noted (manner (H Q)) (P .came) (X .place) = notes-are (H Q) (P .came) (X .place) came′ (rw (← kind-is Q) ec) in
             let f : since (manner (H Q)) (X .place + Q .s .step / 2) ≡ following (manner (H Q)) (X .place) =
-            ap (λ (k : ℕ). since (manner (H Q)) (X .place + k / 2)) (step-is Q) ∙ follows (Q .b) (H Q) (Q .e .own) (X .place) in
+            ap (λ (k : ℕ). since (manner (H Q)) k) (onward-is Q (X .place)) ∙ since-onward (H Q) (X .place) in
             record {
               one = λ z. absurd (true≢false (sym z ∙ y));
               noted = ap length a ∙ noted-length (manner (H Q)) (P .came) (X .place) ∙ P .so-far .noted;

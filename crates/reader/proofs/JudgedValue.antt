@@ -1,214 +1,56 @@
 -- A value of a record in a message: under its explicit tags, its length, its contents, simple ones or items, and what stands behind them.
 -- Assumes nothing.
-use borrow.Author.Tests.{eq-eqb, ne-eqb}
-use lib.Dec.{eqb}
-use lib.ListN.{length, getD, take, drop, length-append, length-drop}
-use lib.Seq.{take-length, take-take, length-take-le, drop-drop, drop-length, drop-append-seam}
-use mathlib.Core.Bool.{Bool, true, false, not, true≢false, false≢true}
-use mathlib.Core.List.{List, [], _∷_, _++_}
-use mathlib.Core.Logic.{_⊎_, inl, inr}
-use mathlib.Core.Option.{Option, some, none}
+use lib.ListN.{length, take, drop, length-drop}
+use mathlib.Core.Bool.{true, false, not}
+use mathlib.Core.List.{List, [], _∷_}
+use mathlib.Core.Option.{some}
 use mathlib.Core.Path.{_≡_, refl, sym, ap, _∙_}
 use native.Mathlib.Omega.{arith}
-use Prim.Native.Nat.{ℕ, zero, suc, _+_, _-_, _≤_, _<_}
+use Prim.Native.Nat.{ℕ, _+_, _-_, _≤_, _<_}
 use Rattle.octets.specs.declared.cause.Cause.{Cause}
-use Rattle.octets.specs.declared.cause.Cause.the-variants.{Cut, Form, NotAwaited, Contents, Trailing}
-use Rattle.octets.specs.Answer.{Answer, got, refused, then, if, behind, none-left}
-use Rattle.octets.specs.Numbers.{Octets}
-use Rattle.octets.specs.Permutations.{as-given}
-use Rattle.octets.proofs.Answer.{Holds, Taken, got-holds, if-cases}
-use Rattle.octets.proofs.Tests.{test}
-use Rattle.ber.specs.Codes.{codeOf}
-use Rattle.ber.specs.Reading.{Mode, closed, open-ended, Size, definite, indefinite, readIdentifier, readLength, readHeader, inside as insideSize}
-use Rattle.ber.specs.Reading.{readConstructed, contents, readPrimitive, atEnd}
-use Rattle.ber.specs.Told.{toldIdentifier, toldLength, faultOf, mode}
-use Rattle.ber.specs.declared.identifier.Identifier.the-variants.{Refused as NoIdentifier}
+use Rattle.octets.specs.declared.cause.Cause.the-variants.{Cut, Form, Contents, Trailing}
+use Rattle.octets.specs.Answer.{Answer, got, refused, then, if, none-left}
+use Rattle.octets.proofs.Answer.{got-holds, if-cases, refused≢got}
+use Rattle.ber.specs.Reading.{closed, readLength}
+use Rattle.ber.specs.Told.{toldLength}
 use Rattle.ber.specs.declared.length.Length.{Length}
-use Rattle.ber.specs.declared.length.Length.the-variants.{Read as ReadLength, Refused as NoLength}
-use Rattle.ber.specs.declared.length.Extent.{Extent}
-use Rattle.ber.proofs.Told.{identifier-refused, length-definite, length-indefinite, length-refused}
-use Rattle.table.specs.Syntax.{Simple, Boolean, Integer, BitString, OctetString, Null, Enumerated, Body, Plain, Sequence, Set}
-use Rattle.table.specs.Syntax.{SequenceOf, SetOf, Choice, Record, Table, isChoice, constructed}
-use Rattle.table.specs.Rules.{members}
+use Rattle.ber.specs.declared.length.Length.the-variants.{Refused as NoLength}
+use Rattle.ber.proofs.Told.{length-refused}
+use Rattle.table.specs.Syntax.{Simple, Boolean, Integer, BitString, OctetString, Null, Enumerated, Body, Plain}
+use Rattle.table.specs.Syntax.{Record, Table}
 use Rattle.table.specs.Reading.{bodyAt}
 use Rattle.table.specs.Entries.{unpacked, tableIn, countIn}
 use Rattle.table.specs.declared.entry.Entry.{Entry}
-use Rattle.table.proofs.Promises.{kind-choice, entered-members}
 use Rattle.coding.specs.Tags.{own, explicit}
 use Rattle.coding.specs.Value.{Value, leaf, Leaf, boolean, integer, bits, string, null, enumerated, leafOctets, octets}
-use Rattle.coding.specs.Encodes.{EncodesAt}
-use Rattle.coding.specs.Reading.{decode, notAwaited, readWrapped, readKind, readValue, readMessage}
+use Rattle.coding.specs.Reading.{decode, readValue, readMessage}
 use Rattle.coding.proofs.Content.{content-sound, content-complete}
-use Rattle.coding.proofs.FirstTags.{good}
-use Rattle.coding.proofs.Refusals.{Says, names, value-shorter, value-says}
-use Rattle.coding.proofs.Sound.{value-sound}
 use Rattle.reader.specs.Answers.{cap, told, size}
-use Rattle.reader.specs.Items.{Holder, inside, message, manner, Placed, remains, lacks, following, noted, isSingle, Hand, readPart, next}
-use Rattle.reader.specs.Items.{readItems, blank, readHeld}
-use Rattle.reader.specs.Records.{Ready, recordIn, IsRecord, Known, of-record, of-message, holderIn, readRecord}
+use Rattle.reader.specs.Items.{Holder, message}
+use Rattle.reader.specs.Items.{readHeld}
+use Rattle.reader.specs.Records.{Ready, IsRecord, Known, of-message, holderIn, readRecord}
 use Rattle.reader.specs.Sought.{held}
 use Rattle.reader.specs.Weights.{weight, leafWeight}
-use Rattle.reader.specs.Wraps.{ended, shut, closing, Around, identifiers, Headed, readBare, Opens}
+use Rattle.reader.specs.Wraps.{closing, Around, readBare, Opens}
 use Rattle.reader.specs.declared.answer.Judged.{Judged}
 use Rattle.reader.specs.declared.answer.Judged.the-variants.{Done, Refused}
-use Rattle.reader.specs.declared.tags.Inner.{Inner}
 use Rattle.reader.specs.declared.tags.Opened.{Opened}
-use Rattle.reader.specs.declared.tags.Opened.the-variants.{Inside, Refused as NotOpened}
-use Rattle.reader.proofs.Items.{Ending, over, broken, more, ending}
-use Rattle.reader.proofs.ItemsKinds.{Kind, kind-held, message-whole}
-use Rattle.reader.proofs.Opening.{octets-drop, octets-take, slice-is, behind-at, first-by, item-refused, its-count, its-first, its-few}
-use Rattle.reader.proofs.Spans.{held-body}
-use Rattle.reader.proofs.Tagging.{count-identifiers, code-at, same-at, its-entry, its-record, its-fit}
+use Rattle.reader.specs.declared.tags.Opened.the-variants.{Refused as NotOpened}
+use Rattle.reader.proofs.Items.{over}
+use Rattle.reader.proofs.ItemsKinds.{message-whole}
+use Rattle.reader.proofs.Bodies.{recordOf, its-body}
+use Rattle.reader.proofs.Opening.{item-refused, its-count, its-few}
+use Rattle.reader.proofs.Tails.{Sane, leaves, stops, tail-less, Closes, held-sane, not-none}
+use Rattle.reader.proofs.Told.{told-refused, told-done, tell-refused}
+use Rattle.reader.proofs.ValueParts.{Item, Filling, Rec, Part, Rest, Bare, left-part, own-header, no-choice, P, S, C, Own, Kept, Size-of, size-C, size-part}
+use Rattle.reader.proofs.ValueParts.{contents-within, is-plain, plain-header, plain-open, leaf-read, Held, Fine, fine, reads, its-notes, no-notes, tags-refused}
 use Rattle.reader.proofs.Wrapping.{closing-refused}
-
--- u is an end of s
-abbrev pub Tail : List ℕ → List ℕ → Type 0
-Tail s u = (k : ℕ) × (k ≤ length s) × (u ≡ drop k s)
-
-tail-of : (s : List ℕ) {u : List ℕ} (p : List ℕ) → s ≡ p ++ u → Tail s u
-tail-of s {u} p e = (length p, omega (arith, ap length e, length-append p u), sym (ap (drop (length p)) e ∙ drop-append-seam p u))
-
-tail-on : (s t u : List ℕ) → Tail s t → Tail t u → Tail s u
-tail-on s t u (k, h, e) (i, l, f) =
-    (k + i, omega (arith, ap length e, length-drop k s), f ∙ ap (drop i) e ∙ drop-drop i k s)
-
-tail-less : {s u : List ℕ} → Tail s u → length u ≤ length s
-tail-less {s} {u} (k, h, e) = omega (arith, ap length e, length-drop k s)
-
--- the end that is as long
-tail-at : (s u : List ℕ) → Tail s u → u ≡ drop (length s - length u) s
-tail-at s u (k, h, e) =
-    let q : length s - length u ≡ k = omega (arith, ap length e, length-drop k s) in
-    rw q e
-
-not-none : (s : List ℕ) → (length s ≡ 0 → ⊥) → none-left s ≡ false
-unfolding none-left
-not-none [] h = absurd (h refl)
-not-none (x ∷ s) h = refl
-
-some-left : (s : List ℕ) → none-left s ≡ false → 0 < length s
-unfolding none-left
-some-left [] h = absurd (true≢false h)
-some-left (b ∷ s) h = omega arith
-
--- What was read leaves an end of what was given, of which P holds; or no more octets are left at the place of a refusal than were given.
-pub data Sane {A : Type 0} (P : List ℕ → Type 0) (s : List ℕ) : Answer A → Type 0 where
-  leaves : {a : A} {u : List ℕ} → Tail s u → P u → Sane P s (got a u)
-  stops : {c l : ℕ} → l ≤ length s → Sane P s (refused c l)
-
-module _ {A : Type 0} {P : List ℕ → Type 0} where
-  sane-wider : (s t : List ℕ) → Tail s t → {x : Answer A} → Sane P t x → Sane P s x
-  sane-wider s t h (leaves {u = u} i p) = leaves (tail-on s t u h i) p
-  sane-wider s t h (stops {l = l} i) = stops {l = l} (omega (arith, tail-less h))
-
-  sane-if : (s : List ℕ) (b : Bool) {x : Answer A} {y : Unit {0} → Answer A} → (b ≡ true → Sane P s x) → (b ≡ false → (u : Unit {0}) → Sane P s (y u))
-      → Sane P s (if b x y)
-  unfolding if
-  sane-if s true h k = h refl
-  sane-if s false h k = k refl tt
-
-  sane-then : {B : Type 0} {Q : List ℕ → Type 0} (s : List ℕ) {x : Answer B} {f : B → List ℕ → Answer A} → Sane Q s x
-      → ((a : B) (u : List ℕ) → Tail s u → Q u → Sane P s (f a u)) → Sane P s (then x f)
-  unfolding then
-  sane-then s (leaves {a = a} {u = u} h q) k = k a u h q
-  sane-then s (stops {l = l} h) k = stops {l = l} h
-
-  sane-end : (k : Mode) (s : List ℕ) {f : List ℕ → Answer A} {x : Unit {0} → Answer A}
-      → ((u : List ℕ) → Tail s u → (k ≡ closed → u ≡ []) → Sane P s (f u))
-      → ((u : Unit {0}) → Sane P s (x u)) → Sane P s (atEnd k s f x)
-  unfolding atEnd
-  sane-end closed s h i = sane-if s _ (λ e. h [] (length s, omega arith, sym (drop-length s)) (λ _. refl)) λ e. i
-  sane-end open-ended s h i =
-      sane-if s _ (λ e. stops {l = 0} (omega arith)) λ e _.
-      sane-if s _ (λ e. i tt) λ e _.
-      sane-if s _ (λ e. stops {l = length s} (omega arith)) λ f _.
-      sane-if s _ (λ e. stops {l = length s} (omega arith)) λ g _.
-      h (drop 2 s) (2, omega (arith, some-left (drop 1 s) f, length-drop 1 s), refl) λ q. absurd (open-not q)
-    where
-      open-not : open-ended ≡ closed → ⊥
-      open-not q = let z : _≡_ {A = ℕ} 0 1 = cc in omega arith
-
--- an item that is not awaited, and a value
-unawaited-sane : {A : Type 0} {P : List ℕ → Type 0} (s : List ℕ) → Sane {A = A} P s (notAwaited s)
-unfolding notAwaited then toldIdentifier
-unawaited-sane {A} {P} s = go (readIdentifier s) refl
-  where
-    go : (x : Answer (List ℕ)) → readIdentifier s ≡ x → Sane {A = A} P s (then x λ i s₁. refused NotAwaited (length s))
-    go (got i u) e = stops {l = length s} (omega arith)
-    go (refused c l) e =
-        let q : NoIdentifier (faultOf c) ≡ toldIdentifier (length s) (readIdentifier s) = rw e refl in
-        let y = identifier-refused s (NoIdentifier (faultOf c)) q (faultOf c) refl in
-        let z : _≡_ {A = Answer (List ℕ)} (refused c l) (refused (faultNumber (faultOf c)) (length s)) = sym e ∙ y in
-        let v : l ≡ length s = cc in
-        stops {l = l} (omega arith)
-
-abbrev Any : List ℕ → Type 0
-Any u = Unit {0}
-
-value-sane : (T : Table) (n t : ℕ) (s : List ℕ) → Sane Any s (readValue T n t s)
-value-sane T n t s = go (readValue T n t s) (value-sound as-given T n t s) (value-says T n t s)
-  where
-    few : {c l : ℕ} → Says {A = Value} (length s) (refused c l) → l ≤ length s
-    few (names k h) = h
-
-    go : (x : Answer Value) → Holds (Taken (EncodesAt as-given T n t) s) x → Says (length s) x → Sane Any s x
-    go (got v u) h k = let y = got-holds h refl in leaves (tail-of s (y .piece) (y .cut)) tt
-    go (refused c l) h k = stops {l = l} (few k)
-
--- items: closed contents of which they are all leave nothing
-module _ (T : Table) (n : ℕ) (h : Holder) where
-  abbrev pub Closes : Mode → List ℕ → Type 0
-  Closes k u = isSingle (manner h) ≡ false → k ≡ closed → u ≡ []
-
-  part-sane : (x : Option Placed) (s : List ℕ) → Sane Any s (readPart T (readValue T n) x s)
-  unfolding readPart
-  part-sane none s = unawaited-sane s
-  part-sane (some x) s = sane-then s (value-sane T n (x .1 .type) s) λ v u t _. leaves t tt
-
-  items-sane : (k j : ℕ) (came : List ℕ) (hand : Hand) (e : Mode) (s : List ℕ) → Sane (Closes e) s (readItems T (readValue T n) h k j came hand e s)
-  unfolding readItems
-  items-sane zero j came hand e s = stops {l = 0} (omega arith)
-  items-sane (suc k) j came hand e s =
-      sane-if s (isSingle (manner h))
-      (λ one. sane-then s (part-sane (next T h j came s) s) λ x u t _. leaves t λ many. absurd (true≢false (sym one ∙ many)))
-      λ many _.
-      sane-end e s
-      (λ u t q. sane-if s (lacks h j came) (λ f. stops {l = length s} (omega arith)) λ f _. leaves t λ _. q)
-      λ _.
-      sane-if s (not (remains h j came)) (λ f. stops {l = length s} (omega arith)) λ f _.
-      sane-then s (part-sane (next T h j came s) s) λ x u t _.
-      sane-wider s u t (items-sane k (following (manner h) (x .0)) (noted (manner h) came (x .0)) (hand ++ (x ∷ [])) e u)
-
-  pub held-sane : (e : Mode) (s : List ℕ) → Sane (Closes e) s (readHeld T (readValue T n) h e s)
-  unfolding readHeld
-  held-sane e s = sane-then s (items-sane (suc (length s)) 0 blank [] e s) λ hand u t q. leaves t q
-
--- what the judge's answers say
-pub told-refused : {A : Type 0} (m : List ℕ) (f : A → ℕ) (x : Answer A) (y : Judged) → y ≡ told m f x → (c : Cause) (l : ℕ) → y ≡ Refused c l
-    → (k : ℕ) × (x ≡ refused k l) × (c ≡ k)
-unfolding told
-told-refused m f (got a u) y e c l d = let z : _≡_ {A = ℕ} 0 1 = cc in absurd (omega arith)
-told-refused m f (refused k i) y e c l d = let z : i ≡ l = cc in (k, ap (refused k) z, cc)
-
-pub told-done : {A : Type 0} (m : List ℕ) (f : A → ℕ) (x : Answer A) (y : Judged) → y ≡ told m f x → (e n : ℕ) → y ≡ Done e n
-    → (a : A) × (u : List ℕ) × (x ≡ got a u) × (e ≡ length m - length u) × (n ≡ cap (f a))
-unfolding told
-told-done m f (got a u) y q e n d = (a, u, refl, cc, cc)
-told-done m f (refused k i) y q e n d = let z : _≡_ {A = ℕ} 0 1 = cc in absurd (omega arith)
-
-pub cause-number : (c : Cause) → c ≡ c
-unfolding if
-cause-number Cut = refl
-cause-number Form = refl
-cause-number NotAwaited = refl
-cause-number Contents = refl
-cause-number Trailing = refl
-cause-number Level = refl
+use Rattle.reader.proofs.ClosedAlike.{closing-size}
 
 -- Simple contents are read alike wherever they stand: their leaf has a size, and wrong ones are refused at the item.
 abbrev Only : ℕ → Answer Leaf → Type 0
 Only l (got x s) = Unit {0}
-Only l (refused c k) = (c ≡ 25) × (k ≡ l)
+Only l (refused c k) = (c ≡ Contents) × (k ≡ l)
 
 decode-only : (k : Simple) (l : ℕ) (c s : List ℕ) → Only l (decode k l c s)
 unfolding decode
@@ -251,69 +93,6 @@ module _ (k : Simple) (c : List ℕ) (l : ℕ) (s : List ℕ) (n : ℕ) (en : n 
       go (got x w) e = (x, decode-moves k 0 c [] l s x w e, rw e at en)
       go (refused a b) e = absurd (z (rw e at en))
 
--- Closing tags looks at the octets alone: what is read under them is kept, or refused alike.
-abbrev Alike : {A B : Type 0} → A → B → Answer A → Answer B → Type 0
-Alike a b x y = ((u : List ℕ) × (x ≡ got a u) × (y ≡ got b u)) ⊎ ((c : ℕ) × (l : ℕ) × (x ≡ refused c l) × (y ≡ refused c l))
-
-module _ {A B : Type 0} (a : A) (b : B) where
-  ended-alike : (k : Mode) (x : Answer A) (y : Answer B) → Alike a b x y → Alike a b (ended k x) (ended k y)
-  unfolding ended then
-  ended-alike k x y (inl (u, e, f)) = rw (e, f) (go (ending k u))
-    where
-      go : Ending k u → Alike a b (atEnd k u (λ v. got a v) λ _. refused Trailing (length u)) (atEnd k u (λ v. got b v) λ _. refused Trailing (length u))
-      go (over w z h) = inl (w, h A _ _, h B _ _)
-      go (broken c l z h) = inr (c, l, h A _ _, h B _ _)
-      go (more h) = inr (26, length u, h A _ _, h B _ _)
-  ended-alike k x y (inr (c, l, e, f)) = inr (c, l, rw e refl, rw f refl)
-
-  shut-alike : (m : List ℕ) (outer inner : ℕ) (k : Bool) (x : Answer A) (y : Answer B) → Alike a b x y
-      → Alike a b (shut m outer inner k x) (shut m outer inner k y)
-  unfolding shut then behind
-  shut-alike m outer inner true x y h = ended-alike open-ended x y h
-  shut-alike m outer inner false x y h = go (ended-alike closed x y h)
-    where
-      go : Alike a b (ended closed x) (ended closed y)
-          → Alike a b (then (behind (outer - inner) (ended closed x)) λ v r. got v (drop inner (take outer m)))
-          (then (behind (outer - inner) (ended closed y)) λ v r. got v (drop inner (take outer m)))
-      go (inl (u, e, f)) = inl (drop inner (take outer m), rw e refl, rw f refl)
-      go (inr (c, l, e, f)) = inr (c, l + (outer - inner), rw e refl, rw f refl)
-
-  closing-alike : (m ns : List ℕ) (e : ℕ) (x : Answer A) (y : Answer B) → Alike a b x y → Alike a b (closing m ns e x) (closing m ns e y)
-  unfolding closing
-  closing-alike m [] e x y h = h
-  closing-alike m (n ∷ ns) e x y h = shut-alike m _ _ _ (closing m ns e x) (closing m ns e y) (closing-alike m ns e x y h)
-
--- so a size may be closed in place of the value
-pub closing-size : {A B : Type 0} (m ns : List ℕ) (e : ℕ) (a : A) (b : B) (u : List ℕ) (f : A → ℕ) (g : B → ℕ) → cap (f a) ≡ cap (g b)
-    → told m f (closing m ns e (got a u)) ≡ told m g (closing m ns e (got b u))
-unfolding told
-closing-size m ns e a b u f g q = go (closing-alike a b m ns e (got a u) (got b u) (inl (u, refl, refl)))
-  where
-    go : Alike a b (closing m ns e (got a u)) (closing m ns e (got b u)) → told m f (closing m ns e (got a u)) ≡ told m g (closing m ns e (got b u))
-    go (inl (w, x, y)) = rw (x, y, q) refl
-    go (inr (c, l, x, y)) = rw (x, y) refl
-
--- Under the explicit tags of r, the item of r stands from `at` on, in octets that end at `end`; its identifier, if it has one, ends at `from`.
--- The value of r is what closing the tags makes of what is read there.
-pub record Under (b : List ℕ) (r : Record) (m : List ℕ) (first : ℕ) (ns : List ℕ) (at from end : ℕ) : Type 0 where
-  pub some : at < end
-  pub high : end ≤ length m
-  pub around : Around (length m) ns end
-  pub headed : isChoice (r .body) ≡ false → Headed (take end m) at from (codeOf (own r))
-  pub whole : (n : ℕ) → readRecord (tableIn b) n r (drop first m) ≡ closing m ns end (readBare b n r (drop at (take end m)))
-
--- where the contents of that item stand
-abbrev pub sizeOf : Bool → ℕ → Size
-sizeOf true n = indefinite
-sizeOf false n = definite n
-
-pub record Within (r : Record) (p : List ℕ) (at end start stop : ℕ) (marked : Bool) : Type 0 where
-  pub ordered : start ≤ stop
-  pub high : stop ≤ end
-  pub unsized : marked ≡ true → stop ≡ end
-  pub bare : isChoice (r .body) ≡ true → (start ≡ at) × (stop ≡ end)
-  pub header : isChoice (r .body) ≡ false → readHeader (own r) (drop at p) ≡ got (sizeOf marked (stop - start)) (drop start p)
-
 -- the item is read, its value has `count` octets, and what follows begins at `stop`
 pub record Over (b : List ℕ) (r : Record) (n : ℕ) (p : List ℕ) (at end stop count : ℕ) : Type 0 where
   pub within : stop ≤ end
@@ -322,216 +101,20 @@ pub record Over (b : List ℕ) (r : Record) (n : ℕ) (p : List ℕ) (at end sto
   pub is : readBare b n r (drop at p) ≡ got value (drop stop p)
   pub sized : count ≡ cap (length (octets value))
 
-nil-of : (l : List (List ℕ)) → length l ≡ 0 → l ≡ []
-nil-of [] e = refl
-nil-of (x ∷ l) e = absurd (omega arith)
-
--- kinds of bodies
-plain-of : (y : Body) → constructed y ≡ false → (k : Simple) × (y ≡ Plain k)
-unfolding constructed
-plain-of (Plain k) e = (k, refl)
-plain-of (Sequence ms) e = absurd (true≢false e)
-plain-of (Set ms) e = absurd (true≢false e)
-plain-of (SequenceOf t) e = absurd (true≢false e)
-plain-of (SetOf t) e = absurd (true≢false e)
-plain-of (Choice ts) e = absurd (true≢false e)
-
-no-alternatives : (y : Body) (k : Simple) → y ≡ Plain k → isChoice y ≡ false
-unfolding isChoice
-no-alternatives y k q = rw q refl
-
-not-is : (t : Bool) → true ≡ not t → t ≡ false
-not-is true e = e
-not-is false e = refl
-
-is-not : (t : Bool) → false ≡ not t → t ≡ true
-is-not true e = refl
-is-not false e = e
-
-single-kind : (y : Body) → constructed y ≡ true → isSingle (manner (inside y)) ≡ isChoice y
-unfolding constructed manner isSingle isChoice
-single-kind (Plain k) e = absurd (false≢true e)
-single-kind (Sequence ms) e = refl
-single-kind (Set ms) e = refl
-single-kind (SequenceOf t) e = refl
-single-kind (SetOf t) e = refl
-single-kind (Choice ts) e = refl
-
--- the item of a simple kind, by its header
-module _ (T : Table) (f : ℕ → List ℕ → Answer Value) (i : List ℕ) (y : Body) (s : List ℕ) (k : Simple) (q : y ≡ Plain k) (z : Bool) (n : ℕ)
-    (u : List ℕ)
-    (h : readHeader i s ≡ got (sizeOf z n) u) where
-  plain-open : z ≡ true → readKind T f i y s ≡ refused Form (length s)
-  unfolding readKind readPrimitive then contents
-  plain-open t = let g = rw t at h in rw (q, g) refl
-
-  plain-sized : z ≡ false → readKind T f i y s ≡ then (decode k (length s) (take n u) (drop n u)) λ x w. got (leaf x) w
-  unfolding readKind readPrimitive then contents
-  plain-sized t = let g = rw t at h in rw (q, g) refl
-
--- the item of a constructed kind, by its header
-module _ (i : List ℕ) (s : List ℕ) (z : Bool) (n : ℕ) (u : List ℕ) (h : readHeader i s ≡ got (sizeOf z n) u)
-    (body : Mode → List ℕ → Answer Value) where
-  built-open : z ≡ true → readConstructed i body s ≡ body open-ended u
-  unfolding readConstructed then insideSize
-  built-open t = let g = rw t at h in rw g refl
-
-  built-sized : z ≡ false → readConstructed i body s ≡ then (behind (length u - n) (body closed (take n u))) λ v w. got v (drop n u)
-  unfolding readConstructed then insideSize
-  built-sized t = let g = rw t at h in rw g refl
-
--- and by the items in it
-module _ (T : Table) (f : ℕ → List ℕ → Answer Value) (i s : List ℕ) where
-  abbrev Built : Body → Answer Value → Type 0
-  Built y x =
-      (isChoice y ≡ false → x ≡ readConstructed i (readHeld T f (inside y)) s) × (isChoice y ≡ true → (k : Mode) → x ≡ readHeld T f (inside y) k s)
-
-  built : (g : _) (h : _) (y : Body) → constructed y ≡ true → (x : Answer Value) → Kind T f g h i s y x → Built y x
-  unfolding constructed isChoice
-  built g h (Plain k) c x q = absurd (false≢true c)
-  built g h (Sequence ms) c x q = ((λ _. q), λ e. absurd (false≢true e))
-  built g h (Set ms) c x q = ((λ _. q), λ e. absurd (false≢true e))
-  built g h (SequenceOf t) c x q = ((λ _. q), λ e. absurd (false≢true e))
-  built g h (SetOf t) c x q = ((λ _. q), λ e. absurd (false≢true e))
-  built g h (Choice ts) c x q = ((λ e. absurd (true≢false e)), λ _. q)
-
--- the record of an entry
-abbrev pub recordOf : List ℕ → ℕ → Record
-recordOf b w = recordIn b (unpacked w)
-
-module _ {b index : List ℕ} (R : Ready b index) {w : ℕ} (I : IsRecord b index w) where
-  abbrev r : Record
-  r = recordOf b w
-
-  its-body : bodyAt b (unpacked w .kind) (unpacked w .own) ≡ r .body
-  its-body = its-entry R I .body ∙ ap (λ (x : Record). x .body) (sym (its-record R I))
-
-  its-holder : held b w ≡ inside (r .body)
-  its-holder = held-body (its-entry R I) (R .filled .short) ∙ ap (λ (x : Record). inside (x .body)) (sym (its-record R I))
-
-  few-members : (y : Body) → tableIn b (I .0) .body ≡ y → length (members y) ≤ 16
-  unfolding members
-  few-members (Plain k) h = omega arith
-  few-members (Sequence ms) h = entered-members (its-entry R I) ms (inl h) .few
-  few-members (Set ms) h = entered-members (its-entry R I) ms (inr h) .few
-  few-members (SequenceOf t) h = omega arith
-  few-members (SetOf t) h = omega arith
-  few-members (Choice ts) h = omega arith
-
-  its-built : (n : ℕ) (s : List ℕ) → constructed (r .body) ≡ true → Built (tableIn b) (readValue (tableIn b) n) (own r) s (r .body) (readBare b n r s)
-  its-built n s c =
-      let T = tableIn b in
-      let g = good b T (countIn b) (R .passes) in
-      let h = value-shorter T n in
-      let l : length (members (r .body)) ≤ 16 = few-members (r .body) (ap (λ (x : Record). x .body) (sym (its-record R I))) in
-      built T (readValue T n) (own r) s g h (r .body) c (readBare b n r s) (kind-held T (readValue T n) g h (own r) s (r .body) l)
-
-  -- its own identifier is the last
-  own-at : isChoice (r .body) ≡ false → getD (identifiers r) (length (explicit r)) [] ≡ own r
-  unfolding if
-  own-at n = rw n (behind-at (explicit r) (own r))
-
-  own-last : isChoice (r .body) ≡ false → length (explicit r) < length (r .tags)
-  unfolding if
-  own-last n =
-      let q : length (identifiers r) ≡ length (explicit r) + 1 = rw n (length-append (explicit r) (own r ∷ [])) in
-      omega (arith, count-identifiers r (its-fit R I))
-
-  module _ (e : Entry) (ee : e ≡ unpacked w) where
-    its-choice : eqb (e .kind) 50 ≡ isChoice (r .body)
-    its-choice = ap (λ (x : Entry). eqb (x .kind) 50) ee ∙ kind-choice (its-entry R I)
-        ∙ ap (λ (x : Record). isChoice (x .body)) (sym (its-record R I))
-
-    its-simple : e .simple ≡ not (constructed (r .body))
-    its-simple =
-        ap (λ (x : Entry). x .simple) ee ∙ its-entry R I .simple ∙ ap (λ (x : Record). not (constructed (x .body))) (sym (its-record R I))
-
-    its-notes : (notes : List ℕ) → take (e .explicit) notes ≡ take (unpacked w .explicit) notes
-    its-notes notes = ap (λ (x : Entry). take (x .explicit) notes) ee
-
-    no-notes : e .explicit ≤ 0 → (notes : List ℕ) → take (unpacked w .explicit) notes ≡ []
-    no-notes l notes = let z : e .explicit ≡ 0 = omega arith in sym (its-notes notes) ∙ ap (λ (i : ℕ). take i notes) z
-
-    -- without tags
-    pub under-bare : (m : List ℕ) (first from : ℕ) → e .explicit ≤ 0 → Headed m first from (unpacked w .code) → (notes : List ℕ)
-        → Under b r m first (take (unpacked w .explicit) notes) first from (length m)
-    unfolding Around closing readRecord readWrapped
-    under-bare m first from l h notes =
-        let z : length (explicit r) ≡ 0 = omega (arith, ap (λ (x : Entry). x .explicit) ee, its-count R I) in
-        rw (no-notes l notes)
-        (record {
-          some = omega (arith, h .further, h .low);
-          high = omega arith;
-          around = refl;
-          headed = λ n.
-              let k : 0 < length (r .tags) = omega (arith, own-last n) in
-              let q : getD (identifiers r) 0 [] ≡ own r = ap (λ (i : ℕ). getD (identifiers r) i []) (sym z) ∙ own-at n in
-              let c : unpacked w .code ≡ codeOf (own r)
-              = its-first R I ∙ first-by (r .tags) (r .body) k ∙ sym (code-at r (its-fit R I) 0 k) ∙ ap codeOf q in
-              rw (take-length m, ← c) h;
-          whole = λ n. rw (nil-of (explicit r) z, take-length m) refl;
-        })
-
-  -- with tags
-  module _ (m : List ℕ) (first : ℕ) (ns : List ℕ) (y : Opened) (o : Opens b r m first ns y) where
-    pub under-tags : (x : Inner) → y ≡ Inside x → Under b r m first ns (x .at) (x .from) (x .end)
-    under-tags x e =
-        let (_, i, h, a, g, q) : Opens b r m first ns (Inside x) = rw e at o in
-        record { some = i; high = h; around = a; headed = g; whole = q }
-
-    pub value-unopened : (c : Cause) (l : ℕ) → y ≡ NotOpened c l → (n : ℕ) → Refused c l ≡ told m size (readRecord (tableIn b) n r (drop first m))
-    unfolding told
-    value-unopened c l e n =
-        let (_, q) : Opens b r m first ns (NotOpened c l) = rw e at o in
-        rw (q n, cause-number c) refl
-
--- An item of a record where its tags are opened: what the value stands in, and where. The values in it have `level` levels.
-pub record Item (b index : List ℕ) (w : ℕ) (m : List ℕ) (first level : ℕ) : Type 0 where
-  pub ready : Ready b index
-  pub known : IsRecord b index w
-  pub all-octets : Octets m
-  pub short : length m ≤ 8192
-  pub entry : Entry
-  pub entered : entry ≡ unpacked w
-  pub notes : List ℕ
-  pub four : length notes ≡ 4
-  pub at : ℕ
-  pub from : ℕ
-  pub end : ℕ
-  pub under : Under b (recordOf b w) m first (take (unpacked w .explicit) notes) at from end
+-- tags that were not opened
+pub value-unopened : {b index : List ℕ} (R : Ready b index) {w : ℕ} (I : IsRecord b index w) (m : List ℕ) (first : ℕ) (ns : List ℕ) (y : Opened)
+    → Opens b (recordOf b w) m first ns y → (c : Cause) (l : ℕ) → y ≡ NotOpened c l → (n : ℕ)
+    → Refused c l ≡ told m size (readRecord (tableIn b) n (recordOf b w) (drop first m))
+value-unopened {b} R {w} I m first ns y o c l e n =
+    tell-refused m size (readRecord (tableIn b) n (recordOf b w) (drop first m)) c l (tags-refused R I m first ns y o c l e n)
 
 module _ {b index : List ℕ} {w : ℕ} {m : List ℕ} {first level : ℕ} (X : Item b index w m first level) where
-  abbrev Rec : Record
-  Rec = recordOf b w
-
   -- what the answer has to be
   abbrev pub Wanted : Judged
-  Wanted = told m size (readRecord (tableIn b) level Rec (drop first m))
-
-  -- the octets around the item, and those from its first on
-  abbrev pub Part : List ℕ
-  Part = take (X .end) m
-
-  abbrev Rest : List ℕ
-  Rest = drop (X .at) Part
-
-  abbrev pub Bare : Answer Value
-  Bare = readBare b level Rec Rest
-
-  size-part : length Part ≡ X .end
-  size-part = length-take-le (X .end) m (X .under .high)
-
-  left-part : length Rest ≡ X .end - X .at
-  left-part = length-drop (X .at) Part ∙ ap (λ (i : ℕ). i - X .at) size-part
-
-  pub item-within : X .at ≤ length m
-  item-within = omega (arith, X .under .some, X .under .high)
-
-  pub item-around : X .end ≡ length Part
-  item-around = sym size-part
+  Wanted = told m size (readRecord (tableIn b) level (recordOf b w) (drop first m))
 
   -- a refusal of the item is one of the value
-  under-refused : (c l : ℕ) → Bare ≡ refused c l → Refused c (l + (length m - X .end)) ≡ Wanted
+  under-refused : (c : Cause) (l : ℕ) → Bare X ≡ refused c l → Refused c (l + (length m - X .end)) ≡ Wanted
   unfolding told
   under-refused c l e =
       rw (
@@ -541,283 +124,89 @@ module _ {b index : List ℕ} {w : ℕ} {m : List ℕ} {first level : ℕ} (X : 
             (X .under .around),
       ) refl
 
-  item-unfit : (c : ℕ) → Bare ≡ refused c (length Rest) → Refused c (length m - X .at) ≡ Wanted
+  item-unfit : (c : Cause) → Bare X ≡ refused c (length (Rest X)) → Refused c (length m - X .at) ≡ Wanted
   item-unfit c e =
-      let z : length m - X .at ≡ length Rest + (length m - X .end) = omega (arith, left-part, X .under .some, X .under .high) in
-      rw z (under-refused c (length Rest) e)
+      let z : length m - X .at ≡ length (Rest X) + (length m - X .end) = omega (arith, left-part X, X .under .some, X .under .high) in
+      rw z (under-refused c (length (Rest X)) e)
 
-  own-header : isChoice (Rec .body) ≡ false → readHeader (own Rec) Rest ≡ readLength (length Rest) (drop (X .from) Part)
-  unfolding readHeader then if
-  own-header n =
-      let h = X .under .headed n in
-      let o = octets-drop Part (octets-take m (X .all-octets) (X .end)) (X .at) in
-      let F = its-fit (X .ready) (X .known) in
-      let y = same-at Rec F (length (explicit Rec)) (own-last (X .ready) (X .known) n) Rest (h .identifier) (drop (X .from) Part) o (h .is) in
-      let v = rw (own-at (X .ready) (X .known) n) at y in
-      rw (h .is, v, eq-eqb (codeOf (h .identifier)) (codeOf (own Rec)) (h .coded)) refl
-
-  no-choice : (X .entry .kind ≡ 50 → ⊥) → isChoice (Rec .body) ≡ false
-  no-choice n = sym (its-choice (X .ready) (X .known) (X .entry) (X .entered)) ∙ ne-eqb (X .entry .kind) 50 n
-
-  is-choice : X .entry .kind ≡ 50 → isChoice (Rec .body) ≡ true
-  is-choice y = sym (its-choice (X .ready) (X .known) (X .entry) (X .entered)) ∙ eq-eqb (X .entry .kind) 50 y
-
-  pub contents-bare : X .entry .kind ≡ 50 → Within Rec Part (X .at) (X .end) (X .at) (X .end) false
-  contents-bare y =
-      record {
-        ordered = omega (arith, X .under .some);
-        high = omega arith;
-        unsized = λ e. absurd (false≢true e);
-        bare = λ _. (refl, refl);
-        header = λ n. absurd (true≢false (sym (is-choice y) ∙ n));
-      }
-
-  module _ (k : X .entry .kind ≡ 50 → ⊥) (z : Length) (az : (l : ℕ) → z ≡ toldLength (length Part) (readLength l (drop (X .from) Part))) where
-    pub value-unread : (f : Cause) → z ≡ NoLength f → (c : Cause) → c ≡ f → Refused c (length m - X .at) ≡ Wanted
-    value-unread f q c ec =
-        let l = length Rest in
-        let y = own-header (no-choice k) ∙ length-refused Part (X .from) l z (az l) f q in
-        rw ec (item-unfit f (item-refused (tableIn b) _ (own Rec) (Rec .body) Rest f l (no-choice k) y))
-
-    pub contents-sized : (x : Extent) → z ≡ ReadLength x → Within Rec Part (X .at) (X .end) (x .start) (x .end) (x .marked)
-    contents-sized x q =
-        let n = no-choice k in
-        test (x .marked)
-        (λ t.
-        let y = length-indefinite Part (X .from) (length Rest) z (az (length Rest)) x q t in
-        record {
-          ordered = omega (arith, y .2, y .3);
-          high = omega (arith, y .3, size-part);
-          unsized = λ _. y .3 ∙ size-part;
-          bare = λ c. absurd (true≢false (sym c ∙ n));
-          header = λ _. own-header n ∙ rw t (y .0);
-        })
-        λ t.
-        let y = length-definite Part (X .from) (length Rest) z (az (length Rest)) x q t in
-        record {
-          ordered = y .2;
-          high = omega (arith, y .3, size-part);
-          unsized = λ e. absurd (true≢false (sym e ∙ t));
-          bare = λ c. absurd (true≢false (sym c ∙ n));
-          header = λ _. own-header n ∙ rw t (y .0);
-        }
-
--- its contents, by the length
-pub record Filling (b index : List ℕ) (w : ℕ) (m : List ℕ) (first level : ℕ) : Type 0 where
-  pub item : Item b index w m first level
-  pub start : ℕ
-  pub stop : ℕ
-  pub marked : Bool
-  pub within : Within (recordOf b w) (take (item .end) m) (item .at) (item .end) start stop marked
+  pub value-unread : (X .entry .kind ≡ 50 → ⊥) → (z : Length) → z ≡ toldLength (length (Part X)) (readLength (length (Rest X)) (drop (X .from) (Part X)))
+      → (c : Cause) → z ≡ NoLength c → Refused c (length m - X .at) ≡ Wanted
+  value-unread k z az c q =
+      let y = own-header X (no-choice X k) ∙ length-refused (Part X) (X .from) (length (Rest X)) z az c q in
+      item-unfit c (item-refused (tableIn b) _ (own (Rec X)) (Rec X .body) (Rest X) c (length (Rest X)) (no-choice X k) y)
 
 module _ {b index : List ℕ} {w : ℕ} {m : List ℕ} {first level : ℕ} (Y : Filling b index w m first level) where
-  abbrev X : Item b index w m first level
-  X = Y .item
-
-  abbrev U : Under b (recordOf b w) m first (take (unpacked w .explicit) (X .notes)) (X .at) (X .from) (X .end)
-  U = X .under
-
-  abbrev W : Within (recordOf b w) (take (X .end) m) (X .at) (X .end) (Y .start) (Y .stop) (Y .marked)
-  W = Y .within
-
-  abbrev Kept : Body
-  Kept = recordOf b w .body
-
-  abbrev Own : List ℕ
-  Own = own (recordOf b w)
-
-  abbrev Size-of : ℕ
-  Size-of = Y .stop - Y .start
-
-  abbrev P : List ℕ
-  P = Part X
-
-  abbrev S : List ℕ
-  S = drop (X .at) P
-
-  abbrev pub C : List ℕ
-  C = take Size-of (drop (Y .start) m)
-
-  pub contents-within : (Y .start ≤ Y .stop) × (Y .stop ≤ length m)
-  contents-within = (W .ordered, omega (arith, W .high, U .high))
-
-  slice-c : drop (Y .start) (take (Y .stop) m) ≡ C
-  slice-c = sym (slice-is (Y .start) (Y .stop) m (W .ordered) (contents-within .1))
-
-  size-C : length C ≡ Size-of
-  size-C = length-take-le Size-of (drop (Y .start) m) (omega (arith, length-drop (Y .start) m, contents-within))
-
-  pub contents-short : length C ≤ 8192
-  contents-short = omega (arith, size-C, contents-within, X .short)
-
-  part-c : take Size-of (drop (Y .start) P) ≡ C
-  part-c =
-      slice-is (Y .start) (Y .stop) P (W .ordered) (omega (arith, size-part X, W .high))
-      ∙ ap (drop (Y .start)) (take-take (Y .stop) (X .end) m (W .high)) ∙ slice-c
-
-  rest-c : drop Size-of (drop (Y .start) P) ≡ drop (Y .stop) P
-  rest-c =
-      let q : Y .start + Size-of ≡ Y .stop = omega (arith, W .ordered) in
-      drop-drop Size-of (Y .start) P ∙ ap (λ (i : ℕ). drop i P) q
-
-  all-c : Y .stop ≡ X .end → drop (Y .start) P ≡ C
-  all-c z = ap (λ (i : ℕ). drop (Y .start) (take i m)) (sym z) ∙ slice-c
-
-  kept-simple : X .entry .simple ≡ not (constructed Kept)
-  kept-simple = its-simple (X .ready) (X .known) (X .entry) (X .entered)
-
-  -- simple ones
-  module _ (simple : X .entry .simple ≡ true) where
-    is-plain : (k : Simple) × (Kept ≡ Plain k)
-    is-plain = plain-of Kept (not-is (constructed Kept) (sym simple ∙ kept-simple))
-
-    plain-header : (k : Simple) → Kept ≡ Plain k → readHeader Own S ≡ got (sizeOf (Y .marked) Size-of) (drop (Y .start) P)
-    plain-header k q = W .header (no-alternatives Kept k q)
-
-    pub value-marked : Y .marked ≡ true → Refused Form (length m - X .at) ≡ Wanted X
-    unfolding if
+  -- simple contents
+  module _ (simple : Y .item .entry .simple ≡ true) where
+    pub value-marked : Y .marked ≡ true → Refused Form (length m - Y .item .at) ≡ Wanted (Y .item)
     value-marked t =
-        let (k, q) = is-plain in
-        item-unfit X 23 (plain-open (tableIn b) (readValue (tableIn b) level) Own Kept S k q (Y .marked) Size-of (drop (Y .start) P)
-        (plain-header k q) t)
+        let (k, q) = is-plain Y simple in
+        item-unfit (Y .item) Form (plain-open (tableIn b) (readValue (tableIn b) level) (Own Y) (Kept Y) (S Y) k q (Y .marked) (Size-of Y)
+        (drop (Y .start) (P Y)) (plain-header Y simple k q) t)
 
-    module _ (sized : Y .marked ≡ false) (i : ℕ) (ei : i ≡ leafWeight (bodyAt b (X .entry .kind) (X .entry .own)) C) where
-      its-weight : (k : Simple) → Kept ≡ Plain k → i ≡ weight (decode k 0 C [])
+    module _ (sized : Y .marked ≡ false) (i : ℕ) (ei : i ≡ leafWeight (bodyAt b (Y .item .entry .kind) (Y .item .entry .own)) (C Y)) where
+      its-weight : (k : Simple) → Kept Y ≡ Plain k → i ≡ weight (decode k 0 (C Y) [])
       unfolding leafWeight
       its-weight k q =
-          ei ∙ ap (λ (x : Entry). leafWeight (bodyAt b (x .kind) (x .own)) C) (X .entered)
-          ∙ ap (λ (y : Body). leafWeight y C) (its-body (X .ready) (X .known) ∙ q)
+          ei ∙ ap (λ (x : Entry). leafWeight (bodyAt b (x .kind) (x .own)) (C Y)) (Y .item .entered)
+          ∙ ap (λ (y : Body). leafWeight y (C Y)) (its-body (Y .item .ready) (Y .item .known) ∙ q)
 
-      leaf-read : (k : Simple) → Kept ≡ Plain k → Bare X ≡ then (decode k (length S) C (drop (Y .stop) P)) λ x s. got (leaf x) s
-      leaf-read k q =
-          plain-sized (tableIn b) (readValue (tableIn b) level) Own Kept S k q (Y .marked) Size-of (drop (Y .start) P) (plain-header k q) sized
-          ∙ rw (part-c, rest-c) refl
-
-      pub value-wrong : i ≡ 0 → Refused Contents (length m - X .at) ≡ Wanted X
-      unfolding then if
+      pub value-wrong : i ≡ 0 → Refused Contents (length m - Y .item .at) ≡ Wanted (Y .item)
+      unfolding then
       value-wrong z =
-          let (k, q) = is-plain in
-          let y = weight-none k C (length S) (drop (Y .stop) P) i (its-weight k q) z in
-          item-unfit X 25 (leaf-read k q ∙ rw y refl)
+          let (k, q) = is-plain Y simple in
+          let y = weight-none k (C Y) (length (S Y)) (drop (Y .stop) (P Y)) i (its-weight k q) z in
+          item-unfit (Y .item) Contents (leaf-read Y simple sized k q ∙ rw y refl)
 
-      pub over-leaf : (i ≡ 0 → ⊥) → i < 16386 → Over b (recordOf b w) level P (X .at) (X .end) (Y .stop) i
+      pub over-leaf : (i ≡ 0 → ⊥) → i < 16386 → Over b (recordOf b w) level (P Y) (Y .item .at) (Y .item .end) (Y .stop) i
       unfolding then octets
       over-leaf z small =
-          let (k, q) = is-plain in
-          let (x, y, v) = weight-some k C (length S) (drop (Y .stop) P) i (its-weight k q) z in
+          let (k, q) = is-plain Y simple in
+          let (x, y, v) = weight-some k (C Y) (length (S Y)) (drop (Y .stop) (P Y)) i (its-weight k q) z in
           record {
-            within = W .high;
+            within = Y .within .high;
             small = small;
             value = leaf x;
-            is = leaf-read k q ∙ rw y refl;
+            is = leaf-read Y simple sized k q ∙ rw y refl;
             sized = omega arith;
           }
 
   -- items
-  module _ (plain : X .entry .simple ≡ false) where
-    abbrev Held : Answer Value
-    Held = readHeld (tableIn b) (readValue (tableIn b) level) (held b w) (mode (Y .marked)) C
+  module _ (plain : Y .item .entry .simple ≡ false) where
+    few-left : (c : Cause) (l : ℕ) (x : Answer Value) → Fine Y plain x → x ≡ refused c l → l ≤ length (C Y)
+    few-left c l (got v u) s q = refused≢got (sym q)
+    few-left c l (refused a i) (stops h) q = let z : i ≡ l = cc in omega arith
 
-    abbrev HeldIn : Mode → List ℕ → Answer Value
-    HeldIn k s = readHeld (tableIn b) (readValue (tableIn b) level) (inside Kept) k s
-
-    is-built : constructed Kept ≡ true
-    is-built = is-not (constructed Kept) (sym plain ∙ kept-simple)
-
-    kept-built : Built (tableIn b) (readValue (tableIn b) level) Own S Kept (Bare X)
-    kept-built = its-built (X .ready) (X .known) level S is-built
-
-    its-held : Held ≡ HeldIn (mode (Y .marked)) C
-    its-held = ap (λ (h : Holder). readHeld (tableIn b) (readValue (tableIn b) level) h (mode (Y .marked)) C) (its-holder (X .ready) (X .known))
-
-    pub items-known : Known b index w × (unpacked w .simple ≡ false)
-    items-known = let (t, h, q) = X .known in (of-record t h q, sym (ap (λ (e : Entry). e .simple) (X .entered)) ∙ plain)
-
-    pub items-some : isSingle (manner (held b w)) ≡ true → 0 < length C
-    items-some q =
-        let z = sym (single-kind Kept is-built) ∙ ap (λ (h : Holder). isSingle (manner h)) (sym (its-holder (X .ready) (X .known))) ∙ q in
-        let y = W .bare z in
-        omega (arith, size-C, y .0, y .1, U .some)
-
-    abbrev Fine : Answer Value → Type 0
-    Fine x = Sane (Closes (tableIn b) level (inside Kept) (mode (Y .marked))) C x
-
-    fine : Fine Held
-    fine = rw its-held (held-sane (tableIn b) level (inside Kept) (mode (Y .marked)) C)
-
-    -- what the items give, the item gives
-    abbrev Reads : Answer Value → Type 0
-    Reads (refused c l) = Bare X ≡ refused c (l + (X .end - Y .stop))
-    Reads (got v u) = Bare X ≡ got v (drop (Y .start + (length C - length u)) P)
-
-    -- a CHOICE and contents that 00 00 closes go on to the end of what is around them
-    reads-open : Y .stop ≡ X .end → Bare X ≡ Held → (x : Answer Value) → Held ≡ x → Fine x → Reads x
-    reads-open z y (got v u) d (leaves t q) =
-        let k = length C - length u in
-        y ∙ d ∙ ap (got v) (tail-at C u t ∙ ap (drop k) (sym (all-c z)) ∙ drop-drop k (Y .start) P)
-    reads-open z y (refused c l) d (stops h) = let v : l ≡ l + (X .end - Y .stop) = omega arith in y ∙ d ∙ ap (refused c) v
-
-    reads-sized : isChoice Kept ≡ false → Y .marked ≡ false → (x : Answer Value) → Held ≡ x → Fine x → Reads x
-    unfolding then behind
-    reads-sized k z x d y =
-        let a = kept-built .0 k ∙ built-sized Own S (Y .marked) Size-of (drop (Y .start) P) (W .header k) HeldIn z in
-        let g : length (drop (Y .start) P) - Size-of ≡ X .end - Y .stop = omega (arith, length-drop (Y .start) P, size-part X, W .ordered, W .high) in
-        let i : HeldIn closed C ≡ x = ap (λ (t : Bool). HeldIn (mode t) C) (sym z) ∙ sym its-held ∙ d in
-        go x y (a ∙ rw (part-c, rest-c, g, i) refl)
-      where
-        go : (x : Answer Value) → Fine x → Bare X ≡ then (behind (X .end - Y .stop) x) (λ v w. got v (drop (Y .stop) P)) → Reads x
-        go (got v u) (leaves t q) y =
-            let o = q (single-kind Kept is-built ∙ k) (ap mode z) in
-            let f : Y .start + (length C - length u) ≡ Y .stop = omega (arith, size-C, ap length o, W .ordered) in
-            rw f y
-        go (refused c l) (stops h) y = y
-
-    reads : (x : Answer Value) → Held ≡ x → Fine x → Reads x
-    reads x d y =
-        test (isChoice Kept)
-        (λ k.
-        let (a, z) = W .bare k in
-        let g : S ≡ C = ap (λ (i : ℕ). drop i P) (sym a) ∙ all-c z in
-        reads-open z (kept-built .1 k (mode (Y .marked)) ∙ ap (HeldIn (mode (Y .marked))) g ∙ sym its-held) x d y)
-        λ k.
-        test (Y .marked)
-        (λ t.
-        let z = W .unsized t in
-        let i : HeldIn open-ended (drop (Y .start) P) ≡ Held = rw (all-c z) (ap (λ (t : Bool). HeldIn (mode t) C) (sym t) ∙ sym its-held) in
-        reads-open z (kept-built .0 k ∙ built-open Own S (Y .marked) Size-of (drop (Y .start) P) (W .header k) HeldIn t ∙ i) x d y)
-        λ t. reads-sized k t x d y
-
-    few-left : (l : ℕ) (x : Answer Value) → Fine x → (k : ℕ) → x ≡ refused k l → l ≤ length C
-    few-left l (got v u) s k q = let z : _≡_ {A = ℕ} 0 1 = cc in absurd (omega arith)
-    few-left l (refused a i) (stops h) k q = let z : i ≡ l = cc in omega arith
-
-    module _ (y : Judged) (ey : y ≡ told C size Held) where
+    module _ (y : Judged) (ey : y ≡ told (C Y) size (Held Y plain)) where
       module _ (c : Cause) (l : ℕ) (d : y ≡ Refused c l) where
-        pub items-low : l + (length m - Y .stop) ≤ 8192
-        items-low =
-            let (k, x, _) = told-refused C size Held y ey c l d in
-            omega (arith, few-left l Held fine k x, size-C, contents-within, X .short)
+        its-refusal : Held Y plain ≡ refused c l
+        its-refusal = told-refused (C Y) size (Held Y plain) y ey c l d
 
-        pub value-unheld : Refused c (l + (length m - Y .stop)) ≡ Wanted X
+        pub items-low : l + (length m - Y .stop) ≤ 8192
+        items-low = omega (arith, few-left c l (Held Y plain) (fine Y plain) its-refusal, size-C Y, contents-within Y, Y .item .short)
+
+        pub value-unheld : Refused c (l + (length m - Y .stop)) ≡ Wanted (Y .item)
         value-unheld =
-            let (k, x, f) = told-refused C size Held y ey c l d in
-            let q : l + (length m - Y .stop) ≡ l + (X .end - Y .stop) + (length m - X .end) = omega (arith, W .high, U .high) in
-            rw (f, q) (under-refused X k (l + (X .end - Y .stop)) (reads (refused k l) x (rw x at fine)))
+            let q : l + (length m - Y .stop) ≡ l + (Y .item .end - Y .stop) + (length m - Y .item .end)
+            = omega (arith, Y .within .high, Y .item .under .high) in
+            rw q
+            (under-refused (Y .item) c (l + (Y .item .end - Y .stop))
+            (reads Y plain (refused c l) its-refusal (rw its-refusal at (fine Y plain))))
 
       module _ (u i : ℕ) (d : y ≡ Done u i) where
-        pub over-items : Over b (recordOf b w) level P (X .at) (X .end) (Y .start + u) i
+        pub over-items : Over b (recordOf b w) level (P Y) (Y .item .at) (Y .item .end) (Y .start + u) i
         over-items =
-            let (v, s, x, f, g) = told-done C size Held y ey u i d in
+            let (v, s, x, f, g) = told-done (C Y) size (Held Y plain) y ey u i d in
             record {
-              within = omega (arith, size-C, W .ordered, W .high);
+              within = omega (arith, size-C Y, Y .within .ordered, Y .within .high);
               small = omega arith;
               value = v;
-              is = reads (got v s) x (rw x at fine) ∙ ap (λ (j : ℕ). got v (drop (Y .start + j) P)) (sym f);
+              is = reads Y plain (got v s) x (rw x at (fine Y plain)) ∙ ap (λ (j : ℕ). got v (drop (Y .start + j) (P Y))) (sym f);
               sized = g;
             }
 
         pub items-high : Y .start + u ≤ 8192
-        items-high = omega (arith, over-items .within, U .high, X .short)
+        items-high = omega (arith, over-items .within, Y .item .under .high, Y .item .short)
 
 -- its end, where its contents are judged
 pub record Ended (b index : List ℕ) (w : ℕ) (m : List ℕ) (first level : ℕ) : Type 0 where
@@ -900,21 +289,15 @@ module _ (b m : List ℕ) (n t : ℕ) (some : length m ≡ 0 → ⊥) (w : ℕ)
 
   pub message-refused : (c : Cause) (l : ℕ) → y ≡ Refused c l → Refused c l ≡ Whole
   unfolding told then
-  message-refused c l d = let (k, x, f) = told-refused m size Root y its-answer c l d in go k x f
-    where
-      go : (k : ℕ) → Root ≡ refused k l → c ≡ k → Refused c l ≡ Whole
-      go k x f = rw (its-whole, x, f) refl
+  message-refused c l d = rw (its-whole, told-refused m size Root y its-answer c l d) refl
 
   module _ (u i : ℕ) (d : y ≡ Done u i) where
-    pub message-end : u ≤ length m
-    message-end = let (v, s, x, f, g) = told-done m size Root y its-answer u i d in omega arith
-
     rest-length : (v : Value) (s : List ℕ) → Root ≡ got v s → length s ≤ length m
     rest-length v s x = go (got v s) (rw x at (held-sane (tableIn b) n (message t) closed m)) refl
       where
         go : (z : Answer Value) → Sane (Closes (tableIn b) n (message t) closed) m z → z ≡ got v s → length s ≤ length m
         go (got a r) (leaves h p) e = let k : r ≡ s = cc in omega (arith, tail-less h, ap length k)
-        go (refused c l) h e = let z : _≡_ {A = ℕ} 0 1 = cc in absurd (omega arith)
+        go (refused c l) h e = refused≢got e
 
     pub message-trailing : u < length m → Refused Trailing (length m - u) ≡ Whole
     unfolding told then if none-left

@@ -14,8 +14,13 @@ pub mod Spans
 pub mod Searching
 pub mod Finding
 pub mod Wrapping
+pub mod ClosedAlike
 pub mod Tagging
 pub mod Opening
+pub mod Told
+pub mod Tails
+pub mod Bodies
+pub mod ValueParts
 pub mod JudgedValue
 pub mod Ending
 pub mod Weighing
@@ -27,6 +32,8 @@ pub mod PlacedLevels
 pub mod PlacedWays
 pub mod PlacedSets
 pub mod PlacedSpots
+pub mod Held
+pub mod ItemsFound
 pub mod PlacedBegun
 pub mod PlacedLoop
 pub mod NodeStores

@@ -1,41 +1,42 @@
 -- The explicit tags of a record, opened from the outermost in.
 -- Assumes nothing.
-use borrow.Author.Tests.{eq-eqb, ne-eqb, ltb-true, ltb-false, lt-ltb, le-ltb}
+use borrow.Author.Tests.{eq-eqb, ne-eqb, ltb-true, ltb-false}
 use lib.Dec.{eqb, ltb}
 use lib.ListN.{length, getD, take, drop, set, length-take, length-drop, length-map, length-append, List·getD-eq-default}
 use lib.Seq.{getD-take, getD-drop, take-length, take-take, take-suc-set, length-take-le, take-add, drop-drop, drop-length, drop-append-seam}
-use mathlib.Core.Bool.{Bool, true, false, not, _||_, true≢false, false≢true}
+use mathlib.Core.Bool.{Bool, true, false, not, true≢false, false≢true}
 use mathlib.Core.List.{List, [], _∷_, _++_, map, append-nil}
 use mathlib.Core.Logic.{_⊎_, inl, inr}
 use mathlib.Core.Path.{_≡_, refl, sym, ap, _∙_}
 use native.Mathlib.Numerals.{add-one}
 use native.Mathlib.Omega.{arith}
-use Prim.Native.Nat.{ℕ, zero, suc, _+_, _-_, _*_, _/_, _%_, _≤_, _<_}
+use Prim.Native.Nat.{ℕ, zero, suc, _+_, _-_, _/_, _%_, _≤_, _<_}
 use Rattle.octets.specs.declared.cause.Cause.{Cause}
-use Rattle.octets.specs.declared.cause.Cause.the-variants.{NotAwaited}
+use Rattle.octets.specs.declared.cause.Cause.the-variants.{Cut, Form, NotAwaited}
 use Rattle.octets.specs.Answer.{Answer, got, refused, then, if, behind, none-left}
 use Rattle.octets.specs.Lists.{same}
 use Rattle.octets.specs.Numbers.{Octets}
 use Rattle.octets.proofs.Tests.{test}
-use Rattle.ber.specs.Codes.{codeOf, code as codeBy}
-use Rattle.ber.specs.Reading.{Mode, closed, open-ended, Size, definite, indefinite, readIdentifier, readLength, readHeader, inside, readConstructed, readPrimitive, atEnd}
+use Rattle.ber.specs.Codes.{codeOf}
+use Rattle.ber.specs.Reading.{Mode, closed, open-ended, readIdentifier, readLength, readHeader, inside, readConstructed, readPrimitive, atEnd}
 use Rattle.ber.specs.Told.{toldLength, mode}
 use Rattle.ber.specs.declared.length.Length.{Length}
 use Rattle.ber.specs.declared.length.Length.the-variants.{Read as ReadLength, Refused as NoLength}
 use Rattle.ber.specs.declared.length.Extent.{Extent}
 use Rattle.ber.proofs.Told.{length-definite, length-indefinite, length-refused}
-use Rattle.table.specs.Syntax.{Tag, Body, Plain, Sequence, Set, SequenceOf, SetOf, Choice, Record, Table, isChoice, constructed}
-use Rattle.table.specs.Entries.{unpacked, tableIn, countIn, Entered, firstCode, outermostCode, more, explicitCount}
+use Rattle.table.specs.Syntax.{Tag, Body, Plain, Sequence, Set, SequenceOf, SetOf, Choice, Record, Table, isChoice}
+use Rattle.table.specs.Entries.{allButLast, unpacked, tableIn, firstCode, explicitCount}
 use Rattle.coding.specs.Tags.{identifierOf, before, explicitTags, own, explicit}
 use Rattle.coding.specs.Value.{Value}
 use Rattle.coding.specs.Reading.{readWrapped, readKind}
 use Rattle.reader.specs.Records.{Ready, recordIn, IsRecord, readRecord}
-use Rattle.reader.specs.Wraps.{ended, shut, closing, noteOf, Around, identifiers, Headed, readBare, AwaitsTag, behind-last, is-tag, no-tag, mustGoOn, EntersTag, goes-on, is-over, Opens}
+use Rattle.reader.specs.Wraps.{ended, shut, closing, noteOf, Around, identifiers, Headed, readBare, AwaitsTag, behind-last, is-tag, no-tag}
+use Rattle.reader.specs.Wraps.{mustGoOn, EntersTag, goes-on, is-over, Opens}
 use Rattle.reader.specs.declared.tags.Tag.{Tag as TagRead}
 use Rattle.reader.specs.declared.tags.Tag.the-variants.{Read as ReadTag, Refused as NoTag}
 use Rattle.reader.specs.declared.tags.Opened.the-variants.{Inside, Refused as NotOpened}
 use Rattle.reader.proofs.Begun.{Fit}
-use Rattle.reader.proofs.Tagging.{zeros, count-identifiers, code-at, same-at, its-entry, its-record, its-fit}
+use Rattle.reader.proofs.Tagging.{first-code, own-at, own-low, count-identifiers, same-at, its-entry, its-record, its-fit}
 use Rattle.reader.proofs.Wrapping.{closing-last, around-more, closing-refused, note-half, note-mark}
 
 -- octets of a part
@@ -67,15 +68,17 @@ drop-at [] j l = absurd (omega arith)
 drop-at (x ∷ a) zero l = refl
 drop-at (x ∷ a) (suc j) l = drop-at a j (omega arith)
 
-pub behind-at : (a : List (List ℕ)) (x : List ℕ) → getD (a ++ (x ∷ [])) (length a) [] ≡ x
-behind-at [] x = refl
-behind-at (y ∷ a) x = behind-at a x
-
 -- how many are explicit
 before-length : (g : Tag) (gs : List Tag) → length (before (g ∷ gs)) ≡ length gs
 unfolding before
 before-length g [] = refl
 before-length g (h ∷ gs) = ap suc (before-length h gs)
+
+but-one : (g : Tag) (gs : List Tag)
+    → length (map (identifierOf true) (before (g ∷ gs))) ≡ allButLast (suc (length gs))
+unfolding if
+but-one g gs =
+    length-map (before (g ∷ gs)) (identifierOf true) ∙ before-length g gs ∙ rw (ne-eqb (suc (length gs)) 0 (λ z. omega arith)) (omega arith)
 
 count-of : (gs : List Tag) (y : Body) → (gs ≡ [] → isChoice y ≡ true)
     → length (explicit (record { tags = gs; body = y })) ≡ explicitCount (record { tags = gs; body = y })
@@ -86,41 +89,37 @@ count-of [] (Sequence ms) t = absurd (false≢true (t refl))
 count-of [] (Set ms) t = absurd (false≢true (t refl))
 count-of [] (SequenceOf u) t = absurd (false≢true (t refl))
 count-of [] (SetOf u) t = absurd (false≢true (t refl))
-count-of (g ∷ gs) (Plain k) t = length-map (before (g ∷ gs)) (identifierOf true) ∙ before-length g gs ∙ rw (ne-eqb (suc (length gs)) 0 (λ z. omega arith)) (omega arith)
-count-of (g ∷ gs) (Sequence ms) t = length-map (before (g ∷ gs)) (identifierOf true) ∙ before-length g gs ∙ rw (ne-eqb (suc (length gs)) 0 (λ z. omega arith)) (omega arith)
-count-of (g ∷ gs) (Set ms) t = length-map (before (g ∷ gs)) (identifierOf true) ∙ before-length g gs ∙ rw (ne-eqb (suc (length gs)) 0 (λ z. omega arith)) (omega arith)
-count-of (g ∷ gs) (SequenceOf u) t = length-map (before (g ∷ gs)) (identifierOf true) ∙ before-length g gs ∙ rw (ne-eqb (suc (length gs)) 0 (λ z. omega arith)) (omega arith)
-count-of (g ∷ gs) (SetOf u) t = length-map (before (g ∷ gs)) (identifierOf true) ∙ before-length g gs ∙ rw (ne-eqb (suc (length gs)) 0 (λ z. omega arith)) (omega arith)
-
-pub first-by : (gs : List Tag) (y : Body) → 0 < length gs
-    → outermostCode gs y ≡ codeBy (getD gs 0 zeros .class) (ltb (0 + 1) (length gs) || constructed y) (getD gs 0 zeros .number)
-unfolding outermostCode
-first-by [] y l = absurd (omega arith)
-first-by (g ∷ []) y l = refl
-first-by (g ∷ h ∷ gs) y l = rw (lt-ltb (0 + 1) (suc (suc (length gs))) (omega arith)) refl
+count-of (g ∷ gs) (Plain k) t = but-one g gs
+count-of (g ∷ gs) (Sequence ms) t = but-one g gs
+count-of (g ∷ gs) (Set ms) t = but-one g gs
+count-of (g ∷ gs) (SequenceOf u) t = but-one g gs
+count-of (g ∷ gs) (SetOf u) t = but-one g gs
 
 -- contents of a tag: they go on, or they are refused, whatever comes then
-clash : {A : Type 0} (a : A) (s : List ℕ) (c l : ℕ) → _≡_ {A = Answer A} (got a s) (refused c l) → ⊥
+clash : {A : Type 0} (a : A) (s : List ℕ) (c : Cause) (l : ℕ) → _≡_ {A = Answer A} (got a s) (refused c l) → ⊥
 clash a s c l e = let z : _≡_ {A = ℕ} 0 1 = cc in omega arith
 
 module _ (A B : Type 0) (s : List ℕ) (l : ℕ) where
   abbrev Goes : Mode → Type 0
-  Goes k = ((x : Unit {0} → Answer A) → atEnd k s (λ _. refused NotAwaited l) x ≡ x tt) × ((y : Unit {0} → Answer B) → atEnd k s (λ _. refused NotAwaited l) y ≡ y tt)
+  Goes k =
+      ((x : Unit {0} → Answer A) → atEnd k s (λ _. refused NotAwaited l) x ≡ x tt)
+      × ((y : Unit {0} → Answer B) → atEnd k s (λ _. refused NotAwaited l) y ≡ y tt)
 
   abbrev Stops : Mode → Type 0
   Stops k =
-      (c : ℕ) × (n : ℕ) × ((x : Unit {0} → Answer A) → atEnd k s (λ _. refused NotAwaited l) x ≡ refused c n) × ((y : Unit {0} → Answer B) → atEnd k s (λ _. refused NotAwaited l) y ≡ refused c n)
+      (c : Cause) × (n : ℕ) × ((x : Unit {0} → Answer A) → atEnd k s (λ _. refused NotAwaited l) x ≡ refused c n)
+      × ((y : Unit {0} → Answer B) → atEnd k s (λ _. refused NotAwaited l) y ≡ refused c n)
 
   either : (k : Mode) → Goes k ⊎ Stops k
   unfolding atEnd if
-  either closed = test (none-left s) (λ a. inr (24, l, (λ x. rw a refl), λ y. rw a refl)) λ a. inl ((λ x. rw a refl), λ y. rw a refl)
+  either closed = test (none-left s) (λ a. inr (NotAwaited, l, (λ x. rw a refl), λ y. rw a refl)) λ a. inl ((λ x. rw a refl), λ y. rw a refl)
   either open-ended =
-      test (none-left s) (λ a. inr (22, 0, (λ x. rw a refl), λ y. rw a refl)) λ a.
+      test (none-left s) (λ a. inr (Cut, 0, (λ x. rw a refl), λ y. rw a refl)) λ a.
       test (eqb (getD s 0 0) 0)
       (λ d.
-      test (none-left (drop 1 s)) (λ f. inr (22, length s, (λ x. rw (a, d, f) refl), λ y. rw (a, d, f) refl)) λ f.
-      test (eqb (getD s 1 0) 0) (λ g. inr (24, l, (λ x. rw (a, d, f, g) refl), λ y. rw (a, d, f, g) refl))
-      λ g. inr (23, length s, (λ x. rw (a, d, f, g) refl), λ y. rw (a, d, f, g) refl))
+      test (none-left (drop 1 s)) (λ f. inr (Cut, length s, (λ x. rw (a, d, f) refl), λ y. rw (a, d, f) refl)) λ f.
+      test (eqb (getD s 1 0) 0) (λ g. inr (NotAwaited, l, (λ x. rw (a, d, f, g) refl), λ y. rw (a, d, f, g) refl))
+      λ g. inr (Form, length s, (λ x. rw (a, d, f, g) refl), λ y. rw (a, d, f, g) refl))
       λ d. inl ((λ x. rw (a, d) refl), λ y. rw (a, d) refl)
 
 going : {B : Type 0} (k : Mode) (s u : List ℕ) (l : ℕ) → atEnd k s (λ _. refused NotAwaited l) (λ _. got u s) ≡ got u s → (y : Unit {0} → Answer B)
@@ -131,11 +130,12 @@ going {B} k s u l e y = go (either (List ℕ) B s l k)
     go (inl h) = h .1 y
     go (inr h) = absurd (clash u s (h .0) (h .1) (sym e ∙ h .2 (λ _. got u s)))
 
-stopping : {B : Type 0} (k : Mode) (s u : List ℕ) (l c n : ℕ) → atEnd k s (λ _. refused NotAwaited l) (λ _. got u s) ≡ refused c n → (y : Unit {0} → Answer B)
+stopping : {B : Type 0} (k : Mode) (s u : List ℕ) (l : ℕ) (c : Cause) (n : ℕ)
+    → atEnd k s (λ _. refused NotAwaited l) (λ _. got u s) ≡ refused c n → (y : Unit {0} → Answer B)
     → atEnd k s (λ _. refused NotAwaited l) y ≡ refused c n
 stopping {B} k s u l c n e y = go (either (List ℕ) B s l k)
   where
-    same-refusal : (a b p q : ℕ) → _≡_ {A = Answer (List ℕ)} (refused a b) (refused p q) → _≡_ {A = Answer B} (refused a b) (refused p q)
+    same-refusal : (a : Cause) (b : ℕ) (p : Cause) (q : ℕ) → _≡_ {A = Answer (List ℕ)} (refused a b) (refused p q) → _≡_ {A = Answer B} (refused a b) (refused p q)
     same-refusal a b p q z = let v : a ≡ p = cc in let w : b ≡ q = cc in rw (v, w) refl
 
     go : Goes (List ℕ) B s l k ⊎ Stops (List ℕ) B s l k → atEnd k s (λ _. refused NotAwaited l) y ≡ refused c n
@@ -152,15 +152,15 @@ unfolding sealed shut
 sealed-shut m outer inner true x = refl
 sealed-shut m outer inner false x = refl
 
-sealed-refused : {A : Type 0} (m : List ℕ) (outer inner : ℕ) (k : Bool) (c l : ℕ) → (k ≡ true → inner ≡ outer)
+sealed-refused : {A : Type 0} (m : List ℕ) (outer inner : ℕ) (k : Bool) (c : Cause) (l : ℕ) → (k ≡ true → inner ≡ outer)
     → sealed {A = A} m outer inner k (refused c l) ≡ refused c (l + (outer - inner))
 unfolding sealed then behind
 sealed-refused m outer inner true c l o = let q : l ≡ l + (outer - inner) = omega (arith, o refl) in ap (refused c) q
 sealed-refused m outer inner false c l o = refl
 
 -- an item whose header is refused
-pub item-refused : (T : Table) (f : ℕ → List ℕ → Answer Value) (o : List ℕ) (y : Body) (s : List ℕ) (c l : ℕ) → isChoice y ≡ false → readHeader o s ≡ refused c l
-    → readKind T f o y s ≡ refused c l
+pub item-refused : (T : Table) (f : ℕ → List ℕ → Answer Value) (o : List ℕ) (y : Body) (s : List ℕ) (c : Cause) (l : ℕ)
+    → isChoice y ≡ false → readHeader o s ≡ refused c l → readKind T f o y s ≡ refused c l
 unfolding readKind readPrimitive readConstructed then isChoice
 item-refused T f o (Plain k) s c l n e = rw e refl
 item-refused T f o (Sequence ms) s c l n e = rw e refl
@@ -169,19 +169,19 @@ item-refused T f o (SequenceOf u) s c l n e = rw e refl
 item-refused T f o (SetOf u) s c l n e = rw e refl
 item-refused T f o (Choice ts) s c l n e = absurd (true≢false n)
 
-wrapped-refused : {A : Type 0} (i : List ℕ) (is : List (List ℕ)) (r : List ℕ → Answer A) (s : List ℕ) (c l : ℕ) → readHeader i s ≡ refused c l
+wrapped-refused : {A : Type 0} (i : List ℕ) (is : List (List ℕ)) (r : List ℕ → Answer A) (s : List ℕ) (c : Cause) (l : ℕ) → readHeader i s ≡ refused c l
     → readWrapped (i ∷ is) r s ≡ refused c l
 unfolding readWrapped readConstructed then
 wrapped-refused i is r s c l e = rw e refl
 
-header-none : (i s : List ℕ) (c : ℕ) → then (readIdentifier s) (λ j u. if (same i j) (got j u) λ _. refused NotAwaited (length s)) ≡ refused c (length s)
+header-none : (i s : List ℕ) (c : Cause) → then (readIdentifier s) (λ j u. if (same i j) (got j u) λ _. refused NotAwaited (length s)) ≡ refused c (length s)
     → readHeader i s ≡ refused c (length s)
 unfolding readHeader then if
 header-none i s c e = go (readIdentifier s) e
   where
     go : (x : Answer (List ℕ)) → then x (λ j u. if (same i j) (got j u) λ _. refused NotAwaited (length s)) ≡ refused c (length s)
         → then x (λ j u. if (not (same i j)) (refused NotAwaited (length s)) λ _. readLength (length s) u) ≡ refused c (length s)
-    go (got j u) e = test (same i j) (λ t. absurd (clash j u c (length s) (rw t at e))) λ t. rw t (let k = rw t at e in let v : 24 ≡ c = cc in rw v refl)
+    go (got j u) e = test (same i j) (λ t. absurd (clash j u c (length s) (rw t at e))) λ t. rw t (let k = rw t at e in let v : NotAwaited ≡ c = cc in rw v refl)
     go (refused a n) e = let v : a ≡ c = cc in let w : n ≡ length s = cc in rw (v, w) refl
 
 -- the tags that are opened: j notes are made, and what is read next stands from `at` to `end`, with its identifier up to `from`
@@ -212,10 +212,6 @@ module _ (b : List ℕ) (r : Record) (F : Fit r) (m : List ℕ) (om : Octets m) 
   wraps-at : (j : ℕ) → j < Count → drop j (explicit r) ≡ getD Ids j [] ∷ drop (suc j) (explicit r)
   wraps-at j l = drop-at (explicit r) j l ∙ ap (λ (z : List ℕ). z ∷ drop (suc j) (explicit r)) (sym (id-explicit j l))
 
-  own-last : isChoice (r .body) ≡ false → getD Ids Count [] ≡ own r
-  unfolding if
-  own-last n = rw n (behind-at (explicit r) (own r))
-
   is-last : Count < length Ids → isChoice (r .body) ≡ false
   unfolding if
   is-last l = test (isChoice (r .body)) (λ t. absurd (short (isChoice (r .body)) t l)) λ t. t
@@ -228,7 +224,7 @@ module _ (b : List ℕ) (r : Record) (F : Fit r) (m : List ℕ) (om : Octets m) 
   unfolding Around closing readRecord
   open-none notes from l h =
       let k : 0 < length (r .tags) = omega (arith, more-ids, count-identifiers r F) in
-      let c : codeOf (getD Ids 0 []) ≡ firstCode r = code-at r F 0 k ∙ sym (first-by (r .tags) (r .body) k) in
+      let c : codeOf (getD Ids 0 []) ≡ firstCode r = first-code r F k in
       record {
         within = omega arith;
         low = omega arith;
@@ -253,14 +249,14 @@ module _ (b : List ℕ) (r : Record) (F : Fit r) (m : List ℕ) (om : Octets m) 
           S .high,
           S .around,
           (λ n.
-              let w : getD Ids j [] ≡ own r = ap (λ (i : ℕ). getD Ids i []) q ∙ own-last n in
-              let y = longer n in let u : j < length Ids = omega (arith, q, y) in
+              let w : getD Ids j [] ≡ own r = ap (λ (i : ℕ). getD Ids i []) q ∙ own-at r n in
+              let y = own-low r F n in let u : j < length Ids = omega (arith, q, y, count-identifiers r F) in
               rw (← w) (S .headed u)),
-          λ n. S .whole n ∙ ap (λ (z : List (List ℕ)). closing m (take j notes) end (readWrapped z (readBare b n r) (drop at (take end m)))) (ap (λ (i : ℕ). drop i (explicit r)) q ∙ drop-length (explicit r)),
+          λ n.
+              S .whole n
+              ∙ ap (λ (z : List (List ℕ)). closing m (take j notes) end (readWrapped z (readBare b n r) (drop at (take end m))))
+              (ap (λ (i : ℕ). drop i (explicit r)) q ∙ drop-length (explicit r)),
         )
-      where
-        longer : isChoice (r .body) ≡ false → Count < length Ids
-        longer n = let q = length-append (explicit r) (own r ∷ []) in rw n (omega (arith, q))
 
     module _ (l : j < Count) where
       abbrev P : List ℕ
@@ -303,7 +299,8 @@ module _ (b : List ℕ) (r : Record) (F : Fit r) (m : List ℕ) (om : Octets m) 
         open-unread c q ns =
             let k = length (drop at P) in
             let y = header-is ∙ length-refused P from k z (az k) c q in
-            refused-all c k (length m - at) ns (λ n. wrapped-refused Id Rest (readBare b n r) (drop at P) c k y) (omega (arith, left-part, S .some, S .high)) (omega arith)
+            refused-all c k (length m - at) ns (λ n. wrapped-refused Id Rest (readBare b n r) (drop at P) c k y)
+            (omega (arith, left-part, S .some, S .high)) (omega arith)
 
         module _ (x : Extent) (q : z ≡ ReadLength x) where
           abbrev K : ℕ
@@ -312,7 +309,9 @@ module _ (b : List ℕ) (r : Record) (F : Fit r) (m : List ℕ) (om : Octets m) 
           pub extent : (at < x .start) × (x .start ≤ x .end) × (x .end ≤ end) × (x .marked ≡ true → x .end ≡ end)
           extent =
               test (x .marked)
-              (λ t. let y = length-indefinite P from K z (az K) x q t in (omega (arith, y .1, head .further), omega (arith, y .2, y .3), omega (arith, y .3, size-part), λ _. y .3 ∙ size-part))
+              (λ t.
+              let y = length-indefinite P from K z (az K) x q t in
+              (omega (arith, y .1, head .further), omega (arith, y .2, y .3), omega (arith, y .3, size-part), λ _. y .3 ∙ size-part))
               λ t. let y = length-definite P from K z (az K) x q t in
               (omega (arith, y .1, head .further), y .2, omega (arith, y .3, size-part), λ v. absurd (true≢false (sym v ∙ t)))
 
@@ -354,7 +353,7 @@ module _ (b : List ℕ) (r : Record) (F : Fit r) (m : List ℕ) (om : Octets m) 
               λ t.
               let k : suc j ≡ Count = omega (arith, ltb-false (suc j) Count t) in
               let v = is-last (omega (arith, w, k)) in
-              let u : getD Ids (suc j) [] ≡ own r = ap (λ (i : ℕ). getD Ids i []) k ∙ own-last v in
+              let u : getD Ids (suc j) [] ≡ own r = ap (λ (i : ℕ). getD Ids i []) k ∙ own-at r v in
               let y = header-none (own r) U c (rw u at e) in
               ap (λ (a : List (List ℕ)). readWrapped a (readBare b n r) U) (ap (λ (i : ℕ). drop i (explicit r)) k ∙ drop-length (explicit r))
               ∙ item-refused (tableIn b) _ (own r) (r .body) U c (length U) v y
@@ -384,7 +383,8 @@ module _ (b : List ℕ) (r : Record) (F : Fit r) (m : List ℕ) (om : Octets m) 
             open-refused c e ns =
                 let k = length U + (end - x .end) in
                 refused-all c k (length m - x .start) ns
-                (λ n. tag-inside (readBare b n r) ∙ ap (sealed m end (x .end) (x .marked)) (no-entry c (its (NoTag c) e) n) ∙ sealed-refused m end (x .end) (x .marked) c (length U) (extent .3))
+                (λ n. tag-inside (readBare b n r) ∙ ap (sealed m end (x .end) (x .marked)) (no-entry c (its (NoTag c) e) n)
+                ∙ sealed-refused m end (x .end) (x .marked) c (length U) (extent .3))
                 (omega (arith, size-inside, extent .1, extent .2, S .high)) (omega arith)
 
             module _ (next : ℕ) (e : y ≡ ReadTag next) where
@@ -398,7 +398,8 @@ module _ (b : List ℕ) (r : Record) (F : Fit r) (m : List ℕ) (om : Octets m) 
                   let (h, k) = next-head next w in
                   let half : note / 2 ≡ end = ap (λ (i : ℕ). i / 2) en ∙ note-half end (x .marked) in
                   let mark : eqb (note % 2) 1 ≡ x .marked = ap (λ (i : ℕ). eqb (i % 2) 1) en ∙ note-mark end (x .marked) in
-                  let made : take (j + 1) (set notes j note) ≡ take j notes ++ (note ∷ []) = ap (λ (i : ℕ). take i (set notes j note)) (add-one j) ∙ take-suc-set notes j note g in
+                  let made : take (j + 1) (set notes j note) ≡ take j notes ++ (note ∷ [])
+                  = ap (λ (i : ℕ). take i (set notes j note)) (add-one j) ∙ take-suc-set notes j note g in
                   let fit-end : length (take (x .end) m) ≡ x .end = length-take-le (x .end) m (omega (arith, extent .2, S .high)) in
                   let one = add-one j in
                   record {
@@ -407,7 +408,9 @@ module _ (b : List ℕ) (r : Record) (F : Fit r) (m : List ℕ) (om : Octets m) 
                     later = λ _. omega (arith, S .low, extent .0);
                     some = omega (arith, s, size-inside);
                     high = omega (arith, extent .2, S .high);
-                    around = rw made (around-more (length m) (take j notes) note (x .end) (rw half (S .around)) (omega (arith, half, extent .2)) (λ v. extent .3 (sym mark ∙ eq-eqb (note % 2) 1 v) ∙ sym half));
+                    around = rw made
+                        (around-more (length m) (take j notes) note (x .end) (rw half (S .around))
+                        (omega (arith, half, extent .2)) (λ v. extent .3 (sym mark ∙ eq-eqb (note % 2) 1 v) ∙ sym half));
                     headed = λ v.
                         let f = h (omega arith) in
                         rw one
@@ -422,7 +425,8 @@ module _ (b : List ℕ) (r : Record) (F : Fit r) (m : List ℕ) (om : Octets m) 
                         under n
                         ∙ ap (closing m (take j notes) end)
                         (tag-inside (readBare b n r)
-                        ∙ ap (sealed m end (x .end) (x .marked)) (going (mode (x .marked)) U [] (length U) a (λ _. ended (mode (x .marked)) (readWrapped Rest (readBare b n r) U)))
+                        ∙ ap (sealed m end (x .end) (x .marked))
+                        (going (mode (x .marked)) U [] (length U) a (λ _. ended (mode (x .marked)) (readWrapped Rest (readBare b n r) U)))
                         ∙ sealed-shut m end (x .end) (x .marked) (readWrapped Rest (readBare b n r) U))
                         ∙ rw (one, rw one at made, closing-last m (take j notes) note (x .end), half, mark) refl;
                   }

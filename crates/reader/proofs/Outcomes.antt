@@ -2,16 +2,16 @@
 -- Assumes nothing.
 use mathlib.Core.Bool.{true, false, not}
 use mathlib.Core.List.{List, _++_}
-use mathlib.Core.Path.{_≡_, refl, sym, ap, _∙_}
+use mathlib.Core.Path.{_≡_, sym, ap, _∙_}
 use Prim.Native.Nat.{ℕ, _+_, _-_, _≤_, _<_, min}
 use native.Mathlib.Nat.{zero-add}
 use native.Mathlib.Omega.{arith}
 use borrow.Author.Tests.{lt-ltb, le-ltb, le-leb, lt-leb}
-use lib.Dec.{ltb, leb, eqb}
+use lib.Dec.{ltb, leb}
 use lib.ListN.{length, take, drop}
 use lib.Seq.{sets, sets-eq}
 use Rattle.octets.specs.declared.cause.Cause.{Cause}
-use Rattle.octets.specs.declared.cause.Cause.the-variants.{Trailing}
+use Rattle.octets.specs.declared.cause.Cause.the-variants.{NoType, MessageLength, Trailing, ValueRoom}
 use Rattle.octets.specs.Answer.{Answer, got, refused, then, if, none-left}
 use Rattle.octets.proofs.Answer.{run, refused≢got}
 use Rattle.octets.proofs.Tests.{test}
@@ -32,19 +32,10 @@ use Rattle.reader.specs.Placed.{Fits}
 use Rattle.reader.specs.declared.answer.Judged.{Judged}
 use Rattle.reader.specs.declared.answer.Judged.the-variants.{Done, Refused}
 use Rattle.reader.proofs.ItemsKinds.{message-whole}
+use Rattle.reader.proofs.Told.{told-refused, told-done}
 
 pub ready : (b index : List ℕ) (n : ℕ) → Filled b index n → Passes b (tableIn b) n → Ready b index
 ready b index n F P = let q = F .count in record { passes = rw q at P; filled = rw q at F }
-
--- what the judge told
-abbrev Tells : Answer Value → Judged → Type 0
-Tells x (Done e s) = (v : Value) × (w : List ℕ) × (x ≡ got v w) × (cap (size v) ≡ s)
-Tells x (Refused c l) = x ≡ refused c l
-
-tells : (m : List ℕ) (x : Answer Value) → Tells x (told m size x)
-unfolding told
-tells m (got v w) = (v, w, refl, refl)
-tells m (refused c l) = refl
 
 -- a message that is accepted holds one item of its type
 accepted-held : (T : Table) (n t : ℕ) (m : List ℕ) (v : Value) (w : List ℕ) → readMessage T n t m ≡ got v w
@@ -78,8 +69,7 @@ module _ (T : Table) (n t : ℕ) (m buf : List ℕ) where
 module _ (T : Table) (t : ℕ) (m : List ℕ) (r : Judged) (p : r ≡ told m size (readMessage T 24 t m)) where
   pub refused-within : (c : Cause) (l : ℕ) → r ≡ Refused c l → l ≤ length m
   refused-within c l e =
-      let x = rw (← p, e) at (tells m (readMessage T 24 t m)) in
-      speaks-low (readMessage T 24 t m) (message-says T 24 t m) c l x
+      speaks-low (readMessage T 24 t m) (message-says T 24 t m) c l (told-refused m size (readMessage T 24 t m) r p c l e)
 
   module _ (n : ℕ) (buf : List ℕ) (h : t < n) (l : length m ≤ 8192) where
     -- the outcome once the message is read
@@ -93,8 +83,7 @@ module _ (T : Table) (t : ℕ) (m : List ℕ) (r : Judged) (p : r ≡ told m siz
     pub out-refused : (c : Cause) (i : ℕ) → r ≡ Refused c i → Says (readOutcome T n t m buf) (refusal c (length m - i)) buf
     unfolding afterReading
     out-refused c i e =
-        let x = rw (← p, e) at (tells m (readMessage T 24 t m)) in
-        let o = whole (refused c i) x in
+        let o = whole (refused c i) (told-refused m size (readMessage T 24 t m) r p c i e) in
         (rw o, rw o)
 
     module _ (e s : ℕ) (d : r ≡ Done e s) where
@@ -103,10 +92,10 @@ module _ (T : Table) (t : ℕ) (m : List ℕ) (r : Judged) (p : r ≡ told m siz
         value : Value
         rest : List ℕ
         is : readMessage T 24 t m ≡ got value rest
-        size : cap (size value) ≡ s
+        size : s ≡ cap (size value)
 
       accepted : Accepted
-      accepted = let (v, w, x, y) = rw (← p, d) at (tells m (readMessage T 24 t m)) in record { value = v; rest = w; is = x; size = y }
+      accepted = let (v, w, x, _, y) = told-done m size (readMessage T 24 t m) r p e s d in record { value = v; rest = w; is = x; size = y }
 
       lacks : min 16384 (length buf) < size (accepted .value) → Says (readOutcome T n t m buf) (refusal ValueRoom 0) buf
       unfolding afterReading

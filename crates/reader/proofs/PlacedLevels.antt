@@ -7,6 +7,7 @@ use mathlib.Core.Path.{_≡_}
 use Prim.Native.Nat.{ℕ, zero, suc, _+_, _-_, _≤_}
 use native.Mathlib.Omega.{arith}
 use lib.ListN.{take}
+use Rattle.octets.specs.declared.cause.Cause.{Cause}
 use Rattle.octets.specs.Answer.{Answer, got, refused, then, if, behind}
 use Rattle.octets.proofs.Answer.{refused≢got}
 use Rattle.ber.specs.Reading.{Size, definite, indefinite, Mode, closed, open-ended, atEnd, inside, readConstructed}
@@ -15,13 +16,11 @@ use Rattle.coding.specs.Value.{Value}
 use Rattle.coding.specs.Tags.{own, explicit}
 use Rattle.coding.specs.Reading.{nothing, readWrapped, readSequence, place, readSet, readMany, choose, readBody}
 use Rattle.coding.specs.Reading.{readKind, readValue}
-use Rattle.reader.specs.Items.{Holder, manner, Placed, following, noted, Hand, readPart, next, readItems, readHeld}
-use Rattle.reader.specs.Items.{blank}
 
 -- the second answer is the first, if that is no refusal
 pub data Kept {A : Type 0} : Answer A → Answer A → Type 0 where
   same : {x : Answer A} → Kept x x
-  refusal : {c l : ℕ} {y : Answer A} → Kept (refused c l) y
+  refusal : {c : Cause} {l : ℕ} {y : Answer A} → Kept (refused c l) y
 
 pub kept-got : {A : Type 0} {x y : Answer A} {a : A} {w : List ℕ} → Kept x y → x ≡ got a w → y ≡ got a w
 kept-got same e = e
@@ -120,26 +119,6 @@ module _ (T : Table) (r q : ℕ → List ℕ → Answer Value) (h : (t : ℕ) (s
   kind-kept i (SequenceOf t) s = constructed-kept i (body-kept (SequenceOf t)) s
   kind-kept i (SetOf t) s = constructed-kept i (body-kept (SetOf t)) s
   kind-kept i (Choice ts) s = choose-kept ts 0 s
-
-  part-kept : (x : Option Placed) (s : List ℕ) → Kept (readPart T r x s) (readPart T q x s)
-  unfolding readPart
-  part-kept none s = same
-  part-kept (some x) s = then-kept (h (x .1 .type) s) λ v s₁. same
-
-  pub items-kept : (c : Holder) (k j : ℕ) (came : List ℕ) (hand : Hand) (mode : Mode) (s : List ℕ)
-      → Kept (readItems T r c k j came hand mode s) (readItems T q c k j came hand mode s)
-  unfolding readItems
-  items-kept c zero j came hand mode s = same
-  items-kept c (suc k) j came hand mode s =
-      if-kept _ (then-kept (part-kept (next T c j came s) s) λ x s₁. same) λ _.
-      end-kept mode s (λ u. same) λ _.
-      if-kept _ same λ _.
-      then-kept (part-kept (next T c j came s) s) λ x s₁.
-      items-kept c k (following (manner c) (x .0)) (noted (manner c) came (x .0)) (hand ++ (x ∷ [])) mode s₁
-
-  pub held-kept : (c : Holder) (mode : Mode) (s : List ℕ) → Kept (readHeld T r c mode s) (readHeld T q c mode s)
-  unfolding readHeld
-  held-kept c mode s = then-kept (items-kept c _ 0 blank [] mode s) λ hand u. same
 
 value-next : (T : Table) (n t : ℕ) (s : List ℕ) → Kept (readValue T n t s) (readValue T (suc n) t s)
 unfolding readValue

@@ -14,24 +14,25 @@ use Rattle.octets.proofs.Answer.{got-holds}
 use Rattle.octets.proofs.Tests.{test}
 use Rattle.table.specs.Syntax.{Member, Set, Table}
 use Rattle.coding.specs.Value.{Value, octets}
-use Rattle.coding.specs.Reading.{begun, nothing, readValue}
+use Rattle.coding.specs.Reading.{nothing, readValue}
 use Rattle.coding.proofs.FirstTags.{Good}
 use Rattle.coding.proofs.Refusals.{value-shorter}
 use Rattle.ber.specs.Told.{mode}
 use Rattle.reader.specs.Items.{Holder, inside, manner, partsOf, Placed, since, Hand, next as nextPart, readItems, filled, assemble}
 use Rattle.reader.specs.Items.{nodeSize, blank}
 use Rattle.reader.specs.Ways.{wrapped}
-use Rattle.reader.specs.Placing.{kindOf, hasMembers, holdsOne, onward, notedIn, absentIn, finishedIn, said, wayOctets, countOf, nodeOf, openingOf}
+use Rattle.reader.specs.Placing.{kindOf, hasMembers, holdsOne, onward, notedIn, absentIn, finishedIn, said, wayOctets}
 use Rattle.reader.specs.Placing.{endAt, Spotted}
 use Rattle.reader.specs.Placed.{Final}
 use Rattle.reader.proofs.ItemsKinds.{blank-clear}
 use Rattle.reader.proofs.ItemsSearch.{GoodHolder}
-use Rattle.reader.proofs.PlacedNodes.{Standing, stands-more, stands-absent, stands-elsewhere, stands-turn, opening-is, node-is}
+use Rattle.reader.proofs.PlacedNodes.{Standing, stands-more, stands-absent, stands-elsewhere, stands-turn}
 use Rattle.reader.proofs.PlacedTurns.{overAt, behindEnd, Placing, placing-first, placing-turn, placing-awaited, placing-room}
 use Rattle.reader.proofs.PlacedTurns.{placing-next, placing-one, placing-over, placing-end}
 use Rattle.reader.proofs.PlacedWays.{way-length, Inner, inner-under}
 use Rattle.reader.proofs.PlacedSets.{Filling, filling-first, filling-there, filling-room, filling-next, filling-end}
-use Rattle.reader.proofs.PlacedBegun.{value-begun, next-here, set-next}
+use Rattle.reader.proofs.PlacedBegun.{value-begun}
+use Rattle.reader.proofs.ItemsFound.{next-at}
 
 -- before an item: of a SET ns are the notes
 pub record Loop (T : Table) (n : ℕ) (h : Holder) (b : Bool) (m : List ℕ) (all : Hand) (last ns first : List ℕ) (to : ℕ) (buf : List ℕ)
@@ -52,7 +53,6 @@ pub record Comes (T : Table) (n : ℕ) (h : Holder) (m first : List ℕ) (to : �
   pub least : j ≤ part .0
   pub most : part .0 < length (partsOf h)
   pub found : nextPart T h (since (manner h) j) blank (drop at m) ≡ some part
-  pub here : (k : Member) (rest : List Member) → drop j (partsOf h) ≡ k ∷ rest → begun T (k .type) (drop at m) ≡ true → part ≡ (j, k)
   pub alone : holdsOne (kindOf h) ≡ true → hand ≡ []
   pub room : next + length (octets value) ≤ length buf
   pub low : at ≤ length m
@@ -87,7 +87,6 @@ module _ {T : Table} {n : ℕ} {h : Holder} {b : Bool} {m : List ℕ} {all : Han
           least = A .least;
           most = A .most;
           found = rw (S .from) (t .is);
-          here = λ k rest e g. same-part (t .part) (j, k) (sym (t .is) ∙ next-here T h j blank (drop at m) k rest (blank-clear j) e g);
           alone = S .alone;
           room = placing-room S kind t;
           low = S .low;
@@ -102,9 +101,6 @@ module _ {T : Table} {n : ℕ} {h : Holder} {b : Bool} {m : List ℕ} {all : Han
                 record { ends = W .ends; buffer = W .buffer; within = within; behind = e },
           );
         }
-      where
-        same-part : (x y : Placed) → some x ≡ some y → x ≡ y
-        same-part x y e = cc
 
     pub arriving-over : holdsOne (kindOf h) ≡ false → overAt b (drop at m) ≡ true → (buf₁ : List ℕ)
         → buf₁ ≡ finishedIn (kindOf h) j (length (partsOf h)) count buf to
@@ -146,8 +142,7 @@ module _ {T : Table} (good : Good T) {n : ℕ} {ms : List Member} (apart : GoodH
         stands = S .stands;
         least = omega arith;
         most = l;
-        found = set-next T ms apart blank blank-clear (drop (getD ns j 0 - 1) m) j (t .member) (drop (suc j) ms) (t .is) g;
-        here = λ k rest d f. ap (λ (x : Member). (j, x)) (head-is (t .member) k (drop (suc j) ms) rest (sym (t .is) ∙ d));
+        found = next-at T (inside (Set ms)) apart blank (drop (getD ns j 0 - 1) m) (λ p _. blank-clear p) j (t .member) (t .is) (blank-clear j) g;
         alone = λ d. absurd (false≢true (sym o ∙ d));
         room = filling-room S l t;
         low = t .low;
@@ -161,9 +156,6 @@ module _ {T : Table} (good : Good T) {n : ℕ} {ms : List Member} (apart : GoodH
         );
       }
     where
-      head-is : (x y : Member) (r w : List Member) → _≡_ {A = List Member} (x ∷ r) (y ∷ w) → x ≡ y
-      head-is x y r w e = cc
-
       filling-of : {buf₁ : List ℕ} {next₁ : ℕ} → Filling T n ms m ns (filled all (nothing ms)) first to buf₁ next₁ (suc j) → (us : List Member)
           → inside (Set ms) ≡ inside (Set us)
           → Filling T n us m ns (filled all (nothing us)) first to buf₁ next₁ (suc j)
@@ -185,16 +177,14 @@ pub loop-first : {T : Table} {n : ℕ} {h : Holder} {b : Bool} {m : List ℕ} {a
     (end : ℕ) {buf : List ℕ} {next : ℕ}
     → (kindOf h ≡ 0 → ⊥)
     → readItems T (readValue T n) h (suc (length m)) 0 blank [] (mode b) m ≡ got all last → to + length (octets (assemble h all)) ≤ length first
-    → ((ms : List Member) → h ≡ inside (Set ms) → Spotted T ms b m ns end) → buf ≡ sets first to (openingOf (kindOf h) (countOf h))
-    → next ≡ to + nodeOf (kindOf h) (countOf h)
+    → ((ms : List Member) → h ≡ inside (Set ms) → Spotted T ms b m ns end) → buf ≡ sets first to (said h 0 [])
+    → next ≡ to + nodeSize h
     → Loop T n h b m all last ns first to buf 0 next 0 0
 unfolding assemble
 loop-first {T} {n} {h} {b} {m} {all} {last} ns {first} {to} end {buf} {next} kind W room L eb en =
-    let fb = rw (opening-is h kind) at eb in
-    let fn = rw (node-is h kind) at en in
     record {
-      arriving = λ other. placing-first kind other (length m) W room fb fn;
-      sorted = λ ms e. of-set ms (rw e at W) (rw e at room) (L ms e) (rw e at fb) (rw e at fn);
+      arriving = λ other. placing-first kind other (length m) W room eb en;
+      sorted = λ ms e. of-set ms (rw e at W) (rw e at room) (L ms e) (rw e at eb) (rw e at en);
       few = λ e. omega arith;
     }
   where
@@ -221,28 +211,6 @@ pub record Ready (T : Table) (n : ℕ) (h : Holder) (m first : List ℕ) (to : �
 
 module _ {T : Table} {n : ℕ} {h : Holder} {m first : List ℕ} {to : ℕ} {After : List ℕ → ℕ → ℕ → ℕ → Type 0} {buf : List ℕ} {at next j : ℕ}
     (C : Comes T n h m first to After buf at next j) where
-  -- the part at hand, which the item begins itself
-  pub ready-here : (k : Member) (rest : List Member) → drop j (partsOf h) ≡ k ∷ rest → begun T (k .type) (drop at m) ≡ true
-      → Ready T n h m first to After buf at next j (k .type)
-  unfolding wayOctets
-  ready-here k rest e g =
-      let q = C .here k rest e g in
-      let p : C .part .0 ≡ j = ap (λ (x : Placed). x .0) q in
-      let t : C .part .1 .type ≡ k .type = ap (λ (x : Placed). x .1 .type) q in
-      record {
-        hand = C .hand;
-        value = C .value;
-        behind = C .behind;
-        way = [];
-        inner = record { value = C .value; read = rw t at (C .read); octets = refl };
-        stands = C .stands;
-        most = rw p at (C .most);
-        alone = C .alone;
-        room = C .room;
-        low = C .low;
-        after = rw p at (C .after);
-      }
-
   -- the part that the search found, with the nodes of the way to the record; members between were told of
   pub ready-found : (way : List ℕ) (d u : ℕ) (x : Placed) → nextPart T h (since (manner h) j) blank (drop at m) ≡ some x → d ≤ length way
       → readValue T n (x .1 .type) (drop at m) ≡ (then (readValue T (n - d) u (drop at m)) λ v s₁. got (wrapped way d v) s₁)

@@ -1,114 +1,60 @@
 -- The placing of the items in an entry's contents: what is known before its loop, and one law for each way through it.
 -- Assumes nothing.
-use mathlib.Core.Bool.{Bool, true, false, not, _||_, _&&_, true≢false}
-use mathlib.Core.List.{List, [], _∷_}
+use mathlib.Core.Bool.{Bool, true, false, _||_, _&&_, true≢false}
+use mathlib.Core.List.{List, []}
 use mathlib.Core.Option.{Option, some, none}
 use mathlib.Core.Path.{_≡_, refl, sym, ap, _∙_}
-use Prim.Native.Nat.{ℕ, suc, _+_, _-_, _*_, _/_, _%_, _≤_, _<_}
+use Prim.Native.Nat.{ℕ, suc, _+_, _-_, _*_, _/_, _≤_, _<_}
 use native.Mathlib.Omega.{arith}
 use native.Mathlib.Nat.{mul-comm}
-use native.Mathlib.Numerals.{add-one}
-use borrow.Author.Tests.{eq-eqb, eqb-true, eqb-false, lt-ltb, ltb-true, ltb-false}
+use borrow.Author.Tests.{eqb-true, eqb-false, ltb-true, ltb-false}
 use lib.Dec.{eqb, ltb}
-use lib.ListN.{length, getD, take, drop, length-append, length-drop, length-map}
-use lib.Seq.{sets, length-sets, length-take-le, drop-drop, drop-cons, getD-drop}
+use lib.ListN.{length, getD, take, drop, length-append, length-drop}
+use lib.Seq.{sets, length-sets, length-take-le, getD-drop}
 use Rattle.octets.specs.Answer.{Answer, got, refused, then, if, none-left}
 use Rattle.octets.specs.Numbers.{Octets}
 use Rattle.octets.proofs.Answer.{refused≢got, got-value, got-rest, got-holds}
 use Rattle.octets.proofs.Tests.{test}
-use Rattle.ber.specs.Codes.{codeOf}
-use Rattle.ber.specs.Reading.{readIdentifier}
 use Rattle.ber.specs.Told.{mode}
-use Rattle.ber.proofs.Codes.{code-short, code-long, read-code-small}
-use Rattle.table.specs.Syntax.{Tag, Member, Body, Plain, Sequence, Set, SequenceOf, SetOf, Choice, Record, Table, constructed}
+use Rattle.table.specs.Syntax.{Member, Plain, Sequence, Set, SequenceOf, SetOf, Choice, Table}
 use Rattle.table.specs.Octets.{kind}
-use Rattle.table.specs.Passes.{Nested}
-use Rattle.table.specs.Entries.{unpacked, spanOf, more, outermostCode, tableIn, countIn}
+use Rattle.table.specs.Entries.{unpacked, spanOf, tableIn, countIn}
 use Rattle.table.specs.declared.entry.Entry.{Entry}
 use Rattle.table.specs.declared.entry.Span.{Span}
-use Rattle.table.proofs.Promises.{entered-kind}
 use Rattle.coding.specs.Value.{Value, octets}
 use Rattle.coding.specs.Value as Value-of
-use Rattle.coding.specs.Reading.{begun, nothing, readValue}
+use Rattle.coding.specs.Reading.{nothing, readValue}
 use Rattle.coding.proofs.FirstTags.{good}
 use Rattle.coding.proofs.Refusals.{value-shorter}
-use Rattle.reader.specs.Codes.{firstOf, untagged, peeked, hit}
+use Rattle.reader.specs.Codes.{firstOf, untagged}
 use Rattle.reader.specs.Items.{Holder, inside, message, manner, partsOf, Placed, since, Hand, next as nextPart, readItems, filled, assemble}
-use Rattle.reader.specs.Items.{optionals, nodeSize, blank, readHeld}
-use Rattle.reader.specs.Records.{Ready, Known, of-record, of-message, holderIn, readRecord}
+use Rattle.reader.specs.Items.{nodeSize, blank, readHeld}
+use Rattle.reader.specs.Records.{Ready, Known, readRecord}
 use Rattle.reader.specs.Sought.{held, Sound, Sought, tabledCount}
 use Rattle.reader.specs.Ways.{wrapped}
 use Rattle.reader.specs.declared.search.Choice.{Choice as Choice-found}
 use Rattle.reader.specs.declared.search.Found.the-variants.{Part}
 use Rattle.reader.specs.declared.place.Placed.{Placed as Spot}
-use Rattle.reader.specs.Placing.{kindOf, countOf, hasMembers, isList, holdsOne, onward, nodeOf, openingOf, absentIn, finishedIn, notedIn, said}
+use Rattle.reader.specs.Placing.{kindOf, hasMembers, holdsOne, onward, nodeOf, openingOf, absentIn, finishedIn, notedIn, said}
 use Rattle.reader.specs.Placing.{flags, wayOctets, endAt, Spotted}
 use Rattle.reader.specs.Placed.{Fits, Final, IsPlaced, heldIn, valueIn, ToPlaceValue, Following}
 use Rattle.reader.specs.Wraps.{Headed}
-use Rattle.reader.proofs.Begun.{Fit, fit, nested-all}
-use Rattle.reader.proofs.ItemsWay.{way-level, way-value}
+use Rattle.reader.proofs.ItemsFound.{At-item, item-sought, item-fits, item-tagged, item-level, item-value, item-headed}
 use Rattle.reader.proofs.PlacedWays.{way-length, inner-under}
-use Rattle.reader.proofs.ItemsSearch.{Tells, tells, search-itself}
 use Rattle.reader.proofs.Searching.{type-low}
 use Rattle.reader.proofs.Tagging.{record-is}
 use Rattle.reader.proofs.PlacedLevels.{kept-got, value-kept}
 use Rattle.reader.proofs.Finding.{good-held}
 use Rattle.reader.proofs.ItemsKinds.{blank-clear}
-use Rattle.reader.proofs.PlacedNodes.{slots-flags, nothing-is, row-length, members-size, opening-is, node-is}
+use Rattle.reader.proofs.PlacedNodes.{slots-flags, nothing-is, row-length, members-size}
 use Rattle.reader.proofs.PlacedTurns.{overAt}
-use Rattle.reader.proofs.PlacedLoop.{Loop, Comes, Goes, Ready as Prepared, ready-here, ready-found, ready-node, ready-room, ready-placed}
+use Rattle.reader.proofs.PlacedLoop.{Loop, Comes, Goes, Ready as Prepared, ready-found, ready-node, ready-room, ready-placed}
 use Rattle.reader.proofs.PlacedLoop.{ready-further}
 use Rattle.reader.proofs.PlacedLoop.{loop-first, arriving-comes, arriving-over, sorted-comes, sorted-end}
 use Rattle.reader.proofs.PlacedTurns.{Placing}
 use Rattle.reader.proofs.PlacedSets.{Filling, filling-skip}
-use Rattle.reader.proofs.Spans.{Spanned, held-body, its as spanned-of}
-
--- the kind of an entry that is not simple
-body-kind : (y : Body) → not (constructed y) ≡ false → kindOf (inside y) ≡ kind y
-unfolding constructed kindOf kind
-body-kind (Plain k) e = absurd (true≢false e)
-body-kind (Sequence ms) e = refl
-body-kind (Set ms) e = refl
-body-kind (SequenceOf t) e = refl
-body-kind (SetOf t) e = refl
-body-kind (Choice ts) e = refl
-
-body-some : (y : Body) → not (constructed y) ≡ false → kindOf (inside y) ≡ 0 → ⊥
-unfolding constructed kindOf
-body-some (Plain k) e z = true≢false e
-body-some (Sequence ms) e z = omega arith
-body-some (Set ms) e z = omega arith
-body-some (SequenceOf t) e z = omega arith
-body-some (SetOf t) e z = omega arith
-body-some (Choice ts) e z = omega arith
-
-module _ {b index : List ℕ} (R : Ready b index) where
-  kind-held : (w : ℕ) → Known b index w → unpacked w .simple ≡ false → kindOf (held b w) ≡ unpacked w .kind
-  unfolding holderIn if kindOf
-  kind-held w (of-record t h q) e =
-      let x = R .filled .entered t h in
-      let f = rw q at e in
-      rw (q, held-body x (R .filled .short)) (body-kind (tableIn b t .body) (sym (x .simple) ∙ f) ∙ sym (entered-kind x))
-  kind-held w (of-message t h q) e = rw q refl
-
-  kind-some : (w : ℕ) → Known b index w → unpacked w .simple ≡ false → kindOf (held b w) ≡ 0 → ⊥
-  unfolding holderIn if kindOf
-  kind-some w (of-record t h q) e =
-      let x = R .filled .entered t h in
-      let f = rw q at e in
-      rw (q, held-body x (R .filled .short)) (body-some (tableIn b t .body) (sym (x .simple) ∙ f))
-  kind-some w (of-message t h q) e = rw q (λ z. omega arith)
-
--- how many parts the table has for it
-count-is : (h : Holder) → tabledCount h ≡ countOf h
-unfolding tabledCount countOf partsOf
-count-is (inside (Plain k)) = refl
-count-is (inside (Sequence ms)) = refl
-count-is (inside (Set ms)) = refl
-count-is (inside (SequenceOf t)) = refl
-count-is (inside (SetOf t)) = refl
-count-is (inside (Choice ts)) = length-map ts _
-count-is (message t) = refl
+use Rattle.reader.proofs.Held.{held-kind, held-kinded, held-span, held-few, held-node, held-opening, held-onward, onward-most}
+use Rattle.reader.proofs.Spans.{Spanned}
 
 set-is : (h : Holder) → kindOf h ≡ 17 → (ms : List Member) × (h ≡ inside (Set ms))
 unfolding kindOf
@@ -120,14 +66,9 @@ set-is (inside (SetOf t)) e = absurd (omega arith)
 set-is (inside (Choice ts)) e = absurd (omega arith)
 set-is (message t) e = absurd (omega arith)
 
-count-parts : (h : Holder) → holdsOne (kindOf h) ≡ false → countOf h ≡ length (partsOf h)
-unfolding kindOf countOf partsOf
-count-parts (inside (Plain k)) e = refl
-count-parts (inside (Sequence ms)) e = refl
-count-parts (inside (Set ms)) e = refl
-count-parts (inside (SequenceOf t)) e = refl
-count-parts (inside (SetOf t)) e = refl
-count-parts (inside (Choice ts)) e = absurd (true≢false e)
+count-parts : (h : Holder) → holdsOne (kindOf h) ≡ false → tabledCount h ≡ length (partsOf h)
+unfolding kindOf tabledCount
+count-parts (inside y) e = refl
 count-parts (message t) e = absurd (true≢false e)
 
 -- the node of elements
@@ -151,32 +92,9 @@ choice-node (inside (SetOf t)) e = absurd (omega arith)
 choice-node (inside (Choice ts)) e = refl
 choice-node (message t) e = absurd (omega arith)
 
-few-parts : (h : Holder) → countOf h ≤ 16 → length (partsOf h) ≤ 16
-unfolding countOf partsOf
-few-parts (inside (Plain k)) l = omega arith
-few-parts (inside (Sequence ms)) l = l
-few-parts (inside (Set ms)) l = l
-few-parts (inside (SequenceOf t)) l = omega arith
-few-parts (inside (SetOf t)) l = omega arith
-few-parts (inside (Choice ts)) l = let z : length (optionals ts) ≡ length ts = length-map ts _ in omega arith
-few-parts (message t) l = omega arith
-
 -- the octet at a place
 first-at : (m : List ℕ) (at : ℕ) → getD (drop at m) 0 0 ≡ getD m at 0
 first-at m at = getD-drop at m 0 0 ∙ ap (λ (i : ℕ). getD m i 0) (omega arith)
-
--- behind a part
-onward-is : (b : List ℕ) (k p place : ℕ) → place + spanOf b k p .step / 2 ≡ onward k place
-unfolding spanOf onward if
-onward-is b k p place =
-    test (hasMembers k)
-    (λ c. rw c (omega arith))
-    λ c. test (eqb k 50) (λ d. rw (c, d) (omega arith)) λ d.
-    test (isList k) (λ f. rw (c, d, f) (omega arith)) λ f. rw (c, d, f) (omega arith)
-
-onward-most : (k p : ℕ) → onward k p ≤ suc p
-unfolding onward if
-onward-most k p = test (hasMembers k) (λ c. rw c (omega arith)) λ c. rw c (omega arith)
 
 set-onward : (k p : ℕ) → k ≡ 17 → onward k p ≡ suc p
 unfolding onward if
@@ -236,10 +154,10 @@ module _ {b index : List ℕ} {w : ℕ} {m : List ℕ} {marked : Bool} {first : 
   T = tableIn b
 
   pub its-kind : e .kind ≡ kindOf H
-  its-kind = ap (λ (x : Entry). x .kind) (G .entry) ∙ sym (kind-held (G .ready) w (G .known) (G .holds))
+  its-kind = held-kind (G .ready) (G .known) (G .holds) e (G .entry)
 
   its-some : kindOf H ≡ 0 → ⊥
-  its-some = kind-some (G .ready) w (G .known) (G .holds)
+  its-some = held-kinded (G .ready) (G .known) (G .holds)
 
   -- all the items
   pub record Items : Type 0 where
@@ -258,22 +176,25 @@ module _ {b index : List ℕ} {w : ℕ} {m : List ℕ} {marked : Bool} {first : 
       go (refused c l) q f = refused≢got f
 
   its-spanned : Spanned b H (unpacked w .kind) s
-  its-spanned = spanned-of (G .ready) w (G .known) s (G .span ∙ ap (λ (x : Entry). spanOf b (x .kind) (x .own)) (G .entry))
+  its-spanned = held-span (G .ready) (G .known) (G .holds) e (G .entry) s (G .span)
 
-  its-count : s .count ≡ countOf H
-  its-count = its-spanned .count ∙ count-is H
+  its-count : s .count ≡ tabledCount H
+  its-count = its-spanned .count
+
+  parts-few : length (partsOf H) ≤ 16
+  parts-few = held-few (G .ready) (G .known) (G .holds) e (G .entry) s (G .span)
 
   pub its-few : s .count ≤ 16
   its-few = its-spanned .few
 
   its-onward : (place : ℕ) → place + s .step / 2 ≡ onward (kindOf H) place
-  its-onward place = rw (G .span, ← its-kind) (onward-is b (e .kind) (e .own) place)
+  its-onward = held-onward (G .ready) (G .known) (G .holds) e (G .entry) s (G .span)
 
   its-node : nodeOf (e .kind) (s .count) ≡ nodeSize H
-  its-node = rw (its-kind, its-count) (node-is H its-some)
+  its-node = held-node (G .ready) (G .known) (G .holds) e (G .entry) s (G .span)
 
   its-opening : openingOf (e .kind) (s .count) ≡ said H 0 []
-  its-opening = rw (its-kind, its-count) (opening-is H its-some)
+  its-opening = held-opening (G .ready) (G .known) (G .holds) e (G .entry) s (G .span)
 
   its-room : to + length (octets (assemble H (items .all))) ≤ length first
   its-room = rw (items .value) (G .fits .room)
@@ -301,9 +222,6 @@ module _ {b index : List ℕ} {w : ℕ} {m : List ℕ} {marked : Bool} {first : 
 
 module _ {b index : List ℕ} {w : ℕ} {m : List ℕ} {marked : Bool} {first : List ℕ} {to : ℕ} {e : Entry} {s : Span} {ns : List ℕ} {last : ℕ}
     {opened : List ℕ} (X : Started b index w m marked first to e s ns last opened) where
-  abbrev S-holder : Holder
-  S-holder = held b w
-
   abbrev All : Hand
   All = items (X .given) .all
 
@@ -320,7 +238,7 @@ module _ {b index : List ℕ} {w : ℕ} {m : List ℕ} {marked : Bool} {first : 
   state-first next en =
       let G = X .given in
       loop-first ns last (its-some G) (items G .read) (its-room G) (X .spotted)
-      (rw (its-kind G, its-count G) at (X .opening)) (rw (its-kind G, its-count G) at en)
+      (X .opening ∙ ap (sets first to) (its-opening G)) (en ∙ ap (λ (k : ℕ). to + k) (its-node G))
 
   module _ {buf : List ℕ} {at next j count : ℕ} (L : State buf at next j count) where
     -- a SET
@@ -329,8 +247,8 @@ module _ {b index : List ℕ} {w : ℕ} {m : List ℕ} {marked : Bool} {first : 
       its-set = set-is (held b w) (sym (its-kind (X .given)) ∙ k17)
 
       set-count : s .count ≡ length (its-set .0)
-      unfolding countOf
-      set-count = its-count (X .given) ∙ ap countOf (its-set .1)
+      unfolding tabledCount partsOf
+      set-count = its-count (X .given) ∙ ap tabledCount (its-set .1)
 
       its-filling : Filling (tableIn b) 24 (its-set .0) m ns (filled All (nothing (its-set .0))) first to buf next j
       its-filling = L .sorted (its-set .0) (its-set .1)
@@ -433,41 +351,8 @@ module _ {b index : List ℕ} {w : ℕ} {m : List ℕ} {marked : Bool} {first : 
           let z = ap holdsOne (sym (its-kind (X .given))) ∙ sym eh ∙ y in
           arriving-comes other (its-some (X .given)) its-placing ns (λ x. absurd (true≢false (sym z ∙ x)))
 
--- a first identifier of one octet
-short-code : (r : Record) → firstOf r < 256 → firstOf r % 32 < 31
-unfolding outermostCode
-short-code r = go (r .tags) (r .body)
-  where
-    go : (gs : List Tag) (y : Body) → outermostCode gs y < 256 → outermostCode gs y % 32 < 31
-    go [] y h = absurd (omega arith)
-    go (g ∷ gs) y h =
-        let c = g .class in
-        let d = more gs || constructed y in
-        let n = g .number in
-        test (ltb n 31)
-        (λ q. let z = code-short c d n (ltb-true n 31 q) in omega (arith, ltb-true n 31 q))
-        λ q. let z = code-long c d n (ltb-false n 31 q) in absurd (omega (arith, ltb-false n 31 q))
-
-one-octet : (m : List ℕ) (at : ℕ) → at < length m → getD m at 0 % 32 < 31 → readIdentifier (drop at m) ≡ got (getD m at 0 ∷ []) (drop (at + 1) m)
-unfolding readIdentifier if
-one-octet m at l h = rw (drop-cons m at 0 l, lt-ltb (getD m at 0 % 32) 31 h, add-one) refl
-
-octets-from : (m : List ℕ) (at : ℕ) → Octets m → Octets (drop at m)
-octets-from m at o i = rw (getD-drop at m i 0) (o (at + i))
-
--- the item by its code
+-- the value of a record
 module _ {b index : List ℕ} (R : Ready b index) where
-  record-code : (u : ℕ) → u < countIn b → unpacked (getD index u 0) .code ≡ firstOf (tableIn b u)
-  record-code u l = R .filled .entered u l .code
-
-  code-tells : (s i u : List ℕ) → Octets s → readIdentifier s ≡ got i u → Tells (tableIn b) s (codeOf i)
-  unfolding peeked
-  code-tells s i u o e = rw e at (tells (tableIn b) (fit b (tableIn b) (countIn b) (R .passes)) s o)
-
-  begins-so : (s i u : List ℕ) → Octets s → readIdentifier s ≡ got i u → (t : ℕ) → firstOf (tableIn b t) ≡ codeOf i → begun (tableIn b) t s ≡ true
-  begins-so s i u o e t q =
-      code-tells s i u o e t ∙ ap hit (search-itself (tableIn b) s (codeOf i) (code-tells s i u o e) t (eq-eqb (firstOf (tableIn b t)) (codeOf i) q))
-
   record-read : (u : ℕ) → u < countIn b → (s : List ℕ) (v : Value) (w : List ℕ) → readValue (tableIn b) 24 u s ≡ got v w
       → valueIn b (getD index u 0) s ≡ got v w
   unfolding readRecord readValue
@@ -482,7 +367,7 @@ module _ {b index : List ℕ} {w : ℕ} {m : List ℕ} {marked : Bool} {first : 
     pub least : j ≤ place
     pub low : u < countIn b
     pub tagged : firstOf (tableIn b u) ≡ untagged → ⊥
-    pub headed : Headed m at from (firstOf (tableIn b u))
+    pub headed : Headed m at from (unpacked (getD index u 0) .code)
 
   pub sound : Sound b index w blank
   sound = record { ready = X .given .ready; known = X .given .known; noted = refl; clear = λ z p. blank-clear p }
@@ -494,135 +379,87 @@ module _ {b index : List ℕ} {w : ℕ} {m : List ℕ} {marked : Bool} {first : 
     pub part-near : j < s .count → s .first + j * s .step < 8192
     part-near l = let z = mul-comm j (s .step) in omega (arith, its-spanned (X .given) .near j l)
 
-    -- the part at hand, as it stands in the table
-    module _ (l : j < s .count) (t : ℕ) (et : t ≡ getD b (s .first + j * s .step) 0) where
-      part-place : s .first + j * s .step ≡ s .first + s .step * j
-      part-place = ap (λ (z : ℕ). s .first + z) (mul-comm j (s .step))
+    -- an item of a part: with the nodes of the way to its record, and those between told of
+    module _ {way : List ℕ} {place u depth from : ℕ}
+        (I : At-item b (held b w) m at (since (manner (held b w)) j) blank way place u depth from) where
+      its-part : C .part ≡ (place, I .part)
+      its-part = same-part (C .part) (place, I .part) (sym (C .found) ∙ I .found)
+        where
+          same-part : (x y : Placed) → some x ≡ some y → x ≡ y
+          same-part x y e = cc
 
+      item-read : readValue (tableIn b) 24 (I .part .type) (drop at m) ≡ got (C .value) (C .behind)
+      item-read = rw its-part at (C .read)
+
+      item-deep : depth ≤ 24
+      item-deep =
+          test (ltb 24 depth)
+          (λ q. refused≢got (sym (item-level (X .given .ready) (X .given .octets) I 24 (omega (arith, ltb-true 24 depth q))) ∙ item-read))
+          λ q. ltb-false 24 depth q
+
+      its-way : readValue (tableIn b) 24 (I .part .type) (drop at m)
+          ≡ then (readValue (tableIn b) (24 - depth) u (drop at m)) λ v s₁. got (wrapped way depth v) s₁
+      its-way = item-value (X .given .ready) (X .given .octets) I 24 item-deep
+
+      item-most : place < length (partsOf (held b w))
+      item-most = rw its-part at (C .most)
+
+      module _ (ways : depth ≤ length way) where
+        item-room : next + 4 * depth ≤ length buf
+        item-room =
+            let A = inner-under (tableIn b) 24 (I .part .type) (drop at m) way depth u (C .value) (C .behind) ways its-way item-read in
+            let z = way-length (take depth way) ∙ ap (λ (k : ℕ). 4 * k) (length-take-le depth way ways) in
+            omega (arith, C .room, ap length (A .octets), length-append (wayOctets (take depth way)) (octets (A .value)))
+
+        item-chosen : {buf₁ buf₂ : List ℕ} {next₁ : ℕ} → buf₁ ≡ sets buf next (wayOctets (take depth way)) → next₁ ≡ next + 4 * depth
+            → (hasMembers (e .kind) ≡ true → buf₂ ≡ absentIn j place buf₁ to) → (hasMembers (e .kind) ≡ false → buf₂ ≡ buf₁)
+            → Chosen j buf₂ at next₁ place u from
+        item-chosen {buf₁} {buf₂} e₁ en e₂ e₃ =
+            let k = its-kind (X .given) in
+            rw en
+            (record {
+              prepared = ready-found C way depth u (place, I .part) (I .found) ways its-way buf₁ buf₂ e₁ (rw k at e₂) (rw k at e₃);
+              least = rw its-part at (C .least);
+              low = I .there;
+              tagged = item-tagged (X .given .ready) (X .given .octets) I;
+              headed = item-headed (X .given .ready) (X .given .octets) I;
+            })
+
+    -- the part at hand, as it stands in the table, if the item begins it with one octet
+    module _ (l : j < s .count) (t : ℕ) (et : t ≡ getD b (s .first + j * s .step) 0) where
       part-type : t ≡ getD b (s .first + s .step * j) 0
-      part-type = et ∙ ap (λ (z : ℕ). getD b z 0) part-place
+      part-type = et ∙ ap (λ (z : ℕ). getD b (s .first + z) 0) (mul-comm j (s .step))
 
       pub part-low : t < countIn b
       part-low = type-low sound e (X .given .entry) s (X .given .span) j l t part-type
 
-      -- the item begins it with one octet
-      module _ (f : ℕ) (ef : f ≡ unpacked (getD index t 0) .code) (q : f ≡ getD m at 0) where
-        its-code : firstOf (tableIn b t) ≡ getD m at 0
-        its-code = sym (record-code (X .given .ready) t part-low) ∙ sym ef ∙ q
-
-        its-octet : readIdentifier (drop at m) ≡ got (getD m at 0 ∷ []) (drop (at + 1) m)
-        its-octet =
-            let o = X .given .octets at in
-            one-octet m at coming-low (rw its-code at (short-code (tableIn b t) (rw its-code o)))
-
-        pub chosen-here : Chosen j buf at next j t (at + 1)
-        unfolding codeOf
-        chosen-here =
-            let G = X .given in
-            let P = its-spanned G .at j l in
-            let r = P .type in
-            let y : t ≡ P .part .type = part-type ∙ r in
-            let g = begins-so (G .ready) (drop at m) (getD m at 0 ∷ []) (drop (at + 1) m) (octets-from m at (G .octets)) its-octet t its-code in
-            record {
-              prepared = rw y (ready-here C (P .part) (drop (suc j) (partsOf (held b w))) (P .is) (rw y at g));
-              least = omega arith;
-              low = part-low;
-              tagged = λ z. omega (arith, G .octets at, its-code);
-              headed = record {
-                identifier = getD m at 0 ∷ [];
-                is = its-octet;
-                coded = sym its-code;
-                further = omega arith;
-                low = omega (arith, coming-low);
-              };
-            }
+      pub chosen-here : (f : ℕ) → f ≡ unpacked (getD index t 0) .code → f ≡ getD m at 0 → Chosen j buf at next j t (at + 1)
+      unfolding wayOctets
+      chosen-here f ef q =
+          let z : j - j ≡ 0 = omega arith in
+          item-chosen
+          (item-fits sound e (X .given .entry) s (X .given .span) m (X .given .octets) at coming-low j l (blank-clear j) t f part-type ef q [])
+          (omega arith) refl (omega arith) (λ _. rw z refl) (λ _. refl)
 
     -- the part that the search found
     abbrev pub Finds-part : Choice-found → List ℕ → Type 0
     Finds-part x way = Sought b (held b w) (since (manner (held b w)) j) blank (drop at m) way (Part x)
 
     module _ (x : Choice-found) (way : List ℕ) (ways : length way ≡ 128) (F : Finds-part x way) where
-      abbrev its-member : Member
-      its-member = F .0
-
-      its-next : nextPart (tableIn b) (held b w) (since (manner (held b w)) j) blank (drop at m) ≡ some (x .place, its-member)
-      its-next = F .2
-
-      its-part : C .part ≡ (x .place, its-member)
-      its-part = same-part (C .part) (x .place, its-member) (sym (C .found) ∙ its-next)
-        where
-          same-part : (x y : Placed) → some x ≡ some y → x ≡ y
-          same-part x y e = cc
-
-      found-code : codeOf (F .1) < untagged
-      found-code = omega (arith, read-code-small (drop at m) (F .1) (drop (x .from) (drop at m)) (octets-from m at (X .given .octets)) (F .3))
-
-      found-tag : codeOf (F .1) ≡ untagged → ⊥
-      found-tag z = omega (arith, found-code)
-
-      found-read : readValue (tableIn b) 24 (its-member .type) (drop at m) ≡ got (C .value) (C .behind)
-      found-read = rw its-part at (C .read)
-
-      found-tells : Tells (tableIn b) (drop at m) (codeOf (F .1))
-      found-tells = code-tells (X .given .ready) (drop at m) (F .1) (drop (x .from) (drop at m)) (octets-from m at (X .given .octets)) (F .3)
-
-      its-fit : (t : ℕ) → Fit (tableIn b t)
-      its-fit = fit b (tableIn b) (countIn b) (X .given .ready .passes)
-
-      its-nested : (t : ℕ) → Nested (tableIn b) 128 t
-      its-nested = nested-all b (tableIn b) (countIn b) (X .given .ready .passes)
+      abbrev Found-item : At-item b (held b w) m at (since (manner (held b w)) j) blank way (x .place) (x .record) (x .depth) (at + x .from)
+      Found-item = item-sought x (C .low) F
 
       pub found-deep : x .depth ≤ 24
-      found-deep =
-          test (ltb 24 (x .depth))
-          (λ q. refused≢got (sym (way-level (tableIn b) its-fit its-nested (codeOf (F .1)) found-tag (drop at m) found-tells (F .6 .1) (F .6 .2)
-          24 (omega (arith, ltb-true 24 (x .depth) q))) ∙ found-read))
-          λ q. ltb-false 24 (x .depth) q
+      found-deep = item-deep Found-item
 
-      found-value : readValue (tableIn b) 24 (its-member .type) (drop at m)
-          ≡ then (readValue (tableIn b) (24 - x .depth) (x .record) (drop at m)) λ v s₁. got (wrapped way (x .depth) v) s₁
-      found-value =
-          way-value (tableIn b) its-fit its-nested (codeOf (F .1)) found-tag (drop at m) found-tells (F .6 .1) (F .6 .2) 24 found-deep
+      within-way : x .depth ≤ length way
+      within-way = omega (arith, found-deep)
 
       pub found-room : next + 4 * x .depth ≤ length buf
-      found-room =
-          let I = inner-under (tableIn b) 24 (its-member .type) (drop at m) way (x .depth) (x .record) (C .value) (C .behind)
-          (omega (arith, found-deep)) found-value found-read in
-          let z = way-length (take (x .depth) way) ∙ ap (λ (k : ℕ). 4 * k) (length-take-le (x .depth) way (omega (arith, found-deep))) in
-          omega (arith, C .room, ap length (I .octets), length-append (wayOctets (take (x .depth) way)) (octets (I .value)))
+      found-room = item-room Found-item within-way
 
       pub found-low : at + x .from ≤ length m
-      found-low = omega (arith, F .5, length-drop at m, C .low)
-
-      pub found-least : j ≤ x .place
-      found-least = rw its-part at (C .least)
-
-      pub found-most : x .place < length (partsOf (held b w))
-      found-most = rw its-part at (C .most)
-
-      -- with the nodes of the way, and those between told of
-      pub chosen-found : {buf₁ buf₂ : List ℕ} {next₁ from : ℕ} → buf₁ ≡ sets buf next (wayOctets (take (x .depth) way)) → next₁ ≡ next + 4 * x .depth
-          → from ≡ at + x .from → (hasMembers (e .kind) ≡ true → buf₂ ≡ absentIn j (x .place) buf₁ to) → (hasMembers (e .kind) ≡ false → buf₂ ≡ buf₁)
-          → Chosen j buf₂ at next₁ (x .place) (x .record) from
-      chosen-found {buf₁} {buf₂} e₁ en ef e₂ e₃ =
-          let G = X .given in
-          let k = its-kind G in
-          let g = F .6 .2 in
-          rw (en, ef)
-          (record {
-            prepared = ready-found C way (x .depth) (x .record) (x .place, its-member) its-next (omega (arith, found-deep)) found-value buf₁ buf₂ e₁
-                (rw k at e₂) (rw k at e₃);
-            least = found-least;
-            low = F .6 .3;
-            tagged = λ z. omega (arith, found-code, g);
-            headed = record {
-              identifier = F .1;
-              is = F .3 ∙ ap (got (F .1)) (drop-drop (x .from) at m);
-              coded = sym g;
-              further = omega (arith, F .4);
-              low = found-low;
-            };
-          })
+      found-low = Found-item .low
 
     -- it finds one
     pub found-some : nextPart (tableIn b) (held b w) (since (manner (held b w)) j) blank (drop at m) ≡ none → ⊥
@@ -650,7 +487,11 @@ module _ {b index : List ℕ} {w : ℕ} {m : List ℕ} {marked : Bool} {first : 
     picked x way ways F {buf₁} e₁ en ep eu ef =
         let l : length buf₁ ≡ length buf = ap length e₁ ∙ length-sets buf next (wayOctets (take (x .depth) way)) in
         rw (ep, eu)
-        (l, λ c. omega (arith, absent-room (x .place) (found-most x way ways F) c), λ buf₂ e₂ e₃. chosen-found x way ways F e₁ en ef e₂ e₃)
+        (
+          l,
+          λ c. omega (arith, absent-room (x .place) (item-most (Found-item x way ways F)) c),
+          λ buf₂ e₂ e₃. rw ef (item-chosen (Found-item x way ways F) (within-way x way ways F) e₁ en e₂ e₃),
+        )
 
   module _ {j : ℕ} {buf : List ℕ} {at next place u from : ℕ} (R : Chosen j buf at next place u from) where
     pub chosen-node : (hasMembers (e .kind) ≡ true → to + 4 + place < length buf) × (e .kind ≡ 50 → (to + 3 < length buf) × (place < 256))
@@ -662,16 +503,13 @@ module _ {b index : List ℕ} {w : ℕ} {m : List ℕ} {marked : Bool} {first : 
           λ c. let z = members-size (held b w) (rw k at c) in omega arith,
           λ c.
               let z = choice-node (held b w) (sym k ∙ c) in
-              let q = its-count G in
-              (omega arith, omega (arith, few-parts (held b w) (omega (arith, its-few G)))),
+              (omega arith, omega (arith, parts-few G)),
         )
 
     pub chosen-onward : place + s .step / 2 ≤ 16
     chosen-onward =
         let G = X .given in
-        let q = its-count G in
-        rw (its-onward G place)
-        (omega (arith, onward-most (kindOf (held b w)) place, R .prepared .most, few-parts (held b w) (omega (arith, its-few G))))
+        rw (its-onward G place) (omega (arith, onward-most (kindOf (held b w)) place, R .prepared .most, parts-few G))
 
     module _ {buf₁ : List ℕ} (e₁ : buf₁ ≡ notedIn (e .kind) place buf to) where
       its-noted : buf₁ ≡ notedIn (kindOf (held b w)) place buf to
@@ -691,7 +529,7 @@ module _ {b index : List ℕ} {w : ℕ} {m : List ℕ} {marked : Bool} {first : 
             entry = refl;
             tagged = R .tagged;
             short = G .short;
-            headed = rw (record-code (G .ready) u (R .low)) (R .headed);
+            headed = R .headed;
             ways = ways;
             fits = record {
               value = R .prepared .inner .value;

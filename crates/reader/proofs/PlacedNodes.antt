@@ -16,7 +16,8 @@ use Rattle.coding.specs.Value.{Value, slots, bag, octets, count, presence, part
 use Rattle.coding.specs.Reading.{nothing}
 use Rattle.reader.specs.Items.{Holder, inside, message, partsOf, Hand, filled}
 use Rattle.reader.specs.Items.{values, only, assemble, nodeSize, sizesOf}
-use Rattle.reader.specs.Placing.{bodies, flags, kindOf, hasMembers, isList, holdsOne, countOf, onward, nodeOf, openingOf, notedIn, absentIn}
+use Rattle.reader.specs.Sought.{tabledCount}
+use Rattle.reader.specs.Placing.{bodies, flags, kindOf, hasMembers, isList, holdsOne, onward, nodeOf, openingOf, notedIn, absentIn}
 use Rattle.reader.specs.Placing.{finishedIn, said}
 use Rattle.reader.proofs.ItemsInTurn.{filled-snoc, filled-length}
 use Rattle.reader.proofs.Stores.{sets-append, sets-later}
@@ -400,8 +401,8 @@ module _ {h : Holder} {first : List ℕ} {to : ℕ} {hand : Hand} {buf : List �
       lists (message t) e o n = absurd (true≢false o)
 
 -- by the number of the kind
-pub opening-is : (h : Holder) → (kindOf h ≡ 0 → ⊥) → openingOf (kindOf h) (countOf h) ≡ said h 0 []
-unfolding kindOf countOf openingOf said if
+pub opening-is : (h : Holder) → (kindOf h ≡ 0 → ⊥) → openingOf (kindOf h) (tabledCount h) ≡ said h 0 []
+unfolding kindOf tabledCount partsOf openingOf said if
 opening-is (inside (Plain k)) n = absurd (n refl)
 opening-is (inside (Sequence ms)) n = rw flags-none refl
 opening-is (inside (Set ms)) n = rw flags-none refl
@@ -410,8 +411,8 @@ opening-is (inside (SetOf t)) n = refl
 opening-is (inside (Choice ts)) n = refl
 opening-is (message t) n = refl
 
-pub node-is : (h : Holder) → (kindOf h ≡ 0 → ⊥) → nodeOf (kindOf h) (countOf h) ≡ nodeSize h
-unfolding kindOf countOf nodeOf nodeSize if
+pub node-is : (h : Holder) → (kindOf h ≡ 0 → ⊥) → nodeOf (kindOf h) (tabledCount h) ≡ nodeSize h
+unfolding kindOf tabledCount partsOf nodeOf nodeSize if
 node-is (inside (Plain k)) n = absurd (n refl)
 node-is (inside (Sequence ms)) n = refl
 node-is (inside (Set ms)) n = refl

@@ -73,7 +73,6 @@ pub record Awaited (T : Table) (h : Holder) (j : ℕ) (came s : List ℕ) (x : P
   pub least : j ≤ x .0
   pub most : x .0 < length (partsOf h)
   pub is : drop (x .0) (partsOf h) ≡ x .1 ∷ drop (suc (x .0)) (partsOf h)
-  pub new : getD came (x .0) 0 ≡ 0
   pub begins : begun T (x .1 .type) s ≡ true
 
 pub awaited : (T : Table) (r : ℕ → List ℕ → Answer Value) (h : Holder) (j : ℕ) (came s : List ℕ) (x : Placed) → j ≤ length (partsOf h)
@@ -85,7 +84,6 @@ awaited T r h j came s x l e =
       least = omega (arith, F .place);
       most = omega (arith, F .place, F .low, length-drop j (partsOf h));
       is = rw (drop-drop, ← F .place, drop-drop, p) at (F .is);
-      new = F .free;
       begins = first-passes (λ x. begun T (x .1 .type) s) (awaits h j came) x e;
     }
 
@@ -305,16 +303,15 @@ onward-is (inside (SetOf t)) m o p l = (omega arith, refl)
 onward-is (inside (Choice ts)) m o p l = absurd (true≢false o)
 onward-is (message q) m o p l = absurd (true≢false o)
 
-onward-since : (h : Holder) → (kindOf h ≡ 17 → ⊥) → isSingle (manner h) ≡ false → (p : ℕ) → p < length (partsOf h)
-    → since (manner h) (onward (kindOf h) p) ≡ onward (kindOf h) p
-unfolding kindOf manner isSingle since onward if partsOf
-onward-since (inside (Plain q)) m o p l = absurd (true≢false o)
-onward-since (inside (Sequence ms)) m o p l = refl
-onward-since (inside (Set ms)) m o p l = absurd (m refl)
-onward-since (inside (SequenceOf t)) m o p l = omega arith
-onward-since (inside (SetOf t)) m o p l = omega arith
-onward-since (inside (Choice ts)) m o p l = absurd (true≢false o)
-onward-since (message q) m o p l = absurd (true≢false o)
+pub since-onward : (h : Holder) (p : ℕ) → since (manner h) (onward (kindOf h) p) ≡ following (manner h) p
+unfolding kindOf manner since following onward if
+since-onward (inside (Plain q)) p = refl
+since-onward (inside (Sequence ms)) p = refl
+since-onward (inside (Set ms)) p = refl
+since-onward (inside (SequenceOf t)) p = refl
+since-onward (inside (SetOf t)) p = refl
+since-onward (inside (Choice ts)) p = refl
+since-onward (message q) p = refl
 
 module _ {T : Table} {n : ℕ} {h : Holder} {b : Bool} {m : List ℕ} {all : Hand} {last first : List ℕ} {to : ℕ} {buf : List ℕ} {at next j count : ℕ}
     (S : Placing T n h b m all last first to buf at next j count) (kind : kindOf h ≡ 0 → ⊥) where
@@ -369,7 +366,7 @@ module _ {T : Table} {n : ℕ} {h : Holder} {b : Bool} {m : List ℕ} {all : Han
           few = omega (arith, S .few, placing-further t end within behind);
           low = within;
           alone = λ d. absurd (false≢true (sym o ∙ d));
-          from = onward-since h no-set z p (placing-awaited t .most);
+          from = since-onward h p ∙ e;
           room = rw l (S .room);
         }
 

@@ -6,7 +6,7 @@ use lib.ListN.{length, getD, drop}
 use mathlib.Core.Bool.{Bool, true, false, not, _||_, true≢false}
 use mathlib.Core.List.{List, [], _∷_, List·Memᴰ as In, List·Memᴰ·head, List·Memᴰ·tail}
 use mathlib.Core.Logic.{_⊎_, inl, inr}
-use mathlib.Core.Option.{Option, some, none}
+use mathlib.Core.Option.{some, none}
 use mathlib.Core.Path.{_≡_, refl, sym, ap, _∙_}
 use native.Mathlib.Omega.{arith}
 use Prim.Native.Nat.{ℕ, zero, suc, _+_, _*_, _≤_, _<_}
@@ -21,7 +21,8 @@ use Rattle.table.specs.declared.entry.Entry.{Entry}
 use Rattle.table.specs.declared.entry.Span.{Span}
 use Rattle.coding.specs.Awaited.{types}
 use Rattle.reader.specs.Codes.{firstOf, searchIn, hit}
-use Rattle.reader.specs.Items.{Holder, inside, message, Manner, in-turn, each-once, repeated, single, manner, partsOf, optionals, Placed, pending, left, awaits, remains, some-of, since, isSingle, first}
+use Rattle.reader.specs.Items.{Holder, inside, message, Manner, in-turn, each-once, repeated, single, manner, partsOf, optionals, Placed, left}
+use Rattle.reader.specs.Items.{awaits, remains, some-of, since, isSingle, first}
 use Rattle.reader.specs.Records.{Ready, Known, of-record, of-message, holderIn, Finds}
 use Rattle.reader.specs.Sought.{held, Sound, placeOf, tabled, tabledCount, direct, unfitCause, Indirect}
 use Rattle.reader.specs.declared.search.Found.{Found}
@@ -31,7 +32,8 @@ use Rattle.reader.specs.declared.search.Under.the-variants.{Nothing, At}
 use Rattle.reader.proofs.Among.{code-is}
 use Rattle.reader.proofs.Items.{pending-free}
 use Rattle.reader.proofs.ItemsSearch.{optional-types}
-use Rattle.reader.proofs.Spans.{PartAt, Spanned, turns-by, turn-is, turn-not, by-member, entry-of, held-body, its, awaits-none, awaits-hit, awaits-skip, awaits-stop, awaits-come, tabled-some, tabled-none}
+use Rattle.reader.proofs.Spans.{PartAt, Spanned, turns-by, turn-is, turn-not, by-member, entry-of, held-body, its, awaits-none, awaits-hit}
+use Rattle.reader.proofs.Spans.{awaits-skip, awaits-stop, awaits-come, tabled-some, tabled-none}
 
 -- the types of parts are records
 nothing-first : {A : Type 0} (x : A) (l : List A) → _≡_ {A = List A} [] (x ∷ l) → ⊥
@@ -109,7 +111,8 @@ module _ (i : ℕ) (came : List ℕ) (c : Cause) where
   unfit-of (inside (Choice ts)) clear n q = refl
   unfit-of (message t) clear n q = refl
 
-module _ {b index : List ℕ} {w : ℕ} {came : List ℕ} (Z : Sound b index w came) (e : Entry) (ee : e ≡ unpacked w) (g : Bool) (eg : g ≡ (eqb (e .kind) 16 || eqb (e .kind) 17)) (i : ℕ) where
+module _ {b index : List ℕ} {w : ℕ} {came : List ℕ} (Z : Sound b index w came) (e : Entry) (ee : e ≡ unpacked w)
+    (g : Bool) (eg : g ≡ (eqb (e .kind) 16 || eqb (e .kind) 17)) (i : ℕ) where
   kind-members : g ≡ (eqb (unpacked w .kind) 16 || eqb (unpacked w .kind) 17)
   kind-members = eg ∙ ap (λ (x : Entry). eqb (x .kind) 16 || eqb (x .kind) 17) ee
 

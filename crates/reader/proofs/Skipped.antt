@@ -11,12 +11,14 @@ use Prim.Native.Nat.{ℕ, zero, suc, _+_}
 use lib.ListN.{length, take, drop}
 use Rattle.octets.specs.Answer.{Answer, got, refused, then, if, none-left}
 use Rattle.octets.proofs.Answer.{Holds, yields, refuses, then-holds, map-holds, behind-holds, if-holds, got-holds}
-use Rattle.ber.specs.Reading.{readIdentifier, Size, definite, indefinite, readLength, open-ended, closed, atEnd, readHeader, inside, readConstructed, contents, readPrimitive}
+use Rattle.ber.specs.Reading.{readIdentifier, Size, definite, indefinite, readLength, open-ended, closed, atEnd, readHeader, inside, readConstructed}
+use Rattle.ber.specs.Reading.{contents, readPrimitive}
 use Rattle.ber.proofs.Identifiers.{identifier-sound}
 use Rattle.ber.proofs.Items.{Ends, mark, atEnd-holds}
 use Rattle.table.specs.Syntax.{Member, Body, Plain, Sequence, Set, SequenceOf, SetOf, Choice, Table}
 use Rattle.coding.specs.Value.{Value}
-use Rattle.coding.specs.Reading.{passes, begun, unwanted, nothing, readWrapped, readSequence, place, readSet, readMany, choose, readBody, readKind, readValue}
+use Rattle.coding.specs.Reading.{passes, begun, unwanted, nothing, readWrapped, readSequence, place, readSet, readMany, choose, readBody, readKind}
+use Rattle.coding.specs.Reading.{readValue}
 use Rattle.coding.proofs.Content.{content-sound}
 use Rattle.coding.specs.Tags.{own, explicit}
 use Rattle.coding.specs.Awaited.{begins}
@@ -86,7 +88,8 @@ Inner f = (s : List ℕ) → Holds (λ v w. Passed 1 s w) (f s)
 abbrev Outer : {A : Type 0} → (List ℕ → Answer A) → Type 0
 Outer f = (s : List ℕ) → Holds (λ v w. Skips s w) (f s)
 
-inside-skips : {A : Type 0} (body : _ → List ℕ → Answer A) → Inner (body open-ended) → (s : List ℕ) (z : Size) (r : List ℕ) → headed s ≡ got z r → Holds (λ v w. Skips s w) (inside body z r)
+inside-skips : {A : Type 0} (body : _ → List ℕ → Answer A) → Inner (body open-ended) → (s : List ℕ) (z : Size) (r : List ℕ) → headed s ≡ got z r
+    → Holds (λ v w. Skips s w) (inside body z r)
 unfolding inside
 inside-skips body f s (definite n) r e = then-holds (behind-holds _ (itself (body closed (take n r)))) λ v u x. yields (sized e)
 inside-skips body f s indefinite r e = map-holds (f r) λ v w x. marked e x

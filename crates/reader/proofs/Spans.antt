@@ -1,30 +1,32 @@
 -- The parts of a record where they stand in the table, and the loops over those that are awaited.
 -- Assumes nothing.
-use borrow.Author.Tests.{eq-eqb, ne-eqb, eqb-true}
+use borrow.Author.Tests.{ne-eqb, eqb-true}
 use lib.Dec.{eqb}
 use lib.ListN.{length, getD, drop, length-map, drop-of-length-le}
-use mathlib.Core.Bool.{Bool, true, false, not, _||_, true≢false, false≢true}
+use mathlib.Core.Bool.{Bool, true, false, not, _||_, true≢false}
 use mathlib.Core.List.{List, [], _∷_}
 use mathlib.Core.Logic.{_⊎_, inl, inr}
-use mathlib.Core.Option.{Option, some, none}
+use mathlib.Core.Option.{some, none}
 use mathlib.Core.Path.{_≡_, refl, sym, ap, _∙_}
 use native.Mathlib.Numerals.{add-one}
 use native.Mathlib.Omega.{arith}
 use Prim.Native.Nat.{ℕ, zero, suc, _+_, _*_, _≤_, _<_}
 use Rattle.octets.specs.Answer.{if}
 use Rattle.octets.specs.Lists.{any}
-use Rattle.octets.proofs.Tests.{test, or-by}
-use Rattle.table.specs.Syntax.{Member, Simple, Boolean, Integer, BitString, OctetString, Null, Enumerated, Body, Plain, Sequence, Set, SequenceOf, SetOf, Choice, Record}
+use Rattle.octets.proofs.Tests.{or-by}
+use Rattle.table.specs.Syntax.{Member, Simple, Boolean, Integer, BitString, OctetString, Null, Enumerated, Body, Plain, Sequence, Set, SequenceOf}
+use Rattle.table.specs.Syntax.{SetOf, Choice, Record}
 use Rattle.table.specs.Octets.{kind}
-use Rattle.table.specs.Reading.{membersAt, everyAt, bodyAt}
-use Rattle.table.specs.Entries.{unpacked, spanOf, counted, Entered, tableIn, countIn}
+use Rattle.table.specs.Reading.{membersAt, everyAt}
+use Rattle.table.specs.Entries.{unpacked, spanOf, Entered, tableIn, countIn}
 use Rattle.table.specs.declared.entry.Entry.{Entry}
 use Rattle.table.specs.declared.entry.Span.{Span}
-use Rattle.table.proofs.Promises.{entered-kind, entered-members, entered-choice, entered-list, length-members}
-use Rattle.reader.specs.Items.{Holder, inside, message, Manner, in-turn, each-once, repeated, single, manner, partsOf, optionals, Placed, pending, upToMandatory, within, left, awaits, first}
+use Rattle.table.proofs.Promises.{entered-kind, entered-members, entered-choice, entered-list}
+use Rattle.reader.specs.Items.{Holder, inside, message, Manner, in-turn, each-once, repeated, single, manner, partsOf, optionals, Placed}
+use Rattle.reader.specs.Items.{pending, upToMandatory, within, left, awaits, first}
 use Rattle.reader.specs.Records.{Ready, holderIn, Known, of-record, of-message}
 use Rattle.reader.specs.Sought.{held, tabled, tabledCount}
-use Rattle.reader.proofs.Items.{first-hit, first-miss, pending-free, pending-come}
+use Rattle.reader.proofs.Items.{pending-free, pending-come}
 
 members-at : (b : List ℕ) (p n i : ℕ) → i < n
     → drop i (membersAt b p n) ≡ record { type = getD b (p + 2 * i) 0; optional = eqb (getD b (p + 2 * i + 1) 0) 1 } ∷ drop (suc i) (membersAt b p n)

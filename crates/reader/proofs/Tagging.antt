@@ -1,22 +1,22 @@
 -- The identifiers of a record by its tags, and whether octets begin with the one that is awaited.
 -- Assumes nothing.
-use borrow.Author.Tests.{lt-ltb, le-ltb, ltb-true, ltb-false, eq-eqb, ne-eqb}
+use borrow.Author.Tests.{lt-ltb, le-ltb, ltb-true, ltb-false, ne-eqb}
 use lib.Dec.{ltb, eqb}
-use lib.ListN.{length, getD, drop, length-drop}
+use lib.ListN.{length, getD, drop, length-append}
 use mathlib.Core.Bool.{Bool, true, false, not, _||_, false≢true}
 use mathlib.Core.List.{List, [], _∷_, _++_, map}
 use mathlib.Core.Path.{_≡_, refl, sym, ap, _∙_}
 use native.Mathlib.Omega.{arith}
-use Prim.Native.Nat.{ℕ, zero, suc, _+_, _*_, _-_, _≤_, _<_}
+use Prim.Native.Nat.{ℕ, zero, suc, _+_, _-_, _≤_, _<_}
 use Rattle.octets.specs.declared.cause.Cause.{Cause}
 use Rattle.octets.specs.declared.cause.Cause.the-variants.{NotAwaited}
-use Rattle.octets.specs.Answer.{Answer, got, refused, then, if}
+use Rattle.octets.specs.Answer.{got, refused, then, if}
 use Rattle.octets.specs.Lists.{same}
 use Rattle.octets.specs.Numbers.{Octets, two}
 use Rattle.octets.proofs.Tests.{test}
 use Rattle.ber.specs.Codes.{codeOf, code as codeBy}
 use Rattle.ber.specs.Reading.{readIdentifier}
-use Rattle.ber.specs.Told.{toldIdentifier, endOf, mode}
+use Rattle.ber.specs.Told.{toldIdentifier, endOf}
 use Rattle.ber.specs.declared.ending.End.{End}
 use Rattle.ber.specs.declared.ending.End.the-variants.{More, Over, Broken}
 use Rattle.ber.specs.declared.identifier.Identifier.{Identifier}
@@ -25,12 +25,12 @@ use Rattle.ber.proofs.Codes.{code-of-identifier, code-awaited}
 use Rattle.ber.proofs.Ends.{end-more, end-over, end-broken}
 use Rattle.ber.proofs.Told.{identifier-read, identifier-refused}
 use Rattle.table.specs.Syntax.{Tag, Body, Plain, Sequence, Set, SequenceOf, SetOf, Choice, Record, isChoice, constructed}
-use Rattle.table.specs.Entries.{unpacked, tagCount, tagPlace, tableIn, countIn, Entered, firstCode, outermostCode, explicitCount}
+use Rattle.table.specs.Entries.{unpacked, tagCount, tagPlace, tableIn, countIn, Entered, firstCode, outermostCode}
 use Rattle.table.specs.declared.entry.Entry.{Entry}
 use Rattle.table.proofs.Promises.{entered-tags, entered-tag, entered-bit}
 use Rattle.coding.specs.Tags.{identifierOf, last, before, explicitTags, own, explicit}
 use Rattle.reader.specs.Records.{Ready, recordIn, IsRecord}
-use Rattle.reader.specs.Wraps.{identifiers, Headed, AwaitsTag, behind-last, is-tag, no-tag, EntersTag, goes-on, is-over}
+use Rattle.reader.specs.Wraps.{identifiers, AwaitsTag, behind-last, is-tag, no-tag, EntersTag, goes-on, is-over}
 use Rattle.reader.specs.declared.tags.Tag.{Tag as TagRead}
 use Rattle.reader.specs.declared.tags.Tag.the-variants.{Read as ReadTag, Refused as NoTag}
 use Rattle.reader.proofs.Begun.{AllFine, Fit, fit}
@@ -140,6 +140,38 @@ module _ (r : Record) (F : Fit r) where
     same-at s i u o e =
         let f = fine-at (r .tags) (F .fine) j l in
         ap (λ (z : List ℕ). same z i) identifier-at ∙ code-awaited s i u o e (Its .class) Bit (Its .number) (f .0) (f .1) ∙ ap (λ (z : ℕ). eqb (codeOf i) z) (sym code-at)
+
+-- its own identifier is the last
+behind-at : (a : List (List ℕ)) (x : List ℕ) → getD (a ++ (x ∷ [])) (length a) [] ≡ x
+behind-at [] x = refl
+behind-at (y ∷ a) x = behind-at a x
+
+pub own-at : (r : Record) → isChoice (r .body) ≡ false → getD (identifiers r) (length (explicit r)) [] ≡ own r
+unfolding if
+own-at r n = rw n (behind-at (explicit r) (own r))
+
+pub own-low : (r : Record) → Fit r → isChoice (r .body) ≡ false → length (explicit r) < length (r .tags)
+unfolding if
+own-low r F n =
+    let q : length (identifiers r) ≡ length (explicit r) + 1 = rw n (length-append (explicit r) (own r ∷ [])) in
+    omega (arith, count-identifiers r F)
+
+-- and the first has the first code
+first-by : (gs : List Tag) (y : Body) → 0 < length gs
+    → outermostCode gs y ≡ codeBy (getD gs 0 zeros .class) (ltb (0 + 1) (length gs) || constructed y) (getD gs 0 zeros .number)
+unfolding outermostCode
+first-by [] y l = absurd (omega arith)
+first-by (g ∷ []) y l = refl
+first-by (g ∷ h ∷ gs) y l = rw (lt-ltb (0 + 1) (suc (suc (length gs))) (omega arith)) refl
+
+pub first-code : (r : Record) → Fit r → 0 < length (r .tags) → codeOf (getD (identifiers r) 0 []) ≡ firstCode r
+first-code r F k = code-at r F 0 k ∙ sym (first-by (r .tags) (r .body) k)
+
+pub own-first : (r : Record) → Fit r → length (explicit r) ≡ 0 → isChoice (r .body) ≡ false → codeOf (own r) ≡ firstCode r
+own-first r F z n =
+    let k : 0 < length (r .tags) = omega (arith, own-low r F n) in
+    let q : getD (identifiers r) 0 [] ≡ own r = ap (λ (i : ℕ). getD (identifiers r) i []) (sym z) ∙ own-at r n in
+    ap codeOf (sym q) ∙ first-code r F k
 
 -- of the record of an entry
 module _ {b index : List ℕ} (R : Ready b index) {w : ℕ} (I : IsRecord b index w) where

@@ -2,18 +2,16 @@
 -- Assumes nothing.
 use borrow.Author.Tests.{eq-eqb, ne-eqb, eqb-true}
 use lib.Dec.{eqb}
-use lib.ListN.{length, getD, take, drop, set, length-drop}
-use lib.Seq.{take-length, take-take, take-suc, take-suc-set, length-take-le, take-add, drop-drop, drop-append-seam}
+use lib.ListN.{length, getD, take, drop, length-drop}
+use lib.Seq.{take-suc, length-take-le}
 use mathlib.Core.Bool.{Bool, true, false}
 use mathlib.Core.List.{List, [], _∷_, _++_}
 use mathlib.Core.Path.{_≡_, refl, sym, ap, _∙_}
-use native.Mathlib.Numerals.{add-one}
 use native.Mathlib.Omega.{arith}
-use Prim.Native.Nat.{ℕ, zero, suc, _+_, _-_, _*_, _/_, _%_, _≤_, _<_}
+use Prim.Native.Nat.{ℕ, suc, _+_, _-_, _*_, _/_, _%_, _≤_, _<_}
 use Rattle.octets.specs.declared.cause.Cause.{Cause}
 use Rattle.octets.specs.declared.cause.Cause.the-variants.{Trailing}
 use Rattle.octets.specs.Answer.{Answer, got, refused, then, if, behind, none-left}
-use Rattle.ber.specs.Reading.{open-ended, closed, atEnd}
 use Rattle.ber.specs.Told.{endOf, mode}
 use Rattle.ber.specs.declared.ending.End.{End}
 use Rattle.ber.specs.declared.ending.End.the-variants.{More, Over, Broken}
@@ -54,14 +52,14 @@ around-last l (k ∷ ns) n e a =
     ((b .0, b .1, b .2, c .0), c .1, c .2)
 
 -- a refusal under a tag, and under all
-shut-broken : {A : Type 0} (m : List ℕ) (outer inner : ℕ) (k : Bool) (x : Answer A) (c l : ℕ) → ended (mode k) x ≡ refused c l → inner ≤ outer
+shut-broken : {A : Type 0} (m : List ℕ) (outer inner : ℕ) (k : Bool) (x : Answer A) (c : Cause) (l : ℕ) → ended (mode k) x ≡ refused c l → inner ≤ outer
     → (k ≡ true → inner ≡ outer)
     → shut m outer inner k x ≡ refused c (l + (outer - inner))
 unfolding shut then behind
 shut-broken m outer inner true x c l e h o = let q : l ≡ l + (outer - inner) = omega (arith, o refl) in e ∙ ap (refused c) q
 shut-broken m outer inner false x c l e h o = rw e refl
 
-pub closing-refused : {A : Type 0} (m : List ℕ) (n : ℕ) (ns : List ℕ) (e c l : ℕ) → Around n ns e
+pub closing-refused : {A : Type 0} (m : List ℕ) (n : ℕ) (ns : List ℕ) (e : ℕ) (c : Cause) (l : ℕ) → Around n ns e
     → closing {A = A} m ns e (refused c l) ≡ refused c (l + (n - e))
 unfolding closing Around ended then
 closing-refused m n [] e c l a = let q : l ≡ l + (n - e) = omega arith in ap (refused c) q

@@ -2,9 +2,8 @@
 -- Assumes nothing.
 use mathlib.Core.List.{List}
 use Prim.Native.Nat.{ℕ, _-_, min}
-use lib.Dec.{eqb}
 use lib.ListN.{length}
-use Rattle.octets.specs.Answer.{Answer, got, refused, if}
+use Rattle.octets.specs.Answer.{Answer, got, refused}
 use Rattle.coding.specs.Value.{Value, octets}
 use Rattle.reader.specs.declared.answer.Judged.{Judged}
 use Rattle.reader.specs.declared.answer.Judged.the-variants.{Done, Refused}

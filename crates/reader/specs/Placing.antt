@@ -35,16 +35,6 @@ kindOf (inside (SetOf t)) = 49
 kindOf (inside (Choice ts)) = 50
 kindOf (message t) = 51
 
--- how many parts the table has for it
-unfoldable pub countOf : Holder → ℕ
-countOf (inside (Plain k)) = 0
-countOf (inside (Sequence ms)) = length ms
-countOf (inside (Set ms)) = length ms
-countOf (inside (SequenceOf t)) = 1
-countOf (inside (SetOf t)) = 1
-countOf (inside (Choice ts)) = length ts
-countOf (message t) = 0
-
 -- By the number k of a kind. Whether what it holds is members:
 abbrev pub hasMembers : ℕ → Bool
 hasMembers k = eqb k 16 || eqb k 17

@@ -15,7 +15,7 @@ use Rattle.table.specs.declared.entry.Entry.{Entry}
 use Rattle.coding.specs.Value.{Value}
 use Rattle.coding.specs.Tags.{own, explicit}
 use Rattle.coding.specs.Reading.{readWrapped, readKind, readValue}
-use Rattle.reader.specs.Codes.{firstOf, untagged, searchIn}
+use Rattle.reader.specs.Codes.{firstOf, searchIn}
 use Rattle.reader.specs.Items.{Holder, inside, message}
 use Rattle.reader.specs.Ways.{Leads}
 use Rattle.reader.specs.declared.search.Under.{Under}

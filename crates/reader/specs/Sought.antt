@@ -13,7 +13,7 @@ use Rattle.octets.specs.Answer.{Answer, got, refused, if}
 use Rattle.ber.specs.Codes.{codeOf}
 use Rattle.ber.specs.Reading.{readIdentifier}
 use Rattle.table.specs.Syntax.{Member}
-use Rattle.table.specs.Entries.{unpacked, tableIn, countIn}
+use Rattle.table.specs.Entries.{unpacked, tableIn}
 use Rattle.coding.specs.Reading.{notAwaited}
 use Rattle.reader.specs.Codes.{firstOf, searchIn, hit}
 use Rattle.reader.specs.Items.{Holder, inside, message, each-once, manner, partsOf, Placed, awaits, remains, isSingle, first, next}

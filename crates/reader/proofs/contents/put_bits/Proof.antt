@@ -1,8 +1,10 @@
-use mathlib.Core.Path.{_≡_, refl, sym, ap, _∙_}
-use Prim.Native.Nat.{ℕ, _+_, _-_, _*_, _%_}
+-- `reader::contents::put_bits` meets its contract.
+-- Assumes nothing.
+use mathlib.Core.Path.{_≡_, refl, sym, ap}
+use Prim.Native.Nat.{_-_, _*_, _%_}
 use native.Mathlib.Omega.{arith}
 use denote.Ref.{now}
-use lib.ListN.{length, getD, take, drop}
+use lib.ListN.{length, getD, drop}
 use lib.Seq.{length-sets}
 use Rattle.ber.specs.BitString.{masked}
 use Rattle.ber.proofs.BitString.{length-masked}
@@ -10,101 +12,37 @@ use Rattle.reader.proofs.LeafStores.{from-is, number-filled}
 use borrow.Author.Needs.{needs}
 use Rattle.reader.proofs.contents.put_bits.Statement.{statement}
 use Rattle.reader.proofs.contents.put_bits.Tie as tie
-use Rattle.reader.proofs.contents.put_bits.Reads as reads
-use Rattle.reader.proofs.contents.put_bits.Lts as lts
-use Rattle.ber.proofs.bit_string.copy_masked.Reads as copy-masked-reads
-use Rattle.reader.proofs.node.put_number.Reads as put-number-reads
-
--- src/contents.rt:63:18
-shared-slice-read-unused : tie.Need-shared-slice-read-unused
-shared-slice-read-unused c = search needs
-
--- src/contents.rt:63:18
-cast-unused : tie.Need-cast-unused
-cast-unused c = search needs
-
--- src/contents.rt:64:16
-sub-bits : tie.Need-sub-bits
-sub-bits c = search needs
-
--- src/contents.rt:64:16
-part-bits-start : tie.Need-part-bits-start
-part-bits-start c = search needs
-
--- src/contents.rt:64:16
-part-bits-end : tie.Need-part-bits-end
-part-bits-end c = search needs
-
--- src/contents.rt:65:25
-mul-put-number : tie.Need-mul-put-number
-mul-put-number c = search needs
-
--- src/contents.rt:65:25
-sub-put-number : tie.Need-sub-put-number
-sub-put-number c = rw from-is (c .before .before .before .before .before .pre .3)
-
--- src/contents.rt:65:5
-put-number-requires : tie.Need-put-number-requires
-put-number-requires c κs = search needs
-
--- src/contents.rt:66:17
-add-start : tie.Need-add-start
-add-start c = search needs
-
--- src/contents.rt:67:15
-add-end : tie.Need-add-end
-add-end c = search needs
-
--- src/contents.rt:68:16
-sub-part : tie.Need-sub-part
-sub-part c = search needs
-
--- src/contents.rt:68:16
-part-part-start : tie.Need-part-part-start
-part-part-start c = search needs
-
--- src/contents.rt:68:16
-part-part-end : tie.Need-part-part-end
-part-part-end c = omega (arith, simp length-sets at (ap length (c .before .before .put-number .ensures)), ap length (from-is 1 (now (c .before .before .before .before .before .before .before .before .args .c))), c .before .before .before .before .before .before .before .before .pre .4)
-
--- src/contents.rt:69:5
-copy-masked-requires : tie.Need-copy-masked-requires
-copy-masked-requires c κs = search needs
-
--- src/contents.rt:53:1
-same-length : tie.Need-same-length
-same-length c = search needs
-
--- src/contents.rt:53:1
-returns : tie.Need-returns
-returns c =
-    let a = c .before .before .before .before .before .before .before .before .before .before .before .before .args in
-    let d = drop 1 (now (a .c)) in
-    let u = getD (now (a .c)) 0 0 in
-    let q : u % 8 ≡ u = omega (arith, c .before .before .before .before .before .before .before .before .before .before .before .before .pre .2) in
-    rw from-is (
-      refl,
-      number-filled (now (a .buf)) (c .before .before .before .before .before .before .put-number .last .0) (masked u d) (c .before .before .copy-masked .last .1 .1 .0) (a .to) (8 * length d - u) (length d)
-          (rw from-is at (c .before .before .before .before .before .before .put-number .ensures)) (sym (length-masked u d)) (c .before .before .before .before .before .before .before .before .before .before .before .before .pre .4) (rw (from-is, q) at (c .before .before .copy-masked .ensures)),
-    )
 
 pub put-bits-spec : {M : Type 1} → statement M
 put-bits-spec =
     tie.close
     (tie.spec
-    shared-slice-read-unused
-    cast-unused
-    sub-bits
-    part-bits-start
-    part-bits-end
-    mul-put-number
-    sub-put-number
-    put-number-requires
-    add-start
-    add-end
-    sub-part
-    part-part-start
-    part-part-end
-    copy-masked-requires
-    same-length
-    returns)
+    (λ c. search needs)  -- shared-slice-read-unused
+    (λ c. search needs)  -- cast-unused
+    (λ c. search needs)  -- sub-bits
+    (λ c. search needs)  -- part-bits-start
+    (λ c. search needs)  -- part-bits-end
+    (λ c. search needs)  -- mul-put-number
+    (λ c. rw from-is (c .before .before .before .before .before .pre .3))  -- sub-put-number
+    (λ c κs. search needs)  -- put-number-requires
+    (λ c. search needs)  -- add-start
+    (λ c. search needs)  -- add-end
+    (λ c. search needs)  -- sub-part
+    (λ c. search needs)  -- part-part-start
+    (λ c.
+    let c8 = c .before .before .before .before .before .before .before .before in
+    omega (arith, simp length-sets at (ap length (c .before .before .put-number .ensures)), ap length (from-is 1 (now (c8 .args .c))),
+    c8 .pre .4))  -- part-part-end
+    (λ c κs. search needs)  -- copy-masked-requires
+    (λ c. search needs)  -- same-length
+    (λ c.
+    let c2 = c .before .before in
+    let c6 = c2 .before .before .before .before in
+    let c12 = c6 .before .before .before .before .before .before in
+    let a = c12 .args in
+    let d = drop 1 (now (a .c)) in
+    let u = getD (now (a .c)) 0 0 in
+    let q : u % 8 ≡ u = omega (arith, c12 .pre .2) in
+    rw from-is (refl, number-filled (now (a .buf)) (c6 .put-number .last .0) (masked u d) (c2 .copy-masked .last .1 .1 .0) (a .to)
+    (8 * length d - u) (length d) (rw from-is at (c6 .put-number .ensures)) (sym (length-masked u d)) (c12 .pre .4) (rw (from-is, q) at
+    (c2 .copy-masked .ensures)))))  -- returns

@@ -1,4 +1,6 @@
-use mathlib.Core.Path.{_≡_, refl, sym, ap, _∙_}
+-- `reader::contents::put_enumerated` meets its contract.
+-- Assumes nothing.
+use mathlib.Core.Path.{_≡_, refl, _∙_}
 use native.Mathlib.Omega.{arith}
 use denote.Ref.{now}
 use lib.IntN.{pos}
@@ -11,48 +13,33 @@ use Rattle.reader.proofs.LeafStores.{integer-is}
 use borrow.Author.Needs.{needs}
 use Rattle.reader.proofs.contents.put_enumerated.Statement.{statement}
 use Rattle.reader.proofs.contents.put_enumerated.Tie as tie
-use Rattle.reader.proofs.contents.put_enumerated.Reads as reads
-use Rattle.reader.proofs.contents.put_enumerated.Lts as lts
-use Rattle.ber.proofs.integer.of.Reads as of-reads
-use Rattle.reader.proofs.node.put_number.Reads as put-number-reads
-
--- src/contents.rt:92:25
-of-requires : tie.Need-of-requires
-of-requires c κs = search needs
-
--- src/contents.rt:92:25
-cast-put-number : tie.Need-cast-put-number
-cast-put-number c =
-    let x = now (c .before .before .before .before .args .c) in
-    let e : toZ w64 (ofZ w64 (c .of .result)) ≡ pos (natural (integerOf x)) =
-    toZ-ofZ {w = w64} {z = (c .of) .result} (record { sfits = c .of .ok }) ∙ integer-is x (c .of .result) (c .before .before .before .before .pre .1) (c .of .ensures) ∙ c .before .before .before .before .pre .3 in
-    rw e (tt, omega (arith, c .before .before .before .before .pre .4))
-
--- src/contents.rt:92:5
-put-number-requires : tie.Need-put-number-requires
-put-number-requires c κs =
-    let x = now (c .before .before .before .before .args .c) in
-    let e : toZ w64 (ofZ w64 (c .of .result)) ≡ pos (natural (integerOf x)) =
-    toZ-ofZ {w = w64} {z = (c .of) .result} (record { sfits = c .of .ok }) ∙ integer-is x (c .of .result) (c .before .before .before .before .pre .1) (c .of .ensures) ∙ c .before .before .before .before .pre .3 in
-    rw e (c .before .before .before .before .pre .2, c .before .before .before .before .pre .4)
-
--- src/contents.rt:93:5
-add-result : tie.Need-add-result
-add-result c = search needs
-
--- src/contents.rt:85:1
-same-length : tie.Need-same-length
-same-length c = search needs
-
--- src/contents.rt:85:1
-returns : tie.Need-returns
-returns c =
-    let x = now (c .before .before .before .before .before .before .before .args .c) in
-    let e : toZ w64 (ofZ w64 (c .before .before .before .of .result)) ≡ pos (natural (integerOf x)) =
-    toZ-ofZ {w = w64} {z = (c .before .before .before .of) .result} (record { sfits = c .before .before .before .of .ok }) ∙ integer-is x (c .before .before .before .of .result) (c .before .before .before .before .before .before .before .pre .1) (c .before .before .before .of .ensures) ∙ c .before .before .before .before .before .before .before .pre .3 in
-    (refl, rw e at (c .before .before .put-number .ensures))
 
 pub put-enumerated-spec : {M : Type 1} → statement M
 put-enumerated-spec =
     tie.close
-    (tie.spec of-requires cast-put-number put-number-requires add-result same-length returns)
+    (tie.spec
+    (λ c κs. search needs)  -- of-requires
+    (λ c.
+    let c4 = c .before .before .before .before in
+    let q = c4 .pre in
+    let x = now (c4 .args .c) in
+    let e : toZ w64 (ofZ w64 (c .of .result)) ≡ pos (natural (integerOf x)) = toZ-ofZ {w = w64} {z = (c .of) .result} (record {
+    sfits = c .of .ok }) ∙ integer-is x (c .of .result) (q .1) (c .of .ensures) ∙ q .3 in
+    rw e (tt, omega (arith, q .4)))  -- cast-put-number
+    (λ c κs.
+    let c4 = c .before .before .before .before in
+    let q = c4 .pre in
+    let x = now (c4 .args .c) in
+    let e : toZ w64 (ofZ w64 (c .of .result)) ≡ pos (natural (integerOf x)) = toZ-ofZ {w = w64} {z = (c .of) .result} (record {
+    sfits = c .of .ok }) ∙ integer-is x (c .of .result) (q .1) (c .of .ensures) ∙ q .3 in
+    rw e (q .2, q .4))  -- put-number-requires
+    (λ c. search needs)  -- add-result
+    (λ c. search needs)  -- same-length
+    (λ c.
+    let c3 = c .before .before .before in
+    let c7 = c3 .before .before .before .before in
+    let q = c7 .pre in
+    let x = now (c7 .args .c) in
+    let e : toZ w64 (ofZ w64 (c3 .of .result)) ≡ pos (natural (integerOf x)) = toZ-ofZ {w = w64} {z = (c3 .of) .result} (record {
+    sfits = c3 .of .ok }) ∙ integer-is x (c3 .of .result) (q .1) (c3 .of .ensures) ∙ q .3 in
+    (refl, rw e at (c .before .before .put-number .ensures))))  -- returns

@@ -1,6 +1,6 @@
 -- The judge of a value and of the items in it: one law for each way through it, by the levels that are left.
 -- Assumes nothing.
-use mathlib.Core.Bool.{true, false, true≢false}
+use mathlib.Core.Bool.{false, true≢false}
 use mathlib.Core.Logic.{⊎-elim, inl, inr}
 use mathlib.Core.Path.{_≡_, sym, ap, _∙_, refl}
 use native.Mathlib.Omega.{arith}
@@ -9,9 +9,11 @@ use borrow.Author.Needs.{needs}
 use borrow.Author.Tests.{eqb-true, not-false}
 use denote.Ref.{now}
 use lib.ListN.{length, take}
+use Rattle.reader.proofs.ItemsFound.{item-same, item-found}
 use Rattle.reader.proofs.JudgedMembers.{Judging, Setting, count-few, judging-first, judging-sound}
 use Rattle.reader.proofs.JudgedMembers.{Turn, part-few, part-near, type-few, judged-over, judged-stopped, item-there, judged-unfit, found-low}
-use Rattle.reader.proofs.JudgedMembers.{item-same, item-found, item-here, Comes, place-few, behind-few, number-few, judged-level, is-record, is-headed}
+use Rattle.reader.proofs.JudgedMembers.{item-here, Comes, place-few, behind-few, number-few, judged-level, is-record}
+use Rattle.reader.proofs.JudgedMembers.{is-headed}
 use Rattle.reader.proofs.JudgedMembers.{Valued, depth-few, judged-refused, sizes-few, value-further, value-low, judged-one, judged-turn}
 use borrow.Fn.Kinds.{In}
 use borrow.Fn.PlainCycle.{Measures, is, falls, and}
@@ -23,7 +25,6 @@ use Rattle.reader.proofs.judge.judge_value.Kinds as judge-value-kinds
 use Rattle.reader.proofs.judge.+judge_members+judge_value.Lts-judge_value as judge-value-lts
 use Rattle.ber.proofs.length.read.Reads as read-reads
 use Rattle.octets.proofs.octet.Reads as octet-reads
-use Rattle.reader.proofs.answer.cause_of.Reads as cause-of-reads
 use Rattle.reader.proofs.answer.grow.Reads as grow-reads
 use Rattle.reader.proofs.contents.contents_size.Reads as contents-size-reads
 use Rattle.reader.proofs.judge.done.Reads as done-reads
@@ -40,10 +41,11 @@ use Rattle.table.proofs.kind.holds_one.Reads as holds-one-reads
 use Rattle.reader.proofs.judge.+judge_members+judge_value.{statement}
 use Rattle.reader.proofs.judge.+judge_members+judge_value.Tie.{close}
 use Rattle.table.specs.Entries.{unpacked, tableIn}
-use Rattle.reader.proofs.JudgedValue.{recordOf, Under, Within, Over, Item, Filling, Ended, under-tags, under-bare}
-use Rattle.reader.proofs.JudgedValue.{item-within, item-around, contents-sized, contents-bare, contents-within, contents-short}
-use Rattle.reader.proofs.JudgedValue.{over-leaf, items-known, items-some, over-items, items-low, items-high, item-tags, item-closes}
+use Rattle.reader.proofs.Bodies.{recordOf}
+use Rattle.reader.proofs.JudgedValue.{Over, Ended, over-leaf, over-items, items-low, items-high, item-tags, item-closes}
 use Rattle.reader.proofs.JudgedValue.{value-unopened, value-unread, value-marked, value-wrong, value-unheld, value-closed, value-over}
+use Rattle.reader.proofs.ValueParts.{Under, Within, Item, Filling, under-tags, under-bare, item-within, item-around, contents-sized, contents-bare}
+use Rattle.reader.proofs.ValueParts.{contents-within, contents-short, items-known, items-some}
 use Rattle.reader.proofs.Tagging.{its-entry}
 
 abbrev μ-judge-members : Measures 4 judge-members-kinds.ps ℕ
@@ -347,8 +349,6 @@ judge-value-claims t = (
   refused-reads.Learnt,
   read-reads.Asked,
   read-reads.Learnt,
-  cause-of-reads.Asked,
-  cause-of-reads.Learnt,
   contents-size-reads.Asked,
   contents-size-reads.Learnt,
   judge-members-below t,
@@ -405,7 +405,7 @@ abbrev at-contents : (t : ℕ) (c : judge-value-lts.Joined2 (judge-value-claims 
 at-contents t c =
     let x = at-item t (c .before .before .before .before) in
     ⊎-elim
-    (λ z. rw (z .5, z .6, z .7) (contents-sized x (z .0 .taken) (z .1 .result) (z .1 .ensures) (z .3 .given .0 .0) (z .3 .given .1)))
+    (λ z. rw (z .5, z .6, z .7) (contents-sized x (z .0 .taken) (z .1 .result) (z .1 .ensures _) (z .3 .given .0 .0) (z .3 .given .1)))
     (λ z. rw (z .1, z .2, z .3) (contents-bare x (z .0 .left)))
     (c .if2 .came)
 
@@ -482,16 +482,15 @@ judge-value-half t =
     (λ c. item-within (at-item t (c .before)))  -- judge-value-sub-left
     (λ c. item-around (at-item t (c .before .before)))  -- judge-value-slice-aggregate-around
     (λ c κs. tt)  -- judge-value-read-requires
-    (λ c. search needs)  -- judge-value-enum-known-fault
-    (λ c κs. tt)  -- judge-value-cause-of-requires
+    (λ c. search needs)  -- judge-value-enum-known-cause-2
     (λ c κs. tt)  -- judge-value-refused-requires-2
     (λ c.
-    let x = at-item t (c .before .before .before .before .before .before .before .before .before .before) in
-    let l = c .before .before .before .before .before .read in
-    let f = c .before .before .before .fault .given in (
-      c .before .before .before .before .before .before .before .before .before .before .before .before .before .before .before .pre .1 .5,
-      c .refused2 .ensures ∙ value-unread x (c .before .before .before .before .before .before .if2 .taken) (l .result) (l .ensures) (f .0 .0) (f .1)
-          (c .before .cause-of .result) (c .before .cause-of .ensures),
+    let c4 = c .before .before .before .before in
+    let c9 = c4 .before .before .before .before .before in
+    let f = c .before .before .cause2 .given in (
+      c9 .before .before .before .before .before .pre .1 .5,
+      c .refused2 .ensures
+          ∙ value-unread (at-item t c9) (c4 .before .if2 .taken) (c4 .read .result) (c4 .read .ensures _) (f .0 .0) (f .1),
     ))  -- judge-value-returns-2
     (λ c. search needs)  -- judge-value-enum-known-x-2
     (λ c κs. tt)  -- judge-value-refused-requires-3
@@ -529,12 +528,12 @@ judge-value-half t =
     let n = c .before .before .before .before .if3 .left in
     let k = items-known y n in
     (omega (arith, p .0), (q .0, k .0, k .1, items-some y n, contents-short y, omega (arith, q .4), q .5)))  -- judge-value-judge-members-requires
-    (λ c. search needs)  -- judge-value-enum-known-cause-2
+    (λ c. search needs)  -- judge-value-enum-known-cause-3
     (λ c. contents-within (at-filling t (c .before .before .before .before .before .before .before .before .before)) .1)  -- judge-value-sub-refused
     (λ c.
     let y = at-filling t (c .before .before .before .before .before .before .before .before .before) in
     let r = c .before .before .before .judge-members in
-    let x = c .before .cause2 .given in
+    let x = c .before .cause3 .given in
     omega (
       arith,
       items-low y (c .before .before .before .before .before .before .before .before .if3 .left) (r .result) (r .ensures .1) (x .0 .0)
@@ -544,7 +543,7 @@ judge-value-half t =
     (λ c.
     let y = at-filling t (c .before .before .before .before .before .before .before .before .before .before) in
     let r = c .before .before .before .before .judge-members in
-    let x = c .before .before .cause2 .given in (
+    let x = c .before .before .cause3 .given in (
       r .ensures .0,
       c .refused5 .ensures ∙ value-unheld y (c .before .before .before .before .before .before .before .before .before .if3 .left)
           (r .result) (r .ensures .1) (x .0 .0) (x .0 .1 .0) (x .1),

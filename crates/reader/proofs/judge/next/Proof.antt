@@ -15,16 +15,63 @@ next-spec =
     (tie.spec
     (λ c κs. tt)  -- unpack-requires
     (λ c κs. tt)  -- holds-one-requires
-    (λ c. stands-one (c .before .before .before .before .before .pre .1) (c .before .before .before .before .before .pre .2) (c .before .before .unpack .result) (c .before .before .unpack .ensures) (c .before .holds-one .result) (c .before .holds-one .ensures) _ _ (c .if1 .taken))  -- returns
+    (λ c.
+    let c2 = c .before .before in
+    let q = c2 .before .before .before .pre in
+    stands-one (q .1) (q .2) (c2 .unpack .result) (c2 .unpack .ensures) (c .before .holds-one .result) (c .before .holds-one .ensures)
+    _ _ (c .if1 .taken))  -- returns
     (λ c κs. tt)  -- read-requires
     (λ c. search needs)  -- enum-told
     (λ c. search needs)  -- enum-known-cause
     (λ c. search needs)  -- enum-known-end
     (λ c κs. tt)  -- has-members-requires
-    (λ c. rw (← (since-is (c .before .before .before .before .before .before .before .before .before .before .before .before .before .pre .1) (c .before .before .before .before .before .before .before .before .before .before .unpack .result) (c .before .before .before .before .before .before .before .before .before .before .unpack .ensures) _ refl (c .before .before .before .before .before .before .if2 .i) (c .before .before .before .before .before .before .before .before .before .before .before .before .before .args .j) (⊎-elim (λ x. inl (x .0 .taken, x .1)) (λ x. inr (x .0 .left, x .1)) (c .before .before .before .before .before .before .if2 .came)))) (stands-list (c .before .before .before .before .before .before .before .before .before .before .before .before .before .pre .1) (c .before .before .before .before .before .before .before .before .before .before .before .before .before .pre .2) (c .before .before .before .before .before .before .before .before .before .before .unpack .result) (c .before .before .before .before .before .before .before .before .before .before .unpack .ensures) (c .before .before .before .before .before .before .before .before .before .holds-one .result) (c .before .before .before .before .before .before .before .before .before .holds-one .ensures) (c .before .before .before .before .before .before .if2 .i) _ (c .before .before .before .before .before .before .before .before .if1 .left) (c .before .before .before .before .before .read .result) (c .before .before .before .before .before .read .ensures) (c .before .before .before .end .given .0 .0) (c .before .before .before .end .given .1) (c .before .has-members .result) (c .before .has-members .ensures) (not-true _ (c .if3 .taken))))  -- returns-2
-    (λ c κs. (c .before .before .before .before .before .before .before .before .before .before .before .before .before .pre .0, c .before .before .before .before .before .before .before .before .before .before .before .before .before .pre .1, has-members (c .before .before .before .before .before .before .before .before .before .before .before .before .before .pre .1) (c .before .before .before .before .before .before .before .before .before .before .unpack .result) (c .before .before .before .before .before .before .before .before .before .before .unpack .ensures) (c .before .has-members .result) (c .before .has-members .ensures) (c .before .before .before .before .before .before .if2 .i) (not-false _ (c .if3 .left))))  -- lacks-requires
-    (λ c. rw (← (since-is (c .before .before .before .before .before .before .before .before .before .before .before .before .before .before .before .pre .1) (c .before .before .before .before .before .before .before .before .before .before .before .before .unpack .result) (c .before .before .before .before .before .before .before .before .before .before .before .before .unpack .ensures) _ refl (c .before .before .before .before .before .before .before .before .if2 .i) (c .before .before .before .before .before .before .before .before .before .before .before .before .before .before .before .args .j) (⊎-elim (λ x. inl (x .0 .taken, x .1)) (λ x. inr (x .0 .left, x .1)) (c .before .before .before .before .before .before .before .before .if2 .came)))) (stands-lacking (c .before .before .before .before .before .before .before .before .before .before .before .before .before .before .before .pre .1) (c .before .before .before .before .before .before .before .before .before .before .before .before .before .before .before .pre .2) (c .before .before .before .before .before .before .before .before .before .before .before .before .unpack .result) (c .before .before .before .before .before .before .before .before .before .before .before .before .unpack .ensures) (c .before .before .before .before .before .before .before .before .before .before .before .holds-one .result) (c .before .before .before .before .before .before .before .before .before .before .before .holds-one .ensures) (c .before .before .before .before .before .before .before .before .if2 .i) _ (c .before .before .before .before .before .before .before .before .before .before .if1 .left) (c .before .before .before .before .before .before .before .read .result) (c .before .before .before .before .before .before .before .read .ensures) (c .before .before .before .before .before .end .given .0 .0) (c .before .before .before .before .before .end .given .1) (c .before .before .before .has-members .result) (c .before .before .before .has-members .ensures) (c .before .lacks .result) (c .before .lacks .ensures) (c .if4 .taken)))  -- returns-3
-    (λ c. rw (← (since-is (c .before .before .before .before .before .before .before .before .before .before .pre .1) (c .before .before .before .before .before .before .before .unpack .result) (c .before .before .before .before .before .before .before .unpack .ensures) _ refl (c .before .before .before .if2 .i) (c .before .before .before .before .before .before .before .before .before .before .args .j) (⊎-elim (λ x. inl (x .0 .taken, x .1)) (λ x. inr (x .0 .left, x .1)) (c .before .before .before .if2 .came)))) (stands-more (c .before .before .before .before .before .before .before .before .before .before .pre .1) (c .before .before .before .before .before .before .before .before .before .before .pre .2) (c .before .before .before .before .before .before .before .unpack .result) (c .before .before .before .before .before .before .before .unpack .ensures) (c .before .before .before .before .before .before .holds-one .result) (c .before .before .before .before .before .before .holds-one .ensures) (c .before .before .before .if2 .i) _ (c .before .before .before .before .before .if1 .left) (c .before .before .read .result) (c .before .before .read .ensures) (c .enum-told .given .1)))  -- returns-4
+    (λ c.
+    let c3 = c .before .before .before in
+    let c5 = c3 .before .before in
+    let c6 = c5 .before in
+    let c8 = c6 .before .before in
+    let c9 = c8 .before in
+    let c10 = c9 .before in
+    let c13 = c10 .before .before .before in
+    let q = c13 .pre in
+    rw (← (since-is (q .1) (c10 .unpack .result) (c10 .unpack .ensures) _ refl (c6 .if2 .i) (c13 .args .j) (⊎-elim (λ x. inl
+    (x .0 .taken, x .1)) (λ x. inr (x .0 .left, x .1)) (c6 .if2 .came)))) (stands-list (q .1) (q .2) (c10 .unpack .result)
+    (c10 .unpack .ensures) (c9 .holds-one .result) (c9 .holds-one .ensures) (c6 .if2 .i) _ (c8 .if1 .left) (c5 .read .result)
+    (c5 .read .ensures) (c3 .end .given .0 .0) (c3 .end .given .1) (c .before .has-members .result) (c .before .has-members .ensures)
+    (not-true _ (c .if3 .taken))))  -- returns-2
+    (λ c κs.
+    let c6 = c .before .before .before .before .before .before in
+    let c10 = c6 .before .before .before .before in
+    let q = c10 .before .before .before .pre in
+    (q .0, q .1, has-members (q .1) (c10 .unpack .result) (c10 .unpack .ensures) (c .before .has-members .result)
+    (c .before .has-members .ensures) (c6 .if2 .i) (not-false _ (c .if3 .left))))  -- lacks-requires
+    (λ c.
+    let c3 = c .before .before .before in
+    let c5 = c3 .before .before in
+    let c7 = c5 .before .before in
+    let c8 = c7 .before in
+    let c10 = c8 .before .before in
+    let c11 = c10 .before in
+    let c12 = c11 .before in
+    let c15 = c12 .before .before .before in
+    let q = c15 .pre in
+    rw (← (since-is (q .1) (c12 .unpack .result) (c12 .unpack .ensures) _ refl (c8 .if2 .i) (c15 .args .j) (⊎-elim (λ x. inl
+    (x .0 .taken, x .1)) (λ x. inr (x .0 .left, x .1)) (c8 .if2 .came)))) (stands-lacking (q .1) (q .2) (c12 .unpack .result)
+    (c12 .unpack .ensures) (c11 .holds-one .result) (c11 .holds-one .ensures) (c8 .if2 .i) _ (c10 .if1 .left) (c7 .read .result)
+    (c7 .read .ensures) (c5 .end .given .0 .0) (c5 .end .given .1) (c3 .has-members .result) (c3 .has-members .ensures)
+    (c .before .lacks .result) (c .before .lacks .ensures) (c .if4 .taken)))  -- returns-3
+    (λ c.
+    let c2 = c .before .before in
+    let c3 = c2 .before in
+    let c5 = c3 .before .before in
+    let c6 = c5 .before in
+    let c7 = c6 .before in
+    let c10 = c7 .before .before .before in
+    let q = c10 .pre in
+    rw (← (since-is (q .1) (c7 .unpack .result) (c7 .unpack .ensures) _ refl (c3 .if2 .i) (c10 .args .j) (⊎-elim (λ x. inl
+    (x .0 .taken, x .1)) (λ x. inr (x .0 .left, x .1)) (c3 .if2 .came)))) (stands-more (q .1) (q .2) (c7 .unpack .result)
+    (c7 .unpack .ensures) (c6 .holds-one .result) (c6 .holds-one .ensures) (c3 .if2 .i) _ (c5 .if1 .left) (c2 .read .result)
+    (c2 .read .ensures) (c .enum-told .given .1)))  -- returns-4
     (λ c.
     let c3 = c .before .before .before in
     let c4 = c3 .before in
@@ -36,4 +83,18 @@ next-spec =
     (x .0 .taken, x .1)) (λ x. inr (x .0 .left, x .1)) (c4 .if2 .came)))) (stands-broken (c11 .pre .1) (c11 .pre .2)
     (c8 .unpack .result) (c8 .unpack .ensures) (c7 .holds-one .result) (c7 .holds-one .ensures) (c4 .if2 .i) _ (c6 .if1 .left)
     (c3 .read .result) (c3 .read .ensures) (c .before .cause .given .0 .0) (c .before .cause .given .1)))  -- returns-5
-    (λ c. rw (← (since-is (c .before .before .before .before .before .before .before .before .before .before .before .before .before .before .before .pre .1) (c .before .before .before .before .before .before .before .before .before .before .before .before .unpack .result) (c .before .before .before .before .before .before .before .before .before .before .before .before .unpack .ensures) _ refl (c .before .before .before .before .before .before .before .before .if2 .i) (c .before .before .before .before .before .before .before .before .before .before .before .before .before .before .before .args .j) (⊎-elim (λ x. inl (x .0 .taken, x .1)) (λ x. inr (x .0 .left, x .1)) (c .before .before .before .before .before .before .before .before .if2 .came)))) (stands-over (c .before .before .before .before .before .before .before .before .before .before .before .before .before .before .before .pre .1) (c .before .before .before .before .before .before .before .before .before .before .before .before .before .before .before .pre .2) (c .before .before .before .before .before .before .before .before .before .before .before .before .unpack .result) (c .before .before .before .before .before .before .before .before .before .before .before .before .unpack .ensures) (c .before .before .before .before .before .before .before .before .before .before .before .holds-one .result) (c .before .before .before .before .before .before .before .before .before .before .before .holds-one .ensures) (c .before .before .before .before .before .before .before .before .if2 .i) _ (c .before .before .before .before .before .before .before .before .before .before .if1 .left) (c .before .before .before .before .before .before .before .read .result) (c .before .before .before .before .before .before .before .read .ensures) (c .before .before .before .before .before .end .given .0 .0) (c .before .before .before .before .before .end .given .1) (c .before .before .before .has-members .result) (c .before .before .before .has-members .ensures) (c .before .lacks .result) (c .before .lacks .ensures) (c .if4 .left))))  -- returns-6
+    (λ c.
+    let c3 = c .before .before .before in
+    let c5 = c3 .before .before in
+    let c7 = c5 .before .before in
+    let c8 = c7 .before in
+    let c10 = c8 .before .before in
+    let c11 = c10 .before in
+    let c12 = c11 .before in
+    let c15 = c12 .before .before .before in
+    let q = c15 .pre in
+    rw (← (since-is (q .1) (c12 .unpack .result) (c12 .unpack .ensures) _ refl (c8 .if2 .i) (c15 .args .j) (⊎-elim (λ x. inl
+    (x .0 .taken, x .1)) (λ x. inr (x .0 .left, x .1)) (c8 .if2 .came)))) (stands-over (q .1) (q .2) (c12 .unpack .result)
+    (c12 .unpack .ensures) (c11 .holds-one .result) (c11 .holds-one .ensures) (c8 .if2 .i) _ (c10 .if1 .left) (c7 .read .result)
+    (c7 .read .ensures) (c5 .end .given .0 .0) (c5 .end .given .1) (c3 .has-members .result) (c3 .has-members .ensures)
+    (c .before .lacks .result) (c .before .lacks .ensures) (c .if4 .left))))  -- returns-6

@@ -1,3 +1,5 @@
+-- `reader::node::begin_node` meets its contract.
+-- Assumes nothing.
 use mathlib.Core.Path.{refl}
 use native.Mathlib.Omega.{arith}
 use native.Mathlib.Numerals.{add-one}
@@ -6,8 +8,6 @@ use Rattle.reader.proofs.Stores.{two}
 use borrow.Author.Needs.{needs}
 use Rattle.reader.proofs.node.begin_node.Statement.{statement}
 use Rattle.reader.proofs.node.begin_node.Tie as tie
-use Rattle.reader.proofs.node.begin_node.Reads as reads
-use Rattle.reader.proofs.node.begin_node.Lts as lts
 
 pub begin-node-spec : {M : Type 1} → statement M
 begin-node-spec =

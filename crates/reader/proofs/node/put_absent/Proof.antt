@@ -1,3 +1,5 @@
+-- `reader::node::put_absent` meets its contract.
+-- Assumes nothing.
 use mathlib.Core.Path.{_≡_, refl}
 use native.Mathlib.Omega.{arith}
 use Prim.Native.Nat.{_+_, _-_, _≤_}
@@ -8,8 +10,6 @@ use Rattle.reader.proofs.NodeStores.{absent-turn, absent-end}
 use borrow.Author.Needs.{needs}
 use Rattle.reader.proofs.node.put_absent.Statement.{statement}
 use Rattle.reader.proofs.node.put_absent.Tie as tie
-use Rattle.reader.proofs.node.put_absent.Reads as reads
-use Rattle.reader.proofs.node.put_absent.Lts as lts
 
 abbrev Inv-loop : tie.InvT-loop
 Inv-loop buf₀ to j k i₀ buf i = (j ≤ i) × (length buf ≡ length buf₀) × (absentIn j k buf₀ to ≡ sets buf (to + 4 + i) (replicate (k - i) 0))

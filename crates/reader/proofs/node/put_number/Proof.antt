@@ -1,3 +1,5 @@
+-- `reader::node::put_number` meets its contract.
+-- Assumes nothing.
 use mathlib.Core.Path.{refl}
 use native.Mathlib.Omega.{arith}
 use native.Mathlib.Numerals.{add-one}
@@ -5,8 +7,6 @@ use lib.ListN.{length-set}
 use borrow.Author.Needs.{needs}
 use Rattle.reader.proofs.node.put_number.Statement.{statement}
 use Rattle.reader.proofs.node.put_number.Tie as tie
-use Rattle.reader.proofs.node.put_number.Reads as reads
-use Rattle.reader.proofs.node.put_number.Lts as lts
 
 pub put-number-spec : {M : Type 1} → statement M
 put-number-spec =

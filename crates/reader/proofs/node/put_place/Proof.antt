@@ -1,12 +1,11 @@
+-- `reader::node::put_place` meets its contract.
+-- Assumes nothing.
 use mathlib.Core.Path.{sym, _∙_}
 use native.Mathlib.Omega.{arith}
 use Rattle.reader.proofs.NodeStores.{noted-member, noted-choice, noted-others}
 use borrow.Author.Needs.{needs}
 use Rattle.reader.proofs.node.put_place.Statement.{statement}
 use Rattle.reader.proofs.node.put_place.Tie as tie
-use Rattle.reader.proofs.node.put_place.Reads as reads
-use Rattle.reader.proofs.node.put_place.Lts as lts
-use Rattle.table.proofs.kind.has_members.Reads as has-members-reads
 
 pub put-place-spec : {M : Type 1} → statement M
 put-place-spec =

@@ -1,4 +1,6 @@
-use mathlib.Core.Path.{_≡_, refl, sym, ap, _∙_}
+-- `reader::node::put_way` meets its contract.
+-- Assumes nothing.
+use mathlib.Core.Path.{_≡_, refl, ap, _∙_}
 use native.Mathlib.Omega.{arith}
 use Prim.Native.Nat.{_+_, _-_, _*_, _≤_}
 use denote.Ref.{now}
@@ -9,9 +11,6 @@ use Rattle.reader.proofs.NodeStores.{way-none, way-step}
 use borrow.Author.Needs.{needs}
 use Rattle.reader.proofs.node.put_way.Statement.{statement}
 use Rattle.reader.proofs.node.put_way.Tie as tie
-use Rattle.reader.proofs.node.put_way.Reads as reads
-use Rattle.reader.proofs.node.put_way.Lts as lts
-use Rattle.reader.proofs.node.begin_node.Reads as begin-node-reads
 
 abbrev Inv-loop : tie.InvT-loop
 Inv-loop way depth buf₀ to next₀ i₀ buf next i = (i ≤ depth) × (next ≡ to + 4 * i) × (length buf ≡ length buf₀) × (buf ≡ sets buf₀ to (wayOctets (take i way)))
@@ -29,12 +28,30 @@ put-way-spec =
     (λ c. search needs)  -- mul-x
     (λ c. omega (arith, c .before .before .before .pre .0))  -- element-copy-out-x
     (λ c κs. omega (arith, c .before .before .before .before .before .pre .2, c .before .before .before .loop .inv))  -- begin-node-requires
-    (λ c. omega (arith, c .before .before .before .before .before .before .before .before .pre .2, c .before .before .before .before .before .before .loop .inv))  -- add-p
+    (λ c.
+    let c6 = c .before .before .before .before .before .before in
+    omega (arith, c6 .before .before .pre .2, c6 .loop .inv))  -- add-p
     (λ c. omega arith)  -- cast-buf
-    (λ c. omega (arith, c .before .before .before .before .before .before .before .before .pre .2, c .before .before .before .before .before .before .loop .inv, simp length-sets at (ap length (c .before .before .begin-node .ensures))))  -- slice-write-buf
-    (λ c. omega (arith, c .before .before .before .before .before .before .before .before .pre .2, c .before .before .before .before .before .before .loop .inv))  -- add-next
+    (λ c.
+    let c6 = c .before .before .before .before .before .before in
+    omega (arith, c6 .before .before .pre .2, c6 .loop .inv, simp length-sets at (ap length (c .before .before .begin-node .ensures))))  -- slice-write-buf
+    (λ c.
+    let c6 = c .before .before .before .before .before .before in
+    omega (arith, c6 .before .before .pre .2, c6 .loop .inv))  -- add-next
     (λ c. search needs)  -- add-i
     (λ c. omega arith)  -- loop-less
-    (λ c. (omega arith, omega (arith, c .before .before .before .before .before .before .loop .inv .1), simp length-set (simp length-sets at (ap length (c .before .before .begin-node .ensures))) ∙ c .before .before .before .before .before .before .loop .inv .2, way-step (now (c .before .before .before .before .before .before .before .before .args .buf)) (c .before .before .before .before .before .before .before .before .args .to) (now (c .before .before .before .before .before .before .before .before .args .way)) (c .before .before .before .before .before .before .loop .i) (c .before .before .before .before .before .before .loop .next) (omega (arith, c .before .before .before .before .before .before .before .before .pre .0, c .before .before .before .before .before .loop-test .taken)) (c .before .before .before .before .before .before .loop .inv .1) (c .before .before .before .before .before .before .loop .inv .3) (c .before .before .begin-node .ensures)))  -- loop-again
+    (λ c.
+    let c2 = c .before .before in
+    let c5 = c2 .before .before .before in
+    let c6 = c5 .before in
+    let c8 = c6 .before .before in
+    let a = c8 .args in
+    let l = c6 .loop in
+    (omega arith, omega (arith, l .inv .1), simp length-set (simp length-sets at (ap length (c2 .begin-node .ensures))) ∙ l .inv .2,
+    way-step (now (a .buf)) (a .to) (now (a .way)) (l .i) (l .next) (omega (arith, c8 .pre .0, c5 .loop-test .taken)) (l .inv .1)
+    (l .inv .3) (c2 .begin-node .ensures)))  -- loop-again
     (λ c. c .before .loop .inv .2)  -- same-length
-    (λ c. let e : c .before .loop .i ≡ c .before .before .before .args .depth = omega (arith, c .before .loop .inv .0, c .loop-test .left) in (rw e at (c .before .loop .inv .1), rw e at (c .before .loop .inv .3))))  -- returns
+    (λ c.
+    let l = c .before .loop in
+    let e : l .i ≡ c .before .before .before .args .depth = omega (arith, l .inv .0, c .loop-test .left) in
+    (rw e at (l .inv .1), rw e at (l .inv .3))))  -- returns

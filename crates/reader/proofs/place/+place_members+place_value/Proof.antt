@@ -13,6 +13,7 @@ use Prim.Native.Nat.{ℕ, _+_, _-_, _*_, _<_, _≤_}
 use native.Mathlib.Omega.{arith}
 use lib.Dec.{eqb}
 use lib.ListN.{length, getD, drop}
+use Rattle.octets.specs.Numbers.{Octets}
 use Rattle.octets.specs.Answer.{if}
 use Rattle.table.specs.Syntax.{Member, Set}
 use Rattle.table.specs.declared.entry.Entry.{Entry}
@@ -57,7 +58,7 @@ use Rattle.table.proofs.kind.holds_one.Reads as holds-one-reads
 use Rattle.reader.proofs.place.+place_members+place_value.{statement}
 use Rattle.reader.proofs.place.+place_members+place_value.Tie.{close}
 use lib.Seq.{length-take-le}
-use Rattle.reader.proofs.PlacedValue.{Under, Contents, Stored, under-as, contents-as, stored-as, under-none, must-open, under-open}
+use Rattle.reader.proofs.PlacedValue.{Accepted, Contents, Stored, accepted-as, contents-as, stored-as, under-none, must-open, under-open}
 use Rattle.reader.proofs.PlacedValue.{read-contents, choice-contents, part-less, part-high, leaf-asks, leaf-stored}
 use Rattle.reader.proofs.PlacedValue.{items-ask, items-end, items-stored}
 use Rattle.reader.proofs.PlacedValue.{stored-length, bare-placed, close-asks, must-close, closed-placed}
@@ -741,7 +742,7 @@ place-value-claims t = (
 at-under : (t : ℕ) (c : place-value-lts.Joined1 (place-value-claims t) (place-value-at t) place-value.Post) →
     let s = c .before .before .before .before .before .before in
     let a = s .args in
-    Under (now (a .table)) (a .w) (now (a .m)) (a .at) (s .pre .1 .fits .value) (s .pre .1 .fits .rest) (c .if1 .notes) (c .if1 .at)
+    Accepted (now (a .table)) (a .w) (now (a .m)) (a .at) (s .pre .1 .fits .value) (s .pre .1 .fits .rest) (c .if1 .notes) (c .if1 .at)
     (c .if1 .from) (c .if1 .end)
 at-under t c =
     let s = c .before .before .before .before .before .before in
@@ -750,8 +751,8 @@ at-under t c =
     ⊎-elim
     (λ x. absurd (must-open P _ _ (x .2 .ensures .1) _ _ (x .4 .given .1)))
     (⊎-elim
-    (λ x. under-as (under-open P _ _ (x .2 .ensures .1) (x .2 .ensures .0) _ (x .4 .given .1)) (x .6) (x .7) (x .9) (x .8))
-    λ x. under-as (under-none P (rw e at (x .0 .left)) _ refl) (x .1) (x .2) (x .4) (x .3))
+    (λ x. accepted-as (under-open P _ _ (x .2 .ensures .1) (x .2 .ensures .0) _ (x .4 .given .1)) (x .6) (x .7) (x .9) (x .8))
+    λ x. accepted-as (under-none P (rw e at (x .0 .left)) _ refl) (x .1) (x .2) (x .4) (x .3))
     (c .if1 .came)
 
 -- its contents
@@ -767,15 +768,12 @@ at-contents t c =
     let P = s .pre .1 in
     let e = j .before .before .unpack .ensures in
     let U = at-under t j in
-    let o = j .before .before .before .before .before .shared-slice-known .given in
+    let o : Octets (now (s .args .table)) = λ i. omega (arith, j .before .before .before .before .before .shared-slice-known .given i) in
+    let q : Octets (now (s .args .m)) = λ i. omega (arith, j .before .before .before .before .shared-slice-known2 .given i) in
     ⊎-elim
     (λ x.
-    contents-as
-    (read-contents P U (rw e at (x .0 .taken)) (x .1 .result) (x .1 .ensures) (λ k. omega (arith, o k)))
-    (x .2)
-    (x .3)
-    (x .4))
-    (λ x. contents-as (choice-contents P U (rw e at (x .0 .left))) (x .1) (x .2) (x .3))
+    contents-as (read-contents P U q o (rw e at (x .0 .taken)) (x .1 .result) (x .1 .ensures)) (x .2) (x .3) (x .4))
+    (λ x. contents-as (choice-contents P U q o (rw e at (x .0 .left))) (x .1) (x .2) (x .3))
     (c .if2 .came)
 
 -- what was placed
@@ -862,7 +860,7 @@ pub +place-members+place-value-spec : {M : Type 1} → statement M
     (_, P .ready, (P .number, P .low, P .entry), e, P .headed, P .short, refl))  -- place-value-open-requires
     (λ c. search needs)  -- place-value-enum-told
     (λ c. search needs)  -- place-value-enum-known-x
-    (λ c. sym (length-take-le _ _ (at-under t (c .before) .high)))  -- place-value-slice-aggregate-around
+    (λ c. sym (length-take-le _ _ (at-under t (c .before) .under .high)))  -- place-value-slice-aggregate-around
     (λ c κs. search needs)  -- place-value-again-requires
     (λ c. at-contents t (c .before .before .before) .order)  -- place-value-sub-c
     (λ c. let h = at-contents t (c .before .before .before) .order in search needs)  -- place-value-part-c-start

@@ -7,7 +7,8 @@ use lib.ListN.{length, length-set}
 use Rattle.table.specs.Entries.{tableIn, countIn, counted}
 use Rattle.table.specs.declared.entry.Entry.{Entry}
 use Rattle.reader.proofs.ItemsWay.{turnsLeft}
-use Rattle.reader.proofs.Among.{Amid, amid-first, alternatives-of, next, among-found, among-down, among-next, among-none, among-back, fewer-under, fewer-beside, fewer-above, among-small}
+use Rattle.reader.proofs.Among.{Amid, amid-first, alternatives-of, next, among-found, among-down, among-next, among-none, among-back}
+use Rattle.reader.proofs.Among.{fewer-under, fewer-beside, fewer-above, among-small}
 use Rattle.reader.proofs.search.among.Statement.{statement}
 use Rattle.reader.proofs.search.among.Tie as tie
 
@@ -23,34 +24,242 @@ among-spec =
     (tie.spec
     Inv-loop
     μ-loop
-    (λ c. (c .before .pre .4, amid-first (c .before .pre .0) (c .before .args .code) (c .before .args .way .now) (c .before .args .t) (c .before .pre .3) (c .before .pre .1) (c .before .pre .2)))  -- loop-holds
+    (λ c.
+    let a = c .before .args in
+    let q = c .before .pre in
+    (q .4, amid-first (q .0) (a .code) (a .way .now) (a .t) (q .3) (q .1) (q .2)))  -- loop-holds
     (λ c. omega (arith, c .loop .inv .1 .low, c .before .before .pre .0 .passes .few))  -- mul-unpack
     (λ c. omega (arith, c .loop .inv .1 .low, c .before .before .pre .0 .passes .few))  -- element-copy-out-unpack
     (λ c κs. tt)  -- unpack-requires
     (λ c κs. tt)  -- alternatives-requires
-    (λ c. omega (arith, alternatives-of (c .before .before .before .before .before .before .before .before .pre .0) (c .before .before .before .before .before .before .loop .choice) (c .before .before .before .alternatives .result) (c .before .before .before .before .before .before .loop .inv .1 .low) (c .before .before .before .before .before .before .loop .inv .1 .looking .bare) (c .before .before .before .alternatives .ensures ∙ ap (λ (e : Entry). counted (c .before .before .before .before .before .before .before .before .args .table .now) (e .own) 1) (c .before .before .before .before .unpack .ensures)) .near, c .before .if1 .taken))  -- add-octet
+    (λ c.
+    let c3 = c .before .before .before in
+    let c4 = c3 .before in
+    let c6 = c4 .before .before in
+    let c8 = c6 .before .before in
+    let l = c6 .loop in
+    omega (arith, alternatives-of (c8 .pre .0) (l .choice) (c3 .alternatives .result) (l .inv .1 .low) (l .inv .1 .looking .bare)
+    (c3 .alternatives .ensures ∙ ap (λ (e : Entry). counted (c8 .args .table .now) (e .own) 1) (c4 .unpack .ensures)) .near,
+    c .before .if1 .taken))  -- add-octet
     (λ c κs. tt)  -- octet-requires
-    (λ c. omega (arith, c .before .before .before .before .before .before .before .loop .inv .1 .low, c .before .before .before .before .before .before .before .before .before .pre .0 .passes .few))  -- mul-way
-    (λ c. omega (arith, c .before .before .before .before .before .before .before .loop .inv .1 .low, c .before .before .before .before .before .before .before .before .before .pre .0 .passes .few, next (c .before .before .before .before .before .before .before .before .before .pre .0) (c .before .before .before .before .before .before .before .before .before .args .code) (c .before .before .before .before .before .before .before .before .before .pre .3) (c .before .before .before .before .before .before .before .loop .way) (c .before .before .before .before .before .before .before .loop .inv .0) (c .before .before .before .before .before .before .before .before .before .args .t) (c .before .before .before .before .before .before .before .loop .depth) (c .before .before .before .before .before .before .before .loop .choice) (c .before .before .before .before .before .before .before .loop .j) (c .before .before .before .before .before .before .before .loop .inv .1) (c .before .before .before .before .alternatives .result) (c .before .before .before .before .alternatives .ensures ∙ ap (λ (e : Entry). counted (c .before .before .before .before .before .before .before .before .before .args .table .now) (e .own) 1) (c .before .before .before .before .before .unpack .ensures)) (c .before .before .if1 .taken) (c .octet .result) (c .octet .ensures .0) .few))  -- add-way
-    (λ c. omega (arith, c .before .before .before .before .before .before .before .loop .inv .1 .low, c .before .before .before .before .before .before .before .before .before .pre .0 .passes .few, next (c .before .before .before .before .before .before .before .before .before .pre .0) (c .before .before .before .before .before .before .before .before .before .args .code) (c .before .before .before .before .before .before .before .before .before .pre .3) (c .before .before .before .before .before .before .before .loop .way) (c .before .before .before .before .before .before .before .loop .inv .0) (c .before .before .before .before .before .before .before .before .before .args .t) (c .before .before .before .before .before .before .before .loop .depth) (c .before .before .before .before .before .before .before .loop .choice) (c .before .before .before .before .before .before .before .loop .j) (c .before .before .before .before .before .before .before .loop .inv .1) (c .before .before .before .before .alternatives .result) (c .before .before .before .before .alternatives .ensures ∙ ap (λ (e : Entry). counted (c .before .before .before .before .before .before .before .before .before .args .table .now) (e .own) 1) (c .before .before .before .before .before .unpack .ensures)) (c .before .before .if1 .taken) (c .octet .result) (c .octet .ensures .0) .few))  -- cast-way
-    (λ c. omega (arith, next (c .before .before .before .before .before .before .before .before .before .pre .0) (c .before .before .before .before .before .before .before .before .before .args .code) (c .before .before .before .before .before .before .before .before .before .pre .3) (c .before .before .before .before .before .before .before .loop .way) (c .before .before .before .before .before .before .before .loop .inv .0) (c .before .before .before .before .before .before .before .before .before .args .t) (c .before .before .before .before .before .before .before .loop .depth) (c .before .before .before .before .before .before .before .loop .choice) (c .before .before .before .before .before .before .before .loop .j) (c .before .before .before .before .before .before .before .loop .inv .1) (c .before .before .before .before .alternatives .result) (c .before .before .before .before .alternatives .ensures ∙ ap (λ (e : Entry). counted (c .before .before .before .before .before .before .before .before .before .args .table .now) (e .own) 1) (c .before .before .before .before .before .unpack .ensures)) (c .before .before .if1 .taken) (c .octet .result) (c .octet .ensures .0) .room))  -- mul-way-2
-    (λ c. next (c .before .before .before .before .before .before .before .before .before .pre .0) (c .before .before .before .before .before .before .before .before .before .args .code) (c .before .before .before .before .before .before .before .before .before .pre .3) (c .before .before .before .before .before .before .before .loop .way) (c .before .before .before .before .before .before .before .loop .inv .0) (c .before .before .before .before .before .before .before .before .before .args .t) (c .before .before .before .before .before .before .before .loop .depth) (c .before .before .before .before .before .before .before .loop .choice) (c .before .before .before .before .before .before .before .loop .j) (c .before .before .before .before .before .before .before .loop .inv .1) (c .before .before .before .before .alternatives .result) (c .before .before .before .before .alternatives .ensures ∙ ap (λ (e : Entry). counted (c .before .before .before .before .before .before .before .before .before .args .table .now) (e .own) 1) (c .before .before .before .before .before .unpack .ensures)) (c .before .before .if1 .taken) (c .octet .result) (c .octet .ensures .0) .room)  -- element-write-way
+    (λ c.
+    let c7 = c .before .before .before .before .before .before .before in
+    omega (arith, c7 .loop .inv .1 .low, c7 .before .before .pre .0 .passes .few))  -- mul-way
+    (λ c.
+    let c4 = c .before .before .before .before in
+    let c5 = c4 .before in
+    let c7 = c5 .before .before in
+    let c9 = c7 .before .before in
+    let a = c9 .args in
+    let q = c9 .pre in
+    let l = c7 .loop in
+    omega (arith, l .inv .1 .low, q .0 .passes .few, next (q .0) (a .code) (q .3) (l .way) (l .inv .0) (a .t) (l .depth) (l .choice)
+    (l .j) (l .inv .1) (c4 .alternatives .result) (c4 .alternatives .ensures ∙ ap (λ (e : Entry). counted (a .table .now) (e .own) 1)
+    (c5 .unpack .ensures)) (c .before .before .if1 .taken) (c .octet .result) (c .octet .ensures .0) .few))  -- add-way
+    (λ c.
+    let c4 = c .before .before .before .before in
+    let c5 = c4 .before in
+    let c7 = c5 .before .before in
+    let c9 = c7 .before .before in
+    let a = c9 .args in
+    let q = c9 .pre in
+    let l = c7 .loop in
+    omega (arith, l .inv .1 .low, q .0 .passes .few, next (q .0) (a .code) (q .3) (l .way) (l .inv .0) (a .t) (l .depth) (l .choice)
+    (l .j) (l .inv .1) (c4 .alternatives .result) (c4 .alternatives .ensures ∙ ap (λ (e : Entry). counted (a .table .now) (e .own) 1)
+    (c5 .unpack .ensures)) (c .before .before .if1 .taken) (c .octet .result) (c .octet .ensures .0) .few))  -- cast-way
+    (λ c.
+    let c4 = c .before .before .before .before in
+    let c5 = c4 .before in
+    let c7 = c5 .before .before in
+    let c9 = c7 .before .before in
+    let a = c9 .args in
+    let q = c9 .pre in
+    let l = c7 .loop in
+    omega (arith, next (q .0) (a .code) (q .3) (l .way) (l .inv .0) (a .t) (l .depth) (l .choice) (l .j) (l .inv .1)
+    (c4 .alternatives .result) (c4 .alternatives .ensures ∙ ap (λ (e : Entry). counted (a .table .now) (e .own) 1)
+    (c5 .unpack .ensures)) (c .before .before .if1 .taken) (c .octet .result) (c .octet .ensures .0) .room))  -- mul-way-2
+    (λ c.
+    let c4 = c .before .before .before .before in
+    let c5 = c4 .before in
+    let c7 = c5 .before .before in
+    let c9 = c7 .before .before in
+    let a = c9 .args in
+    let q = c9 .pre in
+    let l = c7 .loop in
+    next (q .0) (a .code) (q .3) (l .way) (l .inv .0) (a .t) (l .depth) (l .choice) (l .j) (l .inv .1) (c4 .alternatives .result)
+    (c4 .alternatives .ensures ∙ ap (λ (e : Entry). counted (a .table .now) (e .own) 1) (c5 .unpack .ensures))
+    (c .before .before .if1 .taken) (c .octet .result) (c .octet .ensures .0) .room)  -- element-write-way
     (λ c. omega (arith, c .octet .ensures .1))  -- mul-first
-    (λ c. omega (arith, next (c .before .before .before .before .before .before .before .before .before .pre .0) (c .before .before .before .before .before .before .before .before .before .args .code) (c .before .before .before .before .before .before .before .before .before .pre .3) (c .before .before .before .before .before .before .before .loop .way) (c .before .before .before .before .before .before .before .loop .inv .0) (c .before .before .before .before .before .before .before .before .before .args .t) (c .before .before .before .before .before .before .before .loop .depth) (c .before .before .before .before .before .before .before .loop .choice) (c .before .before .before .before .before .before .before .loop .j) (c .before .before .before .before .before .before .before .loop .inv .1) (c .before .before .before .before .alternatives .result) (c .before .before .before .before .alternatives .ensures ∙ ap (λ (e : Entry). counted (c .before .before .before .before .before .before .before .before .before .args .table .now) (e .own) 1) (c .before .before .before .before .before .unpack .ensures)) (c .before .before .if1 .taken) (c .octet .result) (c .octet .ensures .0) .small, c .before .before .before .before .before .before .before .before .before .pre .0 .passes .few))  -- element-copy-out-first
+    (λ c.
+    let c4 = c .before .before .before .before in
+    let c5 = c4 .before in
+    let c7 = c5 .before .before in
+    let c9 = c7 .before .before in
+    let a = c9 .args in
+    let q = c9 .pre in
+    let l = c7 .loop in
+    omega (arith, next (q .0) (a .code) (q .3) (l .way) (l .inv .0) (a .t) (l .depth) (l .choice) (l .j) (l .inv .1)
+    (c4 .alternatives .result) (c4 .alternatives .ensures ∙ ap (λ (e : Entry). counted (a .table .now) (e .own) 1)
+    (c5 .unpack .ensures)) (c .before .before .if1 .taken) (c .octet .result) (c .octet .ensures .0) .small, q .0 .passes .few))  -- element-copy-out-first
     (λ c κs. tt)  -- first-requires
-    (λ c. omega (arith, next (c .before .before .before .before .before .before .before .before .before .before .before .before .pre .0) (c .before .before .before .before .before .before .before .before .before .before .before .before .args .code) (c .before .before .before .before .before .before .before .before .before .before .before .before .pre .3) (c .before .before .before .before .before .before .before .before .before .before .loop .way) (c .before .before .before .before .before .before .before .before .before .before .loop .inv .0) (c .before .before .before .before .before .before .before .before .before .before .before .before .args .t) (c .before .before .before .before .before .before .before .before .before .before .loop .depth) (c .before .before .before .before .before .before .before .before .before .before .loop .choice) (c .before .before .before .before .before .before .before .before .before .before .loop .j) (c .before .before .before .before .before .before .before .before .before .before .loop .inv .1) (c .before .before .before .before .before .before .before .alternatives .result) (c .before .before .before .before .before .before .before .alternatives .ensures ∙ ap (λ (e : Entry). counted (c .before .before .before .before .before .before .before .before .before .before .before .before .args .table .now) (e .own) 1) (c .before .before .before .before .before .before .before .before .unpack .ensures)) (c .before .before .before .before .before .if1 .taken) (c .before .before .before .octet .result) (c .before .before .before .octet .ensures .0) .room))  -- add-t29
-    (λ c. (simp length-set (c .before .before .before .before .before .before .before .before .before .before .loop .inv .0), among-found (c .before .before .before .before .before .before .before .before .before .before .before .before .pre .0) (c .before .before .before .before .before .before .before .before .before .before .before .before .args .code) (c .before .before .before .before .before .before .before .before .before .before .before .before .pre .3) (c .before .before .before .before .before .before .before .before .before .before .loop .way) (c .before .before .before .before .before .before .before .before .before .before .loop .inv .0) (c .before .before .before .before .before .before .before .before .before .before .before .before .args .t) (c .before .before .before .before .before .before .before .before .before .before .loop .depth) (c .before .before .before .before .before .before .before .before .before .before .loop .choice) (c .before .before .before .before .before .before .before .before .before .before .loop .j) (c .before .before .before .before .before .before .before .before .before .before .loop .inv .1) (c .before .before .before .before .before .before .before .alternatives .result) (c .before .before .before .before .before .before .before .alternatives .ensures ∙ ap (λ (e : Entry). counted (c .before .before .before .before .before .before .before .before .before .before .before .before .args .table .now) (e .own) 1) (c .before .before .before .before .before .before .before .before .unpack .ensures)) (c .before .before .before .before .before .if1 .taken) (c .before .before .before .octet .result) (c .before .before .before .octet .ensures .0) (c .before .first .result) (c .before .first .ensures) (c .if2 .taken)))  -- returns
-    (λ c. omega (arith, next (c .before .before .before .before .before .before .before .before .before .before .before .before .before .pre .0) (c .before .before .before .before .before .before .before .before .before .before .before .before .before .args .code) (c .before .before .before .before .before .before .before .before .before .before .before .before .before .pre .3) (c .before .before .before .before .before .before .before .before .before .before .before .loop .way) (c .before .before .before .before .before .before .before .before .before .before .before .loop .inv .0) (c .before .before .before .before .before .before .before .before .before .before .before .before .before .args .t) (c .before .before .before .before .before .before .before .before .before .before .before .loop .depth) (c .before .before .before .before .before .before .before .before .before .before .before .loop .choice) (c .before .before .before .before .before .before .before .before .before .before .before .loop .j) (c .before .before .before .before .before .before .before .before .before .before .before .loop .inv .1) (c .before .before .before .before .before .before .before .before .alternatives .result) (c .before .before .before .before .before .before .before .before .alternatives .ensures ∙ ap (λ (e : Entry). counted (c .before .before .before .before .before .before .before .before .before .before .before .before .before .args .table .now) (e .own) 1) (c .before .before .before .before .before .before .before .before .before .unpack .ensures)) (c .before .before .before .before .before .before .if1 .taken) (c .before .before .before .before .octet .result) (c .before .before .before .before .octet .ensures .0) .room))  -- add-depth
-    (λ c. fewer-under (c .before .before .before .before .before .before .before .before .before .before .before .before .before .pre .0) (c .before .before .before .before .before .before .before .before .before .before .before .before .before .args .code) (c .before .before .before .before .before .before .before .before .before .before .before .before .before .pre .3) (c .before .before .before .before .before .before .before .before .before .before .before .loop .way) (c .before .before .before .before .before .before .before .before .before .before .before .loop .inv .0) (c .before .before .before .before .before .before .before .before .before .before .before .before .before .args .t) (c .before .before .before .before .before .before .before .before .before .before .before .loop .depth) (c .before .before .before .before .before .before .before .before .before .before .before .loop .choice) (c .before .before .before .before .before .before .before .before .before .before .before .loop .j) (c .before .before .before .before .before .before .before .before .before .before .before .loop .inv .1) (c .before .before .before .before .before .before .before .before .alternatives .result) (c .before .before .before .before .before .before .before .before .alternatives .ensures ∙ ap (λ (e : Entry). counted (c .before .before .before .before .before .before .before .before .before .before .before .before .before .args .table .now) (e .own) 1) (c .before .before .before .before .before .before .before .before .before .unpack .ensures)) (c .before .before .before .before .before .before .if1 .taken) (c .before .before .before .before .octet .result) (c .before .before .before .before .octet .ensures .0))  -- loop-less
-    (λ c. (simp length-set (c .before .before .before .before .before .before .before .before .before .before .before .loop .inv .0), among-down (c .before .before .before .before .before .before .before .before .before .before .before .before .before .pre .0) (c .before .before .before .before .before .before .before .before .before .before .before .before .before .args .code) (c .before .before .before .before .before .before .before .before .before .before .before .before .before .pre .3) (c .before .before .before .before .before .before .before .before .before .before .before .loop .way) (c .before .before .before .before .before .before .before .before .before .before .before .loop .inv .0) (c .before .before .before .before .before .before .before .before .before .before .before .before .before .args .t) (c .before .before .before .before .before .before .before .before .before .before .before .loop .depth) (c .before .before .before .before .before .before .before .before .before .before .before .loop .choice) (c .before .before .before .before .before .before .before .before .before .before .before .loop .j) (c .before .before .before .before .before .before .before .before .before .before .before .loop .inv .1) (c .before .before .before .before .before .before .before .before .alternatives .result) (c .before .before .before .before .before .before .before .before .alternatives .ensures ∙ ap (λ (e : Entry). counted (c .before .before .before .before .before .before .before .before .before .before .before .before .before .args .table .now) (e .own) 1) (c .before .before .before .before .before .before .before .before .before .unpack .ensures)) (c .before .before .before .before .before .before .if1 .taken) (c .before .before .before .before .octet .result) (c .before .before .before .before .octet .ensures .0) (c .before .before .first .result) (c .before .before .first .ensures) (c .if3 .taken)))  -- loop-again
-    (λ c. omega (arith, next (c .before .before .before .before .before .before .before .before .before .before .before .before .before .pre .0) (c .before .before .before .before .before .before .before .before .before .before .before .before .before .args .code) (c .before .before .before .before .before .before .before .before .before .before .before .before .before .pre .3) (c .before .before .before .before .before .before .before .before .before .before .before .loop .way) (c .before .before .before .before .before .before .before .before .before .before .before .loop .inv .0) (c .before .before .before .before .before .before .before .before .before .before .before .before .before .args .t) (c .before .before .before .before .before .before .before .before .before .before .before .loop .depth) (c .before .before .before .before .before .before .before .before .before .before .before .loop .choice) (c .before .before .before .before .before .before .before .before .before .before .before .loop .j) (c .before .before .before .before .before .before .before .before .before .before .before .loop .inv .1) (c .before .before .before .before .before .before .before .before .alternatives .result) (c .before .before .before .before .before .before .before .before .alternatives .ensures ∙ ap (λ (e : Entry). counted (c .before .before .before .before .before .before .before .before .before .before .before .before .before .args .table .now) (e .own) 1) (c .before .before .before .before .before .before .before .before .before .unpack .ensures)) (c .before .before .before .before .before .before .if1 .taken) (c .before .before .before .before .octet .result) (c .before .before .before .before .octet .ensures .0) .few))  -- add-j
-    (λ c. fewer-beside (c .before .before .before .before .before .before .before .before .before .before .before .before .before .pre .0) (c .before .before .before .before .before .before .before .before .before .before .before .before .before .args .code) (c .before .before .before .before .before .before .before .before .before .before .before .before .before .pre .3) (c .before .before .before .before .before .before .before .before .before .before .before .loop .way) (c .before .before .before .before .before .before .before .before .before .before .before .loop .inv .0) (c .before .before .before .before .before .before .before .before .before .before .before .before .before .args .t) (c .before .before .before .before .before .before .before .before .before .before .before .loop .depth) (c .before .before .before .before .before .before .before .before .before .before .before .loop .choice) (c .before .before .before .before .before .before .before .before .before .before .before .loop .j) (c .before .before .before .before .before .before .before .before .before .before .before .loop .inv .1) (c .before .before .before .before .before .before .before .before .alternatives .result) (c .before .before .before .before .before .before .before .before .alternatives .ensures ∙ ap (λ (e : Entry). counted (c .before .before .before .before .before .before .before .before .before .before .before .before .before .args .table .now) (e .own) 1) (c .before .before .before .before .before .before .before .before .before .unpack .ensures)) (c .before .before .before .before .before .before .if1 .taken) (c .before .before .before .before .octet .result) (c .before .before .before .before .octet .ensures .0))  -- loop-less-2
-    (λ c. (simp length-set (c .before .before .before .before .before .before .before .before .before .before .before .loop .inv .0), among-next (c .before .before .before .before .before .before .before .before .before .before .before .before .before .pre .0) (c .before .before .before .before .before .before .before .before .before .before .before .before .before .args .code) (c .before .before .before .before .before .before .before .before .before .before .before .before .before .pre .3) (c .before .before .before .before .before .before .before .before .before .before .before .loop .way) (c .before .before .before .before .before .before .before .before .before .before .before .loop .inv .0) (c .before .before .before .before .before .before .before .before .before .before .before .before .before .args .t) (c .before .before .before .before .before .before .before .before .before .before .before .loop .depth) (c .before .before .before .before .before .before .before .before .before .before .before .loop .choice) (c .before .before .before .before .before .before .before .before .before .before .before .loop .j) (c .before .before .before .before .before .before .before .before .before .before .before .loop .inv .1) (c .before .before .before .before .before .before .before .before .alternatives .result) (c .before .before .before .before .before .before .before .before .alternatives .ensures ∙ ap (λ (e : Entry). counted (c .before .before .before .before .before .before .before .before .before .before .before .before .before .args .table .now) (e .own) 1) (c .before .before .before .before .before .before .before .before .before .unpack .ensures)) (c .before .before .before .before .before .before .if1 .taken) (c .before .before .before .before .octet .result) (c .before .before .before .before .octet .ensures .0) (c .before .before .first .result) (c .before .before .first .ensures) (c .before .if2 .left) (c .if3 .left)))  -- loop-again-2
-    (λ c. (c .before .before .before .before .before .before .loop .inv .0, among-none (c .before .before .before .before .before .before .before .before .pre .0) (c .before .before .before .before .before .before .before .before .args .code) (c .before .before .before .before .before .before .before .before .pre .3) (c .before .before .before .before .before .before .loop .way) (c .before .before .before .before .before .before .loop .inv .0) (c .before .before .before .before .before .before .before .before .args .t) (c .before .before .before .before .before .before .loop .depth) (c .before .before .before .before .before .before .loop .choice) (c .before .before .before .before .before .before .loop .j) (c .before .before .before .before .before .before .loop .inv .1) (c .before .before .before .alternatives .result) (c .before .before .before .alternatives .ensures ∙ ap (λ (e : Entry). counted (c .before .before .before .before .before .before .before .before .args .table .now) (e .own) 1) (c .before .before .before .before .unpack .ensures)) (c .before .if1 .left) (c .if4 .taken)))  -- returns-2
+    (λ c.
+    let c3 = c .before .before .before in
+    let c5 = c3 .before .before in
+    let c7 = c5 .before .before in
+    let c8 = c7 .before in
+    let c10 = c8 .before .before in
+    let c12 = c10 .before .before in
+    let a = c12 .args in
+    let q = c12 .pre in
+    let l = c10 .loop in
+    omega (arith, next (q .0) (a .code) (q .3) (l .way) (l .inv .0) (a .t) (l .depth) (l .choice) (l .j) (l .inv .1)
+    (c7 .alternatives .result) (c7 .alternatives .ensures ∙ ap (λ (e : Entry). counted (a .table .now) (e .own) 1)
+    (c8 .unpack .ensures)) (c5 .if1 .taken) (c3 .octet .result) (c3 .octet .ensures .0) .room))  -- add-t29
+    (λ c.
+    let c3 = c .before .before .before in
+    let c5 = c3 .before .before in
+    let c7 = c5 .before .before in
+    let c8 = c7 .before in
+    let c10 = c8 .before .before in
+    let c12 = c10 .before .before in
+    let a = c12 .args in
+    let q = c12 .pre in
+    let l = c10 .loop in
+    (simp length-set (l .inv .0), among-found (q .0) (a .code) (q .3) (l .way) (l .inv .0) (a .t) (l .depth) (l .choice) (l .j)
+    (l .inv .1) (c7 .alternatives .result) (c7 .alternatives .ensures ∙ ap (λ (e : Entry). counted (a .table .now) (e .own) 1)
+    (c8 .unpack .ensures)) (c5 .if1 .taken) (c3 .octet .result) (c3 .octet .ensures .0) (c .before .first .result)
+    (c .before .first .ensures) (c .if2 .taken)))  -- returns
+    (λ c.
+    let c4 = c .before .before .before .before in
+    let c6 = c4 .before .before in
+    let c8 = c6 .before .before in
+    let c9 = c8 .before in
+    let c11 = c9 .before .before in
+    let c13 = c11 .before .before in
+    let a = c13 .args in
+    let q = c13 .pre in
+    let l = c11 .loop in
+    omega (arith, next (q .0) (a .code) (q .3) (l .way) (l .inv .0) (a .t) (l .depth) (l .choice) (l .j) (l .inv .1)
+    (c8 .alternatives .result) (c8 .alternatives .ensures ∙ ap (λ (e : Entry). counted (a .table .now) (e .own) 1)
+    (c9 .unpack .ensures)) (c6 .if1 .taken) (c4 .octet .result) (c4 .octet .ensures .0) .room))  -- add-depth
+    (λ c.
+    let c4 = c .before .before .before .before in
+    let c6 = c4 .before .before in
+    let c8 = c6 .before .before in
+    let c9 = c8 .before in
+    let c11 = c9 .before .before in
+    let c13 = c11 .before .before in
+    let a = c13 .args in
+    let q = c13 .pre in
+    let l = c11 .loop in
+    fewer-under (q .0) (a .code) (q .3) (l .way) (l .inv .0) (a .t) (l .depth) (l .choice) (l .j) (l .inv .1)
+    (c8 .alternatives .result) (c8 .alternatives .ensures ∙ ap (λ (e : Entry). counted (a .table .now) (e .own) 1)
+    (c9 .unpack .ensures)) (c6 .if1 .taken) (c4 .octet .result) (c4 .octet .ensures .0))  -- loop-less
+    (λ c.
+    let c2 = c .before .before in
+    let c4 = c2 .before .before in
+    let c6 = c4 .before .before in
+    let c8 = c6 .before .before in
+    let c9 = c8 .before in
+    let c11 = c9 .before .before in
+    let c13 = c11 .before .before in
+    let a = c13 .args in
+    let q = c13 .pre in
+    let l = c11 .loop in
+    (simp length-set (l .inv .0), among-down (q .0) (a .code) (q .3) (l .way) (l .inv .0) (a .t) (l .depth) (l .choice) (l .j)
+    (l .inv .1) (c8 .alternatives .result) (c8 .alternatives .ensures ∙ ap (λ (e : Entry). counted (a .table .now) (e .own) 1)
+    (c9 .unpack .ensures)) (c6 .if1 .taken) (c4 .octet .result) (c4 .octet .ensures .0) (c2 .first .result) (c2 .first .ensures)
+    (c .if3 .taken)))  -- loop-again
+    (λ c.
+    let c4 = c .before .before .before .before in
+    let c6 = c4 .before .before in
+    let c8 = c6 .before .before in
+    let c9 = c8 .before in
+    let c11 = c9 .before .before in
+    let c13 = c11 .before .before in
+    let a = c13 .args in
+    let q = c13 .pre in
+    let l = c11 .loop in
+    omega (arith, next (q .0) (a .code) (q .3) (l .way) (l .inv .0) (a .t) (l .depth) (l .choice) (l .j) (l .inv .1)
+    (c8 .alternatives .result) (c8 .alternatives .ensures ∙ ap (λ (e : Entry). counted (a .table .now) (e .own) 1)
+    (c9 .unpack .ensures)) (c6 .if1 .taken) (c4 .octet .result) (c4 .octet .ensures .0) .few))  -- add-j
+    (λ c.
+    let c4 = c .before .before .before .before in
+    let c6 = c4 .before .before in
+    let c8 = c6 .before .before in
+    let c9 = c8 .before in
+    let c11 = c9 .before .before in
+    let c13 = c11 .before .before in
+    let a = c13 .args in
+    let q = c13 .pre in
+    let l = c11 .loop in
+    fewer-beside (q .0) (a .code) (q .3) (l .way) (l .inv .0) (a .t) (l .depth) (l .choice) (l .j) (l .inv .1)
+    (c8 .alternatives .result) (c8 .alternatives .ensures ∙ ap (λ (e : Entry). counted (a .table .now) (e .own) 1)
+    (c9 .unpack .ensures)) (c6 .if1 .taken) (c4 .octet .result) (c4 .octet .ensures .0))  -- loop-less-2
+    (λ c.
+    let c2 = c .before .before in
+    let c4 = c2 .before .before in
+    let c6 = c4 .before .before in
+    let c8 = c6 .before .before in
+    let c9 = c8 .before in
+    let c11 = c9 .before .before in
+    let c13 = c11 .before .before in
+    let a = c13 .args in
+    let q = c13 .pre in
+    let l = c11 .loop in
+    (simp length-set (l .inv .0), among-next (q .0) (a .code) (q .3) (l .way) (l .inv .0) (a .t) (l .depth) (l .choice) (l .j)
+    (l .inv .1) (c8 .alternatives .result) (c8 .alternatives .ensures ∙ ap (λ (e : Entry). counted (a .table .now) (e .own) 1)
+    (c9 .unpack .ensures)) (c6 .if1 .taken) (c4 .octet .result) (c4 .octet .ensures .0) (c2 .first .result) (c2 .first .ensures)
+    (c .before .if2 .left) (c .if3 .left)))  -- loop-again-2
+    (λ c.
+    let c3 = c .before .before .before in
+    let c4 = c3 .before in
+    let c6 = c4 .before .before in
+    let c8 = c6 .before .before in
+    let a = c8 .args in
+    let q = c8 .pre in
+    let l = c6 .loop in
+    (l .inv .0, among-none (q .0) (a .code) (q .3) (l .way) (l .inv .0) (a .t) (l .depth) (l .choice) (l .j) (l .inv .1)
+    (c3 .alternatives .result) (c3 .alternatives .ensures ∙ ap (λ (e : Entry). counted (a .table .now) (e .own) 1)
+    (c4 .unpack .ensures)) (c .before .if1 .left) (c .if4 .taken)))  -- returns-2
     (λ c. omega (arith, c .if4 .left))  -- sub-depth
-    (λ c. omega (arith, c .before .before .before .before .before .before .loop .inv .1 .deep, c .before .before .before .before .before .before .before .before .pre .0 .passes .few))  -- mul-n
-    (λ c. omega (arith, c .before .before .before .before .before .before .loop .inv .1 .deep, c .before .before .before .before .before .before .before .before .pre .0 .passes .few, c .if4 .left))  -- element-copy-out-n
-    (λ c. omega (arith, among-small (c .before .before .before .before .before .before .before .before .before .pre .0) (c .before .before .before .before .before .before .before .before .before .args .code) (c .before .before .before .before .before .before .before .before .before .pre .3) (c .before .before .before .before .before .before .before .loop .way) (c .before .before .before .before .before .before .before .loop .inv .0) (c .before .before .before .before .before .before .before .before .before .args .t) (c .before .before .before .before .before .before .before .loop .depth) (c .before .before .before .before .before .before .before .loop .choice) (c .before .before .before .before .before .before .before .loop .j) (c .before .before .before .before .before .before .before .loop .inv .1) (c .before .before .before .before .alternatives .result) (c .before .before .before .before .alternatives .ensures ∙ ap (λ (e : Entry). counted (c .before .before .before .before .before .before .before .before .before .args .table .now) (e .own) 1) (c .before .before .before .before .before .unpack .ensures)) (c .before .before .if1 .left) (c .before .if4 .left)))  -- cast-n
+    (λ c.
+    let c6 = c .before .before .before .before .before .before in
+    omega (arith, c6 .loop .inv .1 .deep, c6 .before .before .pre .0 .passes .few))  -- mul-n
+    (λ c.
+    let c6 = c .before .before .before .before .before .before in
+    omega (arith, c6 .loop .inv .1 .deep, c6 .before .before .pre .0 .passes .few, c .if4 .left))  -- element-copy-out-n
+    (λ c.
+    let c4 = c .before .before .before .before in
+    let c5 = c4 .before in
+    let c7 = c5 .before .before in
+    let c9 = c7 .before .before in
+    let a = c9 .args in
+    let q = c9 .pre in
+    let l = c7 .loop in
+    omega (arith, among-small (q .0) (a .code) (q .3) (l .way) (l .inv .0) (a .t) (l .depth) (l .choice) (l .j) (l .inv .1)
+    (c4 .alternatives .result) (c4 .alternatives .ensures ∙ ap (λ (e : Entry). counted (a .table .now) (e .own) 1)
+    (c5 .unpack .ensures)) (c .before .before .if1 .left) (c .before .if4 .left)))  -- cast-n
     (λ c. omega arith)  -- add-j-2
-    (λ c. fewer-above (c .before .before .before .before .before .before .before .before .before .pre .0) (c .before .before .before .before .before .before .before .before .before .args .code) (c .before .before .before .before .before .before .before .before .before .pre .3) (c .before .before .before .before .before .before .before .loop .way) (c .before .before .before .before .before .before .before .loop .inv .0) (c .before .before .before .before .before .before .before .before .before .args .t) (c .before .before .before .before .before .before .before .loop .depth) (c .before .before .before .before .before .before .before .loop .choice) (c .before .before .before .before .before .before .before .loop .j) (c .before .before .before .before .before .before .before .loop .inv .1) (c .before .before .before .before .alternatives .result) (c .before .before .before .before .alternatives .ensures ∙ ap (λ (e : Entry). counted (c .before .before .before .before .before .before .before .before .before .args .table .now) (e .own) 1) (c .before .before .before .before .before .unpack .ensures)) (c .before .before .if1 .left) (c .before .if4 .left))  -- loop-less-3
-    (λ c. (c .before .before .before .before .before .before .before .loop .inv .0, among-back (c .before .before .before .before .before .before .before .before .before .pre .0) (c .before .before .before .before .before .before .before .before .before .args .code) (c .before .before .before .before .before .before .before .before .before .pre .3) (c .before .before .before .before .before .before .before .loop .way) (c .before .before .before .before .before .before .before .loop .inv .0) (c .before .before .before .before .before .before .before .before .before .args .t) (c .before .before .before .before .before .before .before .loop .depth) (c .before .before .before .before .before .before .before .loop .choice) (c .before .before .before .before .before .before .before .loop .j) (c .before .before .before .before .before .before .before .loop .inv .1) (c .before .before .before .before .alternatives .result) (c .before .before .before .before .alternatives .ensures ∙ ap (λ (e : Entry). counted (c .before .before .before .before .before .before .before .before .before .args .table .now) (e .own) 1) (c .before .before .before .before .before .unpack .ensures)) (c .before .before .if1 .left) (c .before .if4 .left))))  -- loop-again-3
+    (λ c.
+    let c4 = c .before .before .before .before in
+    let c5 = c4 .before in
+    let c7 = c5 .before .before in
+    let c9 = c7 .before .before in
+    let a = c9 .args in
+    let q = c9 .pre in
+    let l = c7 .loop in
+    fewer-above (q .0) (a .code) (q .3) (l .way) (l .inv .0) (a .t) (l .depth) (l .choice) (l .j) (l .inv .1)
+    (c4 .alternatives .result) (c4 .alternatives .ensures ∙ ap (λ (e : Entry). counted (a .table .now) (e .own) 1)
+    (c5 .unpack .ensures)) (c .before .before .if1 .left) (c .before .if4 .left))  -- loop-less-3
+    (λ c.
+    let c4 = c .before .before .before .before in
+    let c5 = c4 .before in
+    let c7 = c5 .before .before in
+    let c9 = c7 .before .before in
+    let a = c9 .args in
+    let q = c9 .pre in
+    let l = c7 .loop in
+    (l .inv .0, among-back (q .0) (a .code) (q .3) (l .way) (l .inv .0) (a .t) (l .depth) (l .choice) (l .j) (l .inv .1)
+    (c4 .alternatives .result) (c4 .alternatives .ensures ∙ ap (λ (e : Entry). counted (a .table .now) (e .own) 1)
+    (c5 .unpack .ensures)) (c .before .before .if1 .left) (c .before .if4 .left))))  -- loop-again-3

@@ -6,7 +6,8 @@ use mathlib.Core.Path.{_≡_, refl, sym, _∙_}
 use native.Mathlib.Omega.{arith}
 use Prim.Native.Nat.{_-_}
 use Rattle.reader.specs.Sought.{held, direct as Sought·direct}
-use Rattle.reader.proofs.Searching.{few, near, type-low, may-optional, may-other, other-code, other-come, direct-found, direct-skip, direct-stop, direct-end}
+use Rattle.reader.proofs.Searching.{few, near, type-low, may-optional, may-other, other-code, other-come, direct-found, direct-skip}
+use Rattle.reader.proofs.Searching.{direct-stop, direct-end}
 use Rattle.reader.proofs.search.direct.Statement.{statement}
 use Rattle.reader.proofs.search.direct.Tie as tie
 
@@ -25,18 +26,97 @@ direct-spec =
     (λ c κs. tt)  -- unpack-requires
     (λ c κs. tt)  -- parts-requires
     (λ c. refl)  -- loop-holds
-    (λ c. omega (arith, near (c .before .before .before .before .before .before .before .pre) (c .before .before .before .before .before .unpack .result) (c .before .before .before .before .before .unpack .ensures) (c .before .before .before .before .parts .result) (c .before .before .before .before .parts .ensures) (c .before .before .before .loop .k) (c .before .if1 .taken)))  -- mul-p
-    (λ c. omega (arith, near (c .before .before .before .before .before .before .before .before .pre) (c .before .before .before .before .before .before .unpack .result) (c .before .before .before .before .before .before .unpack .ensures) (c .before .before .before .before .before .parts .result) (c .before .before .before .before .before .parts .ensures) (c .before .before .before .before .loop .k) (c .before .before .if1 .taken)))  -- add-p
-    (λ c. omega (arith, few (c .before .before .before .before .before .before .before .before .pre) (c .before .before .before .before .before .before .unpack .result) (c .before .before .before .before .before .before .unpack .ensures) (c .before .before .before .before .before .parts .result) (c .before .before .before .before .before .parts .ensures), c .before .before .if1 .taken))  -- mul-if2
-    (λ c. omega (arith, few (c .before .before .before .before .before .before .before .before .pre) (c .before .before .before .before .before .before .unpack .result) (c .before .before .before .before .before .before .unpack .ensures) (c .before .before .before .before .before .parts .result) (c .before .before .before .before .before .parts .ensures), c .before .before .if1 .taken))  -- element-copy-out-if2
+    (λ c.
+    let c3 = c .before .before .before in
+    let c4 = c3 .before in
+    let c5 = c4 .before in
+    omega (arith, near (c5 .before .before .pre) (c5 .unpack .result) (c5 .unpack .ensures) (c4 .parts .result) (c4 .parts .ensures)
+    (c3 .loop .k) (c .before .if1 .taken)))  -- mul-p
+    (λ c.
+    let c4 = c .before .before .before .before in
+    let c5 = c4 .before in
+    let c6 = c5 .before in
+    omega (arith, near (c6 .before .before .pre) (c6 .unpack .result) (c6 .unpack .ensures) (c5 .parts .result) (c5 .parts .ensures)
+    (c4 .loop .k) (c .before .before .if1 .taken)))  -- add-p
+    (λ c.
+    let c5 = c .before .before .before .before .before in
+    let c6 = c5 .before in
+    omega (arith, few (c6 .before .before .pre) (c6 .unpack .result) (c6 .unpack .ensures) (c5 .parts .result) (c5 .parts .ensures),
+    c .before .before .if1 .taken))  -- mul-if2
+    (λ c.
+    let c5 = c .before .before .before .before .before in
+    let c6 = c5 .before in
+    omega (arith, few (c6 .before .before .pre) (c6 .unpack .result) (c6 .unpack .ensures) (c5 .parts .result) (c5 .parts .ensures),
+    c .before .before .if1 .taken))  -- element-copy-out-if2
     (λ c κs. tt)  -- octet-requires
     (λ c. omega (arith, c .octet .ensures .1))  -- mul-first
-    (λ c. omega (arith, type-low (c .before .before .before .before .before .before .before .before .before .before .before .pre) (c .before .before .before .before .before .before .before .before .before .unpack .result) (c .before .before .before .before .before .before .before .before .before .unpack .ensures) (c .before .before .before .before .before .before .before .before .parts .result) (c .before .before .before .before .before .before .before .before .parts .ensures) (c .before .before .before .before .before .before .before .loop .k) (c .before .before .before .before .before .if1 .taken) (c .octet .result) (c .octet .ensures .0), c .before .before .before .before .before .before .before .before .before .before .before .pre .ready .passes .few))  -- element-copy-out-first
+    (λ c.
+    let c5 = c .before .before .before .before .before in
+    let c7 = c5 .before .before in
+    let c8 = c7 .before in
+    let c9 = c8 .before in
+    let q = c9 .before .before .pre in
+    omega (arith, type-low (q) (c9 .unpack .result) (c9 .unpack .ensures) (c8 .parts .result) (c8 .parts .ensures) (c7 .loop .k)
+    (c5 .if1 .taken) (c .octet .result) (c .octet .ensures .0), q .ready .passes .few))  -- element-copy-out-first
     (λ c κs. tt)  -- first-requires
-    (λ c. sym (c .before .before .before .before .before .before .before .before .before .before .loop .inv ∙ direct-found (c .before .before .before .before .before .before .before .before .before .before .before .before .before .before .pre) (c .before .before .before .before .before .before .before .before .before .before .before .before .unpack .result) (c .before .before .before .before .before .before .before .before .before .before .before .before .unpack .ensures) (c .before .before .before .before .before .before .before .before .before .before .before .parts .result) (c .before .before .before .before .before .before .before .before .before .before .before .parts .ensures) (c .before .before .before .before .before .before .before .before .before .before .loop .k) (c .before .before .before .before .before .before .before .before .if1 .taken) (c .before .before .before .before .before .before .before .before .before .before .before .before .before .before .args .code) (c .before .before .before .octet .result) (c .before .first .result) (c .before .before .before .octet .ensures .0) (c .before .first .ensures) (c .before .before .before .before .if2 .taken) (c .if3 .taken)))  -- returns
+    (λ c.
+    let c3 = c .before .before .before in
+    let c4 = c3 .before in
+    let c8 = c4 .before .before .before .before in
+    let c10 = c8 .before .before in
+    let c11 = c10 .before in
+    let c12 = c11 .before in
+    let c14 = c12 .before .before in
+    let l = c10 .loop in
+    sym (l .inv ∙ direct-found (c14 .pre) (c12 .unpack .result) (c12 .unpack .ensures) (c11 .parts .result) (c11 .parts .ensures)
+    (l .k) (c8 .if1 .taken) (c14 .args .code) (c3 .octet .result) (c .before .first .result) (c3 .octet .ensures .0)
+    (c .before .first .ensures) (c4 .if2 .taken) (c .if3 .taken)))  -- returns
     (λ c κs. tt)  -- optional-requires
-    (λ c. sym (c .before .before .before .before .before .before .before .before .before .before .loop .inv ∙ direct-stop (c .before .before .before .before .before .before .before .before .before .before .before .before .before .before .pre) (c .before .before .before .before .before .before .before .before .before .before .before .before .unpack .result) (c .before .before .before .before .before .before .before .before .before .before .before .before .unpack .ensures) (c .before .before .before .before .before .before .before .before .before .before .before .parts .result) (c .before .before .before .before .before .before .before .before .before .before .before .parts .ensures) (c .before .before .before .before .before .before .before .before .before .before .loop .k) (c .before .before .before .before .before .before .before .before .if1 .taken) (c .before .before .before .before .before .before .before .before .before .before .before .before .before .before .args .code) (⊎-elim (λ x. other-code (c .before .before .before .before .before .before .before .before .before .before .before .before .before .before .pre) (c .before .before .before .before .before .before .before .before .before .before .before .before .unpack .result) (c .before .before .before .before .before .before .before .before .before .before .before .before .unpack .ensures) (c .before .before .before .before .before .before .before .before .before .before .before .parts .result) (c .before .before .before .before .before .before .before .before .before .before .before .parts .ensures) (c .before .before .before .before .before .before .before .before .before .before .loop .k) (c .before .before .before .before .before .before .before .before .if1 .taken) (c .before .before .before .before .before .before .before .before .before .before .before .before .before .before .args .code) (x .1 .result) (x .3 .result) (x .1 .ensures .0) (x .3 .ensures) (x .4 .left)) (λ x. other-come (c .before .before .before .before .before .before .before .before .before .before .before .before .before .before .pre) (c .before .before .before .before .before .before .before .before .before .before .before .before .unpack .result) (c .before .before .before .before .before .before .before .before .before .before .before .before .unpack .ensures) (c .before .before .before .before .before .before .before .before .before .before .before .parts .result) (c .before .before .before .before .before .before .before .before .before .before .before .parts .ensures) (c .before .before .before .before .before .before .before .before .before .before .loop .k) (c .before .before .before .before .before .before .before .before .if1 .taken) (c .before .before .before .before .before .before .before .before .before .before .before .before .before .before .args .code) (x .left)) (c .before .before .before .before .if2 .came)) (c .before .before .if4 .taken) (c .before .optional .result) (c .before .optional .ensures) (not-true _ (c .if5 .taken))))  -- returns-2
-    (λ c. omega (arith, few (c .before .before .before .before .before .before .before .before .before .before .before .before .pre) (c .before .before .before .before .before .before .before .before .before .before .unpack .result) (c .before .before .before .before .before .before .before .before .before .before .unpack .ensures) (c .before .before .before .before .before .before .before .before .before .parts .result) (c .before .before .before .before .before .before .before .before .before .parts .ensures), c .before .before .before .before .before .before .if1 .taken))  -- add-k
+    (λ c.
+    let c4 = c .before .before .before .before in
+    let c8 = c4 .before .before .before .before in
+    let c10 = c8 .before .before in
+    let c11 = c10 .before in
+    let c12 = c11 .before in
+    let c14 = c12 .before .before in
+    let a = c14 .args in
+    let q = c14 .pre in
+    let l = c10 .loop in
+    sym (l .inv ∙ direct-stop (q) (c12 .unpack .result) (c12 .unpack .ensures) (c11 .parts .result) (c11 .parts .ensures) (l .k)
+    (c8 .if1 .taken) (a .code) (⊎-elim (λ x. other-code (q) (c12 .unpack .result) (c12 .unpack .ensures) (c11 .parts .result)
+    (c11 .parts .ensures) (l .k) (c8 .if1 .taken) (a .code) (x .1 .result) (x .3 .result) (x .1 .ensures .0) (x .3 .ensures)
+    (x .4 .left)) (λ x. other-come (q) (c12 .unpack .result) (c12 .unpack .ensures) (c11 .parts .result) (c11 .parts .ensures) (l .k)
+    (c8 .if1 .taken) (a .code) (x .left)) (c4 .if2 .came)) (c .before .before .if4 .taken) (c .before .optional .result)
+    (c .before .optional .ensures) (not-true _ (c .if5 .taken))))  -- returns-2
+    (λ c.
+    let c6 = c .before .before .before .before .before .before in
+    let c9 = c6 .before .before .before in
+    let c10 = c9 .before in
+    omega (arith, few (c10 .before .before .pre) (c10 .unpack .result) (c10 .unpack .ensures) (c9 .parts .result) (c9 .parts .ensures),
+    c6 .if1 .taken))  -- add-k
     (λ c. omega (arith, c .before .before .before .before .before .before .if1 .taken))  -- loop-less
-    (λ c. c .before .before .before .before .before .before .before .before .loop .inv ∙ direct-skip (c .before .before .before .before .before .before .before .before .before .before .before .before .pre) (c .before .before .before .before .before .before .before .before .before .before .unpack .result) (c .before .before .before .before .before .before .before .before .before .before .unpack .ensures) (c .before .before .before .before .before .before .before .before .before .parts .result) (c .before .before .before .before .before .before .before .before .before .parts .ensures) (c .before .before .before .before .before .before .before .before .loop .k) (c .before .before .before .before .before .before .if1 .taken) (c .before .before .before .before .before .before .before .before .before .before .before .before .args .code) (⊎-elim (λ x. other-code (c .before .before .before .before .before .before .before .before .before .before .before .before .pre) (c .before .before .before .before .before .before .before .before .before .before .unpack .result) (c .before .before .before .before .before .before .before .before .before .before .unpack .ensures) (c .before .before .before .before .before .before .before .before .before .parts .result) (c .before .before .before .before .before .before .before .before .before .parts .ensures) (c .before .before .before .before .before .before .before .before .loop .k) (c .before .before .before .before .before .before .if1 .taken) (c .before .before .before .before .before .before .before .before .before .before .before .before .args .code) (x .1 .result) (x .3 .result) (x .1 .ensures .0) (x .3 .ensures) (x .4 .left)) (λ x. other-come (c .before .before .before .before .before .before .before .before .before .before .before .before .pre) (c .before .before .before .before .before .before .before .before .before .before .unpack .result) (c .before .before .before .before .before .before .before .before .before .before .unpack .ensures) (c .before .before .before .before .before .before .before .before .before .parts .result) (c .before .before .before .before .before .before .before .before .before .parts .ensures) (c .before .before .before .before .before .before .before .before .loop .k) (c .before .before .before .before .before .before .if1 .taken) (c .before .before .before .before .before .before .before .before .before .before .before .before .args .code) (x .left)) (c .before .before .if2 .came)) (⊎-elim (λ x. may-optional (c .before .before .before .before .before .before .before .before .before .before .before .before .pre) (c .before .before .before .before .before .before .before .before .before .before .unpack .result) (c .before .before .before .before .before .before .before .before .before .before .unpack .ensures) (c .before .before .before .before .before .before .before .before .before .parts .result) (c .before .before .before .before .before .before .before .before .before .parts .ensures) (c .before .before .before .before .before .before .before .before .loop .k) (c .before .before .before .before .before .before .if1 .taken) (x .0 .taken) (x .1 .result) (x .1 .ensures) (not-false _ (x .2 .left))) (λ x. may-other (c .before .before .before .before .before .before .before .before .before .before .before .before .pre) (c .before .before .before .before .before .before .before .before .before .before .unpack .result) (c .before .before .before .before .before .before .before .before .before .before .unpack .ensures) (c .before .before .before .before .before .before .before .before .before .parts .result) (c .before .before .before .before .before .before .before .before .before .parts .ensures) (c .before .before .before .before .before .before .before .before .loop .k) (c .before .before .before .before .before .before .if1 .taken) (x .left)) (c .if4 .came)))  -- loop-again
-    (λ c. sym (c .before .before .loop .inv ∙ direct-end (c .before .before .before .before .before .before .pre) (c .before .before .before .before .unpack .result) (c .before .before .before .before .unpack .ensures) (c .before .before .before .parts .result) (c .before .before .before .parts .ensures) (c .before .before .loop .k) (c .before .before .before .before .before .before .args .code) (c .if1 .left))))  -- returns-3
+    (λ c.
+    let c6 = c .before .before .before .before .before .before in
+    let c8 = c6 .before .before in
+    let c9 = c8 .before in
+    let c10 = c9 .before in
+    let c12 = c10 .before .before in
+    let a = c12 .args in
+    let q = c12 .pre in
+    let l = c8 .loop in
+    l .inv ∙ direct-skip (q) (c10 .unpack .result) (c10 .unpack .ensures) (c9 .parts .result) (c9 .parts .ensures) (l .k)
+    (c6 .if1 .taken) (a .code) (⊎-elim (λ x. other-code (q) (c10 .unpack .result) (c10 .unpack .ensures) (c9 .parts .result)
+    (c9 .parts .ensures) (l .k) (c6 .if1 .taken) (a .code) (x .1 .result) (x .3 .result) (x .1 .ensures .0) (x .3 .ensures)
+    (x .4 .left)) (λ x. other-come (q) (c10 .unpack .result) (c10 .unpack .ensures) (c9 .parts .result) (c9 .parts .ensures) (l .k)
+    (c6 .if1 .taken) (a .code) (x .left)) (c .before .before .if2 .came)) (⊎-elim (λ x. may-optional (q) (c10 .unpack .result)
+    (c10 .unpack .ensures) (c9 .parts .result) (c9 .parts .ensures) (l .k) (c6 .if1 .taken) (x .0 .taken) (x .1 .result)
+    (x .1 .ensures) (not-false _ (x .2 .left))) (λ x. may-other (q) (c10 .unpack .result) (c10 .unpack .ensures) (c9 .parts .result)
+    (c9 .parts .ensures) (l .k) (c6 .if1 .taken) (x .left)) (c .if4 .came)))  -- loop-again
+    (λ c.
+    let c2 = c .before .before in
+    let c3 = c2 .before in
+    let c4 = c3 .before in
+    let c6 = c4 .before .before in
+    let l = c2 .loop in
+    sym (l .inv ∙ direct-end (c6 .pre) (c4 .unpack .result) (c4 .unpack .ensures) (c3 .parts .result) (c3 .parts .ensures) (l .k)
+    (c6 .args .code) (c .if1 .left))))  -- returns-3

@@ -2,7 +2,6 @@
 -- Assumes nothing.
 use mathlib.Core.Path.{sym, _∙_}
 use native.Mathlib.Omega.{arith}
-use borrow.Author.Needs.{needs}
 use Rattle.reader.proofs.Among.{code-is, seek-here, seek-other}
 use Rattle.reader.proofs.search.seek.Statement.{statement}
 use Rattle.reader.proofs.search.seek.Tie as tie
@@ -14,7 +13,21 @@ seek-spec =
     (λ c. omega (arith, c .before .pre .1, c .before .pre .0 .passes .few))  -- mul-first
     (λ c. omega (arith, c .before .pre .1, c .before .pre .0 .passes .few))  -- element-copy-out-first
     (λ c κs. tt)  -- first-requires
-    (λ c. (c .before .before .before .before .pre .3, seek-here (c .before .before .before .before .pre .0) (c .before .before .before .before .args .code) _ (c .before .before .before .before .args .t) (c .before .first .result) (c .before .before .before .before .pre .2) (c .before .before .before .before .pre .1) (c .before .first .ensures) (c .if1 .taken)))  -- returns
-    (λ c. (c .before .before .before .before .before .pre .3, seek-other (c .before .before .before .before .before .pre .0) (c .before .before .before .before .before .args .code) (c .before .before .before .before .before .args .way .now) (c .before .before .before .before .before .args .t) (c .before .before .first .result) (c .before .before .before .before .before .pre .2) (c .before .before .before .before .before .pre .1) (c .before .before .first .ensures) (c .before .if1 .left) (c .if2 .taken)))  -- returns-2
-    (λ c κs. (c .before .before .before .before .before .before .pre .0, c .before .before .before .before .before .before .pre .1, sym (code-is (c .before .before .before .before .before .before .pre .0) (c .before .before .before .before .before .before .args .t) (c .before .before .before .first .result) (c .before .before .before .before .before .before .pre .1) (c .before .before .before .first .ensures)) ∙ c .before .if2 .left, c .before .before .before .before .before .before .pre .2, c .before .before .before .before .before .before .pre .3))  -- among-requires
+    (λ c.
+    let c4 = c .before .before .before .before in
+    let a = c4 .args in
+    let q = c4 .pre in
+    (q .3, seek-here (q .0) (a .code) _ (a .t) (c .before .first .result) (q .2) (q .1) (c .before .first .ensures) (c .if1 .taken)))  -- returns
+    (λ c.
+    let c2 = c .before .before in
+    let c5 = c2 .before .before .before in
+    let a = c5 .args in
+    let q = c5 .pre in
+    (q .3, seek-other (q .0) (a .code) (a .way .now) (a .t) (c2 .first .result) (q .2) (q .1) (c2 .first .ensures)
+    (c .before .if1 .left) (c .if2 .taken)))  -- returns-2
+    (λ c κs.
+    let c3 = c .before .before .before in
+    let c6 = c3 .before .before .before in
+    let q = c6 .pre in
+    (q .0, q .1, sym (code-is (q .0) (c6 .args .t) (c3 .first .result) (q .1) (c3 .first .ensures)) ∙ c .before .if2 .left, q .2, q .3))  -- among-requires
     (λ c. c .among .ensures))  -- returns-3

@@ -12,12 +12,31 @@ awaited-spec =
     (tie.spec
     (λ c κs. tt)  -- unpack-requires
     (λ c κs. tt)  -- tag-count-requires
-    (λ c. awaits-none (c .before .before .before .before .before .pre .1) (c .before .before .before .before .before .pre .2) (c .before .before .unpack .result) (c .before .before .unpack .ensures) (c .before .tag-count .result) (c .before .tag-count .ensures .0) (c .before .before .before .before .before .args .j) (c .before .before .before .before .before .args .m .now) (c .if1 .taken))  -- returns
+    (λ c.
+    let c2 = c .before .before in
+    let c5 = c2 .before .before .before in
+    let a = c5 .args in
+    let q = c5 .pre in
+    awaits-none (q .1) (q .2) (c2 .unpack .result) (c2 .unpack .ensures) (c .before .tag-count .result)
+    (c .before .tag-count .ensures .0) (a .j) (a .m .now) (c .if1 .taken))  -- returns
     (λ c κs. tt)  -- read-requires
     (λ c. search needs)  -- enum-known-cause
     (λ c. search needs)  -- enum-known-code
     (λ c κs. tt)  -- tag-code-requires
-    (λ c. awaits-tag (c .before .before .before .before .before .before .before .before .before .before .before .pre .1) (c .before .before .before .before .before .before .before .before .before .before .before .pre .2) (c .before .before .before .before .before .before .before .before .unpack .result) (c .before .before .before .before .before .before .before .before .unpack .ensures) (c .before .before .before .before .before .before .before .tag-count .result) (c .before .before .before .before .before .before .before .tag-count .ensures .0) (c .before .before .before .before .before .before .before .before .before .before .before .args .j) (c .before .before .before .before .before .before .before .before .before .before .before .args .m .now) (c .before .before .before .before .before .before .if1 .left) (λ n. omega (arith, c .before .before .before .before .before .before .before .before .before .shared-slice-known2 .given n)) (c .before .before .before .before .before .read .result) (c .before .before .before .before .before .read .ensures) (c .before .before .before .code .given .0 .0) (c .before .before .before .code .given .0 .1 .0) (c .before .before .before .code .given .1) (c .before .tag-code .result) (c .before .tag-code .ensures) (c .if2 .taken))  -- returns-2
+    (λ c.
+    let c3 = c .before .before .before in
+    let c5 = c3 .before .before in
+    let c6 = c5 .before in
+    let c7 = c6 .before in
+    let c8 = c7 .before in
+    let c9 = c8 .before in
+    let c11 = c9 .before .before in
+    let a = c11 .args in
+    let q = c11 .pre in
+    awaits-tag (q .1) (q .2) (c8 .unpack .result) (c8 .unpack .ensures) (c7 .tag-count .result) (c7 .tag-count .ensures .0) (a .j)
+    (a .m .now) (c6 .if1 .left) (λ n. omega (arith, c9 .shared-slice-known2 .given n)) (c5 .read .result) (c5 .read .ensures)
+    (c3 .code .given .0 .0) (c3 .code .given .0 .1 .0) (c3 .code .given .1) (c .before .tag-code .result)
+    (c .before .tag-code .ensures) (c .if2 .taken))  -- returns-2
     (λ c.
     let c3 = c .before .before .before in
     let c4 = c3 .before in
@@ -29,4 +48,17 @@ awaited-spec =
     (c5 .tag-count .ensures .0) (c9 .args .j) (c9 .args .m .now) (c4 .if1 .left) (λ n. omega
     (arith, c7 .shared-slice-known2 .given n)) (c3 .read .result) (c3 .read .ensures) (c .before .cause .given .0 .0)
     (c .before .cause .given .1))  -- returns-3
-    (λ c. awaits-other (c .before .before .before .before .before .before .before .before .before .before .before .pre .1) (c .before .before .before .before .before .before .before .before .before .before .before .pre .2) (c .before .before .before .before .before .before .before .before .unpack .result) (c .before .before .before .before .before .before .before .before .unpack .ensures) (c .before .before .before .before .before .before .before .tag-count .result) (c .before .before .before .before .before .before .before .tag-count .ensures .0) (c .before .before .before .before .before .before .before .before .before .before .before .args .j) (c .before .before .before .before .before .before .before .before .before .before .before .args .m .now) (c .before .before .before .before .before .before .if1 .left) (λ n. omega (arith, c .before .before .before .before .before .before .before .before .before .shared-slice-known2 .given n)) (c .before .before .before .before .before .read .result) (c .before .before .before .before .before .read .ensures) (c .before .before .before .code .given .0 .0) (c .before .before .before .code .given .0 .1 .0) (c .before .before .before .code .given .1) (c .before .tag-code .result) (c .before .tag-code .ensures) (c .if2 .left)))  -- returns-4
+    (λ c.
+    let c3 = c .before .before .before in
+    let c5 = c3 .before .before in
+    let c6 = c5 .before in
+    let c7 = c6 .before in
+    let c8 = c7 .before in
+    let c9 = c8 .before in
+    let c11 = c9 .before .before in
+    let a = c11 .args in
+    let q = c11 .pre in
+    awaits-other (q .1) (q .2) (c8 .unpack .result) (c8 .unpack .ensures) (c7 .tag-count .result) (c7 .tag-count .ensures .0) (a .j)
+    (a .m .now) (c6 .if1 .left) (λ n. omega (arith, c9 .shared-slice-known2 .given n)) (c5 .read .result) (c5 .read .ensures)
+    (c3 .code .given .0 .0) (c3 .code .given .0 .1 .0) (c3 .code .given .1) (c .before .tag-code .result)
+    (c .before .tag-code .ensures) (c .if2 .left)))  -- returns-4

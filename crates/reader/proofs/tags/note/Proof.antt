@@ -1,6 +1,5 @@
 -- `reader::tags::note` meets its contract.
 -- Assumes nothing.
-use borrow.Author.Needs.{needs}
 use mathlib.Core.Path.{refl}
 use native.Mathlib.Omega.{arith}
 use Rattle.reader.proofs.tags.note.Statement.{statement}

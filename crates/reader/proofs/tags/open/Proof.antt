@@ -3,19 +3,21 @@
 use borrow.Author.Needs.{needs}
 use lib.ListN.{length, length-set}
 use lib.Seq.{length-take-le}
-use mathlib.Core.Path.{_≡_, refl, sym, ap, _∙_}
+use mathlib.Core.Path.{_≡_, sym, ap}
 use native.Mathlib.Omega.{arith}
 use Prim.Native.Nat.{_-_}
 use Rattle.table.specs.Entries.{unpacked}
 use Rattle.table.specs.declared.entry.Entry.{Entry}
 use Rattle.reader.specs.Records.{recordIn}
 use Rattle.reader.proofs.Tagging.{its-fit}
-use Rattle.reader.proofs.Opening.{Opening, slice-is, its-count, its-first, its-few, open-none, open-unread, extent, open-refused, open-next, open-turn, open-done}
+use Rattle.reader.proofs.Opening.{Opening, slice-is, its-count, its-first, its-few, open-none, open-unread, extent, open-refused, open-next}
+use Rattle.reader.proofs.Opening.{open-turn, open-done}
 use Rattle.reader.proofs.tags.open.Statement.{statement}
 use Rattle.reader.proofs.tags.open.Tie as tie
 
 abbrev Inv-loop : tie.InvT-loop
-Inv-loop table w m at from notes₀ count at₁ end₁ from₁ j₁ notes at' end' from' j = (length notes ≡ 4) × Opening table (recordIn table (unpacked w)) m at notes at' from' end' j
+Inv-loop table w m at from notes₀ count at₁ end₁ from₁ j₁ notes at' end' from' j =
+    (length notes ≡ 4) × Opening table (recordIn table (unpacked w)) m at notes at' from' end' j
 
 abbrev μ-loop : tie.MeasureT-loop
 μ-loop table w m at from notes₀ count at₁ end₁ from₁ j₁ notes at' end' from' j = count - j
@@ -28,11 +30,22 @@ open-spec =
     μ-loop
     (λ c κs. tt)  -- unpack-requires
     (λ c. search needs)  -- cast-count
-    (λ c. (c .before .before .before .before .pre .6, open-none (c .before .before .before .before .args .table .now) (recordIn (c .before .before .before .before .args .table .now) (unpacked (c .before .before .before .before .args .w))) (its-fit (c .before .before .before .before .pre .1) (c .before .before .before .before .pre .2)) (c .before .before .before .before .args .m .now) (λ n. omega (arith, c .before .before .shared-slice-known2 .given n)) (c .before .before .before .before .args .at) (c .before .before .before .before .args .notes .now) (c .before .before .before .before .args .from) (omega (arith, its-count (c .before .before .before .before .pre .1) (c .before .before .before .before .pre .2), c .before .before .before .before .pre .3)) (rw (its-first (c .before .before .before .before .pre .1) (c .before .before .before .before .pre .2)) at (c .before .before .before .before .pre .4))))  -- loop-holds
-    (λ c. sym (length-take-le (c .before .before .loop .end) (c .before .before .before .before .before .before .before .args .m .now) (c .before .before .loop .inv .1 .high)))  -- slice-aggregate-around
+    (λ c.
+    let c4 = c .before .before .before .before in
+    let a = c4 .args in
+    let q = c4 .pre in
+    (q .6, open-none (a .table .now) (recordIn (a .table .now) (unpacked (a .w))) (its-fit (q .1) (q .2)) (a .m .now)
+    (λ n. omega (arith, c .before .before .shared-slice-known2 .given n)) (a .at) (a .notes .now) (a .from) (omega (arith, its-count
+    (q .1) (q .2), q .3)) (rw (its-first (q .1) (q .2)) at (q .4))))  -- loop-holds
+    (λ c.
+    let c2 = c .before .before in
+    let l = c2 .loop in
+    sym (length-take-le (l .end) (c2 .before .before .before .before .before .args .m .now) (l .inv .1 .high)))  -- slice-aggregate-around
     (λ c κs. tt)  -- read-requires
     (λ c. search needs)  -- enum-known-cause
-    (λ c. omega (arith, c .before .before .before .before .before .before .before .loop .inv .1 .some, c .before .before .before .before .before .before .before .loop .inv .1 .high))  -- sub-t25
+    (λ c.
+    let l = c .before .before .before .before .before .before .loop in
+    omega (arith, l .inv .1 .some, l .inv .1 .high))  -- sub-t24
     (λ c.
     let c3 = c .before .before .before in
     let c5 = c3 .before .before in
@@ -48,19 +61,192 @@ open-spec =
           (c3 .read .result) (c3 .read .ensures) (c .before .cause .given .0 .0) (c .before .cause .given .1) (c6 .loop .notes),
     ))  -- returns
     (λ c. search needs)  -- enum-known-x
-    (λ c κs. omega (arith, c .before .before .before .before .before .before .loop .inv .1 .high, c .before .before .before .before .before .before .before .before .before .before .before .pre .5))  -- note-requires
-    (λ c. omega (arith, its-few (c .before .before .before .before .before .before .before .before .before .before .before .before .pre .1) (c .before .before .before .before .before .before .before .before .before .before .before .before .pre .2), its-count (c .before .before .before .before .before .before .before .before .before .before .before .before .pre .1) (c .before .before .before .before .before .before .before .before .before .before .before .before .pre .2), c .before .before .before .before .before .before .loop-test .taken, ap (λ (e : Entry). e .explicit) (c .before .before .before .before .before .before .before .before .before .unpack .ensures)))  -- mul-notes
-    (λ c. omega (arith, its-few (c .before .before .before .before .before .before .before .before .before .before .before .before .pre .1) (c .before .before .before .before .before .before .before .before .before .before .before .before .pre .2), its-count (c .before .before .before .before .before .before .before .before .before .before .before .before .pre .1) (c .before .before .before .before .before .before .before .before .before .before .before .before .pre .2), c .before .before .before .before .before .before .loop-test .taken, ap (λ (e : Entry). e .explicit) (c .before .before .before .before .before .before .before .before .before .unpack .ensures)))  -- element-write-notes
-    (λ c. omega (arith, its-few (c .before .before .before .before .before .before .before .before .before .before .before .before .pre .1) (c .before .before .before .before .before .before .before .before .before .before .before .before .pre .2), its-count (c .before .before .before .before .before .before .before .before .before .before .before .before .pre .1) (c .before .before .before .before .before .before .before .before .before .before .before .before .pre .2), c .before .before .before .before .before .before .loop-test .taken, ap (λ (e : Entry). e .explicit) (c .before .before .before .before .before .before .before .before .before .unpack .ensures)))  -- add-j
-    (λ c. (extent (c .before .before .before .before .before .before .before .before .before .before .before .before .args .table .now) (recordIn (c .before .before .before .before .before .before .before .before .before .before .before .before .args .table .now) (unpacked (c .before .before .before .before .before .before .before .before .before .before .before .before .args .w))) (its-fit (c .before .before .before .before .before .before .before .before .before .before .before .before .pre .1) (c .before .before .before .before .before .before .before .before .before .before .before .before .pre .2)) (c .before .before .before .before .before .before .before .before .before .before .before .before .args .m .now) (λ n. omega (arith, c .before .before .before .before .before .before .before .before .before .before .shared-slice-known2 .given n)) (c .before .before .before .before .before .before .before .before .before .before .before .before .args .at) (c .before .before .before .before .before .before .before .loop .notes) (c .before .before .before .before .before .before .before .loop .at) (c .before .before .before .before .before .before .before .loop .from) (c .before .before .before .before .before .before .before .loop .end) (c .before .before .before .before .before .before .before .loop .j) (c .before .before .before .before .before .before .before .loop .inv .1) (omega (arith, c .before .before .before .before .before .before .loop-test .taken, ap (λ (e : Entry). e .explicit) (c .before .before .before .before .before .before .before .before .before .unpack .ensures), its-count (c .before .before .before .before .before .before .before .before .before .before .before .before .pre .1) (c .before .before .before .before .before .before .before .before .before .before .before .before .pre .2))) (c .before .before .before .before .read .result) (c .before .before .before .before .read .ensures) (c .before .before .x .given .0 .0) (c .before .before .x .given .1)) .1)  -- sub-inside
-    (λ c. omega (arith, (extent (c .before .before .before .before .before .before .before .before .before .before .before .before .args .table .now) (recordIn (c .before .before .before .before .before .before .before .before .before .before .before .before .args .table .now) (unpacked (c .before .before .before .before .before .before .before .before .before .before .before .before .args .w))) (its-fit (c .before .before .before .before .before .before .before .before .before .before .before .before .pre .1) (c .before .before .before .before .before .before .before .before .before .before .before .before .pre .2)) (c .before .before .before .before .before .before .before .before .before .before .before .before .args .m .now) (λ n. omega (arith, c .before .before .before .before .before .before .before .before .before .before .shared-slice-known2 .given n)) (c .before .before .before .before .before .before .before .before .before .before .before .before .args .at) (c .before .before .before .before .before .before .before .loop .notes) (c .before .before .before .before .before .before .before .loop .at) (c .before .before .before .before .before .before .before .loop .from) (c .before .before .before .before .before .before .before .loop .end) (c .before .before .before .before .before .before .before .loop .j) (c .before .before .before .before .before .before .before .loop .inv .1) (omega (arith, c .before .before .before .before .before .before .loop-test .taken, ap (λ (e : Entry). e .explicit) (c .before .before .before .before .before .before .before .before .before .unpack .ensures), its-count (c .before .before .before .before .before .before .before .before .before .before .before .before .pre .1) (c .before .before .before .before .before .before .before .before .before .before .before .before .pre .2))) (c .before .before .before .before .read .result) (c .before .before .before .before .read .ensures) (c .before .before .x .given .0 .0) (c .before .before .x .given .1)) .1, (extent (c .before .before .before .before .before .before .before .before .before .before .before .before .args .table .now) (recordIn (c .before .before .before .before .before .before .before .before .before .before .before .before .args .table .now) (unpacked (c .before .before .before .before .before .before .before .before .before .before .before .before .args .w))) (its-fit (c .before .before .before .before .before .before .before .before .before .before .before .before .pre .1) (c .before .before .before .before .before .before .before .before .before .before .before .before .pre .2)) (c .before .before .before .before .before .before .before .before .before .before .before .before .args .m .now) (λ n. omega (arith, c .before .before .before .before .before .before .before .before .before .before .shared-slice-known2 .given n)) (c .before .before .before .before .before .before .before .before .before .before .before .before .args .at) (c .before .before .before .before .before .before .before .loop .notes) (c .before .before .before .before .before .before .before .loop .at) (c .before .before .before .before .before .before .before .loop .from) (c .before .before .before .before .before .before .before .loop .end) (c .before .before .before .before .before .before .before .loop .j) (c .before .before .before .before .before .before .before .loop .inv .1) (omega (arith, c .before .before .before .before .before .before .loop-test .taken, ap (λ (e : Entry). e .explicit) (c .before .before .before .before .before .before .before .before .before .unpack .ensures), its-count (c .before .before .before .before .before .before .before .before .before .before .before .before .pre .1) (c .before .before .before .before .before .before .before .before .before .before .before .before .pre .2))) (c .before .before .before .before .read .result) (c .before .before .before .before .read .ensures) (c .before .before .x .given .0 .0) (c .before .before .x .given .1)) .2, c .before .before .before .before .before .before .before .loop .inv .1 .high))  -- part-inside-start
-    (λ c. omega (arith, (extent (c .before .before .before .before .before .before .before .before .before .before .before .before .args .table .now) (recordIn (c .before .before .before .before .before .before .before .before .before .before .before .before .args .table .now) (unpacked (c .before .before .before .before .before .before .before .before .before .before .before .before .args .w))) (its-fit (c .before .before .before .before .before .before .before .before .before .before .before .before .pre .1) (c .before .before .before .before .before .before .before .before .before .before .before .before .pre .2)) (c .before .before .before .before .before .before .before .before .before .before .before .before .args .m .now) (λ n. omega (arith, c .before .before .before .before .before .before .before .before .before .before .shared-slice-known2 .given n)) (c .before .before .before .before .before .before .before .before .before .before .before .before .args .at) (c .before .before .before .before .before .before .before .loop .notes) (c .before .before .before .before .before .before .before .loop .at) (c .before .before .before .before .before .before .before .loop .from) (c .before .before .before .before .before .before .before .loop .end) (c .before .before .before .before .before .before .before .loop .j) (c .before .before .before .before .before .before .before .loop .inv .1) (omega (arith, c .before .before .before .before .before .before .loop-test .taken, ap (λ (e : Entry). e .explicit) (c .before .before .before .before .before .before .before .before .before .unpack .ensures), its-count (c .before .before .before .before .before .before .before .before .before .before .before .before .pre .1) (c .before .before .before .before .before .before .before .before .before .before .before .before .pre .2))) (c .before .before .before .before .read .result) (c .before .before .before .before .read .ensures) (c .before .before .x .given .0 .0) (c .before .before .x .given .1)) .2, c .before .before .before .before .before .before .before .loop .inv .1 .high))  -- part-inside-end
-    (λ c κs. (c .before .before .before .before .before .before .before .before .before .before .before .before .before .pre .0, c .before .before .before .before .before .before .before .before .before .before .before .before .before .pre .1, c .before .before .before .before .before .before .before .before .before .before .before .before .before .pre .2))  -- enter-requires
-    (λ c. search needs)  -- enum-known-cause
-    (λ c. omega (arith, (extent (c .before .before .before .before .before .before .before .before .before .before .before .before .before .before .before .before .before .args .table .now) (recordIn (c .before .before .before .before .before .before .before .before .before .before .before .before .before .before .before .before .before .args .table .now) (unpacked (c .before .before .before .before .before .before .before .before .before .before .before .before .before .before .before .before .before .args .w))) (its-fit (c .before .before .before .before .before .before .before .before .before .before .before .before .before .before .before .before .before .pre .1) (c .before .before .before .before .before .before .before .before .before .before .before .before .before .before .before .before .before .pre .2)) (c .before .before .before .before .before .before .before .before .before .before .before .before .before .before .before .before .before .args .m .now) (λ n. omega (arith, c .before .before .before .before .before .before .before .before .before .before .before .before .before .before .before .shared-slice-known2 .given n)) (c .before .before .before .before .before .before .before .before .before .before .before .before .before .before .before .before .before .args .at) (c .before .before .before .before .before .before .before .before .before .before .before .before .loop .notes) (c .before .before .before .before .before .before .before .before .before .before .before .before .loop .at) (c .before .before .before .before .before .before .before .before .before .before .before .before .loop .from) (c .before .before .before .before .before .before .before .before .before .before .before .before .loop .end) (c .before .before .before .before .before .before .before .before .before .before .before .before .loop .j) (c .before .before .before .before .before .before .before .before .before .before .before .before .loop .inv .1) (omega (arith, c .before .before .before .before .before .before .before .before .before .before .before .loop-test .taken, ap (λ (e : Entry). e .explicit) (c .before .before .before .before .before .before .before .before .before .before .before .before .before .before .unpack .ensures), its-count (c .before .before .before .before .before .before .before .before .before .before .before .before .before .before .before .before .before .pre .1) (c .before .before .before .before .before .before .before .before .before .before .before .before .before .before .before .before .before .pre .2))) (c .before .before .before .before .before .before .before .before .before .read .result) (c .before .before .before .before .before .before .before .before .before .read .ensures) (c .before .before .before .before .before .before .before .x .given .0 .0) (c .before .before .before .before .before .before .before .x .given .1)) .1, (extent (c .before .before .before .before .before .before .before .before .before .before .before .before .before .before .before .before .before .args .table .now) (recordIn (c .before .before .before .before .before .before .before .before .before .before .before .before .before .before .before .before .before .args .table .now) (unpacked (c .before .before .before .before .before .before .before .before .before .before .before .before .before .before .before .before .before .args .w))) (its-fit (c .before .before .before .before .before .before .before .before .before .before .before .before .before .before .before .before .before .pre .1) (c .before .before .before .before .before .before .before .before .before .before .before .before .before .before .before .before .before .pre .2)) (c .before .before .before .before .before .before .before .before .before .before .before .before .before .before .before .before .before .args .m .now) (λ n. omega (arith, c .before .before .before .before .before .before .before .before .before .before .before .before .before .before .before .shared-slice-known2 .given n)) (c .before .before .before .before .before .before .before .before .before .before .before .before .before .before .before .before .before .args .at) (c .before .before .before .before .before .before .before .before .before .before .before .before .loop .notes) (c .before .before .before .before .before .before .before .before .before .before .before .before .loop .at) (c .before .before .before .before .before .before .before .before .before .before .before .before .loop .from) (c .before .before .before .before .before .before .before .before .before .before .before .before .loop .end) (c .before .before .before .before .before .before .before .before .before .before .before .before .loop .j) (c .before .before .before .before .before .before .before .before .before .before .before .before .loop .inv .1) (omega (arith, c .before .before .before .before .before .before .before .before .before .before .before .loop-test .taken, ap (λ (e : Entry). e .explicit) (c .before .before .before .before .before .before .before .before .before .before .before .before .before .before .unpack .ensures), its-count (c .before .before .before .before .before .before .before .before .before .before .before .before .before .before .before .before .before .pre .1) (c .before .before .before .before .before .before .before .before .before .before .before .before .before .before .before .before .before .pre .2))) (c .before .before .before .before .before .before .before .before .before .read .result) (c .before .before .before .before .before .before .before .before .before .read .ensures) (c .before .before .before .before .before .before .before .x .given .0 .0) (c .before .before .before .before .before .before .before .x .given .1)) .2, c .before .before .before .before .before .before .before .before .before .before .before .before .loop .inv .1 .high))  -- sub-t34
-    (λ c. (simp length-set (c .before .before .before .before .before .before .before .before .before .before .before .before .loop .inv .0), open-refused (c .before .before .before .before .before .before .before .before .before .before .before .before .before .before .before .before .before .args .table .now) (recordIn (c .before .before .before .before .before .before .before .before .before .before .before .before .before .before .before .before .before .args .table .now) (unpacked (c .before .before .before .before .before .before .before .before .before .before .before .before .before .before .before .before .before .args .w))) (its-fit (c .before .before .before .before .before .before .before .before .before .before .before .before .before .before .before .before .before .pre .1) (c .before .before .before .before .before .before .before .before .before .before .before .before .before .before .before .before .before .pre .2)) (c .before .before .before .before .before .before .before .before .before .before .before .before .before .before .before .before .before .args .m .now) (λ n. omega (arith, c .before .before .before .before .before .before .before .before .before .before .before .before .before .before .before .shared-slice-known2 .given n)) (c .before .before .before .before .before .before .before .before .before .before .before .before .before .before .before .before .before .args .at) (c .before .before .before .before .before .before .before .before .before .before .before .before .loop .notes) (c .before .before .before .before .before .before .before .before .before .before .before .before .loop .at) (c .before .before .before .before .before .before .before .before .before .before .before .before .loop .from) (c .before .before .before .before .before .before .before .before .before .before .before .before .loop .end) (c .before .before .before .before .before .before .before .before .before .before .before .before .loop .j) (c .before .before .before .before .before .before .before .before .before .before .before .before .loop .inv .1) (omega (arith, c .before .before .before .before .before .before .before .before .before .before .before .loop-test .taken, ap (λ (e : Entry). e .explicit) (c .before .before .before .before .before .before .before .before .before .before .before .before .before .before .unpack .ensures), its-count (c .before .before .before .before .before .before .before .before .before .before .before .before .before .before .before .before .before .pre .1) (c .before .before .before .before .before .before .before .before .before .before .before .before .before .before .before .before .before .pre .2))) (c .before .before .before .before .before .before .before .before .before .read .result) (c .before .before .before .before .before .before .before .before .before .read .ensures) (c .before .before .before .before .before .before .before .x .given .0 .0) (c .before .before .before .before .before .before .before .x .given .1) _ (slice-is _ _ (c .before .before .before .before .before .before .before .before .before .before .before .before .before .before .before .before .before .args .m .now) ((extent (c .before .before .before .before .before .before .before .before .before .before .before .before .before .before .before .before .before .args .table .now) (recordIn (c .before .before .before .before .before .before .before .before .before .before .before .before .before .before .before .before .before .args .table .now) (unpacked (c .before .before .before .before .before .before .before .before .before .before .before .before .before .before .before .before .before .args .w))) (its-fit (c .before .before .before .before .before .before .before .before .before .before .before .before .before .before .before .before .before .pre .1) (c .before .before .before .before .before .before .before .before .before .before .before .before .before .before .before .before .before .pre .2)) (c .before .before .before .before .before .before .before .before .before .before .before .before .before .before .before .before .before .args .m .now) (λ n. omega (arith, c .before .before .before .before .before .before .before .before .before .before .before .before .before .before .before .shared-slice-known2 .given n)) (c .before .before .before .before .before .before .before .before .before .before .before .before .before .before .before .before .before .args .at) (c .before .before .before .before .before .before .before .before .before .before .before .before .loop .notes) (c .before .before .before .before .before .before .before .before .before .before .before .before .loop .at) (c .before .before .before .before .before .before .before .before .before .before .before .before .loop .from) (c .before .before .before .before .before .before .before .before .before .before .before .before .loop .end) (c .before .before .before .before .before .before .before .before .before .before .before .before .loop .j) (c .before .before .before .before .before .before .before .before .before .before .before .before .loop .inv .1) (omega (arith, c .before .before .before .before .before .before .before .before .before .before .before .loop-test .taken, ap (λ (e : Entry). e .explicit) (c .before .before .before .before .before .before .before .before .before .before .before .before .before .before .unpack .ensures), its-count (c .before .before .before .before .before .before .before .before .before .before .before .before .before .before .before .before .before .pre .1) (c .before .before .before .before .before .before .before .before .before .before .before .before .before .before .before .before .before .pre .2))) (c .before .before .before .before .before .before .before .before .before .read .result) (c .before .before .before .before .before .before .before .before .before .read .ensures) (c .before .before .before .before .before .before .before .x .given .0 .0) (c .before .before .before .before .before .before .before .x .given .1)) .1) (omega (arith, (extent (c .before .before .before .before .before .before .before .before .before .before .before .before .before .before .before .before .before .args .table .now) (recordIn (c .before .before .before .before .before .before .before .before .before .before .before .before .before .before .before .before .before .args .table .now) (unpacked (c .before .before .before .before .before .before .before .before .before .before .before .before .before .before .before .before .before .args .w))) (its-fit (c .before .before .before .before .before .before .before .before .before .before .before .before .before .before .before .before .before .pre .1) (c .before .before .before .before .before .before .before .before .before .before .before .before .before .before .before .before .before .pre .2)) (c .before .before .before .before .before .before .before .before .before .before .before .before .before .before .before .before .before .args .m .now) (λ n. omega (arith, c .before .before .before .before .before .before .before .before .before .before .before .before .before .before .before .shared-slice-known2 .given n)) (c .before .before .before .before .before .before .before .before .before .before .before .before .before .before .before .before .before .args .at) (c .before .before .before .before .before .before .before .before .before .before .before .before .loop .notes) (c .before .before .before .before .before .before .before .before .before .before .before .before .loop .at) (c .before .before .before .before .before .before .before .before .before .before .before .before .loop .from) (c .before .before .before .before .before .before .before .before .before .before .before .before .loop .end) (c .before .before .before .before .before .before .before .before .before .before .before .before .loop .j) (c .before .before .before .before .before .before .before .before .before .before .before .before .loop .inv .1) (omega (arith, c .before .before .before .before .before .before .before .before .before .before .before .loop-test .taken, ap (λ (e : Entry). e .explicit) (c .before .before .before .before .before .before .before .before .before .before .before .before .before .before .unpack .ensures), its-count (c .before .before .before .before .before .before .before .before .before .before .before .before .before .before .before .before .before .pre .1) (c .before .before .before .before .before .before .before .before .before .before .before .before .before .before .before .before .before .pre .2))) (c .before .before .before .before .before .before .before .before .before .read .result) (c .before .before .before .before .before .before .before .before .before .read .ensures) (c .before .before .before .before .before .before .before .x .given .0 .0) (c .before .before .before .before .before .before .before .x .given .1)) .2, c .before .before .before .before .before .before .before .before .before .before .before .before .loop .inv .1 .high))) (c .before .before .before .enter .result) (c .before .before .before .enter .ensures) (c .before .cause .given .0 .0) (c .before .cause .given .1) (c .before .before .before .before .before .before .before .before .before .before .before .before .loop .notes)))  -- returns-2
+    (λ c κs.
+    let c6 = c .before .before .before .before .before .before in
+    omega (arith, c6 .loop .inv .1 .high, c6 .before .before .before .before .before .pre .5))  -- note-requires
+    (λ c.
+    let c6 = c .before .before .before .before .before .before in
+    let c9 = c6 .before .before .before in
+    let q = c9 .before .before .before .pre in
+    omega (arith, its-few (q .1) (q .2), its-count (q .1) (q .2), c6 .loop-test .taken, ap (λ (e : Entry). e .explicit)
+    (c9 .unpack .ensures)))  -- mul-notes
+    (λ c.
+    let c6 = c .before .before .before .before .before .before in
+    let c9 = c6 .before .before .before in
+    let q = c9 .before .before .before .pre in
+    omega (arith, its-few (q .1) (q .2), its-count (q .1) (q .2), c6 .loop-test .taken, ap (λ (e : Entry). e .explicit)
+    (c9 .unpack .ensures)))  -- element-write-notes
+    (λ c.
+    let c6 = c .before .before .before .before .before .before in
+    let c9 = c6 .before .before .before in
+    let q = c9 .before .before .before .pre in
+    omega (arith, its-few (q .1) (q .2), its-count (q .1) (q .2), c6 .loop-test .taken, ap (λ (e : Entry). e .explicit)
+    (c9 .unpack .ensures)))  -- add-j
+    (λ c.
+    let c2 = c .before .before in
+    let c4 = c2 .before .before in
+    let c6 = c4 .before .before in
+    let c7 = c6 .before in
+    let c9 = c7 .before .before in
+    let c10 = c9 .before in
+    let c12 = c10 .before .before in
+    let a = c12 .args in
+    let q = c12 .pre in
+    let l = c7 .loop in
+    (extent (a .table .now) (recordIn (a .table .now) (unpacked (a .w))) (its-fit (q .1) (q .2)) (a .m .now) (λ n. omega (arith,
+    c10 .shared-slice-known2 .given n)) (a .at) (l .notes) (l .at) (l .from) (l .end) (l .j) (l .inv .1) (omega (arith,
+    c6 .loop-test .taken, ap (λ (e : Entry). e .explicit) (c9 .unpack .ensures), its-count (q .1) (q .2))) (c4 .read .result)
+    (c4 .read .ensures) (c2 .x .given .0 .0) (c2 .x .given .1)) .1)  -- sub-inside
+    (λ c.
+    let c2 = c .before .before in
+    let c4 = c2 .before .before in
+    let c6 = c4 .before .before in
+    let c7 = c6 .before in
+    let c9 = c7 .before .before in
+    let c10 = c9 .before in
+    let c12 = c10 .before .before in
+    let a = c12 .args in
+    let q = c12 .pre in
+    let l = c7 .loop in
+    omega (arith, (extent (a .table .now) (recordIn (a .table .now) (unpacked (a .w))) (its-fit (q .1) (q .2)) (a .m .now)
+    (λ n. omega (arith, c10 .shared-slice-known2 .given n)) (a .at) (l .notes) (l .at) (l .from) (l .end) (l .j) (l .inv .1)
+    (omega (arith, c6 .loop-test .taken, ap (λ (e : Entry). e .explicit) (c9 .unpack .ensures), its-count (q .1) (q .2)))
+    (c4 .read .result) (c4 .read .ensures) (c2 .x .given .0 .0) (c2 .x .given .1)) .1, (extent (a .table .now) (recordIn
+    (a .table .now) (unpacked (a .w))) (its-fit (q .1) (q .2)) (a .m .now) (λ n. omega (arith, c10 .shared-slice-known2 .given n))
+    (a .at) (l .notes) (l .at) (l .from) (l .end) (l .j) (l .inv .1) (omega (arith, c6 .loop-test .taken,
+    ap (λ (e : Entry). e .explicit) (c9 .unpack .ensures), its-count (q .1) (q .2))) (c4 .read .result) (c4 .read .ensures)
+    (c2 .x .given .0 .0) (c2 .x .given .1)) .2, l .inv .1 .high))  -- part-inside-start
+    (λ c.
+    let c2 = c .before .before in
+    let c4 = c2 .before .before in
+    let c6 = c4 .before .before in
+    let c7 = c6 .before in
+    let c9 = c7 .before .before in
+    let c10 = c9 .before in
+    let c12 = c10 .before .before in
+    let a = c12 .args in
+    let q = c12 .pre in
+    let l = c7 .loop in
+    omega (arith, (extent (a .table .now) (recordIn (a .table .now) (unpacked (a .w))) (its-fit (q .1) (q .2)) (a .m .now)
+    (λ n. omega (arith, c10 .shared-slice-known2 .given n)) (a .at) (l .notes) (l .at) (l .from) (l .end) (l .j) (l .inv .1)
+    (omega (arith, c6 .loop-test .taken, ap (λ (e : Entry). e .explicit) (c9 .unpack .ensures), its-count (q .1) (q .2)))
+    (c4 .read .result) (c4 .read .ensures) (c2 .x .given .0 .0) (c2 .x .given .1)) .2, l .inv .1 .high))  -- part-inside-end
+    (λ c κs.
+    let q = c .before .before .before .before .before .before .before .before .before .before .before .before .before .pre in
+    (q .0, q .1, q .2))  -- enter-requires
+    (λ c. search needs)  -- enum-known-cause-2
+    (λ c.
+    let c7 = c .before .before .before .before .before .before .before in
+    let c9 = c7 .before .before in
+    let c11 = c9 .before .before in
+    let c12 = c11 .before in
+    let c14 = c12 .before .before in
+    let c15 = c14 .before in
+    let c17 = c15 .before .before in
+    let a = c17 .args in
+    let q = c17 .pre in
+    let l = c12 .loop in
+    omega (arith, (extent (a .table .now) (recordIn (a .table .now) (unpacked (a .w))) (its-fit (q .1) (q .2)) (a .m .now)
+    (λ n. omega (arith, c15 .shared-slice-known2 .given n)) (a .at) (l .notes) (l .at) (l .from) (l .end) (l .j) (l .inv .1)
+    (omega (arith, c11 .loop-test .taken, ap (λ (e : Entry). e .explicit) (c14 .unpack .ensures), its-count (q .1) (q .2)))
+    (c9 .read .result) (c9 .read .ensures) (c7 .x .given .0 .0) (c7 .x .given .1)) .1, (extent (a .table .now) (recordIn
+    (a .table .now) (unpacked (a .w))) (its-fit (q .1) (q .2)) (a .m .now) (λ n. omega (arith, c15 .shared-slice-known2 .given n))
+    (a .at) (l .notes) (l .at) (l .from) (l .end) (l .j) (l .inv .1) (omega (arith, c11 .loop-test .taken,
+    ap (λ (e : Entry). e .explicit) (c14 .unpack .ensures), its-count (q .1) (q .2))) (c9 .read .result) (c9 .read .ensures)
+    (c7 .x .given .0 .0) (c7 .x .given .1)) .2, l .inv .1 .high))  -- sub-t33
+    (λ c.
+    let c3 = c .before .before .before in
+    let c7 = c3 .before .before .before .before in
+    let c9 = c7 .before .before in
+    let c11 = c9 .before .before in
+    let c12 = c11 .before in
+    let c14 = c12 .before .before in
+    let c15 = c14 .before in
+    let c17 = c15 .before .before in
+    let a = c17 .args in
+    let q = c17 .pre in
+    let l = c12 .loop in
+    (simp length-set (l .inv .0), open-refused (a .table .now) (recordIn (a .table .now) (unpacked (a .w))) (its-fit (q .1) (q .2))
+    (a .m .now) (λ n. omega (arith, c15 .shared-slice-known2 .given n)) (a .at) (l .notes) (l .at) (l .from) (l .end) (l .j)
+    (l .inv .1) (omega (arith, c11 .loop-test .taken, ap (λ (e : Entry). e .explicit) (c14 .unpack .ensures), its-count (q .1) (q .2)))
+    (c9 .read .result) (c9 .read .ensures) (c7 .x .given .0 .0) (c7 .x .given .1) _ (slice-is _ _ (a .m .now) ((extent (a .table .now)
+    (recordIn (a .table .now) (unpacked (a .w))) (its-fit (q .1) (q .2)) (a .m .now) (λ n. omega (arith,
+    c15 .shared-slice-known2 .given n)) (a .at) (l .notes) (l .at) (l .from) (l .end) (l .j) (l .inv .1) (omega (arith,
+    c11 .loop-test .taken, ap (λ (e : Entry). e .explicit) (c14 .unpack .ensures), its-count (q .1) (q .2))) (c9 .read .result)
+    (c9 .read .ensures) (c7 .x .given .0 .0) (c7 .x .given .1)) .1) (omega (arith, (extent (a .table .now) (recordIn (a .table .now)
+    (unpacked (a .w))) (its-fit (q .1) (q .2)) (a .m .now) (λ n. omega (arith, c15 .shared-slice-known2 .given n)) (a .at) (l .notes)
+    (l .at) (l .from) (l .end) (l .j) (l .inv .1) (omega (arith, c11 .loop-test .taken, ap (λ (e : Entry). e .explicit)
+    (c14 .unpack .ensures), its-count (q .1) (q .2))) (c9 .read .result) (c9 .read .ensures) (c7 .x .given .0 .0)
+    (c7 .x .given .1)) .2, l .inv .1 .high))) (c3 .enter .result) (c3 .enter .ensures) (c .before .cause2 .given .0 .0)
+    (c .before .cause2 .given .1) (l .notes)))  -- returns-2
     (λ c. search needs)  -- enum-known-next
-    (λ c. omega (arith, open-next (c .before .before .before .before .before .before .before .before .before .before .before .before .before .before .before .before .before .args .table .now) (recordIn (c .before .before .before .before .before .before .before .before .before .before .before .before .before .before .before .before .before .args .table .now) (unpacked (c .before .before .before .before .before .before .before .before .before .before .before .before .before .before .before .before .before .args .w))) (its-fit (c .before .before .before .before .before .before .before .before .before .before .before .before .before .before .before .before .before .pre .1) (c .before .before .before .before .before .before .before .before .before .before .before .before .before .before .before .before .before .pre .2)) (c .before .before .before .before .before .before .before .before .before .before .before .before .before .before .before .before .before .args .m .now) (λ n. omega (arith, c .before .before .before .before .before .before .before .before .before .before .before .before .before .before .before .shared-slice-known2 .given n)) (c .before .before .before .before .before .before .before .before .before .before .before .before .before .before .before .before .before .args .at) (c .before .before .before .before .before .before .before .before .before .before .before .before .loop .notes) (c .before .before .before .before .before .before .before .before .before .before .before .before .loop .at) (c .before .before .before .before .before .before .before .before .before .before .before .before .loop .from) (c .before .before .before .before .before .before .before .before .before .before .before .before .loop .end) (c .before .before .before .before .before .before .before .before .before .before .before .before .loop .j) (c .before .before .before .before .before .before .before .before .before .before .before .before .loop .inv .1) (omega (arith, c .before .before .before .before .before .before .before .before .before .before .before .loop-test .taken, ap (λ (e : Entry). e .explicit) (c .before .before .before .before .before .before .before .before .before .before .before .before .before .before .unpack .ensures), its-count (c .before .before .before .before .before .before .before .before .before .before .before .before .before .before .before .before .before .pre .1) (c .before .before .before .before .before .before .before .before .before .before .before .before .before .before .before .before .before .pre .2))) (c .before .before .before .before .before .before .before .before .before .read .result) (c .before .before .before .before .before .before .before .before .before .read .ensures) (c .before .before .before .before .before .before .before .x .given .0 .0) (c .before .before .before .before .before .before .before .x .given .1) _ (slice-is _ _ (c .before .before .before .before .before .before .before .before .before .before .before .before .before .before .before .before .before .args .m .now) ((extent (c .before .before .before .before .before .before .before .before .before .before .before .before .before .before .before .before .before .args .table .now) (recordIn (c .before .before .before .before .before .before .before .before .before .before .before .before .before .before .before .before .before .args .table .now) (unpacked (c .before .before .before .before .before .before .before .before .before .before .before .before .before .before .before .before .before .args .w))) (its-fit (c .before .before .before .before .before .before .before .before .before .before .before .before .before .before .before .before .before .pre .1) (c .before .before .before .before .before .before .before .before .before .before .before .before .before .before .before .before .before .pre .2)) (c .before .before .before .before .before .before .before .before .before .before .before .before .before .before .before .before .before .args .m .now) (λ n. omega (arith, c .before .before .before .before .before .before .before .before .before .before .before .before .before .before .before .shared-slice-known2 .given n)) (c .before .before .before .before .before .before .before .before .before .before .before .before .before .before .before .before .before .args .at) (c .before .before .before .before .before .before .before .before .before .before .before .before .loop .notes) (c .before .before .before .before .before .before .before .before .before .before .before .before .loop .at) (c .before .before .before .before .before .before .before .before .before .before .before .before .loop .from) (c .before .before .before .before .before .before .before .before .before .before .before .before .loop .end) (c .before .before .before .before .before .before .before .before .before .before .before .before .loop .j) (c .before .before .before .before .before .before .before .before .before .before .before .before .loop .inv .1) (omega (arith, c .before .before .before .before .before .before .before .before .before .before .before .loop-test .taken, ap (λ (e : Entry). e .explicit) (c .before .before .before .before .before .before .before .before .before .before .before .before .before .before .unpack .ensures), its-count (c .before .before .before .before .before .before .before .before .before .before .before .before .before .before .before .before .before .pre .1) (c .before .before .before .before .before .before .before .before .before .before .before .before .before .before .before .before .before .pre .2))) (c .before .before .before .before .before .before .before .before .before .read .result) (c .before .before .before .before .before .before .before .before .before .read .ensures) (c .before .before .before .before .before .before .before .x .given .0 .0) (c .before .before .before .before .before .before .before .x .given .1)) .1) (omega (arith, (extent (c .before .before .before .before .before .before .before .before .before .before .before .before .before .before .before .before .before .args .table .now) (recordIn (c .before .before .before .before .before .before .before .before .before .before .before .before .before .before .before .before .before .args .table .now) (unpacked (c .before .before .before .before .before .before .before .before .before .before .before .before .before .before .before .before .before .args .w))) (its-fit (c .before .before .before .before .before .before .before .before .before .before .before .before .before .before .before .before .before .pre .1) (c .before .before .before .before .before .before .before .before .before .before .before .before .before .before .before .before .before .pre .2)) (c .before .before .before .before .before .before .before .before .before .before .before .before .before .before .before .before .before .args .m .now) (λ n. omega (arith, c .before .before .before .before .before .before .before .before .before .before .before .before .before .before .before .shared-slice-known2 .given n)) (c .before .before .before .before .before .before .before .before .before .before .before .before .before .before .before .before .before .args .at) (c .before .before .before .before .before .before .before .before .before .before .before .before .loop .notes) (c .before .before .before .before .before .before .before .before .before .before .before .before .loop .at) (c .before .before .before .before .before .before .before .before .before .before .before .before .loop .from) (c .before .before .before .before .before .before .before .before .before .before .before .before .loop .end) (c .before .before .before .before .before .before .before .before .before .before .before .before .loop .j) (c .before .before .before .before .before .before .before .before .before .before .before .before .loop .inv .1) (omega (arith, c .before .before .before .before .before .before .before .before .before .before .before .loop-test .taken, ap (λ (e : Entry). e .explicit) (c .before .before .before .before .before .before .before .before .before .before .before .before .before .before .unpack .ensures), its-count (c .before .before .before .before .before .before .before .before .before .before .before .before .before .before .before .before .before .pre .1) (c .before .before .before .before .before .before .before .before .before .before .before .before .before .before .before .before .before .pre .2))) (c .before .before .before .before .before .before .before .before .before .read .result) (c .before .before .before .before .before .before .before .before .before .read .ensures) (c .before .before .before .before .before .before .before .x .given .0 .0) (c .before .before .before .before .before .before .before .x .given .1)) .2, c .before .before .before .before .before .before .before .before .before .before .before .before .loop .inv .1 .high))) (c .before .before .before .enter .result) (c .before .before .before .enter .ensures) (c .before .next .given .0 .0) (c .before .next .given .1), (extent (c .before .before .before .before .before .before .before .before .before .before .before .before .before .before .before .before .before .args .table .now) (recordIn (c .before .before .before .before .before .before .before .before .before .before .before .before .before .before .before .before .before .args .table .now) (unpacked (c .before .before .before .before .before .before .before .before .before .before .before .before .before .before .before .before .before .args .w))) (its-fit (c .before .before .before .before .before .before .before .before .before .before .before .before .before .before .before .before .before .pre .1) (c .before .before .before .before .before .before .before .before .before .before .before .before .before .before .before .before .before .pre .2)) (c .before .before .before .before .before .before .before .before .before .before .before .before .before .before .before .before .before .args .m .now) (λ n. omega (arith, c .before .before .before .before .before .before .before .before .before .before .before .before .before .before .before .shared-slice-known2 .given n)) (c .before .before .before .before .before .before .before .before .before .before .before .before .before .before .before .before .before .args .at) (c .before .before .before .before .before .before .before .before .before .before .before .before .loop .notes) (c .before .before .before .before .before .before .before .before .before .before .before .before .loop .at) (c .before .before .before .before .before .before .before .before .before .before .before .before .loop .from) (c .before .before .before .before .before .before .before .before .before .before .before .before .loop .end) (c .before .before .before .before .before .before .before .before .before .before .before .before .loop .j) (c .before .before .before .before .before .before .before .before .before .before .before .before .loop .inv .1) (omega (arith, c .before .before .before .before .before .before .before .before .before .before .before .loop-test .taken, ap (λ (e : Entry). e .explicit) (c .before .before .before .before .before .before .before .before .before .before .before .before .before .before .unpack .ensures), its-count (c .before .before .before .before .before .before .before .before .before .before .before .before .before .before .before .before .before .pre .1) (c .before .before .before .before .before .before .before .before .before .before .before .before .before .before .before .before .before .pre .2))) (c .before .before .before .before .before .before .before .before .before .read .result) (c .before .before .before .before .before .before .before .before .before .read .ensures) (c .before .before .before .before .before .before .before .x .given .0 .0) (c .before .before .before .before .before .before .before .x .given .1)) .1, (extent (c .before .before .before .before .before .before .before .before .before .before .before .before .before .before .before .before .before .args .table .now) (recordIn (c .before .before .before .before .before .before .before .before .before .before .before .before .before .before .before .before .before .args .table .now) (unpacked (c .before .before .before .before .before .before .before .before .before .before .before .before .before .before .before .before .before .args .w))) (its-fit (c .before .before .before .before .before .before .before .before .before .before .before .before .before .before .before .before .before .pre .1) (c .before .before .before .before .before .before .before .before .before .before .before .before .before .before .before .before .before .pre .2)) (c .before .before .before .before .before .before .before .before .before .before .before .before .before .before .before .before .before .args .m .now) (λ n. omega (arith, c .before .before .before .before .before .before .before .before .before .before .before .before .before .before .before .shared-slice-known2 .given n)) (c .before .before .before .before .before .before .before .before .before .before .before .before .before .before .before .before .before .args .at) (c .before .before .before .before .before .before .before .before .before .before .before .before .loop .notes) (c .before .before .before .before .before .before .before .before .before .before .before .before .loop .at) (c .before .before .before .before .before .before .before .before .before .before .before .before .loop .from) (c .before .before .before .before .before .before .before .before .before .before .before .before .loop .end) (c .before .before .before .before .before .before .before .before .before .before .before .before .loop .j) (c .before .before .before .before .before .before .before .before .before .before .before .before .loop .inv .1) (omega (arith, c .before .before .before .before .before .before .before .before .before .before .before .loop-test .taken, ap (λ (e : Entry). e .explicit) (c .before .before .before .before .before .before .before .before .before .before .before .before .before .before .unpack .ensures), its-count (c .before .before .before .before .before .before .before .before .before .before .before .before .before .before .before .before .before .pre .1) (c .before .before .before .before .before .before .before .before .before .before .before .before .before .before .before .before .before .pre .2))) (c .before .before .before .before .before .before .before .before .before .read .result) (c .before .before .before .before .before .before .before .before .before .read .ensures) (c .before .before .before .before .before .before .before .x .given .0 .0) (c .before .before .before .before .before .before .before .x .given .1)) .2, c .before .before .before .before .before .before .before .before .before .before .before .before .loop .inv .1 .high, c .before .before .before .before .before .before .before .before .before .before .before .before .before .before .before .before .before .pre .5))  -- add-from
+    (λ c.
+    let c3 = c .before .before .before in
+    let c7 = c3 .before .before .before .before in
+    let c9 = c7 .before .before in
+    let c11 = c9 .before .before in
+    let c12 = c11 .before in
+    let c14 = c12 .before .before in
+    let c15 = c14 .before in
+    let c17 = c15 .before .before in
+    let a = c17 .args in
+    let q = c17 .pre in
+    let l = c12 .loop in
+    omega (arith, open-next (a .table .now) (recordIn (a .table .now) (unpacked (a .w))) (its-fit (q .1) (q .2)) (a .m .now)
+    (λ n. omega (arith, c15 .shared-slice-known2 .given n)) (a .at) (l .notes) (l .at) (l .from) (l .end) (l .j) (l .inv .1)
+    (omega (arith, c11 .loop-test .taken, ap (λ (e : Entry). e .explicit) (c14 .unpack .ensures), its-count (q .1) (q .2)))
+    (c9 .read .result) (c9 .read .ensures) (c7 .x .given .0 .0) (c7 .x .given .1) _ (slice-is _ _ (a .m .now) ((extent (a .table .now)
+    (recordIn (a .table .now) (unpacked (a .w))) (its-fit (q .1) (q .2)) (a .m .now) (λ n. omega (arith,
+    c15 .shared-slice-known2 .given n)) (a .at) (l .notes) (l .at) (l .from) (l .end) (l .j) (l .inv .1) (omega (arith,
+    c11 .loop-test .taken, ap (λ (e : Entry). e .explicit) (c14 .unpack .ensures), its-count (q .1) (q .2))) (c9 .read .result)
+    (c9 .read .ensures) (c7 .x .given .0 .0) (c7 .x .given .1)) .1) (omega (arith, (extent (a .table .now) (recordIn (a .table .now)
+    (unpacked (a .w))) (its-fit (q .1) (q .2)) (a .m .now) (λ n. omega (arith, c15 .shared-slice-known2 .given n)) (a .at) (l .notes)
+    (l .at) (l .from) (l .end) (l .j) (l .inv .1) (omega (arith, c11 .loop-test .taken, ap (λ (e : Entry). e .explicit)
+    (c14 .unpack .ensures), its-count (q .1) (q .2))) (c9 .read .result) (c9 .read .ensures) (c7 .x .given .0 .0)
+    (c7 .x .given .1)) .2, l .inv .1 .high))) (c3 .enter .result) (c3 .enter .ensures) (c .before .next .given .0 .0)
+    (c .before .next .given .1), (extent (a .table .now) (recordIn (a .table .now) (unpacked (a .w))) (its-fit (q .1) (q .2))
+    (a .m .now) (λ n. omega (arith, c15 .shared-slice-known2 .given n)) (a .at) (l .notes) (l .at) (l .from) (l .end) (l .j)
+    (l .inv .1) (omega (arith, c11 .loop-test .taken, ap (λ (e : Entry). e .explicit) (c14 .unpack .ensures), its-count (q .1) (q .2)))
+    (c9 .read .result) (c9 .read .ensures) (c7 .x .given .0 .0) (c7 .x .given .1)) .1, (extent (a .table .now) (recordIn
+    (a .table .now) (unpacked (a .w))) (its-fit (q .1) (q .2)) (a .m .now) (λ n. omega (arith, c15 .shared-slice-known2 .given n))
+    (a .at) (l .notes) (l .at) (l .from) (l .end) (l .j) (l .inv .1) (omega (arith, c11 .loop-test .taken,
+    ap (λ (e : Entry). e .explicit) (c14 .unpack .ensures), its-count (q .1) (q .2))) (c9 .read .result) (c9 .read .ensures)
+    (c7 .x .given .0 .0) (c7 .x .given .1)) .2, l .inv .1 .high, q .5))  -- add-from
     (λ c. omega (arith, c .before .before .before .before .before .before .before .before .before .before .before .loop-test .taken))  -- loop-less
-    (λ c. (simp length-set (c .before .before .before .before .before .before .before .before .before .before .before .before .loop .inv .0), open-turn (c .before .before .before .before .before .before .before .before .before .before .before .before .before .before .before .before .before .args .table .now) (recordIn (c .before .before .before .before .before .before .before .before .before .before .before .before .before .before .before .before .before .args .table .now) (unpacked (c .before .before .before .before .before .before .before .before .before .before .before .before .before .before .before .before .before .args .w))) (its-fit (c .before .before .before .before .before .before .before .before .before .before .before .before .before .before .before .before .before .pre .1) (c .before .before .before .before .before .before .before .before .before .before .before .before .before .before .before .before .before .pre .2)) (c .before .before .before .before .before .before .before .before .before .before .before .before .before .before .before .before .before .args .m .now) (λ n. omega (arith, c .before .before .before .before .before .before .before .before .before .before .before .before .before .before .before .shared-slice-known2 .given n)) (c .before .before .before .before .before .before .before .before .before .before .before .before .before .before .before .before .before .args .at) (c .before .before .before .before .before .before .before .before .before .before .before .before .loop .notes) (c .before .before .before .before .before .before .before .before .before .before .before .before .loop .at) (c .before .before .before .before .before .before .before .before .before .before .before .before .loop .from) (c .before .before .before .before .before .before .before .before .before .before .before .before .loop .end) (c .before .before .before .before .before .before .before .before .before .before .before .before .loop .j) (c .before .before .before .before .before .before .before .before .before .before .before .before .loop .inv .1) (omega (arith, c .before .before .before .before .before .before .before .before .before .before .before .loop-test .taken, ap (λ (e : Entry). e .explicit) (c .before .before .before .before .before .before .before .before .before .before .before .before .before .before .unpack .ensures), its-count (c .before .before .before .before .before .before .before .before .before .before .before .before .before .before .before .before .before .pre .1) (c .before .before .before .before .before .before .before .before .before .before .before .before .before .before .before .before .before .pre .2))) (c .before .before .before .before .before .before .before .before .before .read .result) (c .before .before .before .before .before .before .before .before .before .read .ensures) (c .before .before .before .before .before .before .before .x .given .0 .0) (c .before .before .before .before .before .before .before .x .given .1) _ (slice-is _ _ (c .before .before .before .before .before .before .before .before .before .before .before .before .before .before .before .before .before .args .m .now) ((extent (c .before .before .before .before .before .before .before .before .before .before .before .before .before .before .before .before .before .args .table .now) (recordIn (c .before .before .before .before .before .before .before .before .before .before .before .before .before .before .before .before .before .args .table .now) (unpacked (c .before .before .before .before .before .before .before .before .before .before .before .before .before .before .before .before .before .args .w))) (its-fit (c .before .before .before .before .before .before .before .before .before .before .before .before .before .before .before .before .before .pre .1) (c .before .before .before .before .before .before .before .before .before .before .before .before .before .before .before .before .before .pre .2)) (c .before .before .before .before .before .before .before .before .before .before .before .before .before .before .before .before .before .args .m .now) (λ n. omega (arith, c .before .before .before .before .before .before .before .before .before .before .before .before .before .before .before .shared-slice-known2 .given n)) (c .before .before .before .before .before .before .before .before .before .before .before .before .before .before .before .before .before .args .at) (c .before .before .before .before .before .before .before .before .before .before .before .before .loop .notes) (c .before .before .before .before .before .before .before .before .before .before .before .before .loop .at) (c .before .before .before .before .before .before .before .before .before .before .before .before .loop .from) (c .before .before .before .before .before .before .before .before .before .before .before .before .loop .end) (c .before .before .before .before .before .before .before .before .before .before .before .before .loop .j) (c .before .before .before .before .before .before .before .before .before .before .before .before .loop .inv .1) (omega (arith, c .before .before .before .before .before .before .before .before .before .before .before .loop-test .taken, ap (λ (e : Entry). e .explicit) (c .before .before .before .before .before .before .before .before .before .before .before .before .before .before .unpack .ensures), its-count (c .before .before .before .before .before .before .before .before .before .before .before .before .before .before .before .before .before .pre .1) (c .before .before .before .before .before .before .before .before .before .before .before .before .before .before .before .before .before .pre .2))) (c .before .before .before .before .before .before .before .before .before .read .result) (c .before .before .before .before .before .before .before .before .before .read .ensures) (c .before .before .before .before .before .before .before .x .given .0 .0) (c .before .before .before .before .before .before .before .x .given .1)) .1) (omega (arith, (extent (c .before .before .before .before .before .before .before .before .before .before .before .before .before .before .before .before .before .args .table .now) (recordIn (c .before .before .before .before .before .before .before .before .before .before .before .before .before .before .before .before .before .args .table .now) (unpacked (c .before .before .before .before .before .before .before .before .before .before .before .before .before .before .before .before .before .args .w))) (its-fit (c .before .before .before .before .before .before .before .before .before .before .before .before .before .before .before .before .before .pre .1) (c .before .before .before .before .before .before .before .before .before .before .before .before .before .before .before .before .before .pre .2)) (c .before .before .before .before .before .before .before .before .before .before .before .before .before .before .before .before .before .args .m .now) (λ n. omega (arith, c .before .before .before .before .before .before .before .before .before .before .before .before .before .before .before .shared-slice-known2 .given n)) (c .before .before .before .before .before .before .before .before .before .before .before .before .before .before .before .before .before .args .at) (c .before .before .before .before .before .before .before .before .before .before .before .before .loop .notes) (c .before .before .before .before .before .before .before .before .before .before .before .before .loop .at) (c .before .before .before .before .before .before .before .before .before .before .before .before .loop .from) (c .before .before .before .before .before .before .before .before .before .before .before .before .loop .end) (c .before .before .before .before .before .before .before .before .before .before .before .before .loop .j) (c .before .before .before .before .before .before .before .before .before .before .before .before .loop .inv .1) (omega (arith, c .before .before .before .before .before .before .before .before .before .before .before .loop-test .taken, ap (λ (e : Entry). e .explicit) (c .before .before .before .before .before .before .before .before .before .before .before .before .before .before .unpack .ensures), its-count (c .before .before .before .before .before .before .before .before .before .before .before .before .before .before .before .before .before .pre .1) (c .before .before .before .before .before .before .before .before .before .before .before .before .before .before .before .before .before .pre .2))) (c .before .before .before .before .before .before .before .before .before .read .result) (c .before .before .before .before .before .before .before .before .before .read .ensures) (c .before .before .before .before .before .before .before .x .given .0 .0) (c .before .before .before .before .before .before .before .x .given .1)) .2, c .before .before .before .before .before .before .before .before .before .before .before .before .loop .inv .1 .high))) (c .before .before .before .enter .result) (c .before .before .before .enter .ensures) (c .before .next .given .0 .0) (c .before .next .given .1) (c .before .before .before .before .before .note .result) (c .before .before .before .before .before .note .ensures) (omega (arith, its-few (c .before .before .before .before .before .before .before .before .before .before .before .before .before .before .before .before .before .pre .1) (c .before .before .before .before .before .before .before .before .before .before .before .before .before .before .before .before .before .pre .2), its-count (c .before .before .before .before .before .before .before .before .before .before .before .before .before .before .before .before .before .pre .1) (c .before .before .before .before .before .before .before .before .before .before .before .before .before .before .before .before .before .pre .2), c .before .before .before .before .before .before .before .before .before .before .before .loop-test .taken, ap (λ (e : Entry). e .explicit) (c .before .before .before .before .before .before .before .before .before .before .before .before .before .before .unpack .ensures), c .before .before .before .before .before .before .before .before .before .before .before .before .loop .inv .0))))  -- loop-again
-    (λ c. (c .before .loop .inv .0, open-done (c .before .before .before .before .before .before .args .table .now) (recordIn (c .before .before .before .before .before .before .args .table .now) (unpacked (c .before .before .before .before .before .before .args .w))) (its-fit (c .before .before .before .before .before .before .pre .1) (c .before .before .before .before .before .before .pre .2)) (c .before .before .before .before .before .before .args .m .now) (λ n. omega (arith, c .before .before .before .before .shared-slice-known2 .given n)) (c .before .before .before .before .before .before .args .at) (c .before .loop .notes) (c .before .loop .at) (c .before .loop .from) (c .before .loop .end) (c .before .loop .j) (c .before .loop .inv .1) _ (its-count (c .before .before .before .before .before .before .pre .1) (c .before .before .before .before .before .before .pre .2)) (omega (arith, its-count (c .before .before .before .before .before .before .pre .1) (c .before .before .before .before .before .before .pre .2), c .before .before .before .before .before .before .pre .3)) (rw (c .before .before .before .unpack .ensures) at (c .loop-test .left)))))  -- returns-3
+    (λ c.
+    let c3 = c .before .before .before in
+    let c5 = c3 .before .before in
+    let c7 = c5 .before .before in
+    let c9 = c7 .before .before in
+    let c11 = c9 .before .before in
+    let c12 = c11 .before in
+    let c14 = c12 .before .before in
+    let c15 = c14 .before in
+    let c17 = c15 .before .before in
+    let a = c17 .args in
+    let q = c17 .pre in
+    let l = c12 .loop in
+    (simp length-set (l .inv .0), open-turn (a .table .now) (recordIn (a .table .now) (unpacked (a .w))) (its-fit (q .1) (q .2))
+    (a .m .now) (λ n. omega (arith, c15 .shared-slice-known2 .given n)) (a .at) (l .notes) (l .at) (l .from) (l .end) (l .j)
+    (l .inv .1) (omega (arith, c11 .loop-test .taken, ap (λ (e : Entry). e .explicit) (c14 .unpack .ensures), its-count (q .1) (q .2)))
+    (c9 .read .result) (c9 .read .ensures) (c7 .x .given .0 .0) (c7 .x .given .1) _ (slice-is _ _ (a .m .now) ((extent (a .table .now)
+    (recordIn (a .table .now) (unpacked (a .w))) (its-fit (q .1) (q .2)) (a .m .now) (λ n. omega (arith,
+    c15 .shared-slice-known2 .given n)) (a .at) (l .notes) (l .at) (l .from) (l .end) (l .j) (l .inv .1) (omega (arith,
+    c11 .loop-test .taken, ap (λ (e : Entry). e .explicit) (c14 .unpack .ensures), its-count (q .1) (q .2))) (c9 .read .result)
+    (c9 .read .ensures) (c7 .x .given .0 .0) (c7 .x .given .1)) .1) (omega (arith, (extent (a .table .now) (recordIn (a .table .now)
+    (unpacked (a .w))) (its-fit (q .1) (q .2)) (a .m .now) (λ n. omega (arith, c15 .shared-slice-known2 .given n)) (a .at) (l .notes)
+    (l .at) (l .from) (l .end) (l .j) (l .inv .1) (omega (arith, c11 .loop-test .taken, ap (λ (e : Entry). e .explicit)
+    (c14 .unpack .ensures), its-count (q .1) (q .2))) (c9 .read .result) (c9 .read .ensures) (c7 .x .given .0 .0)
+    (c7 .x .given .1)) .2, l .inv .1 .high))) (c3 .enter .result) (c3 .enter .ensures) (c .before .next .given .0 .0)
+    (c .before .next .given .1) (c5 .note .result) (c5 .note .ensures) (omega (arith, its-few (q .1) (q .2), its-count (q .1) (q .2),
+    c11 .loop-test .taken, ap (λ (e : Entry). e .explicit) (c14 .unpack .ensures), l .inv .0))))  -- loop-again
+    (λ c.
+    let c3 = c .before .before .before in
+    let c4 = c3 .before in
+    let c6 = c4 .before .before in
+    let a = c6 .args in
+    let q = c6 .pre in
+    let l = c .before .loop in
+    (l .inv .0, open-done (a .table .now) (recordIn (a .table .now) (unpacked (a .w))) (its-fit (q .1) (q .2)) (a .m .now)
+    (λ n. omega (arith, c4 .shared-slice-known2 .given n)) (a .at) (l .notes) (l .at) (l .from) (l .end) (l .j) (l .inv .1) _
+    (its-count (q .1) (q .2)) (omega (arith, its-count (q .1) (q .2), q .3)) (rw (c3 .unpack .ensures) at (c .loop-test .left)))))  -- returns-3
