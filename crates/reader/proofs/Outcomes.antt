@@ -22,6 +22,7 @@ use Rattle.table.specs.Passes.{Passes}
 use Rattle.coding.specs.Value.{Value, octets}
 use Rattle.coding.specs.Reading.{readValue, readMessage}
 use Rattle.coding.specs.Calls.{afterReading, readOutcome}
+use Rattle.coding.specs.declared.Refusal.the-variants.{Table as of-table, Message as of-message}
 use Rattle.coding.specs.declared.Answer.the-variants.{Done as done, Refused as refusal}
 use Rattle.coding.proofs.Checked.{Says}
 use Rattle.coding.proofs.Refusals.{Speaks, answers, names, message-says}
@@ -55,11 +56,11 @@ speaks-low (got a r) answers c l e = absurd (refused≢got (sym e))
 speaks-low (refused d k) (names h i) c l e = let q : k ≡ l = cc in omega arith
 
 module _ (T : Table) (n t : ℕ) (m buf : List ℕ) where
-  pub out-type : n ≤ t → Says (readOutcome T n t m buf) (refusal NoType 0) buf
+  pub out-type : n ≤ t → Says (readOutcome T n t m buf) (refusal (of-table NoType 0)) buf
   unfolding readOutcome
   out-type h = let e : ltb t n ≡ false = le-ltb t n h in (simp (run, e), simp (run, e))
 
-  pub out-long : t < n → 8192 < length m → Says (readOutcome T n t m buf) (refusal MessageLength 0) buf
+  pub out-long : t < n → 8192 < length m → Says (readOutcome T n t m buf) (refusal (of-message MessageLength 0)) buf
   unfolding readOutcome
   out-long h l =
       let e : ltb t n ≡ true = lt-ltb t n h in
@@ -80,7 +81,7 @@ module _ (T : Table) (t : ℕ) (m : List ℕ) (r : Judged) (p : r ≡ told m siz
         let f : leb (length m) 8192 ≡ true = le-leb (length m) 8192 l in
         simp (run, e, f, q)
 
-    pub out-refused : (c : Cause) (i : ℕ) → r ≡ Refused c i → Says (readOutcome T n t m buf) (refusal c (length m - i)) buf
+    pub out-refused : (c : Cause) (i : ℕ) → r ≡ Refused c i → Says (readOutcome T n t m buf) (refusal (of-message c (length m - i))) buf
     unfolding afterReading
     out-refused c i e =
         let o = whole (refused c i) (told-refused m size (readMessage T 24 t m) r p c i e) in
@@ -97,17 +98,17 @@ module _ (T : Table) (t : ℕ) (m : List ℕ) (r : Judged) (p : r ≡ told m siz
       accepted : Accepted
       accepted = let (v, w, x, _, y) = told-done m size (readMessage T 24 t m) r p e s d in record { value = v; rest = w; is = x; size = y }
 
-      lacks : min 16384 (length buf) < size (accepted .value) → Says (readOutcome T n t m buf) (refusal ValueRoom 0) buf
+      lacks : min 16384 (length buf) < size (accepted .value) → Says (readOutcome T n t m buf) (refusal (of-message ValueRoom 0)) buf
       unfolding afterReading
       lacks k =
           let o = whole (got (accepted .value) (accepted .rest)) (accepted .is) in
           let f : leb (size (accepted .value)) (min 16384 (length buf)) ≡ false = lt-leb _ _ k in
           (rw o (simp (run, f)), rw o (simp (run, f)))
 
-      pub out-over : 16384 < s → Says (readOutcome T n t m buf) (refusal ValueRoom 0) buf
+      pub out-over : 16384 < s → Says (readOutcome T n t m buf) (refusal (of-message ValueRoom 0)) buf
       out-over k = lacks (omega (arith, accepted .size))
 
-      pub out-room : s ≤ 16384 → length buf < s → Says (readOutcome T n t m buf) (refusal ValueRoom 0) buf
+      pub out-room : s ≤ 16384 → length buf < s → Says (readOutcome T n t m buf) (refusal (of-message ValueRoom 0)) buf
       out-room j k = lacks (omega (arith, accepted .size))
 
       module _ (j : s ≤ 16384) (k : s ≤ length buf) where

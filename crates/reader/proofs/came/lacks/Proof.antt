@@ -38,8 +38,11 @@ lacks-spec =
     let c7 = c5 .before .before in
     let a = c7 .args in
     let q = c7 .pre in
-    omega (arith, span-near (q .1 .ready) (a .w) (q .1 .known) (c4 .parts .result) (c4 .parts .ensures ∙ ap (λ (e : Entry). spanOf
-    (a .table .now) (e .kind) (e .own)) (c5 .unpack .ensures)) (c3 .loop .k) (c .before .if1 .taken)))  -- mul-p
+    omega (
+      arith,
+      span-near (q .1 .ready) (a .w) (q .1 .known) (c4 .parts .result) (c4 .parts .ensures ∙ ap (λ (e : Entry). spanOf
+          (a .table .now) (e .kind) (e .own)) (c5 .unpack .ensures)) (c3 .loop .k) (c .before .if1 .taken),
+    ))  -- mul-p
     (λ c.
     let c4 = c .before .before .before .before in
     let c5 = c4 .before in
@@ -47,24 +50,35 @@ lacks-spec =
     let c8 = c6 .before .before in
     let a = c8 .args in
     let q = c8 .pre in
-    omega (arith, span-near (q .1 .ready) (a .w) (q .1 .known) (c5 .parts .result) (c5 .parts .ensures ∙ ap (λ (e : Entry). spanOf
-    (a .table .now) (e .kind) (e .own)) (c6 .unpack .ensures)) (c4 .loop .k) (c .before .before .if1 .taken)))  -- add-p
+    omega (
+      arith,
+      span-near (q .1 .ready) (a .w) (q .1 .known) (c5 .parts .result) (c5 .parts .ensures ∙ ap (λ (e : Entry). spanOf
+          (a .table .now) (e .kind) (e .own)) (c6 .unpack .ensures)) (c4 .loop .k) (c .before .before .if1 .taken),
+    ))  -- add-p
     (λ c.
     let c5 = c .before .before .before .before .before in
     let c6 = c5 .before in
     let c8 = c6 .before .before in
     let a = c8 .args in
     let q = c8 .pre in
-    omega (arith, span-few (q .1 .ready) (a .w) (q .1 .known) (c5 .parts .result) (c5 .parts .ensures ∙ ap (λ (e : Entry). spanOf
-    (a .table .now) (e .kind) (e .own)) (c6 .unpack .ensures)), c .before .before .if1 .taken))  -- mul-if2
+    omega (
+      arith,
+      span-few (q .1 .ready) (a .w) (q .1 .known) (c5 .parts .result) (c5 .parts .ensures ∙ ap (λ (e : Entry). spanOf
+          (a .table .now) (e .kind) (e .own)) (c6 .unpack .ensures)),
+      c .before .before .if1 .taken,
+    ))  -- mul-if2
     (λ c.
     let c5 = c .before .before .before .before .before in
     let c6 = c5 .before in
     let c8 = c6 .before .before in
     let a = c8 .args in
     let q = c8 .pre in
-    omega (arith, span-few (q .1 .ready) (a .w) (q .1 .known) (c5 .parts .result) (c5 .parts .ensures ∙ ap (λ (e : Entry). spanOf
-    (a .table .now) (e .kind) (e .own)) (c6 .unpack .ensures)), c .before .before .if1 .taken))  -- element-copy-out-if2
+    omega (
+      arith,
+      span-few (q .1 .ready) (a .w) (q .1 .known) (c5 .parts .result) (c5 .parts .ensures ∙ ap (λ (e : Entry). spanOf
+          (a .table .now) (e .kind) (e .own)) (c6 .unpack .ensures)),
+      c .before .before .if1 .taken,
+    ))  -- element-copy-out-if2
     (λ c.
     let c5 = c .before .before .before .before .before in
     let c7 = c5 .before .before in
@@ -98,8 +112,12 @@ lacks-spec =
     let c10 = c8 .before .before in
     let a = c10 .args in
     let q = c10 .pre in
-    omega (arith, span-few (q .1 .ready) (a .w) (q .1 .known) (c7 .parts .result) (c7 .parts .ensures ∙ ap (λ (e : Entry). spanOf
-    (a .table .now) (e .kind) (e .own)) (c8 .unpack .ensures)), c4 .if1 .taken))  -- add-k
+    omega (
+      arith,
+      span-few (q .1 .ready) (a .w) (q .1 .known) (c7 .parts .result) (c7 .parts .ensures ∙ ap (λ (e : Entry). spanOf
+          (a .table .now) (e .kind) (e .own)) (c8 .unpack .ensures)),
+      c4 .if1 .taken,
+    ))  -- add-k
     (λ c. omega (arith, c .before .before .before .before .if1 .taken))  -- loop-less
     (λ c.
     let c4 = c .before .before .before .before in

@@ -28,9 +28,15 @@ place-contents-spec =
     let c4 = c .before .before .before .before in
     let c8 = c4 .before .before .before .before in
     let a = c8 .args in
-    let q = c8 .pre in
-    (lawful-boolean (q .0) (c .before .if1 .taken), omega (arith, leaf-room (boolean-octets (a .kind) (now (a .c))
-    (c .before .if1 .taken)) (now (a .buf)) (a .to) (q .2), c4 .begin-node .kept .0)))  -- put-flag-requires
+    let q = c8 .pre in (
+      lawful-boolean (q .0) (c .before .if1 .taken),
+      omega (
+        arith,
+        leaf-room (boolean-octets (a .kind) (now (a .c))
+            (c .before .if1 .taken)) (now (a .buf)) (a .to) (q .2),
+        c4 .begin-node .kept .0,
+      ),
+    ))  -- put-flag-requires
     (λ c. search needs)  -- same-length
     (λ c.
     let c2 = c .before .before in
@@ -45,9 +51,15 @@ place-contents-spec =
     let c9 = c5 .before .before .before .before in
     let a = c9 .args in
     let q = c9 .pre in
-    let h = lawful-integer (q .0) (c .before .if2 .taken) in
-    (h .0, h .1, omega (arith, leaf-room (integer-octets (a .kind) (now (a .c)) (c .before .if2 .taken)) (now (a .buf)) (a .to) (q .2),
-    c5 .begin-node .kept .0)))  -- put-integer-requires
+    let h = lawful-integer (q .0) (c .before .if2 .taken) in (
+      h .0,
+      h .1,
+      omega (
+        arith,
+        leaf-room (integer-octets (a .kind) (now (a .c)) (c .before .if2 .taken)) (now (a .buf)) (a .to) (q .2),
+        c5 .begin-node .kept .0,
+      ),
+    ))  -- put-integer-requires
     (λ c. search needs)  -- same-length-2
     (λ c.
     let c2 = c .before .before in
@@ -63,9 +75,18 @@ place-contents-spec =
     let a = c10 .args in
     let q = c10 .pre in
     let h = lawful-bits (q .0) (c .before .if3 .taken) in
-    let m = length-masked (getD (now (a .c)) 0 0) (drop 1 (now (a .c))) in
-    (h .0, q .1, h .1, h .2, omega (arith, leaf-room (bits-octets (a .kind) (now (a .c)) (c .before .if3 .taken)) (now (a .buf))
-    (a .to) (q .2), c6 .begin-node .kept .0)))  -- put-bits-requires
+    let m = length-masked (getD (now (a .c)) 0 0) (drop 1 (now (a .c))) in (
+      h .0,
+      q .1,
+      h .1,
+      h .2,
+      omega (
+        arith,
+        leaf-room (bits-octets (a .kind) (now (a .c)) (c .before .if3 .taken)) (now (a .buf))
+            (a .to) (q .2),
+        c6 .begin-node .kept .0,
+      ),
+    ))  -- put-bits-requires
     (λ c. search needs)  -- same-length-3
     (λ c.
     let c2 = c .before .before in
@@ -73,15 +94,22 @@ place-contents-spec =
     let c9 = c4 .before .before .before .before .before in
     let a = c9 .before .before .before .before .args in
     leaf-placed (bits-octets (a .kind) (now (a .c)) (c4 .if3 .taken)) (now (a .buf)) (c9 .begin-node .last .0)
-    (c2 .put-bits .last .1 .0) (a .to) (c2 .put-bits .result) (c9 .begin-node .ensures) (c2 .put-bits .ensures .0 ∙ omega (arith,
-    length-masked (getD (now (a .c)) 0 0) (drop 1 (now (a .c))))) (c2 .put-bits .ensures .1))  -- returns-3
+    (c2 .put-bits .last .1 .0) (a .to) (c2 .put-bits .result) (c9 .begin-node .ensures) (c2 .put-bits .ensures .0 ∙ omega (
+      arith,
+      length-masked (getD (now (a .c)) 0 0) (drop 1 (now (a .c))),
+    )) (c2 .put-bits .ensures .1))  -- returns-3
     (λ c κs.
     let c7 = c .before .before .before .before .before .before .before in
     let c11 = c7 .before .before .before .before in
     let a = c11 .args in
-    let q = c11 .pre in
-    (q .1, omega (arith, leaf-room (string-octets (a .kind) (now (a .c)) (c .before .if4 .taken)) (now (a .buf)) (a .to) (q .2),
-    c7 .begin-node .kept .0)))  -- put-string-requires
+    let q = c11 .pre in (
+      q .1,
+      omega (
+        arith,
+        leaf-room (string-octets (a .kind) (now (a .c)) (c .before .if4 .taken)) (now (a .buf)) (a .to) (q .2),
+        c7 .begin-node .kept .0,
+      ),
+    ))  -- put-string-requires
     (λ c. search needs)  -- same-length-4
     (λ c.
     let c2 = c .before .before in
@@ -106,9 +134,18 @@ place-contents-spec =
     let a = c12 .args in
     let q = c12 .pre in
     let e = lawful-enumerated (q .0) (c5 .if1 .left) (c4 .if2 .left) (c3 .if3 .left) (c .before .before .if4 .left)
-    (c .before .if5 .left) in
-    (e .some-octet, e .eight-octets, omega (arith, leaf-room (enumerated-octets (a .kind) (now (a .c)) (e .kind)) (now (a .buf))
-    (a .to) (q .2), c8 .begin-node .kept .0), e .is, e .small))  -- put-enumerated-requires
+    (c .before .if5 .left) in (
+      e .some-octet,
+      e .eight-octets,
+      omega (
+        arith,
+        leaf-room (enumerated-octets (a .kind) (now (a .c)) (e .kind)) (now (a .buf))
+            (a .to) (q .2),
+        c8 .begin-node .kept .0,
+      ),
+      e .is,
+      e .small,
+    ))  -- put-enumerated-requires
     (λ c. search needs)  -- same-length-6
     (λ c.
     let c2 = c .before .before in

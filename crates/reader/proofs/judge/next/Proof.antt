@@ -42,9 +42,12 @@ next-spec =
     (λ c κs.
     let c6 = c .before .before .before .before .before .before in
     let c10 = c6 .before .before .before .before in
-    let q = c10 .before .before .before .pre in
-    (q .0, q .1, has-members (q .1) (c10 .unpack .result) (c10 .unpack .ensures) (c .before .has-members .result)
-    (c .before .has-members .ensures) (c6 .if2 .i) (not-false _ (c .if3 .left))))  -- lacks-requires
+    let q = c10 .before .before .before .pre in (
+      q .0,
+      q .1,
+      has-members (q .1) (c10 .unpack .result) (c10 .unpack .ensures) (c .before .has-members .result)
+          (c .before .has-members .ensures) (c6 .if2 .i) (not-false _ (c .if3 .left)),
+    ))  -- lacks-requires
     (λ c.
     let c3 = c .before .before .before in
     let c5 = c3 .before .before in

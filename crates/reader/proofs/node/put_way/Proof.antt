@@ -46,10 +46,13 @@ put-way-spec =
     let c6 = c5 .before in
     let c8 = c6 .before .before in
     let a = c8 .args in
-    let l = c6 .loop in
-    (omega arith, omega (arith, l .inv .1), simp length-set (simp length-sets at (ap length (c2 .begin-node .ensures))) ∙ l .inv .2,
-    way-step (now (a .buf)) (a .to) (now (a .way)) (l .i) (l .next) (omega (arith, c8 .pre .0, c5 .loop-test .taken)) (l .inv .1)
-    (l .inv .3) (c2 .begin-node .ensures)))  -- loop-again
+    let l = c6 .loop in (
+      omega arith,
+      omega (arith, l .inv .1),
+      simp length-set (simp length-sets at (ap length (c2 .begin-node .ensures))) ∙ l .inv .2,
+      way-step (now (a .buf)) (a .to) (now (a .way)) (l .i) (l .next) (omega (arith, c8 .pre .0, c5 .loop-test .taken)) (l .inv .1)
+          (l .inv .3) (c2 .begin-node .ensures),
+    ))  -- loop-again
     (λ c. c .before .loop .inv .2)  -- same-length
     (λ c.
     let l = c .before .loop in

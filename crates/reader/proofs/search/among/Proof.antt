@@ -38,9 +38,12 @@ among-spec =
     let c6 = c4 .before .before in
     let c8 = c6 .before .before in
     let l = c6 .loop in
-    omega (arith, alternatives-of (c8 .pre .0) (l .choice) (c3 .alternatives .result) (l .inv .1 .low) (l .inv .1 .looking .bare)
-    (c3 .alternatives .ensures ∙ ap (λ (e : Entry). counted (c8 .args .table .now) (e .own) 1) (c4 .unpack .ensures)) .near,
-    c .before .if1 .taken))  -- add-octet
+    omega (
+      arith,
+      alternatives-of (c8 .pre .0) (l .choice) (c3 .alternatives .result) (l .inv .1 .low) (l .inv .1 .looking .bare)
+          (c3 .alternatives .ensures ∙ ap (λ (e : Entry). counted (c8 .args .table .now) (e .own) 1) (c4 .unpack .ensures)) .near,
+      c .before .if1 .taken,
+    ))  -- add-octet
     (λ c κs. tt)  -- octet-requires
     (λ c.
     let c7 = c .before .before .before .before .before .before .before in
@@ -53,9 +56,14 @@ among-spec =
     let a = c9 .args in
     let q = c9 .pre in
     let l = c7 .loop in
-    omega (arith, l .inv .1 .low, q .0 .passes .few, next (q .0) (a .code) (q .3) (l .way) (l .inv .0) (a .t) (l .depth) (l .choice)
-    (l .j) (l .inv .1) (c4 .alternatives .result) (c4 .alternatives .ensures ∙ ap (λ (e : Entry). counted (a .table .now) (e .own) 1)
-    (c5 .unpack .ensures)) (c .before .before .if1 .taken) (c .octet .result) (c .octet .ensures .0) .few))  -- add-way
+    omega (
+      arith,
+      l .inv .1 .low,
+      q .0 .passes .few,
+      next (q .0) (a .code) (q .3) (l .way) (l .inv .0) (a .t) (l .depth) (l .choice)
+          (l .j) (l .inv .1) (c4 .alternatives .result) (c4 .alternatives .ensures ∙ ap (λ (e : Entry). counted (a .table .now) (e .own) 1)
+          (c5 .unpack .ensures)) (c .before .before .if1 .taken) (c .octet .result) (c .octet .ensures .0) .few,
+    ))  -- add-way
     (λ c.
     let c4 = c .before .before .before .before in
     let c5 = c4 .before in
@@ -64,9 +72,14 @@ among-spec =
     let a = c9 .args in
     let q = c9 .pre in
     let l = c7 .loop in
-    omega (arith, l .inv .1 .low, q .0 .passes .few, next (q .0) (a .code) (q .3) (l .way) (l .inv .0) (a .t) (l .depth) (l .choice)
-    (l .j) (l .inv .1) (c4 .alternatives .result) (c4 .alternatives .ensures ∙ ap (λ (e : Entry). counted (a .table .now) (e .own) 1)
-    (c5 .unpack .ensures)) (c .before .before .if1 .taken) (c .octet .result) (c .octet .ensures .0) .few))  -- cast-way
+    omega (
+      arith,
+      l .inv .1 .low,
+      q .0 .passes .few,
+      next (q .0) (a .code) (q .3) (l .way) (l .inv .0) (a .t) (l .depth) (l .choice)
+          (l .j) (l .inv .1) (c4 .alternatives .result) (c4 .alternatives .ensures ∙ ap (λ (e : Entry). counted (a .table .now) (e .own) 1)
+          (c5 .unpack .ensures)) (c .before .before .if1 .taken) (c .octet .result) (c .octet .ensures .0) .few,
+    ))  -- cast-way
     (λ c.
     let c4 = c .before .before .before .before in
     let c5 = c4 .before in
@@ -75,9 +88,12 @@ among-spec =
     let a = c9 .args in
     let q = c9 .pre in
     let l = c7 .loop in
-    omega (arith, next (q .0) (a .code) (q .3) (l .way) (l .inv .0) (a .t) (l .depth) (l .choice) (l .j) (l .inv .1)
-    (c4 .alternatives .result) (c4 .alternatives .ensures ∙ ap (λ (e : Entry). counted (a .table .now) (e .own) 1)
-    (c5 .unpack .ensures)) (c .before .before .if1 .taken) (c .octet .result) (c .octet .ensures .0) .room))  -- mul-way-2
+    omega (
+      arith,
+      next (q .0) (a .code) (q .3) (l .way) (l .inv .0) (a .t) (l .depth) (l .choice) (l .j) (l .inv .1)
+          (c4 .alternatives .result) (c4 .alternatives .ensures ∙ ap (λ (e : Entry). counted (a .table .now) (e .own) 1)
+          (c5 .unpack .ensures)) (c .before .before .if1 .taken) (c .octet .result) (c .octet .ensures .0) .room,
+    ))  -- mul-way-2
     (λ c.
     let c4 = c .before .before .before .before in
     let c5 = c4 .before in
@@ -98,9 +114,13 @@ among-spec =
     let a = c9 .args in
     let q = c9 .pre in
     let l = c7 .loop in
-    omega (arith, next (q .0) (a .code) (q .3) (l .way) (l .inv .0) (a .t) (l .depth) (l .choice) (l .j) (l .inv .1)
-    (c4 .alternatives .result) (c4 .alternatives .ensures ∙ ap (λ (e : Entry). counted (a .table .now) (e .own) 1)
-    (c5 .unpack .ensures)) (c .before .before .if1 .taken) (c .octet .result) (c .octet .ensures .0) .small, q .0 .passes .few))  -- element-copy-out-first
+    omega (
+      arith,
+      next (q .0) (a .code) (q .3) (l .way) (l .inv .0) (a .t) (l .depth) (l .choice) (l .j) (l .inv .1)
+          (c4 .alternatives .result) (c4 .alternatives .ensures ∙ ap (λ (e : Entry). counted (a .table .now) (e .own) 1)
+          (c5 .unpack .ensures)) (c .before .before .if1 .taken) (c .octet .result) (c .octet .ensures .0) .small,
+      q .0 .passes .few,
+    ))  -- element-copy-out-first
     (λ c κs. tt)  -- first-requires
     (λ c.
     let c3 = c .before .before .before in
@@ -112,9 +132,12 @@ among-spec =
     let a = c12 .args in
     let q = c12 .pre in
     let l = c10 .loop in
-    omega (arith, next (q .0) (a .code) (q .3) (l .way) (l .inv .0) (a .t) (l .depth) (l .choice) (l .j) (l .inv .1)
-    (c7 .alternatives .result) (c7 .alternatives .ensures ∙ ap (λ (e : Entry). counted (a .table .now) (e .own) 1)
-    (c8 .unpack .ensures)) (c5 .if1 .taken) (c3 .octet .result) (c3 .octet .ensures .0) .room))  -- add-t29
+    omega (
+      arith,
+      next (q .0) (a .code) (q .3) (l .way) (l .inv .0) (a .t) (l .depth) (l .choice) (l .j) (l .inv .1)
+          (c7 .alternatives .result) (c7 .alternatives .ensures ∙ ap (λ (e : Entry). counted (a .table .now) (e .own) 1)
+          (c8 .unpack .ensures)) (c5 .if1 .taken) (c3 .octet .result) (c3 .octet .ensures .0) .room,
+    ))  -- add-t29
     (λ c.
     let c3 = c .before .before .before in
     let c5 = c3 .before .before in
@@ -124,11 +147,13 @@ among-spec =
     let c12 = c10 .before .before in
     let a = c12 .args in
     let q = c12 .pre in
-    let l = c10 .loop in
-    (simp length-set (l .inv .0), among-found (q .0) (a .code) (q .3) (l .way) (l .inv .0) (a .t) (l .depth) (l .choice) (l .j)
-    (l .inv .1) (c7 .alternatives .result) (c7 .alternatives .ensures ∙ ap (λ (e : Entry). counted (a .table .now) (e .own) 1)
-    (c8 .unpack .ensures)) (c5 .if1 .taken) (c3 .octet .result) (c3 .octet .ensures .0) (c .before .first .result)
-    (c .before .first .ensures) (c .if2 .taken)))  -- returns
+    let l = c10 .loop in (
+      simp length-set (l .inv .0),
+      among-found (q .0) (a .code) (q .3) (l .way) (l .inv .0) (a .t) (l .depth) (l .choice) (l .j)
+          (l .inv .1) (c7 .alternatives .result) (c7 .alternatives .ensures ∙ ap (λ (e : Entry). counted (a .table .now) (e .own) 1)
+          (c8 .unpack .ensures)) (c5 .if1 .taken) (c3 .octet .result) (c3 .octet .ensures .0) (c .before .first .result)
+          (c .before .first .ensures) (c .if2 .taken),
+    ))  -- returns
     (λ c.
     let c4 = c .before .before .before .before in
     let c6 = c4 .before .before in
@@ -139,9 +164,12 @@ among-spec =
     let a = c13 .args in
     let q = c13 .pre in
     let l = c11 .loop in
-    omega (arith, next (q .0) (a .code) (q .3) (l .way) (l .inv .0) (a .t) (l .depth) (l .choice) (l .j) (l .inv .1)
-    (c8 .alternatives .result) (c8 .alternatives .ensures ∙ ap (λ (e : Entry). counted (a .table .now) (e .own) 1)
-    (c9 .unpack .ensures)) (c6 .if1 .taken) (c4 .octet .result) (c4 .octet .ensures .0) .room))  -- add-depth
+    omega (
+      arith,
+      next (q .0) (a .code) (q .3) (l .way) (l .inv .0) (a .t) (l .depth) (l .choice) (l .j) (l .inv .1)
+          (c8 .alternatives .result) (c8 .alternatives .ensures ∙ ap (λ (e : Entry). counted (a .table .now) (e .own) 1)
+          (c9 .unpack .ensures)) (c6 .if1 .taken) (c4 .octet .result) (c4 .octet .ensures .0) .room,
+    ))  -- add-depth
     (λ c.
     let c4 = c .before .before .before .before in
     let c6 = c4 .before .before in
@@ -165,11 +193,13 @@ among-spec =
     let c13 = c11 .before .before in
     let a = c13 .args in
     let q = c13 .pre in
-    let l = c11 .loop in
-    (simp length-set (l .inv .0), among-down (q .0) (a .code) (q .3) (l .way) (l .inv .0) (a .t) (l .depth) (l .choice) (l .j)
-    (l .inv .1) (c8 .alternatives .result) (c8 .alternatives .ensures ∙ ap (λ (e : Entry). counted (a .table .now) (e .own) 1)
-    (c9 .unpack .ensures)) (c6 .if1 .taken) (c4 .octet .result) (c4 .octet .ensures .0) (c2 .first .result) (c2 .first .ensures)
-    (c .if3 .taken)))  -- loop-again
+    let l = c11 .loop in (
+      simp length-set (l .inv .0),
+      among-down (q .0) (a .code) (q .3) (l .way) (l .inv .0) (a .t) (l .depth) (l .choice) (l .j)
+          (l .inv .1) (c8 .alternatives .result) (c8 .alternatives .ensures ∙ ap (λ (e : Entry). counted (a .table .now) (e .own) 1)
+          (c9 .unpack .ensures)) (c6 .if1 .taken) (c4 .octet .result) (c4 .octet .ensures .0) (c2 .first .result) (c2 .first .ensures)
+          (c .if3 .taken),
+    ))  -- loop-again
     (λ c.
     let c4 = c .before .before .before .before in
     let c6 = c4 .before .before in
@@ -180,9 +210,12 @@ among-spec =
     let a = c13 .args in
     let q = c13 .pre in
     let l = c11 .loop in
-    omega (arith, next (q .0) (a .code) (q .3) (l .way) (l .inv .0) (a .t) (l .depth) (l .choice) (l .j) (l .inv .1)
-    (c8 .alternatives .result) (c8 .alternatives .ensures ∙ ap (λ (e : Entry). counted (a .table .now) (e .own) 1)
-    (c9 .unpack .ensures)) (c6 .if1 .taken) (c4 .octet .result) (c4 .octet .ensures .0) .few))  -- add-j
+    omega (
+      arith,
+      next (q .0) (a .code) (q .3) (l .way) (l .inv .0) (a .t) (l .depth) (l .choice) (l .j) (l .inv .1)
+          (c8 .alternatives .result) (c8 .alternatives .ensures ∙ ap (λ (e : Entry). counted (a .table .now) (e .own) 1)
+          (c9 .unpack .ensures)) (c6 .if1 .taken) (c4 .octet .result) (c4 .octet .ensures .0) .few,
+    ))  -- add-j
     (λ c.
     let c4 = c .before .before .before .before in
     let c6 = c4 .before .before in
@@ -206,11 +239,13 @@ among-spec =
     let c13 = c11 .before .before in
     let a = c13 .args in
     let q = c13 .pre in
-    let l = c11 .loop in
-    (simp length-set (l .inv .0), among-next (q .0) (a .code) (q .3) (l .way) (l .inv .0) (a .t) (l .depth) (l .choice) (l .j)
-    (l .inv .1) (c8 .alternatives .result) (c8 .alternatives .ensures ∙ ap (λ (e : Entry). counted (a .table .now) (e .own) 1)
-    (c9 .unpack .ensures)) (c6 .if1 .taken) (c4 .octet .result) (c4 .octet .ensures .0) (c2 .first .result) (c2 .first .ensures)
-    (c .before .if2 .left) (c .if3 .left)))  -- loop-again-2
+    let l = c11 .loop in (
+      simp length-set (l .inv .0),
+      among-next (q .0) (a .code) (q .3) (l .way) (l .inv .0) (a .t) (l .depth) (l .choice) (l .j)
+          (l .inv .1) (c8 .alternatives .result) (c8 .alternatives .ensures ∙ ap (λ (e : Entry). counted (a .table .now) (e .own) 1)
+          (c9 .unpack .ensures)) (c6 .if1 .taken) (c4 .octet .result) (c4 .octet .ensures .0) (c2 .first .result) (c2 .first .ensures)
+          (c .before .if2 .left) (c .if3 .left),
+    ))  -- loop-again-2
     (λ c.
     let c3 = c .before .before .before in
     let c4 = c3 .before in
@@ -218,10 +253,12 @@ among-spec =
     let c8 = c6 .before .before in
     let a = c8 .args in
     let q = c8 .pre in
-    let l = c6 .loop in
-    (l .inv .0, among-none (q .0) (a .code) (q .3) (l .way) (l .inv .0) (a .t) (l .depth) (l .choice) (l .j) (l .inv .1)
-    (c3 .alternatives .result) (c3 .alternatives .ensures ∙ ap (λ (e : Entry). counted (a .table .now) (e .own) 1)
-    (c4 .unpack .ensures)) (c .before .if1 .left) (c .if4 .taken)))  -- returns-2
+    let l = c6 .loop in (
+      l .inv .0,
+      among-none (q .0) (a .code) (q .3) (l .way) (l .inv .0) (a .t) (l .depth) (l .choice) (l .j) (l .inv .1)
+          (c3 .alternatives .result) (c3 .alternatives .ensures ∙ ap (λ (e : Entry). counted (a .table .now) (e .own) 1)
+          (c4 .unpack .ensures)) (c .before .if1 .left) (c .if4 .taken),
+    ))  -- returns-2
     (λ c. omega (arith, c .if4 .left))  -- sub-depth
     (λ c.
     let c6 = c .before .before .before .before .before .before in
@@ -237,9 +274,12 @@ among-spec =
     let a = c9 .args in
     let q = c9 .pre in
     let l = c7 .loop in
-    omega (arith, among-small (q .0) (a .code) (q .3) (l .way) (l .inv .0) (a .t) (l .depth) (l .choice) (l .j) (l .inv .1)
-    (c4 .alternatives .result) (c4 .alternatives .ensures ∙ ap (λ (e : Entry). counted (a .table .now) (e .own) 1)
-    (c5 .unpack .ensures)) (c .before .before .if1 .left) (c .before .if4 .left)))  -- cast-n
+    omega (
+      arith,
+      among-small (q .0) (a .code) (q .3) (l .way) (l .inv .0) (a .t) (l .depth) (l .choice) (l .j) (l .inv .1)
+          (c4 .alternatives .result) (c4 .alternatives .ensures ∙ ap (λ (e : Entry). counted (a .table .now) (e .own) 1)
+          (c5 .unpack .ensures)) (c .before .before .if1 .left) (c .before .if4 .left),
+    ))  -- cast-n
     (λ c. omega arith)  -- add-j-2
     (λ c.
     let c4 = c .before .before .before .before in
@@ -259,7 +299,9 @@ among-spec =
     let c9 = c7 .before .before in
     let a = c9 .args in
     let q = c9 .pre in
-    let l = c7 .loop in
-    (l .inv .0, among-back (q .0) (a .code) (q .3) (l .way) (l .inv .0) (a .t) (l .depth) (l .choice) (l .j) (l .inv .1)
-    (c4 .alternatives .result) (c4 .alternatives .ensures ∙ ap (λ (e : Entry). counted (a .table .now) (e .own) 1)
-    (c5 .unpack .ensures)) (c .before .before .if1 .left) (c .before .if4 .left))))  -- loop-again-3
+    let l = c7 .loop in (
+      l .inv .0,
+      among-back (q .0) (a .code) (q .3) (l .way) (l .inv .0) (a .t) (l .depth) (l .choice) (l .j) (l .inv .1)
+          (c4 .alternatives .result) (c4 .alternatives .ensures ∙ ap (λ (e : Entry). counted (a .table .now) (e .own) 1)
+          (c5 .unpack .ensures)) (c .before .before .if1 .left) (c .before .if4 .left),
+    )))  -- loop-again-3

@@ -30,24 +30,36 @@ direct-spec =
     let c3 = c .before .before .before in
     let c4 = c3 .before in
     let c5 = c4 .before in
-    omega (arith, near (c5 .before .before .pre) (c5 .unpack .result) (c5 .unpack .ensures) (c4 .parts .result) (c4 .parts .ensures)
-    (c3 .loop .k) (c .before .if1 .taken)))  -- mul-p
+    omega (
+      arith,
+      near (c5 .before .before .pre) (c5 .unpack .result) (c5 .unpack .ensures) (c4 .parts .result) (c4 .parts .ensures)
+          (c3 .loop .k) (c .before .if1 .taken),
+    ))  -- mul-p
     (λ c.
     let c4 = c .before .before .before .before in
     let c5 = c4 .before in
     let c6 = c5 .before in
-    omega (arith, near (c6 .before .before .pre) (c6 .unpack .result) (c6 .unpack .ensures) (c5 .parts .result) (c5 .parts .ensures)
-    (c4 .loop .k) (c .before .before .if1 .taken)))  -- add-p
+    omega (
+      arith,
+      near (c6 .before .before .pre) (c6 .unpack .result) (c6 .unpack .ensures) (c5 .parts .result) (c5 .parts .ensures)
+          (c4 .loop .k) (c .before .before .if1 .taken),
+    ))  -- add-p
     (λ c.
     let c5 = c .before .before .before .before .before in
     let c6 = c5 .before in
-    omega (arith, few (c6 .before .before .pre) (c6 .unpack .result) (c6 .unpack .ensures) (c5 .parts .result) (c5 .parts .ensures),
-    c .before .before .if1 .taken))  -- mul-if2
+    omega (
+      arith,
+      few (c6 .before .before .pre) (c6 .unpack .result) (c6 .unpack .ensures) (c5 .parts .result) (c5 .parts .ensures),
+      c .before .before .if1 .taken,
+    ))  -- mul-if2
     (λ c.
     let c5 = c .before .before .before .before .before in
     let c6 = c5 .before in
-    omega (arith, few (c6 .before .before .pre) (c6 .unpack .result) (c6 .unpack .ensures) (c5 .parts .result) (c5 .parts .ensures),
-    c .before .before .if1 .taken))  -- element-copy-out-if2
+    omega (
+      arith,
+      few (c6 .before .before .pre) (c6 .unpack .result) (c6 .unpack .ensures) (c5 .parts .result) (c5 .parts .ensures),
+      c .before .before .if1 .taken,
+    ))  -- element-copy-out-if2
     (λ c κs. tt)  -- octet-requires
     (λ c. omega (arith, c .octet .ensures .1))  -- mul-first
     (λ c.
@@ -56,8 +68,12 @@ direct-spec =
     let c8 = c7 .before in
     let c9 = c8 .before in
     let q = c9 .before .before .pre in
-    omega (arith, type-low (q) (c9 .unpack .result) (c9 .unpack .ensures) (c8 .parts .result) (c8 .parts .ensures) (c7 .loop .k)
-    (c5 .if1 .taken) (c .octet .result) (c .octet .ensures .0), q .ready .passes .few))  -- element-copy-out-first
+    omega (
+      arith,
+      type-low (q) (c9 .unpack .result) (c9 .unpack .ensures) (c8 .parts .result) (c8 .parts .ensures) (c7 .loop .k)
+          (c5 .if1 .taken) (c .octet .result) (c .octet .ensures .0),
+      q .ready .passes .few,
+    ))  -- element-copy-out-first
     (λ c κs. tt)  -- first-requires
     (λ c.
     let c3 = c .before .before .before in
@@ -92,8 +108,11 @@ direct-spec =
     let c6 = c .before .before .before .before .before .before in
     let c9 = c6 .before .before .before in
     let c10 = c9 .before in
-    omega (arith, few (c10 .before .before .pre) (c10 .unpack .result) (c10 .unpack .ensures) (c9 .parts .result) (c9 .parts .ensures),
-    c6 .if1 .taken))  -- add-k
+    omega (
+      arith,
+      few (c10 .before .before .pre) (c10 .unpack .result) (c10 .unpack .ensures) (c9 .parts .result) (c9 .parts .ensures),
+      c6 .if1 .taken,
+    ))  -- add-k
     (λ c. omega (arith, c .before .before .before .before .before .before .if1 .taken))  -- loop-less
     (λ c.
     let c6 = c .before .before .before .before .before .before in

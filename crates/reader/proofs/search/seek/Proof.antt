@@ -22,9 +22,11 @@ seek-spec =
     let c2 = c .before .before in
     let c5 = c2 .before .before .before in
     let a = c5 .args in
-    let q = c5 .pre in
-    (q .3, seek-other (q .0) (a .code) (a .way .now) (a .t) (c2 .first .result) (q .2) (q .1) (c2 .first .ensures)
-    (c .before .if1 .left) (c .if2 .taken)))  -- returns-2
+    let q = c5 .pre in (
+      q .3,
+      seek-other (q .0) (a .code) (a .way .now) (a .t) (c2 .first .result) (q .2) (q .1) (c2 .first .ensures)
+          (c .before .if1 .left) (c .if2 .taken),
+    ))  -- returns-2
     (λ c κs.
     let c3 = c .before .before .before in
     let c6 = c3 .before .before .before in

@@ -17,9 +17,12 @@ unawaited-spec =
     (λ c κs.
     let c2 = c .before .before in
     let c4 = c2 .before .before in
-    let q = c4 .pre in
-    (q .0, q .1, has-members (q .1) (c2 .unpack .result) (c2 .unpack .ensures) (c .before .has-members .result)
-    (c .before .has-members .ensures) (c4 .args .i) (c .if1 .taken)))  -- lacks-requires
+    let q = c4 .pre in (
+      q .0,
+      q .1,
+      has-members (q .1) (c2 .unpack .result) (c2 .unpack .ensures) (c .before .has-members .result)
+          (c .before .has-members .ensures) (c4 .args .i) (c .if1 .taken),
+    ))  -- lacks-requires
     (λ c.
     let c3 = c .before .before .before in
     let c4 = c3 .before in

@@ -40,8 +40,11 @@ close-spec =
     let c6 = c .before .before .before .before .before .before in
     let a = c6 .before .before .args in
     let l = c6 .loop in
-    omega (arith, close-end (a .m .now) (a .notes .now) (a .count) (a .end) (a .at) (a .size) (l .at) (l .end) (l .j) (l .inv .2),
-    l .inv .1))  -- sub-t23
+    omega (
+      arith,
+      close-end (a .m .now) (a .notes .now) (a .count) (a .end) (a .at) (a .size) (l .at) (l .end) (l .j) (l .inv .2),
+      l .inv .1,
+    ))  -- sub-t23
     (λ c.
     let c2 = c .before .before in
     let c5 = c2 .before .before .before in
@@ -58,8 +61,11 @@ close-spec =
     let c7 = c .before .before .before .before .before .before .before in
     let a = c7 .before .before .args in
     let l = c7 .loop in
-    omega (arith, close-end (a .m .now) (a .notes .now) (a .count) (a .end) (a .at) (a .size) (l .at) (l .end) (l .j) (l .inv .2),
-    l .inv .1))  -- sub-t25
+    omega (
+      arith,
+      close-end (a .m .now) (a .notes .now) (a .count) (a .end) (a .at) (a .size) (l .at) (l .end) (l .j) (l .inv .2),
+      l .inv .1,
+    ))  -- sub-t25
     (λ c.
     let c3 = c .before .before .before in
     let c6 = c3 .before .before .before in
@@ -77,8 +83,12 @@ close-spec =
     let a = c9 .args in
     let q = c9 .pre in
     let l = c7 .loop in
-    omega (arith, close-near (a .m .now) (a .notes .now) (a .count) (a .end) (a .at) (a .size) (l .at) (l .end) (l .j) (l .inv .2)
-    (l .inv .1) (c6 .loop-test .taken) (omega (arith, l .inv .0, q .0, q .1)) _ refl, q .3))  -- cast-end
+    omega (
+      arith,
+      close-near (a .m .now) (a .notes .now) (a .count) (a .end) (a .at) (a .size) (l .at) (l .end) (l .j) (l .inv .2)
+          (l .inv .1) (c6 .loop-test .taken) (omega (arith, l .inv .0, q .0, q .1)) _ refl,
+      q .3,
+    ))  -- cast-end
     (λ c. omega (arith, c .before .before .before .before .before .before .loop-test .taken))  -- loop-less
     (λ c.
     let c3 = c .before .before .before in
