@@ -36,7 +36,8 @@ unfolding atEnd if none-left
 atEnd-end f x no-more = refl
 atEnd-end f x mark = refl
 
-pub atEnd-holds : {A : Type 0} {P : A → List ℕ → Type 0} (mode : Mode) (s : List ℕ) {f : List ℕ → Answer A} {x : Unit {0} → Answer A} → ((r : List ℕ) → Ends mode s r → Holds P (f r)) → ((u : Unit {0}) → Holds P (x u)) → Holds P (atEnd mode s f x)
+pub atEnd-holds : {A : Type 0} {P : A → List ℕ → Type 0} (mode : Mode) (s : List ℕ) {f : List ℕ → Answer A} {x : Unit {0} → Answer A}
+    → ((r : List ℕ) → Ends mode s r → Holds P (f r)) → ((u : Unit {0}) → Holds P (x u)) → Holds P (atEnd mode s f x)
 unfolding atEnd if none-left
 atEnd-holds closed [] h k = h [] no-more
 atEnd-holds closed (b ∷ s) h k = k tt

@@ -32,7 +32,8 @@ long-sound p b s h k =
     if-holds _
     (λ e.
     let l : length (take (b - 128) s) ≡ b - 128 = length-take-le (b - 128) s (leb-true _ _ e) in
-    fit-sound p _ (b ∷ take (b - 128) s) _ (ap (λ (l : List ℕ). b ∷ l) (sym (take-append-drop (b - 128) s))) (long (take (b - 128) s) (omega arith) (omega arith) refl (ap (λ (n : ℕ). n ∷ take (b - 128) s) (omega arith)))) (λ e _. refuses)
+    fit-sound p _ (b ∷ take (b - 128) s) _ (ap (λ (l : List ℕ). b ∷ l) (sym (take-append-drop (b - 128) s))) (long (take (b - 128) s) (omega arith)
+    (omega arith) refl (ap (λ (n : ℕ). n ∷ take (b - 128) s) (omega arith)))) (λ e _. refuses)
 
 -- what is read may be sent
 pub length-sound : (p : ℕ) (s : List ℕ) → Holds (Shape s) (readLength p s)
@@ -56,7 +57,21 @@ length-complete {n} l s (long ds h k v e) f =
     let i : length ds ≤ length (ds ++ s) = simp length-append (omega arith) in
     let d : b - 128 ≡ length ds = omega arith in
     rw e
-    (simp (run, le-ltb b 128 (omega arith), ne-eqb b 128 (λ z. omega arith), lt-ltb b 255 (omega arith), d, readLong, le-leb _ _ i, take-append-seam ds s, drop-append-seam ds s, v, fit, le-leb n (length s) f))
+    (simp (
+      run,
+      le-ltb b 128 (omega arith),
+      ne-eqb b 128 (λ z. omega arith),
+      lt-ltb b 255
+          (omega arith),
+      d,
+      readLong,
+      le-leb _ _ i,
+      take-append-seam ds s,
+      drop-append-seam ds s,
+      v,
+      fit,
+      le-leb n (length s) f,
+    ))
 
 digits-number : (k n : ℕ) (l : List ℕ) → n < 256 ^ k → number 0 (digits k n l) ≡ number n l
 unfolding digits number
@@ -103,7 +118,8 @@ digits-least (suc k) n l = if-cases (λ x. length l ≤ length x) _ l (λ _. dig
 
 some-digit : (n : ℕ) → 128 ≤ n → 1 ≤ length (digits 8 n [])
 unfolding digits
-some-digit n l = if-cases (λ (x : List ℕ). 1 ≤ length x) (eqb n 0) [] (λ _. digits 7 (n / 256) (n % 256 ∷ [])) (λ e. let z = eqb-true n 0 e in absurd (omega arith)) (λ e. digits-least 7 (n / 256) (n % 256 ∷ []))
+some-digit n l = if-cases (λ (x : List ℕ). 1 ≤ length x) (eqb n 0) [] (λ _. digits 7 (n / 256) (n % 256 ∷ []))
+    (λ e. let z = eqb-true n 0 e in absurd (omega arith)) (λ e. digits-least 7 (n / 256) (n % 256 ∷ []))
 
 -- what is written may be sent
 pub length-octets : (n : ℕ) → n < 256 ^ 8 → Length n (lengthOctets n)

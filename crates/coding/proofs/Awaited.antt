@@ -80,7 +80,8 @@ pub set-unwanted : (T : Table) (r : ℕ → List ℕ → Answer Value) (k : ℕ)
 unfolding readSet unwanted
 set-unwanted T r k ms os mode s g p e = goes-on _ _ g ∙ by (anything (notYetRead ms os)) (full-anything p) (place-unwanted T r s p e)
   where
-    by : (b : Bool) → full os ≡ not b → place T r ms os s ≡ notAwaited s → if (full os) (refused Trailing (length s)) (λ _. then (place T r ms os s) λ us s₁. readSet T r k ms us mode s₁) ≡ unwanted b s
+    by : (b : Bool) → full os ≡ not b → place T r ms os s ≡ notAwaited s
+        → if (full os) (refused Trailing (length s)) (λ _. then (place T r ms os s) λ us s₁. readSet T r k ms us mode s₁) ≡ unwanted b s
     by true f h = simp (run, f, h) (refused-on s _)
     by false f h = simp (run, f)
 

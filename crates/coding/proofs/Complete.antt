@@ -24,7 +24,8 @@ use Rattle.table.specs.Syntax.{Member, Body, Sequence, Set, SequenceOf, SetOf, 
 use Rattle.coding.specs.Value.{Value, leaf, sequence, set, sequenceOf, setOf, choice, slots, bag}
 use Rattle.coding.specs.Tags.{own, explicit}
 use Rattle.coding.specs.Awaited.{types, further, awaited}
-use Rattle.coding.specs.Encodes.{allowed, Coding, Pieces, done, left, sent, At, first, later, Codes, is-plain, is-sequence, is-set, is-sequence-of, is-set-of, is-choice, Wrapped, bare, tagged, EncodesAt}
+use Rattle.coding.specs.Encodes.{allowed, Coding, Pieces, done, left, sent, At, first, later, Codes, is-plain, is-sequence, is-set}
+use Rattle.coding.specs.Encodes.{is-sequence-of, is-set-of, is-choice, Wrapped, bare, tagged, EncodesAt}
 use Rattle.coding.specs.Equivalent.{Slot, Alike, same-leaf, same-sequence, same-set, same-sequence-of, same-set-of, same-choice, EquivalentAt}
 use Rattle.coding.specs.Reading.{passes, begun, nothing, full, readWrapped, readSequence, place, readSet, readMany, choose, readBody, readKind, readValue}
 use Rattle.coding.proofs.Content.{content-complete}
@@ -208,7 +209,8 @@ module _ (o : Order) (T : Table) (good : Good T) (E : Coding) (Q : Value → Val
   end-begun t no-more = refl
   end-begun t mark = never _ (λ e. no-zero (good t .first (0 ∷ []) e))
 
-  not-begun : (t : ℕ) {ts : List ℕ} {mode : Mode} {ps : List (List ℕ)} (tail u : List ℕ) → ((i : List ℕ) → begins T t i ≡ true → beginsAny T i ts ≡ false) → Heads T ts ps → Ends mode tail u → begun T t (flat ps tail) ≡ false
+  not-begun : (t : ℕ) {ts : List ℕ} {mode : Mode} {ps : List (List ℕ)} (tail u : List ℕ)
+      → ((i : List ℕ) → begins T t i ≡ true → beginsAny T i ts ≡ false) → Heads T ts ps → Ends mode tail u → begun T t (flat ps tail) ≡ false
   unfolding flat
   not-begun t tail u d no-piece z = end-begun t z
   not-begun t tail u d (a-piece {ps = ps} h) z = begun-no t (flat ps tail) d h
@@ -247,7 +249,8 @@ module _ (o : Order) (T : Table) (good : Good T) (E : Coding) (Q : Value → Val
       let (us, y, q) = sequence-complete ms [] false t u d p a z in
       record { value = sequence (slots us); answer = simp (run, y); alike = same-sequence q }
 
-  set-body : {ms : List Member} {os : List (Option Value)} {ps qs : List (List ℕ)} → Distinct T (types ms) → Pieces E ms os ps → allowed ms os ≡ true → Perm ps qs → (mode : Mode) (t u : List ℕ) → Ends mode t u
+  set-body : {ms : List Member} {os : List (Option Value)} {ps qs : List (List ℕ)} → Distinct T (types ms) → Pieces E ms os ps
+      → allowed ms os ≡ true → Perm ps qs → (mode : Mode) (t u : List ℕ) → Ends mode t u
       → Reads (Alike o Q) (readBody T r (Set ms) mode) (set (slots os)) (flat qs t) u
   unfolding readBody
   set-body {ms} {qs = qs} d p a c mode t u z =
@@ -269,9 +272,19 @@ module _ (o : Order) (T : Table) (good : Good T) (E : Coding) (Q : Value → Val
       let (ws, y, q) = many-complete (suc (length (flat qs tail))) t mode [] tail u es′ (omega arith) z in
       record { value = setOf (bag ws); answer = simp (run, y); alike = same-set-of us c′ q }
 
-  pub kind-complete : (i : List ℕ) (k : Body) {v : Value} {m : List ℕ} (s : List ℕ) → (isChoice k ≡ false → Proper i) → GoodBody T k → Codes o E i k v m → Reads (Alike o Q) (readKind T r i k) v (m ++ s) s
+  pub kind-complete : (i : List ℕ) (k : Body) {v : Value} {m : List ℕ} (s : List ℕ) → (isChoice k ≡ false → Proper i) → GoodBody T k
+      → Codes o E i k v m → Reads (Alike o Q) (readKind T r i k) v (m ++ s) s
   unfolding readKind GoodBody isChoice
-  kind-complete i k {m = m} s g d (is-plain {x = x} c h p) = record { value = leaf x; answer = simp (run, primitive-complete s (proper-readable (g refl)) p, content-complete (length (m ++ s)) s h); alike = same-leaf }
+  kind-complete i k {m = m} s g d (is-plain {x = x} c h p) = record {
+    value = leaf x;
+    answer = simp (
+      run,
+      primitive-complete s (proper-readable
+          (g refl)) p,
+      content-complete (length (m ++ s)) s h,
+    );
+    alike = same-leaf;
+  }
   kind-complete i k s g d (is-sequence ps p a f) = constructed-complete _ s (proper-readable (g refl)) (λ mode t u z. at-pieces _ ps t u (sequence-body d p a mode t u z)) f
   kind-complete i k s g d (is-set ps qs p a c f) = constructed-complete _ s (proper-readable (g refl)) (λ mode t u z. at-pieces _ qs t u (set-body d p a c mode t u z)) f
   kind-complete i k s g d (is-sequence-of ps es f) = constructed-complete _ s (proper-readable (g refl)) (λ mode t u z. at-pieces _ ps t u (many-body es mode t u z)) f
@@ -344,7 +357,8 @@ unfolding EncodesAt EquivalentAt readValue
 value-complete o T good zero t v m s e = absurd e
 value-complete o T good (suc n) t v m s e =
     let x = wrapped-complete _
-    (λ c u. kind-complete o T good (EncodesAt o T n) (EquivalentAt o n) (λ u w. readValue T n u w) (starts-at o T good n) (value-complete o T good n) (own (T t)) (T t .body) u (good t .item) (good t .apart))
+    (λ c u. kind-complete o T good (EncodesAt o T n) (EquivalentAt o n) (λ u w. readValue T n u w) (starts-at o T good n)
+    (value-complete o T good n) (own (T t)) (T t .body) u (good t .item) (good t .apart))
     (λ c. kind-opened o T (EncodesAt o T n) (starts-at o T good n) good (own (T t)) (T t .body) (good t .item)) s (good t .inner) e in
     record { value = x .value; answer = x .answer; alike = x .alike }
 

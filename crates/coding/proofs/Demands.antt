@@ -34,7 +34,10 @@ use Rattle.coding.proofs.FirstTags.{Good, good}
 use Rattle.coding.proofs.Levels.{retype}
 use Rattle.coding.proofs.Judging.{judge-octets}
 use Rattle.coding.proofs.Shaped.{Limited, limited, encodes-shaped}
-use Rattle.coding.proofs.Outcomes.{Beyond, reading, writing, long-exactly, refused-exactly, lacks-exactly, read-exactly, received, read-beyond, read-unchanged, read-stage, read-never-value, write-stage, write-never-message, judged-exactly, full-exactly, written-exactly, sent, write-beyond, write-unchanged, done≢refusal, message-beyond, value-beyond, done-beyond, staged-by, read-staged, write-staged}
+use Rattle.coding.proofs.Outcomes.{Beyond, reading, writing, long-exactly, refused-exactly, lacks-exactly, read-exactly, received, read-beyond}
+use Rattle.coding.proofs.Outcomes.{read-unchanged, read-stage, read-never-value, write-stage, write-never-message, judged-exactly}
+use Rattle.coding.proofs.Outcomes.{full-exactly, written-exactly, sent, write-beyond, write-unchanged, done≢refusal, message-beyond}
+use Rattle.coding.proofs.Outcomes.{value-beyond, done-beyond, staged-by, read-staged, write-staged}
 use Rattle.coding.proofs.Stages.{never, call, call-found, found-exactly, table-exactly, type-exactly, call-unchanged, call-staged}
 
 -- both outcomes are those of a call: the table is judged, the type is looked for, then it is read or written

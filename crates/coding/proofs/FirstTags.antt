@@ -15,7 +15,8 @@ use Rattle.octets.proofs.Tests.{test, or-by, or-false}
 use Rattle.octets.proofs.Lists.{same-refl, same-true}
 use Rattle.ber.proofs.Identifiers.{identifier-complete, identifier-tag, identifier-begun, Begun}
 use Rattle.ber.proofs.Items.{Readable}
-use Rattle.table.specs.Syntax.{Tag, Member, Simple, Boolean, Integer, BitString, OctetString, Null, Enumerated, Body, Plain, Sequence, Set, SequenceOf, SetOf, Choice, Record, Table, absent, references, isChoice, universal, constructed}
+use Rattle.table.specs.Syntax.{Tag, Member, Simple, Boolean, Integer, BitString, OctetString, Null, Enumerated, Body, Plain, Sequence, Set}
+use Rattle.table.specs.Syntax.{SequenceOf, SetOf, Choice, Record, Table, absent, references, isChoice, universal, constructed}
 use Rattle.table.specs.Rules.{Mistagged, missing, not-last, not-its-number, on-choice, bodyBelow, tagsBelow, below, First, outermost, inside, parts, Sharing}
 use Rattle.table.specs.Passes.{Nested, Passes}
 use Rattle.coding.specs.Awaited.{types, further, awaited}
@@ -247,7 +248,13 @@ tag-real r f g (h ∷ rest) e false k c z = f (not-last [] rest g h e c)
 own-real : (r : Record) → (Mistagged r → ⊥) → isChoice (r .body) ≡ false → Proper (own r)
 unfolding own
 own-real r f k =
-    record { tag = last (r .body) (r .tags); bit = constructed (r .body); is = refl; real = last-real (r .body) (universal-some (r .body) k) [] (r .tags) (λ bf g e c q. f (not-its-number bf g e c q)) }
+    record {
+      tag = last (r .body) (r .tags);
+      bit = constructed (r .body);
+      is = refl;
+      real = last-real (r .body) (universal-some (r .body) k) []
+          (r .tags) (λ bf g e c q. f (not-its-number bf g e c q));
+    }
 
 -- a number without a record breaks no rule
 

@@ -19,12 +19,15 @@ use Rattle.octets.proofs.Tests.{and-left, and-right}
 use Rattle.table.specs.Syntax.{Member, Simple, Boolean, Integer, BitString, OctetString, Null, Enumerated, Body, Plain, Sequence, Set, SequenceOf, SetOf, Choice, Table}
 use Rattle.table.specs.Octets.{kind}
 use Rattle.table.specs.Rules.{members}
-use Rattle.coding.specs.Value.{Leaf, boolean, integer, bits, string, null, enumerated, Value, leaf, sequence, set, sequenceOf, setOf, choice, Slots, end, missing, present, slots, bag, leafOctets, count, presence, octets, parts}
+use Rattle.coding.specs.Value.{Leaf, boolean, integer, bits, string, null, enumerated, Value, leaf, sequence, set, sequenceOf, setOf, choice}
+use Rattle.coding.specs.Value.{Slots, end, missing, present, slots, bag, leafOctets, count, presence, octets, parts}
 use Rattle.coding.specs.Content.{listed}
-use Rattle.coding.specs.Typed.{TypedLeaf, l-boolean, l-integer, l-bits, l-string, l-null, l-enumerated, Fits, f-done, f-left, f-sent, Typed, t-plain, t-sequence, t-set, t-sequence-of, t-set-of, t-choice, WellTypedAt}
+use Rattle.coding.specs.Typed.{TypedLeaf, l-boolean, l-integer, l-bits, l-string, l-null, l-enumerated, Fits, f-done, f-left, f-sent, Typed}
+use Rattle.coding.specs.Typed.{t-plain, t-sequence, t-set, t-sequence-of, t-set-of, t-choice, WellTypedAt}
 use Rattle.coding.specs.Encodes.{allowed, At, first, later}
 use Rattle.coding.specs.Form.{element, alternatives}
-use Rattle.coding.specs.Judging.{Node, a-leaf, a-sequence, a-set, a-sequence-of, a-set-of, a-choice, readNode, leafKind, nodeKind, numbers, leafAgrees, agreeing, counts, agrees, judgeMembers, judgeElements, judgeBelow, judgeValue, judgeWhole}
+use Rattle.coding.specs.Judging.{Node, a-leaf, a-sequence, a-set, a-sequence-of, a-set-of, a-choice, readNode, leafKind, nodeKind, numbers}
+use Rattle.coding.specs.Judging.{leafAgrees, agreeing, counts, agrees, judgeMembers, judgeElements, judgeBelow, judgeValue, judgeWhole}
 use Rattle.coding.specs.Shaped.{LeafShaped, Whole, Shaped, AllShaped}
 use Rattle.coding.proofs.Form.{at-index}
 use Rattle.coding.proofs.Nodes.{flagsOf, leafOwn, nodeOwn, nodeOctets, NodeShaped, node-sound, node-complete}
@@ -45,17 +48,182 @@ record Kinds (b : Body) : Type 0 where
 
 kinds : (b : Body) → Kinds b
 unfolding kind
-kinds (Plain Boolean) = record { is-boolean = λ e. refl; is-integer = λ e. absurd (false≢true e); is-bits = λ e. absurd (false≢true e); is-string = λ e. absurd (false≢true e); is-null = λ e. absurd (false≢true e); is-enumerated = λ e. absurd (false≢true e); is-sequence = λ e. absurd (false≢true e); is-set = λ e. absurd (false≢true e); is-sequence-of = λ e. absurd (false≢true e); is-set-of = λ e. absurd (false≢true e); is-choice = λ e. absurd (false≢true e) }
-kinds (Plain Integer) = record { is-boolean = λ e. absurd (false≢true e); is-integer = λ e. refl; is-bits = λ e. absurd (false≢true e); is-string = λ e. absurd (false≢true e); is-null = λ e. absurd (false≢true e); is-enumerated = λ e. absurd (false≢true e); is-sequence = λ e. absurd (false≢true e); is-set = λ e. absurd (false≢true e); is-sequence-of = λ e. absurd (false≢true e); is-set-of = λ e. absurd (false≢true e); is-choice = λ e. absurd (false≢true e) }
-kinds (Plain BitString) = record { is-boolean = λ e. absurd (false≢true e); is-integer = λ e. absurd (false≢true e); is-bits = λ e. refl; is-string = λ e. absurd (false≢true e); is-null = λ e. absurd (false≢true e); is-enumerated = λ e. absurd (false≢true e); is-sequence = λ e. absurd (false≢true e); is-set = λ e. absurd (false≢true e); is-sequence-of = λ e. absurd (false≢true e); is-set-of = λ e. absurd (false≢true e); is-choice = λ e. absurd (false≢true e) }
-kinds (Plain OctetString) = record { is-boolean = λ e. absurd (false≢true e); is-integer = λ e. absurd (false≢true e); is-bits = λ e. absurd (false≢true e); is-string = λ e. refl; is-null = λ e. absurd (false≢true e); is-enumerated = λ e. absurd (false≢true e); is-sequence = λ e. absurd (false≢true e); is-set = λ e. absurd (false≢true e); is-sequence-of = λ e. absurd (false≢true e); is-set-of = λ e. absurd (false≢true e); is-choice = λ e. absurd (false≢true e) }
-kinds (Plain Null) = record { is-boolean = λ e. absurd (false≢true e); is-integer = λ e. absurd (false≢true e); is-bits = λ e. absurd (false≢true e); is-string = λ e. absurd (false≢true e); is-null = λ e. refl; is-enumerated = λ e. absurd (false≢true e); is-sequence = λ e. absurd (false≢true e); is-set = λ e. absurd (false≢true e); is-sequence-of = λ e. absurd (false≢true e); is-set-of = λ e. absurd (false≢true e); is-choice = λ e. absurd (false≢true e) }
-kinds (Plain (Enumerated x)) = record { is-boolean = λ e. absurd (false≢true e); is-integer = λ e. absurd (false≢true e); is-bits = λ e. absurd (false≢true e); is-string = λ e. absurd (false≢true e); is-null = λ e. absurd (false≢true e); is-enumerated = λ e. (x, refl); is-sequence = λ e. absurd (false≢true e); is-set = λ e. absurd (false≢true e); is-sequence-of = λ e. absurd (false≢true e); is-set-of = λ e. absurd (false≢true e); is-choice = λ e. absurd (false≢true e) }
-kinds (Sequence x) = record { is-boolean = λ e. absurd (false≢true e); is-integer = λ e. absurd (false≢true e); is-bits = λ e. absurd (false≢true e); is-string = λ e. absurd (false≢true e); is-null = λ e. absurd (false≢true e); is-enumerated = λ e. absurd (false≢true e); is-sequence = λ e. (x, refl); is-set = λ e. absurd (false≢true e); is-sequence-of = λ e. absurd (false≢true e); is-set-of = λ e. absurd (false≢true e); is-choice = λ e. absurd (false≢true e) }
-kinds (Set x) = record { is-boolean = λ e. absurd (false≢true e); is-integer = λ e. absurd (false≢true e); is-bits = λ e. absurd (false≢true e); is-string = λ e. absurd (false≢true e); is-null = λ e. absurd (false≢true e); is-enumerated = λ e. absurd (false≢true e); is-sequence = λ e. absurd (false≢true e); is-set = λ e. (x, refl); is-sequence-of = λ e. absurd (false≢true e); is-set-of = λ e. absurd (false≢true e); is-choice = λ e. absurd (false≢true e) }
-kinds (SequenceOf x) = record { is-boolean = λ e. absurd (false≢true e); is-integer = λ e. absurd (false≢true e); is-bits = λ e. absurd (false≢true e); is-string = λ e. absurd (false≢true e); is-null = λ e. absurd (false≢true e); is-enumerated = λ e. absurd (false≢true e); is-sequence = λ e. absurd (false≢true e); is-set = λ e. absurd (false≢true e); is-sequence-of = λ e. (x, refl); is-set-of = λ e. absurd (false≢true e); is-choice = λ e. absurd (false≢true e) }
-kinds (SetOf x) = record { is-boolean = λ e. absurd (false≢true e); is-integer = λ e. absurd (false≢true e); is-bits = λ e. absurd (false≢true e); is-string = λ e. absurd (false≢true e); is-null = λ e. absurd (false≢true e); is-enumerated = λ e. absurd (false≢true e); is-sequence = λ e. absurd (false≢true e); is-set = λ e. absurd (false≢true e); is-sequence-of = λ e. absurd (false≢true e); is-set-of = λ e. (x, refl); is-choice = λ e. absurd (false≢true e) }
-kinds (Choice x) = record { is-boolean = λ e. absurd (false≢true e); is-integer = λ e. absurd (false≢true e); is-bits = λ e. absurd (false≢true e); is-string = λ e. absurd (false≢true e); is-null = λ e. absurd (false≢true e); is-enumerated = λ e. absurd (false≢true e); is-sequence = λ e. absurd (false≢true e); is-set = λ e. absurd (false≢true e); is-sequence-of = λ e. absurd (false≢true e); is-set-of = λ e. absurd (false≢true e); is-choice = λ e. (x, refl) }
+kinds (Plain Boolean) = record {
+  is-boolean = λ e. refl;
+  is-integer = λ e. absurd (false≢true e);
+  is-bits = λ e. absurd (false≢true e);
+  is-string =
+      λ e. absurd (false≢true e);
+  is-null = λ e. absurd (false≢true e);
+  is-enumerated = λ e. absurd (false≢true e);
+  is-sequence = λ e. absurd
+      (false≢true e);
+  is-set = λ e. absurd (false≢true e);
+  is-sequence-of = λ e. absurd (false≢true e);
+  is-set-of = λ e. absurd
+      (false≢true e);
+  is-choice = λ e. absurd (false≢true e);
+}
+kinds (Plain Integer) = record {
+  is-boolean = λ e. absurd (false≢true e);
+  is-integer = λ e. refl;
+  is-bits = λ e. absurd (false≢true e);
+  is-string =
+      λ e. absurd (false≢true e);
+  is-null = λ e. absurd (false≢true e);
+  is-enumerated = λ e. absurd (false≢true e);
+  is-sequence = λ e. absurd
+      (false≢true e);
+  is-set = λ e. absurd (false≢true e);
+  is-sequence-of = λ e. absurd (false≢true e);
+  is-set-of = λ e. absurd
+      (false≢true e);
+  is-choice = λ e. absurd (false≢true e);
+}
+kinds (Plain BitString) = record {
+  is-boolean = λ e. absurd (false≢true e);
+  is-integer = λ e. absurd (false≢true e);
+  is-bits =
+      λ e. refl;
+  is-string = λ e. absurd (false≢true e);
+  is-null = λ e. absurd (false≢true e);
+  is-enumerated = λ e. absurd
+      (false≢true e);
+  is-sequence = λ e. absurd (false≢true e);
+  is-set = λ e. absurd (false≢true e);
+  is-sequence-of = λ e. absurd
+      (false≢true e);
+  is-set-of = λ e. absurd (false≢true e);
+  is-choice = λ e. absurd (false≢true e);
+}
+kinds (Plain OctetString) = record {
+  is-boolean = λ e. absurd (false≢true e);
+  is-integer = λ e. absurd (false≢true e);
+  is-bits = λ e. absurd
+      (false≢true e);
+  is-string = λ e. refl;
+  is-null = λ e. absurd (false≢true e);
+  is-enumerated = λ e. absurd (false≢true e);
+  is-sequence =
+      λ e. absurd (false≢true e);
+  is-set = λ e. absurd (false≢true e);
+  is-sequence-of = λ e. absurd (false≢true e);
+  is-set-of = λ e. absurd
+      (false≢true e);
+  is-choice = λ e. absurd (false≢true e);
+}
+kinds (Plain Null) = record {
+  is-boolean = λ e. absurd (false≢true e);
+  is-integer = λ e. absurd (false≢true e);
+  is-bits = λ e. absurd
+      (false≢true e);
+  is-string = λ e. absurd (false≢true e);
+  is-null = λ e. refl;
+  is-enumerated = λ e. absurd (false≢true e);
+  is-sequence =
+      λ e. absurd (false≢true e);
+  is-set = λ e. absurd (false≢true e);
+  is-sequence-of = λ e. absurd (false≢true e);
+  is-set-of = λ e. absurd
+      (false≢true e);
+  is-choice = λ e. absurd (false≢true e);
+}
+kinds (Plain (Enumerated x)) = record {
+  is-boolean = λ e. absurd (false≢true e);
+  is-integer = λ e. absurd (false≢true e);
+  is-bits = λ e. absurd
+      (false≢true e);
+  is-string = λ e. absurd (false≢true e);
+  is-null = λ e. absurd (false≢true e);
+  is-enumerated = λ e. (x, refl);
+  is-sequence =
+      λ e. absurd (false≢true e);
+  is-set = λ e. absurd (false≢true e);
+  is-sequence-of = λ e. absurd (false≢true e);
+  is-set-of = λ e. absurd
+      (false≢true e);
+  is-choice = λ e. absurd (false≢true e);
+}
+kinds (Sequence x) = record {
+  is-boolean = λ e. absurd (false≢true e);
+  is-integer = λ e. absurd (false≢true e);
+  is-bits = λ e. absurd
+      (false≢true e);
+  is-string = λ e. absurd (false≢true e);
+  is-null = λ e. absurd (false≢true e);
+  is-enumerated = λ e. absurd
+      (false≢true e);
+  is-sequence = λ e. (x, refl);
+  is-set = λ e. absurd (false≢true e);
+  is-sequence-of = λ e. absurd (false≢true e);
+  is-set-of =
+      λ e. absurd (false≢true e);
+  is-choice = λ e. absurd (false≢true e);
+}
+kinds (Set x) = record {
+  is-boolean = λ e. absurd (false≢true e);
+  is-integer = λ e. absurd (false≢true e);
+  is-bits = λ e. absurd
+      (false≢true e);
+  is-string = λ e. absurd (false≢true e);
+  is-null = λ e. absurd (false≢true e);
+  is-enumerated = λ e. absurd
+      (false≢true e);
+  is-sequence = λ e. absurd (false≢true e);
+  is-set = λ e. (x, refl);
+  is-sequence-of = λ e. absurd (false≢true e);
+  is-set-of =
+      λ e. absurd (false≢true e);
+  is-choice = λ e. absurd (false≢true e);
+}
+kinds (SequenceOf x) = record {
+  is-boolean = λ e. absurd (false≢true e);
+  is-integer = λ e. absurd (false≢true e);
+  is-bits = λ e. absurd
+      (false≢true e);
+  is-string = λ e. absurd (false≢true e);
+  is-null = λ e. absurd (false≢true e);
+  is-enumerated = λ e. absurd
+      (false≢true e);
+  is-sequence = λ e. absurd (false≢true e);
+  is-set = λ e. absurd (false≢true e);
+  is-sequence-of = λ e. (x, refl);
+  is-set-of =
+      λ e. absurd (false≢true e);
+  is-choice = λ e. absurd (false≢true e);
+}
+kinds (SetOf x) = record {
+  is-boolean = λ e. absurd (false≢true e);
+  is-integer = λ e. absurd (false≢true e);
+  is-bits = λ e. absurd
+      (false≢true e);
+  is-string = λ e. absurd (false≢true e);
+  is-null = λ e. absurd (false≢true e);
+  is-enumerated = λ e. absurd
+      (false≢true e);
+  is-sequence = λ e. absurd (false≢true e);
+  is-set = λ e. absurd (false≢true e);
+  is-sequence-of = λ e. absurd
+      (false≢true e);
+  is-set-of = λ e. (x, refl);
+  is-choice = λ e. absurd (false≢true e);
+}
+kinds (Choice x) = record {
+  is-boolean = λ e. absurd (false≢true e);
+  is-integer = λ e. absurd (false≢true e);
+  is-bits = λ e. absurd
+      (false≢true e);
+  is-string = λ e. absurd (false≢true e);
+  is-null = λ e. absurd (false≢true e);
+  is-enumerated = λ e. absurd
+      (false≢true e);
+  is-sequence = λ e. absurd (false≢true e);
+  is-set = λ e. absurd (false≢true e);
+  is-sequence-of = λ e. absurd
+      (false≢true e);
+  is-set-of = λ e. absurd (false≢true e);
+  is-choice = λ e. (x, refl);
+}
 
 leaf-octets : (x : Leaf) → leafOctets x ≡ nodeOctets (a-leaf x)
 unfolding leafOctets nodeKind leafKind nodeOwn leafOwn
@@ -268,7 +436,8 @@ judge-sound T zero t s o = then-holds (node-sound s o) λ x s₁ h. refuses
 judge-sound T (suc n) t s o =
     then-holds (node-sound s o) λ x s₁ h.
     if-holds _ (λ e. refuses) λ e _.
-    map-holds (below-sound (WellTypedAt T n) (λ u w. judgeValue T n u w) (judge-sound T n) (T t .body) x s₁ (every-right (nodeOctets x) (rw (h .0) at o)) (not-false (agrees (T t .body) x) e) (h .1)) λ v u y.
+    map-holds (below-sound (WellTypedAt T n) (λ u w. judgeValue T n u w) (judge-sound T n) (T t .body) x s₁ (every-right (nodeOctets x) (rw
+    (h .0) at o)) (not-false (agrees (T t .body) x) e) (h .1)) λ v u y.
     record { cut = h .0 ∙ y .cut; typed = y .typed; shaped = y .shaped }
 
 -- what stands there is judged

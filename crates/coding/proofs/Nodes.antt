@@ -22,7 +22,8 @@ use Rattle.ber.specs.Integer.{integerOf, eight, eightOf}
 use Rattle.ber.specs.BitString.{unused, masked}
 use Rattle.ber.proofs.Integers.{eight-back, eight-same, integer-fits}
 use Rattle.coding.specs.Value.{Leaf, boolean, integer, bits, string, null, enumerated, flag, bitCount}
-use Rattle.coding.specs.Judging.{Node, a-leaf, a-sequence, a-set, a-sequence-of, a-set-of, a-choice, need, flags, ownMembers, ownCount, ownBoolean, ownInteger, ownString, ownBits, ownEnumerated, ownChoice, readOwn, readNode, leafKind, nodeKind}
+use Rattle.coding.specs.Judging.{Node, a-leaf, a-sequence, a-set, a-sequence-of, a-set-of, a-choice, need, flags, ownMembers, ownCount}
+use Rattle.coding.specs.Judging.{ownBoolean, ownInteger, ownString, ownBits, ownEnumerated, ownChoice, readOwn, readNode, leafKind, nodeKind}
 use Rattle.coding.specs.Shaped.{LeafShaped}
 
 -- the own octets of a node, behind the mark and the kind
@@ -219,7 +220,8 @@ unfolding flags
 flags-count [] = refl
 flags-count (b ∷ s) = ap suc (flags-count s)
 
-members-owned : (k l : ℕ) (f : List Bool → Node) → ((bs : List Bool) → nodeOwn (f bs) ≡ length bs ∷ flagsOf bs) → ((bs : List Bool) → nodeKind (f bs) ≡ k) → ((bs : List Bool) → length bs < 256 → NodeShaped (f bs))
+members-owned : (k l : ℕ) (f : List Bool → Node) → ((bs : List Bool) → nodeOwn (f bs) ≡ length bs ∷ flagsOf bs)
+    → ((bs : List Bool) → nodeKind (f bs) ≡ k) → ((bs : List Bool) → length bs < 256 → NodeShaped (f bs))
     → (s : List ℕ) → AllOctets s → Holds (Owned k s) (ownMembers f l s)
 unfolding ownMembers
 members-owned k l f own kd sh [] o = need-holds l 1 [] (λ h. absurd (omega arith))

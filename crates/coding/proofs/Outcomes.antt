@@ -307,7 +307,16 @@ module _ (T : Table) (t : ℕ) (v buf : List ℕ) where
       let typed : WellTyped T t w = record { level = levels; typed = s .2 } in
       let low : depth w ≤ levels = deep T levels t w (s .2) in
       if-cases (WriteStage T t v buf) (not (leb (length f) (min longestMessage (length buf)))) _ _
-      (λ g. WriteStage.no-room (record { short = h; value = w; is = s .1; shaped = s .3; typed = typed; deep = low; over = leb-false (length f) (min longestMessage (length buf)) (not-true _ g) }) refl)
+      (λ g. WriteStage.no-room (record {
+        short = h;
+        value = w;
+        is = s .1;
+        shaped = s .3;
+        typed = typed;
+        deep = low;
+        over = leb-false (length f)
+            (min longestMessage (length buf)) (not-true _ g);
+      }) refl)
       λ g.
       let room : length f ≤ min longestMessage (length buf) = leb-true (length f) (min longestMessage (length buf)) (not-false _ g) in
       let within : length f ≤ longestMessage = omega arith in

@@ -14,7 +14,8 @@ use Rattle.octets.specs.Answer.{Answer, got, refused, then, if, behind}
 use Rattle.octets.specs.Permutations.{AllOctets, Order, as-given}
 use Rattle.octets.proofs.Answer.{Holds, yields, if-holds, then-holds, map-holds, got-holds, Taken}
 use Rattle.octets.proofs.Permutations.{every-right}
-use Rattle.ber.specs.Reading.{readFollowing, readIdentifier, Size, definite, indefinite, fit, readLong, readLength, Mode, closed, open-ended, atEnd, readHeader, inside, readConstructed, contents, readPrimitive}
+use Rattle.ber.specs.Reading.{readFollowing, readIdentifier, Size, definite, indefinite, fit, readLong, readLength, Mode, closed, open-ended, atEnd}
+use Rattle.ber.specs.Reading.{readHeader, inside, readConstructed, contents, readPrimitive}
 use Rattle.ber.specs.Length.{short, long}
 use Rattle.ber.specs.Item.{Definite, sized, Constructed, in-size, in-marks}
 use Rattle.ber.proofs.Lengths.{Shape, is-definite, is-indefinite}
@@ -24,7 +25,9 @@ use Rattle.coding.specs.Value.{Value, octets}
 use Rattle.coding.specs.Reading.{decode, notAwaited, unwanted, nothing, readWrapped, readSequence, place, readSet, readMany, choose, readBody, readKind, readValue, readMessage}
 use Rattle.coding.specs.Tags.{own, explicit}
 use Rattle.coding.specs.Encodes.{Coding, Codes, is-plain, is-sequence, is-set, is-sequence-of, is-set-of, is-choice, Wrapped, bare, tagged, EncodesAt}
-use Rattle.coding.specs.Judging.{Node, a-leaf, a-sequence, a-set, a-sequence-of, a-set-of, a-choice, need, ownMembers, ownCount, ownBoolean, ownInteger, ownString, ownBits, ownEnumerated, ownChoice, readOwn, readNode, judgeMembers, judgeElements, judgeBelow, judgeValue, judgeWhole}
+use Rattle.coding.specs.Judging.{Node, a-leaf, a-sequence, a-set, a-sequence-of, a-set-of, a-choice, need, ownMembers, ownCount, ownBoolean}
+use Rattle.coding.specs.Judging.{ownInteger, ownString, ownBits, ownEnumerated, ownChoice, readOwn, readNode, judgeMembers, judgeElements}
+use Rattle.coding.specs.Judging.{judgeBelow, judgeValue, judgeWhole}
 use Rattle.coding.proofs.Sound.{wrapped-sound, kind-sound, value-sound, not-awaited}
 use Rattle.coding.proofs.Nodes.{nodeOctets, node-sound}
 use Rattle.coding.proofs.Judging.{judge-sound}
@@ -180,7 +183,8 @@ header-shorter i s =
     let k = shape-shorter h in
     (rw (e, length-append) (omega arith), fits h))
 
-inside-says : {A : Type 0} (body : Mode → List ℕ → Answer A) → ((mode : Mode) (s : List ℕ) → Says (length s) (body mode s)) → (z : Size) (w : List ℕ) → ((n : ℕ) → z ≡ definite n → n ≤ length w) → Says (length w) (inside body z w)
+inside-says : {A : Type 0} (body : Mode → List ℕ → Answer A) → ((mode : Mode) (s : List ℕ) → Says (length s) (body mode s))
+    → (z : Size) (w : List ℕ) → ((n : ℕ) → z ≡ definite n → n ≤ length w) → Says (length w) (inside body z w)
 unfolding inside
 inside-says body f (definite n) w h =
     let k : n ≤ length w = h n refl in
@@ -189,7 +193,8 @@ inside-says body f (definite n) w h =
     then-speaks (wider (behind-speaks (length w - n) (f closed (take n w))) (omega arith)) λ v r g. answers
 inside-says body f indefinite w h = f open-ended w
 
-constructed-says : {A : Type 0} (i : List ℕ) (body : Mode → List ℕ → Answer A) → ((mode : Mode) (s : List ℕ) → Says (length s) (body mode s)) → (s : List ℕ) → Says (length s) (readConstructed i body s)
+constructed-says : {A : Type 0} (i : List ℕ) (body : Mode → List ℕ → Answer A) → ((mode : Mode) (s : List ℕ) → Says (length s) (body mode s))
+    → (s : List ℕ) → Says (length s) (readConstructed i body s)
 unfolding readConstructed
 constructed-says i body f s =
     then-speaks (header-says i s) λ z w e.
@@ -219,7 +224,8 @@ ends-shorter : {mode : Mode} {t r : List ℕ} → Ends mode t r → length r ≤
 ends-shorter no-more = omega arith
 ends-shorter mark = omega arith
 
-end-says : {A : Type 0} (n : ℕ) (mode : Mode) (s : List ℕ) {f : List ℕ → Answer A} {x : Unit {0} → Answer A} → length s ≤ n → ((r : List ℕ) → Says n (f r)) → ((u : Unit {0}) → Says n (x u)) → Says n (atEnd mode s f x)
+end-says : {A : Type 0} (n : ℕ) (mode : Mode) (s : List ℕ) {f : List ℕ → Answer A} {x : Unit {0} → Answer A} → length s ≤ n
+    → ((r : List ℕ) → Says n (f r)) → ((u : Unit {0}) → Says n (x u)) → Says n (atEnd mode s f x)
 unfolding atEnd
 end-says n closed s h f x = if-speaks _ (λ e. f []) λ e. x
 end-says n open-ended s h f x =
@@ -357,7 +363,8 @@ node-says s =
 suffix : {s : List ℕ} (a u : List ℕ) → s ≡ a ++ u → AllOctets s → AllOctets u × (length u ≤ length s)
 suffix a u e o = (every-right a (rw e at o), rw (e, length-append) (omega arith))
 
-module _ (r : ℕ → List ℕ → Answer Value) (says : (t : ℕ) (s : List ℕ) → AllOctets s → Speaks OfValue (length s) (r t s)) (cut : (t : ℕ) (s : List ℕ) → AllOctets s → Holds (λ v u. s ≡ octets v ++ u) (r t s)) where
+module _ (r : ℕ → List ℕ → Answer Value) (says : (t : ℕ) (s : List ℕ) → AllOctets s
+    → Speaks OfValue (length s) (r t s)) (cut : (t : ℕ) (s : List ℕ) → AllOctets s → Holds (λ v u. s ≡ octets v ++ u) (r t s)) where
   judge-members-says : (n : ℕ) (ms : List Member) (bs : List Bool) (os : List (Option Value)) (s : List ℕ) → AllOctets s → length s ≤ n → Speaks OfValue n (judgeMembers r ms bs os s)
   unfolding judgeMembers
   judge-members-says n [] bs os s o h = answers

@@ -19,9 +19,11 @@ use Rattle.octets.proofs.Permutations.{every-right, all-octets}
 use Rattle.table.specs.Syntax.{Member, Simple, Boolean, Integer, BitString, OctetString, Null, Enumerated, Body, Plain, Sequence, Set, SequenceOf, SetOf, Choice}
 use Rattle.table.specs.Octets.{kind}
 use Rattle.table.specs.Rules.{members}
-use Rattle.coding.specs.Value.{Leaf, boolean, integer, bits, string, null, enumerated, Value, leaf, sequence, set, sequenceOf, setOf, choice, Slots, end, missing, present, slots, bag, leafOctets, presence, octets, parts, depth, depths}
+use Rattle.coding.specs.Value.{Leaf, boolean, integer, bits, string, null, enumerated, Value, leaf, sequence, set, sequenceOf, setOf, choice}
+use Rattle.coding.specs.Value.{Slots, end, missing, present, slots, bag, leafOctets, presence, octets, parts, depth, depths}
 use Rattle.coding.specs.Content.{listed}
-use Rattle.coding.specs.Typed.{TypedLeaf, l-boolean, l-integer, l-bits, l-string, l-null, l-enumerated, Fits, f-done, f-left, f-sent, Typed, t-plain, t-sequence, t-set, t-sequence-of, t-set-of, t-choice}
+use Rattle.coding.specs.Typed.{TypedLeaf, l-boolean, l-integer, l-bits, l-string, l-null, l-enumerated, Fits, f-done, f-left, f-sent, Typed}
+use Rattle.coding.specs.Typed.{t-plain, t-sequence, t-set, t-sequence-of, t-set-of, t-choice}
 use Rattle.coding.specs.Encodes.{allowed, At, first, later}
 use Rattle.coding.specs.Form.{alternatives}
 use Rattle.coding.specs.Judging.{Node, a-leaf, a-sequence, a-set, a-sequence-of, a-set-of, a-choice, readNode, leafKind, nodeKind, numbers, leafAgrees, agreeing, counts, agrees, judgeBelow}

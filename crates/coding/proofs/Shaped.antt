@@ -181,7 +181,8 @@ at-below : {t n : ℕ} {ts : List ℕ} → At t ts n → n < length ts
 at-below first = omega arith
 at-below (later a) = let h = at-below a in omega arith
 
-module _ {o : Order} {E : Coding} (some-octet : (t : ℕ) (v : Value) (m : List ℕ) → E t v m → 0 < length m) (f : (t : ℕ) (v : Value) (m : List ℕ) → AllOctets m → length m ≤ 8192 → E t v m → Shaped v) where
+module _ {o : Order} {E : Coding} (some-octet : (t : ℕ) (v : Value) (m : List ℕ) → E t v m → 0 < length m) (f : (t : ℕ) (v : Value) (m : List ℕ)
+    → AllOctets m → length m ≤ 8192 → E t v m → Shaped v) where
   kind-shaped : {i : List ℕ} {k : Body} {v : Value} {m : List ℕ} → Limited k → AllOctets m → length m ≤ 8192 → Codes o E i k v m → Shaped v
   unfolding Limited Shaped
   kind-shaped l a h (is-plain c x p) = let g = definite-fits p in content-shaped l (definite-octets p a) (omega arith) x

@@ -21,7 +21,8 @@ use Rattle.ber.proofs.Items.{Ends, no-more, mark, atEnd-holds, Body as Contents
 use Rattle.table.specs.Syntax.{Member, Body, Plain, Sequence, Set, SequenceOf, SetOf, Choice, Table}
 use Rattle.coding.specs.Value.{Value, sequence, set, sequenceOf, setOf, choice, slots, bag}
 use Rattle.coding.specs.Tags.{own, explicit}
-use Rattle.coding.specs.Encodes.{allowed, Coding, Pieces, done, left, sent, At, first, later, Codes, is-plain, is-sequence, is-set, is-sequence-of, is-set-of, is-choice, Wrapped, bare, tagged, EncodesAt}
+use Rattle.coding.specs.Encodes.{allowed, Coding, Pieces, done, left, sent, At, first, later, Codes, is-plain, is-sequence, is-set}
+use Rattle.coding.specs.Encodes.{is-sequence-of, is-set-of, is-choice, Wrapped, bare, tagged, EncodesAt}
 use Rattle.coding.specs.Reading.{notAwaited, unwanted, nothing, readWrapped, readSequence, place, readSet, readMany, choose, readBody, readKind, readValue}
 use Rattle.coding.proofs.Content.{content-sound}
 
@@ -133,7 +134,20 @@ module _ (o : Order) (T : Table) (E : Coding) (r : ℕ → List ℕ → Answer V
 
   sequence-sound : (ms : List Member) (os : List (Option Value)) (w : Bool) (mode : Mode) (s : List ℕ) → Holds (Closed (Onto os (Members ms)) mode s) (readSequence T r ms os w mode s)
   unfolding readSequence flat allowed
-  sequence-sound [] os w mode s = atEnd-holds mode s (λ u h. yields (record { tail = s; body = record { pieces = []; cut = refl; has = ([], sym (append-nil os), (done, refl)) }; ends = h })) λ _. unwanted-holds w s
+  sequence-sound [] os w mode s = atEnd-holds mode s (λ u h. yields (record {
+    tail = s;
+    body = record {
+      pieces = [];
+      cut = refl;
+      has = (
+        [],
+        sym
+            (append-nil os),
+        (done, refl),
+      );
+    };
+    ends = h;
+  })) λ _. unwanted-holds w s
   sequence-sound (m ∷ ms) os w mode s =
       if-holds _
       (λ b.

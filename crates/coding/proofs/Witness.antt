@@ -26,7 +26,8 @@ use Rattle.table.specs.Syntax.{Tag, Boolean, Integer, Plain, Set, Record, table
 use Rattle.table.specs.Octets.{kind, tagOctets, memberOctets, own as ownOctets, recordOctets, rising, bodyShaped, recordShaped}
 use Rattle.table.specs.Rules.{bodyBelow, tagsBelow, parts, members}
 use Rattle.table.specs.Reading.{tagsAt, numbersAt, membersAt, everyAt, bodyAt, recordAt, countedEnd, enumeratedEnd, membersEnd, ownEnd, recordEnd, scanFrom, scan, look}
-use Rattle.table.specs.Decide.{round, rounds, found, dangling, wrongTags, reachStep, circular, sameTag, begins as firstBegins, firstStep, firstOfBoth, share, pair, sharing, finiteBody, finiteStep, infinite}
+use Rattle.table.specs.Decide.{round, rounds, found, dangling, wrongTags, reachStep, circular, sameTag, begins as firstBegins, firstStep, firstOfBoth}
+use Rattle.table.specs.Decide.{share, pair, sharing, finiteBody, finiteStep, infinite}
 use Rattle.table.specs.Cause.{Breaks, FirstCause}
 use Rattle.table.specs.Verdict.{judgeChoices, judge, verdict}
 use Rattle.octets.specs.Causes.{causeNumber}
@@ -41,9 +42,12 @@ use Rattle.coding.specs.Encodes.{allowed, done, sent, is-plain, is-set, 
 use Rattle.coding.specs.Typed.{l-boolean, l-integer, f-done, f-sent, t-plain, t-set, WellTypedAt, WellTyped}
 use Rattle.coding.specs.Shaped.{LeafShaped, Shaped}
 use Rattle.coding.specs.Form.{encode, element, alternatives, formMembers, formElements, formBody, wrap, formAt}
-use Rattle.coding.specs.Judging.{need, flags, ownMembers, ownCount, ownBoolean, ownInteger, ownString, ownBits, ownEnumerated, ownChoice, readOwn, readNode, leafKind, nodeKind, numbers, leafAgrees, agreeing, counts, agrees, judgeMembers, judgeElements, judgeBelow, judgeValue, judgeWhole}
+use Rattle.coding.specs.Judging.{need, flags, ownMembers, ownCount, ownBoolean, ownInteger, ownString, ownBits, ownEnumerated, ownChoice}
+use Rattle.coding.specs.Judging.{readOwn, readNode, leafKind, nodeKind, numbers, leafAgrees, agreeing, counts, agrees, judgeMembers}
+use Rattle.coding.specs.Judging.{judgeElements, judgeBelow, judgeValue, judgeWhole}
 use Rattle.coding.specs.Awaited.{beginsBody, beginsItem, beginsIn, begins}
-use Rattle.coding.specs.Reading.{isListed, decode, passes, begun, notAwaited, nothing, full, unwanted, readWrapped, readSequence, place, readSet, readMany, choose, readBody, readKind, readValue, readMessage}
+use Rattle.coding.specs.Reading.{isListed, decode, passes, begun, notAwaited, nothing, full, unwanted, readWrapped, readSequence, place}
+use Rattle.coding.specs.Reading.{readSet, readMany, choose, readBody, readKind, readValue, readMessage}
 use Rattle.coding.specs.Outcome.{levels, longestMessage, done as done-with, refusal, of-table, of-value, of-message, Outcome, refuse}
 use Rattle.coding.specs.Calls.{afterReading, readOutcome, afterJudging, writeOutcome, afterCheck, wholeRead, wholeWrite, checkAnswer}
 use Rattle.coding.specs.Demands.{Accepted, NoSuchType, OfType, MessageRefused, NoRoomForValue, Read, ValueRefused, NoRoomForMessage, Wrote, Received, Sent}
@@ -79,7 +83,9 @@ unfolding all
 table-octets = octets-by S refl
 
 passed : verdict S ≡ Passed
-unfolding any all joined tabulate lowestFrom references isChoice universal rising bodyBelow tagsBelow parts tagsAt numbersAt membersAt everyAt bodyAt recordAt countedEnd enumeratedEnd membersEnd ownEnd recordEnd scanFrom scan look round rounds found dangling wrongTags reachStep circular sameTag firstBegins firstStep firstOfBoth share pair sharing finiteBody finiteStep infinite judgeChoices judge verdict
+unfolding any all joined tabulate lowestFrom references isChoice universal rising bodyBelow tagsBelow parts tagsAt numbersAt membersAt everyAt bodyAt
+    recordAt countedEnd enumeratedEnd membersEnd ownEnd recordEnd scanFrom scan look round rounds found dangling wrongTags reachStep circular sameTag
+    firstBegins firstStep firstOfBoth share pair sharing finiteBody finiteStep infinite judgeChoices judge verdict
 passed = refl
 
 accepted : Accepted S records
@@ -160,7 +166,16 @@ outcomes :
     × (wholeWrite S 2 [] [] ≡ refuse (of-value ValueShape 0) [])
     × (wholeWrite S 2 valueOctets (room 7) ≡ refuse (of-value MessageRoom 0) (room 7))
     × (wholeWrite S 2 valueOctets (room 9) ≡ after-writing)
-unfolding if then behind none-left any all joined tabulate lowestFrom same references isChoice universal constructed kind members rising bodyBelow tagsBelow parts tagsAt numbersAt membersAt everyAt bodyAt recordAt countedEnd enumeratedEnd membersEnd ownEnd recordEnd scanFrom scan look round rounds found dangling wrongTags reachStep circular sameTag firstBegins firstStep firstOfBoth share pair sharing finiteBody finiteStep infinite judgeChoices judge verdict leading following identifier number digits lengthOctets item negative pile integerOf spare minimal eight fewest unused masked readFollowing readIdentifier fit readLong readLength atEnd readHeader inside readConstructed contents readPrimitive slots bag leafOctets count presence octets listed identifierOf last before explicitTags own explicit allowed encode element alternatives formMembers formElements formBody wrap formAt need flags ownMembers ownCount ownBoolean ownInteger ownString ownBits ownEnumerated ownChoice readOwn readNode leafKind nodeKind numbers leafAgrees agreeing counts agrees judgeMembers judgeElements judgeBelow judgeValue judgeWhole beginsBody beginsItem beginsIn begins isListed decode passes begun notAwaited nothing full unwanted readWrapped readSequence place readSet readMany choose readBody readKind readValue readMessage afterReading readOutcome afterJudging writeOutcome afterCheck wholeRead wholeWrite checkAnswer
+unfolding if then behind none-left any all joined tabulate lowestFrom same references isChoice universal constructed kind members rising bodyBelow
+    tagsBelow parts tagsAt numbersAt membersAt everyAt bodyAt recordAt countedEnd enumeratedEnd membersEnd ownEnd recordEnd scanFrom scan look round
+    rounds found dangling wrongTags reachStep circular sameTag firstBegins firstStep firstOfBoth share pair sharing finiteBody finiteStep infinite
+    judgeChoices judge verdict leading following identifier number digits lengthOctets item negative pile integerOf spare minimal eight fewest unused
+    masked readFollowing readIdentifier fit readLong readLength atEnd readHeader inside readConstructed contents readPrimitive slots bag leafOctets
+    count presence octets listed identifierOf last before explicitTags own explicit allowed encode element alternatives formMembers formElements
+    formBody wrap formAt need flags ownMembers ownCount ownBoolean ownInteger ownString ownBits ownEnumerated ownChoice readOwn readNode leafKind
+    nodeKind numbers leafAgrees agreeing counts agrees judgeMembers judgeElements judgeBelow judgeValue judgeWhole beginsBody beginsItem beginsIn
+    begins isListed decode passes begun notAwaited nothing full unwanted readWrapped readSequence place readSet readMany choose readBody readKind
+    readValue readMessage afterReading readOutcome afterJudging writeOutcome afterCheck wholeRead wholeWrite checkAnswer
 outcomes = (refl, refl, refl, refl, refl, refl, refl, refl, refl, refl, refl, refl)
 
 -- every theorem of the page, at these

@@ -14,6 +14,8 @@ use Rattle.link.proofs.pack.Reads as pack-reads
 pub yinscarf-read-spec : {M : Type 1} → statement M
 yinscarf-read-spec = tie.close (tie.spec
     (λ c κs. search needs)  -- read-requires
-    (λ c κs. let a = c .before .before .before .before .before .before .before .args in rw (c .before .before .read .ensures .0) (read-small (a .table .now) (a .t) (a .message .now) (a .buf .now) (λ i. c .before .before .before .before .before .shared-slice-known2 .given i .fits)))  -- pack-requires
+    (λ c κs. let a = c .before .before .before .before .before .before .before .args in rw (c .before .before .read .ensures .0) (read-small
+    (a .table .now) (a .t) (a .message .now) (a .buf .now)
+    (λ i. c .before .before .before .before .before .shared-slice-known2 .given i .fits)))  -- pack-requires
     (λ c. c .before .before .before .read .kept .1 .1 .1 .0)  -- same-length
     (λ c. (c .pack .ensures ∙ ap packed (c .before .before .before .read .ensures .0), c .before .before .before .read .ensures .1)))  -- returns

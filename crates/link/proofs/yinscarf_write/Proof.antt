@@ -14,6 +14,8 @@ use Rattle.link.proofs.pack.Reads as pack-reads
 pub yinscarf-write-spec : {M : Type 1} → statement M
 yinscarf-write-spec = tie.close (tie.spec
     (λ c κs. search needs)  -- write-requires
-    (λ c κs. let a = c .before .before .before .before .before .before .before .args in rw (c .before .before .write .ensures .0) (write-small (a .table .now) (a .t) (a .value .now) (a .buf .now) (λ i. c .before .before .before .before .before .shared-slice-known2 .given i .fits)))  -- pack-requires
+    (λ c κs. let a = c .before .before .before .before .before .before .before .args in rw (c .before .before .write .ensures .0) (write-small
+    (a .table .now) (a .t) (a .value .now) (a .buf .now)
+    (λ i. c .before .before .before .before .before .shared-slice-known2 .given i .fits)))  -- pack-requires
     (λ c. c .before .before .before .write .kept .1 .1 .1 .0)  -- same-length
     (λ c. (c .pack .ensures ∙ ap packed (c .before .before .before .write .ensures .0), c .before .before .before .write .ensures .1)))  -- returns

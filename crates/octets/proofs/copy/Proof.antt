@@ -29,6 +29,12 @@ copy-spec =
     (λ c. omega (arith, c .before .before .loop .inv .2))  -- slice-write-part
     (λ c. search needs)  -- add-i
     (λ c. omega arith)  -- loop-less
-    (λ c. (omega arith, c .before .before .loop .inv .1, rw length-set (c .before .before .loop .inv .2), copy-turn _ _ _ (c .before .loop-test .taken) (c .before .before .loop .inv .3)))  -- loop-again
+    (λ c. (
+      omega arith,
+      c .before .before .loop .inv .1,
+      rw length-set (c .before .before .loop .inv .2),
+      copy-turn _ _ _
+          (c .before .loop-test .taken) (c .before .before .loop .inv .3),
+    ))  -- loop-again
     (λ c. c .before .loop .inv .2 ∙ sym (c .before .loop .inv .1))  -- same-length
     (λ c. rw (eq-eqb _ _ (sym (c .before .loop .inv .1))) (copy-end _ _ _ _ (c .before .loop .inv .1) (c .loop-test .left) (c .before .loop .inv .3))))  -- returns-2
