@@ -27,7 +27,8 @@ pub decimal-fewest : (n k : ℕ) → Fewest 10 1 n k → digits 10 k n ≡ decim
 unfolding decimal
 decimal-fewest n zero f = absurd (omega arith)
 decimal-fewest n (suc j) f =
-    ap (λ (s : List ℕ). s ++ (glyph (n % 10) ∷ [])) (figures-fewest n j (n / 10) (omega (arith, pow-suc 10 j)) (λ i e. let d : suc j - 1 ≡ suc i = omega arith in omega (arith, rw (d, pow-suc) at (f .2 (omega arith)))) (omega arith))
+    ap (λ (s : List ℕ). s ++ (glyph (n % 10) ∷ [])) (figures-fewest n j (n / 10) (omega (arith, pow-suc 10 j))
+    (λ i e. let d : suc j - 1 ≡ suc i = omega arith in omega (arith, rw (d, pow-suc) at (f .2 (omega arith)))) (omega arith))
 
 pub hexadecimal-length : (s : List ℕ) → length (hexadecimal s) ≡ 2 * length s
 unfolding hexadecimal pair

@@ -321,7 +321,19 @@ module _ (T : Table) (t : ℕ) (v buf : List ℕ) where
       let room : length f ≤ min longestMessage (length buf) = leb-true (length f) (min longestMessage (length buf)) (not-false _ g) in
       let within : length f ≤ longestMessage = omega arith in
       is-written (length f) (f ++ drop (length f) buf)
-      (record { value = w; is = s .1; shaped = s .3; typed = typed; deep = low; short = h; within = within; room = omega arith; told = refl; buffer = refl; encodes = form-permitted T t w (s .2) within })
+      (record {
+        value = w;
+        is = s .1;
+        shaped = s .3;
+        typed = typed;
+        deep = low;
+        short = h;
+        within = within;
+        room = omega arith;
+        told = refl;
+        buffer = refl;
+        encodes = form-permitted T t w (s .2) within;
+      })
       refl
 
   pub write-stage : Octets v → WriteStage T t v buf (writing T t v buf)

@@ -35,8 +35,8 @@ tells-exactly {r} {x} e h s a =
 
 outcome-told : {r : ℕ} {x : Outcome} {after : List ℕ} → r ≡ packed (x .answer) → after ≡ x .buffer → place (x .answer) < 65536 → Staged (x .answer)
     → (a : Told) → Tells r a ↔ (record { answer = a; buffer = after } ≡ x)
-outcome-told e f h s a =
-    let y = tells-exactly e h s a in
+outcome-told {r} {x} {after} e f h s a =
+    let y = tells-exactly {r = r} {x = x .answer} e h s a in
     (λ z. let q = y .0 z in rw (q, f), λ q. y .1 (ap (λ (o : Outcome). o .answer) q))
 
 -- the answer that the returned number tells is the outcome's, and it tells one

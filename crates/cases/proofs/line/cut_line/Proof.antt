@@ -17,4 +17,8 @@ cut-line-spec =
     (λ c κs. let at-start = c .before .before .before in first-room (decimal (at-start .args .number) ++ cut) feed (at-start .pre))  -- begin-requires
     (λ c κs. one-room (next-room feed (c .before .before .before .begin .ensures) (c .before .before .before .before .before .before .before .pre)))  -- put-requires
     (λ c. c .before .before .put .kept .0 ∙ c .before .before .before .before .before .before .begin .kept .1 .1 .0)  -- same-length
-    (λ c. put-joined (c .before .before .before .before .before .before .begin .ensures) (c .before .before .put .ensures) (c .before .before .before .before .before .before .before .before .before .before .pre)))  -- returns
+    (λ c.
+    let c2 = c .before .before in
+    let c6 = c2 .before .before .before .before in
+    let c10 = c6 .before .before .before .before in
+    put-joined (c6 .begin .ensures) (c2 .put .ensures) (c10 .pre)))  -- returns

@@ -15,7 +15,26 @@ done-line-spec =
     (tie.spec
     (λ c. search needs)  -- slice-aggregate-begin
     (λ c κs. let at-start = c .before .before .before .before in room-1 (decimal (at-start .args .number) ++ ok) (shown (at-start .args .result .now)) feed (at-start .pre))  -- begin-requires
-    (λ c κs. let at-start = c .before .before .before .before .before .before .before .before in room-2 (decimal (at-start .args .number) ++ ok) (shown (at-start .args .result .now)) feed (at-start .pre) (c .before .before .before .begin .ensures))  -- put-shown-requires
-    (λ c κs. let at-start = c .before .before .before .before .before .before .before .before .before .before .before .before in one-room (room-3 (decimal (at-start .args .number) ++ ok) (shown (at-start .args .result .now)) feed (at-start .pre) (c .before .before .before .before .before .before .before .begin .ensures) (c .before .before .before .put-shown .ensures)))  -- put-requires
-    (λ c. c .before .before .put .kept .0 ∙ c .before .before .before .before .before .before .put-shown .kept .0 ∙ c .before .before .before .before .before .before .before .before .before .before .begin .kept .1 .1 .0)  -- same-length
-    (λ c. let at-start = c .before .before .before .before .before .before .before .before .before .before .before .before .before .before .before in put-3 (decimal (at-start .args .number) ++ ok) (shown (at-start .args .result .now)) feed (at-start .pre) (c .before .before .before .before .before .before .before .before .before .before .begin .ensures) (c .before .before .before .before .before .before .put-shown .ensures) (c .before .before .put .ensures)))  -- returns
+    (λ c κs.
+    let c3 = c .before .before .before in
+    let c8 = c3 .before .before .before .before .before in
+    let at-start = c8 in room-2 (decimal (at-start .args .number) ++ ok) (shown (at-start .args .result .now)) feed (at-start .pre)
+    (c3 .begin .ensures))  -- put-shown-requires
+    (λ c κs.
+    let c3 = c .before .before .before in
+    let c7 = c3 .before .before .before .before in
+    let c12 = c7 .before .before .before .before .before in
+    let at-start = c12 in one-room (room-3 (decimal (at-start .args .number) ++ ok) (shown (at-start .args .result .now)) feed
+    (at-start .pre) (c7 .begin .ensures) (c3 .put-shown .ensures)))  -- put-requires
+    (λ c.
+    let c2 = c .before .before in
+    let c6 = c2 .before .before .before .before in
+    let c10 = c6 .before .before .before .before in
+    c2 .put .kept .0 ∙ c6 .put-shown .kept .0 ∙ c10 .begin .kept .1 .1 .0)  -- same-length
+    (λ c.
+    let c2 = c .before .before in
+    let c6 = c2 .before .before .before .before in
+    let c10 = c6 .before .before .before .before in
+    let c15 = c10 .before .before .before .before .before in
+    let at-start = c15 in put-3 (decimal (at-start .args .number) ++ ok) (shown (at-start .args .result .now)) feed (at-start .pre)
+    (c10 .begin .ensures) (c6 .put-shown .ensures) (c2 .put .ensures)))  -- returns

@@ -16,15 +16,40 @@ line-of-spec =
     tie.close
     (tie.spec
     (λ c. search needs)  -- enum-known-a
-    (λ c. sym (length-take-le (c .before .before .before .before .a .given .0 .0) (c .before .before .before .before .before .before .before .args .buf .now) (omega (arith, c .before .before .all .given .0))))  -- slice-aggregate-done-line
-    (λ c κs. let at-start = c .before .before .before .before .before .before .before .before in done-room _ _ _ (at-start .fits .number .fits) (omega (arith, length-take (c .before .before .before .before .before .a .given .0 .0) (at-start .args .buf .now), c .before .before .before .all .given .0)) (at-start .pre))  -- done-line-requires
-    (λ c κs. let at-start = c .before .before .before .before .before .before .before in done-room _ _ _ (at-start .fits .number .fits) (omega (arith, c .before .before .all .given .0)) (at-start .pre))  -- done-line-requires-2
+    (λ c.
+    let c2 = c .before .before in
+    let c4 = c2 .before .before in
+    let c7 = c4 .before .before .before in
+    sym (length-take-le (c4 .a .given .0 .0) (c7 .args .buf .now) (omega (arith, c2 .all .given .0))))  -- slice-aggregate-done-line
+    (λ c κs.
+    let c3 = c .before .before .before in
+    let c5 = c3 .before .before in
+    let c8 = c5 .before .before .before in
+    let at-start = c8 in done-room _ _ _ (at-start .fits .number .fits) (omega (
+      arith,
+      length-take (c5 .a .given .0 .0)
+          (at-start .args .buf .now),
+      c3 .all .given .0,
+    )) (at-start .pre))  -- done-line-requires
+    (λ c κs.
+    let c2 = c .before .before in
+    let c7 = c2 .before .before .before .before .before in
+    let at-start = c7 in done-room _ _ _ (at-start .fits .number .fits) (omega (arith, c2 .all .given .0)) (at-start .pre))  -- done-line-requires-2
     (λ c. search needs)  -- enum-known-a-2
     (λ c κs. search needs)  -- parts-of-requires
     (λ c κs. refused-room _ _ _ _ (search needs) (search needs) (search needs) (c .before .before .before .before .before .before .pre))  -- refused-line-requires
     (λ c. search needs)  -- same-length
     (λ c. rw (c .before .before .before .before .before .before .before .before .a .given .1) (c .before .before .done-line .ensures))  -- returns
     (λ c. search needs)  -- same-length-2
-    (λ c. rw (c .before .before .before .before .before .before .before .a .given .1, take-all (c .before .before .before .before .before .before .before .a .given .0 .0) (c .before .before .before .before .before .before .before .before .before .before .args .buf .now) (omega (arith, c .before .before .before .before .before .all .given .0))) (c .before .before .done-line2 .ensures))  -- returns-2
+    (λ c.
+    let c2 = c .before .before in
+    let c5 = c2 .before .before .before in
+    let c7 = c5 .before .before in
+    let c10 = c7 .before .before .before in
+    rw (c7 .a .given .1, take-all (c7 .a .given .0 .0) (c10 .args .buf .now) (omega (arith, c5 .all .given .0))) (c2 .done-line2 .ensures))  -- returns-2
     (λ c. search needs)  -- same-length-3
-    (λ c. rw (c .before .before .before .before .before .before .a2 .given .1, ← c .before .before .before .before .parts-of .ensures .0, ← c .before .before .before .before .parts-of .ensures .1) (c .before .before .refused-line .ensures)))  -- returns-3
+    (λ c.
+    let c2 = c .before .before in
+    let c4 = c2 .before .before in
+    let c6 = c4 .before .before in
+    rw (c6 .a2 .given .1, ← c4 .parts-of .ensures .0, ← c4 .parts-of .ensures .1) (c2 .refused-line .ensures)))  -- returns-3

@@ -11,7 +11,26 @@ put-refusal-spec =
     tie.close
     (tie.spec
     (λ c κs. let at-start = c .before .before in room-1 (decimal (at-start .args .n)) space (decimal (at-start .args .place)) (at-start .pre))  -- put-decimal-requires
-    (λ c κs. let at-start = c .before .before .before .before .before .before in one-room (room-2 (decimal (at-start .args .n)) space (decimal (at-start .args .place)) (at-start .pre) (c .before .before .before .put-decimal .ensures)))  -- put-requires
-    (λ c κs. let at-start = c .before .before .before .before .before .before .before .before .before .before in room-3 (decimal (at-start .args .n)) space (decimal (at-start .args .place)) (at-start .pre) (c .before .before .before .before .before .before .before .put-decimal .ensures) (c .before .before .before .put .ensures))  -- put-decimal-requires-2
-    (λ c. c .before .before .put-decimal2 .kept .0 ∙ c .before .before .before .before .before .before .put .kept .0 ∙ c .before .before .before .before .before .before .before .before .before .before .put-decimal .kept .0)  -- same-length
-    (λ c. let at-start = c .before .before .before .before .before .before .before .before .before .before .before .before .before in put-3 (decimal (at-start .args .n)) space (decimal (at-start .args .place)) (at-start .pre) (c .before .before .before .before .before .before .before .before .before .before .put-decimal .ensures) (c .before .before .before .before .before .before .put .ensures) (c .before .before .put-decimal2 .ensures)))  -- returns
+    (λ c κs.
+    let c3 = c .before .before .before in
+    let c6 = c3 .before .before .before in
+    let at-start = c6 in one-room (room-2 (decimal (at-start .args .n)) space (decimal (at-start .args .place)) (at-start .pre)
+    (c3 .put-decimal .ensures)))  -- put-requires
+    (λ c κs.
+    let c3 = c .before .before .before in
+    let c7 = c3 .before .before .before .before in
+    let c10 = c7 .before .before .before in
+    let at-start = c10 in room-3 (decimal (at-start .args .n)) space (decimal (at-start .args .place)) (at-start .pre)
+    (c7 .put-decimal .ensures) (c3 .put .ensures))  -- put-decimal-requires-2
+    (λ c.
+    let c2 = c .before .before in
+    let c6 = c2 .before .before .before .before in
+    let c10 = c6 .before .before .before .before in
+    c2 .put-decimal2 .kept .0 ∙ c6 .put .kept .0 ∙ c10 .put-decimal .kept .0)  -- same-length
+    (λ c.
+    let c2 = c .before .before in
+    let c6 = c2 .before .before .before .before in
+    let c10 = c6 .before .before .before .before in
+    let c13 = c10 .before .before .before in
+    let at-start = c13 in put-3 (decimal (at-start .args .n)) space (decimal (at-start .args .place)) (at-start .pre)
+    (c10 .put-decimal .ensures) (c6 .put .ensures) (c2 .put-decimal2 .ensures)))  -- returns

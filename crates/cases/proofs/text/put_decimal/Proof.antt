@@ -15,4 +15,7 @@ put-decimal-spec =
     (λ c. search needs)  -- slice-aggregate-put-text
     (λ c κs. rw (c .before .before .decimal .ensures .1 .1 ∙ decimal-fewest _ _ (c .before .before .decimal .ensures .1 .0)) (c .before .before .before .before .before .pre))  -- put-text-requires
     (λ c. c .before .before .put-text .kept .0)  -- same-length
-    (λ c. rw (c .before .before .before .before .before .decimal .ensures .1 .1 ∙ decimal-fewest _ _ (c .before .before .before .before .before .decimal .ensures .1 .0)) at (c .before .before .put-text .ensures)))  -- returns
+    (λ c.
+    let c2 = c .before .before in
+    let c5 = c2 .before .before .before in
+    rw (c5 .decimal .ensures .1 .1 ∙ decimal-fewest _ _ (c5 .decimal .ensures .1 .0)) at (c2 .put-text .ensures)))  -- returns

@@ -28,9 +28,24 @@ put-hexadecimal-spec =
     μ-loop
     (λ c. (search needs, refl, put-none _ _))  -- loop-holds
     (λ c. search needs)  -- shared-slice-read-put-pair
-    (λ c κs. let at-start = c .before .before .before .before .before .before in hexadecimal-room (at-start .args .octets .now) (c .before .before .before .loop .i) (c .before .before .loop-test .taken) (at-start .pre) (c .before .before .before .loop .inv .2))  -- put-pair-requires
+    (λ c κs.
+    let c2 = c .before .before in
+    let c3 = c2 .before in
+    let c6 = c3 .before .before .before in
+    let at-start = c6 in hexadecimal-room (at-start .args .octets .now) (c3 .loop .i) (c2 .loop-test .taken) (at-start .pre)
+    (c3 .loop .inv .2))  -- put-pair-requires
     (λ c. search needs)  -- add-i
     (λ c. search needs)  -- loop-less
-    (λ c. let at-start = c .before .before .before .before .before .before .before .before .before in (search needs, c .before .before .put-pair .kept .0 ∙ c .before .before .before .before .before .before .loop .inv .1, rw add-one (hexadecimal-turn (at-start .args .octets .now) (c .before .before .before .before .before .before .loop .i) (c .before .before .before .before .before .loop-test .taken) (at-start .pre) (c .before .before .before .before .before .before .loop .inv .2) (c .before .before .put-pair .ensures))))  -- loop-again
+    (λ c.
+    let c2 = c .before .before in
+    let c5 = c2 .before .before .before in
+    let c6 = c5 .before in
+    let c9 = c6 .before .before .before in
+    let at-start = c9 in (
+      search needs,
+      c2 .put-pair .kept .0 ∙ c6 .loop .inv .1,
+      rw add-one (hexadecimal-turn
+          (at-start .args .octets .now) (c6 .loop .i) (c5 .loop-test .taken) (at-start .pre) (c6 .loop .inv .2) (c2 .put-pair .ensures)),
+    ))  -- loop-again
     (λ c. c .before .loop .inv .1)  -- same-length
     (λ c. rw (take-all (c .before .loop .i) (c .before .before .before .before .args .octets .now) (c .loop-test .left)) at (c .before .loop .inv .2)))  -- returns

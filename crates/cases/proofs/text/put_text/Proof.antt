@@ -30,7 +30,15 @@ put-text-spec =
     (λ c. search needs)  -- slice-write-line
     (λ c. search needs)  -- add-i
     (λ c. search needs)  -- loop-less
-    (λ c. let at-start = c .before .before .before in (search needs, simp length-set (c .before .before .loop .inv .1), rw (c .before .before .loop .inv .2, add-one) (paste-suc (at-start .args .line .now) (at-start .args .at) (at-start .args .text .now) (c .before .before .loop .i) 0 (search needs) (search needs))))  -- loop-again
+    (λ c.
+    let c2 = c .before .before in
+    let c3 = c2 .before in
+    let at-start = c3 in (
+      search needs,
+      simp length-set (c2 .loop .inv .1),
+      rw (c2 .loop .inv .2, add-one) (paste-suc
+          (at-start .args .line .now) (at-start .args .at) (at-start .args .text .now) (c2 .loop .i) 0 (search needs) (search needs)),
+    ))  -- loop-again
     (λ c. search needs)  -- add-result
     (λ c. c .before .loop .inv .1)  -- same-length
     (λ c. put-copied _ _ _ _ _ (omega arith) (c .before .loop .inv .2)))  -- returns
