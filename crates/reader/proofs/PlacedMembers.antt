@@ -486,8 +486,7 @@ module _ {b index : List ℕ} {w : ℕ} {m : List ℕ} {marked : Bool} {first : 
         → place ≡ x .place → u ≡ x .record → from ≡ at + x .from → Picked buf₁ next₁ place u from
     picked x way ways F {buf₁} e₁ en ep eu ef =
         let l : length buf₁ ≡ length buf = ap length e₁ ∙ length-sets buf next (wayOctets (take (x .depth) way)) in
-        rw (ep, eu)
-        (
+        rw (ep, eu) (
           l,
           λ c. omega (arith, absent-room (x .place) (item-most (Found-item x way ways F)) c),
           λ buf₂ e₂ e₃. rw ef (item-chosen (Found-item x way ways F) (within-way x way ways F) e₁ en e₂ e₃),

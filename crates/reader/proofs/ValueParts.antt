@@ -125,7 +125,6 @@ module _ {b index : List ℕ} (R : Ready b index) {w : ℕ} (I : IsRecord b inde
         let (_, i, h, a, g, q) : Opens b r m first ns (Inside x) = rw e at o in
         record { some = i; high = h; around = a; headed = g; whole = q }
 
-
 -- An item of a record where its tags are opened: what the value stands in, and where. The values in it have `level` levels.
 pub record Item (b index : List ℕ) (w : ℕ) (m : List ℕ) (first level : ℕ) : Type 0 where
   pub ready : Ready b index

@@ -29,9 +29,12 @@ read-passed-spec =
     let c6 = c .before .before .before .before .before .before in
     let c6 = c6 in
     let a = c6 .args in
-    let q = c6 .pre in
-    (ready (now (a .table)) (now (a .index)) (a .n) (q .0) (q .1), omega (arith, c .before .before .if1 .left, q .0 .count),
-    c .before .if2 .left, refl))  -- judge-requires
+    let q = c6 .pre in (
+      ready (now (a .table)) (now (a .index)) (a .n) (q .0) (q .1),
+      omega (arith, c .before .before .if1 .left, q .0 .count),
+      c .before .if2 .left,
+      refl,
+    ))  -- judge-requires
     (λ c. search needs)  -- enum-known-cause
     (λ c.
     let c3 = c .before .before .before in
@@ -76,10 +79,14 @@ read-passed-spec =
     let q = c14 .pre in
     let T = tableIn (now (a .table)) in
     let m = now (a .message) in
-    let w = now (a .buf) in
-    (ready (now (a .table)) (now (a .index)) (a .n) (q .0) (q .1), omega (arith, c10 .if1 .left, q .0 .count), c9 .if2 .left,
-    c7 .judge .ensures .0, fits T (a .t) m _ (c7 .judge .ensures .1) (a .n) w (c10 .if1 .left) (c9 .if2 .left) _ _ (c5 .size .given .1)
-    (c3 .if3 .left) (c .before .before .if4 .left)))  -- place-requires
+    let w = now (a .buf) in (
+      ready (now (a .table)) (now (a .index)) (a .n) (q .0) (q .1),
+      omega (arith, c10 .if1 .left, q .0 .count),
+      c9 .if2 .left,
+      c7 .judge .ensures .0,
+      fits T (a .t) m _ (c7 .judge .ensures .1) (a .n) w (c10 .if1 .left) (c9 .if2 .left) _ _ (c5 .size .given .1)
+          (c3 .if3 .left) (c .before .before .if4 .left),
+    ))  -- place-requires
     (λ c.
     let c3 = c .before .before .before in
     let c5 = c3 .before .before in

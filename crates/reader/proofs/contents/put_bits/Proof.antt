@@ -31,8 +31,12 @@ put-bits-spec =
     (λ c. search needs)  -- part-part-start
     (λ c.
     let c8 = c .before .before .before .before .before .before .before .before in
-    omega (arith, simp length-sets at (ap length (c .before .before .put-number .ensures)), ap length (from-is 1 (now (c8 .args .c))),
-    c8 .pre .4))  -- part-part-end
+    omega (
+      arith,
+      simp length-sets at (ap length (c .before .before .put-number .ensures)),
+      ap length (from-is 1 (now (c8 .args .c))),
+      c8 .pre .4,
+    ))  -- part-part-end
     (λ c κs. search needs)  -- copy-masked-requires
     (λ c. search needs)  -- same-length
     (λ c.
@@ -43,6 +47,9 @@ put-bits-spec =
     let d = drop 1 (now (a .c)) in
     let u = getD (now (a .c)) 0 0 in
     let q : u % 8 ≡ u = omega (arith, c12 .pre .2) in
-    rw from-is (refl, number-filled (now (a .buf)) (c6 .put-number .last .0) (masked u d) (c2 .copy-masked .last .1 .1 .0) (a .to)
-    (8 * length d - u) (length d) (rw from-is at (c6 .put-number .ensures)) (sym (length-masked u d)) (c12 .pre .4) (rw (from-is, q) at
-    (c2 .copy-masked .ensures)))))  -- returns
+    rw from-is (
+      refl,
+      number-filled (now (a .buf)) (c6 .put-number .last .0) (masked u d) (c2 .copy-masked .last .1 .1 .0) (a .to)
+          (8 * length d - u) (length d) (rw from-is at (c6 .put-number .ensures)) (sym (length-masked u d)) (c12 .pre .4) (rw (from-is, q) at
+          (c2 .copy-masked .ensures)),
+    )))  -- returns

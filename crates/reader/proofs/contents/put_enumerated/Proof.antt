@@ -24,14 +24,16 @@ put-enumerated-spec =
     let q = c4 .pre in
     let x = now (c4 .args .c) in
     let e : toZ w64 (ofZ w64 (c .of .result)) ≡ pos (natural (integerOf x)) = toZ-ofZ {w = w64} {z = (c .of) .result} (record {
-    sfits = c .of .ok }) ∙ integer-is x (c .of .result) (q .1) (c .of .ensures) ∙ q .3 in
+      sfits = c .of .ok;
+    }) ∙ integer-is x (c .of .result) (q .1) (c .of .ensures) ∙ q .3 in
     rw e (tt, omega (arith, q .4)))  -- cast-put-number
     (λ c κs.
     let c4 = c .before .before .before .before in
     let q = c4 .pre in
     let x = now (c4 .args .c) in
     let e : toZ w64 (ofZ w64 (c .of .result)) ≡ pos (natural (integerOf x)) = toZ-ofZ {w = w64} {z = (c .of) .result} (record {
-    sfits = c .of .ok }) ∙ integer-is x (c .of .result) (q .1) (c .of .ensures) ∙ q .3 in
+      sfits = c .of .ok;
+    }) ∙ integer-is x (c .of .result) (q .1) (c .of .ensures) ∙ q .3 in
     rw e (q .2, q .4))  -- put-number-requires
     (λ c. search needs)  -- add-result
     (λ c. search needs)  -- same-length
@@ -41,5 +43,6 @@ put-enumerated-spec =
     let q = c7 .pre in
     let x = now (c7 .args .c) in
     let e : toZ w64 (ofZ w64 (c3 .of .result)) ≡ pos (natural (integerOf x)) = toZ-ofZ {w = w64} {z = (c3 .of) .result} (record {
-    sfits = c3 .of .ok }) ∙ integer-is x (c3 .of .result) (q .1) (c3 .of .ensures) ∙ q .3 in
+      sfits = c3 .of .ok;
+    }) ∙ integer-is x (c3 .of .result) (q .1) (c3 .of .ensures) ∙ q .3 in
     (refl, rw e at (c .before .before .put-number .ensures))))  -- returns

@@ -29,6 +29,8 @@ put-integer-spec =
     let q = c7 .pre in
     let a = c7 .args in
     let z = integer-is (now (a .c)) (c3 .of .result) (q .1) (c3 .of .ensures) in
-    let e = rw (toZ-ofZ {w = w64} {z = (c3 .of) .result} (record { sfits = c3 .of .ok }), z) at (c2 .put-eight .ensures) in
-    (refl, part-filled (now (a .buf)) (eightOf (integerOf (now (a .c)))) (c2 .put-eight .last .1 .0) (a .to) 8 (sym (eight-length _))
-    (q .2) e)))  -- returns
+    let e = rw (toZ-ofZ {w = w64} {z = (c3 .of) .result} (record { sfits = c3 .of .ok }), z) at (c2 .put-eight .ensures) in (
+      refl,
+      part-filled (now (a .buf)) (eightOf (integerOf (now (a .c)))) (c2 .put-eight .last .1 .0) (a .to) 8 (sym (eight-length _))
+          (q .2) e,
+    )))  -- returns

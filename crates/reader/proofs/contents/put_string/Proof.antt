@@ -24,6 +24,8 @@ put-string-spec =
     let c2 = c .before .before in
     let c6 = c2 .before .before .before .before in
     let c10 = c6 .before .before .before .before in
-    let a = c10 .args in
-    (refl, number-filled (now (a .buf)) (c6 .put-number .last .0) (now (a .c)) (c2 .copy .last .1 .0) (a .to) (length (now (a .c)))
-    (length (now (a .c))) (c6 .put-number .ensures) refl (c10 .pre .1) (c2 .copy .ensures))))  -- returns
+    let a = c10 .args in (
+      refl,
+      number-filled (now (a .buf)) (c6 .put-number .last .0) (now (a .c)) (c2 .copy .last .1 .0) (a .to) (length (now (a .c)))
+          (length (now (a .c))) (c6 .put-number .ensures) refl (c10 .pre .1) (c2 .copy .ensures),
+    )))  -- returns

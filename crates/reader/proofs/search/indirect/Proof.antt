@@ -35,42 +35,48 @@ indirect-spec =
     (λ c κs. tt)  -- parts-requires
     (λ c. (c .before .before .before .before .before .pre .3, refl))  -- loop-holds
     (λ c.
-    let c2 = c .before .before in
-    let c4 = c2 .before .before in
+    let c4 = c .before .before .before .before in
     let c5 = c4 .before in
-    omega (arith, few-parts (c5 .before .before .pre .0) (c5 .unpack .result) (c5 .unpack .ensures) (c4 .parts .result)
-    (c4 .parts .ensures) (c2 .if1 .n) (⊎-elim (λ x. inl (x .0 .taken, x .1)) (λ x. inr (x .0 .left, x .1)) (c2 .if1 .came)),
-    c .loop-test .taken))  -- mul-if2
-    (λ c.
-    let c2 = c .before .before in
-    let c4 = c2 .before .before in
-    let c5 = c4 .before in
-    omega (arith, few-parts (c5 .before .before .pre .0) (c5 .unpack .result) (c5 .unpack .ensures) (c4 .parts .result)
-    (c4 .parts .ensures) (c2 .if1 .n) (⊎-elim (λ x. inl (x .0 .taken, x .1)) (λ x. inr (x .0 .left, x .1)) (c2 .if1 .came)),
-    c .loop-test .taken))  -- element-copy-out-if2
-    (λ c. search needs)  -- cast-t
+    omega (
+      arith,
+      few-parts (c5 .before .before .pre .0) _ (c5 .unpack .ensures) _ (c4 .parts .ensures) _ (⊎-elim (λ x. inl
+          (x .0 .taken, x .1)) (λ x. inr (x .0 .left, x .1)) (c .before .before .if1 .came)),
+      c .loop-test .taken,
+    ))  -- mul-if2
     (λ c.
     let c4 = c .before .before .before .before in
     let c5 = c4 .before in
-    let c6 = c5 .before in
+    omega (
+      arith,
+      few-parts (c5 .before .before .pre .0) _ (c5 .unpack .ensures) _ (c4 .parts .ensures) _ (⊎-elim (λ x. inl
+          (x .0 .taken, x .1)) (λ x. inr (x .0 .left, x .1)) (c .before .before .if1 .came)),
+      c .loop-test .taken,
+    ))  -- element-copy-out-if2
+    (λ c. search needs)  -- cast-t
+    (λ c.
+    let c4 = c .before .before .before .before in
+    let c6 = c4 .before .before in
     let c8 = c6 .before .before in
     let c9 = c8 .before in
     let q = c9 .before .before .pre in
-    let l = c5 .loop in
-    omega (arith, near (q .0) (c9 .unpack .result) (c9 .unpack .ensures) (c8 .parts .result) (c8 .parts .ensures) (l .k) (table-part
-    (q .0) (c9 .unpack .result) (c9 .unpack .ensures) (c8 .parts .result) (c8 .parts .ensures) (c6 .if1 .n) (l .k) (⊎-elim (λ x. inl
-    (x .0 .taken, x .1)) (λ x. inr (x .0 .left, x .1)) (c6 .if1 .came)) (c4 .loop-test .taken) (c .before .if3 .left))))  -- mul-octet
+    omega (
+      arith,
+      near (q .0) _ (c9 .unpack .ensures) _ (c8 .parts .ensures) _ (table-part (q .0) _ (c9 .unpack .ensures) _
+          (c8 .parts .ensures) _ _ (⊎-elim (λ x. inl (x .0 .taken, x .1)) (λ x. inr (x .0 .left, x .1)) (c6 .if1 .came))
+          (c4 .loop-test .taken) (c .before .if3 .left)),
+    ))  -- mul-octet
     (λ c.
     let c5 = c .before .before .before .before .before in
-    let c6 = c5 .before in
-    let c7 = c6 .before in
+    let c7 = c5 .before .before in
     let c9 = c7 .before .before in
     let c10 = c9 .before in
     let q = c10 .before .before .pre in
-    let l = c6 .loop in
-    omega (arith, near (q .0) (c10 .unpack .result) (c10 .unpack .ensures) (c9 .parts .result) (c9 .parts .ensures) (l .k) (table-part
-    (q .0) (c10 .unpack .result) (c10 .unpack .ensures) (c9 .parts .result) (c9 .parts .ensures) (c7 .if1 .n) (l .k) (⊎-elim (λ x. inl
-    (x .0 .taken, x .1)) (λ x. inr (x .0 .left, x .1)) (c7 .if1 .came)) (c5 .loop-test .taken) (c .before .before .if3 .left))))  -- add-octet
+    omega (
+      arith,
+      near (q .0) _ (c10 .unpack .ensures) _ (c9 .parts .ensures) _ (table-part (q .0) _ (c10 .unpack .ensures) _
+          (c9 .parts .ensures) _ _ (⊎-elim (λ x. inl (x .0 .taken, x .1)) (λ x. inr (x .0 .left, x .1)) (c7 .if1 .came))
+          (c5 .loop-test .taken) (c .before .before .if3 .left)),
+    ))  -- add-octet
     (λ c κs. tt)  -- octet-requires
     (λ c κs.
     let c4 = c .before .before .before .before in
@@ -80,12 +86,17 @@ indirect-spec =
     let c9 = c8 .before in
     let c11 = c9 .before .before in
     let q = c11 .pre in
-    let l = c5 .loop in
-    (q .0 .ready, candidate-low (q .0) (c9 .unpack .result) (c9 .unpack .ensures) (c8 .parts .result) (c8 .parts .ensures)
-    (c11 .args .code) (l .k) (c .before .if3 .t) (candidate (q .0) (c9 .unpack .result) (c9 .unpack .ensures) (c8 .parts .result)
-    (c8 .parts .ensures) (c6 .if1 .n) (l .k) (c .before .if3 .t) (⊎-elim (λ x. inl (x .0 .taken, x .1)) (λ x. inr (x .0 .left, x .1))
-    (c6 .if1 .came)) (c4 .loop-test .taken) (⊎-elim (λ x. inl (x .0 .taken, x .2)) (λ x. inr (x .0 .left, x .4 ∙ x .3 .ensures .0))
-    (c .before .if3 .came))), q .2, l .inv .0))  -- seek-requires
+    let l = c5 .loop in (
+      q .0 .ready,
+      candidate-low (q .0) _ (c9 .unpack .ensures) _ (c8 .parts .ensures) (c11 .args .code) (l .k) (c .before .if3 .t) (candidate
+          (q .0) _ (c9 .unpack .ensures) _ (c8 .parts .ensures) (c6 .if1 .n) (l .k) (c .before .if3 .t) (⊎-elim (λ x. inl (
+            x .0 .taken,
+            x .1,
+          )) (λ x. inr (x .0 .left, x .1)) (c6 .if1 .came)) (c4 .loop-test .taken) (⊎-elim (λ x. inl (x .0 .taken, x .2)) (λ x. inr
+          (x .0 .left, x .4 ∙ x .3 .ensures .0)) (c .before .if3 .came))),
+      q .2,
+      l .inv .0,
+    ))  -- seek-requires
     (λ c. search needs)  -- enum-told
     (λ c. search needs)  -- enum-known-record
     (λ c.
@@ -97,47 +108,43 @@ indirect-spec =
     let c10 = c9 .before in
     let c12 = c10 .before .before in
     let c13 = c12 .before in
-    let c15 = c13 .before .before in
-    let a = c15 .args in
-    let q = c15 .pre in
-    let l = c9 .loop in
-    (c3 .seek .ensures .0, indirect-part (q .0) (c13 .unpack .result) (c13 .unpack .ensures) (c12 .parts .result) (c12 .parts .ensures)
-    (a .code) (l .k) (c5 .if3 .t) (candidate (q .0) (c13 .unpack .result) (c13 .unpack .ensures) (c12 .parts .result)
-    (c12 .parts .ensures) (c10 .if1 .n) (l .k) (c5 .if3 .t) (⊎-elim (λ x. inl (x .0 .taken, x .1)) (λ x. inr (x .0 .left, x .1))
-    (c10 .if1 .came)) (c8 .loop-test .taken) (⊎-elim (λ x. inl (x .0 .taken, x .2)) (λ x. inr (x .0 .left, x .4 ∙ x .3 .ensures .0))
-    (c5 .if3 .came))) _ (c3 .seek .result) (c3 .seek .ensures .1) (a .i) (a .from) _ _ (l .inv .1) (c6 .if2 .taken)
-    (c .before .«record» .given .1)))  -- returns
+    let q = c13 .before .before .pre in (
+      c3 .seek .ensures .0,
+      indirect-part (q .0) _ (c13 .unpack .ensures) _ (c12 .parts .ensures) _ _ _ (candidate (q .0) _ (c13 .unpack .ensures) _
+          (c12 .parts .ensures) _ _ _ (⊎-elim (λ x. inl (x .0 .taken, x .1)) (λ x. inr (x .0 .left, x .1)) (c10 .if1 .came))
+          (c8 .loop-test .taken) (⊎-elim (λ x. inl (x .0 .taken, x .2)) (λ x. inr (x .0 .left, x .4 ∙ x .3 .ensures .0))
+          (c5 .if3 .came))) _ _ (c3 .seek .ensures .1) _ _ _ _ (c9 .loop .inv .1) (c6 .if2 .taken) (c .before .«record» .given .1),
+    ))  -- returns
     (λ c.
     let c10 = c .before .before .before .before .before .before .before .before .before .before in
-    let c11 = c10 .before in
-    let c12 = c11 .before in
+    let c12 = c10 .before .before in
     let c14 = c12 .before .before in
     let c15 = c14 .before in
     let q = c15 .before .before .pre in
-    let l = c11 .loop in
-    omega (arith, near (q .0) (c15 .unpack .result) (c15 .unpack .ensures) (c14 .parts .result) (c14 .parts .ensures) (l .k) (turn-part
-    (q .0) (c15 .unpack .result) (c15 .unpack .ensures) (c14 .parts .result) (c14 .parts .ensures) (c12 .if1 .n) (l .k) (⊎-elim
-    (λ x. inl (x .0 .taken, x .1)) (λ x. inr (x .0 .left, x .1)) (c12 .if1 .came)) (c10 .loop-test .taken) (c .before .if4 .taken))))  -- mul-optional
+    omega (
+      arith,
+      near (q .0) _ (c15 .unpack .ensures) _ (c14 .parts .ensures) _ (turn-part (q .0) _ (c15 .unpack .ensures) _
+          (c14 .parts .ensures) _ _ (⊎-elim (λ x. inl (x .0 .taken, x .1)) (λ x. inr (x .0 .left, x .1)) (c12 .if1 .came))
+          (c10 .loop-test .taken) (c .before .if4 .taken)),
+    ))  -- mul-optional
     (λ c.
     let c11 = c .before .before .before .before .before .before .before .before .before .before .before in
-    let c12 = c11 .before in
-    let c13 = c12 .before in
+    let c13 = c11 .before .before in
     let c15 = c13 .before .before in
     let c16 = c15 .before in
     let q = c16 .before .before .pre in
-    let l = c12 .loop in
-    omega (arith, near (q .0) (c16 .unpack .result) (c16 .unpack .ensures) (c15 .parts .result) (c15 .parts .ensures) (l .k) (turn-part
-    (q .0) (c16 .unpack .result) (c16 .unpack .ensures) (c15 .parts .result) (c15 .parts .ensures) (c13 .if1 .n) (l .k) (⊎-elim
-    (λ x. inl (x .0 .taken, x .1)) (λ x. inr (x .0 .left, x .1)) (c13 .if1 .came)) (c11 .loop-test .taken)
-    (c .before .before .if4 .taken))))  -- add-optional
+    omega (
+      arith,
+      near (q .0) _ (c16 .unpack .ensures) _ (c15 .parts .ensures) _ (turn-part (q .0) _ (c16 .unpack .ensures) _
+          (c15 .parts .ensures) _ _ (⊎-elim (λ x. inl (x .0 .taken, x .1)) (λ x. inr (x .0 .left, x .1)) (c13 .if1 .came))
+          (c11 .loop-test .taken) (c .before .before .if4 .taken)),
+    ))  -- add-optional
     (λ c κs. tt)  -- optional-requires
     (λ c κs.
-    let c10 = c .before .before .before .before .before .before .before .before .before .before in
-    let q = c10 .before .before .before .before .before .before .before .before .before .before .pre in
+    let q = c .before .before .before .before .before .before .before .before .before .before .before .before .before .before .before .before .before .before .before .before .pre in
     (_, q .0, q .1))  -- unawaited-requires
     (λ c.
-    let c2 = c .before .before in
-    let c5 = c2 .before .before .before in
+    let c5 = c .before .before .before .before .before in
     let c7 = c5 .before .before in
     let c9 = c7 .before .before in
     let c11 = c9 .before .before in
@@ -147,25 +154,25 @@ indirect-spec =
     let c16 = c15 .before in
     let c18 = c16 .before .before in
     let c19 = c18 .before in
-    let c21 = c19 .before .before in
-    let a = c21 .args in
-    let q = c21 .pre in
-    let l = c15 .loop in
-    (c9 .seek .ensures .0, indirect-none (q .0) (c19 .unpack .result) (c19 .unpack .ensures) (c18 .parts .result) (c18 .parts .ensures)
-    (a .code) (a .i) (a .from) _ (l .inv .1 ∙ indirect-stop (q .0) (c19 .unpack .result) (c19 .unpack .ensures) (c18 .parts .result)
-    (c18 .parts .ensures) (a .code) (l .k) (c11 .if3 .t) (candidate (q .0) (c19 .unpack .result) (c19 .unpack .ensures)
-    (c18 .parts .result) (c18 .parts .ensures) (c16 .if1 .n) (l .k) (c11 .if3 .t) (⊎-elim (λ x. inl (x .0 .taken, x .1)) (λ x. inr
-    (x .0 .left, x .1)) (c16 .if1 .came)) (c14 .loop-test .taken) (⊎-elim (λ x. inl (x .0 .taken, x .2)) (λ x. inr (x .0 .left, x .4
-    ∙ x .3 .ensures .0)) (c11 .if3 .came))) _ (c9 .seek .result) (c9 .seek .ensures .1) (c12 .if2 .taken) (c7 .enum-told .given .1)
-    (c5 .if4 .taken) (c2 .optional .result) (c2 .optional .ensures) (not-true _ (c .before .if5 .taken))) (c .unawaited .result)
-    (c .unawaited .ensures)))  -- returns-2
+    let q = c19 .before .before .pre in (
+      c9 .seek .ensures .0,
+      indirect-none (q .0) _ (c19 .unpack .ensures) _ (c18 .parts .ensures) _ _ _ _ (c15 .loop .inv .1 ∙ indirect-stop (q .0) _
+          (c19 .unpack .ensures) _ (c18 .parts .ensures) _ _ _ (candidate (q .0) _ (c19 .unpack .ensures) _ (c18 .parts .ensures) _ _ _
+          (⊎-elim (λ x. inl (x .0 .taken, x .1)) (λ x. inr (x .0 .left, x .1)) (c16 .if1 .came)) (c14 .loop-test .taken) (⊎-elim
+          (λ x. inl (x .0 .taken, x .2)) (λ x. inr (x .0 .left, x .4 ∙ x .3 .ensures .0)) (c11 .if3 .came))) _ _ (c9 .seek .ensures .1)
+          (c12 .if2 .taken) (c7 .enum-told .given .1) (c5 .if4 .taken) _ (c .before .before .optional .ensures) (not-true _
+          (c .before .if5 .taken))) _ (c .unawaited .ensures),
+    ))  -- returns-2
     (λ c.
     let c4 = c .before .before .before .before in
     let c6 = c4 .before .before in
     let c7 = c6 .before in
-    omega (arith, few-parts (c7 .before .before .pre .0) (c7 .unpack .result) (c7 .unpack .ensures) (c6 .parts .result)
-    (c6 .parts .ensures) (c4 .if1 .n) (⊎-elim (λ x. inl (x .0 .taken, x .1)) (λ x. inr (x .0 .left, x .1)) (c4 .if1 .came)),
-    c .before .before .loop-test .taken))  -- add-k
+    omega (
+      arith,
+      few-parts (c7 .before .before .pre .0) _ (c7 .unpack .ensures) _ (c6 .parts .ensures) _ (⊎-elim (λ x. inl
+          (x .0 .taken, x .1)) (λ x. inr (x .0 .left, x .1)) (c4 .if1 .came)),
+      c .before .before .loop-test .taken,
+    ))  -- add-k
     (λ c. omega (arith, c .before .before .loop-test .taken))  -- loop-less
     (λ c.
     let c2 = c .before .before in
@@ -173,23 +180,29 @@ indirect-spec =
     let c4 = c3 .before in
     let c6 = c4 .before .before in
     let c7 = c6 .before in
-    let c9 = c7 .before .before in
-    let a = c9 .args in
-    let q = c9 .pre in
+    let q = c7 .before .before .pre in
     let l = c3 .loop in
-    ⊎-elim (λ x. (ap length (x .12) ∙ x .3 .ensures .0, l .inv .1 ∙ indirect-optional (q .0) (c7 .unpack .result) (c7 .unpack .ensures)
-    (c6 .parts .result) (c6 .parts .ensures) (a .code) (l .k) (x .1 .t) (candidate (q .0) (c7 .unpack .result) (c7 .unpack .ensures)
-    (c6 .parts .result) (c6 .parts .ensures) (c4 .if1 .n) (l .k) (x .1 .t) (⊎-elim (λ x. inl (x .0 .taken, x .1)) (λ x. inr
-    (x .0 .left, x .1)) (c4 .if1 .came)) (c2 .loop-test .taken) (⊎-elim (λ y. inl (y .0 .taken, y .2)) (λ y. inr (y .0 .left, y .4
-    ∙ y .3 .ensures .0)) (x .1 .came))) _ (x .3 .result) (x .3 .ensures .1) (x .0 .taken) (x .5 .given .1) (x .7 .taken)
-    (x .10 .result) (x .10 .ensures) (not-false _ (x .11 .left)))) (⊎-elim (λ x. (ap length (x .8) ∙ x .3 .ensures .0, l .inv .1
-    ∙ indirect-other (q .0) (c7 .unpack .result) (c7 .unpack .ensures) (c6 .parts .result) (c6 .parts .ensures) (a .code) (l .k)
-    (x .1 .t) (candidate (q .0) (c7 .unpack .result) (c7 .unpack .ensures) (c6 .parts .result) (c6 .parts .ensures) (c4 .if1 .n) (l .k)
-    (x .1 .t) (⊎-elim (λ x. inl (x .0 .taken, x .1)) (λ x. inr (x .0 .left, x .1)) (c4 .if1 .came)) (c2 .loop-test .taken) (⊎-elim
-    (λ y. inl (y .0 .taken, y .2)) (λ y. inr (y .0 .left, y .4 ∙ y .3 .ensures .0)) (x .1 .came))) _ (x .3 .result) (x .3 .ensures .1)
-    (x .0 .taken) (x .5 .given .1) (x .7 .left))) (λ x. (ap length (x .1) ∙ l .inv .0, l .inv .1 ∙ indirect-come (q .0)
-    (c7 .unpack .result) (c7 .unpack .ensures) (c6 .parts .result) (c6 .parts .ensures) (a .code) (c4 .if1 .n) (l .k) (⊎-elim (λ x. inl
-    (x .0 .taken, x .1)) (λ x. inr (x .0 .left, x .1)) (c4 .if1 .came)) (c2 .loop-test .taken) (x .0 .left)))) (c .if2 .came))  -- loop-again
+    ⊎-elim (λ x. (
+      ap length (x .12) ∙ x .3 .ensures .0,
+      l .inv .1 ∙ indirect-optional (q .0) _ (c7 .unpack .ensures) _
+          (c6 .parts .ensures) _ _ (x .1 .t) (candidate (q .0) _ (c7 .unpack .ensures) _ (c6 .parts .ensures) _ _ (x .1 .t) (⊎-elim (λ x. inl
+          (x .0 .taken, x .1)) (λ x. inr (x .0 .left, x .1)) (c4 .if1 .came)) (c2 .loop-test .taken) (⊎-elim (λ y. inl (y .0 .taken, y .2))
+          (λ y. inr (y .0 .left, y .4 ∙ y .3 .ensures .0)) (x .1 .came))) _ (x .3 .result) (x .3 .ensures .1) (x .0 .taken) (x .5 .given .1)
+          (x .7 .taken) (x .10 .result) (x .10 .ensures) (not-false _ (x .11 .left)),
+    )) (⊎-elim (λ x. (
+      ap length (x .8) ∙ x .3 .ensures .0,
+      l .inv .1 ∙ indirect-other (q .0) _ (c7 .unpack .ensures) _ (c6 .parts .ensures) _ _ (x .1 .t) (candidate (q .0) _
+          (c7 .unpack .ensures) _ (c6 .parts .ensures) _ _ (x .1 .t) (⊎-elim (λ x. inl (x .0 .taken, x .1)) (λ x. inr (x .0 .left, x .1))
+          (c4 .if1 .came)) (c2 .loop-test .taken) (⊎-elim (λ y. inl (y .0 .taken, y .2)) (λ y. inr (y .0 .left, y .4 ∙ y .3 .ensures .0))
+          (x .1 .came))) _ (x .3 .result) (x .3 .ensures .1) (x .0 .taken) (x .5 .given .1) (x .7 .left),
+    )) (λ x. (
+      ap length (x .1)
+          ∙ l .inv .0,
+      l .inv .1 ∙ indirect-come (q .0) _ (c7 .unpack .ensures) _ (c6 .parts .ensures) _ _ _ (⊎-elim (λ x. inl (
+        x .0 .taken,
+        x .1,
+      )) (λ x. inr (x .0 .left, x .1)) (c4 .if1 .came)) (c2 .loop-test .taken) (x .0 .left),
+    ))) (c .if2 .came))  -- loop-again
     (λ c κs.
     let q = c .before .before .before .before .before .before .before .pre in
     (_, q .0, q .1))  -- unawaited-requires-2
@@ -198,11 +211,10 @@ indirect-spec =
     let c3 = c2 .before in
     let c5 = c3 .before .before in
     let c6 = c5 .before in
-    let c8 = c6 .before .before in
-    let a = c8 .args in
-    let q = c8 .pre in
-    let l = c2 .loop in
-    (l .inv .0, indirect-none (q .0) (c6 .unpack .result) (c6 .unpack .ensures) (c5 .parts .result) (c5 .parts .ensures) (a .code)
-    (a .i) (a .from) _ (l .inv .1 ∙ indirect-end (q .0) (c6 .unpack .result) (c6 .unpack .ensures) (c5 .parts .result)
-    (c5 .parts .ensures) (a .code) (c3 .if1 .n) (l .k) (⊎-elim (λ x. inl (x .0 .taken, x .1)) (λ x. inr (x .0 .left, x .1))
-    (c3 .if1 .came)) (c .before .loop-test .left)) (c .unawaited2 .result) (c .unawaited2 .ensures))))  -- returns-3
+    let q = c6 .before .before .pre in
+    let l = c2 .loop in (
+      l .inv .0,
+      indirect-none (q .0) _ (c6 .unpack .ensures) _ (c5 .parts .ensures) _ _ _ _ (l .inv .1 ∙ indirect-end (q .0) _
+          (c6 .unpack .ensures) _ (c5 .parts .ensures) _ _ _ (⊎-elim (λ x. inl (x .0 .taken, x .1)) (λ x. inr (x .0 .left, x .1))
+          (c3 .if1 .came)) (c .before .loop-test .left)) _ (c .unawaited2 .ensures),
+    )))  -- returns-3
