@@ -11,6 +11,7 @@ use Prim.Native.Nat.{ℕ, zero, suc, _+_, _-_, _*_, _/_, _%_, _≤_, _<_}
 use Rattle.octets.proofs.Members.{place-in}
 use Rattle.octets.proofs.Tests.{test}
 use Rattle.table.specs.Syntax.{Record, Table, references}
+use Rattle.table.specs.Passes.{Nested}
 use Rattle.table.specs.Rules.{parts}
 use Rattle.table.specs.Reading.{everyAt}
 use Rattle.table.specs.Entries.{unpacked, counted, tableIn, countIn}
@@ -85,111 +86,6 @@ module _ {b ix : List ℕ} (R : Ready b ix) where
       test (ltb x (countIn b)) (λ z. ltb-true x (countIn b) z)
       λ z. let q = ap (λ (r : Record). length (parts (r .body))) (R .passes .no-more x (ltb-false x (countIn b) z)) in absurd (omega arith)
 
-  -- one turn: the CHOICE x has its alternatives at s
-  module _ (code : ℕ) (tag : code < untagged) (way : List ℕ) (wide : length way ≡ 128) (t d x j : ℕ) (S : Amid b code way t d x j)
-      (s : Span) (es : s ≡ counted b (unpacked (getD ix x 0) .own) 1) where
-    not-tag : code ≡ untagged → ⊥
-    not-tag e = omega arith
-
-    its : Alternatives b x s
-    its = alternatives-of x s (S .low) (S .looking .bare) es
-
-    -- there is one more, whose number is a
-    module _ (h : j < s .count) (a : ℕ) (ea : a ≡ getD b (s .first + j) 0) where
-      within : j < length (parts (T x .body))
-      within = omega (arith, its .count)
-
-      is-part : a ≡ getD (parts (T x .body)) j 0
-      is-part = ea ∙ its .at j h
-
-      pub record Next : Type 0 where
-        pub small : a < countIn b
-        pub few : j < 16
-        pub deep : d < countIn b
-        pub room : d < 128
-
-      pub next : Next
-      next =
-          let q = look-deep T F (nested-all b T (countIn b) (R .passes)) code not-tag (countIn b) (nested b T (countIn b) (R .passes) t) (S .looking) within in
-          record {
-            small = rw is-part (part-low x j (S .low) (S .looking .bare) within);
-            few = omega (arith, its .few);
-            deep = q;
-            room = omega (arith, R .passes .few);
-          }
-
-      module _ (f : ℕ) (ef : f ≡ unpacked (getD ix a 0) .code) where
-        abbrev Noted : List ℕ
-        Noted = set way d (16 * x + j)
-
-        its-first : f ≡ firstOf (T (getD (parts (T x .body)) j 0))
-        its-first = code-is a f (next .small) ef ∙ ap (λ (u : ℕ). firstOf (T u)) is-part
-
-        room-way : d < length way
-        room-way = omega (arith, next .room)
-
-        pub among-found : f ≡ code → Finds b code Noted t (At a (d + 1))
-        among-found e =
-            let y = look-found T F (nested-all b T (countIn b) (R .passes)) code not-tag way t d x j (S .looking) within (next .few) room-way (sym its-first ∙ e) in
-            rw (add-one, is-part) (y .0, y .1, sym its-first ∙ e, rw is-part at (next .small))
-
-        pub among-down : f ≡ untagged → Amid b code Noted t (d + 1) a 0
-        among-down e =
-            rw (add-one, is-part)
-            (record {
-              looking = look-down T F (nested-all b T (countIn b) (R .passes)) code not-tag way t d x j (S .looking) within (next .few) room-way (sym its-first ∙ e);
-              low = rw is-part at (next .small);
-              deep = omega (arith, next .deep);
-            })
-
-        pub among-next : (f ≡ code → ⊥) → (f ≡ untagged → ⊥) → Amid b code Noted t d x (j + 1)
-        among-next e g =
-            rw add-one
-            (record {
-              looking =
-                  look-next T F (nested-all b T (countIn b) (R .passes)) code not-tag way t d x j (S .looking) within
-                  (next .few) room-way (λ z. e (its-first ∙ z)) (λ z. g (its-first ∙ z));
-              low = S .low;
-              deep = S .deep;
-            })
-
-      pub fewer-under : turnsLeft T (countIn b) (set way d (16 * x + j)) (d + 1) a 0 < turnsLeft T (countIn b) way d x j
-      fewer-under = rw (add-one, is-part) (fewer-down T (countIn b) way d x j within (next .deep) (next .few) (omega (arith, next .room)))
-
-      pub fewer-beside : turnsLeft T (countIn b) (set way d (16 * x + j)) d x (j + 1) < turnsLeft T (countIn b) way d x j
-      fewer-beside = rw add-one (fewer-next T (countIn b) way d x j within (next .deep))
-
-    -- there is none
-    module _ (h : s .count ≤ j) where
-      beyond : length (parts (T x .body)) ≤ j
-      beyond = omega (arith, its .count)
-
-      pub among-none : d ≡ 0 → Finds b code way t Nothing
-      among-none z = look-none T F (nested-all b T (countIn b) (R .passes)) code not-tag way t d x j (S .looking) beyond z
-
-      module _ (z : d ≡ 0 → ⊥) where
-        one-less : d ≡ suc (d - 1)
-        one-less = omega arith
-
-        pub among-back : Amid b code way t (d - 1) (getD way (d - 1) 0 / 16) (getD way (d - 1) 0 % 16 + 1)
-        among-back =
-            let N = nested-all b T (countIn b) (R .passes) in
-            rw add-one
-            (record {
-              looking = look-back T F N code not-tag way t d x j (S .looking) beyond (d - 1) one-less;
-              low = above-low _ _ (look-above T F N code not-tag way t d x j (S .looking) beyond (d - 1) one-less);
-              deep = omega (arith, S .deep);
-            })
-
-        -- what is noted is small
-        pub among-small : getD way (d - 1) 0 < 2048
-        among-small =
-            let q = look-above T F (nested-all b T (countIn b) (R .passes)) code not-tag way t d x j (S .looking) beyond (d - 1) one-less in
-            omega (arith, above-low _ _ q, R .passes .few)
-
-        pub fewer-above : turnsLeft T (countIn b) way (d - 1) (getD way (d - 1) 0 / 16) (getD way (d - 1) 0 % 16 + 1) < turnsLeft T (countIn b) way d x j
-        fewer-above = rw add-one (fewer-back T (countIn b) way d x j beyond (d - 1) one-less)
-
   -- before the first
   pub amid-first : (code : ℕ) (way : List ℕ) (t : ℕ) → code < untagged → t < countIn b → firstOf (T t) ≡ untagged → Amid b code way t 0 t 0
   amid-first code way t tag h e =
@@ -206,3 +102,122 @@ module _ {b ix : List ℕ} (R : Ready b ix) where
   seek-other code way t f tag h ef e g =
       let q = code-is t f h ef in
       search-other T F (nested-all b T (countIn b) (R .passes)) code (λ z. omega arith) t (λ z. e (q ∙ z)) (λ z. g (q ∙ z))
+
+-- one turn: the CHOICE x has its alternatives at s
+pub record Turn (b ix : List ℕ) (code : ℕ) (way : List ℕ) (t d x j : ℕ) (s : Span) : Type 0 where
+  pub ready : Ready b ix
+  pub tag : code < untagged
+  pub wide : length way ≡ 128
+  pub amid : Amid b code way t d x j
+  pub spans : s ≡ counted b (unpacked (getD ix x 0) .own) 1
+
+module _ {b ix : List ℕ} {code : ℕ} {way : List ℕ} {t d x j : ℕ} {s : Span} (P : Turn b ix code way t d x j s) where
+  abbrev Tb : Table
+  Tb = tableIn b
+
+  abbrev Fb : (t : ℕ) → Fit (tableIn b t)
+  Fb = fit b (tableIn b) (countIn b) (P .ready .passes)
+
+  abbrev N : (t : ℕ) → Nested (tableIn b) 128 t
+  N = nested-all b (tableIn b) (countIn b) (P .ready .passes)
+
+  not-tag : code ≡ untagged → ⊥
+  not-tag e = omega (arith, P .tag)
+
+  pub its : Alternatives b x s
+  its = alternatives-of (P .ready) x s (P .amid .low) (P .amid .looking .bare) (P .spans)
+
+  -- there is one more, whose number is a
+  module _ (h : j < s .count) {a : ℕ} (ea : a ≡ getD b (s .first + j) 0) where
+    within : j < length (parts (Tb x .body))
+    within = omega (arith, its .count)
+
+    is-part : a ≡ getD (parts (Tb x .body)) j 0
+    is-part = ea ∙ its .at j h
+
+    pub record Next : Type 0 where
+      pub small : a < countIn b
+      pub few : j < 16
+      pub deep : d < countIn b
+      pub room : d < 128
+
+    pub next : Next
+    next =
+        let q = look-deep Tb Fb N code not-tag (countIn b) (nested b Tb (countIn b) (P .ready .passes) t) (P .amid .looking) within in
+        record {
+          small = rw is-part (part-low (P .ready) x j (P .amid .low) (P .amid .looking .bare) within);
+          few = omega (arith, its .few);
+          deep = q;
+          room = omega (arith, P .ready .passes .few);
+        }
+
+    module _ {f : ℕ} (ef : f ≡ unpacked (getD ix a 0) .code) where
+      abbrev Noted : List ℕ
+      Noted = set way d (16 * x + j)
+
+      its-first : f ≡ firstOf (Tb (getD (parts (Tb x .body)) j 0))
+      its-first = code-is (P .ready) a f (next .small) ef ∙ ap (λ (u : ℕ). firstOf (Tb u)) is-part
+
+      room-way : d < length way
+      room-way = omega (arith, next .room, P .wide)
+
+      pub among-found : f ≡ code → Finds b code Noted t (At a (d + 1))
+      among-found e =
+          let y = look-found Tb Fb N code not-tag way t d x j (P .amid .looking) within (next .few) room-way (sym its-first ∙ e) in
+          rw (add-one, is-part) (y .0, y .1, sym its-first ∙ e, rw is-part at (next .small))
+
+      pub among-down : f ≡ untagged → Amid b code Noted t (d + 1) a 0
+      among-down e =
+          rw (add-one, is-part)
+          (record {
+            looking = look-down Tb Fb N code not-tag way t d x j (P .amid .looking) within (next .few) room-way (sym its-first ∙ e);
+            low = rw is-part at (next .small);
+            deep = omega (arith, next .deep);
+          })
+
+      pub among-next : (f ≡ code → ⊥) → (f ≡ untagged → ⊥) → Amid b code Noted t d x (j + 1)
+      among-next e g =
+          rw add-one
+          (record {
+            looking =
+                look-next Tb Fb N code not-tag way t d x j (P .amid .looking) within
+                (next .few) room-way (λ z. e (its-first ∙ z)) (λ z. g (its-first ∙ z));
+            low = P .amid .low;
+            deep = P .amid .deep;
+          })
+
+    pub fewer-under : turnsLeft Tb (countIn b) (set way d (16 * x + j)) (d + 1) a 0 < turnsLeft Tb (countIn b) way d x j
+    fewer-under = rw (add-one, is-part) (fewer-down Tb (countIn b) way d x j within (next .deep) (next .few) (omega (arith, next .room, P .wide)))
+
+    pub fewer-beside : turnsLeft Tb (countIn b) (set way d (16 * x + j)) d x (j + 1) < turnsLeft Tb (countIn b) way d x j
+    fewer-beside = rw add-one (fewer-next Tb (countIn b) way d x j within (next .deep))
+
+  -- there is none
+  module _ (h : s .count ≤ j) where
+    beyond : length (parts (Tb x .body)) ≤ j
+    beyond = omega (arith, its .count)
+
+    pub among-none : d ≡ 0 → Finds b code way t Nothing
+    among-none z = look-none Tb Fb N code not-tag way t d x j (P .amid .looking) beyond z
+
+    module _ (z : d ≡ 0 → ⊥) where
+      one-less : d ≡ suc (d - 1)
+      one-less = omega arith
+
+      pub among-back : Amid b code way t (d - 1) (getD way (d - 1) 0 / 16) (getD way (d - 1) 0 % 16 + 1)
+      among-back =
+          rw add-one
+          (record {
+            looking = look-back Tb Fb N code not-tag way t d x j (P .amid .looking) beyond (d - 1) one-less;
+            low = above-low (P .ready) _ _ (look-above Tb Fb N code not-tag way t d x j (P .amid .looking) beyond (d - 1) one-less);
+            deep = omega (arith, P .amid .deep);
+          })
+
+      -- what is noted is small
+      pub among-small : getD way (d - 1) 0 < 2048
+      among-small =
+          let q = look-above Tb Fb N code not-tag way t d x j (P .amid .looking) beyond (d - 1) one-less in
+          omega (arith, above-low (P .ready) _ _ q, P .ready .passes .few)
+
+      pub fewer-above : turnsLeft Tb (countIn b) way (d - 1) (getD way (d - 1) 0 / 16) (getD way (d - 1) 0 % 16 + 1) < turnsLeft Tb (countIn b) way d x j
+      fewer-above = rw add-one (fewer-back Tb (countIn b) way d x j beyond (d - 1) one-less)

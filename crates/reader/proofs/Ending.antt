@@ -3,7 +3,7 @@
 use borrow.Author.Tests.{eqb-true, eqb-false}
 use lib.Dec.{eqb}
 use lib.ListN.{getD, drop}
-use mathlib.Core.Bool.{Bool, true, false, not, _||_, true≢false, false≢true}
+use mathlib.Core.Bool.{Bool, true, false, not, _||_, true≢false}
 use mathlib.Core.List.{List, [], _∷_}
 use mathlib.Core.Path.{_≡_, refl, sym, ap, _∙_}
 use Prim.Native.Nat.{ℕ, zero, suc}
@@ -14,41 +14,17 @@ use Rattle.octets.specs.Lists.{any}
 use Rattle.octets.proofs.Tests.{test}
 use Rattle.ber.specs.declared.ending.End.{End}
 use Rattle.ber.specs.declared.ending.End.the-variants.{More, Over as EndsAt, Broken}
-use Rattle.table.specs.Syntax.{Body, Plain, Sequence, Set, SequenceOf, SetOf, Choice, constructed}
+use Rattle.table.specs.Syntax.{Plain, Sequence, Set, SequenceOf, SetOf, Choice}
 use Rattle.table.specs.Octets.{kind}
-use Rattle.table.specs.Entries.{unpacked, tableIn}
+use Rattle.table.specs.Entries.{unpacked}
 use Rattle.table.specs.declared.entry.Entry.{Entry}
-use Rattle.table.proofs.Promises.{entered-kind}
 use Rattle.reader.specs.Items.{Holder, inside, message, manner, isSingle, partsOf, optionals, pending, lacks}
-use Rattle.reader.specs.Records.{Ready, Known, of-record, of-message, holderIn}
 use Rattle.reader.specs.Sought.{held, Sound}
 use Rattle.reader.specs.Standing.{atEnding, standing}
 use Rattle.reader.specs.declared.judge.Standing.the-variants.{Item, Over, Refused}
+use Rattle.reader.proofs.Held.{held-one}
 use Rattle.reader.proofs.Items.{pending-free, pending-come}
-use Rattle.reader.proofs.Spans.{by-member, entry-of, held-body}
-
--- which kinds hold one item
-one-kind : (y : Body) → constructed y ≡ true → (eqb (kind y) 50 || eqb (kind y) 51) ≡ isSingle (manner (inside y))
-unfolding kind manner isSingle constructed
-one-kind (Plain k) c = absurd (false≢true c)
-one-kind (Sequence ms) c = refl
-one-kind (Set ms) c = refl
-one-kind (SequenceOf t) c = refl
-one-kind (SetOf t) c = refl
-one-kind (Choice ts) c = refl
-
-not-not : (a : Bool) → false ≡ not a → a ≡ true
-not-not true e = refl
-not-not false e = absurd (false≢true e)
-
-one-known : {b index : List ℕ} → Ready b index → (w : ℕ) → Known b index w → unpacked w .simple ≡ false
-    → (eqb (unpacked w .kind) 50 || eqb (unpacked w .kind) 51) ≡ isSingle (manner (held b w))
-unfolding holderIn if manner isSingle
-one-known {b} R w (of-record t h q) n =
-    let x = R .filled .entered t h in
-    let c = not-not (constructed (tableIn b t .body)) (sym (rw q at n) ∙ x .simple) in
-    rw (q, held-body x (R .filled .short)) (ap (λ (k : ℕ). eqb k 50 || eqb k 51) (entered-kind x) ∙ one-kind (tableIn b t .body) c)
-one-known R w (of-message t h q) n = rw q refl
+use Rattle.reader.proofs.Spans.{by-member, entry-of}
 
 -- elements need not come
 optional-parts : (came : List ℕ) (i k : ℕ) (ts : List ℕ) → any (λ x. not (x .1 .optional)) (pending came k (drop i (optionals ts))) ≡ false
@@ -77,7 +53,7 @@ module _ {b index : List ℕ} {w : ℕ} {came : List ℕ} (Z : Sound b index w c
   H = held b w
 
   one-is : g ≡ isSingle (manner H)
-  one-is = eg ∙ ap (λ (x : Entry). eqb (x .kind) 50 || eqb (x .kind) 51) ee ∙ one-known (Z .ready) w (Z .known) plain
+  one-is = eg ∙ held-one (Z .ready) (Z .known) plain e ee
 
   pub stands-one : g ≡ true → Item ≡ standing H i came y
   unfolding standing if

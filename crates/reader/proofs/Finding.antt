@@ -23,7 +23,7 @@ use Rattle.ber.specs.declared.identifier.Identifier.the-variants.{Read, Refused
 use Rattle.ber.proofs.Codes.{read-code-small}
 use Rattle.ber.proofs.Told.{identifier-read, identifier-refused}
 use Rattle.table.specs.Syntax.{Member, Table}
-use Rattle.table.specs.Entries.{unpacked, spanOf, tableIn, countIn}
+use Rattle.table.specs.Entries.{unpacked, tableIn, countIn}
 use Rattle.table.specs.declared.entry.Entry.{Entry}
 use Rattle.table.specs.declared.entry.Span.{Span}
 use Rattle.coding.specs.Reading.{passes, begun, notAwaited}
@@ -31,7 +31,7 @@ use Rattle.coding.proofs.FirstTags.{good}
 use Rattle.reader.specs.Codes.{firstOf, untagged, peeked}
 use Rattle.reader.specs.Items.{Holder, manner, partsOf, Placed, awaits, remains, isSingle, first, next}
 use Rattle.reader.specs.Records.{Ready, Known, of-record, of-message, holderIn, Finds}
-use Rattle.reader.specs.Sought.{held, Sound, placeOf, tabledCount, direct, unfit, unfitCause, Indirect, Sought}
+use Rattle.reader.specs.Sought.{held, placeOf, tabledCount, direct, unfit, unfitCause, Indirect, Sought}
 use Rattle.reader.specs.Ways.{here}
 use Rattle.reader.specs.declared.search.Found.{Found}
 use Rattle.reader.specs.declared.search.Found.the-variants.{Part, Refused}
@@ -39,7 +39,7 @@ use Rattle.reader.specs.declared.search.Under.the-variants.{At}
 use Rattle.reader.proofs.Begun.{fit}
 use Rattle.reader.proofs.Items.{found-of, awaits-found}
 use Rattle.reader.proofs.ItemsSearch.{GoodHolder, Tells, tells, search-itself, direct-next, indirect-next}
-use Rattle.reader.proofs.Searching.{spanned, type-low, clear-turn}
+use Rattle.reader.proofs.Searching.{Parted, spanned, type-low, clear-turn}
 use Rattle.reader.proofs.Spans.{PartAt, held-body, tabled-some}
 
 -- the refusal of an item that begins no part that is awaited
@@ -81,7 +81,7 @@ good-held {b} R w (of-record t h q) =
     rw (q, held-body x (R .filled .short)) (good b (tableIn b) (countIn b) (R .passes) t .apart)
 good-held R w (of-message t h q) = rw q tt
 
-module _ {b index : List ℕ} {w : ℕ} {came : List ℕ} (Z : Sound b index w came) (e : Entry) (ee : e ≡ unpacked w) (s : Span) (es : s ≡ spanOf b (e .kind) (e .own))
+module _ {b index : List ℕ} {w : ℕ} {came : List ℕ} {e : Entry} {s : Span} (D : Parted b index w came e s)
     (m : List ℕ) (o : Octets m) (y : Identifier) (ey : y ≡ toldIdentifier (length m) (readIdentifier m)) (i : ℕ) (way : List ℕ) where
   abbrev H : Holder
   H = held b w
@@ -116,7 +116,7 @@ module _ {b index : List ℕ} {w : ℕ} {came : List ℕ} (Z : Sound b index w c
 
     its-tells : Tells T m code
     unfolding peeked
-    its-tells = rw (Is .1, Is .2) at (tells T (fit b T (countIn b) (Z .ready .passes)) m o)
+    its-tells = rw (Is .1, Is .2) at (tells T (fit b T (countIn b) (D .sound .ready .passes)) m o)
 
     all-unawaited : notAwaited {A = List ℕ} m ≡ refused NotAwaited (length m)
     unfolding notAwaited then
@@ -125,11 +125,11 @@ module _ {b index : List ℕ} {w : ℕ} {came : List ℕ} (Z : Sound b index w c
     -- a part that begins with the code itself
     module _ (place : ℕ) (ep : place ≡ direct b H i came code) (l : place < s .count) where
       abbrev At-place : PartAt b H (unpacked w .kind) s place
-      At-place = spanned Z e ee s es .at place l
+      At-place = spanned D .at place l
 
       first-part : (z : Option Placed) → first (λ x. eqb (firstOf (T (x .1 .type))) code) (awaits H i came) ≡ z → place ≡ placeOf (tabledCount H) z
           → first (λ x. eqb (firstOf (T (x .1 .type))) code) (awaits H i came) ≡ some (place, At-place .part)
-      first-part none a d = let k = spanned Z e ee s es .count in absurd (omega arith)
+      first-part none a d = let k = spanned D .count in absurd (omega arith)
       first-part (some x) a d =
           let F = found-of came i (drop i (partsOf H)) _ x (awaits-found H i came (λ x. eqb (firstOf (T (x .1 .type))) code)) a in
           let n : i + F .offset ≡ place = omega (arith, F .place, d) in
@@ -139,7 +139,7 @@ module _ {b index : List ℕ} {w : ℕ} {came : List ℕ} (Z : Sound b index w c
 
       its-first : first (λ x. eqb (firstOf (T (x .1 .type))) code) (awaits H i came) ≡ some (place, At-place .part)
       its-first =
-          let k = tabled-some H (omega (arith, spanned Z e ee s es .count)) .1 i came in
+          let k = tabled-some H (omega (arith, spanned D .count)) .1 i came in
           first-part _ refl (ep ∙ ap (λ (z : List Placed). placeOf (tabledCount H) (first (λ x. eqb (firstOf (T (x .1 .type))) code) z)) k)
 
       begins-itself : eqb (firstOf (T (At-place .part .type))) code ≡ true
@@ -148,7 +148,7 @@ module _ {b index : List ℕ} {w : ℕ} {came : List ℕ} (Z : Sound b index w c
       its-way : Finds b code way (At-place .part .type) (At (At-place .part .type) 0)
       its-way =
           let t = At-place .part .type in
-          (search-itself T m code its-tells t begins-itself, here, eqb-true (firstOf (T t)) code begins-itself, type-low Z e ee s es place l t (sym (At-place .type)))
+          (search-itself T m code its-tells t begins-itself, here, eqb-true (firstOf (T t)) code begins-itself, type-low D place l t (sym (At-place .type)))
 
       pub sought-direct : (t : ℕ) → t ≡ getD b (s .first + s .step * place) 0
           → (part : Member) × (a : List ℕ) × (next T H i came m ≡ some (place, part)) × (readIdentifier m ≡ got a (drop end m)) × (0 < end) × (end ≤ length m)
@@ -157,7 +157,7 @@ module _ {b index : List ℕ} {w : ℕ} {came : List ℕ} (Z : Sound b index w c
           let z = et ∙ At-place .type in (
             At-place .part,
             Is .0,
-            direct-next T m code its-tells H (good-held (Z .ready) w (Z .known)) i came (λ p v. clear-turn Z e ee s es v p) (place, At-place .part) its-first,
+            direct-next T m code its-tells H (good-held (D .sound .ready) w (D .sound .known)) i came (λ p v. clear-turn D v p) (place, At-place .part) its-first,
             Is .1,
             Is .3,
             Is .4,

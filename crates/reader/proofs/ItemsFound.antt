@@ -21,7 +21,7 @@ use Rattle.ber.proofs.Codes.{code-short, code-long, read-code-small}
 use Rattle.ber.proofs.Places.{some-at, part-to-end}
 use Rattle.table.specs.Syntax.{Tag, Member, Body, Record, Table, constructed}
 use Rattle.table.specs.Octets.{kind}
-use Rattle.table.specs.Entries.{unpacked, untagged, more, outermostCode, spanOf, tableIn, countIn}
+use Rattle.table.specs.Entries.{unpacked, untagged, more, outermostCode, tableIn, countIn}
 use Rattle.table.specs.declared.entry.Entry.{Entry}
 use Rattle.table.specs.declared.entry.Span.{Span}
 use Rattle.table.specs.Passes.{Nested}
@@ -30,7 +30,7 @@ use Rattle.reader.specs.Codes.{firstOf, peeked, hit}
 use Rattle.reader.specs.Items.{Holder, Manner, in-turn, each-once, repeated, single, manner, partsOf, Placed}
 use Rattle.reader.specs.Items.{pending, within, since, first, next}
 use Rattle.reader.specs.Records.{Ready}
-use Rattle.reader.specs.Sought.{held, Sound, Sought}
+use Rattle.reader.specs.Sought.{held, Sought}
 use Rattle.reader.specs.Ways.{Leads, here, wrapped}
 use Rattle.reader.specs.Wraps.{Headed}
 use Rattle.reader.specs.declared.search.Choice.{Choice as Chosen}
@@ -41,7 +41,7 @@ use Rattle.reader.proofs.Begun.{Fit, fit, nested-all}
 use Rattle.reader.proofs.Items.{first-hit, first-miss, pending-free, pending-come}
 use Rattle.reader.proofs.ItemsSearch.{Lone, GoodHolder, lone-awaits, Tells, tells, search-itself}
 use Rattle.reader.proofs.ItemsWay.{way-level, way-value}
-use Rattle.reader.proofs.Searching.{spanned, type-low, clear-turn}
+use Rattle.reader.proofs.Searching.{Parted, spanned, type-low, clear-turn}
 use Rattle.reader.proofs.Finding.{good-held}
 use Rattle.reader.proofs.Spans.{PartAt, its, awaits-hit}
 use Rattle.reader.proofs.Opening.{octets-drop}
@@ -196,8 +196,7 @@ pub item-found : {b : List ℕ} {h : Holder} {m : List ℕ} {at i : ℕ} {came w
 item-found {m = m} {at = at} r x low q ex = item-sought x low (rw (part-to-end m at, ex) at q)
 
 -- or the part at hand, which begins with the octet at the place
-module _ {b index : List ℕ} {w : ℕ} {came : List ℕ} (Z : Sound b index w came) (e : Entry) (ee : e ≡ unpacked w)
-    (s : Span) (es : s ≡ spanOf b (e .kind) (e .own))
+module _ {b index : List ℕ} {w : ℕ} {came : List ℕ} {e : Entry} {s : Span} (D : Parted b index w came e s)
     (m : List ℕ) (o : Octets m) (at : ℕ) (here-is : at < length m) (j : ℕ) (l : j < s .count) (z : getD came j 0 ≡ 0)
     (t f : ℕ) (et : t ≡ getD b (s .first + s .step * j) 0) (ef : f ≡ unpacked (getD index t 0) .code) (q : f ≡ getD m at 0) where
   abbrev Records : Table
@@ -207,10 +206,10 @@ module _ {b index : List ℕ} {w : ℕ} {came : List ℕ} (Z : Sound b index w c
   Held = held b w
 
   its-number : t < countIn b
-  its-number = type-low Z e ee s es j l t et
+  its-number = type-low D j l t et
 
   its-code : getD m at 0 ≡ firstOf (Records t)
-  its-code = sym q ∙ code-is (Z .ready) t f its-number ef
+  its-code = sym q ∙ code-is (D .sound .ready) t f its-number ef
 
   its-read : readIdentifier (drop at m) ≡ got (getD m at 0 ∷ []) (drop (at + 1) m)
   its-read = let k = o at in let c = its-code in read-one m at here-is (rw c (short-first (Records t) (omega arith)))
@@ -220,7 +219,7 @@ module _ {b index : List ℕ} {w : ℕ} {came : List ℕ} (Z : Sound b index w c
   its-first = sym its-code
 
   its-tells : Tells Records (drop at m) (codeOf (getD m at 0 ∷ []))
-  its-tells = code-tells (Z .ready) (drop at m) (octets-drop m o at) (getD m at 0 ∷ []) (drop (at + 1) m) its-read
+  its-tells = code-tells (D .sound .ready) (drop at m) (octets-drop m o at) (getD m at 0 ∷ []) (drop (at + 1) m) its-read
 
   its-begun : begun Records t (drop at m) ≡ true
   its-begun =
@@ -228,7 +227,7 @@ module _ {b index : List ℕ} {w : ℕ} {came : List ℕ} (Z : Sound b index w c
       its-tells t ∙ ap hit (search-itself Records (drop at m) c its-tells t (eq-eqb (firstOf (Records t)) c its-first))
 
   abbrev Part-j : PartAt b Held (unpacked w .kind) s j
-  Part-j = spanned Z e ee s es .at j l
+  Part-j = spanned D .at j l
 
   pub item-fits : (way : List ℕ) → At-item b Held m at (since (manner Held) j) came way j t 0 (at + 1)
   item-fits way =
@@ -236,7 +235,7 @@ module _ {b index : List ℕ} {w : ℕ} {came : List ℕ} (Z : Sound b index w c
       record {
         part = Part-j .part;
         identifier = getD m at 0 ∷ [];
-        found = next-at Records Held (good-held (Z .ready) w (Z .known)) came (drop at m) (λ p v. clear-turn Z e ee s es v p)
+        found = next-at Records Held (good-held (D .sound .ready) w (D .sound .known)) came (drop at m) (λ p v. clear-turn D v p)
             j (Part-j .part) (Part-j .is) z (rw (← y) its-begun);
         read = its-read;
         further = omega arith;

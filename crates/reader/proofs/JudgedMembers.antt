@@ -58,7 +58,7 @@ use Rattle.reader.proofs.ItemsWay.{wrapped-size}
 use Rattle.reader.proofs.ItemsFound.{At-item, item-found, item-fits, restOf, item-level, item-value, item-headed}
 use Rattle.reader.proofs.Held.{held-some, held-kind, held-one, held-span, held-few, held-node, held-onward, onward-most}
 use Rattle.reader.proofs.PlacedTurns.{since-onward}
-use Rattle.reader.proofs.Searching.{type-low}
+use Rattle.reader.proofs.Searching.{Parted, type-low}
 use Rattle.reader.proofs.Spans.{Spanned}
 use Rattle.reader.proofs.Tagging.{its-record}
 use Rattle.reader.proofs.Told.{told-refused, told-done, tell-refused, tell-done}
@@ -319,6 +319,9 @@ module _ {Q : Setting} (P : Turn Q) where
   total-few : P .total < 16386
   total-few = omega (arith, P .so-far .going .sized)
 
+  its-parted : Parted (Q .b) (Q .index) (Q .w) (P .came) (Q .e) (Q .s)
+  its-parted = record { sound = judging-sound Q (P .so-far); entry = Q .entry; span = Q .span }
+
   -- the part at hand
   module _ (l : P .j < Q .s .count) where
     pub part-few : P .j < 16
@@ -328,7 +331,7 @@ module _ {Q : Setting} (P : Turn Q) where
     part-near = its-span Q .near (P .j) l
 
     pub type-few : (t : ℕ) → t ≡ getD (Q .b) (Q .s .first + Q .s .step * P .j) 0 → t < 128
-    type-few t et = omega (arith, type-low (judging-sound Q (P .so-far)) (Q .e) (Q .entry) (Q .s) (Q .span) (P .j) l t et, Q .ready .filled .few)
+    type-few t et = omega (arith, type-low its-parted (P .j) l t et, Q .ready .filled .few)
 
   -- contents that are over
   pub judged-over : (u : ℕ) → P .y ≡ Ends u → Done u (P .total) ≡ told (P .m) size W
@@ -404,7 +407,7 @@ module _ {Q : Setting} (P : Turn Q) where
         → f ≡ unpacked (getD (Q .index) t 0) .code → f ≡ getD (P .m) (P .at) 0 → (way : List ℕ)
         → At-item (Q .b) (H Q) (P .m) (P .at) I (P .came) way (P .j) t 0 (P .at + 1)
     item-here l z t f et ef q way =
-        item-fits (judging-sound Q (P .so-far)) (Q .e) (Q .entry) (Q .s) (Q .span) (P .m) (P .octets) (P .at) item-there (P .j) l z t f et ef q way
+        item-fits its-parted (P .m) (P .octets) (P .at) item-there (P .j) l z t f et ef q way
 
 -- an item of a part
 pub record Comes {Q : Setting} (P : Turn Q) : Type 0 where

@@ -22,7 +22,7 @@ use Rattle.table.specs.Reading.{bodyAt}
 use Rattle.table.specs.Entries.{unpacked, tableIn, countIn}
 use Rattle.table.specs.declared.entry.Entry.{Entry}
 use Rattle.coding.specs.Tags.{own, explicit}
-use Rattle.coding.specs.Value.{Value, leaf, Leaf, boolean, integer, bits, string, null, enumerated, leafOctets, octets}
+use Rattle.coding.specs.Value.{Value, leaf, Leaf, leafOctets, octets}
 use Rattle.coding.specs.Reading.{decode, readValue, readMessage}
 use Rattle.coding.proofs.Content.{content-sound, content-complete}
 use Rattle.reader.specs.Answers.{cap, told, size}
@@ -38,6 +38,7 @@ use Rattle.reader.specs.declared.tags.Opened.{Opened}
 use Rattle.reader.specs.declared.tags.Opened.the-variants.{Refused as NotOpened}
 use Rattle.reader.proofs.Items.{over}
 use Rattle.reader.proofs.ItemsKinds.{message-whole}
+use Rattle.reader.proofs.LeafKinds.{leaf-three}
 use Rattle.reader.proofs.Bodies.{recordOf, its-body}
 use Rattle.reader.proofs.Opening.{item-refused, its-count, its-few}
 use Rattle.reader.proofs.Tails.{Sane, leaves, stops, tail-less, Closes, held-sane, not-none}
@@ -67,22 +68,13 @@ decode-moves : (k : Simple) (l : ℕ) (c s : List ℕ) (l₂ : ℕ) (s₂ : List
     → decode k l₂ c s₂ ≡ got x s₂
 decode-moves k l c s l₂ s₂ x w e = content-complete l₂ s₂ (got-holds (content-sound k l c s) e .1)
 
-leaf-some : (x : Leaf) → 0 < length (leafOctets x)
-unfolding leafOctets
-leaf-some (boolean b) = omega arith
-leaf-some (integer z) = omega arith
-leaf-some (bits n c) = omega arith
-leaf-some (string c) = omega arith
-leaf-some null = omega arith
-leaf-some (enumerated k) = omega arith
-
 module _ (k : Simple) (c : List ℕ) (l : ℕ) (s : List ℕ) (n : ℕ) (en : n ≡ weight (decode k 0 c [])) where
   weight-none : n ≡ 0 → decode k l c s ≡ refused Contents l
   unfolding weight
   weight-none z = go (decode k l c s) refl
     where
       go : (y : Answer Leaf) → decode k l c s ≡ y → y ≡ refused Contents l
-      go (got x w) e = let q = rw (decode-moves k l c s 0 [] x w e) at en in absurd (omega (arith, leaf-some x))
+      go (got x w) e = let q = rw (decode-moves k l c s 0 [] x w e) at en in absurd (omega (arith, leaf-three x))
       go (refused a b) e = let (i, j) = rw e at (decode-only k l c s) in rw (i, j) refl
 
   weight-some : (n ≡ 0 → ⊥) → (x : Leaf) × (decode k l c s ≡ got x s) × (n ≡ length (leafOctets x))

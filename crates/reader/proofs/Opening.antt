@@ -375,9 +375,12 @@ module _ (b : List ℕ) (r : Record) (F : Fit r) (m : List ℕ) (om : Octets m) 
           next-head next (behind-last k) = ((λ v. absurd (omega arith)), omega arith)
           next-head next (is-tag e v h) = ((λ _. h), h .low)
 
-          module _ (part : List ℕ) (ep : part ≡ U) (y : TagRead) (E : EntersTag Ids (j + 1) part (x .marked) y) where
+          module _ (y : TagRead) (E : EntersTag Ids (j + 1) (take (x .end - x .start) (drop (x .start) m)) (x .marked) y) where
             its : (u : TagRead) → y ≡ u → EntersTag Ids (suc j) U (x .marked) u
-            its u e = let q = add-one j in rw (q, ep, e) at E
+            its u e =
+                let q = add-one j in
+                let ep = slice-is (x .start) (x .end) m (extent .1) (omega (arith, extent .2, S .high)) in
+                rw (q, ep, e) at E
 
             pub open-refused : (c : Cause) → y ≡ NoTag c → (ns : List ℕ) → Opens b r m first ns (NotOpened c (length m - x .start))
             open-refused c e ns =

@@ -41,7 +41,7 @@ use Rattle.reader.specs.Placed.{Fits, Final, IsPlaced, heldIn, valueIn, 
 use Rattle.reader.specs.Wraps.{Headed}
 use Rattle.reader.proofs.ItemsFound.{At-item, item-sought, item-fits, item-tagged, item-level, item-value, item-headed}
 use Rattle.reader.proofs.PlacedWays.{way-length, inner-under}
-use Rattle.reader.proofs.Searching.{type-low}
+use Rattle.reader.proofs.Searching.{Parted, type-low}
 use Rattle.reader.proofs.Tagging.{record-is}
 use Rattle.reader.proofs.PlacedLevels.{kept-got, value-kept}
 use Rattle.reader.proofs.Finding.{good-held}
@@ -372,6 +372,9 @@ module _ {b index : List ℕ} {w : ℕ} {m : List ℕ} {marked : Bool} {first : 
   pub sound : Sound b index w blank
   sound = record { ready = X .given .ready; known = X .given .known; noted = refl; clear = λ z p. blank-clear p }
 
+  parted : Parted b index w blank e s
+  parted = record { sound = sound; entry = X .given .entry; span = X .given .span }
+
   module _ {buf : List ℕ} {at next j : ℕ} (C : Coming X count buf at next j) where
     pub coming-low : at < length m
     coming-low = omega (arith, got-holds (value-shorter (tableIn b) 24 (C .part .1 .type) (drop at m)) (C .read), length-drop at m)
@@ -431,14 +434,14 @@ module _ {b index : List ℕ} {w : ℕ} {m : List ℕ} {marked : Bool} {first : 
       part-type = et ∙ ap (λ (z : ℕ). getD b (s .first + z) 0) (mul-comm j (s .step))
 
       pub part-low : t < countIn b
-      part-low = type-low sound e (X .given .entry) s (X .given .span) j l t part-type
+      part-low = type-low parted j l t part-type
 
       pub chosen-here : (f : ℕ) → f ≡ unpacked (getD index t 0) .code → f ≡ getD m at 0 → Chosen j buf at next j t (at + 1)
       unfolding wayOctets
       chosen-here f ef q =
           let z : j - j ≡ 0 = omega arith in
           item-chosen
-          (item-fits sound e (X .given .entry) s (X .given .span) m (X .given .octets) at coming-low j l (blank-clear j) t f part-type ef q [])
+          (item-fits parted m (X .given .octets) at coming-low j l (blank-clear j) t f part-type ef q [])
           (omega arith) refl (omega arith) (λ _. rw z refl) (λ _. refl)
 
     -- the part that the search found

@@ -137,15 +137,21 @@ module _ {b index : List ℕ} {w : ℕ} {came : List ℕ} (Z : Sound b index w c
   pub unfit-other : (c : Cause) → g ≡ false → since (manner (held b w)) i ≡ i → unfitCause (held b w) i came c ≡ c
   unfit-other c n q = unfit-of i came c (held b w) (Z .clear) (sym by-it ∙ n) q
 
-module _ {b index : List ℕ} {w : ℕ} {came : List ℕ} (Z : Sound b index w came) (e : Entry) (ee : e ≡ unpacked w) (s : Span) (es : s ≡ spanOf b (e .kind) (e .own)) where
+-- an entry whose parts are sought, and where they are
+pub record Parted (b index : List ℕ) (w : ℕ) (came : List ℕ) (e : Entry) (s : Span) : Type 0 where
+  pub sound : Sound b index w came
+  pub entry : e ≡ unpacked w
+  pub span : s ≡ spanOf b (e .kind) (e .own)
+
+module _ {b index : List ℕ} {w : ℕ} {came : List ℕ} {e : Entry} {s : Span} (D : Parted b index w came e s) where
   abbrev H : Holder
   H = held b w
 
   kind-is : e .kind ≡ unpacked w .kind
-  kind-is = ap (λ (x : Entry). x .kind) ee
+  kind-is = ap (λ (x : Entry). x .kind) (D .entry)
 
   pub spanned : Spanned b H (unpacked w .kind) s
-  spanned = its (Z .ready) w (Z .known) s (es ∙ ap (λ (x : Entry). spanOf b (x .kind) (x .own)) ee)
+  spanned = its (D .sound .ready) w (D .sound .known) s (D .span ∙ ap (λ (x : Entry). spanOf b (x .kind) (x .own)) (D .entry))
 
   pub few : s .count ≤ 16
   few = spanned .few
@@ -154,13 +160,13 @@ module _ {b index : List ℕ} {w : ℕ} {came : List ℕ} (Z : Sound b index w c
   near = spanned .near
 
   is-turn : e .kind ≡ 16 → manner H ≡ in-turn
-  is-turn q = turn-is (manner H) (sym (entry-of (Z .ready) w (Z .known) .sequence) ∙ eq-eqb (unpacked w .kind) 16 (sym kind-is ∙ q))
+  is-turn q = turn-is (manner H) (sym (entry-of (D .sound .ready) w (D .sound .known) .sequence) ∙ eq-eqb (unpacked w .kind) 16 (sym kind-is ∙ q))
 
   no-turn : (e .kind ≡ 16 → ⊥) → manner H ≡ in-turn → ⊥
-  no-turn n = turn-not (manner H) (sym (entry-of (Z .ready) w (Z .known) .sequence) ∙ ne-eqb (unpacked w .kind) 16 (λ z. n (kind-is ∙ z)))
+  no-turn n = turn-not (manner H) (sym (entry-of (D .sound .ready) w (D .sound .known) .sequence) ∙ ne-eqb (unpacked w .kind) 16 (λ z. n (kind-is ∙ z)))
 
   pub clear-turn : manner H ≡ in-turn → (p : ℕ) → getD came p 0 ≡ 0
-  clear-turn q = Z .clear (λ z. true≢false (ap turns-by (sym q ∙ z)))
+  clear-turn q = D .sound .clear (λ z. true≢false (ap turns-by (sym q ∙ z)))
 
   -- the i-th part from which on others are left
   pub since-is : (i j : ℕ) → ((e .kind ≡ 16) × (i ≡ j)) ⊎ ((e .kind ≡ 16 → ⊥) × (i ≡ 0)) → i ≡ since (manner H) j
@@ -191,7 +197,7 @@ module _ {b index : List ℕ} {w : ℕ} {came : List ℕ} (Z : Sound b index w c
 
     pub type-low : (t : ℕ) → t ≡ getD b (s .first + s .step * k) 0 → t < countIn b
     type-low t et =
-        let q = part-low (Z .ready) w (Z .known) k (At-k .part) _ (At-k .is) in
+        let q = part-low (D .sound .ready) w (D .sound .known) k (At-k .part) _ (At-k .is) in
         let z = et ∙ At-k .type in
         rw z q
 
@@ -221,7 +227,7 @@ module _ {b index : List ℕ} {w : ℕ} {came : List ℕ} (Z : Sound b index w c
 
       module _ (t f : ℕ) (et : t ≡ getD b (s .first + s .step * k) 0) (ef : f ≡ unpacked (getD index t 0) .code) where
         first-is : f ≡ firstOf (tableIn b (At-k .part .type))
-        first-is = code-is (Z .ready) t f (type-low t et) ef ∙ ap (λ (u : ℕ). firstOf (tableIn b u)) (et ∙ At-k .type)
+        first-is = code-is (D .sound .ready) t f (type-low t et) ef ∙ ap (λ (u : ℕ). firstOf (tableIn b u)) (et ∙ At-k .type)
 
         pub other-code : (f ≡ code → ⊥) → Other
         other-code n = λ z. ne-eqb (firstOf (tableIn b (At-k .part .type))) code (λ q. n (first-is ∙ q))
@@ -256,11 +262,11 @@ module _ {b index : List ℕ} {w : ℕ} {came : List ℕ} (Z : Sound b index w c
   -- all parts, a message's one with them
   whole-is : eqb (e .kind) 51 ≡ true → H ≡ message (e .own)
   unfolding holderIn if
-  whole-is q = rw (← ee, q) refl
+  whole-is q = rw (← D .entry, q) refl
 
   all-tabled : eqb (e .kind) 51 ≡ false → tabledCount H ≡ length (partsOf H)
   unfolding holderIn if tabledCount
-  all-tabled q = rw (← ee, q) refl
+  all-tabled q = rw (← D .entry, q) refl
 
   in-table : eqb (e .kind) 51 ≡ false → s .count ≡ length (partsOf H)
   in-table q = spanned .count ∙ all-tabled q
@@ -317,7 +323,7 @@ module _ {b index : List ℕ} {w : ℕ} {came : List ℕ} (Z : Sound b index w c
 
     module _ (k t : ℕ) (C : Candidate k t) where
       pub candidate-low : t < countIn b
-      candidate-low = let q = part-low (Z .ready) w (Z .known) k (C .part) _ (C .is) in let z = C .type in rw z q
+      candidate-low = let q = part-low (D .sound .ready) w (D .sound .known) k (C .part) _ (C .is) in let z = C .type in rw z q
 
       module _ (way : List ℕ) (r : Under) (F : Finds b code way t r) where
         under-none : r ≡ Nothing → Under-it (k, C .part) ≡ false

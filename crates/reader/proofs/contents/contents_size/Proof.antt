@@ -16,21 +16,19 @@ contents-size-spec =
     (tie.spec
     (λ c.
     let a = c .before .before .before .before .args in
-    (boolean-wrong (a .table .now) (a .e .kind) (a .e .own) (a .c .now) (c .before .if1 .taken) (c .if2 .taken), omega arith))  -- returns
+    (boolean-wrong _ (a .e .kind) (a .e .own) _ (c .before .if1 .taken) (c .if2 .taken), omega arith))  -- returns
     (λ c.
     let a = c .before .before .before .before .args in
-    (boolean-size (a .table .now) (a .e .kind) (a .e .own) (a .c .now) (c .before .if1 .taken) (c .if2 .left), omega arith))  -- returns-2
+    (boolean-size _ (a .e .kind) (a .e .own) _ (c .before .if1 .taken) (c .if2 .left), omega arith))  -- returns-2
     (λ c κs. tt)  -- is-integer-requires
     (λ c.
     let a = c .before .before .before .before .before .before .args in (
-      integer-size (a .table .now) (a .e .kind) (a .e .own) (a .c .now) (c .before .before .if3 .taken) (c .before .is-integer .ensures)
-          (c .if4 .taken),
+      integer-size _ (a .e .kind) (a .e .own) _ (c .before .before .if3 .taken) (c .before .is-integer .ensures) (c .if4 .taken),
       omega arith,
     ))  -- returns-3
     (λ c.
     let a = c .before .before .before .before .before .before .args in (
-      integer-wrong (a .table .now) (a .e .kind) (a .e .own) (a .c .now) (c .before .before .if3 .taken)
-          (c .before .is-integer .ensures) (c .if4 .left),
+      integer-wrong _ (a .e .kind) (a .e .own) _ (c .before .before .if3 .taken) (c .before .is-integer .ensures) (c .if4 .left),
       omega arith,
     ))  -- returns-4
     (λ c κs. tt)  -- are-bits-requires
@@ -38,41 +36,39 @@ contents-size-spec =
     (λ c.
     let c7 = c .before .before .before .before .before .before .before in
     let a = c7 .args in (
-      bits-size (a .table .now) (a .e .kind) (a .e .own) (a .c .now) (c .before .before .if5 .taken) (c .before .are-bits .ensures)
-          (c .if6 .taken),
+      bits-size _ (a .e .kind) (a .e .own) _ (c .before .before .if5 .taken) (c .before .are-bits .ensures) (c .if6 .taken),
       omega (arith, c7 .pre .2),
     ))  -- returns-5
     (λ c.
     let a = c .before .before .before .before .before .before .before .args in (
-      bits-wrong (a .table .now) (a .e .kind) (a .e .own) (a .c .now) (c .before .before .if5 .taken) (c .before .are-bits .ensures)
-          (c .if6 .left),
+      bits-wrong _ (a .e .kind) (a .e .own) _ (c .before .before .if5 .taken) (c .before .are-bits .ensures) (c .if6 .left),
       omega arith,
     ))  -- returns-6
     (λ c. omega (arith, c .before .before .before .before .before .before .pre .2))  -- add-result-2
     (λ c.
     let c6 = c .before .before .before .before .before .before in
     let a = c6 .args in
-    (string-size (a .table .now) (a .e .kind) (a .e .own) (a .c .now) (c .if7 .taken), omega (arith, c6 .pre .2)))  -- returns-7
+    (string-size _ (a .e .kind) (a .e .own) _ (c .if7 .taken), omega (arith, c6 .pre .2)))  -- returns-7
     (λ c.
     let a = c .before .before .before .before .before .before .before .before .args in
-    (null-wrong (a .table .now) (a .e .kind) (a .e .own) (a .c .now) (c .before .if8 .taken) (c .if9 .taken), omega arith))  -- returns-8
+    (null-wrong _ (a .e .kind) (a .e .own) _ (c .before .if8 .taken) (c .if9 .taken), omega arith))  -- returns-8
     (λ c.
     let a = c .before .before .before .before .before .before .before .before .args in
-    (null-size (a .table .now) (a .e .kind) (a .e .own) (a .c .now) (c .before .if8 .taken) (c .if9 .left), omega arith))  -- returns-9
+    (null-size _ (a .e .kind) (a .e .own) _ (c .before .if8 .taken) (c .if9 .left), omega arith))  -- returns-9
     (λ c.
     let c3 = c .before .before .before in
     let c4 = c3 .before in
     let c5 = c4 .before in
     let a = c5 .before .before .before .args in (
-      other-wrong (a .table .now) (a .e .kind) (a .e .own) (a .c .now) (c5 .if1 .left) (c4 .if3 .left) (c3 .if5 .left)
-          (c .before .before .if7 .left) (c .before .if8 .left) (c .if10 .taken),
+      other-wrong _ (a .e .kind) (a .e .own) _ (c5 .if1 .left) (c4 .if3 .left) (c3 .if5 .left) (c .before .before .if7 .left)
+          (c .before .if8 .left) (c .if10 .taken),
       omega arith,
     ))  -- returns-10
     (λ c κs. tt)  -- is-integer-requires-2
     (λ c.
     let a = c .before .before .before .before .before .before .before .before .before .before .args in (
-      number-wrong (a .table .now) (a .e .kind) (a .e .own) (a .c .now) (c .before .before .if10 .left)
-          (c .before .is-integer2 .ensures) (not-true _ (c .if11 .taken)),
+      number-wrong _ (a .e .kind) (a .e .own) _ (c .before .before .if10 .left) (c .before .is-integer2 .ensures) (not-true _
+          (c .if11 .taken)),
       omega arith,
     ))  -- returns-11
     (λ c κs. tt)  -- of-requires
@@ -84,9 +80,9 @@ contents-size-spec =
     let c5 = c4 .before in
     let c13 = c5 .before .before .before .before .before .before .before .before in
     let a = c13 .args in (
-      number-size (a .table .now) (a .e .kind) (a .e .own) (a .c .now) (c5 .if10 .left) (c4 .is-integer2 .ensures) (not-false _
-          (c3 .if11 .left)) _ (toZ-ofZ w64 (c2 .of .result) (record { sfits = c2 .of .ok }) ∙ c2 .of .ensures) (lists-all (c13 .pre .1)
-          (c5 .if10 .left) _ (c .before .lists .result) (c .before .lists .ensures)) (c .if12 .taken),
+      number-size _ (a .e .kind) (a .e .own) _ (c5 .if10 .left) (c4 .is-integer2 .ensures) (not-false _ (c3 .if11 .left)) _
+          (toZ-ofZ w64 _ (record { sfits = c2 .of .ok }) ∙ c2 .of .ensures) (lists-all (c13 .pre .1) (c5 .if10 .left) _ _
+          (c .before .lists .ensures)) (c .if12 .taken),
       omega arith,
     ))  -- returns-12
     (λ c.
@@ -96,8 +92,8 @@ contents-size-spec =
     let c5 = c4 .before in
     let c13 = c5 .before .before .before .before .before .before .before .before in
     let a = c13 .args in (
-      number-unlisted (a .table .now) (a .e .kind) (a .e .own) (a .c .now) (c5 .if10 .left) (c4 .is-integer2 .ensures) (not-false _
-          (c3 .if11 .left)) _ (toZ-ofZ w64 (c2 .of .result) (record { sfits = c2 .of .ok }) ∙ c2 .of .ensures) (lists-all (c13 .pre .1)
-          (c5 .if10 .left) _ (c .before .lists .result) (c .before .lists .ensures)) (c .if12 .left),
+      number-unlisted _ (a .e .kind) (a .e .own) _ (c5 .if10 .left) (c4 .is-integer2 .ensures) (not-false _ (c3 .if11 .left)) _
+          (toZ-ofZ w64 _ (record { sfits = c2 .of .ok }) ∙ c2 .of .ensures) (lists-all (c13 .pre .1) (c5 .if10 .left) _ _
+          (c .before .lists .ensures)) (c .if12 .left),
       omega arith,
     )))  -- returns-13

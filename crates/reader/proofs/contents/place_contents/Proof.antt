@@ -32,8 +32,7 @@ place-contents-spec =
       lawful-boolean (q .0) (c .before .if1 .taken),
       omega (
         arith,
-        leaf-room (boolean-octets (a .kind) (now (a .c))
-            (c .before .if1 .taken)) (now (a .buf)) (a .to) (q .2),
+        leaf-room (boolean-octets _ (now (a .c)) (c .before .if1 .taken)) (now (a .buf)) _ (q .2),
         c4 .begin-node .kept .0,
       ),
     ))  -- put-flag-requires
@@ -42,10 +41,8 @@ place-contents-spec =
     let c2 = c .before .before in
     let c4 = c2 .before .before in
     let c7 = c4 .before .before .before in
-    let a = c7 .before .before .before .before .args in
-    leaf-placed (boolean-octets (a .kind) (now (a .c)) (c4 .if1 .taken)) (now (a .buf)) (c7 .begin-node .last .0)
-    (c2 .put-flag .last .1 .0) (a .to) (c2 .put-flag .result) (c7 .begin-node .ensures) (c2 .put-flag .ensures .0)
-    (c2 .put-flag .ensures .1))  -- returns
+    leaf-placed (boolean-octets _ _ (c4 .if1 .taken)) _ (c7 .begin-node .last .0) (c2 .put-flag .last .1 .0) _ _
+    (c7 .begin-node .ensures) (c2 .put-flag .ensures .0) (c2 .put-flag .ensures .1))  -- returns
     (λ c κs.
     let c5 = c .before .before .before .before .before in
     let c9 = c5 .before .before .before .before in
@@ -56,7 +53,7 @@ place-contents-spec =
       h .1,
       omega (
         arith,
-        leaf-room (integer-octets (a .kind) (now (a .c)) (c .before .if2 .taken)) (now (a .buf)) (a .to) (q .2),
+        leaf-room (integer-octets _ (now (a .c)) (c .before .if2 .taken)) (now (a .buf)) _ (q .2),
         c5 .begin-node .kept .0,
       ),
     ))  -- put-integer-requires
@@ -65,10 +62,8 @@ place-contents-spec =
     let c2 = c .before .before in
     let c4 = c2 .before .before in
     let c8 = c4 .before .before .before .before in
-    let a = c8 .before .before .before .before .args in
-    leaf-placed (integer-octets (a .kind) (now (a .c)) (c4 .if2 .taken)) (now (a .buf)) (c8 .begin-node .last .0)
-    (c2 .put-integer .last .1 .0) (a .to) (c2 .put-integer .result) (c8 .begin-node .ensures) (c2 .put-integer .ensures .0)
-    (c2 .put-integer .ensures .1))  -- returns-2
+    leaf-placed (integer-octets _ _ (c4 .if2 .taken)) _ (c8 .begin-node .last .0) (c2 .put-integer .last .1 .0) _ _
+    (c8 .begin-node .ensures) (c2 .put-integer .ensures .0) (c2 .put-integer .ensures .1))  -- returns-2
     (λ c κs.
     let c6 = c .before .before .before .before .before .before in
     let c10 = c6 .before .before .before .before in
@@ -82,8 +77,7 @@ place-contents-spec =
       h .2,
       omega (
         arith,
-        leaf-room (bits-octets (a .kind) (now (a .c)) (c .before .if3 .taken)) (now (a .buf))
-            (a .to) (q .2),
+        leaf-room (bits-octets _ (now (a .c)) (c .before .if3 .taken)) (now (a .buf)) _ (q .2),
         c6 .begin-node .kept .0,
       ),
     ))  -- put-bits-requires
@@ -93,11 +87,9 @@ place-contents-spec =
     let c4 = c2 .before .before in
     let c9 = c4 .before .before .before .before .before in
     let a = c9 .before .before .before .before .args in
-    leaf-placed (bits-octets (a .kind) (now (a .c)) (c4 .if3 .taken)) (now (a .buf)) (c9 .begin-node .last .0)
-    (c2 .put-bits .last .1 .0) (a .to) (c2 .put-bits .result) (c9 .begin-node .ensures) (c2 .put-bits .ensures .0 ∙ omega (
-      arith,
-      length-masked (getD (now (a .c)) 0 0) (drop 1 (now (a .c))),
-    )) (c2 .put-bits .ensures .1))  -- returns-3
+    leaf-placed (bits-octets _ (now (a .c)) (c4 .if3 .taken)) (now (a .buf)) (c9 .begin-node .last .0) (c2 .put-bits .last .1 .0) _ _
+    (c9 .begin-node .ensures) (c2 .put-bits .ensures .0 ∙ omega (arith, length-masked (getD (now (a .c)) 0 0) (drop 1 (now (a .c)))))
+    (c2 .put-bits .ensures .1))  -- returns-3
     (λ c κs.
     let c7 = c .before .before .before .before .before .before .before in
     let c11 = c7 .before .before .before .before in
@@ -106,7 +98,7 @@ place-contents-spec =
       q .1,
       omega (
         arith,
-        leaf-room (string-octets (a .kind) (now (a .c)) (c .before .if4 .taken)) (now (a .buf)) (a .to) (q .2),
+        leaf-room (string-octets _ (now (a .c)) (c .before .if4 .taken)) (now (a .buf)) _ (q .2),
         c7 .begin-node .kept .0,
       ),
     ))  -- put-string-requires
@@ -115,16 +107,13 @@ place-contents-spec =
     let c2 = c .before .before in
     let c4 = c2 .before .before in
     let c10 = c4 .before .before .before .before .before .before in
-    let a = c10 .before .before .before .before .args in
-    leaf-placed (string-octets (a .kind) (now (a .c)) (c4 .if4 .taken)) (now (a .buf)) (c10 .begin-node .last .0)
-    (c2 .put-string .last .1 .0) (a .to) (c2 .put-string .result) (c10 .begin-node .ensures) (c2 .put-string .ensures .0 ∙ omega arith)
-    (c2 .put-string .ensures .1))  -- returns-4
+    leaf-placed (string-octets _ _ (c4 .if4 .taken)) _ (c10 .begin-node .last .0) (c2 .put-string .last .1 .0) _ _
+    (c10 .begin-node .ensures) (c2 .put-string .ensures .0 ∙ omega arith) (c2 .put-string .ensures .1))  -- returns-4
     (λ c. search needs)  -- same-length-5
     (λ c.
     let c7 = c .before .before .before .before .before .before .before in
-    let a = c7 .before .before .before .before .args in
-    leaf-placed (null-octets (a .kind) (now (a .c)) (c .if5 .taken)) (now (a .buf)) (c7 .begin-node .last .0) (c7 .begin-node .last .0)
-    (a .to) (a .to + 3) (c7 .begin-node .ensures) (omega arith) refl)  -- returns-5
+    leaf-placed (null-octets _ _ (c .if5 .taken)) _ (c7 .begin-node .last .0) (c7 .begin-node .last .0) _
+    (c7 .before .before .before .before .args .to + 3) (c7 .begin-node .ensures) (omega arith) refl)  -- returns-5
     (λ c κs.
     let c3 = c .before .before .before in
     let c4 = c3 .before in
@@ -137,12 +126,7 @@ place-contents-spec =
     (c .before .if5 .left) in (
       e .some-octet,
       e .eight-octets,
-      omega (
-        arith,
-        leaf-room (enumerated-octets (a .kind) (now (a .c)) (e .kind)) (now (a .buf))
-            (a .to) (q .2),
-        c8 .begin-node .kept .0,
-      ),
+      omega (arith, leaf-room (enumerated-octets _ (now (a .c)) (e .kind)) (now (a .buf)) _ (q .2), c8 .begin-node .kept .0),
       e .is,
       e .small,
     ))  -- put-enumerated-requires
@@ -155,9 +139,7 @@ place-contents-spec =
     let c7 = c6 .before in
     let c8 = c7 .before in
     let c11 = c8 .before .before .before in
-    let c15 = c11 .before .before .before .before in
-    let a = c15 .args in
-    let e = lawful-enumerated (c15 .pre .0) (c8 .if1 .left) (c7 .if2 .left) (c6 .if3 .left) (c5 .if4 .left) (c4 .if5 .left) in
-    leaf-placed (enumerated-octets (a .kind) (now (a .c)) (e .kind)) (now (a .buf)) (c11 .begin-node .last .0)
-    (c2 .put-enumerated .last .1 .0) (a .to) (c2 .put-enumerated .result) (c11 .begin-node .ensures) (c2 .put-enumerated .ensures .0)
-    (c2 .put-enumerated .ensures .1)))  -- returns-6
+    let e = lawful-enumerated (c11 .before .before .before .before .pre .0) (c8 .if1 .left) (c7 .if2 .left) (c6 .if3 .left)
+    (c5 .if4 .left) (c4 .if5 .left) in
+    leaf-placed (enumerated-octets _ _ (e .kind)) _ (c11 .begin-node .last .0) (c2 .put-enumerated .last .1 .0) _ _
+    (c11 .begin-node .ensures) (c2 .put-enumerated .ensures .0) (c2 .put-enumerated .ensures .1)))  -- returns-6

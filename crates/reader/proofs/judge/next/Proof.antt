@@ -3,11 +3,23 @@
 use borrow.Author.Needs.{needs}
 use borrow.Author.Tests.{not-true, not-false}
 use mathlib.Core.Logic.{⊎-elim, inl, inr}
-use mathlib.Core.Path.{refl}
+use mathlib.Core.Path.{_≡_, refl}
+use denote.Ref.{now}
+use Rattle.reader.specs.Items.{manner, since}
+use Rattle.reader.specs.Sought.{held}
 use Rattle.reader.proofs.Searching.{since-is, has-members}
 use Rattle.reader.proofs.Ending.{stands-one, stands-more, stands-broken, stands-list, stands-lacking, stands-over}
 use Rattle.reader.proofs.judge.next.Statement.{statement}
 use Rattle.reader.proofs.judge.next.Tie as tie
+
+-- from which part on others are left
+abbrev at-since : (c : tie.Joined2) →
+    let a = c .before .before .before .before .before .before .before .args in
+    c .if2 .i ≡ since (manner (held (now (a .table)) (a .w))) (a .j)
+at-since c =
+    let c4 = c .before .before .before .before in
+    since-is (record { sound = c4 .before .before .before .pre .1; entry = c4 .unpack .ensures; span = refl }) _ _
+    (⊎-elim (λ x. inl (x .0 .taken, x .1)) (λ x. inr (x .0 .left, x .1)) (c .if2 .came))
 
 pub next-spec : {M : Type 1} → statement M
 next-spec =
@@ -16,10 +28,8 @@ next-spec =
     (λ c κs. tt)  -- unpack-requires
     (λ c κs. tt)  -- holds-one-requires
     (λ c.
-    let c2 = c .before .before in
-    let q = c2 .before .before .before .pre in
-    stands-one (q .1) (q .2) (c2 .unpack .result) (c2 .unpack .ensures) (c .before .holds-one .result) (c .before .holds-one .ensures)
-    _ _ (c .if1 .taken))  -- returns
+    let q = c .before .before .before .before .before .pre in
+    stands-one (q .1) (q .2) _ (c .before .before .unpack .ensures) _ (c .before .holds-one .ensures) _ _ (c .if1 .taken))  -- returns
     (λ c κs. tt)  -- read-requires
     (λ c. search needs)  -- enum-told
     (λ c. search needs)  -- enum-known-cause
@@ -32,21 +42,16 @@ next-spec =
     let c8 = c6 .before .before in
     let c9 = c8 .before in
     let c10 = c9 .before in
-    let c13 = c10 .before .before .before in
-    let q = c13 .pre in
-    rw (← (since-is (q .1) (c10 .unpack .result) (c10 .unpack .ensures) _ refl (c6 .if2 .i) (c13 .args .j) (⊎-elim (λ x. inl
-    (x .0 .taken, x .1)) (λ x. inr (x .0 .left, x .1)) (c6 .if2 .came)))) (stands-list (q .1) (q .2) (c10 .unpack .result)
-    (c10 .unpack .ensures) (c9 .holds-one .result) (c9 .holds-one .ensures) (c6 .if2 .i) _ (c8 .if1 .left) (c5 .read .result)
-    (c5 .read .ensures) (c3 .end .given .0 .0) (c3 .end .given .1) (c .before .has-members .result) (c .before .has-members .ensures)
-    (not-true _ (c .if3 .taken))))  -- returns-2
+    let q = c10 .before .before .before .pre in
+    rw (← (at-since c6)) (stands-list (q .1) (q .2) _ (c10 .unpack .ensures) _ (c9 .holds-one .ensures) _ _ (c8 .if1 .left) _
+    (c5 .read .ensures) _ (c3 .end .given .1) _ (c .before .has-members .ensures) (not-true _ (c .if3 .taken))))  -- returns-2
     (λ c κs.
     let c6 = c .before .before .before .before .before .before in
     let c10 = c6 .before .before .before .before in
     let q = c10 .before .before .before .pre in (
       q .0,
       q .1,
-      has-members (q .1) (c10 .unpack .result) (c10 .unpack .ensures) (c .before .has-members .result)
-          (c .before .has-members .ensures) (c6 .if2 .i) (not-false _ (c .if3 .left)),
+      has-members (q .1) _ (c10 .unpack .ensures) _ (c .before .has-members .ensures) (c6 .if2 .i) (not-false _ (c .if3 .left)),
     ))  -- lacks-requires
     (λ c.
     let c3 = c .before .before .before in
@@ -56,36 +61,26 @@ next-spec =
     let c10 = c8 .before .before in
     let c11 = c10 .before in
     let c12 = c11 .before in
-    let c15 = c12 .before .before .before in
-    let q = c15 .pre in
-    rw (← (since-is (q .1) (c12 .unpack .result) (c12 .unpack .ensures) _ refl (c8 .if2 .i) (c15 .args .j) (⊎-elim (λ x. inl
-    (x .0 .taken, x .1)) (λ x. inr (x .0 .left, x .1)) (c8 .if2 .came)))) (stands-lacking (q .1) (q .2) (c12 .unpack .result)
-    (c12 .unpack .ensures) (c11 .holds-one .result) (c11 .holds-one .ensures) (c8 .if2 .i) _ (c10 .if1 .left) (c7 .read .result)
-    (c7 .read .ensures) (c5 .end .given .0 .0) (c5 .end .given .1) (c3 .has-members .result) (c3 .has-members .ensures)
-    (c .before .lacks .result) (c .before .lacks .ensures) (c .if4 .taken)))  -- returns-3
+    let q = c12 .before .before .before .pre in
+    rw (← (at-since c8)) (stands-lacking (q .1) (q .2) _ (c12 .unpack .ensures) _ (c11 .holds-one .ensures) _ _ (c10 .if1 .left) _
+    (c7 .read .ensures) _ (c5 .end .given .1) _ (c3 .has-members .ensures) _ (c .before .lacks .ensures) (c .if4 .taken)))  -- returns-3
     (λ c.
-    let c2 = c .before .before in
-    let c3 = c2 .before in
+    let c3 = c .before .before .before in
     let c5 = c3 .before .before in
     let c6 = c5 .before in
     let c7 = c6 .before in
-    let c10 = c7 .before .before .before in
-    let q = c10 .pre in
-    rw (← (since-is (q .1) (c7 .unpack .result) (c7 .unpack .ensures) _ refl (c3 .if2 .i) (c10 .args .j) (⊎-elim (λ x. inl
-    (x .0 .taken, x .1)) (λ x. inr (x .0 .left, x .1)) (c3 .if2 .came)))) (stands-more (q .1) (q .2) (c7 .unpack .result)
-    (c7 .unpack .ensures) (c6 .holds-one .result) (c6 .holds-one .ensures) (c3 .if2 .i) _ (c5 .if1 .left) (c2 .read .result)
-    (c2 .read .ensures) (c .enum-told .given .1)))  -- returns-4
+    let q = c7 .before .before .before .pre in
+    rw (← (at-since c3)) (stands-more (q .1) (q .2) _ (c7 .unpack .ensures) _ (c6 .holds-one .ensures) _ _ (c5 .if1 .left) _
+    (c .before .before .read .ensures) (c .enum-told .given .1)))  -- returns-4
     (λ c.
     let c3 = c .before .before .before in
     let c4 = c3 .before in
     let c6 = c4 .before .before in
     let c7 = c6 .before in
     let c8 = c7 .before in
-    let c11 = c8 .before .before .before in
-    rw (← (since-is (c11 .pre .1) (c8 .unpack .result) (c8 .unpack .ensures) _ refl (c4 .if2 .i) (c11 .args .j) (⊎-elim (λ x. inl
-    (x .0 .taken, x .1)) (λ x. inr (x .0 .left, x .1)) (c4 .if2 .came)))) (stands-broken (c11 .pre .1) (c11 .pre .2)
-    (c8 .unpack .result) (c8 .unpack .ensures) (c7 .holds-one .result) (c7 .holds-one .ensures) (c4 .if2 .i) _ (c6 .if1 .left)
-    (c3 .read .result) (c3 .read .ensures) (c .before .cause .given .0 .0) (c .before .cause .given .1)))  -- returns-5
+    let q = c8 .before .before .before .pre in
+    rw (← (at-since c4)) (stands-broken (q .1) (q .2) _ (c8 .unpack .ensures) _ (c7 .holds-one .ensures) _ _ (c6 .if1 .left) _
+    (c3 .read .ensures) _ (c .before .cause .given .1)))  -- returns-5
     (λ c.
     let c3 = c .before .before .before in
     let c5 = c3 .before .before in
@@ -94,10 +89,6 @@ next-spec =
     let c10 = c8 .before .before in
     let c11 = c10 .before in
     let c12 = c11 .before in
-    let c15 = c12 .before .before .before in
-    let q = c15 .pre in
-    rw (← (since-is (q .1) (c12 .unpack .result) (c12 .unpack .ensures) _ refl (c8 .if2 .i) (c15 .args .j) (⊎-elim (λ x. inl
-    (x .0 .taken, x .1)) (λ x. inr (x .0 .left, x .1)) (c8 .if2 .came)))) (stands-over (q .1) (q .2) (c12 .unpack .result)
-    (c12 .unpack .ensures) (c11 .holds-one .result) (c11 .holds-one .ensures) (c8 .if2 .i) _ (c10 .if1 .left) (c7 .read .result)
-    (c7 .read .ensures) (c5 .end .given .0 .0) (c5 .end .given .1) (c3 .has-members .result) (c3 .has-members .ensures)
-    (c .before .lacks .result) (c .before .lacks .ensures) (c .if4 .left))))  -- returns-6
+    let q = c12 .before .before .before .pre in
+    rw (← (at-since c8)) (stands-over (q .1) (q .2) _ (c12 .unpack .ensures) _ (c11 .holds-one .ensures) _ _ (c10 .if1 .left) _
+    (c7 .read .ensures) _ (c5 .end .given .1) _ (c3 .has-members .ensures) _ (c .before .lacks .ensures) (c .if4 .left))))  -- returns-6

@@ -47,18 +47,16 @@ begin-spec =
     let c7 = c6 .before in
     let a = c7 .before .before .args in (
       ap (λ (k : ℕ). a .to + k) (c6 .node-size .ensures),
-      four-stores (now (a .buf)) (a .to) (a .kind) (a .n) (c4 .begin-node .ensures)
-          ∙ ap (sets (now (a .buf)) (a .to)) (sym (opening-members (a .kind) (a .n) (c7 .if1 .left) (sym (c .before .has-members .ensures)
-          ∙ c .if2 .taken))),
+      four-stores (now (a .buf)) _ _ _ (c4 .begin-node .ensures) ∙ ap (sets (now (a .buf)) _) (sym (opening-members _ _
+          (c7 .if1 .left) (sym (c .before .has-members .ensures) ∙ c .if2 .taken))),
     ))  -- returns-2
     (λ c. search needs)  -- add-result-2
     (λ c. simp length-sets at (ap length (c .before .before .before .before .begin-node .ensures)))  -- same-length-2
     (λ c.
     let c4 = c .before .before .before .before in
     let c6 = c4 .before .before in
-    let c7 = c6 .before in
-    let a = c7 .before .before .args in (
-      ap (λ (k : ℕ). a .to + k) (c6 .node-size .ensures),
-      c4 .begin-node .ensures ∙ ap (sets (now (a .buf)) (a .to))
-          (sym (opening-others (a .kind) (a .n) (c7 .if1 .left) (sym (c .before .has-members .ensures) ∙ c .if2 .left))),
+    let c7 = c6 .before in (
+      ap (λ (k : ℕ). c7 .before .before .args .to + k) (c6 .node-size .ensures),
+      c4 .begin-node .ensures ∙ ap (sets _ _) (sym (opening-others _ _ (c7 .if1 .left) (sym (c .before .has-members .ensures)
+          ∙ c .if2 .left))),
     )))  -- returns-3

@@ -2,7 +2,6 @@
 -- Assumes nothing.
 use mathlib.Core.Path.{sym, _∙_}
 use native.Mathlib.Omega.{arith}
-use denote.Ref.{now}
 use Rattle.reader.proofs.NodeStores.{finished-members, finished-list}
 use borrow.Author.Needs.{needs}
 use Rattle.reader.proofs.node.finish.Statement.{statement}
@@ -18,10 +17,8 @@ finish-spec =
     (λ c. search needs)  -- same-length
     (λ c.
     let c4 = c .before .before .before .before in
-    let c5 = c4 .before in
-    let a = c5 .before .before .args in
-    c .before .before .put-absent .ensures ∙ sym (finished-members (a .kind) (a .j) (a .n) (a .count) (now (a .buf)) (a .to)
-    (sym (c5 .has-members .ensures) ∙ c4 .if1 .taken)))  -- returns
+    c .before .before .put-absent .ensures ∙ sym (finished-members _ _ _ _ _ _ (sym (c4 .before .has-members .ensures)
+    ∙ c4 .if1 .taken)))  -- returns
     (λ c.
     omega (arith, c .before .before .before .before .pre .1 (sym (c .before .before .has-members .ensures) ∙ c .before .if1 .left)))  -- add-put-number
     (λ c κs.
@@ -30,7 +27,4 @@ finish-spec =
     (λ c. search needs)  -- same-length-2
     (λ c.
     let c4 = c .before .before .before .before in
-    let c5 = c4 .before in
-    let a = c5 .before .before .args in
-    c .before .before .put-number .ensures ∙ sym (finished-list (a .kind) (a .j) (a .n) (a .count) (now (a .buf)) (a .to)
-    (sym (c5 .has-members .ensures) ∙ c4 .if1 .left))))  -- returns-2
+    c .before .before .put-number .ensures ∙ sym (finished-list _ _ _ _ _ _ (sym (c4 .before .has-members .ensures) ∙ c4 .if1 .left))))  -- returns-2

@@ -24,7 +24,7 @@ put-way-spec =
     (tie.spec
     Inv-loop
     μ-loop
-    (λ c. (omega arith, omega arith, refl, way-none (now (c .before .args .buf)) (c .before .args .to) (now (c .before .args .way))))  -- loop-holds
+    (λ c. (omega arith, omega arith, refl, way-none (now (c .before .args .buf)) _ (now (c .before .args .way))))  -- loop-holds
     (λ c. search needs)  -- mul-x
     (λ c. omega (arith, c .before .before .before .pre .0))  -- element-copy-out-x
     (λ c κs. omega (arith, c .before .before .before .before .before .pre .2, c .before .before .before .loop .inv))  -- begin-node-requires
@@ -44,14 +44,12 @@ put-way-spec =
     let c2 = c .before .before in
     let c5 = c2 .before .before .before in
     let c6 = c5 .before in
-    let c8 = c6 .before .before in
-    let a = c8 .args in
     let l = c6 .loop in (
       omega arith,
       omega (arith, l .inv .1),
       simp length-set (simp length-sets at (ap length (c2 .begin-node .ensures))) ∙ l .inv .2,
-      way-step (now (a .buf)) (a .to) (now (a .way)) (l .i) (l .next) (omega (arith, c8 .pre .0, c5 .loop-test .taken)) (l .inv .1)
-          (l .inv .3) (c2 .begin-node .ensures),
+      way-step _ _ _ _ _ (omega (arith, c6 .before .before .pre .0, c5 .loop-test .taken)) (l .inv .1) (l .inv .3)
+          (c2 .begin-node .ensures),
     ))  -- loop-again
     (λ c. c .before .loop .inv .2)  -- same-length
     (λ c.

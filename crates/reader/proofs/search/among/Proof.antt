@@ -3,11 +3,13 @@
 -- Assumes nothing.
 use mathlib.Core.Path.{_≡_, ap, _∙_}
 use native.Mathlib.Omega.{arith}
+use Prim.Native.Nat.{_<_, _≤_}
+use denote.Ref.{now}
 use lib.ListN.{length, length-set}
 use Rattle.table.specs.Entries.{tableIn, countIn, counted}
 use Rattle.table.specs.declared.entry.Entry.{Entry}
 use Rattle.reader.proofs.ItemsWay.{turnsLeft}
-use Rattle.reader.proofs.Among.{Amid, amid-first, alternatives-of, next, among-found, among-down, among-next, among-none, among-back}
+use Rattle.reader.proofs.Among.{Amid, amid-first, Turn, its, Next, next, among-found, among-down, among-next, among-none, among-back}
 use Rattle.reader.proofs.Among.{fewer-under, fewer-beside, fewer-above, among-small}
 use Rattle.reader.proofs.search.among.Statement.{statement}
 use Rattle.reader.proofs.search.among.Tie as tie
@@ -18,6 +20,30 @@ Inv-loop table index t code way₀ depth₀ choice₀ j₀ way depth choice j = 
 abbrev μ-loop : tie.MeasureT-loop
 μ-loop table index t code way₀ depth₀ choice₀ j₀ way depth choice j = turnsLeft (tableIn table) (countIn table) way depth choice j
 
+-- where the alternatives of the CHOICE are known that is looked at
+abbrev turn : (c : tie.After-alternatives Inv-loop μ-loop) →
+    let l = c .before .before .before .loop in
+    let a = c .before .before .before .before .before .args in
+    Turn (now (a .table)) (now (a .index)) (a .code) (l .way) (a .t) (l .depth) (l .choice) (l .j) (c .alternatives .result)
+turn c =
+    let c5 = c .before .before .before .before .before in
+    let l = c .before .before .before .loop in
+    record {
+      ready = c5 .pre .0;
+      tag = c5 .pre .3;
+      wide = l .inv .0;
+      amid = l .inv .1;
+      spans = c .alternatives .ensures ∙ ap (λ (e : Entry). counted (now (c5 .args .table)) (e .own) 1) (c .before .unpack .ensures);
+    }
+
+-- where one more is read
+abbrev one : (c : tie.After-octet Inv-loop μ-loop) → Next (turn (c .before .before .before .before)) (c .before .before .if1 .taken) (c .octet .ensures .0)
+one c = next (turn (c .before .before .before .before)) (c .before .before .if1 .taken) (c .octet .ensures .0)
+
+-- how many records there are
+abbrev few : (c : tie.At-loop Inv-loop μ-loop) → (c .loop .choice < 128) × (c .loop .depth ≤ 128)
+few c = let n = c .before .before .pre .0 .passes .few in (omega (arith, c .loop .inv .1 .low, n), omega (arith, c .loop .inv .1 .deep, n))
+
 pub among-spec : {M : Type 1} → statement M
 among-spec =
     tie.close
@@ -25,283 +51,59 @@ among-spec =
     Inv-loop
     μ-loop
     (λ c.
-    let a = c .before .args in
     let q = c .before .pre in
-    (q .4, amid-first (q .0) (a .code) (a .way .now) (a .t) (q .3) (q .1) (q .2)))  -- loop-holds
-    (λ c. omega (arith, c .loop .inv .1 .low, c .before .before .pre .0 .passes .few))  -- mul-unpack
-    (λ c. omega (arith, c .loop .inv .1 .low, c .before .before .pre .0 .passes .few))  -- element-copy-out-unpack
+    (q .4, amid-first (q .0) _ _ _ (q .3) (q .1) (q .2)))  -- loop-holds
+    (λ c. omega (arith, few c .0))  -- mul-unpack
+    (λ c. few c .0)  -- element-copy-out-unpack
     (λ c κs. tt)  -- unpack-requires
     (λ c κs. tt)  -- alternatives-requires
-    (λ c.
-    let c3 = c .before .before .before in
-    let c4 = c3 .before in
-    let c6 = c4 .before .before in
-    let c8 = c6 .before .before in
-    let l = c6 .loop in
-    omega (
-      arith,
-      alternatives-of (c8 .pre .0) (l .choice) (c3 .alternatives .result) (l .inv .1 .low) (l .inv .1 .looking .bare)
-          (c3 .alternatives .ensures ∙ ap (λ (e : Entry). counted (c8 .args .table .now) (e .own) 1) (c4 .unpack .ensures)) .near,
-      c .before .if1 .taken,
-    ))  -- add-octet
+    (λ c. omega (arith, its (turn (c .before .before .before)) .near, c .before .if1 .taken))  -- add-octet
     (λ c κs. tt)  -- octet-requires
-    (λ c.
-    let c7 = c .before .before .before .before .before .before .before in
-    omega (arith, c7 .loop .inv .1 .low, c7 .before .before .pre .0 .passes .few))  -- mul-way
-    (λ c.
-    let c4 = c .before .before .before .before in
-    let c5 = c4 .before in
-    let c7 = c5 .before .before in
-    let c9 = c7 .before .before in
-    let a = c9 .args in
-    let q = c9 .pre in
-    let l = c7 .loop in
-    omega (
-      arith,
-      l .inv .1 .low,
-      q .0 .passes .few,
-      next (q .0) (a .code) (q .3) (l .way) (l .inv .0) (a .t) (l .depth) (l .choice)
-          (l .j) (l .inv .1) (c4 .alternatives .result) (c4 .alternatives .ensures ∙ ap (λ (e : Entry). counted (a .table .now) (e .own) 1)
-          (c5 .unpack .ensures)) (c .before .before .if1 .taken) (c .octet .result) (c .octet .ensures .0) .few,
-    ))  -- add-way
-    (λ c.
-    let c4 = c .before .before .before .before in
-    let c5 = c4 .before in
-    let c7 = c5 .before .before in
-    let c9 = c7 .before .before in
-    let a = c9 .args in
-    let q = c9 .pre in
-    let l = c7 .loop in
-    omega (
-      arith,
-      l .inv .1 .low,
-      q .0 .passes .few,
-      next (q .0) (a .code) (q .3) (l .way) (l .inv .0) (a .t) (l .depth) (l .choice)
-          (l .j) (l .inv .1) (c4 .alternatives .result) (c4 .alternatives .ensures ∙ ap (λ (e : Entry). counted (a .table .now) (e .own) 1)
-          (c5 .unpack .ensures)) (c .before .before .if1 .taken) (c .octet .result) (c .octet .ensures .0) .few,
-    ))  -- cast-way
-    (λ c.
-    let c4 = c .before .before .before .before in
-    let c5 = c4 .before in
-    let c7 = c5 .before .before in
-    let c9 = c7 .before .before in
-    let a = c9 .args in
-    let q = c9 .pre in
-    let l = c7 .loop in
-    omega (
-      arith,
-      next (q .0) (a .code) (q .3) (l .way) (l .inv .0) (a .t) (l .depth) (l .choice) (l .j) (l .inv .1)
-          (c4 .alternatives .result) (c4 .alternatives .ensures ∙ ap (λ (e : Entry). counted (a .table .now) (e .own) 1)
-          (c5 .unpack .ensures)) (c .before .before .if1 .taken) (c .octet .result) (c .octet .ensures .0) .room,
-    ))  -- mul-way-2
-    (λ c.
-    let c4 = c .before .before .before .before in
-    let c5 = c4 .before in
-    let c7 = c5 .before .before in
-    let c9 = c7 .before .before in
-    let a = c9 .args in
-    let q = c9 .pre in
-    let l = c7 .loop in
-    next (q .0) (a .code) (q .3) (l .way) (l .inv .0) (a .t) (l .depth) (l .choice) (l .j) (l .inv .1) (c4 .alternatives .result)
-    (c4 .alternatives .ensures ∙ ap (λ (e : Entry). counted (a .table .now) (e .own) 1) (c5 .unpack .ensures))
-    (c .before .before .if1 .taken) (c .octet .result) (c .octet .ensures .0) .room)  -- element-write-way
+    (λ c. omega (arith, few (c .before .before .before .before .before .before .before) .0))  -- mul-way
+    (λ c. omega (arith, few (c .before .before .before .before .before .before .before) .0, one c .few))  -- add-way
+    (λ c. omega (arith, few (c .before .before .before .before .before .before .before) .0, one c .few))  -- cast-way
+    (λ c. omega (arith, one c .room))  -- mul-way-2
+    (λ c. one c .room)  -- element-write-way
     (λ c. omega (arith, c .octet .ensures .1))  -- mul-first
-    (λ c.
-    let c4 = c .before .before .before .before in
-    let c5 = c4 .before in
-    let c7 = c5 .before .before in
-    let c9 = c7 .before .before in
-    let a = c9 .args in
-    let q = c9 .pre in
-    let l = c7 .loop in
-    omega (
-      arith,
-      next (q .0) (a .code) (q .3) (l .way) (l .inv .0) (a .t) (l .depth) (l .choice) (l .j) (l .inv .1)
-          (c4 .alternatives .result) (c4 .alternatives .ensures ∙ ap (λ (e : Entry). counted (a .table .now) (e .own) 1)
-          (c5 .unpack .ensures)) (c .before .before .if1 .taken) (c .octet .result) (c .octet .ensures .0) .small,
-      q .0 .passes .few,
-    ))  -- element-copy-out-first
+    (λ c. omega (arith, one c .small, c .before .before .before .before .before .before .before .before .before .pre .0 .passes .few))  -- element-copy-out-first
     (λ c κs. tt)  -- first-requires
+    (λ c. omega (arith, one (c .before .before .before) .room))  -- add-t29
     (λ c.
     let c3 = c .before .before .before in
-    let c5 = c3 .before .before in
-    let c7 = c5 .before .before in
-    let c8 = c7 .before in
-    let c10 = c8 .before .before in
-    let c12 = c10 .before .before in
-    let a = c12 .args in
-    let q = c12 .pre in
-    let l = c10 .loop in
-    omega (
-      arith,
-      next (q .0) (a .code) (q .3) (l .way) (l .inv .0) (a .t) (l .depth) (l .choice) (l .j) (l .inv .1)
-          (c7 .alternatives .result) (c7 .alternatives .ensures ∙ ap (λ (e : Entry). counted (a .table .now) (e .own) 1)
-          (c8 .unpack .ensures)) (c5 .if1 .taken) (c3 .octet .result) (c3 .octet .ensures .0) .room,
-    ))  -- add-t29
-    (λ c.
-    let c3 = c .before .before .before in
-    let c5 = c3 .before .before in
-    let c7 = c5 .before .before in
-    let c8 = c7 .before in
-    let c10 = c8 .before .before in
-    let c12 = c10 .before .before in
-    let a = c12 .args in
-    let q = c12 .pre in
-    let l = c10 .loop in (
-      simp length-set (l .inv .0),
-      among-found (q .0) (a .code) (q .3) (l .way) (l .inv .0) (a .t) (l .depth) (l .choice) (l .j)
-          (l .inv .1) (c7 .alternatives .result) (c7 .alternatives .ensures ∙ ap (λ (e : Entry). counted (a .table .now) (e .own) 1)
-          (c8 .unpack .ensures)) (c5 .if1 .taken) (c3 .octet .result) (c3 .octet .ensures .0) (c .before .first .result)
-          (c .before .first .ensures) (c .if2 .taken),
+    let c7 = c3 .before .before .before .before in (
+      simp length-set (c7 .before .before .before .loop .inv .0),
+      among-found (turn c7) (c3 .before .before .if1 .taken) (c3 .octet .ensures .0) (c .before .first .ensures) (c .if2 .taken),
     ))  -- returns
+    (λ c. omega (arith, one (c .before .before .before .before) .room))  -- add-depth
     (λ c.
     let c4 = c .before .before .before .before in
-    let c6 = c4 .before .before in
-    let c8 = c6 .before .before in
-    let c9 = c8 .before in
-    let c11 = c9 .before .before in
-    let c13 = c11 .before .before in
-    let a = c13 .args in
-    let q = c13 .pre in
-    let l = c11 .loop in
-    omega (
-      arith,
-      next (q .0) (a .code) (q .3) (l .way) (l .inv .0) (a .t) (l .depth) (l .choice) (l .j) (l .inv .1)
-          (c8 .alternatives .result) (c8 .alternatives .ensures ∙ ap (λ (e : Entry). counted (a .table .now) (e .own) 1)
-          (c9 .unpack .ensures)) (c6 .if1 .taken) (c4 .octet .result) (c4 .octet .ensures .0) .room,
-    ))  -- add-depth
+    fewer-under (turn (c4 .before .before .before .before)) (c4 .before .before .if1 .taken) (c4 .octet .ensures .0))  -- loop-less
     (λ c.
     let c4 = c .before .before .before .before in
-    let c6 = c4 .before .before in
-    let c8 = c6 .before .before in
-    let c9 = c8 .before in
-    let c11 = c9 .before .before in
-    let c13 = c11 .before .before in
-    let a = c13 .args in
-    let q = c13 .pre in
-    let l = c11 .loop in
-    fewer-under (q .0) (a .code) (q .3) (l .way) (l .inv .0) (a .t) (l .depth) (l .choice) (l .j) (l .inv .1)
-    (c8 .alternatives .result) (c8 .alternatives .ensures ∙ ap (λ (e : Entry). counted (a .table .now) (e .own) 1)
-    (c9 .unpack .ensures)) (c6 .if1 .taken) (c4 .octet .result) (c4 .octet .ensures .0))  -- loop-less
-    (λ c.
-    let c2 = c .before .before in
-    let c4 = c2 .before .before in
-    let c6 = c4 .before .before in
-    let c8 = c6 .before .before in
-    let c9 = c8 .before in
-    let c11 = c9 .before .before in
-    let c13 = c11 .before .before in
-    let a = c13 .args in
-    let q = c13 .pre in
-    let l = c11 .loop in (
-      simp length-set (l .inv .0),
-      among-down (q .0) (a .code) (q .3) (l .way) (l .inv .0) (a .t) (l .depth) (l .choice) (l .j)
-          (l .inv .1) (c8 .alternatives .result) (c8 .alternatives .ensures ∙ ap (λ (e : Entry). counted (a .table .now) (e .own) 1)
-          (c9 .unpack .ensures)) (c6 .if1 .taken) (c4 .octet .result) (c4 .octet .ensures .0) (c2 .first .result) (c2 .first .ensures)
-          (c .if3 .taken),
+    let c8 = c4 .before .before .before .before in (
+      simp length-set (c8 .before .before .before .loop .inv .0),
+      among-down (turn c8) (c4 .before .before .if1 .taken) (c4 .octet .ensures .0) (c .before .before .first .ensures) (c .if3 .taken),
     ))  -- loop-again
+    (λ c. omega (arith, one (c .before .before .before .before) .few))  -- add-j
     (λ c.
     let c4 = c .before .before .before .before in
-    let c6 = c4 .before .before in
-    let c8 = c6 .before .before in
-    let c9 = c8 .before in
-    let c11 = c9 .before .before in
-    let c13 = c11 .before .before in
-    let a = c13 .args in
-    let q = c13 .pre in
-    let l = c11 .loop in
-    omega (
-      arith,
-      next (q .0) (a .code) (q .3) (l .way) (l .inv .0) (a .t) (l .depth) (l .choice) (l .j) (l .inv .1)
-          (c8 .alternatives .result) (c8 .alternatives .ensures ∙ ap (λ (e : Entry). counted (a .table .now) (e .own) 1)
-          (c9 .unpack .ensures)) (c6 .if1 .taken) (c4 .octet .result) (c4 .octet .ensures .0) .few,
-    ))  -- add-j
+    fewer-beside (turn (c4 .before .before .before .before)) (c4 .before .before .if1 .taken) (c4 .octet .ensures .0))  -- loop-less-2
     (λ c.
     let c4 = c .before .before .before .before in
-    let c6 = c4 .before .before in
-    let c8 = c6 .before .before in
-    let c9 = c8 .before in
-    let c11 = c9 .before .before in
-    let c13 = c11 .before .before in
-    let a = c13 .args in
-    let q = c13 .pre in
-    let l = c11 .loop in
-    fewer-beside (q .0) (a .code) (q .3) (l .way) (l .inv .0) (a .t) (l .depth) (l .choice) (l .j) (l .inv .1)
-    (c8 .alternatives .result) (c8 .alternatives .ensures ∙ ap (λ (e : Entry). counted (a .table .now) (e .own) 1)
-    (c9 .unpack .ensures)) (c6 .if1 .taken) (c4 .octet .result) (c4 .octet .ensures .0))  -- loop-less-2
-    (λ c.
-    let c2 = c .before .before in
-    let c4 = c2 .before .before in
-    let c6 = c4 .before .before in
-    let c8 = c6 .before .before in
-    let c9 = c8 .before in
-    let c11 = c9 .before .before in
-    let c13 = c11 .before .before in
-    let a = c13 .args in
-    let q = c13 .pre in
-    let l = c11 .loop in (
-      simp length-set (l .inv .0),
-      among-next (q .0) (a .code) (q .3) (l .way) (l .inv .0) (a .t) (l .depth) (l .choice) (l .j)
-          (l .inv .1) (c8 .alternatives .result) (c8 .alternatives .ensures ∙ ap (λ (e : Entry). counted (a .table .now) (e .own) 1)
-          (c9 .unpack .ensures)) (c6 .if1 .taken) (c4 .octet .result) (c4 .octet .ensures .0) (c2 .first .result) (c2 .first .ensures)
-          (c .before .if2 .left) (c .if3 .left),
+    let c8 = c4 .before .before .before .before in (
+      simp length-set (c8 .before .before .before .loop .inv .0),
+      among-next (turn c8) (c4 .before .before .if1 .taken) (c4 .octet .ensures .0) (c .before .before .first .ensures) (c .before .if2 .left)
+          (c .if3 .left),
     ))  -- loop-again-2
     (λ c.
     let c3 = c .before .before .before in
-    let c4 = c3 .before in
-    let c6 = c4 .before .before in
-    let c8 = c6 .before .before in
-    let a = c8 .args in
-    let q = c8 .pre in
-    let l = c6 .loop in (
-      l .inv .0,
-      among-none (q .0) (a .code) (q .3) (l .way) (l .inv .0) (a .t) (l .depth) (l .choice) (l .j) (l .inv .1)
-          (c3 .alternatives .result) (c3 .alternatives .ensures ∙ ap (λ (e : Entry). counted (a .table .now) (e .own) 1)
-          (c4 .unpack .ensures)) (c .before .if1 .left) (c .if4 .taken),
-    ))  -- returns-2
+    (c3 .before .before .before .loop .inv .0, among-none (turn c3) (c .before .if1 .left) (c .if4 .taken)))  -- returns-2
     (λ c. omega (arith, c .if4 .left))  -- sub-depth
-    (λ c.
-    let c6 = c .before .before .before .before .before .before in
-    omega (arith, c6 .loop .inv .1 .deep, c6 .before .before .pre .0 .passes .few))  -- mul-n
-    (λ c.
-    let c6 = c .before .before .before .before .before .before in
-    omega (arith, c6 .loop .inv .1 .deep, c6 .before .before .pre .0 .passes .few, c .if4 .left))  -- element-copy-out-n
-    (λ c.
-    let c4 = c .before .before .before .before in
-    let c5 = c4 .before in
-    let c7 = c5 .before .before in
-    let c9 = c7 .before .before in
-    let a = c9 .args in
-    let q = c9 .pre in
-    let l = c7 .loop in
-    omega (
-      arith,
-      among-small (q .0) (a .code) (q .3) (l .way) (l .inv .0) (a .t) (l .depth) (l .choice) (l .j) (l .inv .1)
-          (c4 .alternatives .result) (c4 .alternatives .ensures ∙ ap (λ (e : Entry). counted (a .table .now) (e .own) 1)
-          (c5 .unpack .ensures)) (c .before .before .if1 .left) (c .before .if4 .left),
-    ))  -- cast-n
+    (λ c. omega (arith, few (c .before .before .before .before .before .before) .1))  -- mul-n
+    (λ c. omega (arith, few (c .before .before .before .before .before .before) .1, c .if4 .left))  -- element-copy-out-n
+    (λ c. omega (arith, among-small (turn (c .before .before .before .before)) (c .before .before .if1 .left) (c .before .if4 .left)))  -- cast-n
     (λ c. omega arith)  -- add-j-2
+    (λ c. fewer-above (turn (c .before .before .before .before)) (c .before .before .if1 .left) (c .before .if4 .left))  -- loop-less-3
     (λ c.
     let c4 = c .before .before .before .before in
-    let c5 = c4 .before in
-    let c7 = c5 .before .before in
-    let c9 = c7 .before .before in
-    let a = c9 .args in
-    let q = c9 .pre in
-    let l = c7 .loop in
-    fewer-above (q .0) (a .code) (q .3) (l .way) (l .inv .0) (a .t) (l .depth) (l .choice) (l .j) (l .inv .1)
-    (c4 .alternatives .result) (c4 .alternatives .ensures ∙ ap (λ (e : Entry). counted (a .table .now) (e .own) 1)
-    (c5 .unpack .ensures)) (c .before .before .if1 .left) (c .before .if4 .left))  -- loop-less-3
-    (λ c.
-    let c4 = c .before .before .before .before in
-    let c5 = c4 .before in
-    let c7 = c5 .before .before in
-    let c9 = c7 .before .before in
-    let a = c9 .args in
-    let q = c9 .pre in
-    let l = c7 .loop in (
-      l .inv .0,
-      among-back (q .0) (a .code) (q .3) (l .way) (l .inv .0) (a .t) (l .depth) (l .choice) (l .j) (l .inv .1)
-          (c4 .alternatives .result) (c4 .alternatives .ensures ∙ ap (λ (e : Entry). counted (a .table .now) (e .own) 1)
-          (c5 .unpack .ensures)) (c .before .before .if1 .left) (c .before .if4 .left),
-    )))  -- loop-again-3
+    (c4 .before .before .before .loop .inv .0, among-back (turn c4) (c .before .before .if1 .left) (c .before .if4 .left))))  -- loop-again-3

@@ -4,9 +4,10 @@ use borrow.Author.Tests.{not-true, not-false}
 use mathlib.Core.Logic.{⊎-elim}
 use mathlib.Core.Path.{_≡_, refl, sym, _∙_}
 use native.Mathlib.Omega.{arith}
+use denote.Ref.{now}
 use Prim.Native.Nat.{_-_}
 use Rattle.reader.specs.Sought.{held, direct as Sought·direct}
-use Rattle.reader.proofs.Searching.{few, near, type-low, may-optional, may-other, other-code, other-come, direct-found, direct-skip}
+use Rattle.reader.proofs.Searching.{Parted, few, near, type-low, may-optional, may-other, other-code, other-come, direct-found, direct-skip}
 use Rattle.reader.proofs.Searching.{direct-stop, direct-end}
 use Rattle.reader.proofs.search.direct.Statement.{statement}
 use Rattle.reader.proofs.search.direct.Tie as tie
@@ -17,6 +18,12 @@ Inv-loop table index w i came code e s k₀ k = Sought·direct table (held table
 abbrev μ-loop : tie.MeasureT-loop
 μ-loop table index w i came code e s k₀ k = s .count - k
 
+-- where the parts of the entry are known
+abbrev at-parts : (c : tie.After-parts Inv-loop μ-loop) →
+    let a = c .before .before .before .args in
+    Parted (now (a .table)) (now (a .index)) (a .w) (now (a .came)) (c .before .unpack .result) (c .parts .result)
+at-parts c = record { sound = c .before .before .before .pre; entry = c .before .unpack .ensures; span = c .parts .ensures }
+
 pub direct-spec : {M : Type 1} → statement M
 direct-spec =
     tie.close
@@ -26,53 +33,19 @@ direct-spec =
     (λ c κs. tt)  -- unpack-requires
     (λ c κs. tt)  -- parts-requires
     (λ c. refl)  -- loop-holds
-    (λ c.
-    let c3 = c .before .before .before in
-    let c4 = c3 .before in
-    let c5 = c4 .before in
-    omega (
-      arith,
-      near (c5 .before .before .pre) (c5 .unpack .result) (c5 .unpack .ensures) (c4 .parts .result) (c4 .parts .ensures)
-          (c3 .loop .k) (c .before .if1 .taken),
-    ))  -- mul-p
-    (λ c.
-    let c4 = c .before .before .before .before in
-    let c5 = c4 .before in
-    let c6 = c5 .before in
-    omega (
-      arith,
-      near (c6 .before .before .pre) (c6 .unpack .result) (c6 .unpack .ensures) (c5 .parts .result) (c5 .parts .ensures)
-          (c4 .loop .k) (c .before .before .if1 .taken),
-    ))  -- add-p
-    (λ c.
-    let c5 = c .before .before .before .before .before in
-    let c6 = c5 .before in
-    omega (
-      arith,
-      few (c6 .before .before .pre) (c6 .unpack .result) (c6 .unpack .ensures) (c5 .parts .result) (c5 .parts .ensures),
-      c .before .before .if1 .taken,
-    ))  -- mul-if2
-    (λ c.
-    let c5 = c .before .before .before .before .before in
-    let c6 = c5 .before in
-    omega (
-      arith,
-      few (c6 .before .before .pre) (c6 .unpack .result) (c6 .unpack .ensures) (c5 .parts .result) (c5 .parts .ensures),
-      c .before .before .if1 .taken,
-    ))  -- element-copy-out-if2
+    (λ c. omega (arith, near (at-parts (c .before .before .before .before)) _ (c .before .if1 .taken)))  -- mul-p
+    (λ c. omega (arith, near (at-parts (c .before .before .before .before .before)) _ (c .before .before .if1 .taken)))  -- add-p
+    (λ c. omega (arith, few (at-parts (c .before .before .before .before .before)), c .before .before .if1 .taken))  -- mul-if2
+    (λ c. omega (arith, few (at-parts (c .before .before .before .before .before)), c .before .before .if1 .taken))  -- element-copy-out-if2
     (λ c κs. tt)  -- octet-requires
     (λ c. omega (arith, c .octet .ensures .1))  -- mul-first
     (λ c.
     let c5 = c .before .before .before .before .before in
-    let c7 = c5 .before .before in
-    let c8 = c7 .before in
-    let c9 = c8 .before in
-    let q = c9 .before .before .pre in
+    let c8 = c5 .before .before .before in
     omega (
       arith,
-      type-low (q) (c9 .unpack .result) (c9 .unpack .ensures) (c8 .parts .result) (c8 .parts .ensures) (c7 .loop .k)
-          (c5 .if1 .taken) (c .octet .result) (c .octet .ensures .0),
-      q .ready .passes .few,
+      type-low (at-parts (c8)) _ (c5 .if1 .taken) _ (c .octet .ensures .0),
+      c8 .before .before .before .pre .ready .passes .few,
     ))  -- element-copy-out-first
     (λ c κs. tt)  -- first-requires
     (λ c.
@@ -80,12 +53,7 @@ direct-spec =
     let c4 = c3 .before in
     let c8 = c4 .before .before .before .before in
     let c10 = c8 .before .before in
-    let c11 = c10 .before in
-    let c12 = c11 .before in
-    let c14 = c12 .before .before in
-    let l = c10 .loop in
-    sym (l .inv ∙ direct-found (c14 .pre) (c12 .unpack .result) (c12 .unpack .ensures) (c11 .parts .result) (c11 .parts .ensures)
-    (l .k) (c8 .if1 .taken) (c14 .args .code) (c3 .octet .result) (c .before .first .result) (c3 .octet .ensures .0)
+    sym (c10 .loop .inv ∙ direct-found (at-parts (c10 .before)) _ (c8 .if1 .taken) _ _ _ (c3 .octet .ensures .0)
     (c .before .first .ensures) (c4 .if2 .taken) (c .if3 .taken)))  -- returns
     (λ c κs. tt)  -- optional-requires
     (λ c.
@@ -93,49 +61,21 @@ direct-spec =
     let c8 = c4 .before .before .before .before in
     let c10 = c8 .before .before in
     let c11 = c10 .before in
-    let c12 = c11 .before in
-    let c14 = c12 .before .before in
-    let a = c14 .args in
-    let q = c14 .pre in
-    let l = c10 .loop in
-    sym (l .inv ∙ direct-stop (q) (c12 .unpack .result) (c12 .unpack .ensures) (c11 .parts .result) (c11 .parts .ensures) (l .k)
-    (c8 .if1 .taken) (a .code) (⊎-elim (λ x. other-code (q) (c12 .unpack .result) (c12 .unpack .ensures) (c11 .parts .result)
-    (c11 .parts .ensures) (l .k) (c8 .if1 .taken) (a .code) (x .1 .result) (x .3 .result) (x .1 .ensures .0) (x .3 .ensures)
-    (x .4 .left)) (λ x. other-come (q) (c12 .unpack .result) (c12 .unpack .ensures) (c11 .parts .result) (c11 .parts .ensures) (l .k)
-    (c8 .if1 .taken) (a .code) (x .left)) (c4 .if2 .came)) (c .before .before .if4 .taken) (c .before .optional .result)
-    (c .before .optional .ensures) (not-true _ (c .if5 .taken))))  -- returns-2
+    sym (c10 .loop .inv ∙ direct-stop (at-parts (c11)) _ (c8 .if1 .taken) _ (⊎-elim (λ x. other-code (at-parts (c11)) _
+    (c8 .if1 .taken) _ (x .1 .result) (x .3 .result) (x .1 .ensures .0) (x .3 .ensures) (x .4 .left)) (λ x. other-come (at-parts (c11))
+    _ (c8 .if1 .taken) _ (x .left)) (c4 .if2 .came)) (c .before .before .if4 .taken) _ (c .before .optional .ensures) (not-true _
+    (c .if5 .taken))))  -- returns-2
     (λ c.
     let c6 = c .before .before .before .before .before .before in
-    let c9 = c6 .before .before .before in
-    let c10 = c9 .before in
-    omega (
-      arith,
-      few (c10 .before .before .pre) (c10 .unpack .result) (c10 .unpack .ensures) (c9 .parts .result) (c9 .parts .ensures),
-      c6 .if1 .taken,
-    ))  -- add-k
+    omega (arith, few (at-parts (c6 .before .before .before)), c6 .if1 .taken))  -- add-k
     (λ c. omega (arith, c .before .before .before .before .before .before .if1 .taken))  -- loop-less
     (λ c.
     let c6 = c .before .before .before .before .before .before in
     let c8 = c6 .before .before in
     let c9 = c8 .before in
-    let c10 = c9 .before in
-    let c12 = c10 .before .before in
-    let a = c12 .args in
-    let q = c12 .pre in
-    let l = c8 .loop in
-    l .inv ∙ direct-skip (q) (c10 .unpack .result) (c10 .unpack .ensures) (c9 .parts .result) (c9 .parts .ensures) (l .k)
-    (c6 .if1 .taken) (a .code) (⊎-elim (λ x. other-code (q) (c10 .unpack .result) (c10 .unpack .ensures) (c9 .parts .result)
-    (c9 .parts .ensures) (l .k) (c6 .if1 .taken) (a .code) (x .1 .result) (x .3 .result) (x .1 .ensures .0) (x .3 .ensures)
-    (x .4 .left)) (λ x. other-come (q) (c10 .unpack .result) (c10 .unpack .ensures) (c9 .parts .result) (c9 .parts .ensures) (l .k)
-    (c6 .if1 .taken) (a .code) (x .left)) (c .before .before .if2 .came)) (⊎-elim (λ x. may-optional (q) (c10 .unpack .result)
-    (c10 .unpack .ensures) (c9 .parts .result) (c9 .parts .ensures) (l .k) (c6 .if1 .taken) (x .0 .taken) (x .1 .result)
-    (x .1 .ensures) (not-false _ (x .2 .left))) (λ x. may-other (q) (c10 .unpack .result) (c10 .unpack .ensures) (c9 .parts .result)
-    (c9 .parts .ensures) (l .k) (c6 .if1 .taken) (x .left)) (c .if4 .came)))  -- loop-again
-    (λ c.
-    let c2 = c .before .before in
-    let c3 = c2 .before in
-    let c4 = c3 .before in
-    let c6 = c4 .before .before in
-    let l = c2 .loop in
-    sym (l .inv ∙ direct-end (c6 .pre) (c4 .unpack .result) (c4 .unpack .ensures) (c3 .parts .result) (c3 .parts .ensures) (l .k)
-    (c6 .args .code) (c .if1 .left))))  -- returns-3
+    c8 .loop .inv ∙ direct-skip (at-parts (c9)) _ (c6 .if1 .taken) _ (⊎-elim (λ x. other-code (at-parts (c9)) _ (c6 .if1 .taken) _
+    (x .1 .result) (x .3 .result) (x .1 .ensures .0) (x .3 .ensures) (x .4 .left)) (λ x. other-come (at-parts (c9)) _ (c6 .if1 .taken)
+    _ (x .left)) (c .before .before .if2 .came)) (⊎-elim (λ x. may-optional (at-parts (c9)) _ (c6 .if1 .taken) (x .0 .taken)
+    (x .1 .result) (x .1 .ensures) (not-false _ (x .2 .left))) (λ x. may-other (at-parts (c9)) _ (c6 .if1 .taken) (x .left))
+    (c .if4 .came)))  -- loop-again
+    (λ c. sym (c .before .before .loop .inv ∙ direct-end (at-parts (c .before .before .before)) _ _ (c .if1 .left))))  -- returns-3

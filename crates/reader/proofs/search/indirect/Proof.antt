@@ -6,12 +6,13 @@ use lib.ListN.{length}
 use mathlib.Core.Logic.{⊎-elim, inl, inr}
 use mathlib.Core.Path.{_≡_, refl, ap, _∙_}
 use native.Mathlib.Omega.{arith}
+use denote.Ref.{now}
 use Prim.Native.Nat.{_-_}
 use Rattle.table.specs.Entries.{tableIn}
 use Rattle.reader.specs.Codes.{searchIn, hit}
 use Rattle.reader.specs.Items.{awaits, first}
 use Rattle.reader.specs.Sought.{held}
-use Rattle.reader.proofs.Searching.{near, few-parts, table-part, turn-part, candidate, candidate-low, indirect-part, indirect-stop}
+use Rattle.reader.proofs.Searching.{Parted, Counted, Candidate, near, few-parts, table-part, turn-part, candidate, candidate-low, indirect-part, indirect-stop}
 use Rattle.reader.proofs.Searching.{indirect-optional, indirect-other, indirect-come, indirect-end, indirect-none}
 use Rattle.reader.proofs.search.indirect.Statement.{statement}
 use Rattle.reader.proofs.search.indirect.Tie as tie
@@ -25,6 +26,25 @@ Inv-loop table index w i came code from way₀ e s whole n k₀ way k =
 abbrev μ-loop : tie.MeasureT-loop
 μ-loop table index w i came code from way₀ e s whole n k₀ way k = n - k
 
+-- where the parts of the entry are known
+abbrev at-parts : (c : tie.After-parts Inv-loop μ-loop) →
+    let a = c .before .before .before .args in
+    Parted (now (a .table)) (now (a .index)) (a .w) (now (a .came)) (c .before .unpack .result) (c .parts .result)
+at-parts c = record { sound = c .before .before .before .pre .0; entry = c .before .unpack .ensures; span = c .parts .ensures }
+
+-- how many parts it has
+abbrev at-count : (c : tie.Joined1 Inv-loop μ-loop) → Counted (at-parts (c .before .before)) (c .if1 .n)
+at-count c = ⊎-elim (λ x. inl (x .0 .taken, x .1)) (λ x. inr (x .0 .left, x .1)) (c .if1 .came)
+
+-- the part at hand
+abbrev at-candidate : (c : tie.Joined3 Inv-loop μ-loop) →
+    let l = c .before .before .before .before in Candidate (at-parts (l .before .before .before)) (l .loop .k) (c .if3 .t)
+at-candidate c =
+    let c3 = c .before .before .before in
+    let c5 = c3 .before .before in
+    candidate (at-parts (c5 .before .before)) _ _ _ (at-count c5) (c3 .loop-test .taken)
+    (⊎-elim (λ x. inl (x .0 .taken, x .2)) (λ x. inr (x .0 .left, x .4 ∙ x .3 .ensures .0)) (c .if3 .came))
+
 pub indirect-spec : {M : Type 1} → statement M
 indirect-spec =
     tie.close
@@ -35,70 +55,37 @@ indirect-spec =
     (λ c κs. tt)  -- parts-requires
     (λ c. (c .before .before .before .before .before .pre .3, refl))  -- loop-holds
     (λ c.
-    let c2 = c .before .before in
-    let c4 = c2 .before .before in
-    let c5 = c4 .before in
-    omega (
-      arith,
-      few-parts (c5 .before .before .pre .0) (c5 .unpack .result) (c5 .unpack .ensures) (c4 .parts .result)
-          (c4 .parts .ensures) (c2 .if1 .n) (⊎-elim (λ x. inl (x .0 .taken, x .1)) (λ x. inr (x .0 .left, x .1)) (c2 .if1 .came)),
-      c .loop-test .taken,
-    ))  -- mul-if2
+    omega (arith, few-parts (at-parts (c .before .before .before .before)) _ (at-count (c .before .before)), c .loop-test .taken))  -- mul-if2
     (λ c.
-    let c2 = c .before .before in
-    let c4 = c2 .before .before in
-    let c5 = c4 .before in
-    omega (
-      arith,
-      few-parts (c5 .before .before .pre .0) (c5 .unpack .result) (c5 .unpack .ensures) (c4 .parts .result)
-          (c4 .parts .ensures) (c2 .if1 .n) (⊎-elim (λ x. inl (x .0 .taken, x .1)) (λ x. inr (x .0 .left, x .1)) (c2 .if1 .came)),
-      c .loop-test .taken,
-    ))  -- element-copy-out-if2
+    omega (arith, few-parts (at-parts (c .before .before .before .before)) _ (at-count (c .before .before)), c .loop-test .taken))  -- element-copy-out-if2
     (λ c. search needs)  -- cast-t
     (λ c.
     let c4 = c .before .before .before .before in
-    let c5 = c4 .before in
-    let c6 = c5 .before in
+    let c6 = c4 .before .before in
     let c8 = c6 .before .before in
-    let c9 = c8 .before in
-    let q = c9 .before .before .pre in
-    let l = c5 .loop in
     omega (
       arith,
-      near (q .0) (c9 .unpack .result) (c9 .unpack .ensures) (c8 .parts .result) (c8 .parts .ensures) (l .k) (table-part
-          (q .0) (c9 .unpack .result) (c9 .unpack .ensures) (c8 .parts .result) (c8 .parts .ensures) (c6 .if1 .n) (l .k) (⊎-elim (λ x. inl
-          (x .0 .taken, x .1)) (λ x. inr (x .0 .left, x .1)) (c6 .if1 .came)) (c4 .loop-test .taken) (c .before .if3 .left)),
+      near (at-parts c8) _ (table-part (at-parts c8) _ _ (at-count c6) (c4 .loop-test .taken)
+          (c .before .if3 .left)),
     ))  -- mul-octet
     (λ c.
     let c5 = c .before .before .before .before .before in
-    let c6 = c5 .before in
-    let c7 = c6 .before in
+    let c7 = c5 .before .before in
     let c9 = c7 .before .before in
-    let c10 = c9 .before in
-    let q = c10 .before .before .pre in
-    let l = c6 .loop in
     omega (
       arith,
-      near (q .0) (c10 .unpack .result) (c10 .unpack .ensures) (c9 .parts .result) (c9 .parts .ensures) (l .k) (table-part
-          (q .0) (c10 .unpack .result) (c10 .unpack .ensures) (c9 .parts .result) (c9 .parts .ensures) (c7 .if1 .n) (l .k) (⊎-elim (λ x. inl
-          (x .0 .taken, x .1)) (λ x. inr (x .0 .left, x .1)) (c7 .if1 .came)) (c5 .loop-test .taken) (c .before .before .if3 .left)),
+      near (at-parts c9) _ (table-part (at-parts c9) _ _ (at-count c7) (c5 .loop-test .taken)
+          (c .before .before .if3 .left)),
     ))  -- add-octet
     (λ c κs. tt)  -- octet-requires
     (λ c κs.
-    let c4 = c .before .before .before .before in
-    let c5 = c4 .before in
-    let c6 = c5 .before in
-    let c8 = c6 .before .before in
-    let c9 = c8 .before in
-    let c11 = c9 .before .before in
+    let c5 = c .before .before .before .before .before in
+    let c8 = c5 .before .before .before in
+    let c11 = c8 .before .before .before in
     let q = c11 .pre in
     let l = c5 .loop in (
       q .0 .ready,
-      candidate-low (q .0) (c9 .unpack .result) (c9 .unpack .ensures) (c8 .parts .result) (c8 .parts .ensures)
-          (c11 .args .code) (l .k) (c .before .if3 .t) (candidate (q .0) (c9 .unpack .result) (c9 .unpack .ensures) (c8 .parts .result)
-          (c8 .parts .ensures) (c6 .if1 .n) (l .k) (c .before .if3 .t) (⊎-elim (λ x. inl (x .0 .taken, x .1)) (λ x. inr (x .0 .left, x .1))
-          (c6 .if1 .came)) (c4 .loop-test .taken) (⊎-elim (λ x. inl (x .0 .taken, x .2)) (λ x. inr (x .0 .left, x .4 ∙ x .3 .ensures .0))
-          (c .before .if3 .came))),
+      candidate-low (at-parts c8) (c11 .args .code) (l .k) (c .before .if3 .t) (at-candidate (c .before)),
       q .2,
       l .inv .0,
     ))  -- seek-requires
@@ -108,131 +95,74 @@ indirect-spec =
     let c3 = c .before .before .before in
     let c5 = c3 .before .before in
     let c6 = c5 .before in
-    let c8 = c6 .before .before in
-    let c9 = c8 .before in
-    let c10 = c9 .before in
-    let c12 = c10 .before .before in
-    let c13 = c12 .before in
-    let c15 = c13 .before .before in
-    let a = c15 .args in
-    let q = c15 .pre in
-    let l = c9 .loop in (
+    let c9 = c6 .before .before .before in (
       c3 .seek .ensures .0,
-      indirect-part (q .0) (c13 .unpack .result) (c13 .unpack .ensures) (c12 .parts .result) (c12 .parts .ensures)
-          (a .code) (l .k) (c5 .if3 .t) (candidate (q .0) (c13 .unpack .result) (c13 .unpack .ensures) (c12 .parts .result)
-          (c12 .parts .ensures) (c10 .if1 .n) (l .k) (c5 .if3 .t) (⊎-elim (λ x. inl (x .0 .taken, x .1)) (λ x. inr (x .0 .left, x .1))
-          (c10 .if1 .came)) (c8 .loop-test .taken) (⊎-elim (λ x. inl (x .0 .taken, x .2)) (λ x. inr (x .0 .left, x .4 ∙ x .3 .ensures .0))
-          (c5 .if3 .came))) _ (c3 .seek .result) (c3 .seek .ensures .1) (a .i) (a .from) _ _ (l .inv .1) (c6 .if2 .taken)
-          (c .before .«record» .given .1),
+      indirect-part (at-parts (c9 .before .before .before)) _ _ _ (at-candidate c5) _ _ (c3 .seek .ensures .1) _ _ _ _
+          (c9 .loop .inv .1) (c6 .if2 .taken) (c .before .«record» .given .1),
     ))  -- returns
     (λ c.
     let c10 = c .before .before .before .before .before .before .before .before .before .before in
-    let c11 = c10 .before in
-    let c12 = c11 .before in
+    let c12 = c10 .before .before in
     let c14 = c12 .before .before in
-    let c15 = c14 .before in
-    let q = c15 .before .before .pre in
-    let l = c11 .loop in
     omega (
       arith,
-      near (q .0) (c15 .unpack .result) (c15 .unpack .ensures) (c14 .parts .result) (c14 .parts .ensures) (l .k) (turn-part
-          (q .0) (c15 .unpack .result) (c15 .unpack .ensures) (c14 .parts .result) (c14 .parts .ensures) (c12 .if1 .n) (l .k) (⊎-elim
-          (λ x. inl (x .0 .taken, x .1)) (λ x. inr (x .0 .left, x .1)) (c12 .if1 .came)) (c10 .loop-test .taken) (c .before .if4 .taken)),
+      near (at-parts c14) _ (turn-part (at-parts c14) _ _ (at-count c12) (c10 .loop-test .taken)
+          (c .before .if4 .taken)),
     ))  -- mul-optional
     (λ c.
     let c11 = c .before .before .before .before .before .before .before .before .before .before .before in
-    let c12 = c11 .before in
-    let c13 = c12 .before in
+    let c13 = c11 .before .before in
     let c15 = c13 .before .before in
-    let c16 = c15 .before in
-    let q = c16 .before .before .pre in
-    let l = c12 .loop in
     omega (
       arith,
-      near (q .0) (c16 .unpack .result) (c16 .unpack .ensures) (c15 .parts .result) (c15 .parts .ensures) (l .k) (turn-part
-          (q .0) (c16 .unpack .result) (c16 .unpack .ensures) (c15 .parts .result) (c15 .parts .ensures) (c13 .if1 .n) (l .k) (⊎-elim
-          (λ x. inl (x .0 .taken, x .1)) (λ x. inr (x .0 .left, x .1)) (c13 .if1 .came)) (c11 .loop-test .taken)
+      near (at-parts c15) _ (turn-part (at-parts c15) _ _ (at-count c13) (c11 .loop-test .taken)
           (c .before .before .if4 .taken)),
     ))  -- add-optional
     (λ c κs. tt)  -- optional-requires
     (λ c κs.
-    let c10 = c .before .before .before .before .before .before .before .before .before .before in
-    let q = c10 .before .before .before .before .before .before .before .before .before .before .pre in
+    let q = c .before .before .before .before .before .before .before .before .before .before .before .before .before .before .before .before .before .before .before .before .pre in
     (_, q .0, q .1))  -- unawaited-requires
     (λ c.
-    let c2 = c .before .before in
-    let c5 = c2 .before .before .before in
+    let c5 = c .before .before .before .before .before in
     let c7 = c5 .before .before in
     let c9 = c7 .before .before in
     let c11 = c9 .before .before in
     let c12 = c11 .before in
-    let c14 = c12 .before .before in
-    let c15 = c14 .before in
-    let c16 = c15 .before in
-    let c18 = c16 .before .before in
-    let c19 = c18 .before in
-    let c21 = c19 .before .before in
-    let a = c21 .args in
-    let q = c21 .pre in
-    let l = c15 .loop in (
+    let c15 = c12 .before .before .before in
+    let c18 = c15 .before .before .before in (
       c9 .seek .ensures .0,
-      indirect-none (q .0) (c19 .unpack .result) (c19 .unpack .ensures) (c18 .parts .result) (c18 .parts .ensures)
-          (a .code) (a .i) (a .from) _ (l .inv .1 ∙ indirect-stop (q .0) (c19 .unpack .result) (c19 .unpack .ensures) (c18 .parts .result)
-          (c18 .parts .ensures) (a .code) (l .k) (c11 .if3 .t) (candidate (q .0) (c19 .unpack .result) (c19 .unpack .ensures)
-          (c18 .parts .result) (c18 .parts .ensures) (c16 .if1 .n) (l .k) (c11 .if3 .t) (⊎-elim (λ x. inl (x .0 .taken, x .1)) (λ x. inr
-          (x .0 .left, x .1)) (c16 .if1 .came)) (c14 .loop-test .taken) (⊎-elim (λ x. inl (x .0 .taken, x .2)) (λ x. inr (
-            x .0 .left,
-            x .4
-                ∙ x .3 .ensures .0,
-          )) (c11 .if3 .came))) _ (c9 .seek .result) (c9 .seek .ensures .1) (c12 .if2 .taken) (c7 .enum-told .given .1)
-          (c5 .if4 .taken) (c2 .optional .result) (c2 .optional .ensures) (not-true _ (c .before .if5 .taken))) (c .unawaited .result)
-          (c .unawaited .ensures),
+      indirect-none (at-parts c18) _ _ _ _ (c15 .loop .inv .1 ∙ indirect-stop (at-parts c18) _ _ _ (at-candidate c11) _ _
+          (c9 .seek .ensures .1) (c12 .if2 .taken) (c7 .enum-told .given .1) (c5 .if4 .taken) _ (c .before .before .optional .ensures)
+          (not-true _ (c .before .if5 .taken))) _ (c .unawaited .ensures),
     ))  -- returns-2
     (λ c.
     let c4 = c .before .before .before .before in
-    let c6 = c4 .before .before in
-    let c7 = c6 .before in
-    omega (
-      arith,
-      few-parts (c7 .before .before .pre .0) (c7 .unpack .result) (c7 .unpack .ensures) (c6 .parts .result)
-          (c6 .parts .ensures) (c4 .if1 .n) (⊎-elim (λ x. inl (x .0 .taken, x .1)) (λ x. inr (x .0 .left, x .1)) (c4 .if1 .came)),
-      c .before .before .loop-test .taken,
-    ))  -- add-k
+    omega (arith, few-parts (at-parts (c4 .before .before)) _ (at-count c4), c .before .before .loop-test .taken))  -- add-k
     (λ c. omega (arith, c .before .before .loop-test .taken))  -- loop-less
     (λ c.
     let c2 = c .before .before in
     let c3 = c2 .before in
     let c4 = c3 .before in
     let c6 = c4 .before .before in
-    let c7 = c6 .before in
-    let c9 = c7 .before .before in
-    let a = c9 .args in
-    let q = c9 .pre in
     let l = c3 .loop in
     ⊎-elim (λ x. (
       ap length (x .12) ∙ x .3 .ensures .0,
-      l .inv .1 ∙ indirect-optional (q .0) (c7 .unpack .result) (c7 .unpack .ensures)
-          (c6 .parts .result) (c6 .parts .ensures) (a .code) (l .k) (x .1 .t) (candidate (q .0) (c7 .unpack .result) (c7 .unpack .ensures)
-          (c6 .parts .result) (c6 .parts .ensures) (c4 .if1 .n) (l .k) (x .1 .t) (⊎-elim (λ x. inl (x .0 .taken, x .1)) (λ x. inr
-          (x .0 .left, x .1)) (c4 .if1 .came)) (c2 .loop-test .taken) (⊎-elim (λ y. inl (y .0 .taken, y .2)) (λ y. inr (
+      l .inv .1 ∙ indirect-optional (at-parts c6) _ _ (x .1 .t) (candidate
+          (at-parts c6) _ _ (x .1 .t) (at-count c4) (c2 .loop-test .taken) (⊎-elim (λ y. inl (y .0 .taken, y .2)) (λ y. inr (
             y .0 .left,
-            y .4
-                ∙ y .3 .ensures .0,
+            y .4 ∙ y .3 .ensures .0,
           )) (x .1 .came))) _ (x .3 .result) (x .3 .ensures .1) (x .0 .taken) (x .5 .given .1) (x .7 .taken)
           (x .10 .result) (x .10 .ensures) (not-false _ (x .11 .left)),
     )) (⊎-elim (λ x. (
       ap length (x .8) ∙ x .3 .ensures .0,
       l .inv .1
-          ∙ indirect-other (q .0) (c7 .unpack .result) (c7 .unpack .ensures) (c6 .parts .result) (c6 .parts .ensures) (a .code) (l .k)
-          (x .1 .t) (candidate (q .0) (c7 .unpack .result) (c7 .unpack .ensures) (c6 .parts .result) (c6 .parts .ensures) (c4 .if1 .n) (l .k)
-          (x .1 .t) (⊎-elim (λ x. inl (x .0 .taken, x .1)) (λ x. inr (x .0 .left, x .1)) (c4 .if1 .came)) (c2 .loop-test .taken) (⊎-elim
-          (λ y. inl (y .0 .taken, y .2)) (λ y. inr (y .0 .left, y .4 ∙ y .3 .ensures .0)) (x .1 .came))) _ (x .3 .result) (x .3 .ensures .1)
-          (x .0 .taken) (x .5 .given .1) (x .7 .left),
+          ∙ indirect-other (at-parts c6) _ _ (x .1 .t) (candidate (at-parts c6) _ _ (x .1 .t) (at-count c4) (c2 .loop-test .taken)
+          (⊎-elim (λ y. inl (y .0 .taken, y .2)) (λ y. inr (y .0 .left, y .4 ∙ y .3 .ensures .0)) (x .1 .came))) _ (x .3 .result)
+          (x .3 .ensures .1) (x .0 .taken) (x .5 .given .1) (x .7 .left),
     )) (λ x. (
       ap length (x .1) ∙ l .inv .0,
-      l .inv .1 ∙ indirect-come (q .0)
-          (c7 .unpack .result) (c7 .unpack .ensures) (c6 .parts .result) (c6 .parts .ensures) (a .code) (c4 .if1 .n) (l .k) (⊎-elim (λ x. inl
-          (x .0 .taken, x .1)) (λ x. inr (x .0 .left, x .1)) (c4 .if1 .came)) (c2 .loop-test .taken) (x .0 .left),
+      l .inv .1 ∙ indirect-come
+          (at-parts c6) _ _ _ (at-count c4) (c2 .loop-test .taken) (x .0 .left),
     ))) (c .if2 .came))  -- loop-again
     (λ c κs.
     let q = c .before .before .before .before .before .before .before .pre in
@@ -241,14 +171,8 @@ indirect-spec =
     let c2 = c .before .before in
     let c3 = c2 .before in
     let c5 = c3 .before .before in
-    let c6 = c5 .before in
-    let c8 = c6 .before .before in
-    let a = c8 .args in
-    let q = c8 .pre in
     let l = c2 .loop in (
       l .inv .0,
-      indirect-none (q .0) (c6 .unpack .result) (c6 .unpack .ensures) (c5 .parts .result) (c5 .parts .ensures) (a .code)
-          (a .i) (a .from) _ (l .inv .1 ∙ indirect-end (q .0) (c6 .unpack .result) (c6 .unpack .ensures) (c5 .parts .result)
-          (c5 .parts .ensures) (a .code) (c3 .if1 .n) (l .k) (⊎-elim (λ x. inl (x .0 .taken, x .1)) (λ x. inr (x .0 .left, x .1))
-          (c3 .if1 .came)) (c .before .loop-test .left)) (c .unawaited2 .result) (c .unawaited2 .ensures),
+      indirect-none (at-parts c5) _ _ _ _ (l .inv .1 ∙ indirect-end (at-parts c5) _ _ _ (at-count c3)
+          (c .before .loop-test .left)) _ (c .unawaited2 .ensures),
     )))  -- returns-3

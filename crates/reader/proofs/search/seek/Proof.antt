@@ -14,22 +14,17 @@ seek-spec =
     (λ c. omega (arith, c .before .pre .1, c .before .pre .0 .passes .few))  -- element-copy-out-first
     (λ c κs. tt)  -- first-requires
     (λ c.
-    let c4 = c .before .before .before .before in
-    let a = c4 .args in
-    let q = c4 .pre in
-    (q .3, seek-here (q .0) (a .code) _ (a .t) (c .before .first .result) (q .2) (q .1) (c .before .first .ensures) (c .if1 .taken)))  -- returns
+    let q = c .before .before .before .before .pre in
+    (q .3, seek-here (q .0) _ _ _ _ (q .2) (q .1) (c .before .first .ensures) (c .if1 .taken)))  -- returns
     (λ c.
-    let c2 = c .before .before in
-    let c5 = c2 .before .before .before in
-    let a = c5 .args in
+    let c5 = c .before .before .before .before .before in
     let q = c5 .pre in (
       q .3,
-      seek-other (q .0) (a .code) (a .way .now) (a .t) (c2 .first .result) (q .2) (q .1) (c2 .first .ensures)
-          (c .before .if1 .left) (c .if2 .taken),
+      seek-other (q .0) _ (c5 .args .way .now) _ _ (q .2) (q .1) (c .before .before .first .ensures) (c .before .if1 .left)
+          (c .if2 .taken),
     ))  -- returns-2
     (λ c κs.
     let c3 = c .before .before .before in
-    let c6 = c3 .before .before .before in
-    let q = c6 .pre in
-    (q .0, q .1, sym (code-is (q .0) (c6 .args .t) (c3 .first .result) (q .1) (c3 .first .ensures)) ∙ c .before .if2 .left, q .2, q .3))  -- among-requires
+    let q = c3 .before .before .before .pre in
+    (q .0, q .1, sym (code-is (q .0) _ _ (q .1) (c3 .first .ensures)) ∙ c .before .if2 .left, q .2, q .3))  -- among-requires
     (λ c. c .among .ensures))  -- returns-3

@@ -15,34 +15,26 @@ unawaited-spec =
     (λ c κs. tt)  -- unpack-requires
     (λ c κs. tt)  -- has-members-requires
     (λ c κs.
-    let c2 = c .before .before in
-    let c4 = c2 .before .before in
+    let c4 = c .before .before .before .before in
     let q = c4 .pre in (
       q .0,
       q .1,
-      has-members (q .1) (c2 .unpack .result) (c2 .unpack .ensures) (c .before .has-members .result)
-          (c .before .has-members .ensures) (c4 .args .i) (c .if1 .taken),
+      has-members (q .1) _ (c .before .before .unpack .ensures) _ (c .before .has-members .ensures) (c4 .args .i) (c .if1 .taken),
     ))  -- lacks-requires
     (λ c.
     let c3 = c .before .before .before in
     let c4 = c3 .before in
     let c6 = c4 .before .before in
-    let a = c6 .args in
-    ap (λ (x : Cause). Refused x) (sym (unfit-trailing (c6 .pre .1) (c4 .unpack .result) (c4 .unpack .ensures)
-    (c3 .has-members .result) (c3 .has-members .ensures) (a .i) (c .before .lacks .result) (c .before .lacks .ensures) (a .cause)
-    (c .before .before .if1 .taken) (not-true _ (c .if2 .taken)))))  -- returns
+    ap (λ (x : Cause). Refused x) (sym (unfit-trailing (c6 .pre .1) _ (c4 .unpack .ensures) _ (c3 .has-members .ensures) _ _
+    (c .before .lacks .ensures) (c6 .args .cause) (c .before .before .if1 .taken) (not-true _ (c .if2 .taken)))))  -- returns
     (λ c.
     let c3 = c .before .before .before in
     let c4 = c3 .before in
     let c6 = c4 .before .before in
-    let a = c6 .args in
-    ap (λ (x : Cause). Refused x) (sym (unfit-left (c6 .pre .1) (c4 .unpack .result) (c4 .unpack .ensures) (c3 .has-members .result)
-    (c3 .has-members .ensures) (a .i) (c .before .lacks .result) (c .before .lacks .ensures) (a .cause) (c .before .before .if1 .taken)
-    (not-false _ (c .if2 .left)))))  -- returns-2
+    ap (λ (x : Cause). Refused x) (sym (unfit-left (c6 .pre .1) _ (c4 .unpack .ensures) _ (c3 .has-members .ensures) _ _
+    (c .before .lacks .ensures) (c6 .args .cause) (c .before .before .if1 .taken) (not-false _ (c .if2 .left)))))  -- returns-2
     (λ c.
-    let c2 = c .before .before in
-    let c4 = c2 .before .before in
-    let a = c4 .args in
+    let c4 = c .before .before .before .before in
     let q = c4 .pre in
-    ap (λ (x : Cause). Refused x) (sym (unfit-other (q .1) (c2 .unpack .result) (c2 .unpack .ensures) (c .before .has-members .result)
-    (c .before .has-members .ensures) (a .i) (a .cause) (c .if1 .left) (q .2)))))  -- returns-3
+    ap (λ (x : Cause). Refused x) (sym (unfit-other (q .1) _ (c .before .before .unpack .ensures) _ (c .before .has-members .ensures) _
+    (c4 .args .cause) (c .if1 .left) (q .2)))))  -- returns-3

@@ -15,16 +15,12 @@ enter-spec =
     (λ c. search needs)  -- enum-told-2
     (λ c κs. c .before .before .before .before .before .pre)  -- awaited-requires
     (λ c.
-    let c2 = c .before .before in
-    let a = c2 .before .before .before .args in
-    enters-over _ (a .j) (a .m .now) (a .marked) (c2 .read .result) (c2 .read .ensures) _ (c .enum-told .given .1))  -- returns
+    enters-over _ _ _ (c .before .before .before .before .before .args .marked) _ (c .before .before .read .ensures) _
+    (c .enum-told .given .1))  -- returns
     (λ c.
     let c3 = c .before .before .before in
-    let c6 = c3 .before .before .before in
-    enters-broken _ (c6 .args .j) (c6 .args .m .now) (c6 .args .marked) (c3 .read .result) (c3 .read .ensures)
-    (c .before .cause .given .0 .0) (c .before .cause .given .1))  -- returns-2
+    enters-broken _ _ _ (c3 .before .before .before .args .marked) _ (c3 .read .ensures) _ (c .before .cause .given .1))  -- returns-2
     (λ c.
     let c3 = c .before .before .before in
-    let a = c3 .before .before .before .args in
-    enters-more _ (a .j) (a .m .now) (a .marked) (c3 .read .result) (c3 .read .ensures) (c .before .enum-told2 .given .1)
-    (c .awaited .result) (c .awaited .ensures)))  -- returns-3
+    enters-more _ _ _ (c3 .before .before .before .args .marked) _ (c3 .read .ensures) (c .before .enum-told2 .given .1) _
+    (c .awaited .ensures)))  -- returns-3

@@ -1,16 +1,19 @@
 -- `reader::tags::open` meets its contract. What is read under the tags that are opened, closed again by their notes, is what is read of the record.
 -- Assumes nothing.
 use borrow.Author.Needs.{needs}
+use denote.Ref.{now}
 use lib.ListN.{length, length-set}
 use lib.Seq.{length-take-le}
 use mathlib.Core.Path.{_≡_, sym, ap}
 use native.Mathlib.Omega.{arith}
-use Prim.Native.Nat.{_-_}
+use mathlib.Core.Bool.{true}
+use Prim.Native.Nat.{_-_, _<_, _≤_}
 use Rattle.table.specs.Entries.{unpacked}
 use Rattle.table.specs.declared.entry.Entry.{Entry}
+use Rattle.coding.specs.Tags.{explicit}
 use Rattle.reader.specs.Records.{recordIn}
 use Rattle.reader.proofs.Tagging.{its-fit}
-use Rattle.reader.proofs.Opening.{Opening, slice-is, its-count, its-first, its-few, open-none, open-unread, extent, open-refused, open-next}
+use Rattle.reader.proofs.Opening.{Opening, its-count, its-first, its-few, open-none, open-unread, extent, open-refused, open-next}
 use Rattle.reader.proofs.Opening.{open-turn, open-done}
 use Rattle.reader.proofs.tags.open.Statement.{statement}
 use Rattle.reader.proofs.tags.open.Tie as tie
@@ -22,6 +25,31 @@ Inv-loop table w m at from notes₀ count at₁ end₁ from₁ j₁ notes at' en
 abbrev μ-loop : tie.MeasureT-loop
 μ-loop table w m at from notes₀ count at₁ end₁ from₁ j₁ notes at' end' from' j = count - j
 
+-- a tag is left to open
+abbrev some-left : (c : tie.In-loop Inv-loop μ-loop) →
+    let a = c .before .before .before .before .before .before .args in
+    c .before .loop .j < length (explicit (recordIn (now (a .table)) (unpacked (a .w))))
+some-left c =
+    let c3 = c .before .before .before in
+    let q = c3 .before .before .before .pre in
+    omega (arith, c .loop-test .taken, ap (λ (e : Entry). e .explicit) (c3 .unpack .ensures), its-count (q .1) (q .2))
+
+-- and four have notes
+abbrev some-room : (c : tie.In-loop Inv-loop μ-loop) → c .before .loop .j < 4
+some-room c = let q = c .before .before .before .before .before .before .pre in omega (arith, some-left c, its-few (q .1) (q .2))
+
+-- where its contents stand
+abbrev at-extent : (c : tie.After-x Inv-loop μ-loop) →
+    let l = c .before .before .before .before .before .loop in
+    let x = c .x .given .0 .0 in
+    (l .at < x .start) × (x .start ≤ x .end) × (x .end ≤ l .end) × (x .marked ≡ true → x .end ≡ l .end)
+at-extent c =
+    let c4 = c .before .before .before .before in
+    let c8 = c4 .before .before .before .before in
+    let q = c8 .before .before .pre in
+    extent _ _ (its-fit (q .1) (q .2)) _ (λ n. omega (arith, c8 .shared-slice-known2 .given n)) _ _ _ _ _ _ (c4 .before .loop .inv .1)
+    (some-left c4) _ (c .before .before .read .ensures) _ (c .x .given .1)
+
 pub open-spec : {M : Type 1} → statement M
 open-spec =
     tie.close
@@ -31,22 +59,12 @@ open-spec =
     (λ c κs. tt)  -- unpack-requires
     (λ c. search needs)  -- cast-count
     (λ c.
-    let c4 = c .before .before .before .before in
-    let a = c4 .args in
-    let q = c4 .pre in (
+    let q = c .before .before .before .before .pre in (
       q .6,
-      open-none (a .table .now) (recordIn (a .table .now) (unpacked (a .w))) (its-fit (q .1) (q .2)) (a .m .now)
-          (λ n. omega (arith, c .before .before .shared-slice-known2 .given n)) (a .at) (a .notes .now) (a .from) (omega (
-            arith,
-            its-count
-                (q .1) (q .2),
-            q .3,
-          )) (rw (its-first (q .1) (q .2)) at (q .4)),
+      open-none _ _ (its-fit (q .1) (q .2)) _ (λ n. omega (arith, c .before .before .shared-slice-known2 .given n)) _ _ _
+          (omega (arith, its-count (q .1) (q .2), q .3)) (rw (its-first (q .1) (q .2)) at (q .4)),
     ))  -- loop-holds
-    (λ c.
-    let c2 = c .before .before in
-    let l = c2 .loop in
-    sym (length-take-le (l .end) (c2 .before .before .before .before .before .args .m .now) (l .inv .1 .high)))  -- slice-aggregate-around
+    (λ c. sym (length-take-le _ _ (c .before .before .loop .inv .1 .high)))  -- slice-aggregate-around
     (λ c κs. tt)  -- read-requires
     (λ c. search needs)  -- enum-known-cause
     (λ c.
@@ -55,318 +73,81 @@ open-spec =
     (λ c.
     let c3 = c .before .before .before in
     let c5 = c3 .before .before in
-    let c6 = c5 .before in
-    let c8 = c6 .before .before in
-    let c9 = c8 .before in
-    let c11 = c9 .before .before in (
-      c6 .loop .inv .0,
-      open-unread (c11 .args .table .now) (recordIn (c11 .args .table .now) (unpacked (c11 .args .w))) (its-fit
-          (c11 .pre .1) (c11 .pre .2)) (c11 .args .m .now) (λ n. omega (arith, c9 .shared-slice-known2 .given n)) (c11 .args .at)
-          (c6 .loop .notes) (c6 .loop .at) (c6 .loop .from) (c6 .loop .end) (c6 .loop .j) (c6 .loop .inv .1) (omega
-          (arith, c5 .loop-test .taken, ap (λ (e : Entry). e .explicit) (c8 .unpack .ensures), its-count (c11 .pre .1) (c11 .pre .2)))
-          (c3 .read .result) (c3 .read .ensures) (c .before .cause .given .0 .0) (c .before .cause .given .1) (c6 .loop .notes),
+    let c9 = c5 .before .before .before .before in
+    let q = c9 .before .before .pre in
+    let l = c5 .before .loop in (
+      l .inv .0,
+      open-unread _ _ (its-fit (q .1) (q .2)) _
+          (λ n. omega (arith, c9 .shared-slice-known2 .given n)) _ _ _ _ _ _ (l .inv .1) (some-left c5) _ (c3 .read .ensures) _
+          (c .before .cause .given .1) (l .notes),
     ))  -- returns
     (λ c. search needs)  -- enum-known-x
     (λ c κs.
     let c6 = c .before .before .before .before .before .before in
     omega (arith, c6 .loop .inv .1 .high, c6 .before .before .before .before .before .pre .5))  -- note-requires
+    (λ c. omega (arith, some-room (c .before .before .before .before .before .before)))  -- mul-notes
+    (λ c. some-room (c .before .before .before .before .before .before))  -- element-write-notes
+    (λ c. omega (arith, some-room (c .before .before .before .before .before .before)))  -- add-j
+    (λ c. at-extent (c .before .before) .1)  -- sub-inside
     (λ c.
-    let c6 = c .before .before .before .before .before .before in
-    let c9 = c6 .before .before .before in
-    let q = c9 .before .before .before .pre in
-    omega (
-      arith,
-      its-few (q .1) (q .2),
-      its-count (q .1) (q .2),
-      c6 .loop-test .taken,
-      ap (λ (e : Entry). e .explicit)
-          (c9 .unpack .ensures),
-    ))  -- mul-notes
+    let x = at-extent (c .before .before) in
+    omega (arith, x .1, x .2, c .before .before .before .before .before .before .before .loop .inv .1 .high))  -- part-inside-start
     (λ c.
-    let c6 = c .before .before .before .before .before .before in
-    let c9 = c6 .before .before .before in
-    let q = c9 .before .before .before .pre in
-    omega (
-      arith,
-      its-few (q .1) (q .2),
-      its-count (q .1) (q .2),
-      c6 .loop-test .taken,
-      ap (λ (e : Entry). e .explicit)
-          (c9 .unpack .ensures),
-    ))  -- element-write-notes
-    (λ c.
-    let c6 = c .before .before .before .before .before .before in
-    let c9 = c6 .before .before .before in
-    let q = c9 .before .before .before .pre in
-    omega (
-      arith,
-      its-few (q .1) (q .2),
-      its-count (q .1) (q .2),
-      c6 .loop-test .taken,
-      ap (λ (e : Entry). e .explicit)
-          (c9 .unpack .ensures),
-    ))  -- add-j
-    (λ c.
-    let c2 = c .before .before in
-    let c4 = c2 .before .before in
-    let c6 = c4 .before .before in
-    let c7 = c6 .before in
-    let c9 = c7 .before .before in
-    let c10 = c9 .before in
-    let c12 = c10 .before .before in
-    let a = c12 .args in
-    let q = c12 .pre in
-    let l = c7 .loop in
-    (extent (a .table .now) (recordIn (a .table .now) (unpacked (a .w))) (its-fit (q .1) (q .2)) (a .m .now) (λ n. omega (
-      arith,
-      c10 .shared-slice-known2 .given n,
-    )) (a .at) (l .notes) (l .at) (l .from) (l .end) (l .j) (l .inv .1) (omega (
-      arith,
-      c6 .loop-test .taken,
-      ap (λ (e : Entry). e .explicit) (c9 .unpack .ensures),
-      its-count (q .1) (q .2),
-    )) (c4 .read .result)
-    (c4 .read .ensures) (c2 .x .given .0 .0) (c2 .x .given .1)) .1)  -- sub-inside
-    (λ c.
-    let c2 = c .before .before in
-    let c4 = c2 .before .before in
-    let c6 = c4 .before .before in
-    let c7 = c6 .before in
-    let c9 = c7 .before .before in
-    let c10 = c9 .before in
-    let c12 = c10 .before .before in
-    let a = c12 .args in
-    let q = c12 .pre in
-    let l = c7 .loop in
-    omega (
-      arith,
-      (extent (a .table .now) (recordIn (a .table .now) (unpacked (a .w))) (its-fit (q .1) (q .2)) (a .m .now)
-          (λ n. omega (arith, c10 .shared-slice-known2 .given n)) (a .at) (l .notes) (l .at) (l .from) (l .end) (l .j) (l .inv .1)
-          (omega (arith, c6 .loop-test .taken, ap (λ (e : Entry). e .explicit) (c9 .unpack .ensures), its-count (q .1) (q .2)))
-          (c4 .read .result) (c4 .read .ensures) (c2 .x .given .0 .0) (c2 .x .given .1)) .1,
-      (extent (a .table .now) (recordIn
-          (a .table .now) (unpacked (a .w))) (its-fit (q .1) (q .2)) (a .m .now) (λ n. omega (arith, c10 .shared-slice-known2 .given n))
-          (a .at) (l .notes) (l .at) (l .from) (l .end) (l .j) (l .inv .1) (omega (
-            arith,
-            c6 .loop-test .taken,
-            ap (λ (e : Entry). e .explicit) (c9 .unpack .ensures),
-            its-count (q .1) (q .2),
-          )) (c4 .read .result) (c4 .read .ensures)
-          (c2 .x .given .0 .0) (c2 .x .given .1)) .2,
-      l .inv .1 .high,
-    ))  -- part-inside-start
-    (λ c.
-    let c2 = c .before .before in
-    let c4 = c2 .before .before in
-    let c6 = c4 .before .before in
-    let c7 = c6 .before in
-    let c9 = c7 .before .before in
-    let c10 = c9 .before in
-    let c12 = c10 .before .before in
-    let a = c12 .args in
-    let q = c12 .pre in
-    let l = c7 .loop in
-    omega (
-      arith,
-      (extent (a .table .now) (recordIn (a .table .now) (unpacked (a .w))) (its-fit (q .1) (q .2)) (a .m .now)
-          (λ n. omega (arith, c10 .shared-slice-known2 .given n)) (a .at) (l .notes) (l .at) (l .from) (l .end) (l .j) (l .inv .1)
-          (omega (arith, c6 .loop-test .taken, ap (λ (e : Entry). e .explicit) (c9 .unpack .ensures), its-count (q .1) (q .2)))
-          (c4 .read .result) (c4 .read .ensures) (c2 .x .given .0 .0) (c2 .x .given .1)) .2,
-      l .inv .1 .high,
-    ))  -- part-inside-end
+    let x = at-extent (c .before .before) in
+    omega (arith, x .2, c .before .before .before .before .before .before .before .loop .inv .1 .high))  -- part-inside-end
     (λ c κs.
     let q = c .before .before .before .before .before .before .before .before .before .before .before .before .before .pre in
     (q .0, q .1, q .2))  -- enter-requires
     (λ c. search needs)  -- enum-known-cause-2
     (λ c.
     let c7 = c .before .before .before .before .before .before .before in
-    let c9 = c7 .before .before in
-    let c11 = c9 .before .before in
-    let c12 = c11 .before in
-    let c14 = c12 .before .before in
-    let c15 = c14 .before in
-    let c17 = c15 .before .before in
-    let a = c17 .args in
-    let q = c17 .pre in
-    let l = c12 .loop in
-    omega (
-      arith,
-      (extent (a .table .now) (recordIn (a .table .now) (unpacked (a .w))) (its-fit (q .1) (q .2)) (a .m .now)
-          (λ n. omega (arith, c15 .shared-slice-known2 .given n)) (a .at) (l .notes) (l .at) (l .from) (l .end) (l .j) (l .inv .1)
-          (omega (arith, c11 .loop-test .taken, ap (λ (e : Entry). e .explicit) (c14 .unpack .ensures), its-count (q .1) (q .2)))
-          (c9 .read .result) (c9 .read .ensures) (c7 .x .given .0 .0) (c7 .x .given .1)) .1,
-      (extent (a .table .now) (recordIn
-          (a .table .now) (unpacked (a .w))) (its-fit (q .1) (q .2)) (a .m .now) (λ n. omega (arith, c15 .shared-slice-known2 .given n))
-          (a .at) (l .notes) (l .at) (l .from) (l .end) (l .j) (l .inv .1) (omega (
-            arith,
-            c11 .loop-test .taken,
-            ap (λ (e : Entry). e .explicit) (c14 .unpack .ensures),
-            its-count (q .1) (q .2),
-          )) (c9 .read .result) (c9 .read .ensures)
-          (c7 .x .given .0 .0) (c7 .x .given .1)) .2,
-      l .inv .1 .high,
-    ))  -- sub-t33
+    let x = at-extent c7 in
+    omega (arith, x .1, x .2, c7 .before .before .before .before .before .loop .inv .1 .high))  -- sub-t33
     (λ c.
     let c3 = c .before .before .before in
     let c7 = c3 .before .before .before .before in
-    let c9 = c7 .before .before in
-    let c11 = c9 .before .before in
-    let c12 = c11 .before in
-    let c14 = c12 .before .before in
-    let c15 = c14 .before in
-    let c17 = c15 .before .before in
-    let a = c17 .args in
-    let q = c17 .pre in
-    let l = c12 .loop in (
+    let c11 = c7 .before .before .before .before in
+    let c15 = c11 .before .before .before .before in
+    let q = c15 .before .before .pre in
+    let l = c11 .before .loop in (
       simp length-set (l .inv .0),
-      open-refused (a .table .now) (recordIn (a .table .now) (unpacked (a .w))) (its-fit (q .1) (q .2))
-          (a .m .now) (λ n. omega (arith, c15 .shared-slice-known2 .given n)) (a .at) (l .notes) (l .at) (l .from) (l .end) (l .j)
-          (l .inv .1) (omega (arith, c11 .loop-test .taken, ap (λ (e : Entry). e .explicit) (c14 .unpack .ensures), its-count (q .1) (q .2)))
-          (c9 .read .result) (c9 .read .ensures) (c7 .x .given .0 .0) (c7 .x .given .1) _ (slice-is _ _ (a .m .now) ((extent (a .table .now)
-          (recordIn (a .table .now) (unpacked (a .w))) (its-fit (q .1) (q .2)) (a .m .now) (λ n. omega (
-            arith,
-            c15 .shared-slice-known2 .given n,
-          )) (a .at) (l .notes) (l .at) (l .from) (l .end) (l .j) (l .inv .1) (omega (
-            arith,
-            c11 .loop-test .taken,
-            ap (λ (e : Entry). e .explicit) (c14 .unpack .ensures),
-            its-count (q .1) (q .2),
-          )) (c9 .read .result)
-          (c9 .read .ensures) (c7 .x .given .0 .0) (c7 .x .given .1)) .1) (omega (
-            arith,
-            (extent (a .table .now) (recordIn (a .table .now)
-                (unpacked (a .w))) (its-fit (q .1) (q .2)) (a .m .now) (λ n. omega (arith, c15 .shared-slice-known2 .given n)) (a .at) (l .notes)
-                (l .at) (l .from) (l .end) (l .j) (l .inv .1) (omega (
-                  arith,
-                  c11 .loop-test .taken,
-                  ap (λ (e : Entry). e .explicit)
-                      (c14 .unpack .ensures),
-                  its-count (q .1) (q .2),
-                )) (c9 .read .result) (c9 .read .ensures) (c7 .x .given .0 .0)
-                (c7 .x .given .1)) .2,
-            l .inv .1 .high,
-          ))) (c3 .enter .result) (c3 .enter .ensures) (c .before .cause2 .given .0 .0)
-          (c .before .cause2 .given .1) (l .notes),
+      open-refused _ _ (its-fit (q .1) (q .2)) _
+          (λ n. omega (arith, c15 .shared-slice-known2 .given n)) _ _ _ _ _ _ (l .inv .1) (some-left c11) _ (c7 .before .before .read .ensures) _
+          (c7 .x .given .1) _ (c3 .enter .ensures) _ (c .before .cause2 .given .1) (l .notes),
     ))  -- returns-2
     (λ c. search needs)  -- enum-known-next
     (λ c.
     let c3 = c .before .before .before in
     let c7 = c3 .before .before .before .before in
-    let c9 = c7 .before .before in
-    let c11 = c9 .before .before in
-    let c12 = c11 .before in
-    let c14 = c12 .before .before in
-    let c15 = c14 .before in
-    let c17 = c15 .before .before in
-    let a = c17 .args in
-    let q = c17 .pre in
-    let l = c12 .loop in
-    omega (
-      arith,
-      open-next (a .table .now) (recordIn (a .table .now) (unpacked (a .w))) (its-fit (q .1) (q .2)) (a .m .now)
-          (λ n. omega (arith, c15 .shared-slice-known2 .given n)) (a .at) (l .notes) (l .at) (l .from) (l .end) (l .j) (l .inv .1)
-          (omega (arith, c11 .loop-test .taken, ap (λ (e : Entry). e .explicit) (c14 .unpack .ensures), its-count (q .1) (q .2)))
-          (c9 .read .result) (c9 .read .ensures) (c7 .x .given .0 .0) (c7 .x .given .1) _ (slice-is _ _ (a .m .now) ((extent (a .table .now)
-          (recordIn (a .table .now) (unpacked (a .w))) (its-fit (q .1) (q .2)) (a .m .now) (λ n. omega (
-            arith,
-            c15 .shared-slice-known2 .given n,
-          )) (a .at) (l .notes) (l .at) (l .from) (l .end) (l .j) (l .inv .1) (omega (
-            arith,
-            c11 .loop-test .taken,
-            ap (λ (e : Entry). e .explicit) (c14 .unpack .ensures),
-            its-count (q .1) (q .2),
-          )) (c9 .read .result)
-          (c9 .read .ensures) (c7 .x .given .0 .0) (c7 .x .given .1)) .1) (omega (
-            arith,
-            (extent (a .table .now) (recordIn (a .table .now)
-                (unpacked (a .w))) (its-fit (q .1) (q .2)) (a .m .now) (λ n. omega (arith, c15 .shared-slice-known2 .given n)) (a .at) (l .notes)
-                (l .at) (l .from) (l .end) (l .j) (l .inv .1) (omega (
-                  arith,
-                  c11 .loop-test .taken,
-                  ap (λ (e : Entry). e .explicit)
-                      (c14 .unpack .ensures),
-                  its-count (q .1) (q .2),
-                )) (c9 .read .result) (c9 .read .ensures) (c7 .x .given .0 .0)
-                (c7 .x .given .1)) .2,
-            l .inv .1 .high,
-          ))) (c3 .enter .result) (c3 .enter .ensures) (c .before .next .given .0 .0)
-          (c .before .next .given .1),
-      (extent (a .table .now) (recordIn (a .table .now) (unpacked (a .w))) (its-fit (q .1) (q .2))
-          (a .m .now) (λ n. omega (arith, c15 .shared-slice-known2 .given n)) (a .at) (l .notes) (l .at) (l .from) (l .end) (l .j)
-          (l .inv .1) (omega (arith, c11 .loop-test .taken, ap (λ (e : Entry). e .explicit) (c14 .unpack .ensures), its-count (q .1) (q .2)))
-          (c9 .read .result) (c9 .read .ensures) (c7 .x .given .0 .0) (c7 .x .given .1)) .1,
-      (extent (a .table .now) (recordIn
-          (a .table .now) (unpacked (a .w))) (its-fit (q .1) (q .2)) (a .m .now) (λ n. omega (arith, c15 .shared-slice-known2 .given n))
-          (a .at) (l .notes) (l .at) (l .from) (l .end) (l .j) (l .inv .1) (omega (
-            arith,
-            c11 .loop-test .taken,
-            ap (λ (e : Entry). e .explicit) (c14 .unpack .ensures),
-            its-count (q .1) (q .2),
-          )) (c9 .read .result) (c9 .read .ensures)
-          (c7 .x .given .0 .0) (c7 .x .given .1)) .2,
-      l .inv .1 .high,
-      q .5,
-    ))  -- add-from
-    (λ c. omega (arith, c .before .before .before .before .before .before .before .before .before .before .before .loop-test .taken))  -- loop-less
+    let c11 = c7 .before .before .before .before in
+    let c15 = c11 .before .before .before .before in
+    let q = c15 .before .before .pre in
+    let l = c11 .before .loop in
+    let x = at-extent c7 in
+    let z = open-next _ _ (its-fit (q .1) (q .2)) _ (λ n. omega (arith, c15 .shared-slice-known2 .given n)) _ _ _ _ _ _ (l .inv .1)
+    (some-left c11) _ (c7 .before .before .read .ensures) _ (c7 .x .given .1) _ (c3 .enter .ensures) _ (c .before .next .given .1) in
+    omega (arith, z, x .1, x .2, l .inv .1 .high, q .5))  -- add-from
+    (λ c.
+    omega (arith, c .before .before .before .before .before .before .before .before .before .before .before .loop-test .taken))  -- loop-less
     (λ c.
     let c3 = c .before .before .before in
     let c5 = c3 .before .before in
     let c7 = c5 .before .before in
-    let c9 = c7 .before .before in
-    let c11 = c9 .before .before in
-    let c12 = c11 .before in
-    let c14 = c12 .before .before in
-    let c15 = c14 .before in
-    let c17 = c15 .before .before in
-    let a = c17 .args in
-    let q = c17 .pre in
-    let l = c12 .loop in (
+    let c11 = c7 .before .before .before .before in
+    let c15 = c11 .before .before .before .before in
+    let q = c15 .before .before .pre in
+    let l = c11 .before .loop in (
       simp length-set (l .inv .0),
-      open-turn (a .table .now) (recordIn (a .table .now) (unpacked (a .w))) (its-fit (q .1) (q .2))
-          (a .m .now) (λ n. omega (arith, c15 .shared-slice-known2 .given n)) (a .at) (l .notes) (l .at) (l .from) (l .end) (l .j)
-          (l .inv .1) (omega (arith, c11 .loop-test .taken, ap (λ (e : Entry). e .explicit) (c14 .unpack .ensures), its-count (q .1) (q .2)))
-          (c9 .read .result) (c9 .read .ensures) (c7 .x .given .0 .0) (c7 .x .given .1) _ (slice-is _ _ (a .m .now) ((extent (a .table .now)
-          (recordIn (a .table .now) (unpacked (a .w))) (its-fit (q .1) (q .2)) (a .m .now) (λ n. omega (
-            arith,
-            c15 .shared-slice-known2 .given n,
-          )) (a .at) (l .notes) (l .at) (l .from) (l .end) (l .j) (l .inv .1) (omega (
-            arith,
-            c11 .loop-test .taken,
-            ap (λ (e : Entry). e .explicit) (c14 .unpack .ensures),
-            its-count (q .1) (q .2),
-          )) (c9 .read .result)
-          (c9 .read .ensures) (c7 .x .given .0 .0) (c7 .x .given .1)) .1) (omega (
-            arith,
-            (extent (a .table .now) (recordIn (a .table .now)
-                (unpacked (a .w))) (its-fit (q .1) (q .2)) (a .m .now) (λ n. omega (arith, c15 .shared-slice-known2 .given n)) (a .at) (l .notes)
-                (l .at) (l .from) (l .end) (l .j) (l .inv .1) (omega (
-                  arith,
-                  c11 .loop-test .taken,
-                  ap (λ (e : Entry). e .explicit)
-                      (c14 .unpack .ensures),
-                  its-count (q .1) (q .2),
-                )) (c9 .read .result) (c9 .read .ensures) (c7 .x .given .0 .0)
-                (c7 .x .given .1)) .2,
-            l .inv .1 .high,
-          ))) (c3 .enter .result) (c3 .enter .ensures) (c .before .next .given .0 .0)
-          (c .before .next .given .1) (c5 .note .result) (c5 .note .ensures) (omega (
-            arith,
-            its-few (q .1) (q .2),
-            its-count (q .1) (q .2),
-            c11 .loop-test .taken,
-            ap (λ (e : Entry). e .explicit) (c14 .unpack .ensures),
-            l .inv .0,
-          )),
+      open-turn _ _ (its-fit (q .1) (q .2)) _ (λ n. omega (arith, c15 .shared-slice-known2 .given n)) _ _ _ _ _ _ (l .inv .1) (some-left c11) _
+          (c7 .before .before .read .ensures) _ (c7 .x .given .1) _ (c3 .enter .ensures) _ (c .before .next .given .1) _ (c5 .note .ensures)
+          (omega (arith, l .inv .0, some-room c11)),
     ))  -- loop-again
     (λ c.
     let c3 = c .before .before .before in
     let c4 = c3 .before in
-    let c6 = c4 .before .before in
-    let a = c6 .args in
-    let q = c6 .pre in
+    let q = c4 .before .before .pre in
     let l = c .before .loop in (
       l .inv .0,
-      open-done (a .table .now) (recordIn (a .table .now) (unpacked (a .w))) (its-fit (q .1) (q .2)) (a .m .now)
-          (λ n. omega (arith, c4 .shared-slice-known2 .given n)) (a .at) (l .notes) (l .at) (l .from) (l .end) (l .j) (l .inv .1) _
+      open-done _ _ (its-fit (q .1) (q .2)) _ (λ n. omega (arith, c4 .shared-slice-known2 .given n)) _ _ _ _ _ _ (l .inv .1) _
           (its-count (q .1) (q .2)) (omega (arith, its-count (q .1) (q .2), q .3)) (rw (c3 .unpack .ensures) at (c .loop-test .left)),
     )))  -- returns-3
