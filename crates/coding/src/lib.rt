@@ -1,5 +1,12 @@
-// What check, write and read answer (FORMATS, "Refusals").
+// What check, write and read answer (FORMATS, "Refusals"), and the limits of a value and of a message ("Limits").
 use octets::cause::Cause;
+
+// Octets of a value, octets of a message, levels.
+pub const LONGEST_VALUE: usize = 16384;
+
+pub const LONGEST_MESSAGE: usize = 8192;
+
+pub const LEVELS: usize = 24;
 
 // The stage at which something is refused, and within it the cause and the place.
 pub enum Refusal {

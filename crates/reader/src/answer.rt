@@ -11,11 +11,14 @@ pub enum Judged {
     Refused { cause: Cause, left: usize },
 }
 
+// Stands for every size above that of the longest value.
+const OVER: usize = 16385;
+
 // The sum of two sizes.
 pub fn grow(a: usize, b: usize) -> usize
     requires { ⌜ (a < 65536) × (b < 65536) ⌝ }
     ensures { λ r. ⌜ r ≡ cap (a + b) ⌝ }
 {
     let c = a + b;
-    if 16385 < c { 16385 } else { c }
+    if OVER < c { OVER } else { c }
 }

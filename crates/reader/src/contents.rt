@@ -26,6 +26,7 @@ use table::entry::Entry;
 use table::entry::lists;
 use table::kind::BIT_STRING;
 use table::kind::BOOLEAN;
+use table::kind::ENUMERATED;
 use table::kind::INTEGER;
 use table::kind::NULL;
 use table::kind::OCTET_STRING;
@@ -37,34 +38,34 @@ pub fn contents_size(table: &[u8], e: Entry, c: &[u8]) -> usize
 {
     let n = c.len();
     let k = e.kind;
-    if k == 1 {
+    if k == BOOLEAN {
         if n != 1 {
             return 0;
         }
         return 4;
     }
-    if k == 2 {
+    if k == INTEGER {
         if integer::is_integer(c) {
             return 11;
         }
         return 0;
     }
-    if k == 3 {
+    if k == BIT_STRING {
         if bit_string::are_bits(c) {
             return n + 4;
         }
         return 0;
     }
-    if k == 4 {
+    if k == OCTET_STRING {
         return n + 5;
     }
-    if k == 5 {
+    if k == NULL {
         if n != 0 {
             return 0;
         }
         return 3;
     }
-    if k != 10 {
+    if k != ENUMERATED {
         return 0;
     }
     if !integer::is_integer(c) {

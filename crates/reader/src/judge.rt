@@ -30,6 +30,7 @@ use ber::ending;
 use ber::ending::End;
 use ber::length;
 use ber::length::Length;
+use coding::LEVELS;
 use octets::cause::Cause;
 use octets::octet;
 use table::entry::first;
@@ -292,7 +293,7 @@ pub fn judge(table: &[u8], index: &[u64; 128], t: usize, m: &[u8], way: &mut [u1
     if m.len() == 0 {
         return refused(Cause::Cut, 0);
     }
-    match judge_members(table, index, whole(t as u16), m, false, 24, way) {
+    match judge_members(table, index, whole(t as u16), m, false, LEVELS, way) {
         Judged::Refused { cause, left } => refused(cause, left),
         Judged::Done { end, size } => {
             if end < m.len() {

@@ -15,6 +15,8 @@ ghost use Rattle.table.specs.Passes.{Passes};
 ghost use Rattle.coding.specs.Calls.{readOutcome, wholeRead};
 use answer::Judged;
 use coding::Answer;
+use coding::LONGEST_MESSAGE;
+use coding::LONGEST_VALUE;
 use coding::Refusal;
 use octets::cause::Cause;
 use table::Verdict;
@@ -44,7 +46,7 @@ fn read_passed(
             place: 0,
         });
     }
-    if 8192 < message.len() {
+    if LONGEST_MESSAGE < message.len() {
         return Answer::Refused(Refusal::Message {
             cause: Cause::MessageLength,
             place: 0,
@@ -57,7 +59,7 @@ fn read_passed(
             Answer::Refused(Refusal::Message { cause, place })
         }
         Judged::Done { end: _, size } => {
-            if 16384 < size {
+            if LONGEST_VALUE < size {
                 return Answer::Refused(Refusal::Message {
                     cause: Cause::ValueRoom,
                     place: 0,

@@ -14,6 +14,9 @@ use table::entry::tag_code;
 use table::entry::tag_count;
 use table::entry::unpack;
 
+// Stands for every length above that of the longest message.
+const OVER: usize = 8193;
+
 // The sum; 8,193 if it is over 8,192.
 pub fn grow(a: usize, b: usize) -> usize
     requires { ⌜
@@ -26,8 +29,8 @@ pub fn grow(a: usize, b: usize) -> usize
         ⌝ }
 {
     let c = a + b;
-    if 8193 < c {
-        return 8193;
+    if OVER < c {
+        return OVER;
     }
     c
 }

@@ -21,6 +21,7 @@ use crate::contents;
 use crate::contents::number;
 use crate::frame;
 use crate::node;
+use coding::LEVELS;
 use octets::cause::Cause;
 use table::entry::Entry;
 use table::entry::lists;
@@ -247,5 +248,5 @@ pub fn judge(
         × Noting 0 (now (notes .entry)) (now (notes .exit)) r (λ m. NotedRow T o m 24 (t ∷ []) 0))
         ⌝ }
 {
-    judge_members(table, index, whole(t as u16), v, 0, 24, notes)
+    judge_members(table, index, whole(t as u16), v, 0, LEVELS, notes)
 }

@@ -12,6 +12,8 @@ ghost use Rattle.table.specs.Entries.{tableIn, Filled};
 ghost use Rattle.table.specs.Passes.{Passes};
 ghost use Rattle.coding.specs.Calls.{writeOutcome, wholeWrite};
 use coding::Answer;
+use coding::LONGEST_MESSAGE;
+use coding::LONGEST_VALUE;
 use coding::Refusal;
 use judge::Judged;
 use octets::cause::Cause;
@@ -43,7 +45,7 @@ fn write_passed(
             place: 0,
         });
     }
-    if 16384 < value.len() {
+    if LONGEST_VALUE < value.len() {
         return Answer::Refused(Refusal::Value {
             cause: Cause::ValueShape,
             place: 0,
@@ -85,8 +87,8 @@ pub fn write(table: &[u8], t: usize, value: &[u8], buf: &mut [u8]) -> Answer
     match verdict {
         Verdict::Refused { cause, place } => Answer::Refused(Refusal::Table { cause, place }),
         Verdict::Passed => {
-            if 8192 < buf.len() {
-                let room = &mut buf[..8192];
+            if LONGEST_MESSAGE < buf.len() {
+                let room = &mut buf[..LONGEST_MESSAGE];
                 return write_passed(table, &index, c.count, t, value, room);
             }
             write_passed(table, &index, c.count, t, value, buf)
