@@ -195,17 +195,16 @@ Starts t c first = let a = c .before .before .before .before .before .before .be
 
 -- a member that came
 at-came : (t : ℕ) (c : place-members-lts.Else3 (place-members-claims t) (place-members-at t)
-    place-members.Post place-members-Inv-loop place-members-μ-loop) → (c .before .before .before .before .before .before .following .result < 16) ×
-    (1 ≤ getD (c .before .before .before .before .before .before .before .before .before .before .before .before .before .before .before .if1
-    .began) (c .before .before .before .before .before .before .following .result) 0)
-    × (getD (c .before .before .before .before .before .before .before .before .before .before .before .before .before .before .before .if1 .began)
-    (c .before .before .before .before .before .before .following .result) 0 ≤ 8193)
+    place-members.Post place-members-Inv-loop place-members-μ-loop) →
+    let k = c .before .before .before .before .before .before .following .result in
+    let x = c .before .before .before .before .before .before .before .before .before .before .before .before .before .before .before .if1 in
+    (k < 16) × (1 ≤ getD (x .began) k 0) × (getD (x .began) k 0 ≤ 8193)
 at-came t c =
-    let X = at-started t (c .before .before .before .before .before .before .before .before .before .before .before .before .before) in
-    let z = set-came X (c .before .before .before .before .before .before .before .before .before .before .loop .inv .2 _ X)
-    (c .before .before .before .before .before .before .before .before .if2 .taken) _
-    (c .before .before .before .before .before .before .following .ensures) (c .before .before .before .before .put-absent .ensures)
-    (c .if3 .left) in
+    let c4 = c .before .before .before .before in
+    let c6 = c4 .before .before in
+    let c10 = c6 .before .before .before .before in
+    let X = at-started t (c10 .before .before .before) in
+    let z = set-came X (c10 .loop .inv .2 _ X) (c6 .before .before .if2 .taken) _ (c6 .following .ensures) (c4 .put-absent .ensures) (c .if3 .left) in
     (omega (arith, z .0, its-few (X .given)), z .1, omega (arith, z .1, z .2, X .given .short))
 
 -- the item that comes
@@ -225,11 +224,9 @@ at-item t c X =
 -- how far it stands
 at-turn : (t : ℕ) (c : place-members-lts.Joined2 (place-members-claims t) (place-members-at t)
     place-members.Post place-members-Inv-loop place-members-μ-loop) →
-    (length (c .if2 .buf) ≡ length (c .before .before .loop .buf)) ×
-    (c .before .before .before .before .before .before .before .before .before .before .unpack .result .kind ≡ 17 → c .before .before .loop .j ≤ c
-    .if2 .j)
-    × ((c .before .before .before .before .before .before .before .before .before .before .unpack .result .kind ≡ 17 → ⊥) → c .if2 .at ≡ c .before
-    .before .loop .at)
+    let l = c .before .before .loop in
+    let e = c .before .before .before .before .before .before .before .before .before .before .unpack .result in
+    (length (c .if2 .buf) ≡ length (l .buf)) × (e .kind ≡ 17 → l .j ≤ c .if2 .j) × ((e .kind ≡ 17 → ⊥) → c .if2 .at ≡ l .at)
 at-turn t c =
     ⊎-elim
     (λ x. (ap length (x .9) ∙ x .4 .kept .0, λ z. rw (x .11) (x .2 .ensures .least), λ n. absurd (n (x .0 .taken))))
@@ -239,9 +236,9 @@ at-turn t c =
     (c .if2 .came)
 
 at-low : (t : ℕ) (c : place-members-lts.Joined2 (place-members-claims t) (place-members-at t)
-    place-members.Post place-members-Inv-loop place-members-μ-loop) → (c .if2 .at < length (now
-    (c .before .before .before .before .before .before .before .before .before .before .before .before .before .before .args .m))) ×
-    (c .if2 .at < 8192)
+    place-members.Post place-members-Inv-loop place-members-μ-loop) →
+    let a = c .before .before .before .before .before .before .before .before .before .before .before .before .before .before .args in
+    (c .if2 .at < length (now (a .m))) × (c .if2 .at < 8192)
 at-low t c =
     let X = at-started t (c .before .before .before .before .before) in
     let l = coming-low X _ (at-item t c X) in
@@ -262,15 +259,15 @@ at-type t c =
 -- what the search answers
 at-sought : (t : ℕ) (c : place-members-lts.After-search (place-members-claims t) (place-members-at t)
     place-members.Post place-members-Inv-loop place-members-μ-loop) →
-    let a = c .before .before .before .before .before .before .before .before .before .before .before .before .before .before .before .before
-    .before .before .before .before .before .before .args in
+    let x = c .before .before .before .before .before .before .before .before in
+    let a = x .before .before .before .before .before .before .before .before .before .before .before .before .before .before .args in
     let b = now (a .table) in
-    Sought b (held b (a .w)) (since (manner (held b (a .w))) (c .before .before .before .before .before .before .before .before .if2 .j)) blank
-    (drop (c .before .before .before .before .before .before .before .before .if2 .at) (now (a .m))) (c .search .last .1 .1 .1 .1 .1 .1 .0)
-    (c .search .result)
-at-sought t c = rw (part-to-end (now (c .before .before .before .before .before .before .before .before .before .before .before .before .before
-    .before .before .before .before .before .before .before .before .before .args .m))
-    (c .before .before .before .before .before .before .before .before .if2 .at)) at (c .search .ensures .1)
+    Sought b (held b (a .w)) (since (manner (held b (a .w))) (x .if2 .j)) blank (drop (x .if2 .at) (now (a .m)))
+    (c .search .last .1 .1 .1 .1 .1 .1 .0) (c .search .result)
+at-sought t c =
+    let x = c .before .before .before .before .before .before .before .before in
+    let a = x .before .before .before .before .before .before .before .before .before .before .before .before .before .before .args in
+    rw (part-to-end (now (a .m)) (x .if2 .at)) at (c .search .ensures .1)
 
 -- the part that the search found
 at-picked : (t : ℕ) (c : place-members-lts.At-match-came (place-members-claims t) (place-members-at t)
@@ -280,24 +277,22 @@ at-picked : (t : ℕ) (c : place-members-lts.At-match-came (place-members-claims
     (c .match .place) (c .match .«record») (c .match .from)
 at-picked t c X =
     let S = at-sought t (c .before) in
+    let C = at-item t (c .before .before .before .before .before .before .before .before .before) X in
     ⊎-elim
-    (λ x. absurd (found-some X _ (at-item t (c .before .before .before .before .before .before .before .before .before) X) ((rw
-    (x .1 .given .1) at S) .0)))
-    (λ x. picked X _ (at-item t (c .before .before .before .before .before .before .before .before .before) X) (x .1 .given .0 .0) _
-    (c .before .search .ensures .0) (rw (x .1 .given .1) at S) (x .9 ∙ x .6 .ensures .1)
+    (λ x. absurd (found-some X _ C ((rw (x .1 .given .1) at S) .0)))
+    (λ x. picked X _ C (x .1 .given .0 .0) _ (c .before .search .ensures .0) (rw (x .1 .given .1) at S) (x .9 ∙ x .6 .ensures .1)
     (x .10 ∙ x .6 .ensures .0) (x .11) (x .12) (x .13))
     (c .match .came)
 
 -- the part at hand, if the item begins it with one octet
 at-fits : (t : ℕ) (c : place-members-lts.Joined6 (place-members-claims t) (place-members-at t)
     place-members.Post place-members-Inv-loop place-members-μ-loop) → c .if6 .fits ≡ true →
-    let a = c .before .before .before .before .before .before .before .before .before .before .before .before .before .before .before .before
-    .before .args in
-    (c .before .before .before .if2 .j < c .before .before .before .before .before .before .before .before .before .before .before .before .parts
-    .result .count) × (c .if6 .«record» ≡ getD (now (a .table)) (c .before .before .before .before .before .before .before .before .before .before
-    .before .before .parts .result .first + c .before .before .before .if2 .j * c .before .before .before .before .before .before .before .before
-    .before .before .before .before .parts .result .step) 0)
-    × (getD (now (a .m)) (c .before .before .before .if2 .at) 0 ≡ unpacked (getD (now (a .index)) (c .if6 .«record») 0) .code)
+    let x = c .before .before .before .if2 in
+    let y = c .before .before .before .before .before .before .before .before .before .before .before .before in
+    let a = y .before .before .before .before .before .args in
+    let s = y .parts .result in
+    (x .j < s .count) × (c .if6 .«record» ≡ getD (now (a .table)) (s .first + x .j * s .step) 0)
+    × (getD (now (a .m)) (x .at) 0 ≡ unpacked (getD (now (a .index)) (c .if6 .«record») 0) .code)
 at-fits t c z =
     ⊎-elim
     (λ x. (x .0 .taken, x .8 ∙ x .4 .ensures .0, rw (x .8) (sym (eqb-true _ _ (sym (x .9) ∙ z)) ∙ x .6 .ensures)))
@@ -554,9 +549,11 @@ pub +place-members+place-value-spec : {M : Type 1} → statement M
     at-low t (c .before .before .before .before .before .before .before .before .before .before) .0)  -- place-members-shared-slice-read-fits
     (λ c.
     let c10 = c .before .before .before .before .before .before .before .before .before .before in
-    omega (arith,
-    c10 .before .before .before .before .before .before .before .before .before .before .before .before .shared-slice-known2 .given
-    (c10 .if2 .at)))  -- place-members-cast-fits
+    omega (
+      arith,
+      c10 .before .before .before .before .before .before .before .before .before .before .before .before .shared-slice-known2 .given
+          (c10 .if2 .at),
+    ))  -- place-members-cast-fits
     (λ c. let l = at-low t (c .before .before .before .before) in omega arith)  -- place-members-sub-rest
     (λ c. let l = at-low t (c .before .before .before .before) in omega arith)  -- place-members-part-rest-start
     (λ c. let l = at-low t (c .before .before .before .before) in omega arith)  -- place-members-part-rest-end
