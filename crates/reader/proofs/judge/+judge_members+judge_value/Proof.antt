@@ -44,7 +44,8 @@ use Rattle.table.specs.Entries.{unpacked, tableIn}
 use Rattle.reader.proofs.Bodies.{recordOf}
 use Rattle.reader.proofs.JudgedValue.{Over, Ended, over-leaf, over-items, items-low, items-high, item-tags, item-closes}
 use Rattle.reader.proofs.JudgedValue.{value-unopened, value-unread, value-marked, value-wrong, value-unheld, value-closed, value-over}
-use Rattle.reader.proofs.ValueParts.{Under, Within, Item, Filling, under-tags, under-bare, item-within, item-around, contents-sized, contents-bare}
+use Rattle.reader.proofs.ValueParts.{Under, Within, Item, Filling, under-tags, under-bare, item-within, item-around, contents-sized}
+use Rattle.reader.proofs.ValueParts.{contents-bare}
 use Rattle.reader.proofs.ValueParts.{contents-within, contents-short, items-known, items-some}
 use Rattle.reader.proofs.Tagging.{its-entry}
 
