@@ -4,8 +4,8 @@ use borrow.Author.Tests.{eqb-true}
 use lib.Dec.{eqb}
 use lib.ListN.{length, getD, drop}
 use lib.Seq.{drop-drop}
-use mathlib.Core.Bool.{Bool, true, false}
-use mathlib.Core.List.{List, [], _∷_}
+use mathlib.Core.Bool.{true, false}
+use mathlib.Core.List.{List, _∷_}
 use mathlib.Core.Option.{Option, some, none}
 use mathlib.Core.Path.{_≡_, refl, sym, ap, _∙_}
 use native.Mathlib.Omega.{arith}
@@ -37,7 +37,7 @@ use Rattle.reader.specs.declared.search.Found.{Found}
 use Rattle.reader.specs.declared.search.Found.the-variants.{Part, Refused}
 use Rattle.reader.specs.declared.search.Under.the-variants.{At}
 use Rattle.reader.proofs.Begun.{fit}
-use Rattle.reader.proofs.Items.{found-of, awaits-found}
+use Rattle.reader.proofs.Items.{found-of, awaits-found, first-none, first-passes}
 use Rattle.reader.proofs.ItemsSearch.{GoodHolder, Tells, tells, search-itself, direct-next, indirect-next}
 use Rattle.reader.proofs.Searching.{Parted, spanned, type-low, clear-turn}
 use Rattle.reader.proofs.Spans.{PartAt, held-body, tabled-some}
@@ -49,26 +49,6 @@ unfolding unfit unfitCause if
 unfit-is h i came s c e =
     test (isSingle (manner h)) (λ q. rw q e) λ q.
     test (remains h i came) (λ y. rw (q, y) e) λ y. rw (q, y) refl
-
-first-none : (f : Placed → Bool) (l : List Placed) → ((x : Placed) → f x ≡ false) → first f l ≡ none
-unfolding first if
-first-none f [] h = refl
-first-none f (x ∷ l) h = rw (h x) (first-none f l h)
-
-abbrev value : {A : Type 0} → A → Option A → A
-value d none = d
-value d (some x) = x
-
-first-passes : (f : Placed → Bool) (l : List Placed) (x : Placed) → first f l ≡ some x → f x ≡ true
-unfolding first if
-first-passes f [] x e = absurd (no-value e)
-  where
-    no-value : _≡_ {A = Option Placed} none (some x) → ⊥
-    no-value e = let z : _≡_ {A = ℕ} 0 1 = cc in omega arith
-first-passes f (y ∷ l) x e =
-    test (f y)
-    (λ q. let k : some y ≡ some x = rw q at e in let v : y ≡ x = ap (value y) k in sym (ap f v) ∙ q)
-    λ q. first-passes f l x (rw q at e)
 
 paired : (x : Placed) (p : ℕ) (k : Member) → p ≡ x .0 → x .1 ≡ k → x ≡ (p, k)
 paired (q, j) p k d v = rw (d, v) refl

@@ -6,7 +6,7 @@ use lib.ListN.{length, getD, drop}
 use lib.Seq.{drop-drop}
 use mathlib.Core.Bool.{Bool, true, false}
 use mathlib.Core.List.{List, [], _∷_, _++_}
-use mathlib.Core.Option.{Option, some, none}
+use mathlib.Core.Option.{Option, some, none, Option·none-ne-some, Option·some-injective}
 use mathlib.Core.Path.{_≡_, refl, sym, ap, _∙_}
 use native.Mathlib.Numerals.{add-one}
 use native.Mathlib.Omega.{arith}
@@ -35,6 +35,9 @@ drop-later a b j i h e =
     let q : j + (i - j) ≡ i = omega arith in
     rw (← q, ← drop-drop (i - j) j a, ← drop-drop (i - j) j b, e) refl
 
+pub no-cons : {A : Type 0} (x : A) (l : List A) → _≡_ {A = List A} [] (x ∷ l) → ⊥
+no-cons x l e = let q = ap length e in omega arith
+
 -- the first that passes
 module _ {A : Type 0} where
   pub first-hit : (f : A → Bool) (x : A) (l : List A) → f x ≡ true → first f (x ∷ l) ≡ some x
@@ -44,6 +47,11 @@ module _ {A : Type 0} where
   pub first-miss : (f : A → Bool) (x : A) (l : List A) → f x ≡ false → first f (x ∷ l) ≡ first f l
   unfolding first if
   first-miss f x l e = rw e refl
+
+  pub first-passes : (f : A → Bool) (l : List A) (x : A) → first f l ≡ some x → f x ≡ true
+  unfolding first if
+  first-passes f [] x e = absurd (Option·none-ne-some x e)
+  first-passes f (y ∷ l) x e = test (f y) (λ d. rw (Option·some-injective y x (rw d at e)) at d) λ d. first-passes f l x (rw d at e)
 
   pub first-none : (f : A → Bool) (l : List A) → ((x : A) → f x ≡ false) → first f l ≡ none
   unfolding first

@@ -6,13 +6,12 @@ use lib.ListN.{length, getD, take, drop, length-drop}
 use lib.Seq.{drop-drop}
 use mathlib.Core.Bool.{Bool, true, false, _||_, true≢false}
 use mathlib.Core.List.{List, [], _∷_}
-use mathlib.Core.Option.{Option, some, none}
+use mathlib.Core.Option.{some}
 use mathlib.Core.Path.{_≡_, refl, sym, ap, _∙_}
 use native.Mathlib.Omega.{arith}
 use Prim.Native.Nat.{ℕ, zero, suc, _+_, _-_, _*_, _%_, _≤_, _<_}
 use Rattle.octets.specs.declared.cause.Cause.the-variants.{MessageLevel}
 use Rattle.octets.specs.Answer.{got, refused, then, if}
-use Rattle.octets.specs.Lists.{any}
 use Rattle.octets.specs.Numbers.{Octets}
 use Rattle.octets.proofs.Tests.{test}
 use Rattle.ber.specs.Codes.{code, codeOf}
@@ -38,8 +37,8 @@ use Rattle.reader.specs.declared.search.Found.{Found}
 use Rattle.reader.specs.declared.search.Found.the-variants.{Part}
 use Rattle.reader.proofs.Among.{code-is}
 use Rattle.reader.proofs.Begun.{Fit, fit, nested-all}
-use Rattle.reader.proofs.Items.{first-hit, first-miss, pending-free, pending-come}
-use Rattle.reader.proofs.ItemsSearch.{Lone, GoodHolder, lone-awaits, Tells, tells, search-itself}
+use Rattle.reader.proofs.Items.{first-hit, first-miss, pending-free, pending-come, no-cons}
+use Rattle.reader.proofs.ItemsSearch.{Lone, GoodHolder, lone-awaits, Tells, tells, search-itself, first-any}
 use Rattle.reader.proofs.ItemsWay.{way-level, way-value}
 use Rattle.reader.proofs.Searching.{Parted, spanned, type-low, clear-turn}
 use Rattle.reader.proofs.Finding.{good-held}
@@ -47,17 +46,6 @@ use Rattle.reader.proofs.Spans.{PartAt, its, awaits-hit}
 use Rattle.reader.proofs.Opening.{octets-drop}
 
 -- the part at hand, which has not come, is the one that the item begins, if the item begins it
-first-any : {A : Type 0} (f : A → Bool) (l : List A) (x : A) → first f l ≡ some x → any f l ≡ true
-unfolding first any if
-first-any {A} f [] x e = absurd (no-value e)
-  where
-    no-value : _≡_ {A = Option A} none (some x) → ⊥
-    no-value e = let z : _≡_ {A = ℕ} 0 1 = cc in omega arith
-first-any f (y ∷ l) x e = test (f y) (λ b. rw b refl) λ b. rw b (first-any f l x (rw b at e))
-
-no-cons : {A : Type 0} (x : A) (l : List A) → _≡_ {A = List A} [] (x ∷ l) → ⊥
-no-cons x l e = let q = ap length e in omega arith
-
 module _ (f : Placed → Bool) (came : List ℕ) (k : Member) where
   pending-first : (p i : ℕ) (ms : List Member) (d : ℕ) (rest : List Member) → drop d ms ≡ k ∷ rest → p ≡ i + d → getD came p 0 ≡ 0 → f (p, k) ≡ true
       → Lone f (pending came i ms) → first f (pending came i ms) ≡ some (p, k)

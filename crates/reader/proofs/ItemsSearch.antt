@@ -5,9 +5,8 @@ use lib.Dec.{eqb}
 use lib.ListN.{getD, drop}
 use mathlib.Core.Bool.{Bool, true, false, true≢false}
 use mathlib.Core.List.{List, [], _∷_}
-use mathlib.Core.Option.{Option, some, none}
+use mathlib.Core.Option.{Option, some, Option·none-ne-some}
 use mathlib.Core.Path.{_≡_, refl, sym, ap, _∙_}
-use native.Mathlib.Omega.{arith}
 use Prim.Native.Nat.{ℕ, zero, suc}
 use Rattle.octets.specs.Answer.{Answer, got, refused, if}
 use Rattle.octets.specs.Lists.{any}
@@ -31,12 +30,9 @@ module _ {A : Type 0} where
   Lone f [] = Unit {0}
   Lone f (x ∷ l) = (f x ≡ true → any f l ≡ false) × Lone f l
 
-  first-any : (f : A → Bool) (l : List A) (x : A) → first f l ≡ some x → any f l ≡ true
+  pub first-any : (f : A → Bool) (l : List A) (x : A) → first f l ≡ some x → any f l ≡ true
   unfolding first any if
-  first-any f [] x e = absurd (no-value e)
-    where
-      no-value : _≡_ {A = Option A} none (some x) → ⊥
-      no-value e = let z : _≡_ {A = ℕ} 0 1 = cc in omega arith
+  first-any f [] x e = absurd (Option·none-ne-some x e)
   first-any f (y ∷ l) x e = test (f y) (λ b. rw b refl) λ b. rw b (first-any f l x (rw b at e))
 
   any-later : (f g : A → Bool) → ((x : A) → f x ≡ true → g x ≡ true) → (l : List A) → any g l ≡ false → any f l ≡ false

@@ -4,7 +4,7 @@ use lib.ListN.{length, getD, drop, set as setAt, length-append, length-set, leng
 use lib.Seq.{drop-set-lt, getD-drop}
 use mathlib.Core.Bool.{Bool, true, false, true≢false}
 use mathlib.Core.List.{List, [], _∷_, _++_}
-use mathlib.Core.Option.{Option, some, none}
+use mathlib.Core.Option.{Option, some, none, Option·none-ne-some}
 use mathlib.Core.Path.{_≡_, refl, sym, ap, _∙_}
 use native.Mathlib.Nat.{add-zero, zero-add}
 use native.Mathlib.Omega.{arith}
@@ -45,10 +45,7 @@ unfolding slots parts
 sizes-set [] p v l e = absurd (omega arith)
 sizes-set (none ∷ os) zero v l e = length-append (octets v) (parts (slots os)) ∙ omega arith
 sizes-set (none ∷ os) (suc p) v l e = sizes-set os p v (omega arith) e
-sizes-set (some u ∷ os) zero v l e = absurd (no-value e)
-  where
-    no-value : some u ≡ none → ⊥
-    no-value e = let z : _≡_ {A = ℕ} 0 1 = cc in omega arith
+sizes-set (some u ∷ os) zero v l e = absurd (Option·none-ne-some u (sym e))
 sizes-set (some u ∷ os) (suc p) v l e =
     length-append (octets u) (parts (slots (setAt os p (some v))))
     ∙ rw (sizes-set os p v (omega arith) e) (omega (arith, length-append (octets u) (parts (slots os))))
@@ -64,7 +61,7 @@ unfolding nothing slots parts
 sizes-nothing [] = refl
 sizes-nothing (m ∷ ms) = sizes-nothing ms
 
-presence-length : (os : List (Option Value)) → length (presence (slots os)) ≡ length os
+pub presence-length : (os : List (Option Value)) → length (presence (slots os)) ≡ length os
 unfolding presence slots
 presence-length [] = refl
 presence-length (none ∷ os) = ap suc (presence-length os)

@@ -6,7 +6,7 @@ use lib.Seq.{drop-drop, drop-append-seam}
 use mathlib.Core.Bool.{Bool, true, false, not, _||_, true≢false}
 use mathlib.Core.List.{List, [], _∷_}
 use mathlib.Core.Logic.{_⊎_, inl, inr}
-use mathlib.Core.Option.{Option, some, none}
+use mathlib.Core.Option.{Option, some, none, Option·none-ne-some}
 use mathlib.Core.Path.{_≡_, refl, sym, ap, _∙_}
 use native.Mathlib.Omega.{arith}
 use Prim.Native.Nat.{ℕ, suc, _+_, _-_, _*_, _/_, _≤_, _<_}
@@ -188,11 +188,8 @@ unfit-alike {A} {B} h i came s c l e =
 within-some : (v : Manner) (f : Placed → Bool) (l : List Placed) (x : Placed) → first f (within v l) ≡ some x → some-of l ≡ true
 unfolding within upToMandatory first some-of
 within-some v f (y ∷ l) x e = refl
-within-some v f [] x e = absurd (no-value (sym (none-within v) ∙ e))
+within-some v f [] x e = absurd (Option·none-ne-some x (sym (none-within v) ∙ e))
   where
-    no-value : _≡_ {A = Option Placed} none (some x) → ⊥
-    no-value e = let z : _≡_ {A = ℕ} 0 1 = cc in omega arith
-
     none-within : (v : Manner) → first f (within v []) ≡ none
     none-within in-turn = refl
     none-within each-once = refl

@@ -43,8 +43,10 @@ use Rattle.reader.proofs.Bodies.{recordOf, its-body}
 use Rattle.reader.proofs.Opening.{item-refused, its-count, its-few}
 use Rattle.reader.proofs.Tails.{Sane, leaves, stops, tail-less, Closes, held-sane, not-none}
 use Rattle.reader.proofs.Told.{told-refused, told-done, tell-refused}
-use Rattle.reader.proofs.ValueParts.{Item, Filling, Rec, Part, Rest, Bare, left-part, own-header, no-choice, P, S, C, Own, Kept, Size-of, size-C, size-part}
-use Rattle.reader.proofs.ValueParts.{contents-within, is-plain, plain-header, plain-open, leaf-read, Held, Fine, fine, reads, its-notes, no-notes, tags-refused}
+use Rattle.reader.proofs.ValueParts.{Item, Filling, Rec, Part, Rest, Bare, left-part, own-header, no-choice, P, S, C, Own, Kept, Size-of}
+use Rattle.reader.proofs.ValueParts.{size-C, size-part}
+use Rattle.reader.proofs.ValueParts.{contents-within, is-plain, plain-header, plain-open, leaf-read, Held, Fine, fine, reads, its-notes}
+use Rattle.reader.proofs.ValueParts.{no-notes, tags-refused}
 use Rattle.reader.proofs.Wrapping.{closing-refused}
 use Rattle.reader.proofs.ClosedAlike.{closing-size}
 

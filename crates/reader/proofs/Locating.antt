@@ -4,12 +4,10 @@ use mathlib.Core.Bool.{Bool, true, false, _&&_, _||_, true≢false}
 use mathlib.Core.List.{List}
 use mathlib.Core.Path.{_≡_, refl, sym, ap, _∙_}
 use Prim.Native.Nat.{ℕ, _+_, _≤_, _<_, min}
-use native.Mathlib.Nat.{add-zero}
 use native.Mathlib.Omega.{arith}
 use borrow.Author.Tests.{eqb-true, eqb-false}
 use lib.Dec.{eqb}
 use lib.ListN.{length, getD, drop, set}
-use lib.Seq.{getD-drop}
 use Rattle.octets.specs.declared.cause.Cause.{Cause}
 use Rattle.octets.specs.Answer.{none-left}
 use Rattle.octets.proofs.Tests.{test}
@@ -26,7 +24,7 @@ use Rattle.reader.specs.declared.search.Choice.{Choice as Chosen}
 use Rattle.reader.specs.declared.search.Found.{Found}
 use Rattle.reader.specs.declared.search.Found.the-variants.{Part, Refused}
 use Rattle.reader.proofs.Spans.{turns-by, by-member, Entry-of, entry-of}
-use Rattle.reader.proofs.PlacedTurns.{overAt, awaited}
+use Rattle.reader.proofs.PlacedTurns.{overAt, awaited, over-at}
 use Rattle.reader.proofs.PlacedSpots.{Spotting, spotting-first, spotted, spotted-none, spotting-turn}
 
 -- one more of the members that did not come
@@ -41,22 +39,6 @@ once-is in-turn e f = absurd (true≢false e)
 once-is each-once e f = refl
 once-is repeated e f = absurd (true≢false (sym f))
 once-is single e f = absurd (true≢false (sym f))
-
-module _ {b index : List ℕ} (R : Ready b index) {w : ℕ} (known : Known b index w) where
-  its : Entry-of b (unpacked w)
-  its = entry-of R w known
-
-  pub set-once : unpacked w .kind ≡ 17 → manner (held b w) ≡ each-once
-  set-once k =
-      once-is (manner (held b w)) (sym (its .sequence) ∙ ap (λ (n : ℕ). eqb n 16) k) (sym (its .members) ∙ ap (λ (n : ℕ). eqb n 16 || eqb n 17) k)
-
-  -- what the search relies on
-  pub set-sound : unpacked w .kind ≡ 17 → (came : List ℕ) → length came ≡ 16 → Sound b index w came
-  set-sound k came l = record { ready = R; known = known; noted = l; clear = λ f p. absurd (f (set-once k)) }
-
-  pub set-few : (ms : List Member) → held b w ≡ inside (Set ms) → length ms ≤ 16
-  unfolding tabledCount partsOf
-  set-few ms e = let n : tabledCount (held b w) ≡ length ms = ap tabledCount e in omega (arith, its .spanned .few, its .spanned .count)
 
 -- it has members
 the-members : (h : Holder) → manner h ≡ each-once → (ms : List Member) × (h ≡ inside (Set ms))
@@ -75,6 +57,25 @@ the-members (inside (SetOf t)) e = absurd (true≢false (sym (ap by-member e)))
 the-members (inside (Choice ts)) e = absurd (true≢false (sym (ap by-member e)))
 the-members (message t) e = absurd (true≢false (sym (ap by-member e)))
 
+module _ {b index : List ℕ} (R : Ready b index) {w : ℕ} (known : Known b index w) where
+  its : Entry-of b (unpacked w)
+  its = entry-of R w known
+
+  pub set-once : unpacked w .kind ≡ 17 → manner (held b w) ≡ each-once
+  set-once k =
+      once-is (manner (held b w)) (sym (its .sequence) ∙ ap (λ (n : ℕ). eqb n 16) k) (sym (its .members) ∙ ap (λ (n : ℕ). eqb n 16 || eqb n 17) k)
+
+  pub set-members : unpacked w .kind ≡ 17 → (ms : List Member) × (held b w ≡ inside (Set ms))
+  set-members k = the-members (held b w) (set-once k)
+
+  -- what the search relies on
+  pub set-sound : unpacked w .kind ≡ 17 → (came : List ℕ) → length came ≡ 16 → Sound b index w came
+  set-sound k came l = record { ready = R; known = known; noted = l; clear = λ f p. absurd (f (set-once k)) }
+
+  pub set-few : (ms : List Member) → held b w ≡ inside (Set ms) → length ms ≤ 16
+  unfolding tabledCount partsOf
+  set-few ms e = let n : tabledCount (held b w) ≡ length ms = ap tabledCount e in omega (arith, its .spanned .few, its .spanned .count)
+
 next-is : (b ns s : List ℕ) (h : Holder) (ms : List Member) → h ≡ inside (Set ms)
     → next (tableIn b) h (since (manner h) 0) ns s ≡ next (tableIn b) (inside (Set ms)) 0 ns s
 unfolding manner since
@@ -89,7 +90,7 @@ module _ {b index : List ℕ} (R : Ready b index) {w : ℕ} (known : Known b ind
   pub place-low : unpacked w .kind ≡ 17 → x .place < 16
   unfolding partsOf
   place-low k =
-      let (ms, h) = the-members (held b w) (set-once R known k) in
+      let (ms, h) = set-members R known k in
       let (part, i, n, d, f, g, y) = found-is in
       let z = sym (next-is b ns s (held b w) ms h) ∙ n in
       let A = awaited (tableIn b) (readValue (tableIn b) 24) (inside (Set ms)) 0 ns s (x .place, part) (omega arith) z in
@@ -112,9 +113,7 @@ module _ {b index : List ℕ} (R : Ready b index) {w : ℕ} (known : Known b ind
   module _ (ns : List ℕ) (at : ℕ) (low : at ≤ length m) (L : Located ns at) (over : Bool)
       (eo : over ≡ (none-left (drop at m) || (marked && eqb (getD m at 0) 0))) where
     over-is : over ≡ overAt marked (drop at m)
-    over-is =
-        let q : getD (drop at m) 0 0 ≡ getD m at 0 = getD-drop at m 0 0 ∙ ap (λ (i : ℕ). getD m i 0) (add-zero at) in
-        eo ∙ rw q refl
+    over-is = over-at m at marked over eo
 
     -- contents are over
     pub located-over : over ≡ true → (e : ℕ) → e ≡ endAt marked at → (ms : List Member) → held b w ≡ inside (Set ms) → Spotted T ms marked m ns e

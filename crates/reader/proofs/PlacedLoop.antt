@@ -2,13 +2,13 @@
 -- Assumes nothing.
 use mathlib.Core.Bool.{Bool, true, false, false≢true}
 use mathlib.Core.List.{List, [], _∷_, _++_}
-use mathlib.Core.Option.{some}
+use mathlib.Core.Option.{some, Option·some-injective}
 use mathlib.Core.Path.{_≡_, refl, sym, ap, _∙_}
 use Prim.Native.Nat.{ℕ, suc, _+_, _-_, _*_, _≤_, _<_}
 use native.Mathlib.Omega.{arith}
 use lib.Dec.{eqb}
 use lib.ListN.{length, getD, take, drop, replicate, length-set, length-append, length-drop}
-use lib.Seq.{sets, length-sets, drop-drop, length-take-le}
+use lib.Seq.{sets, length-sets, length-take-le}
 use Rattle.octets.specs.Answer.{got, then, if}
 use Rattle.octets.proofs.Answer.{got-holds}
 use Rattle.octets.proofs.Tests.{test}
@@ -27,7 +27,7 @@ use Rattle.reader.specs.Placed.{Final}
 use Rattle.reader.proofs.ItemsKinds.{blank-clear}
 use Rattle.reader.proofs.ItemsSearch.{GoodHolder}
 use Rattle.reader.proofs.PlacedNodes.{Standing, stands-more, stands-absent, stands-elsewhere, stands-turn}
-use Rattle.reader.proofs.PlacedTurns.{overAt, behindEnd, Placing, placing-first, placing-turn, placing-awaited, placing-room}
+use Rattle.reader.proofs.PlacedTurns.{overAt, Placing, placing-first, placing-turn, placing-awaited, placing-room, end-at}
 use Rattle.reader.proofs.PlacedTurns.{placing-next, placing-one, placing-over, placing-end}
 use Rattle.reader.proofs.PlacedWays.{way-length, Inner, inner-under}
 use Rattle.reader.proofs.PlacedSets.{Filling, filling-first, filling-there, filling-room, filling-next, filling-end}
@@ -106,13 +106,9 @@ module _ {T : Table} {n : ℕ} {h : Holder} {b : Bool} {m : List ℕ} {all : Han
         → buf₁ ≡ finishedIn (kindOf h) j (length (partsOf h)) count buf to
         → Final (assemble h all) last m first to buf₁ (endAt b at) next
     arriving-over o v buf₁ e =
-        let (W, f) = placing-over S kind o v (endAt b at) (end-is b) buf₁ e in
+        let (W, f) = placing-over S kind o v (endAt b at) (end-at m at b) buf₁ e in
         record { ends = W .ends; buffer = W .buffer; within = end-low b (placing-end S kind o v); behind = f }
       where
-        end-is : (b : Bool) → drop (endAt b at) m ≡ behindEnd b (drop at m)
-        end-is true = sym (drop-drop 2 at m)
-        end-is false = refl
-
         end-low : (b : Bool) → (b ≡ true → at + 2 ≤ length m) → endAt b at ≤ length m
         end-low true h = h refl
         end-low false h = S .low
@@ -218,7 +214,7 @@ module _ {T : Table} {n : ℕ} {h : Holder} {m first : List ℕ} {to : ℕ} {Aft
       → (hasMembers (kindOf h) ≡ false → buf₂ ≡ buf₁)
       → Ready T n h m first to After buf₂ at (next + 4 * d) (x .0) u
   ready-found way d u x f l w buf₁ buf₂ e₁ e₂ e₃ =
-      let q : C .part ≡ x = same-part (C .part) x (sym (C .found) ∙ f) in
+      let q : C .part ≡ x = Option·some-injective (C .part) x (sym (C .found) ∙ f) in
       let r = rw q at (C .read) in
       let I = inner-under T n (x .1 .type) (drop at m) way d u (C .value) (C .behind) l w r in
       let z = way-length (take d way) ∙ ap (λ (k : ℕ). 4 * k) (length-take-le d way l) in
@@ -243,9 +239,6 @@ module _ {T : Table} {n : ℕ} {h : Holder} {m first : List ℕ} {to : ℕ} {Aft
         low = C .low;
         after = λ buf₃ end next₁ a b c. (rw q at (C .after)) buf₃ end next₁ a b (c ∙ lc);
       }
-    where
-      same-part : (x y : Placed) → some x ≡ some y → x ≡ y
-      same-part x y e = cc
 
 noted-length : (k place : ℕ) (buf : List ℕ) (to : ℕ) → length (notedIn k place buf to) ≡ length buf
 unfolding notedIn if

@@ -2,7 +2,7 @@
 -- Assumes nothing.
 use mathlib.Core.Bool.{Bool, true, false, _||_, _&&_, true≢false}
 use mathlib.Core.List.{List, []}
-use mathlib.Core.Option.{Option, some, none}
+use mathlib.Core.Option.{Option, none, Option·some-injective, Option·none-ne-some}
 use mathlib.Core.Path.{_≡_, refl, sym, ap, _∙_}
 use Prim.Native.Nat.{ℕ, suc, _+_, _-_, _*_, _/_, _≤_, _<_}
 use native.Mathlib.Omega.{arith}
@@ -10,7 +10,7 @@ use native.Mathlib.Nat.{mul-comm}
 use borrow.Author.Tests.{eqb-true, eqb-false, ltb-true, ltb-false}
 use lib.Dec.{eqb, ltb}
 use lib.ListN.{length, getD, take, drop, length-append, length-drop}
-use lib.Seq.{sets, length-sets, length-take-le, getD-drop}
+use lib.Seq.{sets, length-sets, length-take-le}
 use Rattle.octets.specs.Answer.{Answer, got, refused, then, if, none-left}
 use Rattle.octets.specs.Numbers.{Octets}
 use Rattle.octets.proofs.Answer.{refused≢got, got-value, got-rest, got-holds}
@@ -27,7 +27,7 @@ use Rattle.coding.specs.Reading.{nothing, readValue}
 use Rattle.coding.proofs.FirstTags.{good}
 use Rattle.coding.proofs.Refusals.{value-shorter}
 use Rattle.reader.specs.Codes.{firstOf, untagged}
-use Rattle.reader.specs.Items.{Holder, inside, message, manner, partsOf, Placed, since, Hand, next as nextPart, readItems, filled, assemble}
+use Rattle.reader.specs.Items.{Holder, inside, message, manner, partsOf, since, Hand, next as nextPart, readItems, filled, assemble}
 use Rattle.reader.specs.Items.{nodeSize, blank, readHeld}
 use Rattle.reader.specs.Records.{Ready, Known, readRecord}
 use Rattle.reader.specs.Sought.{held, Sound, Sought, tabledCount}
@@ -46,8 +46,8 @@ use Rattle.reader.proofs.Tagging.{record-is}
 use Rattle.reader.proofs.PlacedLevels.{kept-got, value-kept}
 use Rattle.reader.proofs.Finding.{good-held}
 use Rattle.reader.proofs.ItemsKinds.{blank-clear}
-use Rattle.reader.proofs.PlacedNodes.{slots-flags, nothing-is, row-length, members-size}
-use Rattle.reader.proofs.PlacedTurns.{overAt}
+use Rattle.reader.proofs.PlacedNodes.{nothing-is, row-length, members-size}
+use Rattle.reader.proofs.PlacedTurns.{over-at}
 use Rattle.reader.proofs.PlacedLoop.{Loop, Comes, Goes, Ready as Prepared, ready-found, ready-node, ready-room, ready-placed}
 use Rattle.reader.proofs.PlacedLoop.{ready-further}
 use Rattle.reader.proofs.PlacedLoop.{loop-first, arriving-comes, arriving-over, sorted-comes, sorted-end}
@@ -55,16 +55,8 @@ use Rattle.reader.proofs.PlacedTurns.{Placing}
 use Rattle.reader.proofs.PlacedSets.{Filling, filling-skip}
 use Rattle.reader.proofs.Held.{held-kind, held-kinded, held-span, held-few, held-node, held-opening, held-onward, onward-most}
 use Rattle.reader.proofs.Spans.{Spanned}
-
-set-is : (h : Holder) → kindOf h ≡ 17 → (ms : List Member) × (h ≡ inside (Set ms))
-unfolding kindOf
-set-is (inside (Plain k)) e = absurd (omega arith)
-set-is (inside (Sequence ms)) e = absurd (omega arith)
-set-is (inside (Set ms)) e = (ms, refl)
-set-is (inside (SequenceOf t)) e = absurd (omega arith)
-set-is (inside (SetOf t)) e = absurd (omega arith)
-set-is (inside (Choice ts)) e = absurd (omega arith)
-set-is (message t) e = absurd (omega arith)
+use Rattle.reader.proofs.ItemsSizes.{presence-length}
+use Rattle.reader.proofs.Locating.{set-members}
 
 count-parts : (h : Holder) → holdsOne (kindOf h) ≡ false → tabledCount h ≡ length (partsOf h)
 unfolding kindOf tabledCount
@@ -92,10 +84,6 @@ choice-node (inside (SetOf t)) e = absurd (omega arith)
 choice-node (inside (Choice ts)) e = refl
 choice-node (message t) e = absurd (omega arith)
 
--- the octet at a place
-first-at : (m : List ℕ) (at : ℕ) → getD (drop at m) 0 0 ≡ getD m at 0
-first-at m at = getD-drop at m 0 0 ∙ ap (λ (i : ℕ). getD m i 0) (omega arith)
-
 set-onward : (k p : ℕ) → k ≡ 17 → onward k p ≡ suc p
 unfolding onward if
 set-onward k p q = rw q refl
@@ -107,11 +95,11 @@ node-fits (inside (Plain k)) hand n = absurd (n refl)
 node-fits (inside (Sequence ms)) hand n =
     let os = filled hand (nothing ms) in
     let l : length os ≡ length ms = ap (λ (z : List (Option Value)). length (filled hand z)) (nothing-is ms) ∙ row-length hand (length ms) in
-    omega (arith, length-append (Value-of.presence (Value-of.slots os)) (Value-of.parts (Value-of.slots os)), slots-flags os)
+    omega (arith, length-append (Value-of.presence (Value-of.slots os)) (Value-of.parts (Value-of.slots os)), presence-length os)
 node-fits (inside (Set ms)) hand n =
     let os = filled hand (nothing ms) in
     let l : length os ≡ length ms = ap (λ (z : List (Option Value)). length (filled hand z)) (nothing-is ms) ∙ row-length hand (length ms) in
-    omega (arith, length-append (Value-of.presence (Value-of.slots os)) (Value-of.parts (Value-of.slots os)), slots-flags os)
+    omega (arith, length-append (Value-of.presence (Value-of.slots os)) (Value-of.parts (Value-of.slots os)), presence-length os)
 node-fits (inside (SequenceOf t)) hand n = omega arith
 node-fits (inside (SetOf t)) hand n = omega arith
 node-fits (inside (Choice ts)) hand n = omega arith
@@ -244,7 +232,7 @@ module _ {b index : List ℕ} {w : ℕ} {m : List ℕ} {marked : Bool} {first : 
     -- a SET
     module _ (k17 : e .kind ≡ 17) where
       its-set : (ms : List Member) × (held b w ≡ inside (Set ms))
-      its-set = set-is (held b w) (sym (its-kind (X .given)) ∙ k17)
+      its-set = set-members (X .given .ready) (X .given .known) (ap (λ (x : Entry). x .kind) (sym (X .given .entry)) ∙ k17)
 
       set-count : s .count ≡ length (its-set .0)
       unfolding tabledCount partsOf
@@ -313,9 +301,6 @@ module _ {b index : List ℕ} {w : ℕ} {m : List ℕ} {marked : Bool} {first : 
       pub other-count : count ≤ at
       other-count = its-placing .few
 
-      over-is : (o : Bool) → o ≡ (none-left (drop at m) || (marked && eqb (getD m at 0) 0)) → o ≡ overAt marked (drop at m)
-      over-is o q = q ∙ ap (λ (x : ℕ). none-left (drop at m) || (marked && eqb x 0)) (sym (first-at m at))
-
       -- contents are over
       module _ (h : Bool) (eh : h ≡ holdsOne (e .kind)) (no : h ≡ false) (o : Bool)
           (eo : o ≡ (none-left (drop at m) || (marked && eqb (getD m at 0) 0))) where
@@ -340,10 +325,10 @@ module _ {b index : List ℕ} {w : ℕ} {m : List ℕ} {marked : Bool} {first : 
             → (v : Value) (rest : List ℕ) → heldIn b (held b w) marked m ≡ got v rest → Final v rest m first to buf₁ end next
         other-over y {buf₁} e₁ e₂ =
             let G = X .given in
-            placed G (rw e₂ (arriving-over other (its-some G) its-placing not-one (sym (over-is o eo) ∙ y) buf₁ (rw (its-kind G, its-parts) at e₁)))
+            placed G (rw e₂ (arriving-over other (its-some G) its-placing not-one (sym (over-at m at marked o eo) ∙ y) buf₁ (rw (its-kind G, its-parts) at e₁)))
 
         pub other-comes : o ≡ false → Coming count buf at next j
-        other-comes y = arriving-comes other (its-some (X .given)) its-placing ns (λ z. sym (over-is o eo) ∙ y)
+        other-comes y = arriving-comes other (its-some (X .given)) its-placing ns (λ z. sym (over-at m at marked o eo) ∙ y)
 
       -- one item
       pub one-comes : (h : Bool) → h ≡ holdsOne (e .kind) → h ≡ true → Coming count buf at next j
@@ -386,10 +371,7 @@ module _ {b index : List ℕ} {w : ℕ} {m : List ℕ} {marked : Bool} {first : 
     module _ {way : List ℕ} {place u depth from : ℕ}
         (I : At-item b (held b w) m at (since (manner (held b w)) j) blank way place u depth from) where
       its-part : C .part ≡ (place, I .part)
-      its-part = same-part (C .part) (place, I .part) (sym (C .found) ∙ I .found)
-        where
-          same-part : (x y : Placed) → some x ≡ some y → x ≡ y
-          same-part x y e = cc
+      its-part = Option·some-injective (C .part) (place, I .part) (sym (C .found) ∙ I .found)
 
       item-read : readValue (tableIn b) 24 (I .part .type) (drop at m) ≡ got (C .value) (C .behind)
       item-read = rw its-part at (C .read)
@@ -466,10 +448,7 @@ module _ {b index : List ℕ} {w : ℕ} {m : List ℕ} {marked : Bool} {first : 
 
     -- it finds one
     pub found-some : nextPart (tableIn b) (held b w) (since (manner (held b w)) j) blank (drop at m) ≡ none → ⊥
-    found-some z = clash (C .part) (sym (C .found) ∙ z)
-      where
-        clash : (x : Placed) → some x ≡ none → ⊥
-        clash x e = let q : _≡_ {A = ℕ} 0 1 = cc in omega arith
+    found-some z = Option·none-ne-some (C .part) (sym z ∙ C .found)
 
     -- a part was found, and the nodes of the way stand there
     abbrev pub Picked : List ℕ → ℕ → ℕ → ℕ → ℕ → Type 0

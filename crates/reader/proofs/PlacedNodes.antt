@@ -21,6 +21,7 @@ use Rattle.reader.specs.Placing.{bodies, flags, kindOf, hasMembers, isLi
 use Rattle.reader.specs.Placing.{finishedIn, said}
 use Rattle.reader.proofs.ItemsInTurn.{filled-snoc, filled-length}
 use Rattle.reader.proofs.Stores.{sets-append, sets-later}
+use Rattle.reader.proofs.ItemsSizes.{presence-length}
 
 -- members in a row
 pub slots-parts : (os us : List (Option Value)) → parts (slots (os ++ us)) ≡ parts (slots os) ++ parts (slots us)
@@ -40,12 +41,6 @@ unfolding slots count
 slots-count [] = refl
 slots-count (none ∷ os) = ap suc (slots-count os)
 slots-count (some v ∷ os) = ap suc (slots-count os)
-
-pub slots-flags : (os : List (Option Value)) → length (presence (slots os)) ≡ length os
-unfolding slots presence
-slots-flags [] = refl
-slots-flags (none ∷ os) = ap suc (slots-flags os)
-slots-flags (some v ∷ os) = ap suc (slots-flags os)
 
 none-parts : (k : ℕ) → parts (slots (replicate k none)) ≡ []
 unfolding slots parts
@@ -137,7 +132,7 @@ module _ {hand : Hand} {j : ℕ} (R : Row hand j) where
 
 flags-length : (hand : Hand) (j : ℕ) → length (flags hand j) ≡ j
 unfolding flags
-flags-length hand j = slots-flags (filled hand (replicate j none)) ∙ row-length hand j
+flags-length hand j = presence-length (filled hand (replicate j none)) ∙ row-length hand j
 
 flags-none : flags [] 0 ≡ []
 unfolding flags filled slots presence

@@ -17,8 +17,10 @@ use Rattle.coding.specs.Reading.{nothing, readValue}
 use Rattle.reader.specs.Items.{inside, partsOf, Hand, filled, assemble, nodeSize}
 use Rattle.reader.specs.Placing.{Noted, over, free, came}
 use Rattle.reader.specs.Placing.{bodies, kindOf, said, absentIn, hasMembers}
-use Rattle.reader.proofs.PlacedNodes.{slots-parts, slots-flags, nothing-is, Row, row-turned, Standing, stands-first, stands-absent}
+use Rattle.reader.proofs.ItemsSizes.{presence-length}
+use Rattle.reader.proofs.PlacedNodes.{slots-parts, nothing-is, Row, row-turned, Standing, stands-first, stands-absent}
 use Rattle.reader.proofs.PlacedNodes.{whole-members}
+use Rattle.reader.proofs.Items.{no-cons}
 
 -- a member that came
 pub record There (T : Table) (n : ℕ) (m : List ℕ) (ms : List Member) (ns : List ℕ) (os : List (Option Value)) (i : ℕ) : Type 0 where
@@ -68,14 +70,8 @@ module _ {T : Table} {n : ℕ} {m : List ℕ} where
   pub noted-set : {ms : List Member} {ns : List ℕ} {os : List (Option Value)} → Noted T n m ms ns os → (i : ℕ) (k : Member) (rest : List Member)
       → drop i ms ≡ k ∷ rest
       → (p : ℕ) → p ≤ length m → (v : Value) (w : List ℕ) → readValue T n (k .type) (drop p m) ≡ got v w → Noted T n m ms (set ns i (suc p)) (set os i (some v))
-  noted-set over zero k rest z p l v w e = absurd (no-cons z)
-    where
-      no-cons : [] ≡ k ∷ rest → ⊥
-      no-cons z = let q : _≡_ {A = ℕ} 0 1 = cc in omega arith
-  noted-set over (suc i) k rest z p l v w e = absurd (no-cons z)
-    where
-      no-cons : [] ≡ k ∷ rest → ⊥
-      no-cons z = let q : _≡_ {A = ℕ} 0 1 = cc in omega arith
+  noted-set over zero k rest z p l v w e = absurd (no-cons k rest z)
+  noted-set over (suc i) k rest z p l v w e = absurd (no-cons k rest z)
   noted-set (free {k = a} {ms = ms} d) zero k rest z p l v w e = came {k = a} {v = v} {w = w} p l (rw (first-is z) e) d
     where
       first-is : a ∷ ms ≡ k ∷ rest → a ≡ k
@@ -174,7 +170,7 @@ module _ {T : Table} {n : ℕ} {ms : List Member} {m ns : List ℕ} {os : List (
         let x = some-parts os j (t .value) (omega (arith, noted-length (S .noted))) (t .has) in
         let y : bodies (S .hand) ≡ parts (slots (take j os)) = sym (the-row .parts) ∙ ap (λ (r : List (Option Value)). parts (slots r)) (S .so-far) in
         let z = length-append (Value-of.presence (slots os)) (parts (slots os)) in
-        omega (arith, S .room, rw append-nil at (S .stands .reaches), ap length y, slots-flags os, noted-length (S .noted))
+        omega (arith, S .room, rw append-nil at (S .stands .reaches), ap length y, presence-length os, noted-length (S .noted))
 
     pub filling-next : {last : List ℕ} {next₁ : ℕ} → Standing (inside (Set ms)) first to (S .hand ++ ((j, t .value) ∷ [])) [] (suc j) last next₁
         → length last ≡ length buf

@@ -2,7 +2,7 @@
 -- Assumes nothing.
 use mathlib.Core.Bool.{Bool, true, false, not}
 use mathlib.Core.List.{List, [], _∷_, _++_}
-use mathlib.Core.Option.{some, none}
+use mathlib.Core.Option.{some, none, Option·some-injective}
 use mathlib.Core.Path.{_≡_, refl, sym, ap, _∙_, fun-ext}
 use Prim.Native.Nat.{ℕ, zero, suc, _+_, _-_, _≤_}
 use native.Mathlib.Numerals.{add-one}
@@ -30,7 +30,7 @@ use Rattle.ber.specs.Skipping.{headed, Skips, sized, marked}
 use Rattle.reader.proofs.Skipped as Skipping
 use Rattle.reader.proofs.Skipped.{value-skips}
 use Rattle.reader.proofs.ItemsInTurn.{filled-snoc}
-use Rattle.reader.proofs.PlacedTurns.{overAt, behindEnd, Turn, turn, over as items-over, awaited, some-fuel}
+use Rattle.reader.proofs.PlacedTurns.{overAt, Turn, turn, over as items-over, awaited, some-fuel, end-at}
 use Rattle.reader.proofs.PlacedSets.{noted-none, noted-set}
 
 -- notes of the same members, whatever else they say
@@ -114,10 +114,6 @@ module _ (T : Table) (ms : List Member) (b : Bool) (m ns : List ℕ) (at : ℕ) 
   unfolding manner isSingle
   the-manner = refl
 
-  end-is : (b : Bool) → drop (endAt b at) m ≡ behindEnd b (drop at m)
-  end-is true = sym (drop-drop 2 at m)
-  end-is false = refl
-
   end-low : (b : Bool) → (b ≡ true → 2 ≤ length (drop at m)) → endAt b at ≤ length m
   end-low true h = omega (arith, h refl, length-drop at m)
   end-low false h = low
@@ -127,7 +123,7 @@ module _ (T : Table) (ms : List Member) (b : Bool) (m ns : List ℕ) (at : ℕ) 
   spotted v n all last W =
       let S = F n all last W in
       let (e, f, g) = items-over T (readValue T n) (inside (Set ms)) 0 ns (S .hand) (drop at m) all last (S .fuel) b (S .whole) the-manner v in
-      (end-low b g, f ∙ sym (end-is b), rw e (S .noted))
+      (end-low b g, f ∙ sym (end-at m at b), rw e (S .noted))
 
   module _ (v : overAt b (drop at m) ≡ false) where
     abbrev Its : (n : ℕ) (all : Hand) (last : List ℕ)
@@ -156,7 +152,7 @@ module _ (T : Table) (ms : List Member) (b : Bool) (m ns : List ℕ) (at : ℕ) 
     spotting-turn good x z i from d end skips n all last W =
         let S = F n all last W in
         let t = its n all last W in
-        let q : t .part ≡ x = same-part (t .part) (sym (t .is) ∙ z) in
+        let q : t .part ≡ x = Option·some-injective (t .part) x (sym (t .is) ∙ z) in
         let A = awaited T (readValue T n) (inside (Set ms)) 0 ns (drop at m) (t .part) (omega arith) (t .is) in
         let e = sym (drop-drop end at m) ∙ skips (t .behind) (value-passed T good n (t .part .1 .type) (drop at m) (t .value) (t .behind) i from (t .read) d) in
         let P = rw (← e) at (t .goes-on the-manner) in
@@ -171,6 +167,3 @@ module _ (T : Table) (ms : List Member) (b : Bool) (m ns : List ℕ) (at : ℕ) 
           noted = rw (filled-snoc (S .hand) (t .part .0) (t .value) (nothing ms))
               (noted-set (S .noted) (t .part .0) (t .part .1) (drop (suc (t .part .0)) ms) (A .is) at low (t .value) (t .behind) (t .read));
         })
-      where
-        same-part : (y : Placed) → some y ≡ some x → y ≡ x
-        same-part y e = cc

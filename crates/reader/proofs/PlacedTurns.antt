@@ -9,7 +9,7 @@ use native.Mathlib.Omega.{arith}
 use borrow.Author.Tests.{ne-eqb}
 use lib.Dec.{eqb}
 use lib.ListN.{length, getD, drop, length-append, length-drop}
-use lib.Seq.{append-snoc, sets, length-sets, drop-drop}
+use lib.Seq.{append-snoc, sets, length-sets, drop-drop, getD-drop}
 use Rattle.octets.specs.declared.cause.Cause.the-variants.{NotAwaited, Trailing}
 use Rattle.octets.specs.Answer.{Answer, got, refused, then, if, none-left}
 use Rattle.octets.proofs.Answer.{Holds, yields, refuses, then-holds, if-holds, map-holds, got-holds, refused≢got, got-value, got-rest}
@@ -25,11 +25,12 @@ use Rattle.ber.specs.Told.{mode}
 use Rattle.reader.specs.Items.{Holder, inside, message, in-turn, manner, partsOf, Placed, awaits}
 use Rattle.reader.specs.Items.{remains, lacks, since, following, noted, isSingle, first, Hand, readPart, next, readItems, assemble, nodeSize}
 use Rattle.reader.specs.Items.{blank}
-use Rattle.reader.specs.Placing.{bodies, kindOf, holdsOne, onward, said, finishedIn}
-use Rattle.reader.proofs.Items.{found-of, awaits-found}
+use Rattle.reader.specs.Placing.{bodies, kindOf, holdsOne, onward, said, finishedIn, endAt}
+use Rattle.reader.proofs.Items.{found-of, awaits-found, first-passes}
 use Rattle.reader.proofs.ItemsGoing.{since-first}
 use Rattle.reader.proofs.PlacedNodes.{Row, row-none, row-later, row-turn, Standing, stands-first, Whole, whole-one, whole-finished}
 use Rattle.reader.proofs.PlacedNodes.{bodies-append, bodies-snoc, members-long, list-long, one-long}
+use native.Mathlib.Nat.{add-zero}
 
 -- whether contents that are accepted are over at s, by its first octet
 abbrev pub overAt : Bool → List ℕ → Bool
@@ -39,6 +40,17 @@ overAt k s = none-left s || (k && eqb (getD s 0 0) 0)
 abbrev pub behindEnd : Bool → List ℕ → List ℕ
 behindEnd true s = drop 2 s
 behindEnd false s = s
+
+-- at a place of m
+module _ (m : List ℕ) (at : ℕ) where
+  pub over-at : (b o : Bool) → o ≡ (none-left (drop at m) || (b && eqb (getD m at 0) 0)) → o ≡ overAt b (drop at m)
+  over-at b o e =
+      let q : getD (drop at m) 0 0 ≡ getD m at 0 = getD-drop at m 0 0 ∙ ap (λ (i : ℕ). getD m i 0) (add-zero at) in
+      e ∙ rw q refl
+
+  pub end-at : (b : Bool) → drop (endAt b at) m ≡ behindEnd b (drop at m)
+  end-at true = sym (drop-drop 2 at m)
+  end-at false = refl
 
 module _ {A : Type 0} (f : List ℕ → Answer A) (x : Unit {0} → Answer A) (a : A) (u : List ℕ) where
   pub end-over : (k : Bool) (s : List ℕ) → atEnd (mode k) s f x ≡ got a u → overAt k s ≡ true → (f (behindEnd k s) ≡ got a u) × (k ≡ true → 2 ≤ length s)
@@ -60,14 +72,6 @@ module _ {A : Type 0} (f : List ℕ → Answer A) (x : Unit {0} → Answer A) (a
   end-on true (suc b ∷ s) e o = (rw (ne-eqb (suc b) 0 (λ z. omega arith)) at e, omega arith)
 
 -- the first that passes does
-pub first-passes : {A : Type 0} (f : A → Bool) (l : List A) (x : A) → first f l ≡ some x → f x ≡ true
-unfolding first if
-first-passes f [] x e = let z : _≡_ {A = ℕ} 0 1 = cc in absurd (omega arith)
-first-passes f (y ∷ l) x e = test (f y) (λ d. rw (some-same (rw d at e)) at d) λ d. first-passes f l x (rw d at e)
-  where
-    some-same : some y ≡ some x → y ≡ x
-    some-same e = cc
-
 -- a part that an item begins
 pub record Awaited (T : Table) (h : Holder) (j : ℕ) (came s : List ℕ) (x : Placed) : Type 0 where
   pub least : j ≤ x .0

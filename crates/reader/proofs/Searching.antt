@@ -30,18 +30,15 @@ use Rattle.reader.specs.declared.search.Found.the-variants.{Refused}
 use Rattle.reader.specs.declared.search.Under.{Under}
 use Rattle.reader.specs.declared.search.Under.the-variants.{Nothing, At}
 use Rattle.reader.proofs.Among.{code-is}
-use Rattle.reader.proofs.Items.{pending-free}
+use Rattle.reader.proofs.Items.{pending-free, no-cons}
 use Rattle.reader.proofs.ItemsSearch.{optional-types}
 use Rattle.reader.proofs.Spans.{PartAt, Spanned, turns-by, turn-is, turn-not, by-member, entry-of, held-body, its, awaits-none, awaits-hit}
 use Rattle.reader.proofs.Spans.{awaits-skip, awaits-stop, awaits-come, tabled-some, tabled-none}
 
 -- the types of parts are records
-nothing-first : {A : Type 0} (x : A) (l : List A) → _≡_ {A = List A} [] (x ∷ l) → ⊥
-nothing-first x l e = let q = ap length e in omega arith
-
 drop-in : (ms : List Member) (k : ℕ) (m : Member) (l : List Member) → drop k ms ≡ m ∷ l → In (m .type) (types ms)
-drop-in [] zero m l e = absurd (nothing-first m l e)
-drop-in [] (suc k) m l e = absurd (nothing-first m l e)
+drop-in [] zero m l e = absurd (no-cons m l e)
+drop-in [] (suc k) m l e = absurd (no-cons m l e)
 drop-in (x ∷ ms) zero m l e = List·Memᴰ·head (ap (λ (z : List Member). getD z 0 x .type) (sym e))
 drop-in (x ∷ ms) (suc k) m l e = List·Memᴰ·tail (drop-in ms k m l e)
 
@@ -56,8 +53,8 @@ named-types (Choice ts) = optional-types ts
 
 only-one : (t k : ℕ) (m : Member) (l : List Member) → drop k (optionals (t ∷ [])) ≡ m ∷ l → m .type ≡ t
 only-one t zero m l e = ap (λ (z : List Member). getD z 0 m .type) (sym e)
-only-one t (suc zero) m l e = absurd (nothing-first m l e)
-only-one t (suc (suc k)) m l e = absurd (nothing-first m l e)
+only-one t (suc zero) m l e = absurd (no-cons m l e)
+only-one t (suc (suc k)) m l e = absurd (no-cons m l e)
 
 module _ {b index : List ℕ} (R : Ready b index) where
   low-record : (t : ℕ) → t < countIn b → (k : ℕ) (m : Member) (l : List Member) → drop k (partsOf (inside (tableIn b t .body))) ≡ m ∷ l → m .type < countIn b

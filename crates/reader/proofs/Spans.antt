@@ -55,6 +55,10 @@ pub record Spanned (b : List ℕ) (h : Holder) (k : ℕ) (s : Span) : Type 0 whe
   pub near : (i : ℕ) → i < s .count → s .first + s .step * i < 8192
   pub at : (i : ℕ) → i < s .count → PartAt b h k s i
 
+pub or-true : (a : Bool) → (a || true) ≡ true
+or-true true = refl
+or-true false = refl
+
 kind-known : (y : Body) → kind y ≡ 51 → ⊥
 unfolding kind
 kind-known (Plain Boolean) z = omega arith
@@ -358,11 +362,7 @@ module _ {b index : List ℕ} (R : Ready b index) (w : ℕ) (known : Known b ind
         its-optional = eo ∙ its .at k l .optional members
 
         pub lacks-must : getD came k 0 ≡ 0 → o ≡ false → any Owed (left H k came) ≡ true
-        lacks-must z e = any-free came k Owed l z (rw (← its-optional, e) (or-right flag))
-          where
-            or-right : (a : Bool) → (a || true) ≡ true
-            or-right true = refl
-            or-right false = refl
+        lacks-must z e = any-free came k Owed l z (rw (← its-optional, e) (or-true flag))
 
         pub lacks-skip : getD came k 0 ≡ 0 → flag ≡ false → o ≡ true → any Owed (left H k came) ≡ any Owed (left H (k + 1) came)
         lacks-skip z f e = any-skip came k Owed l z (rw (← its-optional, e, f) refl)

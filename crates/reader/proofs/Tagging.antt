@@ -34,6 +34,7 @@ use Rattle.reader.specs.Wraps.{identifiers, AwaitsTag, behind-last, is-t
 use Rattle.reader.specs.declared.tags.Tag.{Tag as TagRead}
 use Rattle.reader.specs.declared.tags.Tag.the-variants.{Read as ReadTag, Refused as NoTag}
 use Rattle.reader.proofs.Begun.{AllFine, Fit, fit}
+use Rattle.reader.proofs.Spans.{or-true}
 
 -- a record by its entry
 pub record-is : {b : List ℕ} {e : Entry} {r : Record} → Entered b e r → recordIn b e ≡ r
@@ -49,10 +50,6 @@ bit-later a n =
 
 abbrev pub zeros : Tag
 zeros = record { class = 0; number = 0 }
-
-or-true : (a : Bool) → (a || true) ≡ true
-or-true true = refl
-or-true false = refl
 
 module _ (y : Body) (c : Bool) where
   abbrev Items : List Tag → List (List ℕ)

@@ -52,7 +52,7 @@ unfolding none-left
 not-none [] h = absurd (h refl)
 not-none (x ∷ s) h = refl
 
-some-left : (s : List ℕ) → none-left s ≡ false → 0 < length s
+pub some-left : (s : List ℕ) → none-left s ≡ false → 0 < length s
 unfolding none-left
 some-left [] h = absurd (true≢false h)
 some-left (b ∷ s) h = omega arith

@@ -4,11 +4,11 @@ use borrow.Author.Tests.{eq-eqb, ne-eqb}
 use lib.Dec.{leb, eqb}
 use lib.IntN.{ℤ, pos, negsuc}
 use lib.ListN.{length, getD, drop, length-drop}
-use mathlib.Core.Bool.{Bool, true, false, not, _&&_, true≢false}
+use mathlib.Core.Bool.{Bool, true, false, not, _&&_}
 use mathlib.Core.List.{List, [], _∷_}
 use mathlib.Core.Path.{_≡_, refl, sym, ap, _∙_}
 use native.Mathlib.Omega.{arith}
-use Prim.Native.Nat.{ℕ, suc, _+_, _*_, _-_, _<_}
+use Prim.Native.Nat.{ℕ, suc, _+_, _*_, _-_}
 use Rattle.octets.specs.Answer.{if, none-left}
 use Rattle.octets.proofs.Tests.{test}
 use Rattle.octets.proofs.Lists.{both}
@@ -24,6 +24,7 @@ use Rattle.coding.specs.Value.{leafOctets}
 use Rattle.coding.specs.Content.{listed}
 use Rattle.coding.specs.Reading.{isListed, decode}
 use Rattle.reader.specs.Weights.{weight, leafWeight}
+use Rattle.reader.proofs.Tails.{not-none, some-left}
 
 length-masked : (n : ℕ) (c : List ℕ) → length (masked n c) ≡ length c
 unfolding masked
@@ -35,16 +36,6 @@ none-yes : (s : List ℕ) → length s ≡ 0 → none-left s ≡ true
 unfolding none-left
 none-yes [] h = refl
 none-yes (b ∷ s) h = absurd (omega arith)
-
-none-no : (s : List ℕ) → (length s ≡ 0 → ⊥) → none-left s ≡ false
-unfolding none-left
-none-no [] h = absurd (h refl)
-none-no (b ∷ s) h = refl
-
-some-left : (s : List ℕ) → none-left s ≡ false → 0 < length s
-unfolding none-left
-some-left [] h = absurd (true≢false h)
-some-left (b ∷ s) h = omega arith
 
 not-is : (t : Bool) → not t ≡ true → t ≡ false
 not-is true e = sym e
@@ -95,7 +86,7 @@ module _ (b : List ℕ) (k p : ℕ) (c : List ℕ) where
 
   pub null-wrong : k ≡ 5 → (length c ≡ 0 → ⊥) → 0 ≡ leafWeight (bodyAt b k p) c
   unfolding leafWeight bodyAt weight decode if
-  null-wrong e h = rw (e, none-no c h)
+  null-wrong e h = rw (e, not-none c h)
 
   pub null-size : k ≡ 5 → length c ≡ 0 → 3 ≡ leafWeight (bodyAt b k p) c
   unfolding leafWeight bodyAt weight decode if leafOctets

@@ -2,7 +2,7 @@
 // For each member 0 is noted, or one more than where it begins.
 ghost use mathlib.Core.Path.{_≡_};
 ghost use mathlib.Core.List.{List};
-ghost use Prim.Native.Nat.{ℕ, _≤_};
+ghost use Prim.Native.Nat.{_≤_};
 ghost use lib.ListN.{length};
 ghost use Rattle.table.specs.Syntax.{Member, Set};
 ghost use Rattle.table.specs.Entries.{unpacked, tableIn};

@@ -19,8 +19,7 @@ read-spec =
     (λ c κs.
     let c4 = c .before .before .before .before in
     let c8 = c4 .before .before .before .before in
-    let a = c8 .before .args in
-    let b = now (a .table) in
+    let b = now (c8 .before .args .table) in
     table-ready b _ (c4 .check-into .ensures .0) (c .before .before .enum-told .given .1) _ _ (c4 .check-into .ensures .1)
     (λ k. omega (arith, c8 .shared-slice-known .given k)))  -- read-passed-requires
     (λ c.
@@ -28,7 +27,7 @@ read-spec =
     let a = c3 .before .before .before .before .before .args in
     let b = now (a .table) in
     let v = now (a .buf) in
-    out-table b _ (c3 .check-into .ensures .0) v (λ T n. readOutcome T n (a .t) (now (a .message)) v) _ _ (c .before .verdict .given .1))  -- returns
+    out-table b _ (c3 .check-into .ensures .0) v (λ T n. readOutcome T n _ _ v) _ _ (c .before .verdict .given .1))  -- returns
     (λ c. search needs)  -- same-length
     (λ c.
     let c5 = c .before .before .before .before .before in
@@ -36,5 +35,5 @@ read-spec =
     let a = c7 .before .before .before .before .before .args in
     let b = now (a .table) in
     let v = now (a .buf) in
-    out-passed b _ (c7 .check-into .ensures .0) (c5 .enum-told .given .1) _ _ (c7 .check-into .ensures .1) v (λ T n. readOutcome T n
-    (a .t) (now (a .message)) v) _ _ (c .before .before .read-passed .ensures)))  -- returns-2
+    out-passed b _ (c7 .check-into .ensures .0) (c5 .enum-told .given .1) _ _ (c7 .check-into .ensures .1) v (λ T n. readOutcome T n _
+    _ v) _ _ (c .before .before .read-passed .ensures)))  -- returns-2

@@ -15,61 +15,54 @@ read-passed-spec =
     (tie.spec
     (λ c.
     let a = c .before .before .before .before .args in
-    let T = tableIn (now (a .table)) in
+    let T = tableIn _ in
     let m = now (a .message) in
     let w = now (a .buf) in
-    out-type T (a .n) (a .t) m w (c .if1 .taken))  -- returns
+    out-type T _ _ m w (c .if1 .taken))  -- returns
     (λ c.
     let a = c .before .before .before .before .before .args in
-    let T = tableIn (now (a .table)) in
+    let T = tableIn _ in
     let m = now (a .message) in
     let w = now (a .buf) in
-    out-long T (a .n) (a .t) m w (c .before .if1 .left) (c .if2 .taken))  -- returns-2
+    out-long T _ _ m w (c .before .if1 .left) (c .if2 .taken))  -- returns-2
     (λ c κs.
     let c6 = c .before .before .before .before .before .before in
+    let q = c6 .pre in
     let c6 = c6 in
-    let a = c6 .args in
-    let q = c6 .pre in (
-      ready (now (a .table)) (now (a .index)) (a .n) (q .0) (q .1),
-      omega (arith, c .before .before .if1 .left, q .0 .count),
-      c .before .if2 .left,
-      refl,
-    ))  -- judge-requires
+    (ready _ _ _ (q .0) (q .1), omega (arith, c .before .before .if1 .left, q .0 .count), c .before .if2 .left, refl))  -- judge-requires
     (λ c. search needs)  -- enum-known-cause
     (λ c.
     let c3 = c .before .before .before in
     let c3 = c3 in
-    let a = c3 .before .before .before .before .before .before .before .args in
-    let T = tableIn (now (a .table)) in
-    let m = now (a .message) in
-    refused-within T (a .t) m _ (c3 .judge .ensures .1) _ _ (c .before .cause .given .1))  -- sub-place
+    let T = tableIn _ in
+    let m = now (c3 .before .before .before .before .before .before .before .args .message) in
+    refused-within T _ m _ (c3 .judge .ensures .1) _ _ (c .before .cause .given .1))  -- sub-place
     (λ c. search needs)  -- enum-known-size
     (λ c.
     let c4 = c .before .before .before .before in
-    let c4 = c4 in
     let c6 = c4 .before .before in
     let c7 = c6 .before in
     let a = c7 .before .before .before .before .args in
-    let T = tableIn (now (a .table)) in
+    let c4 = c4 in
+    let T = tableIn _ in
     let m = now (a .message) in
     let w = now (a .buf) in
-    out-over T (a .t) m _ (c4 .judge .ensures .1) (a .n) w (c7 .if1 .left) (c6 .if2 .left) _ _ (c .before .before .size .given .1)
+    out-over T _ m _ (c4 .judge .ensures .1) _ w (c7 .if1 .left) (c6 .if2 .left) _ _ (c .before .before .size .given .1)
     (c .if3 .taken))  -- returns-3
     (λ c.
     let c3 = c .before .before .before in
-    let c3 = c3 in
     let c5 = c3 .before .before in
     let c7 = c5 .before .before in
     let c8 = c7 .before in
     let a = c8 .before .before .before .before .args in
-    let T = tableIn (now (a .table)) in
+    let c3 = c3 in
+    let T = tableIn _ in
     let m = now (a .message) in
     let w = now (a .buf) in
-    out-room T (a .t) m _ (c5 .judge .ensures .1) (a .n) w (c8 .if1 .left) (c7 .if2 .left) _ _ (c3 .size .given .1)
-    (c .before .if3 .left) (c .if4 .taken))  -- returns-4
+    out-room T _ m _ (c5 .judge .ensures .1) _ w (c8 .if1 .left) (c7 .if2 .left) _ _ (c3 .size .given .1) (c .before .if3 .left)
+    (c .if4 .taken))  -- returns-4
     (λ c κs.
     let c3 = c .before .before .before in
-    let c3 = c3 in
     let c5 = c3 .before .before in
     let c7 = c5 .before .before in
     let c9 = c7 .before .before in
@@ -77,37 +70,38 @@ read-passed-spec =
     let c14 = c10 .before .before .before .before in
     let a = c14 .args in
     let q = c14 .pre in
-    let T = tableIn (now (a .table)) in
+    let c3 = c3 in
+    let T = tableIn _ in
     let m = now (a .message) in
     let w = now (a .buf) in (
-      ready (now (a .table)) (now (a .index)) (a .n) (q .0) (q .1),
+      ready _ _ _ (q .0) (q .1),
       omega (arith, c10 .if1 .left, q .0 .count),
       c9 .if2 .left,
       c7 .judge .ensures .0,
-      fits T (a .t) m _ (c7 .judge .ensures .1) (a .n) w (c10 .if1 .left) (c9 .if2 .left) _ _ (c5 .size .given .1)
-          (c3 .if3 .left) (c .before .before .if4 .left),
+      fits T _ m _ (c7 .judge .ensures .1) _ w (c10 .if1 .left) (c9 .if2 .left) _ _ (c5 .size .given .1) (c3 .if3 .left)
+          (c .before .before .if4 .left),
     ))  -- place-requires
     (λ c.
     let c3 = c .before .before .before in
     let c5 = c3 .before .before in
     let c6 = c5 .before in
     let a = c6 .before .before .before .before .args in
-    let T = tableIn (now (a .table)) in
+    let T = tableIn _ in
     let m = now (a .message) in
     let w = now (a .buf) in
-    out-refused T (a .t) m _ (c3 .judge .ensures .1) (a .n) w (c6 .if1 .left) (c5 .if2 .left) _ _ (c .before .cause .given .1))  -- returns-5
+    out-refused T _ m _ (c3 .judge .ensures .1) _ w (c6 .if1 .left) (c5 .if2 .left) _ _ (c .before .cause .given .1))  -- returns-5
     (λ c. search needs)  -- same-length
     (λ c.
     let c5 = c .before .before .before .before .before in
-    let c5 = c5 in
     let c6 = c5 .before in
     let c8 = c6 .before .before in
     let c10 = c8 .before .before in
     let c12 = c10 .before .before in
     let c13 = c12 .before in
     let a = c13 .before .before .before .before .args in
-    let T = tableIn (now (a .table)) in
+    let c5 = c5 in
+    let T = tableIn _ in
     let m = now (a .message) in
     let w = now (a .buf) in
-    out-done T (a .t) m _ (c10 .judge .ensures .1) (a .n) w (c13 .if1 .left) (c12 .if2 .left) _ _ (c8 .size .given .1) (c6 .if3 .left)
+    out-done T _ m _ (c10 .judge .ensures .1) _ w (c13 .if1 .left) (c12 .if2 .left) _ _ (c8 .size .given .1) (c6 .if3 .left)
     (c5 .if4 .left) _ (c .before .before .place .ensures)))  -- returns-6

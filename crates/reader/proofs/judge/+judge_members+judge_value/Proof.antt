@@ -44,7 +44,8 @@ use Rattle.table.specs.Entries.{unpacked, tableIn}
 use Rattle.reader.proofs.Bodies.{recordOf}
 use Rattle.reader.proofs.JudgedValue.{Over, Ended, over-leaf, over-items, items-low, items-high, item-tags, item-closes}
 use Rattle.reader.proofs.JudgedValue.{value-unopened, value-unread, value-marked, value-wrong, value-unheld, value-closed, value-over}
-use Rattle.reader.proofs.ValueParts.{Under, Within, Item, Filling, under-tags, under-bare, item-within, item-around, contents-sized, contents-bare}
+use Rattle.reader.proofs.ValueParts.{Under, Within, Item, Filling, under-tags, under-bare, item-within, item-around, contents-sized}
+use Rattle.reader.proofs.ValueParts.{contents-bare}
 use Rattle.reader.proofs.ValueParts.{contents-within, contents-short, items-known, items-some}
 use Rattle.reader.proofs.Tagging.{its-entry}
 
@@ -209,89 +210,81 @@ judge-members-half t =
     (λ c κs. search needs)  -- judge-members-unpack-requires
     (λ c κs. search needs)  -- judge-members-parts-requires
     (λ c κs. omega (arith, count-few (setting t c)))  -- judge-members-node-size-requires
-    (λ c. (
-      omega arith,
-      c .before .before .before .before .before .pre .1 .6,
-      judging-first (setting t (c .before)) _
-          (c .node-size .ensures) _ _ _ (c .before .before .before .before .before .pre .1 .3),
-    ))  -- judge-members-loop-holds
-    (λ c κs. (
-      c .before .before .before .before .before .before .before .args .index .now,
-      judging-sound (setting t (c .before .before .before))
-          (c .before .loop .inv .2),
-      c .before .before .before .before .before .before .before .pre .1 .2,
-    ))  -- judge-members-next-requires
+    (λ c.
+    let q = c .before .before .before .before .before .pre in
+    (omega arith, q .1 .6, judging-first (setting t (c .before)) _ (c .node-size .ensures) _ _ _ (q .1 .3)))  -- judge-members-loop-holds
+    (λ c κs.
+    let c3 = c .before .before .before in
+    let c7 = c3 .before .before .before .before in
+    (c7 .args .index .now, judging-sound (setting t (c3)) (c .before .loop .inv .2), c7 .pre .1 .2))  -- judge-members-next-requires
     (λ c. search needs)  -- judge-members-enum-told
     (λ c. search needs)  -- judge-members-enum-known-end
     (λ c κs. search needs)  -- judge-members-done-requires
-    (λ c. (
-      c .before .before .before .before .before .before .loop .inv .1,
-      c .done .ensures ∙ judged-over (turn t
-          (c .before .before .before .before)) _ (c .before .before .end .given .1),
+    (λ c.
+    let c4 = c .before .before .before .before in (
+      c4 .before .before .loop .inv .1,
+      c .done .ensures ∙ judged-over (turn t (c4)) _ (c .before .before .end .given .1),
     ))  -- judge-members-returns
     (λ c. search needs)  -- judge-members-enum-known-cause
     (λ c. omega arith)  -- judge-members-sub-refused
     (λ c κs. search needs)  -- judge-members-refused-requires
-    (λ c. (
-      c .before .before .before .before .before .before .loop .inv .1,
-      c .refused .ensures ∙ judged-stopped (turn t
-          (c .before .before .before .before)) _ (c .before .before .cause .given .1),
+    (λ c.
+    let c4 = c .before .before .before .before in (
+      c4 .before .before .loop .inv .1,
+      c .refused .ensures ∙ judged-stopped (turn t (c4)) _ (c .before .before .cause .given .1),
     ))  -- judge-members-returns-2
     (λ c. omega arith)  -- judge-members-add-from
     (λ c. omega (arith, part-few (turn t (c .before .before .before .before)) (c .if1 .taken)))  -- judge-members-mul-if2
     (λ c. part-few (turn t (c .before .before .before .before)) (c .if1 .taken))  -- judge-members-array-read-if2
-    (λ c. omega (
-      arith,
-      part-near (turn t (c .before .before .before .before .before .before))
-          (c .before .before .if1 .taken),
-    ))  -- judge-members-mul-octet
-    (λ c. omega (
-      arith,
-      part-near (turn t (c .before .before .before .before .before .before .before))
-          (c .before .before .before .if1 .taken),
-    ))  -- judge-members-add-octet
+    (λ c.
+    omega (arith, part-near (turn t (c .before .before .before .before .before .before)) (c .before .before .if1 .taken)))  -- judge-members-mul-octet
+    (λ c.
+    let c3 = c .before .before .before in
+    omega (arith, part-near (turn t (c3 .before .before .before .before)) (c3 .if1 .taken)))  -- judge-members-add-octet
     (λ c κs. search needs)  -- judge-members-octet-requires
     (λ c. omega (arith, c .octet .ensures .1))  -- judge-members-mul-first
-    (λ c. type-few (turn t (c .before .before .before .before .before .before .before .before)) (c .before .before .before .before .if1 .taken) _
-    (c .octet .ensures .0))  -- judge-members-element-copy-out-first
+    (λ c.
+    let c4 = c .before .before .before .before in
+    type-few (turn t (c4 .before .before .before .before)) (c4 .if1 .taken) _ (c .octet .ensures .0))  -- judge-members-element-copy-out-first
     (λ c κs. search needs)  -- judge-members-first-requires
-    (λ c. item-there (turn t (c .before .before .before .before .before .before .before .before .before .before .before))
-    (c .before .before .before .before .before .before .before .before .before .enum-told .given .1))  -- judge-members-shared-slice-read-fits
-    (λ c. omega (
+    (λ c.
+    let c9 = c .before .before .before .before .before .before .before .before .before in
+    item-there (turn t (c9 .before .before)) (c9 .enum-told .given .1))  -- judge-members-shared-slice-read-fits
+    (λ c.
+    omega (
       arith,
-      c .shared-slice-known3 .given (c .before .before .before .before .before .before .before .before .before .before .before
-          .before .before .loop .at),
+      c .shared-slice-known3 .given
+          (c .before .before .before .before .before .before .before .before .before .before .before .before .before .loop .at),
     ))  -- judge-members-cast-fits
     (λ c. omega arith)  -- judge-members-sub-rest
     (λ c. omega arith)  -- judge-members-part-rest-start
     (λ c. omega arith)  -- judge-members-part-rest-end
-    (λ c κs. (
-      judging-sound (setting t (c .before .before .before .before .before .before .before .before .before .before .before .before))
-          (c .before .before .before .before .before .before .before .before .before .before .loop .inv .2),
-      c .before .before .before .before
-          .before .before .before .before .before .before .loop .inv .1,
-    ))  -- judge-members-search-requires
+    (λ c κs.
+    let c10 = c .before .before .before .before .before .before .before .before .before .before in
+    let l = c10 .loop in
+    (judging-sound (setting t (c10 .before .before)) (l .inv .2), l .inv .1))  -- judge-members-search-requires
     (λ c. search needs)  -- judge-members-enum-known-cause-2
     (λ c. omega arith)  -- judge-members-sub-refused-2
     (λ c κs. search needs)  -- judge-members-refused-requires-2
-    (λ c. (
-      c .before .before .before .before .search .ensures .0,
-      c .refused2 .ensures ∙ judged-unfit (turn t
-          (c .before .before .before .before .before .before .before .before .before .before .before .before .before))
-          (c .before .before .before .before .before .before .before .before .before .before .before .enum-told .given .1) _ _ _
-          (c .before .before .before .before .search .ensures .1) (c .before .before .cause2 .given .1),
+    (λ c.
+    let c4 = c .before .before .before .before in
+    let c11 = c4 .before .before .before .before .before .before .before in (
+      c4 .search .ensures .0,
+      c .refused2 .ensures ∙ judged-unfit (turn t (c11 .before .before)) (c11 .enum-told .given .1) _ _ _ (c4 .search .ensures .1)
+          (c .before .before .cause2 .given .1),
     ))  -- judge-members-returns-3
     (λ c. search needs)  -- judge-members-enum-known-x
-    (λ c. let z = found-low (turn t (c .before .before .before .before .before .before .before .before .before .before .before .before .before))
-    (c .before .before .before .before .before .before .before .before .before .before .before .enum-told .given .1) _ _ _
-    (c .before .before .before .before .search .ensures .1) (c .before .before .x .given .1) in omega arith)  -- judge-members-add-from-2
+    (λ c.
+    let c4 = c .before .before .before .before in
+    let c11 = c4 .before .before .before .before .before .before .before in
+    let z = found-low (turn t (c11 .before .before)) (c11 .enum-told .given .1) _ _ _ (c4 .search .ensures .1)
+    (c .before .before .x .given .1) in
+    omega arith)  -- judge-members-add-from-2
     (λ c. omega arith)  -- judge-members-sub-refused-3
     (λ c κs. search needs)  -- judge-members-refused-requires-3
-    (λ c. (
-      comes t (c .before .before) .ways,
-      c .refused3 .ensures ∙ judged-level (comes t (c .before .before))
-          (c .before .if4 .taken),
-    ))  -- judge-members-returns-4
+    (λ c.
+    let c2 = c .before .before in
+    (comes t (c2) .ways, c .refused3 .ensures ∙ judged-level (comes t (c2)) (c .before .if4 .taken)))  -- judge-members-returns-4
     (λ c. omega (arith, place-few (comes t (c .before .before .before .before))))  -- judge-members-mul-came
     (λ c. place-few (comes t (c .before .before .before .before)))  -- judge-members-array-write-came
     (λ c. omega (arith, behind-few (comes t (c .before .before .before .before .before))))  -- judge-members-add-j
@@ -300,16 +293,18 @@ judge-members-half t =
     (λ c. omega arith)  -- judge-members-sub-below
     (λ c. omega arith)  -- judge-members-sub-below-2
     (λ c κs.
-    let X = comes t (c .before .before .before .before .before .before .before .before .before) in
-    let q = c .before .before .before .before .before .before .before .before .before .before .before .before .before .before .before .before
-    .before .before .before .before .before .before .pre in
-    (omega (arith, q .0), (q .1 .0, is-record X, is-headed X, q .1 .4, omega (arith, q .1 .5), X .ways)))  -- judge-members-judge-value-requires
+    let c9 = c .before .before .before .before .before .before .before .before .before in
+    let q = c9 .before .before .before .before .before .before .before .before .before .before .before .before .before .pre in
+    let X = comes t (c9) in (
+      omega (arith, q .0),
+      (q .1 .0, is-record X, is-headed X, q .1 .4, omega (arith, q .1 .5), X .ways),
+    ))  -- judge-members-judge-value-requires
     (λ c. search needs)  -- judge-members-enum-known-cause-3
     (λ c κs. search needs)  -- judge-members-refused-requires-4
-    (λ c. (
-      c .before .before .before .before .judge-value .ensures .0,
-      c .refused4 .ensures ∙ judged-refused (valued t
-          (c .before .before .before .before)) _ _ (c .before .before .cause3 .given .1),
+    (λ c.
+    let c4 = c .before .before .before .before in (
+      c4 .judge-value .ensures .0,
+      c .refused4 .ensures ∙ judged-refused (valued t (c4)) _ _ (c .before .before .cause3 .given .1),
     ))  -- judge-members-returns-5
     (λ c. search needs)  -- judge-members-enum-known-end-2
     (λ c. omega (arith, depth-few (valued t (c .before .before .before))))  -- judge-members-mul-grow
@@ -317,26 +312,27 @@ judge-members-half t =
     (λ c κs. sizes-few (valued t (c .before .before .before)) _ _ (c .before .end2 .given .1))  -- judge-members-grow-requires
     (λ c κs. search needs)  -- judge-members-holds-one-requires
     (λ c κs. search needs)  -- judge-members-done-requires-2
-    (λ c. (
-      c .before .before .before .before .before .before .before .judge-value .ensures .0,
-      c .done2 .ensures ∙ judged-one (valued t
-          (c .before .before .before .before .before .before .before)) _ _ (c .before .before .before .before .before .end2 .given .1) _
-          (c .before .before .before .grow .ensures) _ (c .before .before .holds-one .ensures) (c .before .if6 .taken),
+    (λ c.
+    let c3 = c .before .before .before in
+    let c5 = c3 .before .before in
+    let c7 = c5 .before .before in (
+      c7 .judge-value .ensures .0,
+      c .done2 .ensures ∙ judged-one (valued t (c7)) _ _ (c5 .end2 .given .1) _ (c3 .grow .ensures) _
+          (c .before .before .holds-one .ensures) (c .before .if6 .taken),
     ))  -- judge-members-returns-6
-    (λ c. let Y = valued t (c .before .before .before .before .before .before) in omega (
-      arith,
-      value-further Y _ _
-          (c .before .before .before .before .end2 .given .1),
-      value-low Y _ _
-          (c .before .before .before .before .end2 .given .1),
-    ))  -- judge-members-loop-less
-    (λ c. let Y = valued t (c .before .before .before .before .before .before) in (
-      value-low Y _ _ (c .before .before .before .before .end2 .given .1),
-      c .before .before .before .before .before .before .judge-value .ensures .0,
-      judged-turn Y _ _ (c .before .before .before .before .end2 .given .1) _ (c .before .before .grow .ensures) _ (c .before .holds-one .ensures)
-          (c .if6 .left) _
-          (⊎-elim (λ v. inl (v .0 .taken, v .2)) (λ v. inr (v .0 .left, v .1))
-          (c .before .before .before .before .before .before .before .before .before .before .before .before .before .if5 .came)),
+    (λ c.
+    let c4 = c .before .before .before .before in
+    let Y = valued t (c4 .before .before) in
+    omega (arith, value-further Y _ _ (c4 .end2 .given .1), value-low Y _ _ (c4 .end2 .given .1)))  -- judge-members-loop-less
+    (λ c.
+    let c4 = c .before .before .before .before in
+    let c6 = c4 .before .before in
+    let Y = valued t (c6) in (
+      value-low Y _ _ (c4 .end2 .given .1),
+      c6 .judge-value .ensures .0,
+      judged-turn Y _ _ (c4 .end2 .given .1) _ (c .before .before .grow .ensures) _ (c .before .holds-one .ensures) (c .if6 .left)
+          _ (⊎-elim (λ v. inl (v .0 .taken, v .2)) (λ v. inr (v .0 .left, v .1))
+          (c6 .before .before .before .before .before .before .before .if5 .came)),
     ))  -- judge-members-loop-again
 
 abbrev judge-value-claims : ℕ → judge-value-lts.Claims
@@ -458,11 +454,13 @@ judge-value-half t =
     judge-value.Post
     (λ c κs. tt)  -- judge-value-unpack-requires
     (λ c κs.
-    let q = c .before .before .before .before .before .before .pre .1 in (
-      now (c .before .before .before .before .before .before .args .index),
+    let c3 = c .before .before .before in
+    let c6 = c3 .before .before .before in
+    let q = c6 .pre .1 in (
+      now (c6 .args .index),
       q .0,
       q .1,
-      rw (c .before .before .before .unpack .ensures) at (c .before .if1 .taken),
+      rw (c3 .unpack .ensures) at (c .before .if1 .taken),
       q .2,
       q .3,
       refl,
@@ -470,13 +468,14 @@ judge-value-half t =
     (λ c. search needs)  -- judge-value-enum-known-cause
     (λ c κs. tt)  -- judge-value-refused-requires
     (λ c.
-    let a = c .before .before .before .before .before .before .before .before .before .before .before .args in
-    let q = c .before .before .before .before .before .before .before .before .before .before .before .pre .1 in
-    let o = c .before .before .before .before .«open» in
+    let c4 = c .before .before .before .before in
+    let c11 = c4 .before .before .before .before .before .before .before in
+    let q = c11 .pre .1 in
+    let o = c4 .«open» in
     let x = c .before .before .cause .given in (
       q .5,
-      c .refused .ensures ∙ value-unopened (q .0) (q .1) (now (a .m)) (a .at) _ (o .result) (o .ensures .1) (x .0 .0) (x .0 .1 .0) (x .1)
-          (a .level),
+      c .refused .ensures ∙ value-unopened (q .0) (q .1) _ _ _ (o .result) (o .ensures .1) (x .0 .0) (x .0 .1 .0) (x .1)
+          (c11 .args .level),
     ))  -- judge-value-returns
     (λ c. search needs)  -- judge-value-enum-known-x
     (λ c. item-within (at-item t (c .before)))  -- judge-value-sub-left
@@ -486,88 +485,93 @@ judge-value-half t =
     (λ c κs. tt)  -- judge-value-refused-requires-2
     (λ c.
     let c4 = c .before .before .before .before in
-    let c9 = c4 .before .before .before .before .before in
+    let c5 = c4 .before in
+    let c9 = c5 .before .before .before .before in
     let f = c .before .before .cause2 .given in (
       c9 .before .before .before .before .before .pre .1 .5,
-      c .refused2 .ensures
-          ∙ value-unread (at-item t c9) (c4 .before .if2 .taken) (c4 .read .result) (c4 .read .ensures _) (f .0 .0) (f .1),
+      c .refused2 .ensures ∙ value-unread (at-item t c9) (c5 .if2 .taken) _ (c4 .read .ensures _) (f .0 .0) (f .1),
     ))  -- judge-value-returns-2
     (λ c. search needs)  -- judge-value-enum-known-x-2
     (λ c κs. tt)  -- judge-value-refused-requires-3
     (λ c.
-    let y = at-filling t (c .before .before .before) in (
-      c .before .before .before .before .before .before .before .before .before .before .before .before .pre .1 .5,
-      c .refused3 .ensures
-          ∙ value-marked y (c .before .before .if3 .taken) (c .before .if4 .taken),
+    let c3 = c .before .before .before in
+    let y = at-filling t (c3) in (
+      c3 .before .before .before .before .before .before .before .before .before .pre .1 .5,
+      c .refused3 .ensures ∙ value-marked y (c .before .before .if3 .taken) (c .before .if4 .taken),
     ))  -- judge-value-returns-3
     (λ c. contents-within (at-filling t (c .before .before .before .before)) .0)  -- judge-value-sub-c
     (λ c. omega (arith, contents-within (at-filling t (c .before .before .before .before))))  -- judge-value-part-c-start
     (λ c. contents-within (at-filling t (c .before .before .before .before)) .1)  -- judge-value-part-c-end
     (λ c κs.
-    let a = c .before .before .before .before .before .before .before .before .before .before .before .before .before .before .args in
-    let q = c .before .before .before .before .before .before .before .before .before .before .before .before .before .before .pre .1 in (
-      tableIn (now (a .table)) (q .1 .0),
-      rw (c .before .before .before .before .before .before .before .before .before .before .before .unpack .ensures) (its-entry (q .0) (q .1)),
-      contents-short (at-filling t (c .before .before .before .before .before)),
+    let c5 = c .before .before .before .before .before in
+    let c11 = c5 .before .before .before .before .before .before in
+    let c14 = c11 .before .before .before in
+    let q = c14 .pre .1 in (
+      tableIn (now (c14 .args .table)) (q .1 .0),
+      rw (c11 .unpack .ensures) (its-entry (q .0) (q .1)),
+      contents-short (at-filling t (c5)),
     ))  -- judge-value-contents-size-requires
     (λ c κs. tt)  -- judge-value-refused-requires-4
     (λ c.
-    let y = at-filling t (c .before .before .before .before .before .before .before .before) in
+    let c6 = c .before .before .before .before .before .before in
+    let c7 = c6 .before in
+    let c8 = c7 .before in
+    let y = at-filling t (c8) in
     let s = c .before .before .contents-size in (
-      c .before .before .before .before .before .before .before .before .before .before .before .before .before .before .before .before .before .pre .1 .5,
-      c .refused4 .ensures ∙ value-wrong y (c .before .before .before .before .before .before .before .if3 .taken)
-          (c .before .before .before .before .before .before .if4 .left) (s .result) (s .ensures .0) (c .before .if5 .taken),
+      c8 .before .before .before .before .before .before .before .before .before .pre .1 .5,
+      c .refused4 .ensures ∙ value-wrong y (c7 .if3 .taken) (c6 .if4 .left) (s .result) (s .ensures .0) (c .before .if5 .taken),
     ))  -- judge-value-returns-4
     (λ c. contents-within (at-filling t (c .before .before .before)) .0)  -- judge-value-sub-c-2
     (λ c. omega (arith, contents-within (at-filling t (c .before .before .before))))  -- judge-value-part-c-start-2
     (λ c. contents-within (at-filling t (c .before .before .before)) .1)  -- judge-value-part-c-end-2
     (λ c κs.
-    let y = at-filling t (c .before .before .before .before .before) in
-    let p = c .before .before .before .before .before .before .before .before .before .before .before .before .before .before .pre in
+    let c4 = c .before .before .before .before in
+    let c5 = c4 .before in
+    let y = at-filling t (c5) in
+    let p = c5 .before .before .before .before .before .before .before .before .before .pre in
     let q = p .1 in
-    let n = c .before .before .before .before .if3 .left in
-    let k = items-known y n in
-    (omega (arith, p .0), (q .0, k .0, k .1, items-some y n, contents-short y, omega (arith, q .4), q .5)))  -- judge-value-judge-members-requires
+    let n = c4 .if3 .left in
+    let k = items-known y n in (
+      omega (arith, p .0),
+      (q .0, k .0, k .1, items-some y n, contents-short y, omega (arith, q .4), q .5),
+    ))  -- judge-value-judge-members-requires
     (λ c. search needs)  -- judge-value-enum-known-cause-3
-    (λ c. contents-within (at-filling t (c .before .before .before .before .before .before .before .before .before)) .1)  -- judge-value-sub-refused
     (λ c.
-    let y = at-filling t (c .before .before .before .before .before .before .before .before .before) in
-    let r = c .before .before .before .judge-members in
+    contents-within (at-filling t (c .before .before .before .before .before .before .before .before .before)) .1)  -- judge-value-sub-refused
+    (λ c.
+    let c3 = c .before .before .before in
+    let c8 = c3 .before .before .before .before .before in
+    let y = at-filling t (c8 .before) in
+    let r = c3 .judge-members in
     let x = c .before .cause3 .given in
-    omega (
-      arith,
-      items-low y (c .before .before .before .before .before .before .before .before .if3 .left) (r .result) (r .ensures .1) (x .0 .0)
-          (x .0 .1 .0) (x .1),
-    ))  -- judge-value-add-refused
+    omega (arith, items-low y (c8 .if3 .left) (r .result) (r .ensures .1) (x .0 .0) (x .0 .1 .0) (x .1)))  -- judge-value-add-refused
     (λ c κs. tt)  -- judge-value-refused-requires-5
     (λ c.
-    let y = at-filling t (c .before .before .before .before .before .before .before .before .before .before) in
-    let r = c .before .before .before .before .judge-members in
+    let c4 = c .before .before .before .before in
+    let c9 = c4 .before .before .before .before .before in
+    let y = at-filling t (c9 .before) in
+    let r = c4 .judge-members in
     let x = c .before .before .cause3 .given in (
       r .ensures .0,
-      c .refused5 .ensures ∙ value-unheld y (c .before .before .before .before .before .before .before .before .before .if3 .left)
-          (r .result) (r .ensures .1) (x .0 .0) (x .0 .1 .0) (x .1),
+      c .refused5 .ensures ∙ value-unheld y (c9 .if3 .left) (r .result) (r .ensures .1) (x .0 .0) (x .0 .1 .0) (x .1),
     ))  -- judge-value-returns-5
     (λ c. search needs)  -- judge-value-enum-known-x-3
     (λ c.
-    let y = at-filling t (c .before .before .before .before .before .before .before .before .before) in
-    let r = c .before .before .before .judge-members in
+    let c3 = c .before .before .before in
+    let c8 = c3 .before .before .before .before .before in
+    let y = at-filling t (c8 .before) in
+    let r = c3 .judge-members in
     let x = c .before .x3 .given in
-    omega (
-      arith,
-      items-high y (c .before .before .before .before .before .before .before .before .if3 .left) (r .result) (r .ensures .1) (x .0 .0)
-          (x .0 .1 .0) (x .1),
-    ))  -- judge-value-add-stop
+    omega (arith, items-high y (c8 .if3 .left) (r .result) (r .ensures .1) (x .0 .0) (x .0 .1 .0) (x .1)))  -- judge-value-add-stop
     (λ c. omega (arith, item-tags (at-ended t (c .before .before .before .before))))  -- judge-value-cast-close
     (λ c κs. item-closes (at-ended t (c .before .before .before .before)))  -- judge-value-close-requires
-    (λ c. (
-      at-way t (c .before .before .before .before .before),
-      value-closed (at-ended t (c .before .before .before .before .before)) (c .close .result)
-          (c .close .ensures),
-    ))  -- judge-value-returns-6
+    (λ c.
+    let c5 = c .before .before .before .before .before in
+    (at-way t (c5), value-closed (at-ended t (c5)) _ (c .close .ensures)))  -- judge-value-returns-6
     (λ c κs. tt)  -- judge-value-done-requires
     (λ c.
-    (at-way t (c .before .before .before), c .done .ensures ∙ value-over (at-ended t (c .before .before .before)) (c .before .if6 .left)))  -- judge-value-returns-7
+    let c3 = c .before .before .before in
+    (at-way t (c3), c .done .ensures ∙ value-over (at-ended t (c3)) (c .before .if6 .left)))  -- judge-value-returns-7
 
 pub +judge-members+judge-value-spec : {M : Type 1} → statement M
 +judge-members+judge-value-spec = close μ-judge-members μ-judge-value judge-members-half judge-value-half

@@ -1,7 +1,6 @@
 -- `reader::judge::judge` meets its contract.
 -- Assumes nothing.
 use borrow.Author.Needs.{needs}
-use denote.Ref.{now}
 use mathlib.Core.Path.{_∙_}
 use native.Mathlib.Omega.{arith}
 use Rattle.table.specs.Entries.{tableIn}
@@ -15,18 +14,14 @@ judge-spec =
     (tie.spec
     (λ c κs. tt)  -- refused-requires
     (λ c.
-    let a = c .before .before .before .before .args in (
-      c .before .before .before .before .pre .3,
-      c .refused .ensures ∙ message-empty (tableIn (now (a .table))) 24 (a .t) (now (a .m))
-          (c .before .if1 .taken),
-    ))  -- returns
+    (c .before .before .before .before .pre .3, c .refused .ensures ∙ message-empty (tableIn _) 24 _ _ (c .before .if1 .taken)))  -- returns
     (λ c.
     let q = c .before .before .before .pre in
     omega (arith, q .1, q .0 .filled .count, q .0 .filled .few))  -- cast-whole
     (λ c κs. tt)  -- whole-requires
     (λ c κs.
     let q = c .before .before .before .before .before .pre in
-    let k = message-known (c .before .whole .result) (c .before .before .before .before .before .args .t) (q .1) (c .before .whole .ensures) in
+    let k = message-known _ _ (q .1) (c .before .whole .ensures) in
     (q .0, k .0, k .1, (λ _. omega (arith, c .before .before .if1 .left)), q .2, omega arith, q .3))  -- judge-members-requires
     (λ c. search needs)  -- enum-known-cause
     (λ c κs. tt)  -- refused-requires-2
@@ -34,33 +29,35 @@ judge-spec =
     (λ c. omega (arith, c .if2 .taken))  -- sub-refused
     (λ c κs. tt)  -- refused-requires-3
     (λ c.
-    let a = c .before .before .before .before .before .before .before .before .before .before .before .args in
-    let w = c .before .before .before .before .before .before .before .whole in
-    let r = c .before .before .before .before .before .judge-members in
-    let x = c .before .before .before .end .given in (
+    let c3 = c .before .before .before in
+    let c5 = c3 .before .before in
+    let c7 = c5 .before .before in
+    let w = c7 .whole in
+    let r = c5 .judge-members in
+    let x = c3 .end .given in (
       r .ensures .0,
-      c .refused3 .ensures ∙ message-trailing (now (a .table)) (now (a .m)) 24 (a .t)
-          (c .before .before .before .before .before .before .before .before .if1 .left) (w .result) (w .ensures) (r .result) (r .ensures .1) (x .0 .0)
-          (x .0 .1 .0) (x .1) (c .before .if2 .taken),
+      c .refused3 .ensures ∙ message-trailing _ _ 24 _ (c7 .before .if1 .left) (w .result) (w .ensures) (r .result) (r .ensures .1)
+          (x .0 .0) (x .0 .1 .0) (x .1) (c .before .if2 .taken),
     ))  -- returns-2
     (λ c κs. tt)  -- done-requires
     (λ c.
-    let a = c .before .before .before .before .before .before .before .before .before .before .args in
-    let w = c .before .before .before .before .before .before .whole in
-    let r = c .before .before .before .before .judge-members in
+    let c4 = c .before .before .before .before in
+    let c6 = c4 .before .before in
+    let w = c6 .whole in
+    let r = c4 .judge-members in
     let x = c .before .before .cause .given in (
       r .ensures .0,
-      c .refused2 .ensures ∙ message-refused (now (a .table)) (now (a .m)) 24 (a .t)
-          (c .before .before .before .before .before .before .before .if1 .left) (w .result) (w .ensures) (r .result) (r .ensures .1) (x .0 .0) (x .0 .1 .0)
-          (x .1),
+      c .refused2 .ensures ∙ message-refused _ _ 24 _ (c6 .before .if1 .left) (w .result) (w .ensures) (r .result) (r .ensures .1)
+          (x .0 .0) (x .0 .1 .0) (x .1),
     ))  -- returns-3
     (λ c.
-    let a = c .before .before .before .before .before .before .before .before .before .before .before .args in
-    let w = c .before .before .before .before .before .before .before .whole in
-    let r = c .before .before .before .before .before .judge-members in
-    let x = c .before .before .before .end .given in (
+    let c3 = c .before .before .before in
+    let c5 = c3 .before .before in
+    let c7 = c5 .before .before in
+    let w = c7 .whole in
+    let r = c5 .judge-members in
+    let x = c3 .end .given in (
       r .ensures .0,
-      c .done .ensures ∙ message-done (now (a .table)) (now (a .m)) 24 (a .t)
-          (c .before .before .before .before .before .before .before .before .if1 .left) (w .result) (w .ensures) (r .result) (r .ensures .1) (x .0 .0)
-          (x .0 .1 .0) (x .1) (c .before .if2 .left),
+      c .done .ensures ∙ message-done _ _ 24 _ (c7 .before .if1 .left) (w .result) (w .ensures) (r .result) (r .ensures .1)
+          (x .0 .0) (x .0 .1 .0) (x .1) (c .before .if2 .left),
     )))  -- returns-4

@@ -137,21 +137,6 @@ place-members-claims t = (
   place-value.Post,
 )
 
-place-members-unpack-requires : (t : ℕ) → place-members-lts.Need-unpack-requires (place-members-claims t) (place-members-at t)
-    place-members.Post place-members-Inv-loop place-members-μ-loop
-place-members-unpack-requires t c κs = tt
-
-place-members-parts-requires : (t : ℕ) → place-members-lts.Need-parts-requires (place-members-claims t) (place-members-at t)
-    place-members.Post place-members-Inv-loop place-members-μ-loop
-place-members-parts-requires t c κs = tt
-
-place-members-locate-requires : (t : ℕ) → place-members-lts.Need-locate-requires (place-members-claims t) (place-members-at t)
-    place-members.Post place-members-Inv-loop place-members-μ-loop
-place-members-locate-requires t c κs =
-    let p = c .before .before .before .before .before .before .before .before .before .pre .1 in
-    let k = ap (λ (e : Entry). e .kind) (c .before .before .before .before .before .unpack .ensures) in
-    (p .ready, p .known, sym k ∙ c .before .before .if1 .taken, p .short, refl, p .ways)
-
 -- what is required, once the parts are known
 at-given : (t : ℕ) (c : place-members-lts.After-parts (place-members-claims t) (place-members-at t)
     place-members.Post place-members-Inv-loop place-members-μ-loop) →
@@ -169,10 +154,6 @@ at-given t c =
       entry = c .before .unpack .ensures;
       span = c .parts .ensures;
     }
-
-place-members-begin-requires : (t : ℕ) → place-members-lts.Need-begin-requires (place-members-claims t) (place-members-at t)
-    place-members.Post place-members-Inv-loop place-members-μ-loop
-place-members-begin-requires t c κs = begin-room (at-given t (c .before .before .before))
 
 -- where the members of a SET begin
 at-located : (t : ℕ) (c : place-members-lts.Joined1 (place-members-claims t) (place-members-at t)
@@ -212,127 +193,19 @@ Starts t c first = let a = c .before .before .before .before .before .before .be
     (c .before .before .if1 .last)
     (c .begin .last .1 .1 .0)
 
-place-members-loop-holds : (t : ℕ) → place-members-lts.Need-loop-holds (place-members-claims t) (place-members-at t)
-    place-members.Post place-members-Inv-loop place-members-μ-loop
-place-members-loop-holds t c = (
-  at-located t (c .before .before .before .before) .0,
-  refl,
-  λ first X. state-first X _
-      (c .before .before .begin .ensures .0),
-)
-
-place-members-following-requires : (t : ℕ) → place-members-lts.Need-following-requires (place-members-claims t) (place-members-at t)
-    place-members.Post place-members-Inv-loop place-members-μ-loop
-place-members-following-requires t c κs =
-    let X = at-started t (c .before .before .before .before .before .before) in (
-      set-low X (c .before .before .before .loop .inv .2 _ X) (c .before .if2 .taken),
-      its-few (X .given),
-      at-located t
-          (c .before .before .before .before .before .before .before .before) .1,
-    )
-
-place-members-put-absent-requires : (t : ℕ) → place-members-lts.Need-put-absent-requires (place-members-claims t) (place-members-at t)
-    place-members.Post place-members-Inv-loop place-members-μ-loop
-place-members-put-absent-requires t c κs =
-    let X = at-started t (c .before .before .before .before .before .before .before .before) in
-    set-room X (c .before .before .before .before .before .loop .inv .2 _ X) (c .before .before .before .if2 .taken) _
-    (c .before .following .ensures .most)
-
-place-members-same-length : (t : ℕ) → place-members-lts.Need-same-length (place-members-claims t) (place-members-at t)
-    place-members.Post place-members-Inv-loop place-members-μ-loop
-place-members-same-length t c = c .before .before .before .before .put-absent .kept .0 ∙ c .before .before .before .before .before .before .before
-    .before .before .before .loop .inv .1 ∙ c .before .before .before .before .before .before .before .before .before .before .before .before
-    .before .begin .kept .1 .1 .0
-
-place-members-returns : (t : ℕ) → place-members-lts.Need-returns (place-members-claims t) (place-members-at t)
-    place-members.Post place-members-Inv-loop place-members-μ-loop
-place-members-returns t c =
-    let X = at-started t (c .before .before .before .before .before .before .before .before .before .before .before .before .before) in (
-      c .before .before .before .before .before .before .before .before .before .before .loop .inv .0,
-      set-over X
-          (c .before .before .before .before .before .before .before .before .before .before .loop .inv .2 _ X)
-          (c .before .before .before .before .before .before .before .before .if2 .taken) _
-          (c .before .before .before .before .before .before .following .ensures) (c .before .before .before .before .put-absent .ensures)
-          (c .if3 .taken),
-    )
-
 -- a member that came
 at-came : (t : ℕ) (c : place-members-lts.Else3 (place-members-claims t) (place-members-at t)
-    place-members.Post place-members-Inv-loop place-members-μ-loop) → (c .before .before .before .before .before .before .following .result < 16) ×
-    (1 ≤ getD (c .before .before .before .before .before .before .before .before .before .before .before .before .before .before .before .if1
-    .began) (c .before .before .before .before .before .before .following .result) 0)
-    × (getD (c .before .before .before .before .before .before .before .before .before .before .before .before .before .before .before .if1 .began)
-    (c .before .before .before .before .before .before .following .result) 0 ≤ 8193)
+    place-members.Post place-members-Inv-loop place-members-μ-loop) →
+    let k = c .before .before .before .before .before .before .following .result in
+    let x = c .before .before .before .before .before .before .before .before .before .before .before .before .before .before .before .if1 in
+    (k < 16) × (1 ≤ getD (x .began) k 0) × (getD (x .began) k 0 ≤ 8193)
 at-came t c =
-    let X = at-started t (c .before .before .before .before .before .before .before .before .before .before .before .before .before) in
-    let z = set-came X (c .before .before .before .before .before .before .before .before .before .before .loop .inv .2 _ X)
-    (c .before .before .before .before .before .before .before .before .if2 .taken) _
-    (c .before .before .before .before .before .before .following .ensures) (c .before .before .before .before .put-absent .ensures)
-    (c .if3 .left) in
+    let c4 = c .before .before .before .before in
+    let c6 = c4 .before .before in
+    let c10 = c6 .before .before .before .before in
+    let X = at-started t (c10 .before .before .before) in
+    let z = set-came X (c10 .loop .inv .2 _ X) (c6 .before .before .if2 .taken) _ (c6 .following .ensures) (c4 .put-absent .ensures) (c .if3 .left) in
     (omega (arith, z .0, its-few (X .given)), z .1, omega (arith, z .1, z .2, X .given .short))
-
-place-members-mul-at : (t : ℕ) → place-members-lts.Need-mul-at (place-members-claims t) (place-members-at t)
-    place-members.Post place-members-Inv-loop place-members-μ-loop
-place-members-mul-at t c = let z = at-came t c in omega arith
-
-place-members-array-read-at : (t : ℕ) → place-members-lts.Need-array-read-at (place-members-claims t) (place-members-at t)
-    place-members.Post place-members-Inv-loop place-members-μ-loop
-place-members-array-read-at t c = let z = at-came t c in omega arith
-
-place-members-cast-at : (t : ℕ) → place-members-lts.Need-cast-at (place-members-claims t) (place-members-at t)
-    place-members.Post place-members-Inv-loop place-members-μ-loop
-place-members-cast-at t c = let z = at-came t c in omega arith
-
-place-members-sub-at : (t : ℕ) → place-members-lts.Need-sub-at (place-members-claims t) (place-members-at t)
-    place-members.Post place-members-Inv-loop place-members-μ-loop
-place-members-sub-at t c = let z = at-came t c in omega arith
-
-place-members-holds-one-requires : (t : ℕ) → place-members-lts.Need-holds-one-requires (place-members-claims t) (place-members-at t)
-    place-members.Post place-members-Inv-loop place-members-μ-loop
-place-members-holds-one-requires t c κs = tt
-
-place-members-is-over-requires : (t : ℕ) → place-members-lts.Need-is-over-requires (place-members-claims t) (place-members-at t)
-    place-members.Post place-members-Inv-loop place-members-μ-loop
-place-members-is-over-requires t c κs = tt
-
-place-members-finish-requires : (t : ℕ) → place-members-lts.Need-finish-requires (place-members-claims t) (place-members-at t)
-    place-members.Post place-members-Inv-loop place-members-μ-loop
-place-members-finish-requires t c κs =
-    let X = at-started t (c .before .before .before .before .before .before .before .before .before .before) in
-    finish-room X (c .before .before .before .before .before .before .before .loop .inv .2 _ X)
-    (c .before .before .before .before .before .if2 .left) _ (c .before .before .before .before .holds-one .ensures) (not-true _
-    (c .before .before .before .if4 .taken)) _ (c .before .before .is-over .ensures)
-
-place-members-behind-requires : (t : ℕ) → place-members-lts.Need-behind-requires (place-members-claims t) (place-members-at t)
-    place-members.Post place-members-Inv-loop place-members-μ-loop
-place-members-behind-requires t c κs =
-    let X = at-started t (c .before .before .before .before .before .before .before .before .before .before .before .before .before) in
-    omega (
-      arith,
-      other-low X (c .before .before .before .before .before .before .before .before .before .before .loop .inv .2 _ X)
-          (c .before .before .before .before .before .before .before .before .if2 .left),
-      X .given .short,
-    )
-
-place-members-same-length-2 : (t : ℕ) → place-members-lts.Need-same-length-2 (place-members-claims t) (place-members-at t)
-    place-members.Post place-members-Inv-loop place-members-μ-loop
-place-members-same-length-2 t c = c .before .before .before .finish .kept .1 .1 .1 .1 .0 ∙ c .before .before .before .before .before .before
-    .before .before .before .before .before .loop .inv .1 ∙ c .before .before .before .before .before .before .before .before .before .before
-    .before .before .before .before .begin .kept .1 .1 .0
-
-place-members-returns-2 : (t : ℕ) → place-members-lts.Need-returns-2 (place-members-claims t) (place-members-at t)
-    place-members.Post place-members-Inv-loop place-members-μ-loop
-place-members-returns-2 t c =
-    let X = at-started t (c .before .before .before .before .before .before .before .before .before .before .before .before .before .before) in (
-      c .before .before .before .before .before .before .before .before .before .before .before .loop .inv .0,
-      other-over X
-          (c .before .before .before .before .before .before .before .before .before .before .before .loop .inv .2 _ X)
-          (c .before .before .before .before .before .before .before .before .before .if2 .left) _
-          (c .before .before .before .before .before .before .before .before .holds-one .ensures) (not-true _
-          (c .before .before .before .before .before .before .before .if4 .taken)) _
-          (c .before .before .before .before .before .before .is-over .ensures) (c .before .before .before .before .before .if5 .taken)
-          (c .before .before .before .finish .ensures) (c .behind .ensures),
-    )
 
 -- the item that comes
 at-item : (t : ℕ) (c : place-members-lts.Joined2 (place-members-claims t) (place-members-at t)
@@ -351,11 +224,9 @@ at-item t c X =
 -- how far it stands
 at-turn : (t : ℕ) (c : place-members-lts.Joined2 (place-members-claims t) (place-members-at t)
     place-members.Post place-members-Inv-loop place-members-μ-loop) →
-    (length (c .if2 .buf) ≡ length (c .before .before .loop .buf)) ×
-    (c .before .before .before .before .before .before .before .before .before .before .unpack .result .kind ≡ 17 → c .before .before .loop .j ≤ c
-    .if2 .j)
-    × ((c .before .before .before .before .before .before .before .before .before .before .unpack .result .kind ≡ 17 → ⊥) → c .if2 .at ≡ c .before
-    .before .loop .at)
+    let l = c .before .before .loop in
+    let e = c .before .before .before .before .before .before .before .before .before .before .unpack .result in
+    (length (c .if2 .buf) ≡ length (l .buf)) × (e .kind ≡ 17 → l .j ≤ c .if2 .j) × ((e .kind ≡ 17 → ⊥) → c .if2 .at ≡ l .at)
 at-turn t c =
     ⊎-elim
     (λ x. (ap length (x .9) ∙ x .4 .kept .0, λ z. rw (x .11) (x .2 .ensures .least), λ n. absurd (n (x .0 .taken))))
@@ -365,40 +236,13 @@ at-turn t c =
     (c .if2 .came)
 
 at-low : (t : ℕ) (c : place-members-lts.Joined2 (place-members-claims t) (place-members-at t)
-    place-members.Post place-members-Inv-loop place-members-μ-loop) → (c .if2 .at < length (now
-    (c .before .before .before .before .before .before .before .before .before .before .before .before .before .before .args .m))) ×
-    (c .if2 .at < 8192)
+    place-members.Post place-members-Inv-loop place-members-μ-loop) →
+    let a = c .before .before .before .before .before .before .before .before .before .before .before .before .before .before .args in
+    (c .if2 .at < length (now (a .m))) × (c .if2 .at < 8192)
 at-low t c =
     let X = at-started t (c .before .before .before .before .before) in
     let l = coming-low X _ (at-item t c X) in
     (l, omega (arith, l, X .given .short))
-
-place-members-add-from : (t : ℕ) → place-members-lts.Need-add-from (place-members-claims t) (place-members-at t)
-    place-members.Post place-members-Inv-loop place-members-μ-loop
-place-members-add-from t c = let l = at-low t (c .before) in omega arith
-
-place-members-mul-octet : (t : ℕ) → place-members-lts.Need-mul-octet (place-members-claims t) (place-members-at t)
-    place-members.Post place-members-Inv-loop place-members-μ-loop
-place-members-mul-octet t c = omega (
-  arith,
-  part-near (at-started t
-      (c .before .before .before .before .before .before .before .before .before .before)) _ (at-item t (c .before .before .before .before .before)
-      (at-started t (c .before .before .before .before .before .before .before .before .before .before))) (c .before .before .if6 .taken),
-)
-
-place-members-add-octet : (t : ℕ) → place-members-lts.Need-add-octet (place-members-claims t) (place-members-at t)
-    place-members.Post place-members-Inv-loop place-members-μ-loop
-place-members-add-octet t c = omega (
-  arith,
-  part-near (at-started t
-      (c .before .before .before .before .before .before .before .before .before .before .before)) _ (at-item t
-      (c .before .before .before .before .before .before) (at-started t
-      (c .before .before .before .before .before .before .before .before .before .before .before))) (c .before .before .before .if6 .taken),
-)
-
-place-members-octet-requires : (t : ℕ) → place-members-lts.Need-octet-requires (place-members-claims t) (place-members-at t)
-    place-members.Post place-members-Inv-loop place-members-μ-loop
-place-members-octet-requires t c κs = tt
 
 -- the type of the part at hand
 at-type : (t : ℕ) (c : place-members-lts.After-octet (place-members-claims t) (place-members-at t)
@@ -412,75 +256,18 @@ at-type t c =
       X .given .ready .passes .few,
     )
 
-place-members-mul-first : (t : ℕ) → place-members-lts.Need-mul-first (place-members-claims t) (place-members-at t)
-    place-members.Post place-members-Inv-loop place-members-μ-loop
-place-members-mul-first t c = let l = at-type t c in omega arith
-
-place-members-element-copy-out-first : (t : ℕ) → place-members-lts.Need-element-copy-out-first (place-members-claims t) (place-members-at t)
-    place-members.Post place-members-Inv-loop place-members-μ-loop
-place-members-element-copy-out-first t c = at-type t c
-
-place-members-first-requires : (t : ℕ) → place-members-lts.Need-first-requires (place-members-claims t) (place-members-at t)
-    place-members.Post place-members-Inv-loop place-members-μ-loop
-place-members-first-requires t c κs = tt
-
-place-members-shared-slice-read-fits : (t : ℕ) → place-members-lts.Need-shared-slice-read-fits (place-members-claims t) (place-members-at t)
-    place-members.Post place-members-Inv-loop place-members-μ-loop
-place-members-shared-slice-read-fits t c = at-low t (c .before .before .before .before .before .before .before .before .before .before) .0
-
-place-members-cast-fits : (t : ℕ) → place-members-lts.Need-cast-fits (place-members-claims t) (place-members-at t)
-    place-members.Post place-members-Inv-loop place-members-μ-loop
-place-members-cast-fits t c = omega (
-  arith,
-  c .before .before .before .before .before .before .before .before .before .before .before .before
-      .before .before .before .before .before .before .before .before .before .before .shared-slice-known2 .given
-      (c .before .before .before .before .before .before .before .before .before .before .if2 .at),
-)
-
-place-members-sub-rest : (t : ℕ) → place-members-lts.Need-sub-rest (place-members-claims t) (place-members-at t)
-    place-members.Post place-members-Inv-loop place-members-μ-loop
-place-members-sub-rest t c = let l = at-low t (c .before .before .before .before) in omega arith
-
-place-members-part-rest-start : (t : ℕ) → place-members-lts.Need-part-rest-start (place-members-claims t) (place-members-at t)
-    place-members.Post place-members-Inv-loop place-members-μ-loop
-place-members-part-rest-start t c = let l = at-low t (c .before .before .before .before) in omega arith
-
-place-members-part-rest-end : (t : ℕ) → place-members-lts.Need-part-rest-end (place-members-claims t) (place-members-at t)
-    place-members.Post place-members-Inv-loop place-members-μ-loop
-place-members-part-rest-end t c = let l = at-low t (c .before .before .before .before) in omega arith
-
-place-members-search-requires : (t : ℕ) → place-members-lts.Need-search-requires (place-members-claims t) (place-members-at t)
-    place-members.Post place-members-Inv-loop place-members-μ-loop
-place-members-search-requires t c κs = (
-  sound (at-started t (c .before .before .before .before .before .before .before .before .before .before
-      .before .before)) 0,
-  c .before .before .before .before .before .before .before .before .before .loop .inv .0,
-)
-
-place-members-enum-told : (t : ℕ) → place-members-lts.Need-enum-told (place-members-claims t) (place-members-at t)
-    place-members.Post place-members-Inv-loop place-members-μ-loop
-place-members-enum-told t c = search needs
-
-place-members-enum-known-x : (t : ℕ) → place-members-lts.Need-enum-known-x (place-members-claims t) (place-members-at t)
-    place-members.Post place-members-Inv-loop place-members-μ-loop
-place-members-enum-known-x t c = search needs
-
-place-members-has-members-requires : (t : ℕ) → place-members-lts.Need-has-members-requires (place-members-claims t) (place-members-at t)
-    place-members.Post place-members-Inv-loop place-members-μ-loop
-place-members-has-members-requires t c κs = tt
-
 -- what the search answers
 at-sought : (t : ℕ) (c : place-members-lts.After-search (place-members-claims t) (place-members-at t)
     place-members.Post place-members-Inv-loop place-members-μ-loop) →
-    let a = c .before .before .before .before .before .before .before .before .before .before .before .before .before .before .before .before
-    .before .before .before .before .before .before .args in
+    let x = c .before .before .before .before .before .before .before .before in
+    let a = x .before .before .before .before .before .before .before .before .before .before .before .before .before .before .args in
     let b = now (a .table) in
-    Sought b (held b (a .w)) (since (manner (held b (a .w))) (c .before .before .before .before .before .before .before .before .if2 .j)) blank
-    (drop (c .before .before .before .before .before .before .before .before .if2 .at) (now (a .m))) (c .search .last .1 .1 .1 .1 .1 .1 .0)
-    (c .search .result)
-at-sought t c = rw (part-to-end (now (c .before .before .before .before .before .before .before .before .before .before .before .before .before
-    .before .before .before .before .before .before .before .before .before .args .m))
-    (c .before .before .before .before .before .before .before .before .if2 .at)) at (c .search .ensures .1)
+    Sought b (held b (a .w)) (since (manner (held b (a .w))) (x .if2 .j)) blank (drop (x .if2 .at) (now (a .m)))
+    (c .search .last .1 .1 .1 .1 .1 .1 .0) (c .search .result)
+at-sought t c =
+    let x = c .before .before .before .before .before .before .before .before in
+    let a = x .before .before .before .before .before .before .before .before .before .before .before .before .before .before .args in
+    rw (part-to-end (now (a .m)) (x .if2 .at)) at (c .search .ensures .1)
 
 -- the part that the search found
 at-picked : (t : ℕ) (c : place-members-lts.At-match-came (place-members-claims t) (place-members-at t)
@@ -490,50 +277,22 @@ at-picked : (t : ℕ) (c : place-members-lts.At-match-came (place-members-claims
     (c .match .place) (c .match .«record») (c .match .from)
 at-picked t c X =
     let S = at-sought t (c .before) in
+    let C = at-item t (c .before .before .before .before .before .before .before .before .before) X in
     ⊎-elim
-    (λ x. absurd (found-some X _ (at-item t (c .before .before .before .before .before .before .before .before .before) X) ((rw
-    (x .1 .given .1) at S) .0)))
-    (λ x. picked X _ (at-item t (c .before .before .before .before .before .before .before .before .before) X) (x .1 .given .0 .0) _
-    (c .before .search .ensures .0) (rw (x .1 .given .1) at S) (x .9 ∙ x .6 .ensures .1)
+    (λ x. absurd (found-some X _ C ((rw (x .1 .given .1) at S) .0)))
+    (λ x. picked X _ C (x .1 .given .0 .0) _ (c .before .search .ensures .0) (rw (x .1 .given .1) at S) (x .9 ∙ x .6 .ensures .1)
     (x .10 ∙ x .6 .ensures .0) (x .11) (x .12) (x .13))
     (c .match .came)
-
-place-members-add-from-2 : (t : ℕ) → place-members-lts.Need-add-from-2 (place-members-claims t) (place-members-at t)
-    place-members.Post place-members-Inv-loop place-members-μ-loop
-place-members-add-from-2 t c =
-    let X = at-started t (c .before .before .before .before .before .before .before .before .before .before .before .before .before .before .before
-    .before .before) in
-    let l = found-low X _ (at-item t (c .before .before .before .before .before .before .before .before .before .before .before .before) X) _ _
-    (c .before .before .before .before .search .ensures .0) (rw (c .before .before .x .given .1) at (at-sought t
-    (c .before .before .before .before))) in
-    omega (arith, l, X .given .short)
-
-place-members-put-way-requires : (t : ℕ) → place-members-lts.Need-put-way-requires (place-members-claims t) (place-members-at t)
-    place-members.Post place-members-Inv-loop place-members-μ-loop
-place-members-put-way-requires t c κs =
-    let X = at-started t (c .before .before .before .before .before .before .before .before .before .before .before .before .before .before .before
-    .before .before .before .before) in
-    let F = rw (c .before .before .before .before .x .given .1) at (at-sought t (c .before .before .before .before .before .before)) in
-    let C = at-item t (c .before .before .before .before .before .before .before .before .before .before .before .before .before .before) X in
-    let w = c .before .before .before .before .before .before .search .ensures .0 in
-    (omega (arith, found-deep X _ C _ _ w F, w), w, found-room X _ C _ _ w F)
-
-place-members-put-absent-requires-2 : (t : ℕ) → place-members-lts.Need-put-absent-requires-2 (place-members-claims t) (place-members-at t)
-    place-members.Post place-members-Inv-loop place-members-μ-loop
-place-members-put-absent-requires-2 t c κs = at-picked t (c .before .before .before) (at-started t
-    (c .before .before .before .before .before .before .before .before .before .before .before .before .before .before .before .before .before)) .1
-    (sym (c .before .before .has-members .ensures) ∙ c .before .if8 .taken)
 
 -- the part at hand, if the item begins it with one octet
 at-fits : (t : ℕ) (c : place-members-lts.Joined6 (place-members-claims t) (place-members-at t)
     place-members.Post place-members-Inv-loop place-members-μ-loop) → c .if6 .fits ≡ true →
-    let a = c .before .before .before .before .before .before .before .before .before .before .before .before .before .before .before .before
-    .before .args in
-    (c .before .before .before .if2 .j < c .before .before .before .before .before .before .before .before .before .before .before .before .parts
-    .result .count) × (c .if6 .«record» ≡ getD (now (a .table)) (c .before .before .before .before .before .before .before .before .before .before
-    .before .before .parts .result .first + c .before .before .before .if2 .j * c .before .before .before .before .before .before .before .before
-    .before .before .before .before .parts .result .step) 0)
-    × (getD (now (a .m)) (c .before .before .before .if2 .at) 0 ≡ unpacked (getD (now (a .index)) (c .if6 .«record») 0) .code)
+    let x = c .before .before .before .if2 in
+    let y = c .before .before .before .before .before .before .before .before .before .before .before .before in
+    let a = y .before .before .before .before .before .args in
+    let s = y .parts .result in
+    (x .j < s .count) × (c .if6 .«record» ≡ getD (now (a .table)) (s .first + x .j * s .step) 0)
+    × (getD (now (a .m)) (x .at) 0 ≡ unpacked (getD (now (a .index)) (c .if6 .«record») 0) .code)
 at-fits t c z =
     ⊎-elim
     (λ x. (x .0 .taken, x .8 ∙ x .4 .ensures .0, rw (x .8) (sym (eqb-true _ _ (sym (x .9) ∙ z)) ∙ x .6 .ensures)))
@@ -616,112 +375,6 @@ at-grown t c =
     λ x. (ap length (x .1) ∙ l, rw (x .2) (c .before .before .before .before .before .before .loop .inv .0)))
     (c .if7 .came)
 
-place-members-put-place-requires : (t : ℕ) → place-members-lts.Need-put-place-requires (place-members-claims t) (place-members-at t)
-    place-members.Post place-members-Inv-loop place-members-μ-loop
-place-members-put-place-requires t c κs = chosen-node (at-started t
-    (c .before .before .before .before .before .before .before .before .before .before)) _ (at-chosen t (c .before) (at-started t
-    (c .before .before .before .before .before .before .before .before .before .before)))
-
-place-members-add-j : (t : ℕ) → place-members-lts.Need-add-j (place-members-claims t) (place-members-at t)
-    place-members.Post place-members-Inv-loop place-members-μ-loop
-place-members-add-j t c =
-    let X = at-started t (c .before .before .before .before .before .before .before .before .before .before .before .before .before .before
-    .before) in
-    omega (arith, chosen-onward X _ (at-chosen t (c .before .before .before .before .before .before) X))
-
-place-members-mul-place-value : (t : ℕ) → place-members-lts.Need-mul-place-value (place-members-claims t) (place-members-at t)
-    place-members.Post place-members-Inv-loop place-members-μ-loop
-place-members-mul-place-value t c =
-    let X = at-started t (c .before .before .before .before .before .before .before .before .before .before .before .before .before .before .before
-    .before) in
-    omega (arith, at-chosen t (c .before .before .before .before .before .before .before) X .low, X .given .ready .passes .few)
-
-place-members-element-copy-out-place-value : (t : ℕ) → place-members-lts.Need-element-copy-out-place-value (place-members-claims t)
-    (place-members-at t)
-    place-members.Post place-members-Inv-loop place-members-μ-loop
-place-members-element-copy-out-place-value t c =
-    let X = at-started t (c .before .before .before .before .before .before .before .before .before .before .before .before .before .before .before
-    .before) in
-    omega (arith, at-chosen t (c .before .before .before .before .before .before .before) X .low, X .given .ready .passes .few)
-
-place-members-place-value-requires : (t : ℕ) → place-members-lts.Need-place-value-requires (place-members-claims t) (place-members-at t)
-    place-members.Post place-members-Inv-loop place-members-μ-loop
-place-members-place-value-requires t c κs =
-    let X = at-started t (c .before .before .before .before .before .before .before .before .before .before .before .before .before .before .before
-    .before .before .before .before) in (
-      omega (
-        arith,
-        c .before .before .before .before .before .before .before .before .before .before .before .before .before .before .before
-            .before .before .before .before .before .before .before .before .before .before .before .before .before .pre .0,
-      ),
-      chosen-asks X _ (at-chosen t
-          (c .before .before .before .before .before .before .before .before .before .before) X)
-          (c .before .before .before .before .before .before .before .before .put-place .ensures) _ (at-grown t
-          (c .before .before .before .before .before .before .before .before .before .before) .1),
-    )
-
-place-members-add-count : (t : ℕ) → place-members-lts.Need-add-count (place-members-claims t) (place-members-at t)
-    place-members.Post place-members-Inv-loop place-members-μ-loop
-place-members-add-count t c =
-    let X = at-started t (c .before .before .before .before .before .before .before .before .before .before .before .before .before .before .before
-    .before .before .before .before .before .before .before) in
-    omega (
-      arith,
-      state-count X (c .before .before .before .before .before .before .before .before .before .before .before .before .before .before
-          .before .before .before .before .before .loop .inv .2 _ X),
-    )
-
-place-members-holds-one-requires-2 : (t : ℕ) → place-members-lts.Need-holds-one-requires-2 (place-members-claims t) (place-members-at t)
-    place-members.Post place-members-Inv-loop place-members-μ-loop
-place-members-holds-one-requires-2 t c κs = tt
-
-place-members-same-length-3 : (t : ℕ) → place-members-lts.Need-same-length-3 (place-members-claims t) (place-members-at t)
-    place-members.Post place-members-Inv-loop place-members-μ-loop
-place-members-same-length-3 t c =
-    c .before .before .before .before .place-value .kept .1 .1 .1 .1 .1 .1 .0 ∙ c .before .before .before .before .before .before .before .before
-    .before .before .before .before .before .put-place .kept .1 .1 .0 ∙ at-grown t
-    (c .before .before .before .before .before .before .before .before .before .before .before .before .before .before .before) .0 ∙ c .before
-    .before .before .before .before .before .before .before .before .before .before .before .before .before .before .before .before .before .before
-    .before .before .loop .inv .1 ∙ c .before .before .before .before .before .before .before .before .before .before .before .before .before
-    .before .before .before .before .before .before .before .before .before .before .before .begin .kept .1 .1 .0
-
-place-members-returns-3 : (t : ℕ) → place-members-lts.Need-returns-3 (place-members-claims t) (place-members-at t)
-    place-members.Post place-members-Inv-loop place-members-μ-loop
-place-members-returns-3 t c =
-    let X = at-started t (c .before .before .before .before .before .before .before .before .before .before .before .before .before .before .before
-    .before .before .before .before .before .before .before .before .before) in (
-      c .before .before .before .before .place-value .ensures .0,
-      chosen-one X _ (at-chosen t
-          (c .before .before .before .before .before .before .before .before .before .before .before .before .before .before .before) X)
-          (c .before .before .before .before .before .before .before .before .before .before .before .before .before .put-place .ensures)
-          (c .before .before .before .before .place-value .ensures .1) _ (c .before .holds-one2 .ensures) (c .if9 .taken),
-    )
-
-place-members-loop-less : (t : ℕ) → place-members-lts.Need-loop-less (place-members-claims t) (place-members-at t)
-    place-members.Post place-members-Inv-loop place-members-μ-loop
-place-members-loop-less t c =
-    let X = at-started t (c .before .before .before .before .before .before .before .before .before .before .before .before .before .before .before
-    .before .before .before .before .before .before .before .before .before) in
-    let l = at-turn t (c .before .before .before .before .before .before .before .before .before .before .before .before .before .before .before
-    .before .before .before .before) in
-    chosen-fewer X _ (at-chosen t (c .before .before .before .before .before .before .before .before .before .before .before .before .before
-    .before .before) X) (c .before .before .before .before .before .before .before .before .before .before .before .before .before .put-place
-    .ensures) (c .before .before .before .before .place-value .ensures .1) _ _ (l .1) (l .2)
-
-place-members-loop-again : (t : ℕ) → place-members-lts.Need-loop-again (place-members-claims t) (place-members-at t)
-    place-members.Post place-members-Inv-loop place-members-μ-loop
-place-members-loop-again t c = (
-  c .before .before .before .before .place-value .ensures .0,
-  c .before .before .before .before .place-value .kept .1 .1 .1 .1 .1 .1 .0 ∙ c .before .before .before .before .before .before .before .before
-      .before .before .before .before .before .put-place .kept .1 .1 .0 ∙ at-grown t
-      (c .before .before .before .before .before .before .before .before .before .before .before .before .before .before .before) .0 ∙ c .before
-      .before .before .before .before .before .before .before .before .before .before .before .before .before .before .before .before .before .before
-      .before .before .loop .inv .1,
-  λ first X. chosen-next X _ (at-chosen t (c .before .before .before .before .before .before .before .before .before .before .before .before
-      .before .before .before) X) (c .before .before .before .before .before .before .before .before .before .before .before .before .before
-      .put-place .ensures) (c .before .before .before .before .place-value .ensures .1) _ (c .before .holds-one2 .ensures) (c .if9 .left),
-)
-
 abbrev place-value-claims : ℕ → place-value-lts.Claims
 place-value-claims t = (
   unpack-reads.Asked,
@@ -801,55 +454,198 @@ pub +place-members+place-value-spec : {M : Type 1} → statement M
     place-members.Post
     place-members-Inv-loop
     place-members-μ-loop
-    (place-members-unpack-requires t)  -- place-members-unpack-requires
-    (place-members-parts-requires t)  -- place-members-parts-requires
-    (place-members-locate-requires t)  -- place-members-locate-requires
-    (place-members-begin-requires t)  -- place-members-begin-requires
-    (place-members-loop-holds t)  -- place-members-loop-holds
-    (place-members-following-requires t)  -- place-members-following-requires
-    (place-members-put-absent-requires t)  -- place-members-put-absent-requires
-    (place-members-same-length t)  -- place-members-same-length
-    (place-members-returns t)  -- place-members-returns
-    (place-members-mul-at t)  -- place-members-mul-at
-    (place-members-array-read-at t)  -- place-members-array-read-at
-    (place-members-cast-at t)  -- place-members-cast-at
-    (place-members-sub-at t)  -- place-members-sub-at
-    (place-members-holds-one-requires t)  -- place-members-holds-one-requires
-    (place-members-is-over-requires t)  -- place-members-is-over-requires
-    (place-members-finish-requires t)  -- place-members-finish-requires
-    (place-members-behind-requires t)  -- place-members-behind-requires
-    (place-members-same-length-2 t)  -- place-members-same-length-2
-    (place-members-returns-2 t)  -- place-members-returns-2
-    (place-members-add-from t)  -- place-members-add-from
-    (place-members-mul-octet t)  -- place-members-mul-octet
-    (place-members-add-octet t)  -- place-members-add-octet
-    (place-members-octet-requires t)  -- place-members-octet-requires
-    (place-members-mul-first t)  -- place-members-mul-first
-    (place-members-element-copy-out-first t)  -- place-members-element-copy-out-first
-    (place-members-first-requires t)  -- place-members-first-requires
-    (place-members-shared-slice-read-fits t)  -- place-members-shared-slice-read-fits
-    (place-members-cast-fits t)  -- place-members-cast-fits
-    (place-members-sub-rest t)  -- place-members-sub-rest
-    (place-members-part-rest-start t)  -- place-members-part-rest-start
-    (place-members-part-rest-end t)  -- place-members-part-rest-end
-    (place-members-search-requires t)  -- place-members-search-requires
-    (place-members-enum-told t)  -- place-members-enum-told
-    (place-members-enum-known-x t)  -- place-members-enum-known-x
-    (place-members-add-from-2 t)  -- place-members-add-from-2
-    (place-members-put-way-requires t)  -- place-members-put-way-requires
-    (place-members-has-members-requires t)  -- place-members-has-members-requires
-    (place-members-put-absent-requires-2 t)  -- place-members-put-absent-requires-2
-    (place-members-put-place-requires t)  -- place-members-put-place-requires
-    (place-members-add-j t)  -- place-members-add-j
-    (place-members-mul-place-value t)  -- place-members-mul-place-value
-    (place-members-element-copy-out-place-value t)  -- place-members-element-copy-out-place-value
-    (place-members-place-value-requires t)  -- place-members-place-value-requires
-    (place-members-add-count t)  -- place-members-add-count
-    (place-members-holds-one-requires-2 t)  -- place-members-holds-one-requires-2
-    (place-members-same-length-3 t)  -- place-members-same-length-3
-    (place-members-returns-3 t)  -- place-members-returns-3
-    (place-members-loop-less t)  -- place-members-loop-less
-    (place-members-loop-again t))  -- place-members-loop-again
+    (λ c κs. tt)  -- place-members-unpack-requires
+    (λ c κs. tt)  -- place-members-parts-requires
+    (λ c κs.
+    let c5 = c .before .before .before .before .before in
+    let p = c5 .before .before .before .before .pre .1 in
+    let k = ap (λ (e : Entry). e .kind) (c5 .unpack .ensures) in
+    (p .ready, p .known, sym k ∙ c .before .before .if1 .taken, p .short, refl, p .ways))  -- place-members-locate-requires
+    (λ c κs. begin-room (at-given t (c .before .before .before)))  -- place-members-begin-requires
+    (λ c. (
+      at-located t (c .before .before .before .before) .0,
+      refl,
+      λ first X. state-first X _ (c .before .before .begin .ensures .0),
+    ))  -- place-members-loop-holds
+    (λ c κs.
+    let c3 = c .before .before .before in
+    let c6 = c3 .before .before .before in
+    let X = at-started t (c6) in (
+      set-low X (c3 .loop .inv .2 _ X) (c .before .if2 .taken),
+      its-few (X .given),
+      at-located t (c6 .before .before) .1,
+    ))  -- place-members-following-requires
+    (λ c κs.
+    let c3 = c .before .before .before in
+    let c5 = c3 .before .before in
+    let X = at-started t (c5 .before .before .before) in
+    set-room X (c5 .loop .inv .2 _ X) (c3 .if2 .taken) _ (c .before .following .ensures .most))  -- place-members-put-absent-requires
+    (λ c.
+    let c4 = c .before .before .before .before in
+    let c10 = c4 .before .before .before .before .before .before in
+    c4 .put-absent .kept .0 ∙ c10 .loop .inv .1 ∙ c10 .before .before .before .begin .kept .1 .1 .0)  -- place-members-same-length
+    (λ c.
+    let c4 = c .before .before .before .before in
+    let c6 = c4 .before .before in
+    let c8 = c6 .before .before in
+    let c10 = c8 .before .before in
+    let l = c10 .loop in
+    let X = at-started t (c10 .before .before .before) in (
+      l .inv .0,
+      set-over X (l .inv .2 _ X) (c8 .if2 .taken) _ (c6 .following .ensures) (c4 .put-absent .ensures) (c .if3 .taken),
+    ))  -- place-members-returns
+    (λ c. let z = at-came t c in omega arith)  -- place-members-mul-at
+    (λ c. let z = at-came t c in omega arith)  -- place-members-array-read-at
+    (λ c. let z = at-came t c in omega arith)  -- place-members-cast-at
+    (λ c. let z = at-came t c in omega arith)  -- place-members-sub-at
+    (λ c κs. tt)  -- place-members-holds-one-requires
+    (λ c κs. tt)  -- place-members-is-over-requires
+    (λ c κs.
+    let c3 = c .before .before .before in
+    let c4 = c3 .before in
+    let c5 = c4 .before in
+    let c7 = c5 .before .before in
+    let X = at-started t (c7 .before .before .before) in
+    finish-room X (c7 .loop .inv .2 _ X) (c5 .if2 .left) _ (c4 .holds-one .ensures) (not-true _ (c3 .if4 .taken)) _
+    (c .before .before .is-over .ensures))  -- place-members-finish-requires
+    (λ c κs.
+    let c8 = c .before .before .before .before .before .before .before .before in
+    let c10 = c8 .before .before in
+    let X = at-started t (c10 .before .before .before) in
+    omega (arith, other-low X (c10 .loop .inv .2 _ X) (c8 .if2 .left), X .given .short))  -- place-members-behind-requires
+    (λ c.
+    let c3 = c .before .before .before in
+    let c11 = c3 .before .before .before .before .before .before .before .before in
+    c3 .finish .kept .1 .1 .1 .1 .0 ∙ c11 .loop .inv .1 ∙ c11 .before .before .before .begin .kept .1 .1 .0)  -- place-members-same-length-2
+    (λ c.
+    let c3 = c .before .before .before in
+    let c5 = c3 .before .before in
+    let c6 = c5 .before in
+    let c7 = c6 .before in
+    let c8 = c7 .before in
+    let c9 = c8 .before in
+    let c11 = c9 .before .before in
+    let l = c11 .loop in
+    let X = at-started t (c11 .before .before .before) in (
+      l .inv .0,
+      other-over X (l .inv .2 _ X) (c9 .if2 .left) _ (c8 .holds-one .ensures) (not-true _ (c7 .if4 .taken)) _
+          (c6 .is-over .ensures) (c5 .if5 .taken) (c3 .finish .ensures) (c .behind .ensures),
+    ))  -- place-members-returns-2
+    (λ c. let l = at-low t (c .before) in omega arith)  -- place-members-add-from
+    (λ c.
+    let c5 = c .before .before .before .before .before in
+    let c10 = c5 .before .before .before .before .before in
+    omega (arith, part-near (at-started t (c10)) _ (at-item t (c5) (at-started t (c10))) (c .before .before .if6 .taken)))  -- place-members-mul-octet
+    (λ c.
+    let c3 = c .before .before .before in
+    let c6 = c3 .before .before .before in
+    let c11 = c6 .before .before .before .before .before in
+    omega (arith, part-near (at-started t (c11)) _ (at-item t (c6) (at-started t (c11))) (c3 .if6 .taken)))  -- place-members-add-octet
+    (λ c κs. tt)  -- place-members-octet-requires
+    (λ c. let l = at-type t c in omega arith)  -- place-members-mul-first
+    (λ c. at-type t c)  -- place-members-element-copy-out-first
+    (λ c κs. tt)  -- place-members-first-requires
+    (λ c.
+    at-low t (c .before .before .before .before .before .before .before .before .before .before) .0)  -- place-members-shared-slice-read-fits
+    (λ c.
+    let c10 = c .before .before .before .before .before .before .before .before .before .before in
+    omega (
+      arith,
+      c10 .before .before .before .before .before .before .before .before .before .before .before .before .shared-slice-known2 .given
+          (c10 .if2 .at),
+    ))  -- place-members-cast-fits
+    (λ c. let l = at-low t (c .before .before .before .before) in omega arith)  -- place-members-sub-rest
+    (λ c. let l = at-low t (c .before .before .before .before) in omega arith)  -- place-members-part-rest-start
+    (λ c. let l = at-low t (c .before .before .before .before) in omega arith)  -- place-members-part-rest-end
+    (λ c κs.
+    let c9 = c .before .before .before .before .before .before .before .before .before in
+    (sound (at-started t (c9 .before .before .before)) 0, c9 .loop .inv .0))  -- place-members-search-requires
+    (λ c. search needs)  -- place-members-enum-told
+    (λ c. search needs)  -- place-members-enum-known-x
+    (λ c.
+    let c4 = c .before .before .before .before in
+    let c12 = c4 .before .before .before .before .before .before .before .before in
+    let X = at-started t (c12 .before .before .before .before .before) in
+    let l = found-low X _ (at-item t (c12) X) _ _ (c4 .search .ensures .0) (rw (c .before .before .x .given .1) at (at-sought t (c4)))
+    in
+    omega (arith, l, X .given .short))  -- place-members-add-from-2
+    (λ c κs.
+    let c4 = c .before .before .before .before in
+    let c6 = c4 .before .before in
+    let c14 = c6 .before .before .before .before .before .before .before .before in
+    let X = at-started t (c14 .before .before .before .before .before) in
+    let F = rw (c4 .x .given .1) at (at-sought t (c6)) in
+    let C = at-item t (c14) X in
+    let w = c6 .search .ensures .0 in
+    (omega (arith, found-deep X _ C _ _ w F, w), w, found-room X _ C _ _ w F))  -- place-members-put-way-requires
+    (λ c κs. tt)  -- place-members-has-members-requires
+    (λ c κs.
+    let c3 = c .before .before .before in
+    at-picked t (c3) (at-started t
+    (c3 .before .before .before .before .before .before .before .before .before .before .before .before .before .before)) .1
+    (sym (c .before .before .has-members .ensures) ∙ c .before .if8 .taken))  -- place-members-put-absent-requires-2
+    (λ c κs.
+    let c10 = c .before .before .before .before .before .before .before .before .before .before in
+    chosen-node (at-started t (c10)) _ (at-chosen t (c .before) (at-started t (c10))))  -- place-members-put-place-requires
+    (λ c.
+    let c6 = c .before .before .before .before .before .before in
+    let X = at-started t (c6 .before .before .before .before .before .before .before .before .before) in
+    omega (arith, chosen-onward X _ (at-chosen t (c6) X)))  -- place-members-add-j
+    (λ c.
+    let c7 = c .before .before .before .before .before .before .before in
+    let X = at-started t (c7 .before .before .before .before .before .before .before .before .before) in
+    omega (arith, at-chosen t (c7) X .low, X .given .ready .passes .few))  -- place-members-mul-place-value
+    (λ c.
+    let c7 = c .before .before .before .before .before .before .before in
+    let X = at-started t (c7 .before .before .before .before .before .before .before .before .before) in
+    omega (arith, at-chosen t (c7) X .low, X .given .ready .passes .few))  -- place-members-element-copy-out-place-value
+    (λ c κs.
+    let c8 = c .before .before .before .before .before .before .before .before in
+    let c10 = c8 .before .before in
+    let c19 = c10 .before .before .before .before .before .before .before .before .before in
+    let X = at-started t (c19) in (
+      omega (arith, c19 .before .before .before .before .before .before .before .before .before .pre .0),
+      chosen-asks X _ (at-chosen t (c10) X) (c8 .put-place .ensures) _ (at-grown t (c10) .1),
+    ))  -- place-members-place-value-requires
+    (λ c.
+    let c19 = c .before .before .before .before .before .before .before .before .before .before .before .before .before .before .before .before .before .before .before in
+    let X = at-started t (c19 .before .before .before) in
+    omega (arith, state-count X (c19 .loop .inv .2 _ X)))  -- place-members-add-count
+    (λ c κs. tt)  -- place-members-holds-one-requires-2
+    (λ c.
+    let c4 = c .before .before .before .before in
+    let c13 = c4 .before .before .before .before .before .before .before .before .before in
+    let c15 = c13 .before .before in
+    let c21 = c15 .before .before .before .before .before .before in
+    c4 .place-value .kept .1 .1 .1 .1 .1 .1 .0 ∙ c13 .put-place .kept .1 .1 .0 ∙ at-grown t (c15) .0 ∙ c21 .loop .inv .1
+    ∙ c21 .before .before .before .begin .kept .1 .1 .0)  -- place-members-same-length-3
+    (λ c.
+    let c4 = c .before .before .before .before in
+    let c13 = c4 .before .before .before .before .before .before .before .before .before in
+    let c15 = c13 .before .before in
+    let X = at-started t (c15 .before .before .before .before .before .before .before .before .before) in (
+      c4 .place-value .ensures .0,
+      chosen-one X _ (at-chosen t (c15) X) (c13 .put-place .ensures) (c4 .place-value .ensures .1) _
+          (c .before .holds-one2 .ensures) (c .if9 .taken),
+    ))  -- place-members-returns-3
+    (λ c.
+    let c4 = c .before .before .before .before in
+    let c13 = c4 .before .before .before .before .before .before .before .before .before in
+    let c15 = c13 .before .before in
+    let c19 = c15 .before .before .before .before in
+    let X = at-started t (c19 .before .before .before .before .before) in
+    let l = at-turn t (c19) in
+    chosen-fewer X _ (at-chosen t (c15) X) (c13 .put-place .ensures) (c4 .place-value .ensures .1) _ _ (l .1) (l .2))  -- place-members-loop-less
+    (λ c.
+    let c4 = c .before .before .before .before in
+    let c13 = c4 .before .before .before .before .before .before .before .before .before in
+    let c15 = c13 .before .before in (
+      c4 .place-value .ensures .0,
+      c4 .place-value .kept .1 .1 .1 .1 .1 .1 .0 ∙ c13 .put-place .kept .1 .1 .0 ∙ at-grown t (c15) .0
+          ∙ c15 .before .before .before .before .before .before .loop .inv .1,
+      λ first X. chosen-next X _ (at-chosen t (c15) X) (c13 .put-place .ensures) (c4 .place-value .ensures .1) _
+          (c .before .holds-one2 .ensures) (c .if9 .left),
+    )))  -- place-members-loop-again
     λ t. place-value-lts.spec (place-value-claims t)
     (place-value-at t)
     place-value.Post

@@ -12,7 +12,8 @@ use Rattle.table.specs.Entries.{tableIn}
 use Rattle.reader.specs.Codes.{searchIn, hit}
 use Rattle.reader.specs.Items.{awaits, first}
 use Rattle.reader.specs.Sought.{held}
-use Rattle.reader.proofs.Searching.{Parted, Counted, Candidate, near, few-parts, table-part, turn-part, candidate, candidate-low, indirect-part, indirect-stop}
+use Rattle.reader.proofs.Searching.{Parted, Counted, Candidate, near, few-parts, table-part, turn-part, candidate, candidate-low}
+use Rattle.reader.proofs.Searching.{indirect-part, indirect-stop}
 use Rattle.reader.proofs.Searching.{indirect-optional, indirect-other, indirect-come, indirect-end, indirect-none}
 use Rattle.reader.proofs.search.indirect.Statement.{statement}
 use Rattle.reader.proofs.search.indirect.Tie as tie
@@ -120,7 +121,8 @@ indirect-spec =
     ))  -- add-optional
     (λ c κs. tt)  -- optional-requires
     (λ c κs.
-    let q = c .before .before .before .before .before .before .before .before .before .before .before .before .before .before .before .before .before .before .before .before .pre in
+    let c10 = c .before .before .before .before .before .before .before .before .before .before in
+    let q = c10 .before .before .before .before .before .before .before .before .before .before .pre in
     (_, q .0, q .1))  -- unawaited-requires
     (λ c.
     let c5 = c .before .before .before .before .before in

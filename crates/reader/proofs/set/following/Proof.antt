@@ -30,8 +30,9 @@ following-spec =
     (λ c. omega arith)  -- add-k
     (λ c. omega arith)  -- loop-less
     (λ c.
-    let v = c .before .before .before .loop .inv in
-    (omega arith, omega arith, passed-more (now (c .before .before .before .before .args .began)) _ _ (v .2) (c .if1 .left)))  -- loop-again
+    let c3 = c .before .before .before in
+    let v = c3 .loop .inv in
+    (omega arith, omega arith, passed-more (now (c3 .before .args .began)) _ _ (v .2) (c .if1 .left)))  -- loop-again
     (λ c.
     let v = c .before .loop .inv in
     record { least = c .before .before .pre .0; most = omega arith; none = λ i x y. v .2 i x (omega arith); came = λ l z. omega arith }))  -- returns-2

@@ -33,98 +33,91 @@ locate-spec =
     Inv-loop
     μ-loop
     (λ c.
-    let a = c .before .before .args in
-    let p = c .before .before .pre in
-    (omega arith, rw (p .4), p .5, located-first (p .0) (p .1) (now (a .m)) (a .marked) (now (a .began)) (p .4)))  -- loop-holds
+    let c2 = c .before .before in
+    let p = c2 .pre in
+    (omega arith, rw (p .4), p .5, located-first (p .0) (p .1) _ (c2 .args .marked) _ (p .4)))  -- loop-holds
     (λ c κs. search needs)  -- is-over-requires
     (λ c κs. omega arith)  -- behind-requires
     (λ c.
-    let a = c .before .before .before .before .before .before .args in
-    let p = c .before .before .before .before .before .before .pre in
-    let v = c .before .before .before .loop .inv in (
+    let c3 = c .before .before .before in
+    let c6 = c3 .before .before .before in
+    let p = c6 .pre in
+    let v = c3 .loop .inv in (
       v .1,
       v .2,
-      located-over (p .0) (p .1) (now (a .m)) (a .marked) (c .before .before .before .loop .began) (c .before .before .before .loop .at)
-          (v .0) (v .3) _ (c .before .before .is-over .ensures) (c .before .if1 .taken) _
-          (c .behind .ensures),
+      located-over (p .0) (p .1) _ (c6 .args .marked) _ _ (v .0) (v .3) _ (c .before .before .is-over .ensures)
+          (c .before .if1 .taken) _ (c .behind .ensures),
     ))  -- returns
     (λ c. omega arith)  -- sub-rest
     (λ c. omega arith)  -- part-rest-start
     (λ c. omega arith)  -- part-rest-end
     (λ c κs.
-    let a = c .before .before .before .before .before .before .before .before .before .args in
-    let p = c .before .before .before .before .before .before .before .before .before .pre in
-    let v = c .before .before .before .before .before .before .loop .inv in
-    (set-sound (p .0) (p .1) (p .2) (c .before .before .before .before .before .before .loop .began) (v .1), v .2))  -- search-requires
+    let c6 = c .before .before .before .before .before .before in
+    let p = c6 .before .before .before .pre in
+    let v = c6 .loop .inv in
+    (set-sound (p .0) (p .1) (p .2) _ (v .1), v .2))  -- search-requires
     (λ c. search needs)  -- enum-told
     (λ c.
-    let a = c .before .before .before .before .before .before .before .before .before .before .before .before .args in
-    let p = c .before .before .before .before .before .before .before .before .before .before .before .before .pre in
-    let v = c .before .before .before .before .before .before .before .before .before .loop .inv in (
+    let c2 = c .before .before in
+    let c7 = c2 .before .before .before .before .before in
+    let c8 = c7 .before in
+    let c9 = c8 .before in
+    let c12 = c9 .before .before .before in
+    let p = c12 .pre in
+    let v = c9 .loop .inv in (
       v .1,
-      c .before .before .search .ensures .0,
-      located-none (p .0) (p .1) (now (a .m)) (a .marked) (c .before .before .before .before .before
-          .before .before .before .before .loop .began) (c .before .before .before .before .before .before .before .before .before .loop .at) (v .0) (v .3)
-          _ (c .before .before .before .before .before .before .before .before .is-over .ensures)
-          (c .before .before .before .before .before .before .before .if1 .left) _ (c .before .before .search .result) (rw from-is at (c .before .before
-          .search .ensures .1)) _ (c .enum-told .given .1) _,
+      c2 .search .ensures .0,
+      located-none (p .0) (p .1) _ (c12 .args .marked) _ _ (v .0) (v .3) _ (c8 .is-over .ensures) (c7 .if1 .left) _ _ (rw from-is
+          at (c2 .search .ensures .1)) _ (c .enum-told .given .1) _,
     ))  -- returns-2
     (λ c. search needs)  -- enum-known-x
     (λ c. omega arith)  -- add-began
     (λ c. omega arith)  -- cast-began
     (λ c.
-    let a = c .before .before .before .before .before .before .before .before .before .before .before .before .before .args in
-    let p = c .before .before .before .before .before .before .before .before .before .before .before .before .before .pre in
-    let q = place-low (p .0) (p .1) (c .before .before .before .before .before .before .before .before .before .before .loop .began) (drop (c .before
-    .before .before .before .before .before .before .before .before .before .loop .at) (now (a .m))) _ (c .before .before .before .search .result)
-    (rw from-is at (c .before .before .before .search .ensures .1)) _ (c .before .x .given .1)
-    (p .2) in
+    let c3 = c .before .before .before in
+    let c10 = c3 .before .before .before .before .before .before .before in
+    let c13 = c10 .before .before .before in
+    let l = c10 .loop in
+    let p = c13 .pre in
+    let q = place-low (p .0) (p .1) (l .began) (drop (l .at) (now (c13 .args .m))) _ _ (rw from-is at (c3 .search .ensures .1)) _
+    (c .before .x .given .1) (p .2) in
     omega arith)  -- mul-began
     (λ c.
-    let a = c .before .before .before .before .before .before .before .before .before .before .before .before .before .args in
-    let p = c .before .before .before .before .before .before .before .before .before .before .before .before .before .pre in
-    place-low (p .0) (p .1) (c .before .before .before .before .before .before .before .before .before .before .loop .began) (drop (c .before .before
-    .before .before .before .before .before .before .before .before .loop .at) (now (a .m))) _ (c .before .before .before .search .result) (rw
-    from-is at (c .before .before .before .search .ensures .1)) _ (c .before .x .given .1)
-    (p .2))  -- element-write-began
+    let c3 = c .before .before .before in
+    let c10 = c3 .before .before .before .before .before .before .before in
+    let c13 = c10 .before .before .before in
+    let l = c10 .loop in
+    let p = c13 .pre in
+    place-low (p .0) (p .1) (l .began) (drop (l .at) (now (c13 .args .m))) _ _ (rw from-is at (c3 .search .ensures .1)) _
+    (c .before .x .given .1) (p .2))  -- element-write-began
     (λ c κs. search needs)  -- end-requires
-    (λ c. omega (
-      arith,
-      (rw from-is at (c .end .ensures .1)),
-      length-drop (c .before .before .before .before .before .before .before .before .before
-          .before .before .loop .at) (now (c .before .before .before .before .before .before .before .before .before .before .before .before .before
-          .before .args .m)),
-    ))  -- add-at
     (λ c.
-    let a = c .before .before .before .before .before .before .before .before .before .before .before .before .before .before .args in
-    let p = c .before .before .before .before .before .before .before .before .before .before .before .before .before .before .pre in
-    let q = end-further (p .0) (p .1) (c .before .before .before .before .before .before .before .before .before .before .before .loop .began) (drop
-    (c .before .before .before .before .before .before .before .before .before .before .before .loop .at) (now (a .m))) _ (c .before .before .before
-    .before .search .result) (rw from-is at (c .before .before .before .before .search .ensures .1)) _ (c .before .before .x .given .1)
-    (c .end .result) (rw from-is at (c .end .ensures .0)) in
-    omega (
-      arith,
-      (rw from-is at (c .end .ensures .1)),
-      length-drop (c .before .before .before .before .before .before .before .before .before
-          .before .before .loop .at) (now (a .m)),
-    ))  -- loop-less
+    let c11 = c .before .before .before .before .before .before .before .before .before .before .before in
+    omega (arith, (rw from-is at (c .end .ensures .1)), length-drop (c11 .loop .at) (now (c11 .before .before .before .args .m))))  -- add-at
     (λ c.
-    let a = c .before .before .before .before .before .before .before .before .before .before .before .before .before .before .args in
-    let p = c .before .before .before .before .before .before .before .before .before .before .before .before .before .before .pre in
-    let v = c .before .before .before .before .before .before .before .before .before .before .before .loop .inv in (
-      omega (
-        arith,
-        (rw from-is at (c .end .ensures .1)),
-        length-drop (c .before .before .before .before .before .before .before .before .before
-            .before .before .loop .at) (now (a .m)),
-      ),
+    let c4 = c .before .before .before .before in
+    let c11 = c4 .before .before .before .before .before .before .before in
+    let c14 = c11 .before .before .before in
+    let a = c14 .args in
+    let l = c11 .loop in
+    let p = c14 .pre in
+    let q = end-further (p .0) (p .1) (l .began) (drop (l .at) (now (a .m))) _ _ (rw from-is at (c4 .search .ensures .1)) _
+    (c .before .before .x .given .1) _ (rw from-is at (c .end .ensures .0)) in
+    omega (arith, (rw from-is at (c .end .ensures .1)), length-drop (l .at) (now (a .m))))  -- loop-less
+    (λ c.
+    let c4 = c .before .before .before .before in
+    let c9 = c4 .before .before .before .before .before in
+    let c10 = c9 .before in
+    let c11 = c10 .before in
+    let c14 = c11 .before .before .before in
+    let a = c14 .args in
+    let l = c11 .loop in
+    let p = c14 .pre in
+    let v = l .inv in (
+      omega (arith, (rw from-is at (c .end .ensures .1)), length-drop (l .at) (now (a .m))),
       simp length-set (v .1),
-      c .before .before .before .before .search .ensures .0,
-      located-turn (p .0)
-          (p .1) (now (a .m)) (a .marked) (c .before .before .before .before .before .before .before .before .before .before .before .loop .began) (c
-          .before .before .before .before .before .before .before .before .before .before .before .loop .at) (v .0) (v .3) _ (c .before .before .before
-          .before .before .before .before .before .before .before .is-over .ensures) (c .before .before .before .before .before .before .before .before
-          .before .if1 .left) _ (c .before .before .before .before .search .result)
-          (rw from-is at (c .before .before .before .before .search .ensures .1)) _ (c .before .before .x .given .1) _ (rw from-is at (c .end .ensures
-          .2)),
+      c4 .search .ensures .0,
+      located-turn (p .0) (p .1) (now (a .m)) (a .marked) (l .began) (l .at) (v .0) (v .3) _ (c10 .is-over .ensures)
+          (c9 .if1 .left) _ _ (rw from-is at (c4 .search .ensures .1)) _ (c .before .before .x .given .1) _ (rw from-is at
+          (c .end .ensures .2)),
     )))  -- loop-again
