@@ -48,7 +48,7 @@ use Rattle.coding.specs.Judging.{judgeElements, judgeBelow, judgeValue, 
 use Rattle.coding.specs.Awaited.{beginsBody, beginsItem, beginsIn, begins}
 use Rattle.coding.specs.Reading.{isListed, decode, passes, begun, notAwaited, nothing, full, unwanted, readWrapped, readSequence, place}
 use Rattle.coding.specs.Reading.{readSet, readMany, choose, readBody, readKind, readValue, readMessage}
-use Rattle.coding.specs.Outcome.{levels, longestMessage, done as done-with, refusal, of-table, of-value, of-message, Outcome, refuse}
+use Rattle.coding.specs.Outcome.{levels, longestMessage, done as done-with, refusal, of-table, of-value, of-message, OfStage, Outcome, refuse}
 use Rattle.coding.specs.Calls.{afterReading, readOutcome, afterJudging, writeOutcome, afterCheck, wholeRead, wholeWrite, checkAnswer}
 use Rattle.coding.specs.Demands.{Accepted, NoSuchType, OfType, MessageRefused, NoRoomForValue, Read, ValueRefused, NoRoomForMessage, Wrote, Received, Sent}
 use Rattle.coding.proofs.Demands as page
@@ -235,6 +235,13 @@ pub never : (wholeRead S 2 message (room 3) .answer ≡ refusal (of-value Messag
 never = (
   page.read-refuses-no-value S table-octets 2 message (room 3) message-octets MessageRoom 0,
   page.write-refuses-no-message S table-octets 2 valueOctets (room 7) value-octets ValueRoom 0,
+)
+
+pub stages : OfStage (of-table TableShape 0) × OfStage (of-message Cut 2) × OfStage (of-value MessageRoom 0)
+stages = (
+  page.check-stages [] (of-table TableShape 0) (outcomes .0),
+  page.read-stages S 2 (0x31 ∷ 0x80 ∷ []) [] cut-octets (of-message Cut 2) (ap (λ (x : Outcome). x .answer) (outcomes .4)),
+  page.write-stages S 2 valueOctets (room 7) value-octets (of-value MessageRoom 0) (ap (λ (x : Outcome). x .answer) (outcomes .10)),
 )
 
 pub left : (wholeRead S 2 message (room 3) .buffer ≡ room 3) × (wholeWrite S 2 valueOctets (room 7) .buffer ≡ room 7)

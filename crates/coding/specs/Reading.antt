@@ -8,7 +8,7 @@ use Prim.Native.Nat.{ℕ, zero, suc}
 use lib.ListN.{length, getD, drop}
 use lib.Dec.{leb, eqb}
 use lib.IntN.{ℤ, pos, negsuc}
-use Rattle.octets.specs.declared.cause.Cause.the-variants.{Cut, NotAwaited, Contents, Trailing, MessageLevel}
+use Rattle.octets.specs.declared.cause.Cause.the-variants.{TableShape, Cut, NotAwaited, Contents, Trailing, MessageLevel}
 use Rattle.octets.specs.Answer.{Answer, got, refused, then, if, none-left}
 use Rattle.ber.specs.Reading.{readIdentifier, Mode, atEnd, readConstructed, readPrimitive}
 use Rattle.ber.specs.Integer.{integerOf, minimal}
@@ -55,6 +55,10 @@ passes f (refused c l) = false
 -- the next item begins a value of the type
 unfoldable pub begun : Table → ℕ → List ℕ → Bool
 begun T t s = passes (begins T t) (readIdentifier s)
+
+-- What cannot be: there are no more items than octets, and contents of items are of a kind that has items. Its cause is no message's.
+abbrev pub never : {A : Type 0} → List ℕ → Answer A
+never s = refused TableShape (length s)
 
 -- an item that is not awaited: 24, once its identifier octets are whole (22) and in form (23)
 unfoldable pub notAwaited : {A : Type 0} → List ℕ → Answer A
@@ -105,7 +109,7 @@ module _ (T : Table) (r : ℕ → List ℕ → Answer Value) where
 
   -- the members in the order in which they come, each one once; os are those in hand
   unfoldable pub readSet : ℕ → List Member → List (Option Value) → Mode → List ℕ → Answer (List (Option Value))
-  readSet zero ms os mode s = refused Cut 0
+  readSet zero ms os mode s = never s
   readSet (suc k) ms os mode s =
       atEnd mode s (λ u. if (allowed ms os) (got os u) λ _. refused NotAwaited (length s)) λ _.
       if (full os) (refused Trailing (length s)) λ _.
@@ -113,7 +117,7 @@ module _ (T : Table) (r : ℕ → List ℕ → Answer Value) where
 
   -- the elements after those in hand: in a list one more is always awaited
   unfoldable pub readMany : ℕ → ℕ → Mode → List Value → List ℕ → Answer (List Value)
-  readMany zero t mode vs s = refused Cut 0
+  readMany zero t mode vs s = never s
   readMany (suc k) t mode vs s =
       atEnd mode s (λ u. got vs u) λ _.
       if (not (begun T t s)) (notAwaited s) λ _.
@@ -128,12 +132,12 @@ module _ (T : Table) (r : ℕ → List ℕ → Answer Value) where
 
   -- the contents of a constructed kind
   unfoldable pub readBody : Body → Mode → List ℕ → Answer Value
-  readBody (Plain k) mode s = refused NotAwaited (length s)
+  readBody (Plain k) mode s = never s
   readBody (Sequence ms) mode s = then (readSequence ms [] false mode s) λ os s₁. got (sequence (slots os)) s₁
   readBody (Set ms) mode s = then (readSet (suc (length s)) ms (nothing ms) mode s) λ os s₁. got (set (slots os)) s₁
   readBody (SequenceOf t) mode s = then (readMany (suc (length s)) t mode [] s) λ vs s₁. got (sequenceOf (bag vs)) s₁
   readBody (SetOf t) mode s = then (readMany (suc (length s)) t mode [] s) λ vs s₁. got (setOf (bag vs)) s₁
-  readBody (Choice ts) mode s = refused NotAwaited (length s)
+  readBody (Choice ts) mode s = never s
 
   -- the item of a kind, with the identifier octets i
   unfoldable pub readKind : List ℕ → Body → List ℕ → Answer Value

@@ -133,7 +133,7 @@ module _ (T : Table) (n : ℕ) (h : Holder) where
 
   items-sane : (k j : ℕ) (came : List ℕ) (hand : Hand) (e : Mode) (s : List ℕ) → Sane (Closes e) s (readItems T (readValue T n) h k j came hand e s)
   unfolding readItems
-  items-sane zero j came hand e s = stops {l = 0} (omega arith)
+  items-sane zero j came hand e s = stops {l = length s} (omega arith)
   items-sane (suc k) j came hand e s =
       sane-if s (isSingle (manner h))
       (λ one. sane-then s (part-sane (next T h j came s) s) λ x u t _. leaves t λ many. absurd (true≢false (sym one ∙ many)))

@@ -13,7 +13,7 @@ use Rattle.octets.specs.Lists.{any}
 use Rattle.ber.specs.Reading.{Mode, atEnd}
 use Rattle.table.specs.Syntax.{Member, Body, Plain, Sequence, Set, SequenceOf, SetOf, Choice, Table}
 use Rattle.coding.specs.Value.{Value, leaf, null, sequence, set, sequenceOf, setOf, choice, slots, bag, octets}
-use Rattle.coding.specs.Reading.{begun, notAwaited, nothing}
+use Rattle.coding.specs.Reading.{begun, never, notAwaited, nothing}
 
 -- what items stand in: the contents of a record with this body, or a message of type t
 pub data Holder : Type 0 where
@@ -138,7 +138,7 @@ module _ (T : Table) (r : ℕ → List ℕ → Answer Value) where
     -- The items after those in hand. They go on to the end of the contents, where nothing must be lacking (24); where no part is left an
     -- item is 26. A CHOICE and a message have one item and no end.
     unfoldable pub readItems : ℕ → ℕ → List ℕ → Hand → Mode → List ℕ → Answer Hand
-    readItems zero j came hand mode s = refused Cut 0
+    readItems zero j came hand mode s = never s
     readItems (suc k) j came hand mode s =
         if (isSingle (manner h)) (then (readPart (next T h j came s) s) λ x s₁. got (hand ++ (x ∷ [])) s₁) λ _.
         atEnd mode s (λ u. if (lacks h j came) (refused NotAwaited (length s)) λ _. got hand u) λ _.

@@ -1,4 +1,4 @@
-// What the judge of a message answers, and why it refuses (FORMATS, "Refused").
+// What the judge of a message answers, and why it refuses (FORMATS, "Refusals").
 ghost use mathlib.Core.Path.{_≡_};
 ghost use Prim.Native.Nat.{_<_, _+_};
 ghost use Rattle.reader.specs.Answers.{cap};

@@ -1,4 +1,4 @@
-// Judges a message: finds every refusal and how long the value is; nothing is written (X.690, 8.9 to 8.14; document 01, "Messages").
+// Judges a message: finds every refusal and how long the value is; nothing is written (X.690, 8.9 to 8.14; FORMATS, "Messages").
 // m is the contents in which items stand, from their first octet on, or the message; places in it count from there. A refusal says how many
 // octets are left from its place to the end of m.
 ghost use mathlib.Core.Path.{_≡_};

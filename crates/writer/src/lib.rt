@@ -51,6 +51,7 @@ fn write_passed(
             place: 0,
         });
     }
+    // ones and not zeros, which would be cleared by a call of memset, four times as dear as these stores
     let mut notes = [1u16; 4096];
     match judge::judge(table, index, t, value, &mut notes) {
         Judged::Refused { cause, place } => Answer::Refused(Refusal::Value { cause, place }),
