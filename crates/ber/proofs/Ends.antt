@@ -9,7 +9,7 @@ use Prim.Native.Nat.{ℕ, _+_, _-_, _≤_, _<_}
 use lib.Dec.{leb, eqb}
 use lib.ListN.{length, getD, drop, length-drop}
 use Rattle.octets.specs.declared.cause.Cause.{Cause}
-use Rattle.octets.specs.declared.cause.Cause.the-variants.{Cut, Form}
+use Rattle.octets.specs.declared.cause.Cause.the-variants.{Cut, Forbidden}
 use Rattle.octets.specs.Answer.{Answer, refused, if, none-left}
 use Rattle.octets.proofs.Tests.{test}
 use Rattle.ber.proofs.Places.{none-at, some-at}
@@ -31,7 +31,7 @@ module _ (m : List ℕ) (at : ℕ) where
   unfolding endOf if none-left
   ends-half h e k = rw (some-at m at h, eq-eqb (getD m at 0) 0 e, none-at m (at + 1) k)
 
-  pub ends-wrong : at + 1 < length m → getD m at 0 ≡ 0 → (getD m (at + 1) 0 ≡ 0 → ⊥) → Broken Form ≡ endOf true (length m) (drop at m)
+  pub ends-wrong : at + 1 < length m → getD m at 0 ≡ 0 → (getD m (at + 1) 0 ≡ 0 → ⊥) → Broken Forbidden ≡ endOf true (length m) (drop at m)
   unfolding endOf if none-left
   ends-wrong h e f = rw (some-at m at (omega arith), eq-eqb (getD m at 0) 0 e, some-at m (at + 1) h, ne-eqb (getD m (at + 1) 0) 0 f)
 

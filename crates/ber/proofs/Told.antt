@@ -10,7 +10,7 @@ use mathlib.Core.Path.{_≡_, refl, sym, ap, _∙_}
 use native.Mathlib.Omega.{arith}
 use Prim.Native.Nat.{ℕ, suc, _+_, _-_, _*_, _/_, _%_, _≤_, _<_, min}
 use Rattle.octets.specs.declared.cause.Cause.{Cause}
-use Rattle.octets.specs.declared.cause.Cause.the-variants.{Cut, Form}
+use Rattle.octets.specs.declared.cause.Cause.the-variants.{Cut, Forbidden}
 use Rattle.octets.specs.Answer.{Answer, got, refused, then, if}
 use Rattle.octets.proofs.Answer.{got-holds, if-cases}
 use Rattle.octets.proofs.Lists.{behind, length-behind}
@@ -78,14 +78,14 @@ module _ (i n : ℕ) where
   long-cut (b ∷ s) h low F k = rw (le-ltb (b % 32) 31 low, F .whole _, none-at (b ∷ s) i k)
 
   pub long-zero : (m : List ℕ) → 0 < length m → 31 ≤ getD m 0 0 % 32 → Following m i n → i < length m → getD m i 0 < 128 → getD m 1 0 ≡ 128
-      → Identified m (NoIdentifier Form)
+      → Identified m (NoIdentifier Forbidden)
   unfolding toldIdentifier readIdentifier readFollowing if then
   long-zero [] h low F k z e = absurd (omega arith)
   long-zero (b ∷ s) h low F k z e =
       rw (le-ltb (b % 32) 31 low, F .whole _, some-at (b ∷ s) i k, lt-ltb (getD (b ∷ s) i 0) 128 z, F .starts, eq-eqb (getD (b ∷ s) 1 0) 128 e)
 
   pub long-few : (m : List ℕ) → 0 < length m → 31 ≤ getD m 0 0 % 32 → Following m i n → i < length m → getD m i 0 < 128 → (getD m 1 0 ≡ 128 → ⊥)
-      → getD m 1 0 < 31 → Identified m (NoIdentifier Form)
+      → getD m 1 0 < 31 → Identified m (NoIdentifier Forbidden)
   unfolding toldIdentifier readIdentifier readFollowing if then
   long-few [] h low F k z e f = absurd (omega arith)
   long-few (b ∷ s) h low F k z e f =
@@ -160,7 +160,7 @@ module _ (m : List ℕ) (at : ℕ) (some : 0 < at) (there : at ≤ length m) whe
   unfolding toldLength readLength if
   length-open e p = rw (from-before m at some there, e, left-at m at there)
 
-  pub length-reserved : getD m (at - 1) 0 ≡ 255 → Here m (at - 1) (NoLength Form)
+  pub length-reserved : getD m (at - 1) 0 ≡ 255 → Here m (at - 1) (NoLength Forbidden)
   unfolding toldLength readLength if
   length-reserved e p = rw (from-before m at some there, e)
 

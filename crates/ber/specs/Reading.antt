@@ -6,7 +6,7 @@ use mathlib.Core.Bool.{not}
 use Prim.Native.Nat.{ℕ, suc, _+_, _%_, _-_}
 use lib.Dec.{ltb, eqb, leb}
 use lib.ListN.{length, getD, take, drop}
-use Rattle.octets.specs.declared.cause.Cause.the-variants.{Cut, Form, NotAwaited}
+use Rattle.octets.specs.declared.cause.Cause.the-variants.{Cut, Forbidden, NotAwaited}
 use Rattle.octets.specs.Answer.{Answer, got, refused, then, if, behind, none-left}
 use Rattle.ber.specs.Length.{number}
 use Rattle.octets.specs.Lists.{same}
@@ -22,8 +22,8 @@ readIdentifier [] = refused Cut 0
 readIdentifier (b ∷ s) =
     if (ltb (b % 32) 31) (got (b ∷ []) s) λ _.
     then (readFollowing (suc (length s)) [] s) λ ds s₁.
-    if (eqb (getD ds 0 0) 128) (refused Form (suc (length s))) λ _.
-    if (ltb (getD ds 0 0) 31) (refused Form (suc (length s))) λ _.
+    if (eqb (getD ds 0 0) 128) (refused Forbidden (suc (length s))) λ _.
+    if (ltb (getD ds 0 0) 31) (refused Forbidden (suc (length s))) λ _.
     got (b ∷ ds) s₁
 
 pub data Size : Type 0 where
@@ -44,7 +44,7 @@ readLength l (b ∷ s) =
     if (ltb b 128) (fit l b s) λ _.
     if (eqb b 128) (got indefinite s) λ _.
     if (ltb b 255) (readLong l (b - 128) s) λ _.
-    refused Form l
+    refused Forbidden l
 
 -- contents that end where their octets do, or contents that 00 00 closes
 pub data Mode : Type 0 where
@@ -58,7 +58,7 @@ atEnd open-ended s f x =
     if (none-left s) (refused Cut 0) λ _.
     if (not (eqb (getD s 0 0) 0)) (x tt) λ _.
     if (none-left (drop 1 s)) (refused Cut (length s)) λ _.
-    if (not (eqb (getD s 1 0) 0)) (refused Form (length s)) λ _.
+    if (not (eqb (getD s 1 0) 0)) (refused Forbidden (length s)) λ _.
     f (drop 2 s)
 
 -- the identifier octets (22, 23), awaited (24), the length octets (22, 23)
@@ -79,7 +79,7 @@ readConstructed i body s = then (readHeader i s) (inside body)
 -- a primitive item has no indefinite form (23); l octets are left where the item begins
 unfoldable pub contents : ℕ → Size → List ℕ → Answer (List ℕ)
 contents l (definite n) s = got (take n s) (drop n s)
-contents l indefinite s = refused Form l
+contents l indefinite s = refused Forbidden l
 
 unfoldable pub readPrimitive : List ℕ → List ℕ → Answer (List ℕ)
 readPrimitive i s = then (readHeader i s) (contents (length s))

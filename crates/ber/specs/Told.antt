@@ -8,7 +8,7 @@ use Prim.Native.Nat.{ℕ, zero, suc, _+_, _-_, _/_, _%_}
 use lib.Dec.{leb, eqb}
 use lib.IntN.{ℤ, pos}
 use lib.ListN.{length, getD, drop}
-use Rattle.octets.specs.declared.cause.Cause.the-variants.{Cut, Form}
+use Rattle.octets.specs.declared.cause.Cause.the-variants.{Cut, Forbidden}
 use Rattle.octets.specs.Answer.{Answer, got, refused, if, none-left}
 use Rattle.ber.specs.Codes.{codeOf}
 use Rattle.ber.specs.Integer.{integerOf}
@@ -42,7 +42,7 @@ endOf true n s =
     if (none-left s) (Broken Cut) λ _.
     if (not (eqb (getD s 0 0) 0)) More λ _.
     if (none-left (drop 1 s)) (Broken Cut) λ _.
-    if (not (eqb (getD s 1 0) 0)) (Broken Form) λ _.
+    if (not (eqb (getD s 1 0) 0)) (Broken Forbidden) λ _.
     Over (n - length (drop 2 s))
 
 -- x is the extent of a length that can be read

@@ -29,7 +29,9 @@ fn marked_end(m: &[u8], at: usize) -> End
         return End::Broken { cause: Cause::Cut };
     }
     if m[second] != 0 {
-        return End::Broken { cause: Cause::Form };
+        return End::Broken {
+            cause: Cause::Forbidden,
+        };
     }
     let end = at + 2;
     End::Over { end }

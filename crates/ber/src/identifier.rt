@@ -53,10 +53,14 @@ fn read_long(m: &[u8], lead: u32) -> Identifier
         if d < 128 {
             let f = m[1];
             if f == 128 {
-                return Identifier::Refused { cause: Cause::Form };
+                return Identifier::Refused {
+                    cause: Cause::Forbidden,
+                };
             }
             if f < 31 {
-                return Identifier::Refused { cause: Cause::Form };
+                return Identifier::Refused {
+                    cause: Cause::Forbidden,
+                };
             }
             let code = lead + 256 * n;
             return Identifier::Read { code, end: i };

@@ -66,7 +66,9 @@ fn read_other(m: &[u8], at: usize, first: usize) -> Length
         });
     }
     if first == 255 {
-        return Length::Refused { cause: Cause::Form };
+        return Length::Refused {
+            cause: Cause::Forbidden,
+        };
     }
     read_long(m, at, first - 128)
 }

@@ -19,7 +19,7 @@ use Rattle.ber.specs.Reading.{readIdentifier, Size, readLength, Mode, atEnd, re
 use Rattle.table.specs.Syntax.{Member, Body, Plain, Sequence, Set, SequenceOf, SetOf, Choice, Table}
 use Rattle.coding.specs.Value.{Value, leaf}
 use Rattle.coding.specs.Awaited.{further, awaited, notYetRead, anything, Slotted, no-slot, a-slot, GoesOn, an-octet, no-end, begins, beginsItem, beginsBody}
-use Rattle.coding.specs.Reading.{decode, passes, begun, notAwaited, unwanted, full, readWrapped, readSequence, place, readSet, readMany, choose, readKind, readValue, readMessage}
+use Rattle.coding.specs.Reading.{decode, passes, begun, notAwaited, unwanted, full, readWrapped, readSequence, placeMember, readSet, readMany, choose, readKind, readValue, readMessage}
 
 goes-on : {A : Type 0} {mode : Mode} {s : List ℕ} (f : List ℕ → Answer A) (x : Unit {0} → Answer A) → GoesOn mode s → atEnd mode s f x ≡ x tt
 unfolding atEnd
@@ -61,8 +61,8 @@ sequence-unwanted T r (m ∷ ms) os w mode s g e =
 
 -- In a SET, an item that begins nothing awaited.
 place-unwanted : (T : Table) (r : ℕ → List ℕ → Answer Value) {ms : List Member} {os : List (Option Value)} (s : List ℕ) → Slotted ms os
-    → any (λ t. begun T t s) (notYetRead ms os) ≡ false → place T r ms os s ≡ notAwaited s
-unfolding place notYetRead any
+    → any (λ t. begun T t s) (notYetRead ms os) ≡ false → placeMember T r ms os s ≡ notAwaited s
+unfolding placeMember notYetRead any
 place-unwanted T r s no-slot e = refl
 place-unwanted T r s (a-slot {m = m} {o = none} p) e =
     let h = or-false (begun T (m .type) s) _ e in
@@ -80,8 +80,8 @@ pub set-unwanted : (T : Table) (r : ℕ → List ℕ → Answer Value) (k : ℕ)
 unfolding readSet unwanted
 set-unwanted T r k ms os mode s g p e = goes-on _ _ g ∙ by (anything (notYetRead ms os)) (full-anything p) (place-unwanted T r s p e)
   where
-    by : (b : Bool) → full os ≡ not b → place T r ms os s ≡ notAwaited s
-        → if (full os) (refused Trailing (length s)) (λ _. then (place T r ms os s) λ us s₁. readSet T r k ms us mode s₁) ≡ unwanted b s
+    by : (b : Bool) → full os ≡ not b → placeMember T r ms os s ≡ notAwaited s
+        → if (full os) (refused Trailing (length s)) (λ _. then (placeMember T r ms os s) λ us s₁. readSet T r k ms us mode s₁) ≡ unwanted b s
     by true f h = simp (run, f, h) (refused-on s _)
     by false f h = simp (run, f)
 

@@ -22,12 +22,12 @@ use Rattle.ber.proofs.Identifiers.{Begun}
 use Rattle.ber.proofs.Items.{Ends, no-more, mark, atEnd-end, atEnd-more, Readable, constructed-complete, primitive-complete}
 use Rattle.table.specs.Syntax.{Member, Body, Sequence, Set, SequenceOf, SetOf, Table, isChoice}
 use Rattle.coding.specs.Value.{Value, leaf, sequence, set, sequenceOf, setOf, choice, slots, bag}
-use Rattle.coding.specs.Tags.{own, explicit}
+use Rattle.coding.specs.Tags.{ownTag, explicit}
 use Rattle.coding.specs.Awaited.{types, further, awaited}
 use Rattle.coding.specs.Encodes.{allowed, Coding, Pieces, done, left, sent, At, first, later, Codes, is-plain, is-sequence, is-set}
 use Rattle.coding.specs.Encodes.{is-sequence-of, is-set-of, is-choice, Wrapped, bare, tagged, EncodesAt}
 use Rattle.coding.specs.Equivalent.{Slot, Alike, same-leaf, same-sequence, same-set, same-sequence-of, same-set-of, same-choice, EquivalentAt}
-use Rattle.coding.specs.Reading.{passes, begun, nothing, full, readWrapped, readSequence, place, readSet, readMany, choose, readBody, readKind, readValue}
+use Rattle.coding.specs.Reading.{passes, begun, nothing, full, readWrapped, readSequence, placeMember, readSet, readMany, choose, readBody, readKind, readValue}
 use Rattle.coding.proofs.Content.{content-complete}
 use Rattle.coding.specs.Awaited.{begins}
 use Rattle.coding.proofs.FirstTags.{beginsAny, Distinct, Apart, GoodBody, Proper, proper-readable, proper-begun, Begins, Good}
@@ -148,8 +148,8 @@ module _ (o : Order) (T : Table) (good : Good T) (E : Coding) (Q : Value → Val
 
   place-complete : (ms : List Member) {us os : List (Option Value)} {p : List ℕ} {ps qs : List (List ℕ)} (s : List ℕ)
       → Distinct T (types ms) → Pending E Q ms us os ps → Sel p ps qs
-      → (ws : List (Option Value)) × (place T r ms us (p ++ s) ≡ got ws s) × Pending E Q ms ws os qs
-  unfolding place Distinct
+      → (ws : List (Option Value)) × (placeMember T r ms us (p ++ s) ≡ got ws s) × Pending E Q ms ws os qs
+  unfolding placeMember Distinct
   place-complete ms s d (p-left {m = m} {ms = ms′} p) c =
       let (ws, e, x) = place-complete ms′ s (d .1) p c in
       (none ∷ ws, simp (run, begun-no (m .type) s (d .0) (starts-any p c), e), p-left x)
@@ -329,8 +329,8 @@ pub starts-at : (o : Order) (T : Table) → Good T → (n t : ℕ) (v : Value) (
 unfolding EncodesAt
 starts-at o T good zero t v m e = absurd e
 starts-at o T good (suc n) t v m e =
-    let (i, r, h, b) = wrapped-starts T {X = λ i. begins T t i ≡ true} (explicit (T t)) (own (T t)) (T t .body) (good t .begin)
-    (λ m c. kind-starts o T (EncodesAt o T n) (starts-at o T good n) (own (T t)) (T t .body) c) e in
+    let (i, r, h, b) = wrapped-starts T {X = λ i. begins T t i ≡ true} (explicit (T t)) (ownTag (T t)) (T t .body) (good t .begin)
+    (λ m c. kind-starts o T (EncodesAt o T n) (starts-at o T good n) (ownTag (T t)) (T t .body) c) e in
     record { ident = i; rest = r; is = h; begins = b }
 
 abbrev Opened : List ℕ → Type 0
@@ -358,8 +358,8 @@ value-complete o T good zero t v m s e = absurd e
 value-complete o T good (suc n) t v m s e =
     let x = wrapped-complete _
     (λ c u. kind-complete o T good (EncodesAt o T n) (EquivalentAt o n) (λ u w. readValue T n u w) (starts-at o T good n)
-    (value-complete o T good n) (own (T t)) (T t .body) u (good t .item) (good t .apart))
-    (λ c. kind-opened o T (EncodesAt o T n) (starts-at o T good n) good (own (T t)) (T t .body) (good t .item)) s (good t .inner) e in
+    (value-complete o T good n) (ownTag (T t)) (T t .body) u (good t .item) (good t .apart))
+    (λ c. kind-opened o T (EncodesAt o T n) (starts-at o T good n) good (ownTag (T t)) (T t .body) (good t .item)) s (good t .inner) e in
     record { value = x .value; answer = x .answer; alike = x .alike }
 
 -- what begins as a type does is not empty

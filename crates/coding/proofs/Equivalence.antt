@@ -8,7 +8,7 @@ use Prim.Native.Nat.{ℕ, zero, suc, _+_, _≤_}
 use lib.ListN.{length, length-append}
 use Rattle.octets.specs.Permutations.{Sel, Sel.here, Sel.there, Perm, Perm.none as none-p, Perm.next, Each, nil, cons, Order, as-given, Arranged, permuted, kept}
 use Rattle.octets.proofs.Permutations.{Perm·sym, Perm·trans, each-flip, each-map, each-then, arranged-each, arranged-perm}
-use Rattle.coding.specs.Value.{Leaf, Value, leaf, sequence, set, sequenceOf, setOf, choice, Slots, end, missing, present, slots, bag, presence, octets, parts}
+use Rattle.coding.specs.Value.{Leaf, Value, leaf, sequence, set, sequenceOf, setOf, choice, Slots, end, missing, present, slots, bag, presence, octets, slotOctets}
 use Rattle.coding.specs.Equivalent.{Slot, Alike, same-leaf, same-sequence, same-set, same-sequence-of, same-set-of, same-choice, EquivalentAt}
 
 members-of : Slots → List (Option Value)
@@ -157,24 +157,24 @@ equivalent-equal (suc n) v w h = alike-equal (equivalent-equal n) h
 
 record SameSize (s u : Slots) : Type 0 where
   flags : length (presence s) ≡ length (presence u)
-  lengths : length (parts s) ≡ length (parts u)
+  lengths : length (slotOctets s) ≡ length (slotOctets u)
 
-sel-size : {x : Value} {l r : List Value} → Sel x l r → length (parts (bag l)) ≡ length (octets x) + length (parts (bag r))
+sel-size : {x : Value} {l r : List Value} → Sel x l r → length (slotOctets (bag l)) ≡ length (octets x) + length (slotOctets (bag r))
 unfolding bag octets
-sel-size {x = x} (here {l = l}) = length-append (octets x) (parts (bag l))
+sel-size {x = x} (here {l = l}) = length-append (octets x) (slotOctets (bag l))
 sel-size {x = x} (there {y = y} {l = l} {r = r} s) =
     let h = sel-size s in
-    let a = length-append (octets y) (parts (bag l)) in
-    let b = length-append (octets y) (parts (bag r)) in
+    let a = length-append (octets y) (slotOctets (bag l)) in
+    let b = length-append (octets y) (slotOctets (bag r)) in
     omega arith
 
-perm-size : {l r : List Value} → Perm l r → length (parts (bag l)) ≡ length (parts (bag r))
+perm-size : {l r : List Value} → Perm l r → length (slotOctets (bag l)) ≡ length (slotOctets (bag r))
 unfolding bag octets
 perm-size none-p = refl
 perm-size (next {x = x} {l′ = l′} {r = r} s p) =
     let h = sel-size s in
     let k = perm-size p in
-    let a = length-append (octets x) (parts (bag r)) in
+    let a = length-append (octets x) (slotOctets (bag r)) in
     omega arith
 
 module _ {Q : Value → Value → Type 0} (f : (a b : Value) → Q a b → length (octets a) ≡ length (octets b)) where
@@ -186,8 +186,8 @@ module _ {Q : Value → Value → Type 0} (f : (a b : Value) → Q a b → lengt
   slot-size (some v) (some w) os ps h k =
       let e = f v w h in
       let z = k .lengths in
-      let a = length-append (octets v) (parts (slots os)) in
-      let b = length-append (octets w) (parts (slots ps)) in
+      let a = length-append (octets v) (slotOctets (slots os)) in
+      let b = length-append (octets w) (slotOctets (slots ps)) in
       record { flags = ap suc (k .flags); lengths = omega arith }
 
   slots-size : {os ps : List (Option Value)} → Each (Slot Q) os ps → SameSize (slots os) (slots ps)
@@ -195,14 +195,14 @@ module _ {Q : Value → Value → Type 0} (f : (a b : Value) → Q a b → lengt
   slots-size nil = record { flags = refl; lengths = refl }
   slots-size (cons {a = a} {b = b} {l = os} {r = ps} h t) = slot-size a b os ps h (slots-size t)
 
-  bag-size : {vs ws : List Value} → Each Q vs ws → length (parts (bag vs)) ≡ length (parts (bag ws))
+  bag-size : {vs ws : List Value} → Each Q vs ws → length (slotOctets (bag vs)) ≡ length (slotOctets (bag ws))
   unfolding bag octets
   bag-size nil = refl
   bag-size (cons {a = v} {b = w} {l = vs} {r = ws} h t) =
       let e = f v w h in
       let z = bag-size t in
-      let a = length-append (octets v) (parts (bag vs)) in
-      let b = length-append (octets w) (parts (bag ws)) in
+      let a = length-append (octets v) (slotOctets (bag vs)) in
+      let b = length-append (octets w) (slotOctets (bag ws)) in
       omega arith
 
   alike-length : {o : Order} {v w : Value} → Alike o Q v w → length (octets v) ≡ length (octets w)
@@ -212,15 +212,15 @@ module _ {Q : Value → Value → Type 0} (f : (a b : Value) → Q a b → lengt
       let k = slots-size h in
       let x = k .flags in
       let y = k .lengths in
-      let a = length-append (presence (slots os)) (parts (slots os)) in
-      let b = length-append (presence (slots ps)) (parts (slots ps)) in
+      let a = length-append (presence (slots os)) (slotOctets (slots os)) in
+      let b = length-append (presence (slots ps)) (slotOctets (slots ps)) in
       omega arith
   alike-length (same-set {os = os} {ps = ps} h) =
       let k = slots-size h in
       let x = k .flags in
       let y = k .lengths in
-      let a = length-append (presence (slots os)) (parts (slots os)) in
-      let b = length-append (presence (slots ps)) (parts (slots ps)) in
+      let a = length-append (presence (slots os)) (slotOctets (slots os)) in
+      let b = length-append (presence (slots ps)) (slotOctets (slots ps)) in
       omega arith
   alike-length (same-sequence-of h) = let k = bag-size h in omega arith
   alike-length (same-set-of us p h) = let a = perm-size (arranged-perm p) in let k = bag-size h in omega arith

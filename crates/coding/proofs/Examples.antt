@@ -23,14 +23,14 @@ use Rattle.table.specs.Decide.{share, pair, sharing, finiteBody, finiteStep, in
 use Rattle.table.specs.Verdict.{judgeChoices, judge, verdict}
 use Rattle.coding.specs.Value.{slots, bag, leafOctets, count, presence, octets}
 use Rattle.coding.specs.Content.{listed}
-use Rattle.coding.specs.Tags.{identifierOf, last, before, explicitTags, own, explicit}
+use Rattle.coding.specs.Tags.{identifierOf, last, before, explicitTags, ownTag, explicit}
 use Rattle.coding.specs.Encodes.{allowed}
 use Rattle.coding.specs.Form.{encode, element, alternatives, formMembers, formElements, formBody, wrap, formAt}
 use Rattle.coding.specs.Judging.{need, flags, ownMembers, ownCount, ownBoolean, ownInteger, ownString, ownBits, ownEnumerated, ownChoice}
 use Rattle.coding.specs.Judging.{readOwn, readNode, leafKind, nodeKind, numbers, leafAgrees, agreeing, counts, agrees, judgeMembers}
 use Rattle.coding.specs.Judging.{judgeElements, judgeBelow, judgeValue, judgeWhole}
 use Rattle.coding.specs.Awaited.{beginsBody, beginsItem, beginsIn, begins}
-use Rattle.coding.specs.Reading.{isListed, decode, passes, begun, notAwaited, nothing, full, unwanted, readWrapped, readSequence, place}
+use Rattle.coding.specs.Reading.{isListed, decode, passes, begun, notAwaited, nothing, full, unwanted, readWrapped, readSequence, placeMember}
 use Rattle.coding.specs.Reading.{readSet, readMany, choose, readBody, readKind, readValue, readMessage}
 use Rattle.coding.specs.Calls.{afterReading, readOutcome, afterJudging, writeOutcome, afterCheck, wholeWrite, wholeRead, checkAnswer}
 use Rattle.coding.specs.Outcome.{Outcome, Told, done, refusal, numberOf, placeOf}
@@ -215,9 +215,9 @@ unfolding if then behind none-left any all joined tabulate lowestFrom same leadi
     contents readPrimitive references isChoice universal constructed kind rising bodyBelow tagsBelow parts members tagsAt numbersAt membersAt everyAt
     bodyAt recordAt countedEnd enumeratedEnd membersEnd ownEnd recordEnd scanFrom scan look round rounds found dangling wrongTags reachStep circular
     sameTag tagBegins firstStep firstOfBoth share pair sharing finiteBody finiteStep infinite judgeChoices judge verdict slots bag leafOctets count
-    presence octets listed identifierOf last before explicitTags own explicit allowed encode element alternatives formMembers formElements formBody
+    presence octets listed identifierOf last before explicitTags ownTag explicit allowed encode element alternatives formMembers formElements formBody
     wrap formAt need flags ownMembers ownCount ownBoolean ownInteger ownString ownBits ownEnumerated ownChoice readOwn readNode leafKind nodeKind
     numbers leafAgrees agreeing counts agrees judgeMembers judgeElements judgeBelow judgeValue judgeWhole beginsBody beginsItem beginsIn begins
-    isListed decode passes begun notAwaited nothing full unwanted readWrapped readSequence place readSet readMany choose readBody readKind readValue
+    isListed decode passes begun notAwaited nothing full unwanted readWrapped readSequence placeMember readSet readMany choose readBody readKind readValue
     readMessage afterReading readOutcome afterJudging writeOutcome afterCheck wholeWrite wholeRead checkAnswer
 examples-right = refl

@@ -20,7 +20,7 @@ use Rattle.table.specs.Syntax.{SequenceOf, SetOf, Choice, Record, Table, absent
 use Rattle.table.specs.Rules.{Mistagged, missing, not-last, not-its-number, on-choice, bodyBelow, tagsBelow, below, First, outermost, inside, parts, Sharing}
 use Rattle.table.specs.Passes.{Nested, Passes}
 use Rattle.coding.specs.Awaited.{types, further, awaited}
-use Rattle.coding.specs.Tags.{identifierOf, last, before, explicitTags, own, explicit}
+use Rattle.coding.specs.Tags.{identifierOf, last, before, explicitTags, ownTag, explicit}
 use Rattle.coding.specs.Awaited.{beginsBody, beginsItem, beginsIn, begins}
 
 -- i begins one of the types
@@ -73,9 +73,9 @@ Begins T (e ∷ es) o b i = i ≡ e
 -- all that completeness takes from the table's check, for one record
 pub record GoodRecord (T : Table) (t : ℕ) : Type 0 where
   pub apart : GoodBody T (T t .body)
-  pub begin : (i : List ℕ) → Begins T (explicit (T t)) (own (T t)) (T t .body) i → begins T t i ≡ true
+  pub begin : (i : List ℕ) → Begins T (explicit (T t)) (ownTag (T t)) (T t .body) i → begins T t i ≡ true
   pub inner : Every Proper (explicit (T t))
-  pub item : isChoice (T t .body) ≡ false → Proper (own (T t))
+  pub item : isChoice (T t .body) ≡ false → Proper (ownTag (T t))
   pub first : (i : List ℕ) → begins T t i ≡ true → Proper i
 
 abbrev pub Good : Table → Type 0
@@ -245,8 +245,8 @@ tag-real r f g rest e true k c z = f (on-choice g (rw e (List·Memᴰ·head refl
 tag-real r f g [] e false k c z = f (not-its-number [] g e c (λ q. universal-some (r .body) k (sym q ∙ z)))
 tag-real r f g (h ∷ rest) e false k c z = f (not-last [] rest g h e c)
 
-own-real : (r : Record) → (Mistagged r → ⊥) → isChoice (r .body) ≡ false → Proper (own r)
-unfolding own
+own-real : (r : Record) → (Mistagged r → ⊥) → isChoice (r .body) ≡ false → Proper (ownTag r)
+unfolding ownTag
 own-real r f k =
     record {
       tag = last (r .body) (r .tags);
@@ -314,7 +314,7 @@ module _ (b : List ℕ) (T : Table) (n : ℕ) (p : Passes b T n) where
   untagged t e = test (isChoice (T t .body)) (λ k. k) (λ k. absurd (tagged-all t (missing e k)))
 
   named : (k t : ℕ) (i : List ℕ) → beginsIn T k t i ≡ true → Named T t i
-  unfolding beginsIn explicit own
+  unfolding beginsIn explicit ownTag
   named zero t i e = absurd (false≢true e)
   named (suc k) t i e = from (λ a. named k a i) (shown (λ a. beginsIn T k a i) i (T t .tags) (T t .body) (untagged t) e)
     where
@@ -337,7 +337,7 @@ module _ (b : List ℕ) (T : Table) (n : ℕ) (p : Passes b T n) where
   unfolding beginsIn
   bounded k zero t i d e = absurd (false≢true e)
   bounded k (suc j) t i d e =
-      item-mono (λ a. beginsIn T j a i) (λ a. beginsIn T k a i) i (explicit (T t)) (own (T t)) (T t .body)
+      item-mono (λ a. beginsIn T j a i) (λ a. beginsIn T k a i) i (explicit (T t)) (ownTag (T t)) (T t .body)
       (λ ts x q u m f. let (l, h, y) = next-below k t u ts d x q m in rw h (bounded l j u i y f)) e
 
   more : (k j t : ℕ) (i : List ℕ) → k ≤ j → beginsIn T k t i ≡ true → beginsIn T j t i ≡ true
@@ -345,12 +345,12 @@ module _ (b : List ℕ) (T : Table) (n : ℕ) (p : Passes b T n) where
   more zero j t i h e = absurd (false≢true e)
   more (suc k) zero t i h e = absurd (omega arith)
   more (suc k) (suc j) t i h e =
-      item-mono (λ a. beginsIn T k a i) (λ a. beginsIn T j a i) i (explicit (T t)) (own (T t)) (T t .body) (λ ts x q u m f. more k j u i (omega arith) f) e
+      item-mono (λ a. beginsIn T k a i) (λ a. beginsIn T j a i) i (explicit (T t)) (ownTag (T t)) (T t .body) (λ ts x q u m f. more k j u i (omega arith) f) e
 
-  begin-all : (t : ℕ) (i : List ℕ) → Begins T (explicit (T t)) (own (T t)) (T t .body) i → begins T t i ≡ true
+  begin-all : (t : ℕ) (i : List ℕ) → Begins T (explicit (T t)) (ownTag (T t)) (T t .body) i → begins T t i ≡ true
   unfolding begins beginsIn
   begin-all t i s =
-      item-begins T (λ a. beginsIn T 128 a i) i (explicit (T t)) (own (T t)) (T t .body)
+      item-begins T (λ a. beginsIn T 128 a i) i (explicit (T t)) (ownTag (T t)) (T t .body)
       (λ ts x q u m f. let (l, h, y) = next-below n t u ts (ends-all t) x q m in more (suc l) 128 u i (omega (arith, p .few)) (bounded l 129 u i y f)) s
 
   -- two parts of one record do not begin alike: the one use of the rule that no two share a first tag

@@ -17,7 +17,7 @@ use Rattle.coding.specs.Value.{Value, slots, bag}
 use Rattle.coding.specs.Form.{encode, element, alternatives, formMembers, formElements, formBody, wrap, formAt}
 use Rattle.coding.specs.Tags.{explicit}
 use Rattle.coding.specs.Encodes.{Coding, Pieces, done, left, sent, At, first, later, Codes, is-plain, is-sequence, is-set, is-sequence-of, is-set-of, is-choice, Wrapped, bare, tagged, EncodesAt}
-use Rattle.coding.specs.Typed.{Fits, f-done, f-left, f-sent, Typed, t-plain, t-sequence, t-set, t-sequence-of, t-set-of, t-choice, WellTypedAt}
+use Rattle.coding.specs.Typed.{MembersTyped, f-done, f-left, f-sent, Typed, t-plain, t-sequence, t-set, t-sequence-of, t-set-of, t-choice, WellTypedAt}
 use Rattle.coding.proofs.Content.{encode-content}
 
 short-left : (p s : List ℕ) → Short (p ++ s) → Short p
@@ -31,7 +31,7 @@ at-index first = refl
 at-index (later a) = at-index a
 
 module _ (o : Order) (W : ℕ → Value → Type 0) (E : Coding) (w : ℕ → Value → List ℕ) (writes : (t : ℕ) (v : Value) → W t v → Short (w t v) → E t v (w t v)) where
-  fits-written : {ms : List Member} {os : List (Option Value)} → Fits W ms os → Short (joined (formMembers w ms (slots os))) → Pieces E ms os (formMembers w ms (slots os))
+  fits-written : {ms : List Member} {os : List (Option Value)} → MembersTyped W ms os → Short (joined (formMembers w ms (slots os))) → Pieces E ms os (formMembers w ms (slots os))
   unfolding formMembers slots joined
   fits-written f-done h = done
   fits-written (f-left f) h = left (fits-written f h)

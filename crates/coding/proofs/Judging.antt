@@ -20,9 +20,9 @@ use Rattle.table.specs.Syntax.{Member, Simple, Boolean, Integer, BitString, Oct
 use Rattle.table.specs.Octets.{kind}
 use Rattle.table.specs.Rules.{members}
 use Rattle.coding.specs.Value.{Leaf, boolean, integer, bits, string, null, enumerated, Value, leaf, sequence, set, sequenceOf, setOf, choice}
-use Rattle.coding.specs.Value.{Slots, end, missing, present, slots, bag, leafOctets, count, presence, octets, parts}
+use Rattle.coding.specs.Value.{Slots, end, missing, present, slots, bag, leafOctets, count, presence, octets, slotOctets}
 use Rattle.coding.specs.Content.{listed}
-use Rattle.coding.specs.Typed.{TypedLeaf, l-boolean, l-integer, l-bits, l-string, l-null, l-enumerated, Fits, f-done, f-left, f-sent, Typed}
+use Rattle.coding.specs.Typed.{TypedLeaf, l-boolean, l-integer, l-bits, l-string, l-null, l-enumerated, MembersTyped, f-done, f-left, f-sent, Typed}
 use Rattle.coding.specs.Typed.{t-plain, t-sequence, t-set, t-sequence-of, t-set-of, t-choice, WellTypedAt}
 use Rattle.coding.specs.Encodes.{allowed, At, first, later}
 use Rattle.coding.specs.Form.{element, alternatives}
@@ -267,17 +267,17 @@ pub record Judged (W : ℕ → Value → Type 0) (t : ℕ) (s : List ℕ) (v : V
 record JudgedMembers (W : ℕ → Value → Type 0) (ms : List Member) (bs : List Bool) (acc : List (Option Value)) (s : List ℕ) (os : List (Option Value)) (u : List ℕ) : Type 0 where
   new : List (Option Value)
   is : os ≡ acc ++ new
-  cut : s ≡ parts (slots new) ++ u
+  cut : s ≡ slotOctets (slots new) ++ u
   flags : presence (slots new) ≡ flagsOf bs
   counted : count (slots new) ≡ length bs
-  fits : Fits W ms new
+  fits : MembersTyped W ms new
   allowed : allowed ms new ≡ true
   shaped : AllShaped (slots new)
 
 record JudgedElements (W : ℕ → Value → Type 0) (t n : ℕ) (acc : List Value) (s : List ℕ) (vs : List Value) (u : List ℕ) : Type 0 where
   new : List Value
   is : vs ≡ acc ++ new
-  cut : s ≡ parts (bag new) ++ u
+  cut : s ≡ slotOctets (bag new) ++ u
   counted : count (bag new) ≡ n
   every : Every (W t) new
   whole : Whole (bag new)
@@ -298,7 +298,7 @@ module _ (W : ℕ → Value → Type 0) (r : ℕ → List ℕ → Answer Value) 
       record {
         new = some v ∷ y .new;
         is = y .is ∙ append-snoc acc (some v) (y .new);
-        cut = spliced (octets v) (parts (slots (y .new))) u (x .cut) (y .cut);
+        cut = spliced (octets v) (slotOctets (slots (y .new))) u (x .cut) (y .cut);
         flags = ap (λ (l : List ℕ). 1 ∷ l) (y .flags);
         counted = ap suc (y .counted);
         fits = f-sent (x .typed) (y .fits);
@@ -329,7 +329,7 @@ module _ (W : ℕ → Value → Type 0) (r : ℕ → List ℕ → Answer Value) 
       record {
         new = v ∷ y .new;
         is = y .is ∙ append-snoc acc v (y .new);
-        cut = spliced (octets v) (parts (bag (y .new))) u (x .cut) (y .cut);
+        cut = spliced (octets v) (slotOctets (bag (y .new))) u (x .cut) (y .cut);
         counted = ap suc (y .counted);
         every = every-cons (x .typed) (y .every);
         whole = y .whole;
@@ -337,27 +337,27 @@ module _ (W : ℕ → Value → Type 0) (r : ℕ → List ℕ → Answer Value) 
       }
 
   members-octets : (k : ℕ) {ms : List Member} {bs : List Bool} {s u : List ℕ} {os : List (Option Value)} → JudgedMembers W ms bs [] s os u
-      → 0x56 ∷ 0x41 ∷ k ∷ length bs ∷ (flagsOf bs ++ s) ≡ 0x56 ∷ 0x41 ∷ k ∷ count (slots os) ∷ ((presence (slots os) ++ parts (slots os)) ++ u)
+      → 0x56 ∷ 0x41 ∷ k ∷ length bs ∷ (flagsOf bs ++ s) ≡ 0x56 ∷ 0x41 ∷ k ∷ count (slots os) ∷ ((presence (slots os) ++ slotOctets (slots os)) ++ u)
   members-octets k {bs = bs} {u = u} y =
       let q = y .is in
       let a = y .counted in
       let b = y .flags in
       let c = y .cut in
-      rw (q, a, b, c, append-assoc (flagsOf bs) (parts (slots (y .new))) u)
+      rw (q, a, b, c, append-assoc (flagsOf bs) (slotOctets (slots (y .new))) u)
 
   elements-octets : (k : ℕ) {t n : ℕ} {s u : List ℕ} {vs : List Value} → JudgedElements W t n [] s vs u
-      → 0x56 ∷ 0x41 ∷ k ∷ (octetsOf n ++ s) ≡ 0x56 ∷ 0x41 ∷ k ∷ ((octetsOf (count (bag vs)) ++ parts (bag vs)) ++ u)
+      → 0x56 ∷ 0x41 ∷ k ∷ (octetsOf n ++ s) ≡ 0x56 ∷ 0x41 ∷ k ∷ ((octetsOf (count (bag vs)) ++ slotOctets (bag vs)) ++ u)
   elements-octets k y =
       let q = y .is in
       let a = y .counted in
       let c = y .cut in
       rw (q, a, c)
 
-  typed-sequence : (b : Body) (ms : List Member) {os : List (Option Value)} → b ≡ Sequence ms → Fits W (members b) os → allowed (members b) os ≡ true → Typed W b (sequence (slots os))
+  typed-sequence : (b : Body) (ms : List Member) {os : List (Option Value)} → b ≡ Sequence ms → MembersTyped W (members b) os → allowed (members b) os ≡ true → Typed W b (sequence (slots os))
   unfolding members
   typed-sequence b ms q f a = rw q (t-sequence (rw q at f) (rw q at a))
 
-  typed-set : (b : Body) (ms : List Member) {os : List (Option Value)} → b ≡ Set ms → Fits W (members b) os → allowed (members b) os ≡ true → Typed W b (set (slots os))
+  typed-set : (b : Body) (ms : List Member) {os : List (Option Value)} → b ≡ Set ms → MembersTyped W (members b) os → allowed (members b) os ≡ true → Typed W b (set (slots os))
   unfolding members
   typed-set b ms q f a = rw q (t-set (rw q at f) (rw q at a))
 
@@ -487,8 +487,8 @@ leaf-agrees l-null = refl
 leaf-agrees (l-enumerated f g) = g
 
 sequence-octets : (k : ℕ) (p : Slots) (s : List ℕ)
-    → (0x56 ∷ 0x41 ∷ k ∷ count p ∷ (presence p ++ parts p)) ++ s ≡ (0x56 ∷ 0x41 ∷ k ∷ length (presentOf p) ∷ flagsOf (presentOf p)) ++ (parts p ++ s)
-sequence-octets k p s = rw (presence-count p, presence-flags p, append-assoc (flagsOf (presentOf p)) (parts p) s)
+    → (0x56 ∷ 0x41 ∷ k ∷ count p ∷ (presence p ++ slotOctets p)) ++ s ≡ (0x56 ∷ 0x41 ∷ k ∷ length (presentOf p) ∷ flagsOf (presentOf p)) ++ (slotOctets p ++ s)
+sequence-octets k p s = rw (presence-count p, presence-flags p, append-assoc (flagsOf (presentOf p)) (slotOctets p) s)
 
 count-small : (p : Slots) → count p < 256 → length (presentOf p) < 256
 count-small p h = rw (← presence-count p) h
@@ -498,21 +498,21 @@ at-below first = omega arith
 at-below (later a) = let h = at-below a in omega arith
 
 module _ (W : ℕ → Value → Type 0) (r : ℕ → List ℕ → Answer Value) (reads : (t : ℕ) (v : Value) (s : List ℕ) → W t v → Shaped v → r t (octets v ++ s) ≡ got v s) where
-  members-judged : {ms : List Member} {os : List (Option Value)} (acc : List (Option Value)) (s : List ℕ) → Fits W ms os → AllShaped (slots os)
-      → judgeMembers r ms (presentOf (slots os)) acc (parts (slots os) ++ s) ≡ got (acc ++ os) s
+  members-judged : {ms : List Member} {os : List (Option Value)} (acc : List (Option Value)) (s : List ℕ) → MembersTyped W ms os → AllShaped (slots os)
+      → judgeMembers r ms (presentOf (slots os)) acc (slotOctets (slots os) ++ s) ≡ got (acc ++ os) s
   unfolding judgeMembers presentOf slots octets AllShaped
   members-judged acc s f-done h = rw append-nil
   members-judged acc s (f-left {os = os} f) h = members-judged (acc ++ (none ∷ [])) s f h ∙ rw append-snoc
   members-judged acc s (f-sent {m = m} {os = os} {v = v} w f) h =
-      rw (append-assoc (octets v) (parts (slots os)) s, reads (m .type) v (parts (slots os) ++ s) w (h .0))
+      rw (append-assoc (octets v) (slotOctets (slots os)) s, reads (m .type) v (slotOctets (slots os) ++ s) w (h .0))
       (simp run (members-judged (acc ++ (some v ∷ [])) s f (h .1) ∙ rw append-snoc))
 
   elements-judged : {t : ℕ} {vs : List Value} (acc : List Value) (s : List ℕ) → Every (W t) vs → AllShaped (bag vs)
-      → judgeElements r (count (bag vs)) t acc (parts (bag vs) ++ s) ≡ got (acc ++ vs) s
+      → judgeElements r (count (bag vs)) t acc (slotOctets (bag vs) ++ s) ≡ got (acc ++ vs) s
   unfolding judgeElements bag count octets AllShaped
   elements-judged acc s every-nil h = rw append-nil
   elements-judged {t} acc s (every-cons {x = v} {l = vs} w f) h =
-      rw (append-assoc (octets v) (parts (bag vs)) s, reads t v (parts (bag vs) ++ s) w (h .0))
+      rw (append-assoc (octets v) (slotOctets (bag vs)) s, reads t v (slotOctets (bag vs) ++ s) w (h .0))
       (simp run (elements-judged (acc ++ (v ∷ [])) s f (h .1) ∙ rw append-snoc))
 
   -- the node is read, agrees, and the value is judged below it
@@ -528,29 +528,29 @@ module _ (W : ℕ → Value → Type 0) (r : ℕ → List ℕ → Answer Value) 
       record { rest = s; reading = ap (λ (l : List ℕ). readNode (l ++ s)) (leaf-octets x) ∙ node-complete (a-leaf x) s h; agreed = leaf-agrees l; below = refl }
   seen b v s (t-sequence {ms = ms} {os = os} f a) h =
       record {
-        rest = parts (slots os) ++ s;
-        reading = ap readNode (sequence-octets 16 (slots os) s) ∙ node-complete (a-sequence (presentOf (slots os))) (parts (slots os) ++ s) (count-small (slots os) (h .0));
+        rest = slotOctets (slots os) ++ s;
+        reading = ap readNode (sequence-octets 16 (slots os) s) ∙ node-complete (a-sequence (presentOf (slots os))) (slotOctets (slots os) ++ s) (count-small (slots os) (h .0));
         agreed = allowed-agreeing ms os a;
         below = rw (members-judged [] s f (h .1)) (simp run);
       }
   seen b v s (t-set {ms = ms} {os = os} f a) h =
       record {
-        rest = parts (slots os) ++ s;
-        reading = ap readNode (sequence-octets 17 (slots os) s) ∙ node-complete (a-set (presentOf (slots os))) (parts (slots os) ++ s) (count-small (slots os) (h .0));
+        rest = slotOctets (slots os) ++ s;
+        reading = ap readNode (sequence-octets 17 (slots os) s) ∙ node-complete (a-set (presentOf (slots os))) (slotOctets (slots os) ++ s) (count-small (slots os) (h .0));
         agreed = allowed-agreeing ms os a;
         below = rw (members-judged [] s f (h .1)) (simp run);
       }
   seen b v s (t-sequence-of {t = t} {vs = vs} f) h =
       record {
-        rest = parts (bag vs) ++ s;
-        reading = node-complete (a-sequence-of (count (bag vs))) (parts (bag vs) ++ s) (h .0);
+        rest = slotOctets (bag vs) ++ s;
+        reading = node-complete (a-sequence-of (count (bag vs))) (slotOctets (bag vs) ++ s) (h .0);
         agreed = refl;
         below = rw (elements-judged [] s f (h .2)) (simp run);
       }
   seen b v s (t-set-of {t = t} {vs = vs} f) h =
       record {
-        rest = parts (bag vs) ++ s;
-        reading = node-complete (a-set-of (count (bag vs))) (parts (bag vs) ++ s) (h .0);
+        rest = slotOctets (bag vs) ++ s;
+        reading = node-complete (a-set-of (count (bag vs))) (slotOctets (bag vs) ++ s) (h .0);
         agreed = refl;
         below = rw (elements-judged [] s f (h .2)) (simp run);
       }

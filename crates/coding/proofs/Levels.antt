@@ -10,7 +10,7 @@ use Rattle.ber.proofs.Items.{definite-octets, constructed-octets}
 use Rattle.table.specs.Syntax.{Member, Body, Table}
 use Rattle.coding.specs.Value.{Value, leaf, sequence, set, sequenceOf, setOf, choice, slots, bag, depth, depths}
 use Rattle.coding.specs.Encodes.{Coding, Pieces, done, left, sent, Codes, is-plain, is-sequence, is-set, is-sequence-of, is-set-of, is-choice, Wrapped, bare, tagged, EncodesAt}
-use Rattle.coding.specs.Typed.{Fits, f-done, f-left, f-sent, Typed, t-plain, t-sequence, t-set, t-sequence-of, t-set-of, t-choice, WellTypedAt}
+use Rattle.coding.specs.Typed.{MembersTyped, f-done, f-left, f-sent, Typed, t-plain, t-sequence, t-set, t-sequence-of, t-set-of, t-choice, WellTypedAt}
 use Rattle.coding.proofs.Content.{content-typed}
 
 pub wrapped-map : {C D : List ℕ → Type 0} {is : List (List ℕ)} {m : List ℕ} → ((c : List ℕ) → C c → D c) → Wrapped C is m → Wrapped D is m
@@ -46,7 +46,7 @@ module _ {E F : Coding} where
   codes-map n h f (is-choice a e) = is-choice a (f _ _ _ (omega arith) e)
 
 module _ {E : Coding} {W : ℕ → Value → Type 0} (typed : (t : ℕ) (v : Value) (m : List ℕ) → AllOctets m → E t v m → W t v) where
-  pieces-typed : {ms : List Member} {os : List (Option Value)} {ps : List (List ℕ)} → Every (λ p. AllOctets p) ps → Pieces E ms os ps → Fits W ms os
+  pieces-typed : {ms : List Member} {os : List (Option Value)} {ps : List (List ℕ)} → Every (λ p. AllOctets p) ps → Pieces E ms os ps → MembersTyped W ms os
   pieces-typed o done = f-done
   pieces-typed o (left p) = f-left (pieces-typed o p)
   pieces-typed (every-cons h o) (sent e p) = f-sent (typed _ _ _ h e) (pieces-typed o p)
@@ -64,7 +64,7 @@ module _ {E : Coding} {W : ℕ → Value → Type 0} (typed : (t : ℕ) (v : Val
   codes-typed o (is-choice a e) = t-choice a (typed _ _ _ o e)
 
 module _ {W : ℕ → Value → Type 0} (n : ℕ) (within : (t : ℕ) (v : Value) → W t v → depth v ≤ n) where
-  fits-depth : {ms : List Member} {os : List (Option Value)} → Fits W ms os → depths (slots os) ≤ n
+  fits-depth : {ms : List Member} {os : List (Option Value)} → MembersTyped W ms os → depths (slots os) ≤ n
   unfolding slots depth
   fits-depth f-done = omega arith
   fits-depth (f-left f) = fits-depth f
@@ -110,7 +110,7 @@ relevel o T (suc n) zero t v m h e = absurd (shallow v h)
 relevel o T (suc n) (suc k) t v m h e = wrapped-map (λ c. codes-map k h (λ t c p l. relevel o T n k t c p l)) e
 
 module _ {U W : ℕ → Value → Type 0} (n : ℕ) (f : (t : ℕ) (v : Value) → depth v ≤ n → U t v → W t v) where
-  fits-map : {ms : List Member} {os : List (Option Value)} → depths (slots os) ≤ n → Fits U ms os → Fits W ms os
+  fits-map : {ms : List Member} {os : List (Option Value)} → depths (slots os) ≤ n → MembersTyped U ms os → MembersTyped W ms os
   unfolding slots depth
   fits-map h f-done = f-done
   fits-map h (f-left p) = f-left (fits-map h p)

@@ -9,7 +9,7 @@ use Prim.Native.Nat.{ℕ, zero, suc, _+_, _-_, _≤_, _<_}
 use lib.ListN.{length, take, drop, length-append}
 use lib.Seq.{length-take-le}
 use Rattle.octets.specs.declared.cause.Cause.{Cause}
-use Rattle.octets.specs.declared.cause.Cause.the-variants.{ValueShape, IllTyped, ValueLevel, Cut, Form, NotAwaited, Contents, Trailing, MessageLevel}
+use Rattle.octets.specs.declared.cause.Cause.the-variants.{ValueShape, IllTyped, ValueLevel, Cut, Forbidden, NotAwaited, Contents, Trailing, MessageLevel}
 use Rattle.octets.specs.Answer.{Answer, got, refused, then, if, behind}
 use Rattle.octets.specs.Permutations.{AllOctets, Order, as-given}
 use Rattle.octets.proofs.Answer.{Holds, yields, if-holds, then-holds, map-holds, got-holds, Taken}
@@ -22,8 +22,8 @@ use Rattle.ber.proofs.Lengths.{Shape, is-definite, is-indefinite}
 use Rattle.ber.proofs.Items.{Ends, no-more, mark, header-sound}
 use Rattle.table.specs.Syntax.{Member, Simple, Boolean, Integer, BitString, OctetString, Null, Enumerated, Body, Plain, Sequence, Set, SequenceOf, SetOf, Choice, Table}
 use Rattle.coding.specs.Value.{Value, octets}
-use Rattle.coding.specs.Reading.{decode, notAwaited, unwanted, nothing, readWrapped, readSequence, place, readSet, readMany, choose, readBody, readKind, readValue, readMessage}
-use Rattle.coding.specs.Tags.{own, explicit}
+use Rattle.coding.specs.Reading.{decode, notAwaited, unwanted, nothing, readWrapped, readSequence, placeMember, readSet, readMany, choose, readBody, readKind, readValue, readMessage}
+use Rattle.coding.specs.Tags.{ownTag, explicit}
 use Rattle.coding.specs.Encodes.{Coding, Codes, is-plain, is-sequence, is-set, is-sequence-of, is-set-of, is-choice, Wrapped, bare, tagged, EncodesAt}
 use Rattle.coding.specs.Judging.{Node, a-leaf, a-sequence, a-set, a-sequence-of, a-set-of, a-choice, need, ownMembers, ownCount, ownBoolean}
 use Rattle.coding.specs.Judging.{ownInteger, ownString, ownBits, ownEnumerated, ownChoice, readOwn, readNode, judgeMembers, judgeElements}
@@ -41,7 +41,7 @@ pub data OfValue : Cause → Type 0 where
 -- The causes that reading gives.
 pub data OfMessage : Cause → Type 0 where
   is-22 : OfMessage Cut
-  is-23 : OfMessage Form
+  is-23 : OfMessage Forbidden
   is-24 : OfMessage NotAwaited
   is-25 : OfMessage Contents
   is-26 : OfMessage Trailing
@@ -260,8 +260,8 @@ module _ (T : Table) (r : ℕ → List ℕ → Answer Value) (says : (t : ℕ) (
       if-speaks _ (λ o. sequence-says n ms (os ++ (none ∷ [])) true mode s h) λ o _.
       end-says n mode s h (λ u. names is-24 h) λ _. not-awaited-says s h
 
-  place-says : (n : ℕ) (ms : List Member) (os : List (Option Value)) (s : List ℕ) → length s ≤ n → Says n (place T r ms os s)
-  unfolding place
+  place-says : (n : ℕ) (ms : List Member) (os : List (Option Value)) (s : List ℕ) → length s ≤ n → Says n (placeMember T r ms os s)
+  unfolding placeMember
   place-says n [] os s h = not-awaited-says s h
   place-says n (m ∷ ms) [] s h = not-awaited-says s h
   place-says n (m ∷ ms) (none ∷ os) s h =
@@ -269,8 +269,8 @@ module _ (T : Table) (r : ℕ → List ℕ → Answer Value) (says : (t : ℕ) (
       then-speaks (place-says n ms os s h) λ us s₁ e. answers
   place-says n (m ∷ ms) (some v ∷ os) s h = then-speaks (place-says n ms os s h) λ us s₁ e. answers
 
-  place-shorter : (ms : List Member) (os : List (Option Value)) (s : List ℕ) → Holds (λ us u. length u < length s) (place T r ms os s)
-  unfolding place
+  place-shorter : (ms : List Member) (os : List (Option Value)) (s : List ℕ) → Holds (λ us u. length u < length s) (placeMember T r ms os s)
+  unfolding placeMember
   place-shorter [] os s = not-awaited s
   place-shorter (m ∷ ms) [] s = not-awaited s
   place-shorter (m ∷ ms) (none ∷ os) s =
@@ -318,9 +318,9 @@ pub value-says : (T : Table) (n t : ℕ) (s : List ℕ) → Says (length s) (rea
 unfolding readValue
 value-says T zero t s = here is-28
 value-says T (suc n) t s =
-    wrapped-says (Codes as-given (EncodesAt as-given T n) (own (T t)) (T t .body)) (readKind T (λ u w. readValue T n u w) (own (T t)) (T t .body))
-    (kind-says T (λ u w. readValue T n u w) (value-says T n) (value-shorter T n) (own (T t)) (T t .body))
-    (kind-sound as-given T (EncodesAt as-given T n) (λ u w. readValue T n u w) (value-sound as-given T n) (own (T t)) (T t .body))
+    wrapped-says (Codes as-given (EncodesAt as-given T n) (ownTag (T t)) (T t .body)) (readKind T (λ u w. readValue T n u w) (ownTag (T t)) (T t .body))
+    (kind-says T (λ u w. readValue T n u w) (value-says T n) (value-shorter T n) (ownTag (T t)) (T t .body))
+    (kind-sound as-given T (EncodesAt as-given T n) (λ u w. readValue T n u w) (value-sound as-given T n) (ownTag (T t)) (T t .body))
     (explicit (T t)) s
 
 -- and in the reading of a message

@@ -20,9 +20,9 @@ use Rattle.table.specs.Syntax.{Member, Simple, Boolean, Integer, BitString, Oct
 use Rattle.table.specs.Octets.{kind}
 use Rattle.table.specs.Rules.{members}
 use Rattle.coding.specs.Value.{Leaf, boolean, integer, bits, string, null, enumerated, Value, leaf, sequence, set, sequenceOf, setOf, choice}
-use Rattle.coding.specs.Value.{Slots, end, missing, present, slots, bag, leafOctets, presence, octets, parts, depth, depths}
+use Rattle.coding.specs.Value.{Slots, end, missing, present, slots, bag, leafOctets, presence, octets, slotOctets, depth, depths}
 use Rattle.coding.specs.Content.{listed}
-use Rattle.coding.specs.Typed.{TypedLeaf, l-boolean, l-integer, l-bits, l-string, l-null, l-enumerated, Fits, f-done, f-left, f-sent, Typed}
+use Rattle.coding.specs.Typed.{TypedLeaf, l-boolean, l-integer, l-bits, l-string, l-null, l-enumerated, MembersTyped, f-done, f-left, f-sent, Typed}
 use Rattle.coding.specs.Typed.{t-plain, t-sequence, t-set, t-sequence-of, t-set-of, t-choice}
 use Rattle.coding.specs.Encodes.{allowed, At, first, later}
 use Rattle.coding.specs.Form.{alternatives}
@@ -125,7 +125,7 @@ Low n t v = depth v ≤ n
 record AnyMembers (n : ℕ) (s : Slots) : Type 0 where
   list : List (Option Value)
   is : s ≡ slots list
-  fits : Fits (Low n) (anyMembers (presentOf s)) list
+  fits : MembersTyped (Low n) (anyMembers (presentOf s)) list
   allowed : allowed (anyMembers (presentOf s)) list ≡ true
 
 any-members : (n : ℕ) (s : Slots) → depths s ≤ n → AnyMembers n s
@@ -144,10 +144,10 @@ any-elements n end w h = ([], refl, every-nil)
 any-elements n (missing s) w h = absurd w
 any-elements n (present v s) w h = let (vs, e, a) = any-elements n s w (omega arith) in (v ∷ vs, ap (present v) e, every-cons {x = v} (omega arith) a)
 
-sequence-typed : (n : ℕ) (s : Slots) (os : List (Option Value)) (ms : List Member) → s ≡ slots os → Fits (Low n) ms os → allowed ms os ≡ true → Typed (Low n) (Sequence ms) (sequence s)
+sequence-typed : (n : ℕ) (s : Slots) (os : List (Option Value)) (ms : List Member) → s ≡ slots os → MembersTyped (Low n) ms os → allowed ms os ≡ true → Typed (Low n) (Sequence ms) (sequence s)
 sequence-typed n s os ms e f a = rw e (t-sequence f a)
 
-set-typed : (n : ℕ) (s : Slots) (os : List (Option Value)) (ms : List Member) → s ≡ slots os → Fits (Low n) ms os → allowed ms os ≡ true → Typed (Low n) (Set ms) (set s)
+set-typed : (n : ℕ) (s : Slots) (os : List (Option Value)) (ms : List Member) → s ≡ slots os → MembersTyped (Low n) ms os → allowed ms os ≡ true → Typed (Low n) (Set ms) (set s)
 set-typed n s os ms e f a = rw e (t-set f a)
 
 -- a tree is of some type
@@ -182,16 +182,16 @@ mutual
 
   depth-octets : (v : Value) → depth v ≤ length (octets v)
   depth-octets (leaf x) = leaf-some x
-  depth-octets (sequence s) = let h = depths-parts s in let e = length-append (presence s) (parts s) in omega arith
-  depth-octets (set s) = let h = depths-parts s in let e = length-append (presence s) (parts s) in omega arith
+  depth-octets (sequence s) = let h = depths-parts s in let e = length-append (presence s) (slotOctets s) in omega arith
+  depth-octets (set s) = let h = depths-parts s in let e = length-append (presence s) (slotOctets s) in omega arith
   depth-octets (sequenceOf s) = let h = depths-parts s in omega arith
   depth-octets (setOf s) = let h = depths-parts s in omega arith
   depth-octets (choice i v) = let h = depth-octets v in omega arith
 
-  depths-parts : (s : Slots) → depths s ≤ length (parts s)
+  depths-parts : (s : Slots) → depths s ≤ length (slotOctets s)
   depths-parts end = omega arith
   depths-parts (missing s) = depths-parts s
-  depths-parts (present v s) = let h = depth-octets v in let k = depths-parts s in let e = length-append (octets v) (parts s) in omega arith
+  depths-parts (present v s) = let h = depth-octets v in let k = depths-parts s in let e = length-append (octets v) (slotOctets s) in omega arith
 
 shape-whole : (s : List ℕ) → AllOctets s → Holds (λ v r. (r ≡ []) × (s ≡ octets v) × Shaped v) (shapeWhole s)
 unfolding shapeWhole

@@ -20,10 +20,10 @@ use Rattle.ber.proofs.Identifiers.{identifier-sound}
 use Rattle.ber.proofs.Items.{Ends, no-more, mark, atEnd-holds, Body as Contents, constructed-sound, primitive-sound}
 use Rattle.table.specs.Syntax.{Member, Body, Plain, Sequence, Set, SequenceOf, SetOf, Choice, Table}
 use Rattle.coding.specs.Value.{Value, sequence, set, sequenceOf, setOf, choice, slots, bag}
-use Rattle.coding.specs.Tags.{own, explicit}
+use Rattle.coding.specs.Tags.{ownTag, explicit}
 use Rattle.coding.specs.Encodes.{allowed, Coding, Pieces, done, left, sent, At, first, later, Codes, is-plain, is-sequence, is-set}
 use Rattle.coding.specs.Encodes.{is-sequence-of, is-set-of, is-choice, Wrapped, bare, tagged, EncodesAt}
-use Rattle.coding.specs.Reading.{notAwaited, unwanted, nothing, readWrapped, readSequence, place, readSet, readMany, choose, readBody, readKind, readValue}
+use Rattle.coding.specs.Reading.{notAwaited, unwanted, nothing, readWrapped, readSequence, placeMember, readSet, readMany, choose, readBody, readKind, readValue}
 use Rattle.coding.proofs.Content.{content-sound}
 
 pub not-awaited : {A : Type 0} {P : A → List ℕ → Type 0} (s : List ℕ) → Holds P (notAwaited s)
@@ -163,8 +163,8 @@ module _ (o : Order) (T : Table) (E : Coding) (r : ℕ → List ℕ → Answer V
       record { tail = y .tail; body = record { pieces = y .body .pieces; cut = y .body .cut; has = (none ∷ us, h ∙ append-snoc os none us, (left (d .0), rw op (d .1))) }; ends = y .ends })
       λ op _. atEnd-holds mode s (λ u h. refuses) λ _. not-awaited s
 
-  place-sound : (ms : List Member) (os : List (Option Value)) (s : List ℕ) → Holds (Taken (Placed E ms os) s) (place T r ms os s)
-  unfolding place
+  place-sound : (ms : List Member) (os : List (Option Value)) (s : List ℕ) → Holds (Taken (Placed E ms os) s) (placeMember T r ms os s)
+  unfolding placeMember
   place-sound [] os s = not-awaited s
   place-sound (m ∷ ms) [] s = not-awaited s
   place-sound (m ∷ ms) (none ∷ os) s =
@@ -249,7 +249,7 @@ pub value-sound : (o : Order) (T : Table) (n t : ℕ) (s : List ℕ) → Holds (
 unfolding readValue EncodesAt
 value-sound o T zero t s = refuses
 value-sound o T (suc n) t s =
-    wrapped-sound (Codes o (EncodesAt o T n) (own (T t)) (T t .body)) _ (λ u. kind-sound o T (EncodesAt o T n) (λ u w. readValue T n u w) (value-sound o T n) _ _ u) (explicit (T t)) s
+    wrapped-sound (Codes o (EncodesAt o T n) (ownTag (T t)) (T t .body)) _ (λ u. kind-sound o T (EncodesAt o T n) (λ u w. readValue T n u w) (value-sound o T n) _ _ u) (explicit (T t)) s
 
 ends-short : {mode : Mode} {t r : List ℕ} → Ends mode t r → length r ≤ length t
 ends-short no-more = omega arith

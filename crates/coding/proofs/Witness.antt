@@ -23,7 +23,7 @@ use Rattle.ber.specs.Integer.{negative, pile, integerOf, spare, minimal, eight,
 use Rattle.ber.specs.BitString.{unused, masked}
 use Rattle.ber.specs.Reading.{readFollowing, readIdentifier, fit, readLong, readLength, atEnd, readHeader, inside, readConstructed, contents, readPrimitive}
 use Rattle.table.specs.Syntax.{Tag, Boolean, Integer, Plain, Set, Record, table, references, isChoice, universal, constructed}
-use Rattle.table.specs.Octets.{kind, tagOctets, memberOctets, own as ownOctets, recordOctets, rising, bodyShaped, recordShaped}
+use Rattle.table.specs.Octets.{kind, tagOctets, memberOctets, ownOctets, recordOctets, rising, bodyShaped, recordShaped}
 use Rattle.table.specs.Rules.{bodyBelow, tagsBelow, parts, members}
 use Rattle.table.specs.Reading.{tagsAt, numbersAt, membersAt, everyAt, bodyAt, recordAt, countedEnd, enumeratedEnd, membersEnd, ownEnd, recordEnd, scanFrom, scan, look}
 use Rattle.table.specs.Decide.{round, rounds, found, dangling, wrongTags, reachStep, circular, sameTag, begins as firstBegins, firstStep, firstOfBoth}
@@ -36,7 +36,7 @@ use Rattle.octets.specs.declared.cause.Cause.the-variants.{TableShape, NoType, 
 use Rattle.table.specs.declared.Verdict.the-variants.{Passed}
 use Rattle.table.proofs.Theorems.{passed-none}
 use Rattle.coding.specs.Value.{Value, leaf, integer, boolean, set, slots, bag, leafOctets, count, presence, octets, depth}
-use Rattle.coding.specs.Tags.{identifierOf, last, before, explicitTags, own, explicit}
+use Rattle.coding.specs.Tags.{identifierOf, last, before, explicitTags, ownTag, explicit}
 use Rattle.coding.specs.Content.{listed, c-boolean, c-integer}
 use Rattle.coding.specs.Encodes.{allowed, done, sent, is-plain, is-set, bare, EncodesAt, Encodes}
 use Rattle.coding.specs.Typed.{l-boolean, l-integer, f-done, f-sent, t-plain, t-set, WellTypedAt, WellTyped}
@@ -46,7 +46,7 @@ use Rattle.coding.specs.Judging.{need, flags, ownMembers, ownCount, ownB
 use Rattle.coding.specs.Judging.{readOwn, readNode, leafKind, nodeKind, numbers, leafAgrees, agreeing, counts, agrees, judgeMembers}
 use Rattle.coding.specs.Judging.{judgeElements, judgeBelow, judgeValue, judgeWhole}
 use Rattle.coding.specs.Awaited.{beginsBody, beginsItem, beginsIn, begins}
-use Rattle.coding.specs.Reading.{isListed, decode, passes, begun, notAwaited, nothing, full, unwanted, readWrapped, readSequence, place}
+use Rattle.coding.specs.Reading.{isListed, decode, passes, begun, notAwaited, nothing, full, unwanted, readWrapped, readSequence, placeMember}
 use Rattle.coding.specs.Reading.{readSet, readMany, choose, readBody, readKind, readValue, readMessage}
 use Rattle.coding.specs.Outcome.{levels, longestMessage, done as done-with, refusal, of-table, of-value, of-message, OfStage, Outcome, refuse}
 use Rattle.coding.specs.Calls.{afterReading, readOutcome, afterJudging, writeOutcome, afterCheck, wholeRead, wholeWrite, checkAnswer}
@@ -114,15 +114,15 @@ unfolding all
 message-octets = octets-by message refl
 
 five-permitted : EncodesAt any-order (table records) 1 0 (leaf (integer (pos 5))) five
-unfolding EncodesAt table explicit explicitTags before own identifierOf identifier leading last constructed if minimal integerOf negative pile
+unfolding EncodesAt table explicit explicitTags before ownTag identifierOf identifier leading last constructed if minimal integerOf negative pile
 five-permitted = bare (is-plain {x = integer (pos 5)} (5 ∷ []) (c-integer {c = 5 ∷ []} refl (omega arith)) (sized (1 ∷ []) (short (omega arith) refl) refl))
 
 truth-permitted : EncodesAt any-order (table records) 1 1 (leaf (boolean true)) truth
-unfolding EncodesAt table explicit explicitTags before own identifierOf identifier leading last constructed if
+unfolding EncodesAt table explicit explicitTags before ownTag identifierOf identifier leading last constructed if
 truth-permitted = bare (is-plain {x = boolean true} (0x7F ∷ []) (c-boolean {x = 0x7F}) (sized (1 ∷ []) (short (omega arith) refl) refl))
 
 permitted : Encodes (table records) 2 value message
-unfolding EncodesAt table explicit explicitTags before own identifierOf identifier leading last constructed if joined allowed
+unfolding EncodesAt table explicit explicitTags before ownTag identifierOf identifier leading last constructed if joined allowed
 permitted = record {
   level = 2;
   encodes = bare (is-set (five ∷ truth ∷ []) (truth ∷ five ∷ []) (sent five-permitted (sent truth-permitted done)) refl (next (there here) (next here none)) (in-marks refl));
@@ -171,10 +171,10 @@ unfolding if then behind none-left any all joined tabulate lowestFrom same refer
     rounds found dangling wrongTags reachStep circular sameTag firstBegins firstStep firstOfBoth share pair sharing finiteBody finiteStep infinite
     judgeChoices judge verdict leading following identifier number digits lengthOctets item negative pile integerOf spare minimal eight fewest unused
     masked readFollowing readIdentifier fit readLong readLength atEnd readHeader inside readConstructed contents readPrimitive slots bag leafOctets
-    count presence octets listed identifierOf last before explicitTags own explicit allowed encode element alternatives formMembers formElements
+    count presence octets listed identifierOf last before explicitTags ownTag explicit allowed encode element alternatives formMembers formElements
     formBody wrap formAt need flags ownMembers ownCount ownBoolean ownInteger ownString ownBits ownEnumerated ownChoice readOwn readNode leafKind
     nodeKind numbers leafAgrees agreeing counts agrees judgeMembers judgeElements judgeBelow judgeValue judgeWhole beginsBody beginsItem beginsIn
-    begins isListed decode passes begun notAwaited nothing full unwanted readWrapped readSequence place readSet readMany choose readBody readKind
+    begins isListed decode passes begun notAwaited nothing full unwanted readWrapped readSequence placeMember readSet readMany choose readBody readKind
     readValue readMessage afterReading readOutcome afterJudging writeOutcome afterCheck wholeRead wholeWrite checkAnswer
 outcomes = (refl, refl, refl, refl, refl, refl, refl, refl, refl, refl, refl, refl)
 

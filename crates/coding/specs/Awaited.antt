@@ -7,7 +7,7 @@ use Prim.Native.Nat.{ℕ, zero, suc, _<_}
 use Rattle.octets.specs.Lists.{any, same}
 use Rattle.ber.specs.Reading.{Mode, closed, open-ended}
 use Rattle.table.specs.Syntax.{Body, Plain, Sequence, Set, SequenceOf, SetOf, Choice, Table, Member}
-use Rattle.coding.specs.Tags.{own, explicit}
+use Rattle.coding.specs.Tags.{ownTag, explicit}
 use Rattle.coding.specs.Value.{Value}
 
 -- the first tags as identifier octets i, the constructed bit included: the outermost one, or what begins an alternative of a CHOICE without tags, as f says
@@ -26,7 +26,7 @@ beginsItem f i (e ∷ es) o b = same i e
 -- the identifier octets i begin values of the type t, through fewer than k CHOICEs without tags
 unfoldable pub beginsIn : Table → ℕ → ℕ → List ℕ → Bool
 beginsIn T zero t i = false
-beginsIn T (suc k) t i = beginsItem (λ a. beginsIn T k a i) i (explicit (T t)) (own (T t)) (T t .body)
+beginsIn T (suc k) t i = beginsItem (λ a. beginsIn T k a i) i (explicit (T t)) (ownTag (T t)) (T t .body)
 
 -- the identifier octets i begin values of the type t; of 128 records at most 127 are CHOICEs above an item
 unfoldable pub begins : Table → ℕ → List ℕ → Bool

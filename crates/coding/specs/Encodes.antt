@@ -11,7 +11,7 @@ use Rattle.ber.specs.Item.{Definite, Constructed}
 use Rattle.table.specs.Syntax.{Member, Simple, Body, Plain, Sequence, Set, SequenceOf, SetOf, Choice, Table}
 use Rattle.coding.specs.Value.{Leaf, Value, leaf, sequence, set, sequenceOf, setOf, choice, slots, bag}
 use Rattle.coding.specs.Content.{Content}
-use Rattle.coding.specs.Tags.{own, explicit}
+use Rattle.coding.specs.Tags.{ownTag, explicit}
 
 -- which octets encode which values of which types
 abbrev pub Coding : Type 1
@@ -59,7 +59,7 @@ pub data Wrapped (C : List ℕ → Type 0) : List (List ℕ) → List ℕ → Ty
 -- the encodings of the values that have at most n levels
 unfoldable pub EncodesAt : Order → Table → ℕ → Coding
 EncodesAt o T zero t v m = ⊥
-EncodesAt o T (suc n) t v m = Wrapped (Codes o (EncodesAt o T n) (own (T t)) (T t .body) v) (explicit (T t)) m
+EncodesAt o T (suc n) t v m = Wrapped (Codes o (EncodesAt o T n) (ownTag (T t)) (T t .body) v) (explicit (T t)) m
 
 -- m is one of the encodings that X.690 permits for the value v of the type t
 pub record Encodes (T : Table) (t : ℕ) (v : Value) (m : List ℕ) : Type 0 where

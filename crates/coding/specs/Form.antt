@@ -11,7 +11,7 @@ use Rattle.ber.specs.Integer.{fewestOf}
 use Rattle.table.specs.Syntax.{Member, Body, Plain, Sequence, Set, SequenceOf, SetOf, Choice, Table}
 use Rattle.table.specs.Rules.{members}
 use Rattle.coding.specs.Value.{Value, leaf, sequence, set, sequenceOf, setOf, choice, Slots, end, missing, present, Leaf, boolean, integer, bits, string, null, enumerated}
-use Rattle.coding.specs.Tags.{own, explicit}
+use Rattle.coding.specs.Tags.{ownTag, explicit}
 
 -- true is FF, unused bits are 0
 abbrev pub truth : Bool → ℕ
@@ -71,4 +71,4 @@ wrap (i ∷ is) m = item i (wrap is m)
 -- the form of a value of at most n levels
 unfoldable pub formAt : Table → ℕ → ℕ → Value → List ℕ
 formAt T zero t v = []
-formAt T (suc n) t v = wrap (explicit (T t)) (formBody (λ u c. formAt T n u c) (own (T t)) (T t .body) v)
+formAt T (suc n) t v = wrap (explicit (T t)) (formBody (λ u c. formAt T n u c) (ownTag (T t)) (T t .body) v)

@@ -17,7 +17,7 @@ use Rattle.table.specs.Syntax.{Member, Body, Plain, Sequence, Set, SequenceOf, 
 use Rattle.coding.specs.Value.{Value, leaf, sequence, set, sequenceOf, setOf, choice, slots, bag, Leaf, boolean, integer, bits, string, null, enumerated}
 use Rattle.coding.specs.Content.{listed}
 use Rattle.coding.specs.Encodes.{allowed}
-use Rattle.coding.specs.Tags.{own, explicit}
+use Rattle.coding.specs.Tags.{ownTag, explicit}
 use Rattle.coding.specs.Awaited.{begins}
 
 unfoldable pub isListed : List ℕ → ℤ → Bool
@@ -99,13 +99,13 @@ module _ (T : Table) (r : ℕ → List ℕ → Answer Value) where
       atEnd mode s (λ u. refused NotAwaited (length s)) λ _. notAwaited s
 
   -- one member of a SET, put where it belongs
-  unfoldable pub place : List Member → List (Option Value) → List ℕ → Answer (List (Option Value))
-  place [] os s = notAwaited s
-  place (m ∷ ms) [] s = notAwaited s
-  place (m ∷ ms) (none ∷ os) s =
+  unfoldable pub placeMember : List Member → List (Option Value) → List ℕ → Answer (List (Option Value))
+  placeMember [] os s = notAwaited s
+  placeMember (m ∷ ms) [] s = notAwaited s
+  placeMember (m ∷ ms) (none ∷ os) s =
       if (begun T (m .type) s) (then (r (m .type) s) λ v s₁. got (some v ∷ os) s₁) λ _.
-      then (place ms os s) λ us s₁. got (none ∷ us) s₁
-  place (m ∷ ms) (some v ∷ os) s = then (place ms os s) λ us s₁. got (some v ∷ us) s₁
+      then (placeMember ms os s) λ us s₁. got (none ∷ us) s₁
+  placeMember (m ∷ ms) (some v ∷ os) s = then (placeMember ms os s) λ us s₁. got (some v ∷ us) s₁
 
   -- the members in the order in which they come, each one once; os are those in hand
   unfoldable pub readSet : ℕ → List Member → List (Option Value) → Mode → List ℕ → Answer (List (Option Value))
@@ -113,7 +113,7 @@ module _ (T : Table) (r : ℕ → List ℕ → Answer Value) where
   readSet (suc k) ms os mode s =
       atEnd mode s (λ u. if (allowed ms os) (got os u) λ _. refused NotAwaited (length s)) λ _.
       if (full os) (refused Trailing (length s)) λ _.
-      then (place ms os s) λ us s₁. readSet k ms us mode s₁
+      then (placeMember ms os s) λ us s₁. readSet k ms us mode s₁
 
   -- the elements after those in hand: in a list one more is always awaited
   unfoldable pub readMany : ℕ → ℕ → Mode → List Value → List ℕ → Answer (List Value)
@@ -151,7 +151,7 @@ module _ (T : Table) (r : ℕ → List ℕ → Answer Value) where
 -- A value of a type where n levels are left. Its item has begun as its type does, so 28 comes after 24 and before the length.
 unfoldable pub readValue : Table → ℕ → ℕ → List ℕ → Answer Value
 readValue T zero t s = refused MessageLevel (length s)
-readValue T (suc n) t s = readWrapped (explicit (T t)) (readKind T (λ u w. readValue T n u w) (own (T t)) (T t .body)) s
+readValue T (suc n) t s = readWrapped (explicit (T t)) (readKind T (λ u w. readValue T n u w) (ownTag (T t)) (T t .body)) s
 
 -- the message is one value: 22 if it is empty, 26 for octets behind the value
 unfoldable pub readMessage : Table → ℕ → ℕ → List ℕ → Answer Value

@@ -31,8 +31,8 @@ explicitTags (SetOf t) gs = before gs
 explicitTags (Choice ts) gs = gs
 
 -- the identifier octets of the item itself; a CHOICE has no item of its own
-unfoldable pub own : Record → List ℕ
-own r = identifierOf (constructed (r .body)) (last (r .body) (r .tags))
+unfoldable pub ownTag : Record → List ℕ
+ownTag r = identifierOf (constructed (r .body)) (last (r .body) (r .tags))
 
 -- X.690, 8.14: the item of an explicit tag is constructed
 unfoldable pub explicit : Record → List (List ℕ)

@@ -25,16 +25,16 @@ pub data TypedLeaf : Simple → Leaf → Type 0 where
   l-enumerated : {ns : List ℕ} {k : ℕ} → SFits w64 (pos k) → listed ns k ≡ true → TypedLeaf (Enumerated ns) (enumerated k)
 
 -- the members that are there have their types
-pub data Fits (W : ℕ → Value → Type 0) : List Member → List (Option Value) → Type 0 where
-  f-done : Fits W [] []
-  f-left : {m : Member} {ms : List Member} {os : List (Option Value)} → Fits W ms os → Fits W (m ∷ ms) (none ∷ os)
-  f-sent : {m : Member} {ms : List Member} {os : List (Option Value)} {v : Value} → W (m .type) v → Fits W ms os → Fits W (m ∷ ms) (some v ∷ os)
+pub data MembersTyped (W : ℕ → Value → Type 0) : List Member → List (Option Value) → Type 0 where
+  f-done : MembersTyped W [] []
+  f-left : {m : Member} {ms : List Member} {os : List (Option Value)} → MembersTyped W ms os → MembersTyped W (m ∷ ms) (none ∷ os)
+  f-sent : {m : Member} {ms : List Member} {os : List (Option Value)} {v : Value} → W (m .type) v → MembersTyped W ms os → MembersTyped W (m ∷ ms) (some v ∷ os)
 
 -- a value of a kind: a slot for each member and no mandatory one empty, elements of the one type, an alternative that the record has
 pub data Typed (W : ℕ → Value → Type 0) : Body → Value → Type 0 where
   t-plain : {k : Simple} {x : Leaf} → TypedLeaf k x → Typed W (Plain k) (leaf x)
-  t-sequence : {ms : List Member} {os : List (Option Value)} → Fits W ms os → allowed ms os ≡ true → Typed W (Sequence ms) (sequence (slots os))
-  t-set : {ms : List Member} {os : List (Option Value)} → Fits W ms os → allowed ms os ≡ true → Typed W (Set ms) (set (slots os))
+  t-sequence : {ms : List Member} {os : List (Option Value)} → MembersTyped W ms os → allowed ms os ≡ true → Typed W (Sequence ms) (sequence (slots os))
+  t-set : {ms : List Member} {os : List (Option Value)} → MembersTyped W ms os → allowed ms os ≡ true → Typed W (Set ms) (set (slots os))
   t-sequence-of : {t : ℕ} {vs : List Value} → Every (W t) vs → Typed W (SequenceOf t) (sequenceOf (bag vs))
   t-set-of : {t : ℕ} {vs : List Value} → Every (W t) vs → Typed W (SetOf t) (setOf (bag vs))
   t-choice : {ts : List ℕ} {n t : ℕ} {v : Value} → At t ts n → W t v → Typed W (Choice ts) (choice n v)

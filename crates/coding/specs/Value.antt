@@ -76,16 +76,16 @@ presence (present v s) = 1 ∷ presence s
 unfoldable mutual
   pub octets : Value → List ℕ
   octets (leaf x) = leafOctets x
-  octets (sequence s) = 0x56 ∷ 0x41 ∷ 16 ∷ count s ∷ (presence s ++ parts s)
-  octets (set s) = 0x56 ∷ 0x41 ∷ 17 ∷ count s ∷ (presence s ++ parts s)
-  octets (sequenceOf s) = 0x56 ∷ 0x41 ∷ 48 ∷ (octetsOf (count s) ++ parts s)
-  octets (setOf s) = 0x56 ∷ 0x41 ∷ 49 ∷ (octetsOf (count s) ++ parts s)
+  octets (sequence s) = 0x56 ∷ 0x41 ∷ 16 ∷ count s ∷ (presence s ++ slotOctets s)
+  octets (set s) = 0x56 ∷ 0x41 ∷ 17 ∷ count s ∷ (presence s ++ slotOctets s)
+  octets (sequenceOf s) = 0x56 ∷ 0x41 ∷ 48 ∷ (octetsOf (count s) ++ slotOctets s)
+  octets (setOf s) = 0x56 ∷ 0x41 ∷ 49 ∷ (octetsOf (count s) ++ slotOctets s)
   octets (choice i v) = 0x56 ∷ 0x41 ∷ 50 ∷ i ∷ octets v
 
-  pub parts : Slots → List ℕ
-  parts end = []
-  parts (missing s) = parts s
-  parts (present v s) = octets v ++ parts s
+  pub slotOctets : Slots → List ℕ
+  slotOctets end = []
+  slotOctets (missing s) = slotOctets s
+  slotOctets (present v s) = octets v ++ slotOctets s
 
 -- how many levels: the root is one; a CHOICE is one, and its chosen value the next
 unfoldable mutual

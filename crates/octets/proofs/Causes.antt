@@ -7,7 +7,7 @@ use lib.Dec.{eqb}
 use Rattle.octets.specs.Answer.{if}
 use Rattle.octets.specs.Causes.{Cause, causeNumber}
 use Rattle.octets.specs.Causes.{TableShape, NoRecord, WrongTag, ChoiceLoop, SharedTag, NoValue, NoType, ValueShape, IllTyped, ValueLevel, MessageRoom}
-use Rattle.octets.specs.Causes.{MessageLength, Cut, Form, NotAwaited, Contents, Trailing, ValueRoom, MessageLevel}
+use Rattle.octets.specs.Causes.{MessageLength, Cut, Forbidden, NotAwaited, Contents, Trailing, ValueRoom, MessageLevel}
 
 -- the cause with a number
 unfoldable numbered : ℕ → Cause
@@ -25,7 +25,7 @@ numbered n =
     if (eqb n 14) MessageRoom λ _.
     if (eqb n 21) MessageLength λ _.
     if (eqb n 22) Cut λ _.
-    if (eqb n 23) Form λ _.
+    if (eqb n 23) Forbidden λ _.
     if (eqb n 24) NotAwaited λ _.
     if (eqb n 25) Contents λ _.
     if (eqb n 26) Trailing λ _.
@@ -47,7 +47,7 @@ numbered-back ValueLevel = refl
 numbered-back MessageRoom = refl
 numbered-back MessageLength = refl
 numbered-back Cut = refl
-numbered-back Form = refl
+numbered-back Forbidden = refl
 numbered-back NotAwaited = refl
 numbered-back Contents = refl
 numbered-back Trailing = refl

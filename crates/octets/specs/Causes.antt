@@ -4,7 +4,7 @@ use Prim.Native.Nat.{ℕ}
 pub use Rattle.octets.specs.declared.cause.Cause.{Cause}
 pub use Rattle.octets.specs.declared.cause.Cause.the-variants.{TableShape, NoRecord, WrongTag, ChoiceLoop, SharedTag, NoValue, NoType}
 pub use Rattle.octets.specs.declared.cause.Cause.the-variants.{ValueShape, IllTyped, ValueLevel, MessageRoom}
-pub use Rattle.octets.specs.declared.cause.Cause.the-variants.{MessageLength, Cut, Form, NotAwaited, Contents, Trailing, ValueRoom, MessageLevel}
+pub use Rattle.octets.specs.declared.cause.Cause.the-variants.{MessageLength, Cut, Forbidden, NotAwaited, Contents, Trailing, ValueRoom, MessageLevel}
 
 abbrev pub causeNumber : Cause → ℕ
 causeNumber TableShape = 1
@@ -20,7 +20,7 @@ causeNumber ValueLevel = 13
 causeNumber MessageRoom = 14
 causeNumber MessageLength = 21
 causeNumber Cut = 22
-causeNumber Form = 23
+causeNumber Forbidden = 23
 causeNumber NotAwaited = 24
 causeNumber Contents = 25
 causeNumber Trailing = 26

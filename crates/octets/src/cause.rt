@@ -7,7 +7,7 @@ ghost use Rattle.octets.specs.Causes.{causeNumber};
 // constant.
 pub enum Cause {
     Cut,
-    Form,
+    Forbidden,
     NotAwaited,
     Contents,
     Trailing,
@@ -45,7 +45,7 @@ pub fn cause_number(cause: Cause) -> u64
         Cause::MessageRoom => 14,
         Cause::MessageLength => 21,
         Cause::Cut => 22,
-        Cause::Form => 23,
+        Cause::Forbidden => 23,
         Cause::NotAwaited => 24,
         Cause::Contents => 25,
         Cause::Trailing => 26,

@@ -17,7 +17,7 @@ pub fn octet(s: &[u8], at: usize) -> usize
 }
 
 // The number that two octets stand for, the high one first.
-pub fn number(s: &[u8], at: usize) -> usize
+pub fn two(s: &[u8], at: usize) -> usize
     ensures { λ r. ⌜ (r ≡ two (now (s .entry)) at) × (r < 65536) ⌝ }
 {
     if at < s.len() {

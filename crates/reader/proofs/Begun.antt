@@ -20,7 +20,7 @@ use Rattle.table.specs.Rules.{tagsBelow, bodyBelow, below, parts, missing}
 use Rattle.table.specs.Passes.{Nested, Passes}
 use Rattle.table.specs.Entries.{more, outermostCode}
 use Rattle.table.proofs.Promises.{shaped-classes}
-use Rattle.coding.specs.Tags.{identifierOf, last, before, explicitTags, own, explicit}
+use Rattle.coding.specs.Tags.{identifierOf, last, before, explicitTags, ownTag, explicit}
 use Rattle.coding.specs.Awaited.{beginsBody, beginsItem, beginsIn, begins}
 use Rattle.coding.specs.Reading.{passes, begun}
 use Rattle.reader.specs.Codes.{untagged, none, peeked, firstOf, hit, pick, among, searchIn}
@@ -113,8 +113,8 @@ module _ (t : ℕ) (f : ℕ → Bool) (g : ℕ → Under) (ih : (a : ℕ) → f 
         ∙ sym (over-tagged t (codeOf i) (code (q .class) b (q .number)) g ts (code-below (q .class) b (q .number) (h .0) (h .1)))
 
     step-read : (gs : List Tag) (b : Body) → (gs ≡ [] → isChoice b ≡ true) → AllFine gs
-        → beginsItem f i (explicit (record { tags = gs; body = b })) (own (record { tags = gs; body = b })) b ≡ hit (Over t (outermostCode gs b) (codeOf i) g (parts b))
-    unfolding explicit own explicitTags before last beginsItem beginsBody outermostCode constructed isChoice parts
+        → beginsItem f i (explicit (record { tags = gs; body = b })) (ownTag (record { tags = gs; body = b })) b ≡ hit (Over t (outermostCode gs b) (codeOf i) g (parts b))
+    unfolding explicit ownTag explicitTags before last beginsItem beginsBody outermostCode constructed isChoice parts
     step-read [] (Choice ts) k h = let z = read-code-small s i w o e in rw (over-choice t (codeOf i) g ts (λ y. omega arith)) (hit-among f g ih ts)
     step-read [] (Plain x) k h = absurd (false≢true (k refl))
     step-read [] (Sequence ms) k h = absurd (false≢true (k refl))

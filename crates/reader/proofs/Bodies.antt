@@ -18,7 +18,7 @@ use Rattle.table.specs.Reading.{bodyAt}
 use Rattle.table.specs.Entries.{unpacked, tableIn, countIn}
 use Rattle.table.specs.declared.entry.Entry.{Entry}
 use Rattle.table.proofs.Promises.{kind-choice, entered-members}
-use Rattle.coding.specs.Tags.{own}
+use Rattle.coding.specs.Tags.{ownTag}
 use Rattle.coding.specs.Value.{Value}
 use Rattle.coding.specs.Reading.{readValue}
 use Rattle.coding.proofs.FirstTags.{good}
@@ -97,13 +97,13 @@ module _ {b index : List ℕ} (R : Ready b index) {w : ℕ} (I : IsRecord b inde
   few-members (SetOf t) h = omega arith
   few-members (Choice ts) h = omega arith
 
-  pub its-built : (n : ℕ) (s : List ℕ) → constructed (r .body) ≡ true → Built (tableIn b) (readValue (tableIn b) n) (own r) s (r .body) (readBare b n r s)
+  pub its-built : (n : ℕ) (s : List ℕ) → constructed (r .body) ≡ true → Built (tableIn b) (readValue (tableIn b) n) (ownTag r) s (r .body) (readBare b n r s)
   its-built n s c =
       let T = tableIn b in
       let g = good b T (countIn b) (R .passes) in
       let h = value-shorter T n in
       let l : length (members (r .body)) ≤ 16 = few-members (r .body) (ap (λ (x : Record). x .body) (sym (its-record R I))) in
-      built T (readValue T n) (own r) s g h (r .body) c (readBare b n r s) (kind-held T (readValue T n) g h (own r) s (r .body) l)
+      built T (readValue T n) (ownTag r) s g h (r .body) c (readBare b n r s) (kind-held T (readValue T n) g h (ownTag r) s (r .body) l)
 
   module _ (e : Entry) (ee : e ≡ unpacked w) where
     pub its-choice : eqb (e .kind) 50 ≡ isChoice (r .body)

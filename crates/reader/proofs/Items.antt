@@ -12,7 +12,7 @@ use native.Mathlib.Numerals.{add-one}
 use native.Mathlib.Omega.{arith}
 use Prim.Native.Nat.{ℕ, zero, suc, _+_, _-_, _≤_, _<_}
 use Rattle.octets.specs.declared.cause.Cause.{Cause}
-use Rattle.octets.specs.declared.cause.Cause.the-variants.{Cut, Form, NotAwaited, Trailing}
+use Rattle.octets.specs.declared.cause.Cause.the-variants.{Cut, Forbidden, NotAwaited, Trailing}
 use Rattle.octets.specs.Answer.{Answer, got, refused, then, if, none-left}
 use Rattle.octets.proofs.Answer.{Holds}
 use Rattle.octets.proofs.Tests.{test}
@@ -93,7 +93,7 @@ ending closed (b ∷ s) = more (λ A f x. refl)
 ending open-ended [] = broken Cut 0 refl (λ A f x. refl)
 ending open-ended (zero ∷ []) = broken Cut 1 refl (λ A f x. refl)
 ending open-ended (zero ∷ zero ∷ s) = over s refl (λ A f x. refl)
-ending open-ended (zero ∷ suc b ∷ s) = broken Form (suc (suc (length s))) refl (λ A f x. rw (ne-eqb (suc b) 0 (λ e. omega arith)) refl)
+ending open-ended (zero ∷ suc b ∷ s) = broken Forbidden (suc (suc (length s))) refl (λ A f x. rw (ne-eqb (suc b) 0 (λ e. omega arith)) refl)
 ending open-ended (suc b ∷ s) = more (λ A f x. rw (ne-eqb (suc b) 0 (λ e. omega arith)) refl)
 
 -- no item begins with 00

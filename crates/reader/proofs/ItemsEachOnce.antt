@@ -17,7 +17,7 @@ use Rattle.ber.specs.Reading.{Mode}
 use Rattle.table.specs.Syntax.{Member, Set, Table}
 use Rattle.coding.specs.Value.{Value}
 use Rattle.coding.specs.Encodes.{allowed}
-use Rattle.coding.specs.Reading.{begun, notAwaited, nothing, full, place, readSet}
+use Rattle.coding.specs.Reading.{begun, notAwaited, nothing, full, placeMember, readSet}
 use Rattle.reader.specs.Items.{Holder, inside, manner, partsOf, Placed, pending, within, some-of, following, noted, isSingle, first, Hand}
 use Rattle.reader.specs.Items.{readItems, filled}
 use Rattle.reader.proofs.Items.{Over, Broken, More, Clear, then-same, then-then, Ending, over, broken, more, ending, unawaited-on}
@@ -95,8 +95,8 @@ module _ (came : List ℕ) where
         let q : x .0 - k ≡ suc (x .0 - suc k) = omega arith in
         then-then (r (x .1 .type) s) _ _ ∙ then-same (r (x .1 .type) s) _ _ (λ v u _. rw q refl)
 
-    place-marked : {k : ℕ} {ms : List Member} {os : List (Option Value)} → Marked came k ms os → place T r ms os s ≡ Put k os (first Begun (pending came k ms))
-    unfolding place pending first if
+    place-marked : {k : ℕ} {ms : List Member} {os : List (Option Value)} → Marked came k ms os → placeMember T r ms os s ≡ Put k os (first Begun (pending came k ms))
+    unfolding placeMember pending first if
     place-marked no-more = refl
     place-marked {k} (vacant {m = m} {ms = ms} {os = os} e d) =
         rw (pending-free came k m ms e)

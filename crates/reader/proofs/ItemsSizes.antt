@@ -10,7 +10,7 @@ use native.Mathlib.Nat.{add-zero, zero-add}
 use native.Mathlib.Omega.{arith}
 use Prim.Native.Nat.{ℕ, zero, suc, _+_, _-_, _≤_, _<_}
 use Rattle.table.specs.Syntax.{Member, Plain, Sequence, Set, SequenceOf, SetOf, Choice}
-use Rattle.coding.specs.Value.{Value, slots, bag, octets, parts, presence}
+use Rattle.coding.specs.Value.{Value, slots, bag, octets, slotOctets, presence}
 use Rattle.coding.specs.Reading.{nothing}
 use Rattle.reader.specs.Items.{Holder, inside, message, manner, partsOf, Placed, following, noted, isSingle, Hand, filled, values, only}
 use Rattle.reader.specs.Items.{assemble, nodeSize, sizesOf, blank}
@@ -37,18 +37,18 @@ fits-snoc (x ∷ hand) os p v l e f = (f .0, f .1, fits-snoc hand (setAt os (x .
 
 -- sizes of members
 abbrev sizesIn : List (Option Value) → ℕ
-sizesIn os = length (parts (slots os))
+sizesIn os = length (slotOctets (slots os))
 
 sizes-set : (os : List (Option Value)) (p : ℕ) (v : Value) → p < length os → getD os p none ≡ none
     → sizesIn (setAt os p (some v)) ≡ sizesIn os + length (octets v)
-unfolding slots parts
+unfolding slots slotOctets
 sizes-set [] p v l e = absurd (omega arith)
-sizes-set (none ∷ os) zero v l e = length-append (octets v) (parts (slots os)) ∙ omega arith
+sizes-set (none ∷ os) zero v l e = length-append (octets v) (slotOctets (slots os)) ∙ omega arith
 sizes-set (none ∷ os) (suc p) v l e = sizes-set os p v (omega arith) e
 sizes-set (some u ∷ os) zero v l e = absurd (Option·none-ne-some u (sym e))
 sizes-set (some u ∷ os) (suc p) v l e =
-    length-append (octets u) (parts (slots (setAt os p (some v))))
-    ∙ rw (sizes-set os p v (omega arith) e) (omega (arith, length-append (octets u) (parts (slots os))))
+    length-append (octets u) (slotOctets (slots (setAt os p (some v))))
+    ∙ rw (sizes-set os p v (omega arith) e) (omega (arith, length-append (octets u) (slotOctets (slots os))))
 
 sizes-filled : (hand : Hand) (os : List (Option Value)) → Fits hand os → sizesIn (filled hand os) ≡ sizesIn os + sizesOf hand
 unfolding filled sizesOf Fits
@@ -57,7 +57,7 @@ sizes-filled (x ∷ hand) os f =
     sizes-filled hand (setAt os (x .0) (some (x .1))) (f .2) ∙ rw (sizes-set os (x .0) (x .1) (f .0) (f .1)) (omega arith)
 
 sizes-nothing : (ms : List Member) → sizesIn (nothing ms) ≡ 0
-unfolding nothing slots parts
+unfolding nothing slots slotOctets
 sizes-nothing [] = refl
 sizes-nothing (m ∷ ms) = sizes-nothing ms
 
@@ -67,16 +67,16 @@ presence-length [] = refl
 presence-length (none ∷ os) = ap suc (presence-length os)
 presence-length (some v ∷ os) = ap suc (presence-length os)
 
-sizes-bag : (hand : Hand) → length (parts (bag (values hand))) ≡ sizesOf hand
-unfolding bag parts sizesOf
+sizes-bag : (hand : Hand) → length (slotOctets (bag (values hand))) ≡ sizesOf hand
+unfolding bag slotOctets sizesOf
 sizes-bag [] = refl
-sizes-bag (x ∷ hand) = length-append (octets (x .1)) (parts (bag (values hand))) ∙ rw (sizes-bag hand) refl
+sizes-bag (x ∷ hand) = length-append (octets (x .1)) (slotOctets (bag (values hand))) ∙ rw (sizes-bag hand) refl
 
 members-size : (ms : List Member) (hand : Hand) → Fits hand (nothing ms)
-    → let o = slots (filled hand (nothing ms)) in length (presence o ++ parts o) ≡ length ms + sizesOf hand
+    → let o = slots (filled hand (nothing ms)) in length (presence o ++ slotOctets o) ≡ length ms + sizesOf hand
 members-size ms hand f =
     let F = filled hand (nothing ms) in
-    length-append (presence (slots F)) (parts (slots F))
+    length-append (presence (slots F)) (slotOctets (slots F))
     ∙ rw (presence-length F, filled-length hand (nothing ms), nothing-length ms, sizes-filled hand (nothing ms) f, sizes-nothing ms) (omega arith)
 
 -- what is in hand makes a value: each at its own place; one only in a CHOICE and a message

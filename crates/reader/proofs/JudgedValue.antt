@@ -8,7 +8,7 @@ use mathlib.Core.Path.{_≡_, refl, sym, ap, _∙_}
 use native.Mathlib.Omega.{arith}
 use Prim.Native.Nat.{ℕ, _+_, _-_, _≤_, _<_}
 use Rattle.octets.specs.declared.cause.Cause.{Cause}
-use Rattle.octets.specs.declared.cause.Cause.the-variants.{Cut, Form, Contents, Trailing}
+use Rattle.octets.specs.declared.cause.Cause.the-variants.{Cut, Forbidden, Contents, Trailing}
 use Rattle.octets.specs.Answer.{Answer, got, refused, then, if, none-left}
 use Rattle.octets.proofs.Answer.{got-holds, if-cases, refused≢got}
 use Rattle.ber.specs.Reading.{closed, readLength}
@@ -21,7 +21,7 @@ use Rattle.table.specs.Syntax.{Record, Table}
 use Rattle.table.specs.Reading.{bodyAt}
 use Rattle.table.specs.Entries.{unpacked, tableIn, countIn}
 use Rattle.table.specs.declared.entry.Entry.{Entry}
-use Rattle.coding.specs.Tags.{own, explicit}
+use Rattle.coding.specs.Tags.{ownTag, explicit}
 use Rattle.coding.specs.Value.{Value, leaf, Leaf, leafOctets, octets}
 use Rattle.coding.specs.Reading.{decode, readValue, readMessage}
 use Rattle.coding.proofs.Content.{content-sound, content-complete}
@@ -127,15 +127,15 @@ module _ {b index : List ℕ} {w : ℕ} {m : List ℕ} {first level : ℕ} (X : 
       → (c : Cause) → z ≡ NoLength c → Refused c (length m - X .at) ≡ Wanted
   value-unread k z az c q =
       let y = own-header X (no-choice X k) ∙ length-refused (Part X) (X .from) (length (Rest X)) z az c q in
-      item-unfit c (item-refused (tableIn b) _ (own (Rec X)) (Rec X .body) (Rest X) c (length (Rest X)) (no-choice X k) y)
+      item-unfit c (item-refused (tableIn b) _ (ownTag (Rec X)) (Rec X .body) (Rest X) c (length (Rest X)) (no-choice X k) y)
 
 module _ {b index : List ℕ} {w : ℕ} {m : List ℕ} {first level : ℕ} (Y : Filling b index w m first level) where
   -- simple contents
   module _ (simple : Y .item .entry .simple ≡ true) where
-    pub value-marked : Y .marked ≡ true → Refused Form (length m - Y .item .at) ≡ Wanted (Y .item)
+    pub value-marked : Y .marked ≡ true → Refused Forbidden (length m - Y .item .at) ≡ Wanted (Y .item)
     value-marked t =
         let (k, q) = is-plain Y simple in
-        item-unfit (Y .item) Form (plain-open (tableIn b) (readValue (tableIn b) level) (Own Y) (Kept Y) (S Y) k q (Y .marked) (Size-of Y)
+        item-unfit (Y .item) Forbidden (plain-open (tableIn b) (readValue (tableIn b) level) (Own Y) (Kept Y) (S Y) k q (Y .marked) (Size-of Y)
         (drop (Y .start) (P Y)) (plain-header Y simple k q) t)
 
     module _ (sized : Y .marked ≡ false) (i : ℕ) (ei : i ≡ leafWeight (bodyAt b (Y .item .entry .kind) (Y .item .entry .own)) (C Y)) where

@@ -12,7 +12,7 @@ use native.Mathlib.Numerals.{add-one}
 use native.Mathlib.Omega.{arith}
 use Prim.Native.Nat.{ℕ, zero, suc, _+_, _-_, _/_, _%_, _≤_, _<_}
 use Rattle.octets.specs.declared.cause.Cause.{Cause}
-use Rattle.octets.specs.declared.cause.Cause.the-variants.{Cut, Form, NotAwaited}
+use Rattle.octets.specs.declared.cause.Cause.the-variants.{Cut, Forbidden, NotAwaited}
 use Rattle.octets.specs.Answer.{Answer, got, refused, then, if, behind, none-left}
 use Rattle.octets.specs.Lists.{same}
 use Rattle.octets.specs.Numbers.{Octets}
@@ -26,7 +26,7 @@ use Rattle.ber.specs.declared.length.Extent.{Extent}
 use Rattle.ber.proofs.Told.{length-definite, length-indefinite, length-refused}
 use Rattle.table.specs.Syntax.{Tag, Body, Plain, Sequence, Set, SequenceOf, SetOf, Choice, Record, Table, isChoice}
 use Rattle.table.specs.Entries.{allButLast, unpacked, tableIn, firstCode, explicitCount}
-use Rattle.coding.specs.Tags.{identifierOf, before, explicitTags, own, explicit}
+use Rattle.coding.specs.Tags.{identifierOf, before, explicitTags, ownTag, explicit}
 use Rattle.coding.specs.Value.{Value}
 use Rattle.coding.specs.Reading.{readWrapped, readKind}
 use Rattle.reader.specs.Records.{Ready, recordIn, IsRecord, readRecord}
@@ -119,7 +119,7 @@ module _ (A B : Type 0) (s : List ℕ) (l : ℕ) where
       (λ d.
       test (none-left (drop 1 s)) (λ f. inr (Cut, length s, (λ x. rw (a, d, f) refl), λ y. rw (a, d, f) refl)) λ f.
       test (eqb (getD s 1 0) 0) (λ g. inr (NotAwaited, l, (λ x. rw (a, d, f, g) refl), λ y. rw (a, d, f, g) refl))
-      λ g. inr (Form, length s, (λ x. rw (a, d, f, g) refl), λ y. rw (a, d, f, g) refl))
+      λ g. inr (Forbidden, length s, (λ x. rw (a, d, f, g) refl), λ y. rw (a, d, f, g) refl))
       λ d. inl ((λ x. rw (a, d) refl), λ y. rw (a, d) refl)
 
 going : {B : Type 0} (k : Mode) (s u : List ℕ) (l : ℕ) → atEnd k s (λ _. refused NotAwaited l) (λ _. got u s) ≡ got u s → (y : Unit {0} → Answer B)
@@ -204,7 +204,7 @@ module _ (b : List ℕ) (r : Record) (F : Fit r) (m : List ℕ) (om : Octets m) 
   Count = length (explicit r)
 
   more-ids : Count ≤ length Ids
-  more-ids = omega (arith, length-append (explicit r) (if (isChoice (r .body)) [] λ _. own r ∷ []))
+  more-ids = omega (arith, length-append (explicit r) (if (isChoice (r .body)) [] λ _. ownTag r ∷ []))
 
   id-explicit : (j : ℕ) → j < Count → getD Ids j [] ≡ getD (explicit r) j []
   id-explicit j l = front-at (explicit r) _ j l
@@ -216,7 +216,7 @@ module _ (b : List ℕ) (r : Record) (F : Fit r) (m : List ℕ) (om : Octets m) 
   unfolding if
   is-last l = test (isChoice (r .body)) (λ t. absurd (short (isChoice (r .body)) t l)) λ t. t
     where
-      short : (t : Bool) → t ≡ true → Count < length (explicit r ++ if t [] λ _. own r ∷ []) → ⊥
+      short : (t : Bool) → t ≡ true → Count < length (explicit r ++ if t [] λ _. ownTag r ∷ []) → ⊥
       short true t l = let q = ap length (append-nil (explicit r)) in omega (arith, q)
       short false t l = false≢true t
 
@@ -249,7 +249,7 @@ module _ (b : List ℕ) (r : Record) (F : Fit r) (m : List ℕ) (om : Octets m) 
           S .high,
           S .around,
           (λ n.
-              let w : getD Ids j [] ≡ own r = ap (λ (i : ℕ). getD Ids i []) q ∙ own-at r n in
+              let w : getD Ids j [] ≡ ownTag r = ap (λ (i : ℕ). getD Ids i []) q ∙ own-at r n in
               let y = own-low r F n in let u : j < length Ids = omega (arith, q, y, count-identifiers r F) in
               rw (← w) (S .headed u)),
           λ n.
@@ -353,10 +353,10 @@ module _ (b : List ℕ) (r : Record) (F : Fit r) (m : List ℕ) (om : Octets m) 
               λ t.
               let k : suc j ≡ Count = omega (arith, ltb-false (suc j) Count t) in
               let v = is-last (omega (arith, w, k)) in
-              let u : getD Ids (suc j) [] ≡ own r = ap (λ (i : ℕ). getD Ids i []) k ∙ own-at r v in
-              let y = header-none (own r) U c (rw u at e) in
+              let u : getD Ids (suc j) [] ≡ ownTag r = ap (λ (i : ℕ). getD Ids i []) k ∙ own-at r v in
+              let y = header-none (ownTag r) U c (rw u at e) in
               ap (λ (a : List (List ℕ)). readWrapped a (readBare b n r) U) (ap (λ (i : ℕ). drop i (explicit r)) k ∙ drop-length (explicit r))
-              ∙ item-refused (tableIn b) _ (own r) (r .body) U c (length U) v y
+              ∙ item-refused (tableIn b) _ (ownTag r) (r .body) U c (length U) v y
 
           no-entry : (c : Cause) → EntersTag Ids (suc j) U (x .marked) (NoTag c) → (n : ℕ)
               → Contents (readWrapped Rest (readBare b n r) U) ≡ refused c (length U)
@@ -450,4 +450,4 @@ module _ {b index : List ℕ} (R : Ready b index) {w : ℕ} (I : IsRecord b inde
       omega (arith, more-few t, count-identifiers t (its-fit R I), ap (λ (x : Record). length (x .tags)) (its-record R I), its-entry R I .few)
     where
       more-few : (t : Record) → length (explicit t) ≤ length (identifiers t)
-      more-few t = omega (arith, length-append (explicit t) (if (isChoice (t .body)) [] λ _. own t ∷ []))
+      more-few t = omega (arith, length-append (explicit t) (if (isChoice (t .body)) [] λ _. ownTag t ∷ []))

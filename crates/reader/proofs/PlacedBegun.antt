@@ -11,7 +11,7 @@ use Rattle.octets.proofs.Lists.{same-true}
 use Rattle.ber.specs.Reading.{readIdentifier}
 use Rattle.table.specs.Syntax.{Body, Plain, Sequence, Set, SequenceOf, SetOf, Choice, Table}
 use Rattle.coding.specs.Value.{Value}
-use Rattle.coding.specs.Tags.{own, explicit}
+use Rattle.coding.specs.Tags.{ownTag, explicit}
 use Rattle.coding.specs.Awaited.{beginsBody, beginsItem, begins}
 use Rattle.coding.specs.Reading.{passes, begun, notAwaited, readValue}
 use Rattle.coding.proofs.Awaited.{item-unwanted}
@@ -33,13 +33,13 @@ pub value-begun : (T : Table) → Good T → (n t : ℕ) (s : List ℕ) (v : Val
 unfolding readValue begun passes
 value-begun T good zero t s v w e = refused≢got e
 value-begun T good (suc n) t s v w e =
-    test (passes (λ j. beginsItem (λ a. begins T a j) j (explicit (T t)) (own (T t)) (T t .body)) (readIdentifier s))
+    test (passes (λ j. beginsItem (λ a. begins T a j) j (explicit (T t)) (ownTag (T t)) (T t .body)) (readIdentifier s))
     (λ q. go (readIdentifier s) q)
     λ q.
-    let x = item-unwanted T (λ u w. readValue T n u w) (own (T t)) (explicit (T t)) (T t .body) s q in
+    let x = item-unwanted T (λ u w. readValue T n u w) (ownTag (T t)) (explicit (T t)) (T t .body) s q in
     let z : Holds (λ (a : Value) (u : List ℕ). ⊥) (notAwaited s) = not-awaited s in
     absurd (got-holds z (sym x ∙ e))
   where
-    go : (x : Answer (List ℕ)) → passes (λ j. beginsItem (λ a. begins T a j) j (explicit (T t)) (own (T t)) (T t .body)) x ≡ true → passes (begins T t) x ≡ true
-    go (got i u) q = good t .begin i (begins-so T i (explicit (T t)) (own (T t)) (T t .body) q)
+    go : (x : Answer (List ℕ)) → passes (λ j. beginsItem (λ a. begins T a j) j (explicit (T t)) (ownTag (T t)) (T t .body)) x ≡ true → passes (begins T t) x ≡ true
+    go (got i u) q = good t .begin i (begins-so T i (explicit (T t)) (ownTag (T t)) (T t .body) q)
     go (refused c l) q = q

@@ -13,8 +13,8 @@ use Rattle.octets.proofs.Answer.{refused≢got}
 use Rattle.ber.specs.Reading.{Size, definite, indefinite, Mode, closed, open-ended, atEnd, inside, readConstructed}
 use Rattle.table.specs.Syntax.{Member, Body, Plain, Sequence, Set, SequenceOf, SetOf, Choice, Table}
 use Rattle.coding.specs.Value.{Value}
-use Rattle.coding.specs.Tags.{own, explicit}
-use Rattle.coding.specs.Reading.{nothing, readWrapped, readSequence, place, readSet, readMany, choose, readBody}
+use Rattle.coding.specs.Tags.{ownTag, explicit}
+use Rattle.coding.specs.Reading.{nothing, readWrapped, readSequence, placeMember, readSet, readMany, choose, readBody}
 use Rattle.coding.specs.Reading.{readKind, readValue}
 
 -- the second answer is the first, if that is no refusal
@@ -80,8 +80,8 @@ module _ (T : Table) (r q : ℕ → List ℕ → Answer Value) (h : (t : ℕ) (s
       if-kept _ (then-kept (h (m .type) s) λ v s₁. sequence-kept ms (os ++ (some v ∷ [])) false mode s₁) λ _. if-kept _
       (sequence-kept ms (os ++ (none ∷ [])) true mode s) λ _. same
 
-  place-kept : (ms : List Member) (os : List (Option Value)) (s : List ℕ) → Kept (place T r ms os s) (place T q ms os s)
-  unfolding place
+  place-kept : (ms : List Member) (os : List (Option Value)) (s : List ℕ) → Kept (placeMember T r ms os s) (placeMember T q ms os s)
+  unfolding placeMember
   place-kept [] os s = same
   place-kept (m ∷ ms) [] s = same
   place-kept (m ∷ ms) (none ∷ os) s = if-kept _ (then-kept (h (m .type) s) λ v s₁. same) λ _. then-kept (place-kept ms os s) λ us s₁. same
@@ -124,7 +124,7 @@ value-next : (T : Table) (n t : ℕ) (s : List ℕ) → Kept (readValue T n t s)
 unfolding readValue
 value-next T zero t s = refusal
 value-next T (suc n) t s =
-    wrapped-kept (explicit (T t)) (λ u. kind-kept T (λ a w. readValue T n a w) (λ a w. readValue T (suc n) a w) (value-next T n) (own (T t)) (T t .body) u) s
+    wrapped-kept (explicit (T t)) (λ u. kind-kept T (λ a w. readValue T n a w) (λ a w. readValue T (suc n) a w) (value-next T n) (ownTag (T t)) (T t .body) u) s
 
 kept-on : {A : Type 0} {x y z : Answer A} → Kept x y → Kept y z → Kept x z
 kept-on same k = k

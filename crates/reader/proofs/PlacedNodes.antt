@@ -12,7 +12,7 @@ use Rattle.octets.specs.Answer.{if}
 use Rattle.octets.specs.Numbers.{octetsOf}
 use Rattle.octets.proofs.Tests.{test}
 use Rattle.table.specs.Syntax.{Member, Plain, Sequence, Set, SequenceOf, SetOf, Choice}
-use Rattle.coding.specs.Value.{Value, slots, bag, octets, count, presence, parts}
+use Rattle.coding.specs.Value.{Value, slots, bag, octets, count, presence, slotOctets}
 use Rattle.coding.specs.Reading.{nothing}
 use Rattle.reader.specs.Items.{Holder, inside, message, partsOf, Hand, filled}
 use Rattle.reader.specs.Items.{values, only, assemble, nodeSize, sizesOf}
@@ -24,11 +24,11 @@ use Rattle.reader.proofs.Stores.{sets-append, sets-later}
 use Rattle.reader.proofs.ItemsSizes.{presence-length}
 
 -- members in a row
-pub slots-parts : (os us : List (Option Value)) → parts (slots (os ++ us)) ≡ parts (slots os) ++ parts (slots us)
-unfolding slots parts
+pub slots-parts : (os us : List (Option Value)) → slotOctets (slots (os ++ us)) ≡ slotOctets (slots os) ++ slotOctets (slots us)
+unfolding slots slotOctets
 slots-parts [] us = refl
 slots-parts (none ∷ os) us = slots-parts os us
-slots-parts (some v ∷ os) us = rw (slots-parts os us) (sym (append-assoc (octets v) (parts (slots os)) (parts (slots us))))
+slots-parts (some v ∷ os) us = rw (slots-parts os us) (sym (append-assoc (octets v) (slotOctets (slots os)) (slotOctets (slots us))))
 
 slots-presence : (os us : List (Option Value)) → presence (slots (os ++ us)) ≡ presence (slots os) ++ presence (slots us)
 unfolding slots presence
@@ -42,8 +42,8 @@ slots-count [] = refl
 slots-count (none ∷ os) = ap suc (slots-count os)
 slots-count (some v ∷ os) = ap suc (slots-count os)
 
-none-parts : (k : ℕ) → parts (slots (replicate k none)) ≡ []
-unfolding slots parts
+none-parts : (k : ℕ) → slotOctets (slots (replicate k none)) ≡ []
+unfolding slots slotOctets
 none-parts zero = refl
 none-parts (suc k) = none-parts k
 
@@ -78,10 +78,10 @@ row-length hand j = filled-length hand (replicate j none) ∙ length-replicate j
 -- members in hand in the table's order, all before the j-th
 pub record Row (hand : Hand) (j : ℕ) : Type 0 where
   pub whole : (k : ℕ) → filled hand (replicate (j + k) none) ≡ filled hand (replicate j none) ++ replicate k none
-  pub parts : parts (slots (filled hand (replicate j none))) ≡ bodies hand
+  pub slotOctets : slotOctets (slots (filled hand (replicate j none))) ≡ bodies hand
 
 pub row-none : Row [] 0
-unfolding filled bodies slots parts
+unfolding filled bodies slots slotOctets
 row-none = record { whole = λ k. let e : 0 + k ≡ k = omega arith in rw e refl; parts = refl }
 
 module _ {hand : Hand} {j : ℕ} (R : Row hand j) where
@@ -119,7 +119,7 @@ module _ {hand : Hand} {j : ℕ} (R : Row hand j) where
 
   -- the j-th came
   pub row-turn : (v : Value) → Row (hand ++ ((j, v) ∷ [])) (suc j)
-  unfolding slots parts
+  unfolding slots slotOctets
   row-turn v =
       record {
         whole = λ k. rw (row-with v k, row-turned v) (sym (append-snoc (filled hand (replicate j none)) (some v) (replicate k none)));
@@ -295,8 +295,8 @@ module _ {h : Holder} {first : List ℕ} {to : ℕ} {hand : Hand} {more : List �
       }
 
 -- elements in a row
-bag-parts : (hand : Hand) → parts (bag (values hand)) ≡ bodies hand
-unfolding bag parts bodies
+bag-parts : (hand : Hand) → slotOctets (bag (values hand)) ≡ bodies hand
+unfolding bag slotOctets bodies
 bag-parts [] = refl
 bag-parts (x ∷ hand) = ap (λ (l : List ℕ). octets (x .1) ++ l) (bag-parts hand)
 

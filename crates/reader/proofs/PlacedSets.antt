@@ -11,7 +11,7 @@ use lib.ListN.{length, getD, take, drop, set, replicate, length-append, replicat
 use lib.Seq.{sets, length-sets, take-suc, take-all, drop-cons}
 use Rattle.octets.specs.Answer.{got}
 use Rattle.table.specs.Syntax.{Member, Set, Table}
-use Rattle.coding.specs.Value.{Value, slots, octets, parts}
+use Rattle.coding.specs.Value.{Value, slots, octets, slotOctets}
 use Rattle.coding.specs.Value as Value-of
 use Rattle.coding.specs.Reading.{nothing, readValue}
 use Rattle.reader.specs.Items.{inside, partsOf, Hand, filled, assemble, nodeSize}
@@ -99,16 +99,16 @@ take-free os j (suc d) l h =
 
 -- how many octets those have that came
 some-parts : (os : List (Option Value)) (j : ℕ) (v : Value) → j < length os → getD os j none ≡ some v
-    → length (parts (slots (take j os))) + length (octets v) ≤ length (parts (slots os))
-unfolding slots parts
+    → length (slotOctets (slots (take j os))) + length (octets v) ≤ length (slotOctets (slots os))
+unfolding slots slotOctets
 some-parts os j v l e =
     let d : os ≡ take j os ++ (some v ∷ drop (suc j) os) =
     sym (take-append-drop j os) ∙ ap (λ (r : List (Option Value)). take j os ++ r)
     (drop-cons os j none l ∙ ap (λ (o : Option Value). o ∷ drop (suc j) os) e) in
-    let x = ap (λ (r : List (Option Value)). length (parts (slots r))) d
+    let x = ap (λ (r : List (Option Value)). length (slotOctets (slots r))) d
     ∙ ap length (slots-parts (take j os) (some v ∷ drop (suc j) os))
-    ∙ length-append (parts (slots (take j os))) (octets v ++ parts (slots (drop (suc j) os))) in
-    omega (arith, x, length-append (octets v) (parts (slots (drop (suc j) os))))
+    ∙ length-append (slotOctets (slots (take j os))) (octets v ++ slotOctets (slots (drop (suc j) os))) in
+    omega (arith, x, length-append (octets v) (slotOctets (slots (drop (suc j) os))))
 
 -- The loop that places the members of a SET in the table's order. By the notes ns they begin at places of m, and `os` are their values;
 -- the first j are in hand, or did not come.
@@ -168,8 +168,8 @@ module _ {T : Table} {n : ℕ} {ms : List Member} {m ns : List ℕ} {os : List (
     unfolding octets nodeSize
     filling-room =
         let x = some-parts os j (t .value) (omega (arith, noted-length (S .noted))) (t .has) in
-        let y : bodies (S .hand) ≡ parts (slots (take j os)) = sym (the-row .parts) ∙ ap (λ (r : List (Option Value)). parts (slots r)) (S .so-far) in
-        let z = length-append (Value-of.presence (slots os)) (parts (slots os)) in
+        let y : bodies (S .hand) ≡ slotOctets (slots (take j os)) = sym (the-row .parts) ∙ ap (λ (r : List (Option Value)). slotOctets (slots r)) (S .so-far) in
+        let z = length-append (Value-of.presence (slots os)) (slotOctets (slots os)) in
         omega (arith, S .room, rw append-nil at (S .stands .reaches), ap length y, presence-length os, noted-length (S .noted))
 
     pub filling-next : {last : List ℕ} {next₁ : ℕ} → Standing (inside (Set ms)) first to (S .hand ++ ((j, t .value) ∷ [])) [] (suc j) last next₁

@@ -32,7 +32,7 @@ use Rattle.table.specs.Entries.{unpacked, tableIn, countIn, Entered, outermostC
 use Rattle.table.specs.declared.entry.Entry.{Entry}
 use Rattle.table.proofs.Promises.{entered-kind, entered-enumerated}
 use Rattle.coding.specs.Content.{listed, Content, c-boolean, c-integer, c-bits, c-string, c-null, c-enumerated}
-use Rattle.coding.specs.Tags.{own, explicit}
+use Rattle.coding.specs.Tags.{ownTag, explicit}
 use Rattle.coding.specs.Value.{Leaf, Value, leaf, leafOctets, octets}
 use Rattle.coding.specs.Reading.{decode, readValue}
 use Rattle.coding.proofs.Content.{content-sound}
@@ -229,7 +229,7 @@ module _ {b index : List ℕ} {w : ℕ} {m : List ℕ} {at from : ℕ} {buf : Li
             let (k, q) = is-plain Y s in
             test marked
             (λ t.
-            let y = plain-open (tableIn b) (readValue (tableIn b) 24) (own R) (R .body) (S Y) k q marked (stop - start) (drop start (take end m))
+            let y = plain-open (tableIn b) (readValue (tableIn b) 24) (ownTag R) (R .body) (S Y) k q marked (stop - start) (drop start (take end m))
             (plain-header Y s k q) t in
             refused≢got (sym y ∙ U .is))
             λ t.
@@ -282,7 +282,7 @@ module _ {b index : List ℕ} {w : ℕ} {m : List ℕ} {at from : ℕ} {buf : Li
               again-told (length (take end m)) (readLength (length (Around-rest item)) (drop from₁ (take end m))) x z u
               (again (length (Around-rest item))) e
           its-length n (refused c l) e =
-              refused≢got (sym (item-refused (tableIn b) _ (own R) (R .body) (Around-rest item) c l n (own-header item n ∙ e)) ∙ U .is)
+              refused≢got (sym (item-refused (tableIn b) _ (ownTag R) (R .body) (Around-rest item) c l n (own-header item n ∙ e)) ∙ U .is)
 
     -- what is placed of the contents
     module _ {start stop : ℕ} {marked : Bool} (X : Contents b w m at end Val (U .left) start stop marked) where

@@ -17,10 +17,10 @@ use Rattle.ber.proofs.Identifiers.{identifier-sound}
 use Rattle.ber.proofs.Items.{Ends, mark, atEnd-holds}
 use Rattle.table.specs.Syntax.{Member, Body, Plain, Sequence, Set, SequenceOf, SetOf, Choice, Table}
 use Rattle.coding.specs.Value.{Value}
-use Rattle.coding.specs.Reading.{passes, begun, unwanted, nothing, readWrapped, readSequence, place, readSet, readMany, choose, readBody, readKind}
+use Rattle.coding.specs.Reading.{passes, begun, unwanted, nothing, readWrapped, readSequence, placeMember, readSet, readMany, choose, readBody, readKind}
 use Rattle.coding.specs.Reading.{readValue}
 use Rattle.coding.proofs.Content.{content-sound}
-use Rattle.coding.specs.Tags.{own, explicit}
+use Rattle.coding.specs.Tags.{ownTag, explicit}
 use Rattle.coding.specs.Awaited.{begins}
 use Rattle.coding.specs.Awaited.{GoesOn, no-end}
 use Rattle.coding.proofs.FirstTags.{Good, proper-begun}
@@ -144,8 +144,8 @@ module _ (T : Table) (good : Good T) (r : ℕ → List ℕ → Answer Value) (sk
       if-holds _ (λ op. sequence-skips ms (os ++ (none ∷ [])) true s)
       λ op _. atEnd-holds open-ended s (λ u h. refuses) λ _. not-awaited s
 
-  place-skips : (ms : List Member) (os : List (Option Value)) → Outer (place T r ms os)
-  unfolding place
+  place-skips : (ms : List Member) (os : List (Option Value)) → Outer (placeMember T r ms os)
+  unfolding placeMember
   place-skips [] os s = not-awaited s
   place-skips (m ∷ ms) [] s = not-awaited s
   place-skips (m ∷ ms) (none ∷ os) s =
@@ -191,4 +191,4 @@ pub value-skips : (T : Table) → Good T → (n t : ℕ) (s : List ℕ) → Hold
 unfolding readValue
 value-skips T good zero t s = refuses
 value-skips T good (suc n) t s =
-    wrapped-skips (explicit (T t)) _ (λ u. kind-skips T good (λ u w. readValue T n u w) (value-skips T good n) (own (T t)) (T t .body) u) s
+    wrapped-skips (explicit (T t)) _ (λ u. kind-skips T good (λ u w. readValue T n u w) (value-skips T good n) (ownTag (T t)) (T t .body) u) s

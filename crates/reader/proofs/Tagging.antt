@@ -28,7 +28,7 @@ use Rattle.table.specs.Syntax.{Tag, Body, Plain, Sequence, Set, SequenceOf, Set
 use Rattle.table.specs.Entries.{unpacked, tagCount, tagPlace, tableIn, countIn, Entered, firstCode, outermostCode}
 use Rattle.table.specs.declared.entry.Entry.{Entry}
 use Rattle.table.proofs.Promises.{entered-tags, entered-tag, entered-bit}
-use Rattle.coding.specs.Tags.{identifierOf, last, before, explicitTags, own, explicit}
+use Rattle.coding.specs.Tags.{identifierOf, last, before, explicitTags, ownTag, explicit}
 use Rattle.reader.specs.Records.{Ready, recordIn, IsRecord}
 use Rattle.reader.specs.Wraps.{identifiers, AwaitsTag, behind-last, is-tag, no-tag, EntersTag, goes-on, is-over}
 use Rattle.reader.specs.declared.tags.Tag.{Tag as TagRead}
@@ -78,7 +78,7 @@ all-at (g ∷ gs) zero l = refl
 all-at (g ∷ gs) (suc j) l = all-at gs j (omega arith)
 
 length-of : (gs : List Tag) (y : Body) → (gs ≡ [] → isChoice y ≡ true) → length (identifiers (record { tags = gs; body = y })) ≡ length gs
-unfolding explicit explicitTags own isChoice if
+unfolding explicit explicitTags ownTag isChoice if
 length-of gs (Choice ts) t = all-length gs
 length-of [] (Plain k) t = absurd (false≢true (t refl))
 length-of [] (Sequence ms) t = absurd (false≢true (t refl))
@@ -93,7 +93,7 @@ length-of (g ∷ gs) (SetOf u) t = items-length (SetOf u) _ g gs
 
 at-of : (gs : List Tag) (y : Body) → (gs ≡ [] → isChoice y ≡ true) → (j : ℕ) → j < length gs
     → getD (identifiers (record { tags = gs; body = y })) j [] ≡ identifierOf (ltb (j + 1) (length gs) || constructed y) (getD gs j zeros)
-unfolding explicit explicitTags own isChoice constructed if
+unfolding explicit explicitTags ownTag isChoice constructed if
 at-of gs (Choice ts) t j l = all-at gs j l ∙ ap (λ (k : Bool). identifierOf k (getD gs j zeros)) (sym (or-true (ltb (j + 1) (length gs))))
 at-of [] (Plain k) t j l = absurd (omega arith)
 at-of [] (Sequence ms) t j l = absurd (omega arith)
@@ -143,14 +143,14 @@ behind-at : (a : List (List ℕ)) (x : List ℕ) → getD (a ++ (x ∷ [])) (len
 behind-at [] x = refl
 behind-at (y ∷ a) x = behind-at a x
 
-pub own-at : (r : Record) → isChoice (r .body) ≡ false → getD (identifiers r) (length (explicit r)) [] ≡ own r
+pub own-at : (r : Record) → isChoice (r .body) ≡ false → getD (identifiers r) (length (explicit r)) [] ≡ ownTag r
 unfolding if
-own-at r n = rw n (behind-at (explicit r) (own r))
+own-at r n = rw n (behind-at (explicit r) (ownTag r))
 
 pub own-low : (r : Record) → Fit r → isChoice (r .body) ≡ false → length (explicit r) < length (r .tags)
 unfolding if
 own-low r F n =
-    let q : length (identifiers r) ≡ length (explicit r) + 1 = rw n (length-append (explicit r) (own r ∷ [])) in
+    let q : length (identifiers r) ≡ length (explicit r) + 1 = rw n (length-append (explicit r) (ownTag r ∷ [])) in
     omega (arith, count-identifiers r F)
 
 -- and the first has the first code
@@ -164,10 +164,10 @@ first-by (g ∷ h ∷ gs) y l = rw (lt-ltb (0 + 1) (suc (suc (length gs))) (omeg
 pub first-code : (r : Record) → Fit r → 0 < length (r .tags) → codeOf (getD (identifiers r) 0 []) ≡ firstCode r
 first-code r F k = code-at r F 0 k ∙ sym (first-by (r .tags) (r .body) k)
 
-pub own-first : (r : Record) → Fit r → length (explicit r) ≡ 0 → isChoice (r .body) ≡ false → codeOf (own r) ≡ firstCode r
+pub own-first : (r : Record) → Fit r → length (explicit r) ≡ 0 → isChoice (r .body) ≡ false → codeOf (ownTag r) ≡ firstCode r
 own-first r F z n =
     let k : 0 < length (r .tags) = omega (arith, own-low r F n) in
-    let q : getD (identifiers r) 0 [] ≡ own r = ap (λ (i : ℕ). getD (identifiers r) i []) (sym z) ∙ own-at r n in
+    let q : getD (identifiers r) 0 [] ≡ ownTag r = ap (λ (i : ℕ). getD (identifiers r) i []) (sym z) ∙ own-at r n in
     ap codeOf (sym q) ∙ first-code r F k
 
 -- of the record of an entry

@@ -10,7 +10,7 @@ use mathlib.Core.Path.{_≡_, refl, sym, ap, _∙_}
 use native.Mathlib.Omega.{arith}
 use Prim.Native.Nat.{ℕ, _+_, _-_, _≤_, _<_}
 use Rattle.octets.specs.declared.cause.Cause.{Cause}
-use Rattle.octets.specs.declared.cause.Cause.the-variants.{Form}
+use Rattle.octets.specs.declared.cause.Cause.the-variants.{Forbidden}
 use Rattle.octets.specs.Answer.{Answer, got, refused, then, if, behind}
 use Rattle.octets.specs.Numbers.{Octets}
 use Rattle.octets.proofs.Tests.{test}
@@ -26,7 +26,7 @@ use Rattle.table.specs.Syntax.{Simple, Body, Plain}
 use Rattle.table.specs.Syntax.{Record, Table, isChoice, constructed}
 use Rattle.table.specs.Entries.{unpacked, tableIn}
 use Rattle.table.specs.declared.entry.Entry.{Entry}
-use Rattle.coding.specs.Tags.{own, explicit}
+use Rattle.coding.specs.Tags.{ownTag, explicit}
 use Rattle.coding.specs.Value.{Value, leaf}
 use Rattle.coding.specs.Reading.{decode, readWrapped, readKind, readValue}
 use Rattle.reader.specs.Items.{Holder, inside, manner, isSingle}
@@ -49,7 +49,7 @@ pub record Under (b : List ℕ) (r : Record) (m : List ℕ) (first : ℕ) (ns : 
   pub some : at < end
   pub high : end ≤ length m
   pub around : Around (length m) ns end
-  pub headed : isChoice (r .body) ≡ false → Headed (take end m) at from (codeOf (own r))
+  pub headed : isChoice (r .body) ≡ false → Headed (take end m) at from (codeOf (ownTag r))
   pub whole : (n : ℕ) → readRecord (tableIn b) n r (drop first m) ≡ closing m ns end (readBare b n r (drop at (take end m)))
 
 -- where the contents of that item stand
@@ -63,13 +63,13 @@ pub record Within (r : Record) (p : List ℕ) (at end start stop : ℕ) (marked 
   pub unsized : marked ≡ true → stop ≡ end
   pub further : isChoice (r .body) ≡ false → at < start
   pub bare : isChoice (r .body) ≡ true → (start ≡ at) × (stop ≡ end)
-  pub header : isChoice (r .body) ≡ false → readHeader (own r) (drop at p) ≡ got (sizeOf marked (stop - start)) (drop start p)
+  pub header : isChoice (r .body) ≡ false → readHeader (ownTag r) (drop at p) ≡ got (sizeOf marked (stop - start)) (drop start p)
 
 -- the item of a simple kind, by its header
 module _ (T : Table) (f : ℕ → List ℕ → Answer Value) (i : List ℕ) (y : Body) (s : List ℕ) (k : Simple) (q : y ≡ Plain k) (z : Bool) (n : ℕ)
     (u : List ℕ)
     (h : readHeader i s ≡ got (sizeOf z n) u) where
-  pub plain-open : z ≡ true → readKind T f i y s ≡ refused Form (length s)
+  pub plain-open : z ≡ true → readKind T f i y s ≡ refused Forbidden (length s)
   unfolding readKind readPrimitive then contents
   plain-open t = let g = rw t at h in rw (q, g) refl
 
@@ -166,7 +166,7 @@ module _ {b index : List ℕ} {w : ℕ} {m : List ℕ} {first level : ℕ} (X : 
   pub item-around : X .end ≡ length Part
   item-around = sym size-part
 
-  pub own-header : isChoice (Rec .body) ≡ false → readHeader (own Rec) Rest ≡ readLength (length Rest) (drop (X .from) Part)
+  pub own-header : isChoice (Rec .body) ≡ false → readHeader (ownTag Rec) Rest ≡ readLength (length Rest) (drop (X .from) Part)
   unfolding readHeader then if
   own-header n =
       let h = X .under .headed n in
@@ -174,7 +174,7 @@ module _ {b index : List ℕ} {w : ℕ} {m : List ℕ} {first level : ℕ} (X : 
       let F = its-fit (X .ready) (X .known) in
       let y = same-at Rec F (length (explicit Rec)) (own-low Rec F n) Rest (h .identifier) (drop (X .from) Part) o (h .is) in
       let v = rw (own-at Rec n) at y in
-      rw (h .is, v, eq-eqb (codeOf (h .identifier)) (codeOf (own Rec)) (h .coded)) refl
+      rw (h .is, v, eq-eqb (codeOf (h .identifier)) (codeOf (ownTag Rec)) (h .coded)) refl
 
   pub no-choice : (X .entry .kind ≡ 50 → ⊥) → isChoice (Rec .body) ≡ false
   no-choice n = sym (its-choice (X .ready) (X .known) (X .entry) (X .entered)) ∙ ne-eqb (X .entry .kind) 50 n
@@ -241,7 +241,7 @@ module _ {b index : List ℕ} {w : ℕ} {m : List ℕ} {first level : ℕ} (Y : 
   Kept = recordOf b w .body
 
   abbrev pub Own : List ℕ
-  Own = own (recordOf b w)
+  Own = ownTag (recordOf b w)
 
   abbrev pub Size-of : ℕ
   Size-of = Y .stop - Y .start

@@ -13,7 +13,7 @@ use Rattle.table.specs.Passes.{Passes}
 use Rattle.table.specs.Entries.{unpacked, tagCount, tagPlace, tableIn, countIn, Filled}
 use Rattle.table.specs.declared.entry.Entry.{Entry}
 use Rattle.coding.specs.Value.{Value}
-use Rattle.coding.specs.Tags.{own, explicit}
+use Rattle.coding.specs.Tags.{ownTag, explicit}
 use Rattle.coding.specs.Reading.{readWrapped, readKind, readValue}
 use Rattle.reader.specs.Codes.{firstOf, searchIn}
 use Rattle.reader.specs.Items.{Holder, inside, message}
@@ -45,7 +45,7 @@ IsRecord b index w = (t : ℕ) × (t < countIn b) × (w ≡ getD index t 0)
 
 -- a value of a record, where the values in it have n levels
 unfoldable pub readRecord : Table → ℕ → Record → List ℕ → Answer Value
-readRecord T n r s = readWrapped (explicit r) (readKind T (λ u w. readValue T n u w) (own r) (r .body)) s
+readRecord T n r s = readWrapped (explicit r) (readKind T (λ u w. readValue T n u w) (ownTag r) (r .body)) s
 
 -- what the search finds under t: the record that the code begins, with the way to it
 abbrev pub Finds : List ℕ → ℕ → List ℕ → ℕ → Under → Type 0

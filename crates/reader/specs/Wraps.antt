@@ -16,7 +16,7 @@ use Rattle.ber.specs.Told.{mode}
 use Rattle.ber.specs.Reading.{readIdentifier, Mode, closed, open-ended, atEnd}
 use Rattle.table.specs.Syntax.{Record, isChoice}
 use Rattle.table.specs.Entries.{tableIn}
-use Rattle.coding.specs.Tags.{own, explicit}
+use Rattle.coding.specs.Tags.{ownTag, explicit}
 use Rattle.coding.specs.Value.{Value}
 use Rattle.coding.specs.Reading.{readKind, readValue}
 use Rattle.reader.specs.Records.{readRecord}
@@ -63,11 +63,11 @@ pub record Headed (m : List ℕ) (at from code : ℕ) : Type 0 where
 
 -- the identifiers of a record, the outermost first; a CHOICE has none of its own
 abbrev pub identifiers : Record → List (List ℕ)
-identifiers r = explicit r ++ if (isChoice (r .body)) [] λ _. own r ∷ []
+identifiers r = explicit r ++ if (isChoice (r .body)) [] λ _. ownTag r ∷ []
 
 -- the item of a record under its explicit tags, where the values in it have n levels
 abbrev pub readBare : List ℕ → ℕ → Record → List ℕ → Answer Value
-readBare b n r s = readKind (tableIn b) (λ u w. readValue (tableIn b) n u w) (own r) (r .body) s
+readBare b n r s = readKind (tableIn b) (λ u w. readValue (tableIn b) n u w) (ownTag r) (r .body) s
 
 -- the j-th identifier, which m must begin with: where it ends; behind the last there is none; or why it is refused
 pub data AwaitsTag (is : List (List ℕ)) (j : ℕ) (m : List ℕ) : Tag → Type 0 where
@@ -89,6 +89,6 @@ pub data EntersTag (is : List (List ℕ)) (j : ℕ) (m : List ℕ) (marked : Boo
 abbrev pub Opens : List ℕ → Record → List ℕ → ℕ → List ℕ → Opened → Type 0
 Opens b r m at ns (Inside x) =
     (at < x .at) × (x .at < x .end) × (x .end ≤ length m) × Around (length m) ns (x .end)
-    × (isChoice (r .body) ≡ false → Headed (take (x .end) m) (x .at) (x .from) (codeOf (own r)))
+    × (isChoice (r .body) ≡ false → Headed (take (x .end) m) (x .at) (x .from) (codeOf (ownTag r)))
     × ((n : ℕ) → readRecord (tableIn b) n r (drop at m) ≡ closing m ns (x .end) (readBare b n r (drop (x .at) (take (x .end) m))))
 Opens b r m at ns (NotOpened c l) = (l ≤ length m) × ((n : ℕ) → readRecord (tableIn b) n r (drop at m) ≡ refused c l)

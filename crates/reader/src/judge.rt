@@ -163,7 +163,7 @@ fn judge_value(
     let mut size: usize = 0;
     if e.simple {
         if marked {
-            return refused(Cause::Form, left);
+            return refused(Cause::Forbidden, left);
         }
         let c = &m[start..stop];
         size = contents_size(table, e, c);

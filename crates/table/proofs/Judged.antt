@@ -11,7 +11,7 @@ use Rattle.octets.proofs.Search.{before-lowest}
 use Rattle.table.specs.Syntax.{Table, absent}
 use Rattle.table.specs.Octets.{recordShaped}
 use Rattle.table.specs.Decide.{dangling, mistagged, circular}
-use Rattle.table.specs.Walk.{like, Ready, Named, Straight}
+use Rattle.table.specs.Walk.{like, StandIns, Named, Straight}
 use Rattle.table.proofs.Decided.{dangling-complete, mistagged-complete, circular-complete}
 use Rattle.table.proofs.Straight.{below-there, ends}
 
@@ -29,7 +29,7 @@ named T n p q s d h m k =
     }
 
 module _ (T : Table) (n : ℕ) (x : Named T n) where
-  pub ready : {nodes : List ℕ} → ((t : ℕ) → t < n → getD nodes t 0 ≡ like T t) → Ready T n nodes
+  pub ready : {nodes : List ℕ} → ((t : ℕ) → t < n → getD nodes t 0 ≡ like T t) → StandIns T n nodes
   ready r = record { closed = below-there T n x; right = r }
 
   pub straight : ((t : ℕ) → n ≤ t → T t ≡ absent) → (p : ℕ) → p ≡ lowest (circular T n) n → n ≤ p → Straight T n

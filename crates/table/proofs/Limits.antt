@@ -10,7 +10,7 @@ use Rattle.octets.specs.Numbers.{Octets, octetsOf}
 use Rattle.octets.specs.Permutations.{every-cons, AllOctets}
 use Rattle.octets.proofs.Permutations.{every-left, every-right, all-octets}
 use Rattle.table.specs.Syntax.{Tag, Enumerated, Body, Plain, Record, table}
-use Rattle.table.specs.Octets.{tagOctets, own, recordOctets, Spells}
+use Rattle.table.specs.Octets.{tagOctets, ownOctets, recordOctets, Spells}
 
 -- the octets of one element are among those of all
 element-octets : {A : Type 0} (f : A → List ℕ) {x : A} {l : List A} → In x l → AllOctets (joined (map f l)) → AllOctets (f x)
@@ -25,12 +25,12 @@ tag-octets : (g : Tag) → AllOctets (tagOctets g) → g .number < 65536
 unfolding tagOctets
 tag-octets g (every-cons a o) = two-octets (g .number) o
 
-listed-octets : (x : Body) (ns : List ℕ) → x ≡ Plain (Enumerated ns) → AllOctets (own x) → AllOctets (joined (map octetsOf ns))
-unfolding own
+listed-octets : (x : Body) (ns : List ℕ) → x ≡ Plain (Enumerated ns) → AllOctets (ownOctets x) → AllOctets (joined (map octetsOf ns))
+unfolding ownOctets
 listed-octets x ns q o = every-right (length ns ∷ []) (rw q at o)
 
 -- behind the mark, the kind and the count
-parts-octets : (r : Record) → AllOctets (recordOctets r) → AllOctets (joined (map tagOctets (r .tags)) ++ own (r .body))
+parts-octets : (r : Record) → AllOctets (recordOctets r) → AllOctets (joined (map tagOctets (r .tags)) ++ ownOctets (r .body))
 unfolding recordOctets
 parts-octets r (every-cons a (every-cons b (every-cons c (every-cons d o)))) = o
 
@@ -41,11 +41,11 @@ table-in (r ∷ rs) zero h = here refl
 table-in (r ∷ rs) (suc t) h = there (table-in rs t (omega arith))
 
 module _ {b : List ℕ} {rs : List Record} (o : Octets b) (x : Spells b rs) (t : ℕ) (h : t < length rs) where
-  its-octets : AllOctets (joined (map tagOctets (table rs t .tags)) ++ own (table rs t .body))
+  its-octets : AllOctets (joined (map tagOctets (table rs t .tags)) ++ ownOctets (table rs t .body))
   its-octets = parts-octets (table rs t) (element-octets recordOctets (table-in rs t h) (rw (x .is) at (all-octets b o)))
 
   pub tag-numbers : (g : Tag) → In g (table rs t .tags) → g .number < 65536
-  tag-numbers g i = tag-octets g (element-octets tagOctets i (every-left (joined (map tagOctets (table rs t .tags))) (own (table rs t .body)) its-octets))
+  tag-numbers g i = tag-octets g (element-octets tagOctets i (every-left (joined (map tagOctets (table rs t .tags))) (ownOctets (table rs t .body)) its-octets))
 
   pub listed-numbers : (ns : List ℕ) → table rs t .body ≡ Plain (Enumerated ns) → (k : ℕ) → In k ns → k < 65536
   listed-numbers ns q k i =

@@ -14,14 +14,14 @@ use Rattle.octets.specs.Lists.{all, joined}
 use Rattle.octets.specs.Numbers.{Octets, octetsOf}
 use Rattle.octets.proofs.Lists.{both, behind, length-behind, at-first, drop-one}
 use Rattle.table.specs.Syntax.{Member, Boolean, Integer, BitString, OctetString, Null, Enumerated, Body, Plain, Sequence, Set, SequenceOf, SetOf, Choice}
-use Rattle.table.specs.Octets.{kind, memberOctets, own, rising, bodyShaped}
+use Rattle.table.specs.Octets.{kind, memberOctets, ownOctets, rising, bodyShaped}
 use Rattle.table.specs.Reading.{numbersAt, membersAt, everyAt, bodyAt, countedEnd, enumeratedEnd, membersEnd, ownEnd}
 use Rattle.table.proofs.Pieces.{length-numbers, length-members, length-every, numbers-back, members-back, every-back}
 use Rattle.table.proofs.Pieces.{numbers-only, members-only, flags-only, every-only, length-numbered, length-membered}
 
 -- the body x of kind k is what stands from p to e
 pub record Own (b : List ℕ) (k p e : ℕ) (x : Body) : Type 0 where
-  pub is : drop p b ≡ own x ++ drop e b
+  pub is : drop p b ≡ ownOctets x ++ drop e b
   pub named : kind x ≡ k
   pub shaped : bodyShaped x ≡ true
   pub more : p ≤ e
@@ -45,14 +45,14 @@ counted-back size least most b p h =
     λ e. absurd (h (rw (e₁, e₂, e))))
     λ e. absurd (h (rw (e₁, e)))
 
-counted-own : (b : List ℕ) (k p e : ℕ) (x : Body) (n : ℕ) (xs : List ℕ) → own x ≡ n ∷ xs → n ≡ getD b p 0 → kind x ≡ k → bodyShaped x ≡ true
+counted-own : (b : List ℕ) (k p e : ℕ) (x : Body) (n : ℕ) (xs : List ℕ) → ownOctets x ≡ n ∷ xs → n ≡ getD b p 0 → kind x ≡ k → bodyShaped x ≡ true
     → drop (p + 1) b ≡ xs ++ drop e b → p + 1 ≤ e → e ≤ length b → Own b k p e x
 counted-own b k p e x c xs o d n s h m w =
     record { is = drop-one b p (omega arith) ∙ rw (o, d, h); named = n; shaped = s; more = omega arith; within = w }
 
 enumerated-back : (b : List ℕ) → Octets b → (p : ℕ) → (enumeratedEnd b p ≡ 0 → ⊥)
     → Own b 10 p (enumeratedEnd b p) (Plain (Enumerated (numbersAt b (p + 1) (getD b p 0))))
-unfolding enumeratedEnd own kind bodyShaped
+unfolding enumeratedEnd ownOctets kind bodyShaped
 enumerated-back b o p h =
     test (eqb (countedEnd 2 1 32 b p) 0) (λ e. absurd (h (rw e))) λ e₁.
     test (rising 0 (numbersAt b (p + 1) (getD b p 0))) (λ e₂.
@@ -62,7 +62,7 @@ enumerated-back b o p h =
     (numbers-back b o (p + 1) (getD b p 0) (c .fits)) (omega arith) (c .fits)))
     λ e. absurd (h (rw (e₁, e)))
 
-members-own : (b : List ℕ) (f : List Member → Body) (k p : ℕ) → ((ms : List Member) → own (f ms) ≡ length ms ∷ joined (map memberOctets ms))
+members-own : (b : List ℕ) (f : List Member → Body) (k p : ℕ) → ((ms : List Member) → ownOctets (f ms) ≡ length ms ∷ joined (map memberOctets ms))
     → ((ms : List Member) → kind (f ms) ≡ k) → ((ms : List Member) → bodyShaped (f ms) ≡ leb (length ms) 16)
     → (membersEnd b p ≡ 0 → ⊥) → Own b k p (membersEnd b p) (f (membersAt b (p + 1) (getD b p 0)))
 unfolding membersEnd
@@ -77,21 +77,21 @@ members-own b f k p o n s h =
     λ e. absurd (h (rw (e₁, e)))
 
 choice-back : (b : List ℕ) (p : ℕ) → (countedEnd 1 1 16 b p ≡ 0 → ⊥) → Own b 50 p (countedEnd 1 1 16 b p) (Choice (everyAt 1 b (p + 1) (getD b p 0)))
-unfolding own kind bodyShaped
+unfolding ownOctets kind bodyShaped
 choice-back b p h =
     let c = counted-back 1 1 16 b p h in
     rw (c .end)
     (counted-own b 50 p _ _ _ _ refl (length-every 1 b (p + 1) _) refl (rw (length-every, le-leb _ _ (c .low), le-leb _ _ (c .high)))
     (every-back b (p + 1) (getD b p 0) (c .fits)) (omega arith) (c .fits))
 
-one-own : (b : List ℕ) (x : Body) (k p : ℕ) → own x ≡ getD b p 0 ∷ [] → kind x ≡ k → bodyShaped x ≡ true
+one-own : (b : List ℕ) (x : Body) (k p : ℕ) → ownOctets x ≡ getD b p 0 ∷ [] → kind x ≡ k → bodyShaped x ≡ true
     → (if (leb (length b) p) 0 (λ _. p + 1) ≡ 0 → ⊥) → Own b k p (if (leb (length b) p) 0 (λ _. p + 1)) x
 one-own b x k p o n s h =
     test (leb (length b) p) (λ e. absurd (h (rw e))) λ e.
     let l = leb-false (length b) p e in
     rw e (counted-own b k p (p + 1) x _ [] o refl n s refl (omega arith) (omega arith))
 
-plain-own : (b : List ℕ) (x : Body) (k p : ℕ) → p ≤ length b → own x ≡ [] → kind x ≡ k → bodyShaped x ≡ true → Own b k p p x
+plain-own : (b : List ℕ) (x : Body) (k p : ℕ) → p ≤ length b → ownOctets x ≡ [] → kind x ≡ k → bodyShaped x ≡ true → Own b k p p x
 plain-own b x k p l o n s = record { is = rw o; named = n; shaped = s; more = omega arith; within = l }
 
 abbrev OwnAt : List ℕ → ℕ → ℕ → Type 0
@@ -102,7 +102,7 @@ pub above-five : (k : ℕ) → eqb k 0 ≡ false → eqb k 1 ≡ false → eqb k
 above-five k e₀ e₁ e₂ e₃ e₄ e₅ = lt-leb k 5 (omega (arith, eqb-false))
 
 pub own-back : (b : List ℕ) → Octets b → (p : ℕ) → p ≤ length b → (k : ℕ) → OwnAt b p k
-unfolding ownEnd bodyAt own kind bodyShaped
+unfolding ownEnd bodyAt ownOctets kind bodyShaped
 own-back b o p l k =
     at k 1 (OwnAt b p) (λ h. plain-own b (Plain Boolean) 1 p l refl refl refl) λ e₁.
     at k 2 (OwnAt b p) (λ h. plain-own b (Plain Integer) 2 p l refl refl refl) λ e₂.
@@ -135,7 +135,7 @@ counted-only size least most b p n xs u l e z low high =
 -- the body x is read at p, up to its end
 pub record Read (b : List ℕ) (p : ℕ) (x : Body) : Type 0 where
   pub body : bodyAt b (kind x) p ≡ x
-  pub end : ownEnd b (kind x) p ≡ p + length (own x)
+  pub end : ownEnd b (kind x) p ≡ p + length (ownOctets x)
 
 members-read : (b : List ℕ) (p : ℕ) (ms : List Member) (u : List ℕ) → p ≤ length b → drop p b ≡ (length ms ∷ joined (map memberOctets ms)) ++ u
     → leb (length ms) 16 ≡ true → (membersAt b (p + 1) (getD b p 0) ≡ ms) × (membersEnd b p ≡ p + length (length ms ∷ joined (map memberOctets ms)))
@@ -169,8 +169,8 @@ choice-read b p ts u l e s =
     let c = counted-only 1 1 16 b p (length ts) ts u l e (omega arith) (leb-true _ _ (s₁ .0)) (leb-true _ _ (s₁ .1)) in
     (rw (c .count) (every-only b (p + 1) ts u (behind b p (length ts ∷ []) _ e)), rw (c .end) (omega arith))
 
-pub own-only : (b : List ℕ) (p : ℕ) (x : Body) (u : List ℕ) → p ≤ length b → drop p b ≡ own x ++ u → bodyShaped x ≡ true → Read b p x
-unfolding own kind bodyAt ownEnd bodyShaped
+pub own-only : (b : List ℕ) (p : ℕ) (x : Body) (u : List ℕ) → p ≤ length b → drop p b ≡ ownOctets x ++ u → bodyShaped x ≡ true → Read b p x
+unfolding ownOctets kind bodyAt ownEnd bodyShaped
 own-only b p (Plain Boolean) u l e s = record { body = refl; end = omega arith }
 own-only b p (Plain Integer) u l e s = record { body = refl; end = omega arith }
 own-only b p (Plain BitString) u l e s = record { body = refl; end = omega arith }

@@ -13,7 +13,7 @@ use Rattle.octets.specs.Lists.{all, joined}
 use Rattle.octets.specs.Numbers.{Octets}
 use Rattle.octets.proofs.Lists.{both, behind, length-behind, at-part, at-first, drop-two}
 use Rattle.table.specs.Syntax.{Record}
-use Rattle.table.specs.Octets.{kind, tagOctets, own, recordOctets, bodyShaped, recordShaped}
+use Rattle.table.specs.Octets.{kind, tagOctets, ownOctets, recordOctets, bodyShaped, recordShaped}
 use Rattle.table.specs.Reading.{everyAt, bodyAt, ownAt, recordAt, ownEnd, recordEnd}
 use Rattle.table.proofs.Pieces.{length-tags, tags-back, tags-only, classes, length-tagged}
 use Rattle.table.proofs.Own.{Own, own-back, own-only}
@@ -114,12 +114,12 @@ record-only b o r u l e s =
     let c = limits r s in
     let n = length (r .tags) in
     let w = length-behind b o (recordOctets r) u l e in
-    let z = length-append (joined (map tagOctets (r .tags))) (own (r .body)) in
+    let z = length-append (joined (map tagOctets (r .tags))) (ownOctets (r .body)) in
     let y = length-tagged (r .tags) in
-    let i = behind b o (0x54 ∷ 0x59 ∷ kind (r .body) ∷ n ∷ []) _ e ∙ append-assoc (joined (map tagOctets (r .tags))) (own (r .body)) u in
-    let t = tags-only b (o + 4) (r .tags) (own (r .body) ++ u) i in
+    let i = behind b o (0x54 ∷ 0x59 ∷ kind (r .body) ∷ n ∷ []) _ e ∙ append-assoc (joined (map tagOctets (r .tags))) (ownOctets (r .body)) u in
+    let t = tags-only b (o + 4) (r .tags) (ownOctets (r .body) ++ u) i in
     let x = own-only b (o + 4 + 3 * n) (r .body) u (omega arith)
-    (rw y at (behind b (o + 4) (joined (map tagOctets (r .tags))) (own (r .body) ++ u) i)) (c .shaped) in
+    (rw y at (behind b (o + 4) (joined (map tagOctets (r .tags))) (ownOctets (r .body) ++ u) i)) (c .shaped) in
     let f₀ = at-first b o 0 _ _ e in
     let f₁ = at-part b o 1 0 _ e in
     let f₂ = at-part b o 2 0 _ e in

@@ -37,23 +37,23 @@ unfoldable pub memberOctets : Member → List ℕ
 memberOctets m = m .type ∷ flag (m .optional) ∷ []
 
 -- the own part: where there are several, their count comes first (FORMATS, "Tables")
-unfoldable pub own : Body → List ℕ
-own (Plain Boolean) = []
-own (Plain Integer) = []
-own (Plain BitString) = []
-own (Plain OctetString) = []
-own (Plain Null) = []
-own (Plain (Enumerated ns)) = length ns ∷ joined (map octetsOf ns)
-own (Sequence ms) = length ms ∷ joined (map memberOctets ms)
-own (Set ms) = length ms ∷ joined (map memberOctets ms)
-own (SequenceOf t) = t ∷ []
-own (SetOf t) = t ∷ []
-own (Choice ts) = length ts ∷ ts
+unfoldable pub ownOctets : Body → List ℕ
+ownOctets (Plain Boolean) = []
+ownOctets (Plain Integer) = []
+ownOctets (Plain BitString) = []
+ownOctets (Plain OctetString) = []
+ownOctets (Plain Null) = []
+ownOctets (Plain (Enumerated ns)) = length ns ∷ joined (map octetsOf ns)
+ownOctets (Sequence ms) = length ms ∷ joined (map memberOctets ms)
+ownOctets (Set ms) = length ms ∷ joined (map memberOctets ms)
+ownOctets (SequenceOf t) = t ∷ []
+ownOctets (SetOf t) = t ∷ []
+ownOctets (Choice ts) = length ts ∷ ts
 
 -- the mark 54 59, the kind, how many tags, the tags, the own part (FORMATS, "Tables")
 unfoldable pub recordOctets : Record → List ℕ
 recordOctets r =
-    0x54 ∷ 0x59 ∷ kind (r .body) ∷ length (r .tags) ∷ (joined (map tagOctets (r .tags)) ++ own (r .body))
+    0x54 ∷ 0x59 ∷ kind (r .body) ∷ length (r .tags) ∷ (joined (map tagOctets (r .tags)) ++ ownOctets (r .body))
 
 -- each is above the one before; none is below low (FORMATS, "Tables")
 unfoldable pub rising : ℕ → List ℕ → Bool

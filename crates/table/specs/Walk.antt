@@ -35,7 +35,7 @@ likeIn index t =
     lowest (λ u. eqb (tagOf (unpacked (getD index u 0) .code)) (tagOf (unpacked (getD index t 0) .code))) t
 
 -- every alternative is there, and `nodes` has what stands for each record
-pub record Ready (T : Table) (n : ℕ) (nodes : List ℕ) : Type 0 where
+pub record StandIns (T : Table) (n : ℕ) (nodes : List ℕ) : Type 0 where
   pub closed : (t a : ℕ) → t < n → In a (below T t) → a < n
   pub right : (t : ℕ) → t < n → getD nodes t 0 ≡ like T t
 
@@ -92,7 +92,7 @@ pub record GatheredUnder (T : Table) (m : ℕ) (v : List ℕ) (k : ℕ) (r : Boo
 -- what a walk from t needs: the index, what stands for each record, and the marks of 128 records with the one that is put behind them
 pub record Gathers (b index nodes flags : List ℕ) (t : ℕ) : Type 0 where
   pub filled : Filled b index (countIn b)
-  pub ready : Ready (tableIn b) (countIn b) nodes
+  pub ready : StandIns (tableIn b) (countIn b) nodes
   pub named : Named (tableIn b) (countIn b)
   pub marks : length flags ≡ 129
   pub there : t < countIn b

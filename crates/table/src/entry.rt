@@ -15,8 +15,8 @@ use crate::kind::has_members;
 use crate::kind::is_list;
 use ber::identifier::code_of;
 use octets::holds;
-use octets::number;
 use octets::octet;
+use octets::two;
 
 // No code of an identifier: it stands for the first identifier of a CHOICE without tags.
 pub const UNTAGGED: u32 = 67108864;
@@ -112,7 +112,7 @@ pub fn tag_code(table: &[u8], e: Entry, j: usize) -> u32
 {
     let p = tag_place(e, j);
     let class = octet(table, p);
-    let n = number(table, p + 1);
+    let n = two(table, p + 1);
     let constructed = if j < e.explicit as usize {
         true
     } else {

@@ -6,7 +6,7 @@ ghost use lib.ListN.{length, getD, replicate};
 ghost use Rattle.octets.specs.Lists.{lowest};
 ghost use Rattle.table.specs.Rules.{Circular, Sharing};
 ghost use Rattle.table.specs.Decide.{circular, sharing};
-ghost use Rattle.table.specs.Walk.{like, likeIn, tagOf, Ready, Named, Straight, Gathers, Gathered, GatheredUnder};
+ghost use Rattle.table.specs.Walk.{like, likeIn, tagOf, StandIns, Named, Straight, Gathers, Gathered, GatheredUnder};
 ghost use Rattle.table.specs.Entries.{unpacked, untagged, tableIn, countIn, Filled};
 use crate::entry::UNTAGGED;
 use crate::entry::alternatives;
@@ -128,7 +128,7 @@ pub(crate) fn lowest_circular(
     nodes: &[u8; 128],
     n: usize,
 ) -> usize
-    requires { ⌜ Filled (now table) (now index) n × Ready (tableIn (now table)) n (now nodes) × Named (tableIn (now table)) n ⌝ }
+    requires { ⌜ Filled (now table) (now index) n × StandIns (tableIn (now table)) n (now nodes) × Named (tableIn (now table)) n ⌝ }
     ensures { λ r. ⌜ r ≡ lowest (circular (tableIn (now (table .entry))) n) n ⌝ }
 {
     let mut t = 0;
@@ -168,7 +168,7 @@ fn is_sharing(table: &[u8], index: &[u64; 128], nodes: &[u8; 128], t: usize) -> 
 
 // The lowest of n records with such parts; n if there is none.
 pub(crate) fn lowest_sharing(table: &[u8], index: &[u64; 128], nodes: &[u8; 128], n: usize) -> usize
-    requires { ⌜ Filled (now table) (now index) n × Ready (tableIn (now table)) n (now nodes) × Straight (tableIn (now table)) n ⌝ }
+    requires { ⌜ Filled (now table) (now index) n × StandIns (tableIn (now table)) n (now nodes) × Straight (tableIn (now table)) n ⌝ }
     ensures { λ r. ⌜ r ≡ lowest (sharing (tableIn (now (table .entry))) n) n ⌝ }
 {
     let mut t = 0;

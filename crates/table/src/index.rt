@@ -13,8 +13,8 @@ use crate::kind::CHOICE;
 use crate::kind::constructed;
 use crate::shape::record_end;
 use ber::identifier::code_of;
-use octets::number;
 use octets::octet;
+use octets::two;
 
 // How many records were indexed. Whole if nothing is left behind them.
 pub struct Count {
@@ -31,7 +31,7 @@ fn outermost(table: &[u8], simple: bool, tags: u8, p: usize) -> u32
         return UNTAGGED;
     }
     let class = octet(table, p) as u8;
-    let n = number(table, p + 1) as u16;
+    let n = two(table, p + 1) as u16;
     if 1 < tags {
         return code_of(class, true, n);
     }

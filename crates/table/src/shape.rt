@@ -5,8 +5,8 @@ ghost use lib.Dec.{leb};
 ghost use Rattle.octets.specs.Lists.{all};
 ghost use Rattle.table.specs.Octets.{rising};
 ghost use Rattle.table.specs.Reading.{everyAt, numbersAt, countedEnd, enumeratedEnd, membersEnd, referenceEnd, ownEnd, recordEnd};
-use octets::number;
 use octets::octet;
+use octets::two;
 
 // Whether each of n octets is at most `most`; the first is at p, each `step` behind the one before.
 fn each_at_most(table: &[u8], most: usize, step: usize, p: usize, n: usize) -> bool
@@ -35,7 +35,7 @@ fn rises(table: &[u8], p: usize, n: usize) -> bool
     let mut at = p;
     let mut left = n;
     while 0 < left {
-        let x = number(table, at);
+        let x = two(table, at);
         if x < low {
             return false;
         }

@@ -17,8 +17,8 @@ use crate::entry::tag_place;
 use crate::entry::unpack;
 use crate::kind::CHOICE;
 use crate::kind::universal;
-use octets::number;
 use octets::octet;
+use octets::two;
 
 // Whether one of the n tags from p on is UNIVERSAL.
 fn any_universal(table: &[u8], p: usize, n: usize) -> bool
@@ -56,7 +56,7 @@ fn wrong_own(table: &[u8], kind: u8, p: usize) -> bool
     if octet(table, p) != 0 {
         return false;
     }
-    number(table, p + 1) != universal(kind as usize)
+    two(table, p + 1) != universal(kind as usize)
 }
 
 // Whether the tags of a record break the rule.

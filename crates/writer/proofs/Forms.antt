@@ -18,7 +18,7 @@ use Rattle.table.specs.Octets.{kind}
 use Rattle.table.specs.Rules.{members}
 use Rattle.coding.specs.Value.{Value, leaf, sequence, set, sequenceOf, setOf, choice, slots, bag, boolean, integer, bits, string, null, enumerated}
 use Rattle.coding.specs.Form.{encode, element, alternatives, formMembers, formElements, formBody, wrap, formAt}
-use Rattle.coding.specs.Tags.{own, explicit}
+use Rattle.coding.specs.Tags.{ownTag, explicit}
 use Rattle.coding.specs.Judging.{Node, a-leaf, a-sequence, a-set, a-sequence-of, a-set-of, a-choice, leafKind, nodeKind, counts, agrees, readNode, judgeMembers}
 use Rattle.coding.specs.Judging.{judgeElements, judgeBelow, judgeValue}
 use Rattle.writer.specs.Rows.{contentsForm}
@@ -94,7 +94,7 @@ agrees-chosen b x e = rw (choice-kind, chosen-kind, agreed-kind b x e) refl
 module _ (T : Table) (g : Tagged T) where
   formed : (n t : ℕ) (x : Value) → isChoice (T t .body) ≡ chosen x
       → formAt T (suc n) t x ≡ wrap (frames (constructed (T t .body)) (T t .tags)) (contentsForm T n (T t .body) x)
-  unfolding formAt formBody contentsForm own explicit
+  unfolding formAt formBody contentsForm ownTag explicit
   formed n t (leaf x) e = wrapped-item (T t .body) (T t .tags) (encode x) e (g t)
   formed n t (sequence s) e = wrapped-item (T t .body) (T t .tags) (joined (formMembers (λ u c. formAt T n u c) (members (T t .body)) s)) e (g t)
   formed n t (set s) e = wrapped-item (T t .body) (T t .tags) (joined (formMembers (λ u c. formAt T n u c) (members (T t .body)) s)) e (g t)

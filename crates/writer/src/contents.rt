@@ -20,7 +20,7 @@ use table::kind::NULL;
 use table::kind::OCTET_STRING;
 
 // The number that two octets at p stand for.
-pub fn number(v: &[u8], p: usize) -> usize
+pub fn two(v: &[u8], p: usize) -> usize
     requires { ⌜ p + 2 ≤ length (now v) ⌝ }
     ensures { λ r. ⌜
         (r ≡ two (now (v .entry)) p)
@@ -121,7 +121,7 @@ fn bits(v: &[u8], p: usize) -> Extent
     if v.len() < start {
         return none();
     }
-    let n = number(v, p);
+    let n = two(v, p);
     let size = (n + 7) / 8;
     let end = start + size;
     if v.len() < end {
@@ -144,7 +144,7 @@ fn string(v: &[u8], p: usize) -> Extent
     if v.len() < start {
         return none();
     }
-    let size = number(v, p);
+    let size = two(v, p);
     let end = start + size;
     if v.len() < end {
         return none();
@@ -160,7 +160,7 @@ fn enumerated(v: &[u8], p: usize) -> Extent
     if v.len() < end {
         return none();
     }
-    let size = number_size(number(v, p));
+    let size = number_size(two(v, p));
     Extent { end, size }
 }
 
@@ -212,15 +212,15 @@ pub fn size(kind: u8, v: &[u8], p: usize) -> usize
         return integer::size(eight(v, p));
     }
     if kind == BIT_STRING {
-        return (number(v, p) + 7) / 8 + 1;
+        return (two(v, p) + 7) / 8 + 1;
     }
     if kind == OCTET_STRING {
-        return number(v, p);
+        return two(v, p);
     }
     if kind == NULL {
         return 0;
     }
-    number_size(number(v, p))
+    number_size(two(v, p))
 }
 
 // Copies n octets of v from p on into the buffer.
@@ -272,7 +272,7 @@ pub fn put(kind: u8, size: usize, v: &[u8], p: usize, buf: &mut [u8], to: usize)
         return p + 8;
     }
     if kind == BIT_STRING {
-        let count = number(v, p);
+        let count = two(v, p);
         let n = size - 1;
         buf[to] = (8 * n - count) as u8;
         let next = to + 1;
@@ -288,6 +288,6 @@ pub fn put(kind: u8, size: usize, v: &[u8], p: usize, buf: &mut [u8], to: usize)
     if kind == NULL {
         return p;
     }
-    put_integer(number(v, p) as i64, size, buf, to);
+    put_integer(two(v, p) as i64, size, buf, to);
     p + 2
 }

@@ -18,7 +18,7 @@ ghost use Rattle.writer.specs.Rows.{judgeRow, rowForm, contentsForm};
 ghost use Rattle.writer.specs.Told.{told};
 ghost use Rattle.writer.specs.Notes.{Noted, NotedRow, Noting};
 use crate::contents;
-use crate::contents::number;
+use crate::contents::two;
 use crate::frame;
 use crate::node;
 use coding::LEVELS;
@@ -51,7 +51,7 @@ fn suits(table: &[u8], e: Entry, v: &[u8], kind: u8, p: usize) -> bool
         return false;
     }
     if kind == ENUMERATED {
-        return lists(table, e, number(v, p) as i64);
+        return lists(table, e, two(v, p) as i64);
     }
     true
 }

@@ -186,7 +186,7 @@ pub fn count(e: Entry, v: &[u8], p: usize) -> usize
     if holds_one(e.kind) {
         return 1;
     }
-    crate::contents::number(v, p)
+    crate::contents::two(v, p)
 }
 
 // The record number of the j-th part.

@@ -16,7 +16,7 @@ tag-code-spec =
     (λ c κs. search needs)  -- tag-place-requires
     (λ c κs. search needs)  -- octet-requires
     (λ c. search needs)  -- add-number
-    (λ c κs. search needs)  -- number-requires
+    (λ c κs. search needs)  -- two-requires
     (λ c. search needs)  -- cast-if1
     (λ c. search needs)  -- cast-code-of
     (λ c. search needs)  -- cast-code-of-2
@@ -29,7 +29,7 @@ tag-code-spec =
     rw (
       c .code-of .ensures .0,
       c .before .before .before .before .octet .ensures .0,
-      c .before .before .before .number .ensures .0,
+      c .before .before .before .two .ensures .0,
       c .before .before .before .before .before .tag-place .ensures .0,
       e,
     )))  -- returns

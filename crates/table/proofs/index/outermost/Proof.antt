@@ -15,7 +15,7 @@ outermost-spec =
     (λ c κs. search needs)  -- octet-requires
     (λ c. search needs)  -- cast-class
     (λ c. search needs)  -- add-number
-    (λ c κs. search needs)  -- number-requires
+    (λ c κs. search needs)  -- two-requires
     (λ c. search needs)  -- cast-n
     (λ c κs. search needs)  -- code-of-requires
     (λ c. rw (
@@ -24,7 +24,7 @@ outermost-spec =
           (c .before .if2 .taken),
       c .code-of .ensures .0,
       c .before .before .before .octet .ensures .0,
-      c .before .before .number .ensures .0,
+      c .before .before .two .ensures .0,
     ))  -- returns-2
     (λ c κs. search needs)  -- code-of-requires-2
     (λ c. rw (
@@ -33,5 +33,5 @@ outermost-spec =
           (c .before .if2 .left),
       c .code-of2 .ensures .0,
       c .before .before .before .octet .ensures .0,
-      c .before .before .number .ensures .0,
+      c .before .before .two .ensures .0,
     )))  -- returns-3

@@ -24,13 +24,13 @@ rises-spec =
     Inv-loop
     μ-loop
     (λ c. (omega arith, refl))  -- loop-holds
-    (λ c κs. search needs)  -- number-requires
-    (λ c. rising-stops _ _ _ _ _ (c .before .before .before .loop .inv .1) (omega arith) (rw (c .before .number .ensures .0) at (c .if1 .taken)))  -- returns
+    (λ c κs. search needs)  -- two-requires
+    (λ c. rising-stops _ _ _ _ _ (c .before .before .before .loop .inv .1) (omega arith) (rw (c .before .two .ensures .0) at (c .if1 .taken)))  -- returns
     (λ c. omega arith)  -- add-low
     (λ c. omega arith)  -- add-at
     (λ c. omega arith)  -- sub-left
     (λ c. omega arith)  -- loop-less
     (λ c.
-    let e = c .before .number .ensures .0 in
+    let e = c .before .two .ensures .0 in
     (omega arith, rw e (rising-goes _ _ _ _ _ (c .before .before .before .loop .inv .1) (omega arith) (rw e at (c .if1 .left)))))  -- loop-again
     (λ c. rising-ends _ _ _ _ _ (c .before .loop .inv .1) (omega arith)))  -- returns-2

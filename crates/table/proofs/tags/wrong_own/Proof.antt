@@ -12,11 +12,11 @@ wrong-own-spec =
     (λ c κs. search needs)  -- octet-requires
     (λ c. rw (← c .before .octet .ensures .0, ne-eqb _ _ (c .if1 .taken)))  -- returns
     (λ c. search needs)  -- add-number
-    (λ c κs. search needs)  -- number-requires
+    (λ c κs. search needs)  -- two-requires
     (λ c κs. search needs)  -- universal-requires
     (λ c. rw (
       ← c .before .before .before .octet .ensures .0,
       eq-eqb _ _ (c .before .before .if1 .left),
-      ← c .before .number .ensures .0,
+      ← c .before .two .ensures .0,
       ← c .universal .ensures,
     )))  -- returns-2

@@ -62,7 +62,7 @@ put-spec =
     (λ c κs.
     let s = c .before .before .before .before .before in
     let a = s .args in
-    bits-there (a .kind) (now (a .v)) (a .p) (s .pre .2) (c .if4 .taken))  -- number-requires
+    bits-there (a .kind) (now (a .v)) (a .p) (s .pre .2) (c .if4 .taken))  -- two-requires
     (λ c.
     let s = c .before .before .before .before .before .before in
     let a = s .args in
@@ -73,18 +73,18 @@ put-spec =
     omega (
       arith,
       bits-one (a .kind) (now (a .v)) (a .p) (s .pre .2) (c .before .if4 .taken) (a .size) (s .pre .3),
-      c .number .ensures .0,
-      c .number
+      c .two .ensures .0,
+      c .two
           .ensures .1,
     ))  -- mul-buf
     (λ c.
     let s = c .before .before .before .before .before .before in
     let a = s .args in
-    omega (arith, bits-one (a .kind) (now (a .v)) (a .p) (s .pre .2) (c .before .if4 .taken) (a .size) (s .pre .3), c .number .ensures .0))  -- sub-buf
+    omega (arith, bits-one (a .kind) (now (a .v)) (a .p) (s .pre .2) (c .before .if4 .taken) (a .size) (s .pre .3), c .two .ensures .0))  -- sub-buf
     (λ c.
     let s = c .before .before .before .before .before .before in
     let a = s .args in
-    omega (arith, bits-one (a .kind) (now (a .v)) (a .p) (s .pre .2) (c .before .if4 .taken) (a .size) (s .pre .3), c .number .ensures .0))  -- cast-buf
+    omega (arith, bits-one (a .kind) (now (a .v)) (a .p) (s .pre .2) (c .before .if4 .taken) (a .size) (s .pre .3), c .two .ensures .0))  -- cast-buf
     (λ c.
     let s = c .before .before .before .before .before .before in
     let a = s .args in
@@ -110,7 +110,7 @@ put-spec =
       bits-end (a .kind) (now (a .v)) (a .p) (s .pre .2) (c .before .before .before .before .before .if4 .taken) (a .size) (s .pre .3),
       bits-put (a .kind)
           (now (a .v)) (a .p) (s .pre .2) (c .before .before .before .before .before .if4 .taken) (a .size) (s .pre .3) _ (a .to) (now (a .buf)) _ (c .before
-          .before .before .before .number .ensures .0) (c .before .before .put-part .ensures),
+          .before .before .before .two .ensures .0) (c .before .before .put-part .ensures),
     ))  -- returns-3
     (λ c. search needs)  -- add-start-2
     (λ c κs.
@@ -138,15 +138,15 @@ put-spec =
     let s = c .before .before .before .before .before .before .before in
     let a = s .args in
     number-there (a .kind) (now (a .v)) (a .p) (s .pre .2) (s .pre .1) (c .before .before .before .before .if1 .left) (c .before .before .before .if3
-    .left) (c .before .before .if4 .left) (c .before .if5 .left) (c .if6 .left))  -- number-requires-2
+    .left) (c .before .before .if4 .left) (c .before .if5 .left) (c .if6 .left))  -- two-requires-2
     (λ c. search needs)  -- cast-put-integer
     (λ c κs.
     let s = c .before .before .before .before .before .before .before .before .before in
     let a = s .args in (
-      s .pre .3 ∙ sym (ap length (ap fewestOf (toZ-pos w64 (c .before .number2 .result) (omega (arith, c .before .number2 .ensures .1))) ∙ encode-number
+      s .pre .3 ∙ sym (ap length (ap fewestOf (toZ-pos w64 (c .before .two2 .result) (omega (arith, c .before .two2 .ensures .1))) ∙ encode-number
           (a .kind) (now (a .v)) (a .p) (s .pre .2) (s .pre .1) (c .before .before .before .before .before .before .if1 .left) (c .before .before .before
           .before .before .if3 .left) (c .before .before .before .before .if4 .left) (c .before .before .before .if5 .left) (c .before .before .if6 .left) _ (c
-          .before .number2 .ensures .0))),
+          .before .two2 .ensures .0))),
       s .pre .4,
     ))  -- put-integer-requires-2
     (λ c. search needs)  -- add-result-5
@@ -159,16 +159,16 @@ put-spec =
           .left) (c .before .before .before .before .before .before .if5 .left) (c .before .before .before .before .before .if6 .left),
       c .before .before
           .put-integer2 .ensures ∙ rw (
-            toZ-pos w64 (c .before .before .before .before .number2 .result) (omega (
+            toZ-pos w64 (c .before .before .before .before .two2 .result) (omega (
               arith,
               c .before .before .before .before
-                  .number2 .ensures .1,
+                  .two2 .ensures .1,
             )),
             encode-number (a .kind) (now (a .v)) (a .p) (s .pre .2) (s .pre .1)
                 (c .before .before .before .before .before .before .before .before .before .if1 .left)
                 (c .before .before .before .before .before .before .before .before .if3 .left)
                 (c .before .before .before .before .before .before .before .if4 .left)
                 (c .before .before .before .before .before .before .if5 .left)
-                (c .before .before .before .before .before .if6 .left) _ (c .before .before .before .before .number2 .ensures .0),
+                (c .before .before .before .before .before .if6 .left) _ (c .before .before .before .before .two2 .ensures .0),
           ) refl,
     )))  -- returns-6

@@ -29,23 +29,23 @@ size-spec =
     ))  -- returns-2
     (λ c κs.
     let a = c .before .before .before .before .args in
-    bits-there (a .kind) (now (a .v)) (a .p) (c .before .before .before .before .pre .2) (c .if3 .taken))  -- number-requires
+    bits-there (a .kind) (now (a .v)) (a .p) (c .before .before .before .before .pre .2) (c .if3 .taken))  -- two-requires
     (λ c. search needs)  -- add-result
     (λ c. search needs)  -- add-result-2
     (λ c.
     let a = c .before .before .before .before .before .args in (
-      bits-size (a .kind) (now (a .v)) (a .p) (c .before .before .before .before .before .pre .2) (c .before .if3 .taken) _ (c .number .ensures .0),
+      bits-size (a .kind) (now (a .v)) (a .p) (c .before .before .before .before .before .pre .2) (c .before .if3 .taken) _ (c .two .ensures .0),
       omega
-          (arith, c .number .ensures .1),
+          (arith, c .two .ensures .1),
     ))  -- returns-3
     (λ c κs.
     let a = c .before .before .before .before .before .args in
-    string-there (a .kind) (now (a .v)) (a .p) (c .before .before .before .before .before .pre .2) (c .if4 .taken))  -- number-requires-2
+    string-there (a .kind) (now (a .v)) (a .p) (c .before .before .before .before .before .pre .2) (c .if4 .taken))  -- two-requires-2
     (λ c.
     let a = c .before .before .before .before .before .before .args in (
-      string-size (a .kind) (now (a .v)) (a .p) (c .before .before .before .before .before .before .pre .2) (c .before .if4 .taken) _ (c .number2 .ensures
+      string-size (a .kind) (now (a .v)) (a .p) (c .before .before .before .before .before .before .pre .2) (c .before .if4 .taken) _ (c .two2 .ensures
           .0),
-      c .number2 .ensures .1,
+      c .two2 .ensures .1,
     ))  -- returns-4
     (λ c.
     let a = c .before .before .before .before .before .before .args in
@@ -54,13 +54,13 @@ size-spec =
     let a = c .before .before .before .before .before .before .args in
     number-there (a .kind) (now (a .v)) (a .p) (c .before .before .before .before .before .before .pre .2) (c .before .before .before .before .before
     .before .pre .1) (c .before .before .before .before .if1 .left) (c .before .before .before .if2 .left) (c .before .before .if3 .left) (c .before .if4
-    .left) (c .if5 .left))  -- number-requires-3
+    .left) (c .if5 .left))  -- two-requires-3
     (λ c κs. search needs)  -- number-size-requires
     (λ c.
     let a = c .before .before .before .before .before .before .before .before .args in (
       c .number-size .ensures .0 ∙ ap length (encode-number (a .kind) (now (a .v)) (a .p) (c .before .before .before .before .before .before .before
           .before .pre .2) (c .before .before .before .before .before .before .before .before .pre .1) (c .before .before .before .before .before .before .if1
           .left) (c .before .before .before .before .before .if2 .left) (c .before .before .before .before .if3 .left) (c .before .before .before .if4 .left)
-          (c .before .before .if5 .left) _ (c .before .number3 .ensures .0)),
+          (c .before .before .if5 .left) _ (c .before .two3 .ensures .0)),
       omega (arith, c .number-size .ensures .1),
     )))  -- returns-6

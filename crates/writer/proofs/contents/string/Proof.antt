@@ -14,14 +14,14 @@ string-spec =
     (λ c. search needs)  -- add-start
     (λ c κs. search needs)  -- none-requires
     (λ c. let a = c .before .before .before .args in string-short (now (a .v)) (a .p) _ (c .before .if1 .taken) (c .none .ensures))  -- returns
-    (λ c κs. search needs)  -- number-requires
+    (λ c κs. search needs)  -- two-requires
     (λ c. search needs)  -- add-end
     (λ c κs. search needs)  -- none-requires-2
     (λ c.
     let a = c .before .before .before .before .before .args in
-    string-cut (now (a .v)) (a .p) _ (c .before .before .before .if1 .left) _ (c .before .before .number .ensures .0) (c .before .if2 .taken) (c .none2
+    string-cut (now (a .v)) (a .p) _ (c .before .before .before .if1 .left) _ (c .before .before .two .ensures .0) (c .before .if2 .taken) (c .none2
     .ensures))  -- returns-2
     (λ c.
     let a = c .before .before .before .before .args in
-    string-measured (now (a .v)) (a .p) _ (c .before .before .if1 .left) _ (c .before .number .ensures .0) (c .if2 .left) (c .before .number .ensures .1)
+    string-measured (now (a .v)) (a .p) _ (c .before .before .if1 .left) _ (c .before .two .ensures .0) (c .if2 .left) (c .before .two .ensures .1)
     refl refl))  -- returns-3

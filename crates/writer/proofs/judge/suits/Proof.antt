@@ -19,14 +19,14 @@ suits-spec =
     (λ c κs.
     let s = c .before .before .before .before .before in
     let a = s .args in
-    number-there (now (a .table)) (a .e) (s .pre .3) (now (a .v)) (a .kind) (a .p) (c .before .if1 .left) (c .if2 .taken) (s .pre .2))  -- number-requires
+    number-there (now (a .table)) (a .e) (s .pre .3) (now (a .v)) (a .kind) (a .p) (c .before .if1 .left) (c .if2 .taken) (s .pre .2))  -- two-requires
     (λ c. search needs)  -- cast-lists
     (λ c κs. search needs)  -- lists-requires
     (λ c.
     let s = c .before .before .before .before .before .before .before in
     let a = s .args in
     number-agrees (now (a .table)) (a .e) (s .pre .3) (now (a .v)) (a .kind) (a .p) (c .before .before .before .if1 .left) (c .before .before .if2
-    .taken) _ (c .before .number .ensures .0) _ (toZ-pos w64 (c .before .number .result) (omega (arith, c .before .number .ensures .1))) _ (c .lists
+    .taken) _ (c .before .two .ensures .0) _ (toZ-pos w64 (c .before .two .result) (omega (arith, c .before .two .ensures .1))) _ (c .lists
     .ensures))  -- returns-2
     (λ c.
     let s = c .before .before .before .before .before in

@@ -50,13 +50,13 @@ count-spec =
       arith,
       start-list (a .e) (now (a .v)) (a .p) _ (c .before .before .before .has-members .ensures) (c .before .before .if1 .left) (z .0) (z .1),
       s .pre,
-    ))  -- number-requires
+    ))  -- two-requires
     (λ c.
     let s = c .before .before .before .before .before .before in
     let a = s .args in
     let z = neither-kind (a .e) (now (a .v)) (a .p) _ (c .before .before .before .before .has-members .ensures) (c .before .before .before .if1 .left) _
     (c .before .before .holds-one .ensures) (c .before .if2 .left) in (
-      c .number .ensures .0 ∙ count-list (a .e) (now (a .v)) (a .p) _ (c .before .before .before .before .has-members .ensures) (c .before .before .before
+      c .two .ensures .0 ∙ count-list (a .e) (now (a .v)) (a .p) _ (c .before .before .before .before .has-members .ensures) (c .before .before .before
           .if1 .left) (z .0) (z .1),
-      c .number .ensures .1,
+      c .two .ensures .1,
     )))  -- returns-3

@@ -1,14 +1,14 @@
--- `writer::contents::number` meets its contract.
+-- `writer::contents::two` meets its contract.
 -- Assumes nothing.
 use native.Mathlib.Omega.{arith}
 use mathlib.Core.Path.{refl}
 use Prim.Native.Nat.{_+_}
 use borrow.Author.Needs.{needs}
-use Rattle.writer.proofs.contents.number.Statement.{statement}
-use Rattle.writer.proofs.contents.number.Tie as tie
+use Rattle.writer.proofs.contents.two.Statement.{statement}
+use Rattle.writer.proofs.contents.two.Tie as tie
 
-pub number-spec : {M : Type 1} → statement M
-number-spec =
+pub two-spec : {M : Type 1} → statement M
+two-spec =
     tie.close
     (tie.spec
     (λ c. search needs)  -- add-q

@@ -1,13 +1,13 @@
--- `octets::number` meets its contract.
+-- `octets::two` meets its contract.
 -- Assumes nothing.
 use borrow.Author.Needs.{needs}
 use Prim.Native.Nat.{_+_}
 use native.Mathlib.Omega.{arith}
 use lib.ListN.{List·getD-eq-default}
-use Rattle.octets.proofs.number.Statement.{statement}
-use Rattle.octets.proofs.number.Tie as tie
-use Rattle.octets.proofs.number.Reads as reads
-use Rattle.octets.proofs.number.Lts as lts
+use Rattle.octets.proofs.two.Statement.{statement}
+use Rattle.octets.proofs.two.Tie as tie
+use Rattle.octets.proofs.two.Reads as reads
+use Rattle.octets.proofs.two.Lts as lts
 use Rattle.octets.proofs.octet.Reads as octet-reads
 
 octet-requires : tie.Need-octet-requires
@@ -37,5 +37,5 @@ returns-2 c =
     let low = List·getD-eq-default b 0 {n = at + 1} (omega arith) in
     (omega (arith, high, low), search needs)
 
-pub number-spec : {M : Type 1} → statement M
-number-spec = tie.close (tie.spec octet-requires mul-result add-octet octet-requires-2 add-result returns returns-2)
+pub two-spec : {M : Type 1} → statement M
+two-spec = tie.close (tie.spec octet-requires mul-result add-octet octet-requires-2 add-result returns returns-2)
