@@ -95,11 +95,11 @@ node-fits (inside (Plain k)) hand n = absurd (n refl)
 node-fits (inside (Sequence ms)) hand n =
     let os = filled hand (nothing ms) in
     let l : length os ≡ length ms = ap (λ (z : List (Option Value)). length (filled hand z)) (nothing-is ms) ∙ row-length hand (length ms) in
-    omega (arith, length-append (Value-of.presence (Value-of.slots os)) (Value-of.parts (Value-of.slots os)), presence-length os)
+    omega (arith, length-append (Value-of.presence (Value-of.slots os)) (Value-of.slotOctets (Value-of.slots os)), presence-length os)
 node-fits (inside (Set ms)) hand n =
     let os = filled hand (nothing ms) in
     let l : length os ≡ length ms = ap (λ (z : List (Option Value)). length (filled hand z)) (nothing-is ms) ∙ row-length hand (length ms) in
-    omega (arith, length-append (Value-of.presence (Value-of.slots os)) (Value-of.parts (Value-of.slots os)), presence-length os)
+    omega (arith, length-append (Value-of.presence (Value-of.slots os)) (Value-of.slotOctets (Value-of.slots os)), presence-length os)
 node-fits (inside (SequenceOf t)) hand n = omega arith
 node-fits (inside (SetOf t)) hand n = omega arith
 node-fits (inside (Choice ts)) hand n = omega arith

@@ -78,7 +78,7 @@ row-length hand j = filled-length hand (replicate j none) ∙ length-replicate j
 -- members in hand in the table's order, all before the j-th
 pub record Row (hand : Hand) (j : ℕ) : Type 0 where
   pub whole : (k : ℕ) → filled hand (replicate (j + k) none) ≡ filled hand (replicate j none) ++ replicate k none
-  pub slotOctets : slotOctets (slots (filled hand (replicate j none))) ≡ bodies hand
+  pub parts : slotOctets (slots (filled hand (replicate j none))) ≡ bodies hand
 
 pub row-none : Row [] 0
 unfolding filled bodies slots slotOctets
