@@ -12,7 +12,7 @@ use table::Verdict;
 pub fn check(table: &[u8]) -> Answer
     ensures { λ r. ⌜ r ≡ checkAnswer (verdict (now (table .entry))) ⌝ }
 {
-    match table::check(table) {
+    match checker::check(table) {
         Verdict::Passed => Answer::Done(0),
         Verdict::Refused { cause, place } => Answer::Refused(Refusal::Table { cause, place }),
     }

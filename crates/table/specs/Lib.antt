@@ -11,4 +11,3 @@ pub mod Passes
 pub mod Fields
 pub mod Entries
 pub mod Walk
-pub mod Marks

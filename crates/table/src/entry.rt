@@ -34,19 +34,6 @@ pub struct Entry {
     pub simple: bool,
 }
 
-// An entry as one number.
-pub(crate) fn pack(code: u32, own: u16, kind: u8, explicit: u8, simple: bool) -> u64
-    requires { ⌜ explicit < 128 ⌝ }
-    ensures { λ r. ⌜ unpacked r ≡ record { code = code; own = own; kind = kind; explicit = explicit; simple = simple } ⌝ }
-{
-    let high = if simple {
-        explicit as u64 + 128
-    } else {
-        explicit as u64
-    };
-    ((high * 256 + kind as u64) * 65536 + own as u64) * 4294967296 + code as u64
-}
-
 pub fn unpack(w: u64) -> Entry
     ensures { λ r. ⌜ r ≡ unpacked w ⌝ }
 {
@@ -70,7 +57,7 @@ pub fn first(w: u64) -> u32
 pub fn whole(t: u16) -> u64
     ensures { λ r. ⌜ unpacked r ≡ record { code = 0; own = t; kind = 51; explicit = 0; simple = false } ⌝ }
 {
-    pack(0, t, MESSAGE, 0, false)
+    (MESSAGE as u64 * 65536 + t as u64) * 4294967296
 }
 
 // How many tags it has.

@@ -83,7 +83,7 @@ pub fn write(table: &[u8], t: usize, value: &[u8], buf: &mut [u8]) -> Answer
         ⌝ }
 {
     let mut index = [0u64; 128];
-    let c = table::check_into(table, &mut index);
+    let c = checker::check_into(table, &mut index);
     let verdict = c.verdict;
     match verdict {
         Verdict::Refused { cause, place } => Answer::Refused(Refusal::Table { cause, place }),

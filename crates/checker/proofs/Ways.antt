@@ -1,0 +1,42 @@
+-- The ways through the check.
+-- Assumes nothing.
+use mathlib.Core.Bool.{true, false}
+use mathlib.Core.List.{List}
+use mathlib.Core.Path.{_≡_, refl, _∙_}
+use Prim.Native.Nat.{ℕ, _≤_, _<_}
+use native.Mathlib.Omega.{arith}
+use borrow.Author.Tests.{lt-ltb, le-ltb}
+use lib.ListN.{length}
+use Rattle.octets.specs.declared.cause.Cause.the-variants.{TableShape}
+use Rattle.table.specs.Reading.{scan}
+use Rattle.table.specs.Verdict.{judge, verdict}
+use Rattle.table.specs.Entries.{tableIn, countIn, Filled}
+use Rattle.table.specs.declared.Verdict.{Verdict}
+use Rattle.table.specs.declared.Verdict.the-variants.{Refused}
+
+module _ (b : List ℕ) where
+  verdict-long : 8192 < length b → Refused TableShape 0 ≡ verdict b
+  unfolding verdict
+  verdict-long h = rw (lt-ltb 8192 (length b) h)
+
+  verdict-misshapen : length b ≤ 8192 → false ≡ scan b .whole → Refused TableShape (countIn b) ≡ verdict b
+  unfolding verdict
+  verdict-misshapen h w = rw (le-ltb 8192 (length b) h, ← w)
+
+  verdict-judged : length b ≤ 8192 → true ≡ scan b .whole → judge (tableIn b) (countIn b) ≡ verdict b
+  unfolding verdict
+  verdict-judged h w = rw (le-ltb 8192 (length b) h, ← w)
+
+  -- what is so of the verdict v, the count n and the index after, where the index was before
+  abbrev pub Into : List ℕ → List ℕ → Verdict → ℕ → Type 0
+  Into before after v n = (v ≡ verdict b) × (length b ≤ 8192 → Filled b after n) × (8192 < length b → (n ≡ 0) × (after ≡ before))
+
+  pub into-long : (index : List ℕ) → 8192 < length b → Into index index (Refused TableShape 0) 0
+  into-long index h = (verdict-long h, λ l. absurd (omega arith), λ _. (refl, refl))
+
+  module _ (before after : List ℕ) (n : ℕ) (h : length b ≤ 8192) (f : Filled b after n) where
+    pub into-misshapen : false ≡ scan b .whole → Into before after (Refused TableShape n) n
+    into-misshapen w = (rw (f .count) (verdict-misshapen h w), λ _. f, λ l. absurd (omega arith))
+
+    pub into-judged : (v : Verdict) → true ≡ scan b .whole → v ≡ judge (tableIn b) n → Into before after v n
+    into-judged v w e = (e ∙ rw (f .count) (verdict-judged h w), λ _. f, λ l. absurd (omega arith))

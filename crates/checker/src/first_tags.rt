@@ -1,0 +1,185 @@
+// 4 and 5: a CHOICE without tags that comes back to itself, and first tags that two parts share (FORMATS, "Tables" and "Refusals").
+ghost use mathlib.Core.Path.{_≡_};
+ghost use mathlib.Core.Bool.{true, false};
+ghost use Prim.Native.Nat.{ℕ, _<_};
+ghost use lib.ListN.{length, getD, replicate};
+ghost use Rattle.octets.specs.Lists.{lowest};
+ghost use Rattle.table.specs.Rules.{Circular, Sharing};
+ghost use Rattle.table.specs.Decide.{circular, sharing};
+ghost use Rattle.table.specs.Walk.{like, likeIn, tagOf, StandIns, Named, Straight, Gathers, Gathered, GatheredUnder};
+ghost use Rattle.table.specs.Entries.{unpacked, untagged, tableIn, countIn, Filled};
+use octets::octet;
+use table::entry::UNTAGGED;
+use table::entry::alternatives;
+use table::entry::first;
+use table::entry::parts;
+use table::entry::unpack;
+
+// The first tag of an entry: its code but for the bit that says constructed.
+fn first_tag(w: u64) -> u32
+    ensures { λ r. ⌜ r ≡ tagOf (unpacked w .code) ⌝ }
+{
+    let c = first(w);
+    c - c / 32 % 2 * 32
+}
+
+// The lowest record with the first tag of record t; t itself, if that is a CHOICE without tags.
+fn lowest_like(index: &[u64; 128], t: usize) -> usize
+    requires { ⌜ t < 128 ⌝ }
+    ensures { λ r. ⌜ r ≡ likeIn (now (index .entry)) t ⌝ }
+{
+    let tag = first_tag(index[t]);
+    if tag == UNTAGGED {
+        return t;
+    }
+    let mut u = 0;
+    while u < t {
+        if first_tag(index[u]) == tag {
+            return u;
+        }
+        u += 1;
+    }
+    t
+}
+
+// Writes for each of n records the one that stands for its first tag.
+pub(crate) fn stand_ins(table: &[u8], index: &[u64; 128], n: usize, nodes: &mut [u8; 128])
+    requires { ⌜ Filled (now table) (now index) n × (length (now nodes) ≡ 128) ⌝ }
+    ensures { λ _. ⌜ ((t : ℕ) → t < n → getD (now (nodes .exit)) t 0 ≡ like (tableIn (now (table .entry))) t) ⌝ }
+{
+    let mut t = 0;
+    while t < n {
+        nodes[t] = lowest_like(index, t) as u8;
+        t += 1;
+    }
+}
+
+// Where the mark stands that a walk puts: behind the flags of the 128 records. As a parameter it would widen each frame of `gather` and
+// `gather_under`, a recursion of up to 127 calls.
+const MARK: usize = 128;
+
+// Marks what stands for record t, and for the records under it through CHOICEs without tags. True if another mark was met.
+fn gather(
+    table: &[u8],
+    index: &[u64; 128],
+    nodes: &[u8; 128],
+    flags: &mut [u8; 129],
+    t: usize,
+) -> bool
+    requires { ⌜ Gathers (now table) (now index) (now nodes) (now flags) t ⌝ }
+    ensures { λ r. ⌜ Gathered (tableIn (now (table .entry))) (getD (now (flags .entry)) 128 0) (now (flags .entry)) t r (now (flags .exit)) ⌝ }
+{
+    let q = nodes[t] as usize;
+    let f = flags[q];
+    let mark = flags[MARK];
+    if f == mark {
+        return false;
+    }
+    if f != 0 {
+        return true;
+    }
+    flags[q] = mark;
+    if first(index[t]) != UNTAGGED {
+        return false;
+    }
+    gather_under(table, index, nodes, flags, t)
+}
+
+// The same for the alternatives of the CHOICE without tags t.
+fn gather_under(
+    table: &[u8],
+    index: &[u64; 128],
+    nodes: &[u8; 128],
+    flags: &mut [u8; 129],
+    t: usize,
+) -> bool
+    requires { ⌜ Gathers (now table) (now index) (now nodes) (now flags) t × (unpacked (getD (now index) t 0) .code ≡ untagged) ⌝ }
+    ensures { λ r. ⌜ GatheredUnder (tableIn (now (table .entry))) (getD (now (flags .entry)) 128 0) (now (flags .entry)) t r (now (flags .exit)) ⌝ }
+{
+    let s = alternatives(table, unpack(index[t]));
+    let mut at = s.first;
+    let mut left = s.count;
+    while 0 < left {
+        let a = octet(table, at);
+        if gather(table, index, nodes, flags, a) {
+            return true;
+        }
+        at += 1;
+        left -= 1;
+    }
+    false
+}
+
+// Whether the CHOICE without tags t reaches itself through such CHOICEs alone.
+fn is_circular(table: &[u8], index: &[u64; 128], nodes: &[u8; 128], t: usize) -> bool
+    requires { ⌜ Gathers (now table) (now index) (now nodes) (replicate 129 0) t × (unpacked (getD (now index) t 0) .code ≡ untagged) ⌝ }
+    ensures { λ r. ⌜ (let T = tableIn (now (table .entry)) in (r ≡ true → Circular T t) × (r ≡ false → Circular T t → ⊥)) ⌝ }
+{
+    let mut flags = [0u8; 129];
+    flags[MARK] = 1;
+    gather_under(table, index, nodes, &mut flags, t);
+    flags[t] != 0
+}
+
+// The lowest of n records that is such a CHOICE; n if there is none.
+pub(crate) fn lowest_circular(
+    table: &[u8],
+    index: &[u64; 128],
+    nodes: &[u8; 128],
+    n: usize,
+) -> usize
+    requires { ⌜ Filled (now table) (now index) n × StandIns (tableIn (now table)) n (now nodes) × Named (tableIn (now table)) n ⌝ }
+    ensures { λ r. ⌜ r ≡ lowest (circular (tableIn (now (table .entry))) n) n ⌝ }
+{
+    let mut t = 0;
+    while t < n {
+        if first(index[t]) == UNTAGGED {
+            if is_circular(table, index, nodes, t) {
+                return t;
+            }
+        }
+        t += 1;
+    }
+    n
+}
+
+// Whether two parts of a record share a first tag.
+fn is_sharing(table: &[u8], index: &[u64; 128], nodes: &[u8; 128], t: usize) -> bool
+    requires { ⌜ Gathers (now table) (now index) (now nodes) (replicate 129 0) t × Straight (tableIn (now table)) (countIn (now table)) ⌝ }
+    ensures { λ r. ⌜ (let T = tableIn (now (table .entry)) in (r ≡ true → Sharing T t) × (r ≡ false → Sharing T t → ⊥)) ⌝ }
+{
+    let s = parts(table, unpack(index[t]));
+    let mut at = s.first;
+    let mut left = s.count;
+    let mut flags = [0u8; 129];
+    let mut mark: u8 = 1;
+    while 0 < left {
+        let a = octet(table, at);
+        flags[MARK] = mark;
+        if gather(table, index, nodes, &mut flags, a) {
+            return true;
+        }
+        mark += 1;
+        at += s.step;
+        left -= 1;
+    }
+    false
+}
+
+// The lowest of n records with such parts; n if there is none.
+pub(crate) fn lowest_sharing(table: &[u8], index: &[u64; 128], nodes: &[u8; 128], n: usize) -> usize
+    requires { ⌜ Filled (now table) (now index) n × StandIns (tableIn (now table)) n (now nodes) × Straight (tableIn (now table)) n ⌝ }
+    ensures { λ r. ⌜ r ≡ lowest (sharing (tableIn (now (table .entry))) n) n ⌝ }
+{
+    let mut t = 0;
+    while t < n {
+        let e = unpack(index[t]);
+        if !e.simple {
+            if is_sharing(table, index, nodes, t) {
+                return t;
+            }
+        }
+        t += 1;
+    }
+    n
+}
