@@ -16,8 +16,8 @@ use Rattle.octets.proofs.Answer.{Holds, yields, refuses, if-holds, then-holds, 
 use Rattle.octets.proofs.Lists.{same-refl, same-true}
 use Rattle.octets.proofs.Tests.{test}
 use Rattle.ber.specs.Codes.{code, spelled, codeOf, codeOctets}
-use Rattle.ber.specs.Identifier.{bit, leading, following, identifier}
-use Rattle.ber.specs.Reading.{readFollowing, readIdentifier}
+use Rattle.x690.specs.Identifier.{bit, leading, following, identifier}
+use Rattle.x690.specs.Reading.{readFollowing, readIdentifier}
 
 -- the forms of a code, and of its octets
 pub bit-small : (b : Bool) → bit b ≤ 1

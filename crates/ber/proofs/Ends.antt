@@ -13,7 +13,7 @@ use Rattle.octets.specs.declared.cause.Cause.the-variants.{Cut, Forbidden}
 use Rattle.octets.specs.Answer.{Answer, refused, if, none-left}
 use Rattle.octets.proofs.Tests.{test}
 use Rattle.ber.proofs.Places.{none-at, some-at}
-use Rattle.ber.specs.Reading.{atEnd}
+use Rattle.x690.specs.Reading.{atEnd}
 use Rattle.ber.specs.Told.{mode, endOf}
 use Rattle.ber.specs.declared.ending.End.{End}
 use Rattle.ber.specs.declared.ending.End.the-variants.{More, Over, Broken}

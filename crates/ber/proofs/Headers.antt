@@ -14,7 +14,7 @@ use lib.Seq.{sets}
 use Rattle.octets.specs.Buffers.{put, putEnd}
 use Rattle.octets.proofs.Answer.{run}
 use Rattle.octets.proofs.Buffers.{put-roomy, put-end}
-use Rattle.ber.specs.Length.{digits, lengthOctets}
+use Rattle.x690.specs.Length.{digits, lengthOctets}
 
 -- the digits of a number, one by one
 digits-end : (k : ℕ) (l : List ℕ) → digits k 0 l ≡ l

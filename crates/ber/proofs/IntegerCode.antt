@@ -23,9 +23,9 @@ use Rattle.octets.proofs.Answer.{run}
 use Rattle.octets.proofs.Buffers.{copy-end}
 use Rattle.octets.proofs.Permutations.{all-octets}
 use Rattle.octets.proofs.Tests.{test}
-use Rattle.ber.specs.Integer.{negative, digit, pile, integerOf, spare, minimal, eight}
+use Rattle.x690.specs.Integer.{negative, digit, pile, integerOf, spare, minimal, eight}
 use Rattle.ber.specs.Told.{integerIn, lastBefore}
-use Rattle.ber.proofs.Integers.{eight-length, spelt, eight-same, integer-fits}
+use Rattle.x690.proofs.Integers.{eight-length, spelt, eight-same, integer-fits}
 
 -- z by its bits: what `z < 0` says, and the two ways to the bits
 pub bits-neg : (z : ℤ) → SFits w64 z → ltZ (toZ w64 (ofZ w64 z)) (pos 0) ≡ true

@@ -1,12 +1,8 @@
--- What is written is read back, and nothing else is accepted; and laws of the answers of the code.
+-- Laws of the code that reads and puts X.690's octets, and of its answers.
 -- Assumes nothing.
-pub mod Identifiers
-pub mod Lengths
-pub mod Items
-pub mod Integers
 pub mod IntegerCode
+pub mod LastOctets
 pub mod Sizes
-pub mod BitString
 pub mod Places
 pub mod Codes
 pub mod Headers

@@ -16,8 +16,9 @@ use mir.Val.{SFits, ofZ}
 use mir.Facts.{fits-ofZ}
 use Rattle.octets.specs.Permutations.{AllOctets, every-cons}
 use Rattle.octets.proofs.Tests.{test}
-use Rattle.ber.specs.Integer.{negative, digit, pile, signed, integerOf, spare, minimal, fewestOf}
-use Rattle.ber.proofs.Integers.{pile-below, spare-zero, spare-ones, fewest-written, fewest-octets, eight-octets}
+use Rattle.x690.specs.Integer.{negative, digit, pile, signed, integerOf, spare, minimal, fewestOf}
+use Rattle.x690.proofs.Integers.{pile-below, spare-zero, spare-ones, fewest-written, fewest-octets}
+use Rattle.ber.proofs.LastOctets.{eight-octets}
 
 -- m needs suc j octets
 record Sized (m j : ℕ) : Type 0 where

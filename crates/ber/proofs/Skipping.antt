@@ -13,7 +13,7 @@ use Rattle.octets.specs.declared.cause.Cause.{Cause}
 use Rattle.octets.specs.Answer.{Answer, got, refused, then, if}
 use Rattle.octets.proofs.Answer.{refused≢got, got-value, got-rest}
 use Rattle.octets.proofs.Tests.{test}
-use Rattle.ber.specs.Reading.{readFollowing, readIdentifier, Size, definite, indefinite, readLength}
+use Rattle.x690.specs.Reading.{readFollowing, readIdentifier, Size, definite, indefinite, readLength}
 use Rattle.ber.specs.Skipping.{headed, Passed, behind-all, closes, jumps, opens, Skips, sized, marked}
 use Rattle.ber.specs.Told.{toldIdentifier, toldLength}
 use Rattle.ber.specs.declared.identifier.Identifier.{Identifier}

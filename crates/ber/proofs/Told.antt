@@ -15,16 +15,16 @@ use Rattle.octets.specs.Answer.{Answer, got, refused, then, if}
 use Rattle.octets.proofs.Answer.{got-holds, if-cases}
 use Rattle.octets.proofs.Lists.{behind, length-behind}
 use Rattle.ber.specs.Codes.{spelled, codeOf}
-use Rattle.ber.specs.Length.{number, Length as Octets, short, long}
-use Rattle.ber.specs.Reading.{readFollowing, readIdentifier, Size, definite, indefinite, readLength, readLong, fit}
+use Rattle.x690.specs.Length.{number, Length as Octets, short, long}
+use Rattle.x690.specs.Reading.{readFollowing, readIdentifier, Size, definite, indefinite, readLength, readLong, fit}
 use Rattle.ber.specs.Told.{toldIdentifier, toldLength, Again}
 use Rattle.ber.specs.declared.identifier.Identifier.{Identifier}
 use Rattle.ber.specs.declared.identifier.Identifier.the-variants.{Read, Refused as NoIdentifier}
 use Rattle.ber.specs.declared.length.Length.{Length}
 use Rattle.ber.specs.declared.length.Length.the-variants.{Read as ReadLength, Refused as NoLength}
 use Rattle.ber.specs.declared.length.Extent.{Extent}
-use Rattle.ber.proofs.Identifiers.{identifier-sound, identifier-some}
-use Rattle.ber.proofs.Lengths.{length-sound, Shape, is-definite, is-indefinite}
+use Rattle.x690.proofs.Identifiers.{identifier-sound, identifier-some}
+use Rattle.x690.proofs.Lengths.{length-sound, Shape, is-definite, is-indefinite}
 use Rattle.ber.proofs.Places.{left-at, none-at, some-at, from-before}
 
 -- m is an identifier, as the code answers

@@ -6,7 +6,7 @@ use mathlib.Core.List.{List, [], _∷_}
 use Prim.Native.Nat.{ℕ, _+_, _*_, _/_, _%_, min}
 use lib.Dec.{ltb}
 use Rattle.octets.specs.Answer.{if}
-use Rattle.ber.specs.Identifier.{leading}
+use Rattle.x690.specs.Identifier.{leading}
 
 -- of a tag
 unfoldable pub code : ℕ → Bool → ℕ → ℕ

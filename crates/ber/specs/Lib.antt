@@ -1,11 +1,5 @@
--- X.690 with no table: identifier octets, length octets, items, contents of integers and bit strings; and how items are read.
+-- What the contracts of the code cite beside the definitions of `x690`: identifiers as numbers, what the functions answer, items passed over.
 -- Assumes nothing.
-pub mod Identifier
-pub mod Length
-pub mod Item
-pub mod Integer
-pub mod BitString
-pub mod Reading
 pub mod Codes
 pub mod Told
 pub mod Skipping

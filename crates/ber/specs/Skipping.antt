@@ -5,7 +5,7 @@ use mathlib.Core.Path.{_≡_}
 use Prim.Native.Nat.{ℕ, zero, suc, _<_}
 use lib.ListN.{length, drop}
 use Rattle.octets.specs.Answer.{Answer, got, then}
-use Rattle.ber.specs.Reading.{readIdentifier, Size, definite, indefinite, readLength}
+use Rattle.x690.specs.Reading.{readIdentifier, Size, definite, indefinite, readLength}
 
 -- identifier octets, whichever, and length octets
 unfoldable pub headed : List ℕ → Answer Size

@@ -11,8 +11,8 @@ use lib.ListN.{length, getD, drop}
 use Rattle.octets.specs.declared.cause.Cause.the-variants.{Cut, Forbidden}
 use Rattle.octets.specs.Answer.{Answer, got, refused, if, none-left}
 use Rattle.ber.specs.Codes.{codeOf}
-use Rattle.ber.specs.Integer.{integerOf}
-use Rattle.ber.specs.Reading.{Size, definite, indefinite, Mode, closed, open-ended}
+use Rattle.x690.specs.Integer.{integerOf}
+use Rattle.x690.specs.Reading.{Size, definite, indefinite, Mode, closed, open-ended}
 use Rattle.ber.specs.declared.identifier.Identifier.{Identifier}
 use Rattle.ber.specs.declared.identifier.Identifier.the-variants.{Read as ReadIdentifier, Refused as NoIdentifier}
 use Rattle.ber.specs.declared.length.Length.{Length}

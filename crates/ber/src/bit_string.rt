@@ -6,7 +6,7 @@ ghost use lib.Dec.{eqb};
 ghost use lib.ListN.{length, getD, drop};
 ghost use Rattle.octets.specs.Answer.{none-left};
 ghost use Rattle.octets.specs.Buffers.{filled};
-ghost use Rattle.ber.specs.BitString.{unused, masked};
+ghost use Rattle.x690.specs.BitString.{unused, masked};
 
 const POWERS: [u8; 8] = [1, 2, 4, 8, 16, 32, 64, 128];
 

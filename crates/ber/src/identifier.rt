@@ -4,7 +4,7 @@ ghost use Prim.Native.Nat.{_<_, _≤_, _+_, _*_, _%_, min};
 ghost use lib.ListN.{length, getD};
 ghost use Rattle.octets.specs.Buffers.{put, putEnd};
 ghost use Rattle.ber.specs.Codes.{code, codeOctets};
-ghost use Rattle.ber.specs.Reading.{readIdentifier};
+ghost use Rattle.x690.specs.Reading.{readIdentifier};
 ghost use Rattle.ber.specs.Told.{toldIdentifier};
 use octets::cause::Cause;
 use octets::holds;

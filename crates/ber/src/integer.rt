@@ -7,9 +7,9 @@ ghost use lib.ListN.{length};
 ghost use mir.Syntax.{w64};
 ghost use mir.Val.{ofZ};
 ghost use Rattle.octets.specs.Buffers.{filled};
-ghost use Rattle.ber.specs.Integer.{integerOf, minimal, fewestOf, eightOf};
+ghost use Rattle.x690.specs.Integer.{integerOf, minimal, fewestOf, eightOf};
 ghost use Rattle.ber.specs.Told.{integerIn, lastOctets};
-ghost use Rattle.ber.specs.Integer.{digit as Integer·digit, spare as Integer·spare, negative};
+ghost use Rattle.x690.specs.Integer.{digit as Integer·digit, spare as Integer·spare, negative};
 
 fn wide(x: u8) -> u64
     ensures { λ r. ⌜ (r ≡ x) × (r < 256) ⌝ }
@@ -64,7 +64,7 @@ pub fn of(c: &[u8]) -> i64
 
 // The integer of eight octets; 0 if they are not eight.
 pub fn of_eight(c: &[u8]) -> i64
-    ensures { λ r. ⌜ r ≡ integerOf (filled (Rattle.ber.specs.Integer.eight 0) (now (c .entry))) ⌝ }
+    ensures { λ r. ⌜ r ≡ integerOf (filled (Rattle.x690.specs.Integer.eight 0) (now (c .entry))) ⌝ }
 {
     if c.len() != 8 {
         return 0;

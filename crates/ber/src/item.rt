@@ -5,7 +5,7 @@ ghost use Prim.Native.Nat.{ℕ, _≤_, _+_, min};
 ghost use lib.ListN.{length, drop};
 ghost use Rattle.octets.specs.Buffers.{put, putEnd};
 ghost use Rattle.ber.specs.Codes.{codeOctets};
-ghost use Rattle.ber.specs.Length.{lengthOctets};
+ghost use Rattle.x690.specs.Length.{lengthOctets};
 ghost use Rattle.ber.specs.Skipping.{Passed, Skips};
 use crate::identifier;
 use crate::identifier::Identifier;

@@ -14,7 +14,7 @@ use Rattle.octets.specs.Numbers.{Octets, two}
 use Rattle.octets.proofs.Tests.{test}
 use Rattle.octets.proofs.Lists.{both}
 use Rattle.octets.proofs.Search.{lowest-most}
-use Rattle.ber.specs.Identifier.{bit, leading}
+use Rattle.x690.specs.Identifier.{bit, leading}
 use Rattle.ber.specs.Codes.{code}
 use Rattle.table.specs.Syntax.{Tag, Record, Table, constructed}
 use Rattle.table.specs.Octets.{recordShaped}

@@ -15,7 +15,7 @@ use Rattle.octets.specs.Lists.{any, same}
 use Rattle.octets.proofs.Lists.{same-refl, same-true}
 use Rattle.octets.proofs.Answer.{run}
 use Rattle.octets.proofs.Tests.{test, or-false}
-use Rattle.ber.specs.Reading.{readIdentifier, Size, readLength, Mode, atEnd, readHeader, readConstructed, readPrimitive}
+use Rattle.x690.specs.Reading.{readIdentifier, Size, readLength, Mode, atEnd, readHeader, readConstructed, readPrimitive}
 use Rattle.table.specs.Syntax.{Member, Body, Plain, Sequence, Set, SequenceOf, SetOf, Choice, Table}
 use Rattle.coding.specs.Value.{Value, leaf}
 use Rattle.coding.specs.Awaited.{further, awaited, notYetRead, anything, Slotted, no-slot, a-slot, GoesOn, an-octet, no-end, begins, beginsItem, beginsBody}

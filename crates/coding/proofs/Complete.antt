@@ -16,10 +16,10 @@ use Rattle.octets.specs.Permutations.{Sel, Sel.here, Sel.there, Perm, Perm.none
 use Rattle.octets.proofs.Answer.{run, Reads}
 use Rattle.octets.proofs.Permutations.{flat, joined-flat, arranged-each}
 use Rattle.octets.proofs.Tests.{or-by, and-left, and-right}
-use Rattle.ber.specs.Reading.{readIdentifier, Mode, atEnd}
-use Rattle.ber.specs.Item.{Definite, sized, Constructed, in-size, in-marks}
-use Rattle.ber.proofs.Identifiers.{Begun}
-use Rattle.ber.proofs.Items.{Ends, no-more, mark, atEnd-end, atEnd-more, Readable, constructed-complete, primitive-complete}
+use Rattle.x690.specs.Reading.{readIdentifier, Mode, atEnd}
+use Rattle.x690.specs.Item.{Definite, sized, Constructed, in-size, in-marks}
+use Rattle.x690.proofs.Identifiers.{Begun}
+use Rattle.x690.proofs.Items.{Ends, no-more, mark, atEnd-end, atEnd-more, Readable, constructed-complete, primitive-complete}
 use Rattle.table.specs.Syntax.{Member, Body, Sequence, Set, SequenceOf, SetOf, Table, isChoice}
 use Rattle.coding.specs.Value.{Value, leaf, sequence, set, sequenceOf, setOf, choice, slots, bag}
 use Rattle.coding.specs.Tags.{ownTag, explicit}

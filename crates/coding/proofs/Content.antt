@@ -12,10 +12,10 @@ use lib.ListN.{length}
 use Rattle.octets.specs.Answer.{got, none-left}
 use Rattle.octets.specs.Permutations.{AllOctets, every-cons}
 use Rattle.octets.proofs.Answer.{Holds, yields, refuses, if-holds, run}
-use Rattle.ber.specs.Integer.{integerOf, minimal, fewestOf}
-use Rattle.ber.specs.BitString.{unused}
-use Rattle.ber.proofs.Integers.{fewest-written, integer-fits}
-use Rattle.ber.proofs.BitString.{masked-masked, masked-unused, masked-octets}
+use Rattle.x690.specs.Integer.{integerOf, minimal, fewestOf}
+use Rattle.x690.specs.BitString.{unused}
+use Rattle.x690.proofs.Integers.{fewest-written, integer-fits}
+use Rattle.x690.proofs.BitString.{masked-masked, masked-unused, masked-octets}
 use Rattle.table.specs.Syntax.{Simple, Boolean, Integer, BitString, OctetString, Null, Enumerated}
 use Rattle.coding.specs.Value.{Leaf}
 use Rattle.coding.specs.Content.{listed, Content, c-boolean, c-integer, c-bits, c-string, c-null, c-enumerated}

@@ -8,12 +8,12 @@ use Prim.Native.Nat.{ℕ, suc}
 use lib.ListN.{length, drop, replicate}
 use Rattle.octets.specs.Answer.{if, then, behind, none-left}
 use Rattle.octets.specs.Lists.{any, all, joined, tabulate, lowestFrom, same}
-use Rattle.ber.specs.Identifier.{leading, following, identifier}
-use Rattle.ber.specs.Length.{number, digits, lengthOctets}
-use Rattle.ber.specs.Item.{item}
-use Rattle.ber.specs.Integer.{negative, pile, integerOf, spare, minimal, eight, fewest}
-use Rattle.ber.specs.BitString.{unused, masked}
-use Rattle.ber.specs.Reading.{readFollowing, readIdentifier, fit, readLong, readLength, atEnd, readHeader, inside, readConstructed, contents, readPrimitive}
+use Rattle.x690.specs.Identifier.{leading, following, identifier}
+use Rattle.x690.specs.Length.{number, digits, lengthOctets}
+use Rattle.x690.specs.Item.{item}
+use Rattle.x690.specs.Integer.{negative, pile, integerOf, spare, minimal, eight, fewest}
+use Rattle.x690.specs.BitString.{unused, masked}
+use Rattle.x690.specs.Reading.{readFollowing, readIdentifier, fit, readLong, readLength, atEnd, readHeader, inside, readConstructed, contents, readPrimitive}
 use Rattle.table.specs.Syntax.{references, isChoice, universal, constructed}
 use Rattle.table.specs.Octets.{kind, rising}
 use Rattle.table.specs.Rules.{bodyBelow, tagsBelow, parts, members}

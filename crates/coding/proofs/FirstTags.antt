@@ -13,8 +13,8 @@ use Rattle.octets.specs.Lists.{any}
 use Rattle.octets.specs.Permutations.{Every, every-nil, every-cons}
 use Rattle.octets.proofs.Tests.{test, or-by, or-false}
 use Rattle.octets.proofs.Lists.{same-refl, same-true}
-use Rattle.ber.proofs.Identifiers.{identifier-complete, identifier-tag, identifier-begun, Begun}
-use Rattle.ber.proofs.Items.{Readable}
+use Rattle.x690.proofs.Identifiers.{identifier-complete, identifier-tag, identifier-begun, Begun}
+use Rattle.x690.proofs.Items.{Readable}
 use Rattle.table.specs.Syntax.{Tag, Member, Simple, Boolean, Integer, BitString, OctetString, Null, Enumerated, Body, Plain, Sequence, Set}
 use Rattle.table.specs.Syntax.{SequenceOf, SetOf, Choice, Record, Table, absent, references, isChoice, universal, constructed}
 use Rattle.table.specs.Rules.{Mistagged, missing, not-last, not-its-number, on-choice, bodyBelow, tagsBelow, below, First, outermost, inside, parts, Sharing}

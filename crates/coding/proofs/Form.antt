@@ -9,8 +9,8 @@ use lib.ListN.{getD, length-append}
 use Rattle.octets.specs.Lists.{joined}
 use Rattle.octets.specs.Permutations.{Each, nil, cons, Every, every-nil, every-cons, Order}
 use Rattle.octets.proofs.Permutations.{Perm·refl, arranged-refl}
-use Rattle.ber.specs.Item.{in-size}
-use Rattle.ber.proofs.Items.{Short, item-content, item-definite}
+use Rattle.x690.specs.Item.{in-size}
+use Rattle.x690.proofs.Items.{Short, item-content, item-definite}
 use Rattle.table.specs.Syntax.{Member, Body, Table}
 use Rattle.table.specs.Rules.{members}
 use Rattle.coding.specs.Value.{Value, slots, bag}

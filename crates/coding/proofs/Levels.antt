@@ -6,7 +6,7 @@ use native.Mathlib.Omega.{arith}
 use Prim.Native.Nat.{ℕ, zero, suc, _≤_}
 use Rattle.octets.specs.Permutations.{Each, nil, cons, Every, every-nil, every-cons, AllOctets, Order, any-order, permuted}
 use Rattle.octets.proofs.Permutations.{every-perm, joined-octets, arranged-perm}
-use Rattle.ber.proofs.Items.{definite-octets, constructed-octets}
+use Rattle.x690.proofs.Items.{definite-octets, constructed-octets}
 use Rattle.table.specs.Syntax.{Member, Body, Table}
 use Rattle.coding.specs.Value.{Value, leaf, sequence, set, sequenceOf, setOf, choice, slots, bag, depth, depths}
 use Rattle.coding.specs.Encodes.{Coding, Pieces, done, left, sent, Codes, is-plain, is-sequence, is-set, is-sequence-of, is-set-of, is-choice, Wrapped, bare, tagged, EncodesAt}

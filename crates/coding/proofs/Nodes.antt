@@ -18,9 +18,9 @@ use Rattle.octets.proofs.Answer.{run, Holds, yields, refuses, if-holds, map-hol
 use Rattle.octets.proofs.Permutations.{every-left}
 use Rattle.octets.proofs.Lists.{same-refl, same-true}
 use Rattle.octets.proofs.Tests.{and-left, and-right}
-use Rattle.ber.specs.Integer.{integerOf, eight, eightOf}
-use Rattle.ber.specs.BitString.{unused, masked}
-use Rattle.ber.proofs.Integers.{eight-back, eight-same, integer-fits}
+use Rattle.x690.specs.Integer.{integerOf, eight, eightOf}
+use Rattle.x690.specs.BitString.{unused, masked}
+use Rattle.x690.proofs.Integers.{eight-back, eight-same, integer-fits}
 use Rattle.coding.specs.Value.{Leaf, boolean, integer, bits, string, null, enumerated, flag, bitCount}
 use Rattle.coding.specs.Judging.{Node, a-leaf, a-sequence, a-set, a-sequence-of, a-set-of, a-choice, need, flags, ownMembers, ownCount}
 use Rattle.coding.specs.Judging.{ownBoolean, ownInteger, ownString, ownBits, ownEnumerated, ownChoice, readOwn, readNode, leafKind, nodeKind}

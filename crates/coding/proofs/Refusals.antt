@@ -14,12 +14,12 @@ use Rattle.octets.specs.Answer.{Answer, got, refused, then, if, behind}
 use Rattle.octets.specs.Permutations.{AllOctets, Order, as-given}
 use Rattle.octets.proofs.Answer.{Holds, yields, if-holds, then-holds, map-holds, got-holds, Taken}
 use Rattle.octets.proofs.Permutations.{every-right}
-use Rattle.ber.specs.Reading.{readFollowing, readIdentifier, Size, definite, indefinite, fit, readLong, readLength, Mode, closed, open-ended, atEnd}
-use Rattle.ber.specs.Reading.{readHeader, inside, readConstructed, contents, readPrimitive}
-use Rattle.ber.specs.Length.{short, long}
-use Rattle.ber.specs.Item.{Definite, sized, Constructed, in-size, in-marks}
-use Rattle.ber.proofs.Lengths.{Shape, is-definite, is-indefinite}
-use Rattle.ber.proofs.Items.{Ends, no-more, mark, header-sound}
+use Rattle.x690.specs.Reading.{readFollowing, readIdentifier, Size, definite, indefinite, fit, readLong, readLength, Mode, closed, open-ended, atEnd}
+use Rattle.x690.specs.Reading.{readHeader, inside, readConstructed, contents, readPrimitive}
+use Rattle.x690.specs.Length.{short, long}
+use Rattle.x690.specs.Item.{Definite, sized, Constructed, in-size, in-marks}
+use Rattle.x690.proofs.Lengths.{Shape, is-definite, is-indefinite}
+use Rattle.x690.proofs.Items.{Ends, no-more, mark, header-sound}
 use Rattle.table.specs.Syntax.{Member, Simple, Boolean, Integer, BitString, OctetString, Null, Enumerated, Body, Plain, Sequence, Set, SequenceOf, SetOf, Choice, Table}
 use Rattle.coding.specs.Value.{Value, octets}
 use Rattle.coding.specs.Reading.{decode, notAwaited, unwanted, nothing, readWrapped, readSequence, placeMember, readSet, readMany, choose, readBody, readKind, readValue, readMessage}

@@ -14,12 +14,12 @@ use Rattle.octets.specs.Permutations.{Perm, Sel, Sel.here, Sel.there, Perm.none
 use Rattle.octets.proofs.Tests.{test, and-right}
 use Rattle.octets.proofs.Members.{any-some}
 use Rattle.octets.proofs.Permutations.{Perm·sym, every-perm, joined-octets, arranged-perm}
-use Rattle.ber.specs.BitString.{masked}
-use Rattle.ber.specs.Length.{short, long}
-use Rattle.ber.specs.Item.{Definite, sized, Constructed, in-size, in-marks}
-use Rattle.ber.proofs.Integers.{integer-fits}
-use Rattle.ber.proofs.BitString.{masked-masked, masked-unused, masked-octets}
-use Rattle.ber.proofs.Items.{definite-octets, constructed-octets}
+use Rattle.x690.specs.BitString.{masked}
+use Rattle.x690.specs.Length.{short, long}
+use Rattle.x690.specs.Item.{Definite, sized, Constructed, in-size, in-marks}
+use Rattle.x690.proofs.Integers.{integer-fits}
+use Rattle.x690.proofs.BitString.{masked-masked, masked-unused, masked-octets}
+use Rattle.x690.proofs.Items.{definite-octets, constructed-octets}
 use Rattle.table.specs.Syntax.{Member, Simple, Boolean, Integer, BitString, OctetString, Null, Enumerated, Body, Plain, Sequence, Set, SequenceOf, SetOf, Choice, Record, Table, absent}
 use Rattle.table.specs.Octets.{bodyShaped, recordShaped}
 use Rattle.table.specs.Passes.{Passes}

@@ -15,9 +15,9 @@ use Rattle.octets.specs.Permutations.{Sel, Sel.here, Sel.there, Perm, Perm.none
 use Rattle.octets.proofs.Answer.{Holds, yields, refuses, if-holds, then-holds, map-holds, Taken}
 use Rattle.octets.proofs.Permutations.{flat, joined-flat, arranged-refl}
 use Rattle.octets.proofs.Tests.{and-right}
-use Rattle.ber.specs.Reading.{Mode}
-use Rattle.ber.proofs.Identifiers.{identifier-sound}
-use Rattle.ber.proofs.Items.{Ends, no-more, mark, atEnd-holds, Body as Contents, constructed-sound, primitive-sound}
+use Rattle.x690.specs.Reading.{Mode}
+use Rattle.x690.proofs.Identifiers.{identifier-sound}
+use Rattle.x690.proofs.Items.{Ends, no-more, mark, atEnd-holds, Body as Contents, constructed-sound, primitive-sound}
 use Rattle.table.specs.Syntax.{Member, Body, Plain, Sequence, Set, SequenceOf, SetOf, Choice, Table}
 use Rattle.coding.specs.Value.{Value, sequence, set, sequenceOf, setOf, choice, slots, bag}
 use Rattle.coding.specs.Tags.{ownTag, explicit}

@@ -16,12 +16,12 @@ use Rattle.octets.specs.Lists.{any, all, joined, tabulate, lowestFrom, same}
 use Rattle.octets.specs.Numbers.{Octets}
 use Rattle.octets.specs.Permutations.{here, there, none, next, any-order}
 use Rattle.octets.proofs.Tests.{and-left, and-right}
-use Rattle.ber.specs.Identifier.{leading, following, identifier}
-use Rattle.ber.specs.Length.{short, number, digits, lengthOctets}
-use Rattle.ber.specs.Item.{sized, in-marks, item}
-use Rattle.ber.specs.Integer.{negative, pile, integerOf, spare, minimal, eight, fewest}
-use Rattle.ber.specs.BitString.{unused, masked}
-use Rattle.ber.specs.Reading.{readFollowing, readIdentifier, fit, readLong, readLength, atEnd, readHeader, inside, readConstructed, contents, readPrimitive}
+use Rattle.x690.specs.Identifier.{leading, following, identifier}
+use Rattle.x690.specs.Length.{short, number, digits, lengthOctets}
+use Rattle.x690.specs.Item.{sized, in-marks, item}
+use Rattle.x690.specs.Integer.{negative, pile, integerOf, spare, minimal, eight, fewest}
+use Rattle.x690.specs.BitString.{unused, masked}
+use Rattle.x690.specs.Reading.{readFollowing, readIdentifier, fit, readLong, readLength, atEnd, readHeader, inside, readConstructed, contents, readPrimitive}
 use Rattle.table.specs.Syntax.{Tag, Boolean, Integer, Plain, Set, Record, table, references, isChoice, universal, constructed}
 use Rattle.table.specs.Octets.{kind, tagOctets, memberOctets, ownOctets, recordOctets, rising, bodyShaped, recordShaped}
 use Rattle.table.specs.Rules.{bodyBelow, tagsBelow, parts, members}

@@ -5,7 +5,7 @@ use mathlib.Core.List.{List, [], _∷_, map}
 use mathlib.Core.Option.{Option, some, none}
 use Prim.Native.Nat.{ℕ, zero, suc, _<_}
 use Rattle.octets.specs.Lists.{any, same}
-use Rattle.ber.specs.Reading.{Mode, closed, open-ended}
+use Rattle.x690.specs.Reading.{Mode, closed, open-ended}
 use Rattle.table.specs.Syntax.{Body, Plain, Sequence, Set, SequenceOf, SetOf, Choice, Table, Member}
 use Rattle.coding.specs.Tags.{ownTag, explicit}
 use Rattle.coding.specs.Value.{Value}

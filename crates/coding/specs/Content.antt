@@ -8,8 +8,8 @@ use lib.Dec.{eqb}
 use lib.IntN.{pos}
 use lib.ListN.{length}
 use Rattle.octets.specs.Lists.{any}
-use Rattle.ber.specs.Integer.{integerOf, minimal}
-use Rattle.ber.specs.BitString.{unused, masked}
+use Rattle.x690.specs.Integer.{integerOf, minimal}
+use Rattle.x690.specs.BitString.{unused, masked}
 use Rattle.table.specs.Syntax.{Simple, Boolean, Integer, BitString, OctetString, Null, Enumerated}
 use Rattle.coding.specs.Value.{Leaf, boolean, integer, bits, string, null, enumerated}
 

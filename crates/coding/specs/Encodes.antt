@@ -7,7 +7,7 @@ use mathlib.Core.Path.{_≡_}
 use Prim.Native.Nat.{ℕ, zero, suc}
 use Rattle.octets.specs.Lists.{joined}
 use Rattle.octets.specs.Permutations.{Perm, Each, Order, any-order, as-given, Arranged}
-use Rattle.ber.specs.Item.{Definite, Constructed}
+use Rattle.x690.specs.Item.{Definite, Constructed}
 use Rattle.table.specs.Syntax.{Member, Simple, Body, Plain, Sequence, Set, SequenceOf, SetOf, Choice, Table}
 use Rattle.coding.specs.Value.{Leaf, Value, leaf, sequence, set, sequenceOf, setOf, choice, slots, bag}
 use Rattle.coding.specs.Content.{Content}

@@ -6,8 +6,8 @@ use Prim.Native.Nat.{ℕ, zero, suc}
 use lib.ListN.{getD}
 use lib.IntN.{pos}
 use Rattle.octets.specs.Lists.{joined}
-use Rattle.ber.specs.Item.{item}
-use Rattle.ber.specs.Integer.{fewestOf}
+use Rattle.x690.specs.Item.{item}
+use Rattle.x690.specs.Integer.{fewestOf}
 use Rattle.table.specs.Syntax.{Member, Body, Plain, Sequence, Set, SequenceOf, SetOf, Choice, Table}
 use Rattle.table.specs.Rules.{members}
 use Rattle.coding.specs.Value.{Value, leaf, sequence, set, sequenceOf, setOf, choice, Slots, end, missing, present, Leaf, boolean, integer, bits, string, null, enumerated}

@@ -11,8 +11,8 @@ use Rattle.octets.specs.declared.cause.Cause.the-variants.{ValueShape, IllTyped
 use Rattle.octets.specs.Answer.{Answer, got, refused, then, if, none-left}
 use Rattle.octets.specs.Numbers.{two}
 use Rattle.octets.specs.Lists.{all, same}
-use Rattle.ber.specs.Integer.{integerOf}
-use Rattle.ber.specs.BitString.{masked}
+use Rattle.x690.specs.Integer.{integerOf}
+use Rattle.x690.specs.BitString.{masked}
 use Rattle.table.specs.Syntax.{Member, Boolean, Integer, BitString, OctetString, Null, Enumerated, Body, Plain, Sequence, Set, SequenceOf, SetOf, Choice, Table}
 use Rattle.table.specs.Octets.{kind}
 use Rattle.table.specs.Rules.{members}

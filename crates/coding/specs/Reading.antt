@@ -10,9 +10,9 @@ use lib.Dec.{leb, eqb}
 use lib.IntN.{ℤ, pos, negsuc}
 use Rattle.octets.specs.declared.cause.Cause.the-variants.{TableShape, Cut, NotAwaited, Contents, Trailing, MessageLevel}
 use Rattle.octets.specs.Answer.{Answer, got, refused, then, if, none-left}
-use Rattle.ber.specs.Reading.{readIdentifier, Mode, atEnd, readConstructed, readPrimitive}
-use Rattle.ber.specs.Integer.{integerOf, minimal}
-use Rattle.ber.specs.BitString.{unused, masked}
+use Rattle.x690.specs.Reading.{readIdentifier, Mode, atEnd, readConstructed, readPrimitive}
+use Rattle.x690.specs.Integer.{integerOf, minimal}
+use Rattle.x690.specs.BitString.{unused, masked}
 use Rattle.table.specs.Syntax.{Member, Body, Plain, Sequence, Set, SequenceOf, SetOf, Choice, Table, Simple, Boolean, Integer, BitString, OctetString, Null, Enumerated}
 use Rattle.coding.specs.Value.{Value, leaf, sequence, set, sequenceOf, setOf, choice, slots, bag, Leaf, boolean, integer, bits, string, null, enumerated}
 use Rattle.coding.specs.Content.{listed}

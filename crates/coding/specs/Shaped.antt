@@ -7,7 +7,7 @@ use lib.ListN.{length}
 use mir.Syntax.{w64}
 use mir.Val.{SFits}
 use Rattle.octets.specs.Permutations.{AllOctets}
-use Rattle.ber.specs.BitString.{unused, masked}
+use Rattle.x690.specs.BitString.{unused, masked}
 use Rattle.coding.specs.Value.{Leaf, boolean, integer, bits, string, null, enumerated, Value, leaf, sequence, set, sequenceOf, setOf, choice, Slots, end, missing, present, count, bitCount}
 
 -- an ENUMERATED number, a count of octets and a count of bits have two octets each

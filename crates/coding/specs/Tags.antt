@@ -3,7 +3,7 @@
 use mathlib.Core.Bool.{Bool, true}
 use mathlib.Core.List.{List, [], _∷_, map}
 use Prim.Native.Nat.{ℕ}
-use Rattle.ber.specs.Identifier.{identifier}
+use Rattle.x690.specs.Identifier.{identifier}
 use Rattle.table.specs.Syntax.{Tag, Body, Plain, Sequence, Set, SequenceOf, SetOf, Choice, Record, universal, constructed}
 
 unfoldable pub identifierOf : Bool → Tag → List ℕ

@@ -9,7 +9,7 @@ use lib.IntN.{ℤ, pos}
 use mir.Syntax.{w64}
 use mir.Val.{SFits}
 use Rattle.octets.specs.Permutations.{Every, AllOctets}
-use Rattle.ber.specs.BitString.{unused, masked}
+use Rattle.x690.specs.BitString.{unused, masked}
 use Rattle.table.specs.Syntax.{Member, Simple, Body, Plain, Sequence, Set, SequenceOf, SetOf, Choice, Table, Boolean, Integer, BitString, OctetString, Null, Enumerated}
 use Rattle.coding.specs.Value.{Leaf, Value, leaf, sequence, set, sequenceOf, setOf, choice, slots, bag, boolean, integer, bits, string, null, enumerated}
 use Rattle.coding.specs.Content.{listed}

@@ -7,7 +7,7 @@ use Prim.Native.Nat.{ℕ, suc, _-_, _*_, max}
 use lib.IntN.{ℤ}
 use lib.ListN.{length}
 use Rattle.octets.specs.Numbers.{octetsOf}
-use Rattle.ber.specs.Integer.{eightOf}
+use Rattle.x690.specs.Integer.{eightOf}
 
 -- values with no value below; bits are the number of unused ones and the octets that hold them
 pub data Leaf : Type 0 where

@@ -12,7 +12,7 @@ use Rattle.octets.specs.Lists.{any, all, same}
 use Rattle.octets.specs.Numbers.{Octets}
 use Rattle.octets.proofs.Lists.{both}
 use Rattle.octets.proofs.Tests.{test}
-use Rattle.ber.specs.Reading.{readIdentifier}
+use Rattle.x690.specs.Reading.{readIdentifier}
 use Rattle.ber.specs.Codes.{code, codeOf}
 use Rattle.ber.proofs.Codes.{bit-small, code-short, code-long, read-code-small, code-same}
 use Rattle.table.specs.Syntax.{Tag, Body, Plain, Sequence, Set, SequenceOf, SetOf, Choice, Record, Table, isChoice, constructed}

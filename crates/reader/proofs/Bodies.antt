@@ -9,8 +9,8 @@ use mathlib.Core.Path.{_≡_, refl, sym, ap, _∙_}
 use native.Mathlib.Omega.{arith}
 use Prim.Native.Nat.{ℕ, _-_, _≤_}
 use Rattle.octets.specs.Answer.{Answer}
-use Rattle.ber.specs.Reading.{Mode}
-use Rattle.ber.specs.Reading.{readConstructed}
+use Rattle.x690.specs.Reading.{Mode}
+use Rattle.x690.specs.Reading.{readConstructed}
 use Rattle.table.specs.Syntax.{Simple, Body, Plain, Sequence, Set}
 use Rattle.table.specs.Syntax.{SequenceOf, SetOf, Choice, Record, Table, isChoice, constructed}
 use Rattle.table.specs.Rules.{members}

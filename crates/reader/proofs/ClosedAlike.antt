@@ -10,7 +10,7 @@ use Rattle.octets.specs.declared.cause.Cause.{Cause}
 use Rattle.octets.specs.declared.cause.Cause.the-variants.{Trailing}
 use Rattle.octets.specs.Answer.{Answer, got, refused, then, behind}
 use Rattle.octets.proofs.Answer.{refused≢got, got-value, got-rest}
-use Rattle.ber.specs.Reading.{Mode, open-ended, closed, atEnd}
+use Rattle.x690.specs.Reading.{Mode, open-ended, closed, atEnd}
 use Rattle.reader.specs.Answers.{cap, told}
 use Rattle.reader.specs.Wraps.{ended, shut, closing, Around}
 use Rattle.reader.proofs.Items.{Ending, over, broken, more, ending}

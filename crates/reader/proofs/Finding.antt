@@ -16,7 +16,7 @@ use Rattle.octets.specs.Answer.{got, refused, if, then}
 use Rattle.octets.specs.Numbers.{Octets}
 use Rattle.octets.proofs.Tests.{test}
 use Rattle.ber.specs.Codes.{codeOf}
-use Rattle.ber.specs.Reading.{readIdentifier}
+use Rattle.x690.specs.Reading.{readIdentifier}
 use Rattle.ber.specs.Told.{toldIdentifier}
 use Rattle.ber.specs.declared.identifier.Identifier.{Identifier}
 use Rattle.ber.specs.declared.identifier.Identifier.the-variants.{Read, Refused as NoIdentifier}

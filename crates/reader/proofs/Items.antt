@@ -16,7 +16,7 @@ use Rattle.octets.specs.declared.cause.Cause.the-variants.{Cut, Forbidden, NotA
 use Rattle.octets.specs.Answer.{Answer, got, refused, then, if, none-left}
 use Rattle.octets.proofs.Answer.{Holds}
 use Rattle.octets.proofs.Tests.{test}
-use Rattle.ber.specs.Reading.{readIdentifier, Mode, closed, open-ended, atEnd}
+use Rattle.x690.specs.Reading.{readIdentifier, Mode, closed, open-ended, atEnd}
 use Rattle.table.specs.Syntax.{Member, Table}
 use Rattle.coding.specs.Value.{Value}
 use Rattle.coding.specs.Reading.{passes, begun, notAwaited}

@@ -13,7 +13,7 @@ use Rattle.octets.specs.declared.cause.Cause.the-variants.{Trailing}
 use Rattle.octets.specs.Answer.{Answer, got, refused, then, if}
 use Rattle.octets.specs.Lists.{any}
 use Rattle.octets.proofs.Tests.{test}
-use Rattle.ber.specs.Reading.{Mode}
+use Rattle.x690.specs.Reading.{Mode}
 use Rattle.table.specs.Syntax.{Member, Set, Table}
 use Rattle.coding.specs.Value.{Value}
 use Rattle.coding.specs.Encodes.{allowed}

@@ -15,7 +15,7 @@ use Rattle.octets.specs.Answer.{got, refused, then, if}
 use Rattle.octets.specs.Numbers.{Octets}
 use Rattle.octets.proofs.Tests.{test}
 use Rattle.ber.specs.Codes.{code, codeOf}
-use Rattle.ber.specs.Reading.{readIdentifier}
+use Rattle.x690.specs.Reading.{readIdentifier}
 use Rattle.ber.proofs.Codes.{code-short, code-long, read-code-small}
 use Rattle.ber.proofs.Places.{some-at, part-to-end}
 use Rattle.table.specs.Syntax.{Tag, Member, Body, Record, Table, constructed}

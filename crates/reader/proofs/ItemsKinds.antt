@@ -11,7 +11,7 @@ use Rattle.octets.specs.declared.cause.Cause.the-variants.{Cut, Trailing}
 use Rattle.octets.specs.Answer.{Answer, got, refused, then, if, none-left}
 use Rattle.octets.specs.Lists.{any}
 use Rattle.octets.proofs.Tests.{test}
-use Rattle.ber.specs.Reading.{Mode, readConstructed}
+use Rattle.x690.specs.Reading.{Mode, readConstructed}
 use Rattle.table.specs.Syntax.{Member, Body, Plain, Sequence, Set, SequenceOf, SetOf, Choice, Table}
 use Rattle.table.specs.Rules.{members}
 use Rattle.coding.specs.Value.{Value, choice, sequence, set, sequenceOf, setOf, slots, bag}

@@ -12,7 +12,7 @@ use Rattle.octets.specs.Answer.{Answer, got, refused, if}
 use Rattle.octets.specs.Lists.{any}
 use Rattle.octets.specs.Numbers.{Octets}
 use Rattle.octets.proofs.Tests.{test, or-false}
-use Rattle.ber.specs.Reading.{readIdentifier}
+use Rattle.x690.specs.Reading.{readIdentifier}
 use Rattle.table.specs.Syntax.{Member, Plain, Sequence, Set, SequenceOf, SetOf, Choice, Table}
 use Rattle.coding.specs.Awaited.{types, awaited, begins}
 use Rattle.coding.specs.Reading.{passes, begun}

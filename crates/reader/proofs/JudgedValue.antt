@@ -11,7 +11,7 @@ use Rattle.octets.specs.declared.cause.Cause.{Cause}
 use Rattle.octets.specs.declared.cause.Cause.the-variants.{Cut, Forbidden, Contents, Trailing}
 use Rattle.octets.specs.Answer.{Answer, got, refused, then, if, none-left}
 use Rattle.octets.proofs.Answer.{got-holds, if-cases, refused≢got}
-use Rattle.ber.specs.Reading.{closed, readLength}
+use Rattle.x690.specs.Reading.{closed, readLength}
 use Rattle.ber.specs.Told.{toldLength}
 use Rattle.ber.specs.declared.length.Length.{Length}
 use Rattle.ber.specs.declared.length.Length.the-variants.{Refused as NoLength}

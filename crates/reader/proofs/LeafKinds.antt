@@ -12,9 +12,9 @@ use lib.ListN.{length, getD, drop}
 use lib.Seq.{sets}
 use Rattle.octets.specs.Answer.{if}
 use Rattle.octets.specs.Numbers.{octetsOf}
-use Rattle.ber.specs.Integer.{integerOf, eightOf}
-use Rattle.ber.specs.BitString.{unused, masked}
-use Rattle.ber.proofs.BitString.{length-masked}
+use Rattle.x690.specs.Integer.{integerOf, eightOf}
+use Rattle.x690.specs.BitString.{unused, masked}
+use Rattle.x690.proofs.BitString.{length-masked}
 use Rattle.coding.specs.Value.{Leaf, boolean, integer, bits, string, null, enumerated, leafOctets, flag}
 use Rattle.coding.specs.Reading.{natural}
 use Rattle.reader.specs.Leaves.{leafOf, Lawful, one-octet, one-to-eight, some-unused, any-octets, no-octet, small-number}

@@ -12,7 +12,7 @@ use lib.Seq.{sets, sets-eq, length-sets, take-all, length-take-le, drop-drop}
 use Rattle.octets.specs.Answer.{if}
 use Rattle.octets.specs.Numbers.{octetsOf}
 use Rattle.octets.specs.Buffers.{filled}
-use Rattle.ber.specs.Integer.{integerOf}
+use Rattle.x690.specs.Integer.{integerOf}
 use Rattle.ber.specs.Told.{integerIn}
 use Rattle.reader.proofs.Stores.{sets-append}
 

@@ -18,7 +18,7 @@ use Rattle.octets.specs.Lists.{same}
 use Rattle.octets.specs.Numbers.{Octets}
 use Rattle.octets.proofs.Tests.{test}
 use Rattle.ber.specs.Codes.{codeOf}
-use Rattle.ber.specs.Reading.{Mode, closed, open-ended, readIdentifier, readLength, readHeader, inside, readConstructed, readPrimitive, atEnd}
+use Rattle.x690.specs.Reading.{Mode, closed, open-ended, readIdentifier, readLength, readHeader, inside, readConstructed, readPrimitive, atEnd}
 use Rattle.ber.specs.Told.{toldLength, mode}
 use Rattle.ber.specs.declared.length.Length.{Length}
 use Rattle.ber.specs.declared.length.Length.the-variants.{Read as ReadLength, Refused as NoLength}

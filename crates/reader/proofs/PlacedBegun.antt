@@ -8,7 +8,7 @@ use Rattle.octets.specs.Answer.{Answer, got, refused}
 use Rattle.octets.proofs.Answer.{Holds, got-holds, refused≢got}
 use Rattle.octets.proofs.Tests.{test}
 use Rattle.octets.proofs.Lists.{same-true}
-use Rattle.ber.specs.Reading.{readIdentifier}
+use Rattle.x690.specs.Reading.{readIdentifier}
 use Rattle.table.specs.Syntax.{Body, Plain, Sequence, Set, SequenceOf, SetOf, Choice, Table}
 use Rattle.coding.specs.Value.{Value}
 use Rattle.coding.specs.Tags.{ownTag, explicit}

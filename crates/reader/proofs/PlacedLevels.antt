@@ -10,7 +10,7 @@ use lib.ListN.{take}
 use Rattle.octets.specs.declared.cause.Cause.{Cause}
 use Rattle.octets.specs.Answer.{Answer, got, refused, then, if, behind}
 use Rattle.octets.proofs.Answer.{refused≢got}
-use Rattle.ber.specs.Reading.{Size, definite, indefinite, Mode, closed, open-ended, atEnd, inside, readConstructed}
+use Rattle.x690.specs.Reading.{Size, definite, indefinite, Mode, closed, open-ended, atEnd, inside, readConstructed}
 use Rattle.table.specs.Syntax.{Member, Body, Plain, Sequence, Set, SequenceOf, SetOf, Choice, Table}
 use Rattle.coding.specs.Value.{Value}
 use Rattle.coding.specs.Tags.{ownTag, explicit}

@@ -16,7 +16,7 @@ use Rattle.octets.specs.Answer.{Answer, got, refused, then, if}
 use Rattle.octets.proofs.Answer.{got-holds}
 use Rattle.octets.specs.Permutations.{Each, nil, cons}
 use Rattle.octets.specs.Lists.{any}
-use Rattle.ber.specs.Reading.{readIdentifier, Mode, atEnd}
+use Rattle.x690.specs.Reading.{readIdentifier, Mode, atEnd}
 use Rattle.table.specs.Syntax.{Member, Set, Table}
 use Rattle.coding.specs.Value.{Value}
 use Rattle.coding.specs.Reading.{begun, nothing, readValue}

@@ -14,8 +14,8 @@ use Rattle.octets.specs.declared.cause.Cause.the-variants.{NotAwaited, Trailing
 use Rattle.octets.specs.Answer.{Answer, got, refused, then, if, none-left}
 use Rattle.octets.proofs.Answer.{Holds, yields, refuses, then-holds, if-holds, map-holds, got-holds, refused≢got, got-value, got-rest}
 use Rattle.octets.proofs.Tests.{test}
-use Rattle.ber.specs.Reading.{Mode, atEnd}
-use Rattle.ber.proofs.Items.{atEnd-holds}
+use Rattle.x690.specs.Reading.{Mode, atEnd}
+use Rattle.x690.proofs.Items.{atEnd-holds}
 use Rattle.table.specs.Syntax.{Plain, Sequence, Set, SequenceOf, SetOf, Choice, Table}
 use Rattle.coding.specs.Value.{Value, octets}
 use Rattle.coding.specs.Reading.{begun, notAwaited, readValue}

@@ -18,8 +18,8 @@ use Rattle.octets.specs.Permutations.{as-given}
 use Rattle.octets.proofs.Answer.{got-holds, refused≢got, got-value, got-rest}
 use Rattle.octets.proofs.Lists.{behind as behind-part, length-behind}
 use Rattle.octets.proofs.Tests.{test}
-use Rattle.ber.specs.Integer.{minimal}
-use Rattle.ber.specs.Reading.{Size, readLength}
+use Rattle.x690.specs.Integer.{minimal}
+use Rattle.x690.specs.Reading.{Size, readLength}
 use Rattle.ber.specs.Told.{toldLength, Again}
 use Rattle.ber.specs.declared.length.Length.the-variants.{Read as ReadLength}
 use Rattle.ber.specs.declared.length.Extent.{Extent}

@@ -11,10 +11,10 @@ use Prim.Native.Nat.{ℕ, zero, suc, _+_}
 use lib.ListN.{length, take, drop}
 use Rattle.octets.specs.Answer.{Answer, got, refused, then, if, none-left}
 use Rattle.octets.proofs.Answer.{Holds, yields, refuses, then-holds, map-holds, behind-holds, if-holds, got-holds}
-use Rattle.ber.specs.Reading.{readIdentifier, Size, definite, indefinite, readLength, open-ended, closed, atEnd, readHeader, inside, readConstructed}
-use Rattle.ber.specs.Reading.{contents, readPrimitive}
-use Rattle.ber.proofs.Identifiers.{identifier-sound}
-use Rattle.ber.proofs.Items.{Ends, mark, atEnd-holds}
+use Rattle.x690.specs.Reading.{readIdentifier, Size, definite, indefinite, readLength, open-ended, closed, atEnd, readHeader, inside, readConstructed}
+use Rattle.x690.specs.Reading.{contents, readPrimitive}
+use Rattle.x690.proofs.Identifiers.{identifier-sound}
+use Rattle.x690.proofs.Items.{Ends, mark, atEnd-holds}
 use Rattle.table.specs.Syntax.{Member, Body, Plain, Sequence, Set, SequenceOf, SetOf, Choice, Table}
 use Rattle.coding.specs.Value.{Value}
 use Rattle.coding.specs.Reading.{passes, begun, unwanted, nothing, readWrapped, readSequence, placeMember, readSet, readMany, choose, readBody, readKind}

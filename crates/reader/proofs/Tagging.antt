@@ -15,7 +15,7 @@ use Rattle.octets.specs.Lists.{same}
 use Rattle.octets.specs.Numbers.{Octets, two}
 use Rattle.octets.proofs.Tests.{test}
 use Rattle.ber.specs.Codes.{codeOf, code as codeBy}
-use Rattle.ber.specs.Reading.{readIdentifier}
+use Rattle.x690.specs.Reading.{readIdentifier}
 use Rattle.ber.specs.Told.{toldIdentifier, endOf}
 use Rattle.ber.specs.declared.ending.End.{End}
 use Rattle.ber.specs.declared.ending.End.the-variants.{More, Over, Broken}

@@ -13,8 +13,8 @@ use Rattle.octets.specs.declared.cause.Cause.the-variants.{NotAwaited}
 use Rattle.octets.specs.Answer.{Answer, got, refused, then, if, none-left}
 use Rattle.octets.specs.Permutations.{as-given}
 use Rattle.octets.proofs.Answer.{Holds, Taken, got-holds}
-use Rattle.ber.specs.Reading.{Mode, closed, open-ended, readIdentifier}
-use Rattle.ber.specs.Reading.{atEnd}
+use Rattle.x690.specs.Reading.{Mode, closed, open-ended, readIdentifier}
+use Rattle.x690.specs.Reading.{atEnd}
 use Rattle.ber.specs.Told.{toldIdentifier}
 use Rattle.ber.specs.declared.identifier.Identifier.the-variants.{Refused as NoIdentifier}
 use Rattle.ber.proofs.Told.{identifier-refused}

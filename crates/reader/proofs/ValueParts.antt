@@ -15,8 +15,8 @@ use Rattle.octets.specs.Answer.{Answer, got, refused, then, if, behind}
 use Rattle.octets.specs.Numbers.{Octets}
 use Rattle.octets.proofs.Tests.{test}
 use Rattle.ber.specs.Codes.{codeOf}
-use Rattle.ber.specs.Reading.{Mode, closed, open-ended, Size, definite, indefinite, readLength, readHeader, inside as insideSize}
-use Rattle.ber.specs.Reading.{readConstructed, contents, readPrimitive}
+use Rattle.x690.specs.Reading.{Mode, closed, open-ended, Size, definite, indefinite, readLength, readHeader, inside as insideSize}
+use Rattle.x690.specs.Reading.{readConstructed, contents, readPrimitive}
 use Rattle.ber.specs.Told.{toldLength, mode}
 use Rattle.ber.specs.declared.length.Length.{Length}
 use Rattle.ber.specs.declared.length.Length.the-variants.{Read as ReadLength}

@@ -12,8 +12,8 @@ use Prim.Native.Nat.{ℕ, suc, _+_, _*_, _-_}
 use Rattle.octets.specs.Answer.{if, none-left}
 use Rattle.octets.proofs.Tests.{test}
 use Rattle.octets.proofs.Lists.{both}
-use Rattle.ber.specs.Integer.{integerOf, minimal, eight}
-use Rattle.ber.specs.BitString.{unused, masked}
+use Rattle.x690.specs.Integer.{integerOf, minimal, eight}
+use Rattle.x690.specs.BitString.{unused, masked}
 use Rattle.ber.specs.Told.{integerIn}
 use Rattle.table.specs.Syntax.{Record, Plain, Enumerated}
 use Rattle.table.specs.Reading.{numbersAt, bodyAt}

@@ -10,7 +10,7 @@ use lib.ListN.{length, getD, drop, set as setAt, replicate}
 use Rattle.octets.specs.declared.cause.Cause.the-variants.{Cut, NotAwaited, Trailing}
 use Rattle.octets.specs.Answer.{Answer, got, refused, then, if}
 use Rattle.octets.specs.Lists.{any}
-use Rattle.ber.specs.Reading.{Mode, atEnd}
+use Rattle.x690.specs.Reading.{Mode, atEnd}
 use Rattle.table.specs.Syntax.{Member, Body, Plain, Sequence, Set, SequenceOf, SetOf, Choice, Table}
 use Rattle.coding.specs.Value.{Value, leaf, null, sequence, set, sequenceOf, setOf, choice, slots, bag, octets}
 use Rattle.coding.specs.Reading.{begun, never, notAwaited, nothing}

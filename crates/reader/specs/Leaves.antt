@@ -8,8 +8,8 @@ use lib.Dec.{eqb}
 use lib.IntN.{pos}
 use lib.ListN.{length, getD, drop}
 use Rattle.octets.specs.Answer.{if}
-use Rattle.ber.specs.Integer.{integerOf}
-use Rattle.ber.specs.BitString.{unused, masked}
+use Rattle.x690.specs.Integer.{integerOf}
+use Rattle.x690.specs.BitString.{unused, masked}
 use Rattle.coding.specs.Value.{Leaf, boolean, integer, bits, string, null, enumerated}
 use Rattle.coding.specs.Reading.{natural}
 

@@ -11,7 +11,7 @@ use Rattle.octets.specs.declared.cause.Cause.{Cause}
 use Rattle.octets.specs.declared.cause.Cause.the-variants.{NotAwaited, Trailing}
 use Rattle.octets.specs.Answer.{Answer, got, refused, if}
 use Rattle.ber.specs.Codes.{codeOf}
-use Rattle.ber.specs.Reading.{readIdentifier}
+use Rattle.x690.specs.Reading.{readIdentifier}
 use Rattle.table.specs.Syntax.{Member}
 use Rattle.table.specs.Entries.{unpacked, tableIn}
 use Rattle.coding.specs.Reading.{notAwaited}

@@ -13,7 +13,7 @@ use Rattle.octets.specs.Answer.{Answer, got, refused, then, if, behind}
 use Rattle.octets.specs.Lists.{same}
 use Rattle.ber.specs.Codes.{codeOf}
 use Rattle.ber.specs.Told.{mode}
-use Rattle.ber.specs.Reading.{readIdentifier, Mode, closed, open-ended, atEnd}
+use Rattle.x690.specs.Reading.{readIdentifier, Mode, closed, open-ended, atEnd}
 use Rattle.table.specs.Syntax.{Record, isChoice}
 use Rattle.table.specs.Entries.{tableIn}
 use Rattle.coding.specs.Tags.{ownTag, explicit}

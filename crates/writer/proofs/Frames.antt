@@ -9,8 +9,8 @@ use borrow.Author.Tests.{ltb-true, ltb-false}
 use lib.Dec.{ltb}
 use lib.ListN.{length, length-append}
 use Rattle.octets.proofs.Tests.{test}
-use Rattle.ber.specs.Identifier.{identifier}
-use Rattle.ber.specs.Item.{item}
+use Rattle.x690.specs.Identifier.{identifier}
+use Rattle.x690.specs.Item.{item}
 use Rattle.table.specs.Syntax.{Tag, Body, Plain, Sequence, Set, SequenceOf, SetOf, Choice, Record, Table, isChoice, constructed}
 use Rattle.coding.specs.Tags.{identifierOf, last, before, explicitTags, explicit}
 use Rattle.coding.specs.Form.{wrap}

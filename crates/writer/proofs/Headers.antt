@@ -10,7 +10,7 @@ use lib.Dec.{ltb}
 use lib.ListN.{length}
 use Rattle.octets.proofs.Tests.{test}
 use Rattle.octets.proofs.Answer.{run}
-use Rattle.ber.specs.Identifier.{leading, following, identifier}
+use Rattle.x690.specs.Identifier.{leading, following, identifier}
 
 module _ (c : ℕ) (b : Bool) (n : ℕ) where
   identifier-one : n < 31 → identifier c b n ≡ leading c b n ∷ []

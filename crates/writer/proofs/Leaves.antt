@@ -14,7 +14,7 @@ use lib.Seq.{sets, length-take-le}
 use Rattle.octets.proofs.Tests.{test, at}
 use Rattle.octets.specs.Numbers.{two}
 use Rattle.octets.specs.Buffers.{filled}
-use Rattle.ber.specs.Integer.{integerOf, fewestOf, eight}
+use Rattle.x690.specs.Integer.{integerOf, fewestOf, eight}
 use Rattle.coding.specs.Form.{encode, truth}
 use Rattle.coding.specs.Judging.{octetsFor, spareIn}
 use Rattle.writer.specs.Nodes.{fixedEnd, booleanEnd, stringEnd, bitsEnd, clearAt, ownEnd, leafOf}

@@ -16,8 +16,8 @@ use Rattle.octets.proofs.Answer.{run}
 use Rattle.octets.proofs.Tests.{test, at}
 use Rattle.octets.specs.Lists.{all, same}
 use Rattle.octets.specs.Numbers.{two}
-use Rattle.ber.specs.BitString.{masked}
-use Rattle.ber.specs.Integer.{integerOf}
+use Rattle.x690.specs.BitString.{masked}
+use Rattle.x690.specs.Integer.{integerOf}
 use Rattle.table.specs.Reading.{everyAt}
 use Rattle.coding.specs.Value.{boolean, integer, bits, string, enumerated}
 use Rattle.coding.specs.Judging.{Node, a-leaf, a-sequence, a-set, a-sequence-of, a-set-of, a-choice, need, flags, ownMembers, ownCount, ownBoolean, ownInteger}

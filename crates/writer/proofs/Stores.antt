@@ -12,9 +12,9 @@ use lib.Seq.{sets, sets-eq, drop-drop, length-take-le}
 use mir.Syntax.{w64}
 use mir.Val.{ofZ, SFits}
 use Rattle.octets.specs.Buffers.{filled}
-use Rattle.ber.specs.Integer.{fewestOf}
+use Rattle.x690.specs.Integer.{fewestOf}
 use Rattle.ber.specs.Told.{lastOctets}
-use Rattle.ber.proofs.Integers.{last-fewest}
+use Rattle.ber.proofs.LastOctets.{last-fewest}
 
 -- a part of n octets from a on that comes back as w
 part-put : (buf part w : List ℕ) (a n : ℕ) → part ≡ w → length w ≡ n → a + n ≤ length buf → putMid a n buf part ≡ sets buf a w

@@ -15,8 +15,8 @@ use Rattle.octets.specs.Numbers.{Octets, two}
 use Rattle.octets.specs.Buffers.{put, putEnd}
 use Rattle.octets.proofs.Lists.{both}
 use Rattle.octets.proofs.Buffers.{put-roomy, put-end}
-use Rattle.ber.specs.Identifier.{identifier}
-use Rattle.ber.specs.Length.{lengthOctets}
+use Rattle.x690.specs.Identifier.{identifier}
+use Rattle.x690.specs.Length.{lengthOctets}
 use Rattle.ber.specs.Codes.{code, codeOctets}
 use Rattle.ber.proofs.Codes.{code-octets, octets-one}
 use Rattle.ber.proofs.Headers.{length-one, length-two, length-three, sets-append}

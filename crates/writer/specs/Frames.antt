@@ -4,8 +4,8 @@ use mathlib.Core.Bool.{Bool, true, false, _||_}
 use mathlib.Core.List.{List, [], _∷_, _++_}
 use Prim.Native.Nat.{ℕ, _+_, min}
 use lib.ListN.{length}
-use Rattle.ber.specs.Identifier.{identifier}
-use Rattle.ber.specs.Length.{lengthOctets}
+use Rattle.x690.specs.Identifier.{identifier}
+use Rattle.x690.specs.Length.{lengthOctets}
 use Rattle.table.specs.Syntax.{Tag}
 
 -- a length that is over 8,192 counts as 8,193

@@ -9,7 +9,7 @@ use lib.ListN.{length, getD, take, drop}
 use Rattle.octets.specs.Tests.{if}
 use Rattle.octets.specs.Lists.{all}
 use Rattle.octets.specs.Numbers.{two}
-use Rattle.ber.specs.Integer.{integerOf}
+use Rattle.x690.specs.Integer.{integerOf}
 use Rattle.table.specs.Reading.{everyAt}
 use Rattle.coding.specs.Value.{Leaf, boolean, integer, bits, string, null, enumerated}
 use Rattle.coding.specs.Judging.{Node, a-leaf, a-sequence, a-set, a-sequence-of, a-set-of, a-choice, flags, octetsFor, spareIn}

@@ -5,7 +5,7 @@ ghost use lib.ListN.{length, take, drop};
 ghost use lib.Seq.{sets};
 ghost use lib.IntN.{pos};
 ghost use Rattle.octets.specs.Numbers.{two};
-ghost use Rattle.ber.specs.Integer.{integerOf, fewestOf};
+ghost use Rattle.x690.specs.Integer.{integerOf, fewestOf};
 ghost use Rattle.coding.specs.Form.{encode};
 ghost use Rattle.writer.specs.Nodes.{ownEnd, leafOf, clearAt};
 ghost use Rattle.writer.specs.Leaves.{Measures};

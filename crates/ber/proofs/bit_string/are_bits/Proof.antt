@@ -1,5 +1,5 @@
 use borrow.Author.Needs.{needs}
-use Rattle.ber.proofs.BitString.{no-bits, bits-none, bits-some}
+use Rattle.x690.proofs.BitString.{no-bits, bits-none, bits-some}
 use Rattle.ber.proofs.bit_string.are_bits.Statement.{statement}
 use Rattle.ber.proofs.bit_string.are_bits.Tie as tie
 

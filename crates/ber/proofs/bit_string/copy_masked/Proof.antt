@@ -5,7 +5,7 @@ use denote.Ref.{now}
 use lib.ListN.{length, getD}
 use lib.Pow.{pow-pos}
 use borrow.Author.Needs.{needs}
-use Rattle.ber.proofs.BitString.{masked-stays, masked-none, masked-filled}
+use Rattle.x690.proofs.BitString.{masked-stays, masked-none, masked-filled}
 use Rattle.ber.proofs.bit_string.copy_masked.Statement.{statement}
 use Rattle.ber.proofs.bit_string.copy_masked.Tie as tie
 

@@ -1,5 +1,5 @@
 use borrow.Author.Needs.{needs}
-use Rattle.ber.proofs.BitString.{powers-is}
+use Rattle.x690.proofs.BitString.{powers-is}
 use Rattle.ber.proofs.bit_string.unit.Statement.{statement}
 use Rattle.ber.proofs.bit_string.unit.Tie as tie
 

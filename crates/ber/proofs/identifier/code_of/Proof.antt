@@ -4,7 +4,7 @@ use mathlib.Core.Logic.{⊎-elim}
 use mathlib.Core.Path.{_≡_, _∙_}
 use native.Mathlib.Omega.{arith}
 use Prim.Native.Nat.{_+_, _*_}
-use Rattle.ber.specs.Identifier.{bit}
+use Rattle.x690.specs.Identifier.{bit}
 use Rattle.ber.proofs.Codes.{bit-small, code-short, code-long}
 use borrow.Author.Needs.{needs}
 use Rattle.ber.proofs.identifier.code_of.Statement.{statement}

@@ -4,8 +4,8 @@ use Prim.Native.Nat.{suc, _+_, _*_, _-_, _<_, _≤_, _^_}
 use denote.Ref.{now}
 use lib.ListN.{length, drop, getD}
 use borrow.Author.Needs.{needs}
-use Rattle.ber.specs.Integer.{pile}
-use Rattle.ber.proofs.Integers.{grow, within, head-small}
+use Rattle.x690.specs.Integer.{pile}
+use Rattle.x690.proofs.Integers.{grow, within, head-small}
 use Rattle.ber.proofs.IntegerCode.{room, pile-begun, pile-next, pile-ended, integer-none, integer-long, integer-neg, integer-pos}
 use Rattle.ber.proofs.integer.of.Statement.{statement}
 use Rattle.ber.proofs.integer.of.Tie as tie

@@ -6,7 +6,7 @@ use mir.Syntax.{w64}
 use mir.Val.{ofZ}
 use mir.ValLaws.{toZ-ofZ}
 use borrow.Author.Needs.{needs}
-use Rattle.ber.specs.Integer.{eight}
+use Rattle.x690.specs.Integer.{eight}
 use Rattle.ber.proofs.IntegerCode.{eight-stays, eight-filled}
 use Rattle.ber.proofs.integer.put_eight.Statement.{statement}
 use Rattle.ber.proofs.integer.put_eight.Tie as tie

@@ -1,4 +1,4 @@
-use Rattle.ber.proofs.Integers.{spare-zero, spare-ones, spare-other}
+use Rattle.x690.proofs.Integers.{spare-zero, spare-ones, spare-other}
 use Rattle.ber.proofs.integer.spare.Statement.{statement}
 use Rattle.ber.proofs.integer.spare.Tie as tie
 

@@ -4,7 +4,7 @@ use mathlib.Core.List.{_++_}
 use mathlib.Core.Path.{_∙_}
 use denote.Ref.{now}
 use Rattle.ber.specs.Codes.{codeOctets}
-use Rattle.ber.specs.Length.{lengthOctets}
+use Rattle.x690.specs.Length.{lengthOctets}
 use Rattle.ber.proofs.Headers.{room, no-room, put-nothing, put-behind}
 use borrow.Author.Needs.{needs}
 use Rattle.ber.proofs.item.put_header.Statement.{statement}

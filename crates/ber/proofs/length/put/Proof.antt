@@ -4,7 +4,7 @@ use native.Mathlib.Omega.{arith}
 use Prim.Native.Nat.{_+_, _≤_}
 use lib.ListN.{length, length-set}
 use denote.Ref.{now}
-use Rattle.ber.specs.Length.{lengthOctets}
+use Rattle.x690.specs.Length.{lengthOctets}
 use Rattle.ber.proofs.Headers.{length-one, length-two, length-three, room, no-room, put-nothing, put-one, put-two, put-three}
 use borrow.Author.Needs.{needs}
 use Rattle.ber.proofs.length.put.Statement.{statement}

@@ -4,8 +4,8 @@ use mathlib.Core.Path.{refl, _∙_}
 use native.Mathlib.Omega.{arith}
 use denote.Ref.{now}
 use lib.ListN.{getD, drop}
-use Rattle.ber.specs.Integer.{eight}
-use Rattle.ber.proofs.BitString.{length-masked}
+use Rattle.x690.specs.Integer.{eight}
+use Rattle.x690.proofs.BitString.{length-masked}
 use Rattle.reader.specs.Leaves.{leafOf}
 use Rattle.reader.proofs.LeafKinds.{boolean-octets, integer-octets, bits-octets, string-octets, null-octets, enumerated-octets, leaf-three}
 use Rattle.reader.proofs.LeafKinds.{lawful-boolean, lawful-integer, lawful-bits, lawful-enumerated, leaf-room, leaf-placed}

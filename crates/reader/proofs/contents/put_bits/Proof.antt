@@ -6,8 +6,8 @@ use native.Mathlib.Omega.{arith}
 use denote.Ref.{now}
 use lib.ListN.{length, getD, drop}
 use lib.Seq.{length-sets}
-use Rattle.ber.specs.BitString.{masked}
-use Rattle.ber.proofs.BitString.{length-masked}
+use Rattle.x690.specs.BitString.{masked}
+use Rattle.x690.proofs.BitString.{length-masked}
 use Rattle.reader.proofs.LeafStores.{from-is, number-filled}
 use borrow.Author.Needs.{needs}
 use Rattle.reader.proofs.contents.put_bits.Statement.{statement}

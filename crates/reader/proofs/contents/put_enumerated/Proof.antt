@@ -7,7 +7,7 @@ use lib.IntN.{pos}
 use mir.Syntax.{w64}
 use mir.Facts.{toZ-ofZ}
 use mir.Val.{toZ, ofZ}
-use Rattle.ber.specs.Integer.{integerOf}
+use Rattle.x690.specs.Integer.{integerOf}
 use Rattle.coding.specs.Reading.{natural}
 use Rattle.reader.proofs.LeafStores.{integer-is}
 use borrow.Author.Needs.{needs}

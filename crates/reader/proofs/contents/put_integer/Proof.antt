@@ -4,8 +4,8 @@ use mathlib.Core.Path.{refl, sym}
 use denote.Ref.{now}
 use mir.Syntax.{w64}
 use mir.Facts.{toZ-ofZ}
-use Rattle.ber.specs.Integer.{eightOf, integerOf}
-use Rattle.ber.proofs.Integers.{eight-length}
+use Rattle.x690.specs.Integer.{eightOf, integerOf}
+use Rattle.x690.proofs.Integers.{eight-length}
 use Rattle.reader.proofs.LeafStores.{part-filled, integer-is}
 use borrow.Author.Needs.{needs}
 use Rattle.reader.proofs.contents.put_integer.Statement.{statement}

@@ -6,7 +6,7 @@ use lib.IntN.{ℤ}
 use lib.ListN.{length}
 use mir.Syntax.{w64}
 use mir.ValLaws.{toZ-pos}
-use Rattle.ber.specs.Integer.{fewestOf}
+use Rattle.x690.specs.Integer.{fewestOf}
 use borrow.Author.Needs.{needs}
 use Rattle.writer.proofs.contents.number_size.Statement.{statement}
 use Rattle.writer.proofs.contents.number_size.Tie as tie

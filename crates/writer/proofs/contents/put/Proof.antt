@@ -7,7 +7,7 @@ use denote.Ref.{now}
 use lib.ListN.{length, set, length-set}
 use mir.Syntax.{w64}
 use mir.ValLaws.{toZ-ofZ, toZ-pos}
-use Rattle.ber.specs.Integer.{fewestOf}
+use Rattle.x690.specs.Integer.{fewestOf}
 use Rattle.writer.proofs.Leaves.{boolean-there, boolean-size, boolean-end, encode-true, encode-false, integer-there, integer-end, encode-integer}
 use Rattle.writer.proofs.Leaves.{bits-there, bits-one, bits-within, bits-end, bits-put, string-within, string-end, string-put, null-end, null-put}
 use Rattle.writer.proofs.Leaves.{number-there, number-end, encode-number}

@@ -17,7 +17,7 @@ use Rattle.octets.specs.Buffers.{filled}
 use Rattle.octets.specs.Lists.{lowestFrom}
 use Rattle.octets.specs.Permutations.{AllOctets, every-cons}
 use Rattle.octets.proofs.Search.{upto}
-use Rattle.ber.specs.BitString.{unused, masked}
+use Rattle.x690.specs.BitString.{unused, masked}
 
 -- the unused bits of what is read are 0
 pub masked-clear : (n x : ℕ) (c : List ℕ) → getD (masked n (x ∷ c)) (length c) 0 % 2 ^ n ≡ 0

@@ -14,11 +14,11 @@ use Rattle.octets.specs.Lists.{same}
 use Rattle.octets.proofs.Answer.{Holds, yields, refuses, if-holds, then-holds, map-holds, behind-holds, run, Reads}
 use Rattle.octets.proofs.Permutations.{every-left, every-right}
 use Rattle.octets.proofs.Lists.{same-refl, same-true}
-use Rattle.ber.specs.Reading.{readIdentifier, Size, definite, indefinite, readLength, Mode, closed, open-ended, atEnd, readHeader, inside, readConstructed, contents, readPrimitive}
-use Rattle.ber.specs.Length.{Length, lengthOctets}
-use Rattle.ber.specs.Item.{Definite, sized, Constructed, in-size, in-marks, item}
-use Rattle.ber.proofs.Identifiers.{identifier-sound}
-use Rattle.ber.proofs.Lengths.{length-complete, length-sound, length-octets, Shape, is-definite, is-indefinite}
+use Rattle.x690.specs.Reading.{readIdentifier, Size, definite, indefinite, readLength, Mode, closed, open-ended, atEnd, readHeader, inside, readConstructed, contents, readPrimitive}
+use Rattle.x690.specs.Length.{Length, lengthOctets}
+use Rattle.x690.specs.Item.{Definite, sized, Constructed, in-size, in-marks, item}
+use Rattle.x690.proofs.Identifiers.{identifier-sound}
+use Rattle.x690.proofs.Lengths.{length-complete, length-sound, length-octets, Shape, is-definite, is-indefinite}
 
 -- behind contents stands `tail`: the contents end there, and r follows
 pub data Ends : Mode → List ℕ → List ℕ → Type 0 where

@@ -11,8 +11,8 @@ use lib.ListN.{length, getD}
 use lib.Seq.{append-snoc}
 use Rattle.octets.specs.Answer.{got}
 use Rattle.octets.proofs.Answer.{Holds, yields, refuses, if-holds, then-holds, map-holds, if-cases, run}
-use Rattle.ber.specs.Identifier.{bit, leading, following, identifier}
-use Rattle.ber.specs.Reading.{readFollowing, readIdentifier}
+use Rattle.x690.specs.Identifier.{bit, leading, following, identifier}
+use Rattle.x690.specs.Reading.{readFollowing, readIdentifier}
 
 following-sound : (l : ℕ) (ds s : List ℕ) → Holds (λ xs r. ds ++ s ≡ xs ++ r) (readFollowing l ds s)
 unfolding readFollowing

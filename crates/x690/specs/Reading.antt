@@ -8,7 +8,7 @@ use lib.Dec.{ltb, eqb, leb}
 use lib.ListN.{length, getD, take, drop}
 use Rattle.octets.specs.declared.cause.Cause.the-variants.{Cut, Forbidden, NotAwaited}
 use Rattle.octets.specs.Answer.{Answer, got, refused, then, if, behind, none-left}
-use Rattle.ber.specs.Length.{number}
+use Rattle.x690.specs.Length.{number}
 use Rattle.octets.specs.Lists.{same}
 
 -- the octets up to and with the first below 128, after those in hand; l octets are left where the item begins

@@ -4,7 +4,7 @@ use mathlib.Core.List.{List, [], _∷_, _++_}
 use mathlib.Core.Path.{_≡_}
 use Prim.Native.Nat.{ℕ, _-_}
 use lib.ListN.{length}
-use Rattle.ber.specs.Length.{Length, lengthOctets}
+use Rattle.x690.specs.Length.{Length, lengthOctets}
 
 -- 8.1.3.3: m is a definite item with the identifier octets i and the contents c. A primitive one is always so.
 pub data Definite (i c m : List ℕ) : Type 0 where

@@ -14,8 +14,8 @@ use Rattle.octets.specs.Answer.{got}
 use Rattle.octets.specs.Permutations.{AllOctets, every-cons}
 use Rattle.octets.proofs.Answer.{Holds, yields, refuses, if-holds, if-cases, run}
 use Rattle.octets.proofs.Permutations.{every-right}
-use Rattle.ber.specs.Length.{number, Length, short, long, digits, lengthOctets}
-use Rattle.ber.specs.Reading.{Size, definite, indefinite, fit, readLong, readLength}
+use Rattle.x690.specs.Length.{number, Length, short, long, digits, lengthOctets}
+use Rattle.x690.specs.Reading.{Size, definite, indefinite, fit, readLong, readLength}
 
 -- what a reader of length octets took from s
 pub data Shape (s : List ℕ) : Size → List ℕ → Type 0 where

@@ -1,0 +1,8 @@
+-- X.690 with no table: identifier octets, length octets, items, contents of integers and bit strings; and how items are read.
+-- Assumes nothing.
+pub mod Identifier
+pub mod Length
+pub mod Item
+pub mod Integer
+pub mod BitString
+pub mod Reading
