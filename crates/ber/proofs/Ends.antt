@@ -78,9 +78,9 @@ module _ {A : Type 0} (f : List ℕ → Answer A) (x : Unit {0} → Answer A) (m
       rw (← ends-closed m at k) (rw (none-at m at k, none-at m (length m) (omega arith)), (λ h. h), omega arith))
       λ t. let k : at < length m = leb-false (length m) at t in rw (← ends-not m at k) (rw (some-at m at k), k)
 
-  tells-marked : Tells true (endOf true (length m) (drop at m))
+  tells-indefinite : Tells true (endOf true (length m) (drop at m))
   unfolding atEnd if none-left
-  tells-marked =
+  tells-indefinite =
       test (leb (length m) at) (λ t. let k = leb-true (length m) at t in rw (← ends-none m at k) (rw (none-at m at k)))
       λ t. let k : at < length m = leb-false (length m) at t in
       test (eqb (getD m at 0) 0)
@@ -100,7 +100,7 @@ module _ {A : Type 0} (f : List ℕ → Answer A) (x : Unit {0} → Answer A) (m
       rw (← ends-more m at k a) (rw (some-at m at k, ne-eqb (getD m at 0) 0 a), k)
 
   tells : (k : Bool) → Tells k (endOf k (length m) (drop at m))
-  tells true = tells-marked
+  tells true = tells-indefinite
   tells false = tells-closed
 
   pub end-more : (k : Bool) (r : End) → r ≡ endOf k (length m) (drop at m) → r ≡ More → (atEnd (mode k) (drop at m) f x ≡ x tt) × (at < length m)

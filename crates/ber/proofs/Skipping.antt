@@ -14,7 +14,7 @@ use Rattle.octets.specs.Answer.{Answer, got, refused, then, if}
 use Rattle.octets.proofs.Answer.{refused≢got, got-value, got-rest}
 use Rattle.octets.proofs.Tests.{test}
 use Rattle.x690.specs.Reading.{readFollowing, readIdentifier, Size, definite, indefinite, readLength}
-use Rattle.ber.specs.Skipping.{headed, Passed, behind-all, closes, jumps, opens, Skips, sized, marked}
+use Rattle.ber.specs.Skipping.{headed, Passed, behind-all, closes, jumps, opens, Skips, sized, unsized}
 use Rattle.ber.specs.Told.{toldIdentifier, toldLength}
 use Rattle.ber.specs.declared.identifier.Identifier.{Identifier}
 use Rattle.ber.specs.declared.identifier.Identifier.the-variants.{Read, Refused as NoIdentifier}
@@ -89,13 +89,13 @@ module _ (s : List ℕ) (r : Identifier) (a : r ≡ toldIdentifier (length s) (r
     head-refused f g = behind-identifier ∙ length-refused s e (length s) x (b (length s)) f g
 
     module _ (y : Extent) (g : x ≡ ReadLength y) where
-      head-definite : y .marked ≡ false
+      head-definite : y .indefinite ≡ false
           → (headed s ≡ got (definite (y .end - y .start)) (drop (y .start) s)) × (0 < y .start) × (y .start ≤ y .end) × (y .end ≤ length s)
       head-definite h =
           let (q, l, k, u) = length-definite s e (length s) x (b (length s)) y g h in
           (behind-identifier ∙ q, omega arith, k, u)
 
-      head-indefinite : y .marked ≡ true → (headed s ≡ got indefinite (drop (y .start) s)) × (0 < y .start) × (y .start ≤ length s)
+      head-indefinite : y .indefinite ≡ true → (headed s ≡ got indefinite (drop (y .start) s)) × (0 < y .start) × (y .start ≤ length s)
       head-indefinite h =
           let (q, l, k, u) = length-indefinite s e (length s) x (b (length s)) y g h in
           (behind-identifier ∙ q, omega arith, k)
@@ -129,7 +129,7 @@ module _ (m : List ℕ) (start at k : ℕ) (o : 0 < k) (S : Stands m start at k)
       pass-refused f g w q = absurd (pass-headed (stands w q) other (head-refused (drop at m) r a c e d x b f g))
 
       module _ (y : Extent) (g : x ≡ ReadLength y) (in-m : at ≤ length m) where
-        pub pass-sized : y .marked ≡ false → (at < at + y .end) × (at + y .end ≤ length m) × Stands m start (at + y .end) k
+        pub pass-sized : y .indefinite ≡ false → (at < at + y .end) × (at + y .end ≤ length m) × Stands m start (at + y .end) k
         pass-sized h =
             let (p, l, u, v) = head-definite (drop at m) r a c e d x b y g h in
             let n : suc (k - 1) ≡ k = omega arith in
@@ -140,7 +140,7 @@ module _ (m : List ℕ) (start at k : ℕ) (o : 0 < k) (S : Stands m start at k)
                   rw (drop-drop (y .end) at m) at (rw (n, drop-drop (y .end - y .start) (y .start) (drop at m), j) at (pass-jump (stands w q) other p)),
             )
 
-        pub pass-opened : y .marked ≡ true → (at < at + y .start) × (at + y .start ≤ length m) × Stands m start (at + y .start) (k + 1)
+        pub pass-opened : y .indefinite ≡ true → (at < at + y .start) × (at + y .start ≤ length m) × Stands m start (at + y .start) (k + 1)
         pass-opened h =
             let (p, l, u) = head-indefinite (drop at m) r a c e d x b y g h in
             let n : suc (suc (k - 1)) ≡ k + 1 = omega arith in
@@ -156,17 +156,17 @@ pass-end m start at k S z w p = let e : k ≡ 0 = omega arith in over (rw e at (
 module _ (m : List ℕ) (from : ℕ) (x : Length) (b : (l : ℕ) → x ≡ toldLength (length m) (readLength l (drop from m))) where
   pub skip-none : (f : Cause) → x ≡ NoLength f → (w : List ℕ) → Skips m from w → drop (length m) m ≡ w
   skip-none f d w (sized l n r e) = refused≢got (sym (length-refused m from l x (b l) f d) ∙ e)
-  skip-none f d w (marked l e p) = refused≢got (sym (length-refused m from l x (b l) f d) ∙ e)
+  skip-none f d w (unsized l e p) = refused≢got (sym (length-refused m from l x (b l) f d) ∙ e)
 
   module _ (y : Extent) (g : x ≡ ReadLength y) where
-    pub skip-sized : y .marked ≡ false → (w : List ℕ) → Skips m from w → drop (y .end) m ≡ w
+    pub skip-sized : y .indefinite ≡ false → (w : List ℕ) → Skips m from w → drop (y .end) m ≡ w
     skip-sized h w (sized l n r e) =
         let (q, low, k, u) = length-definite m from l x (b l) y g h in
         let j : y .start + (y .end - y .start) ≡ y .end = omega arith in
         sym (rw j at (drop-drop (y .end - y .start) (y .start) m)) ∙ same-rest q e
-    skip-sized h w (marked l e p) = let (q, low, k, u) = length-definite m from l x (b l) y g h in absurd (not-both q e)
+    skip-sized h w (unsized l e p) = let (q, low, k, u) = length-definite m from l x (b l) y g h in absurd (not-both q e)
 
-    pub skip-marked : y .marked ≡ true → (end : ℕ) → ((w : List ℕ) → Passed 1 (drop (y .start) m) w → drop end m ≡ w)
+    pub skip-indefinite : y .indefinite ≡ true → (end : ℕ) → ((w : List ℕ) → Passed 1 (drop (y .start) m) w → drop end m ≡ w)
         → (w : List ℕ) → Skips m from w → drop end m ≡ w
-    skip-marked h end f w (sized l n r e) = let (q, low, k, u) = length-indefinite m from l x (b l) y g h in absurd (not-both e q)
-    skip-marked h end f w (marked l e p) = let (q, low, k, u) = length-indefinite m from l x (b l) y g h in f w (rw (got-rest (sym e ∙ q)) at p)
+    skip-indefinite h end f w (sized l n r e) = let (q, low, k, u) = length-indefinite m from l x (b l) y g h in absurd (not-both e q)
+    skip-indefinite h end f w (unsized l e p) = let (q, low, k, u) = length-indefinite m from l x (b l) y g h in f w (rw (got-rest (sym e ∙ q)) at p)

@@ -15,7 +15,7 @@ use Rattle.octets.specs.Answer.{Answer, got, refused, then, if}
 use Rattle.octets.proofs.Answer.{got-holds, if-cases}
 use Rattle.octets.proofs.Lists.{behind, length-behind}
 use Rattle.ber.specs.Codes.{spelled, codeOf}
-use Rattle.x690.specs.Length.{number, Length as Octets, short, long}
+use Rattle.x690.specs.Length.{unsigned, Length as Octets, short, long}
 use Rattle.x690.specs.Reading.{readFollowing, readIdentifier, Size, definite, indefinite, readLength, readLong, fit}
 use Rattle.ber.specs.Told.{toldIdentifier, toldLength, Again}
 use Rattle.ber.specs.declared.identifier.Identifier.{Identifier}
@@ -118,15 +118,15 @@ module _ (i n : ℕ) where
       )
 
 -- lengths
-number-least : (n : ℕ) (l : List ℕ) → n ≤ number n l
-unfolding number
-number-least n [] = omega arith
-number-least n (d ∷ l) = let h = number-least (n * 256 + d) l in omega arith
+unsigned-least : (n : ℕ) (l : List ℕ) → n ≤ unsigned n l
+unfolding unsigned
+unsigned-least n [] = omega arith
+unsigned-least n (d ∷ l) = let h = unsigned-least (n * 256 + d) l in omega arith
 
-number-more : (n : ℕ) (l : List ℕ) → 0 < length l → n * 256 ≤ number n l
-unfolding number
-number-more n [] h = absurd (omega arith)
-number-more n (d ∷ l) h = let k = number-least (n * 256 + d) l in omega arith
+unsigned-more : (n : ℕ) (l : List ℕ) → 0 < length l → n * 256 ≤ unsigned n l
+unfolding unsigned
+unsigned-more n [] h = absurd (omega arith)
+unsigned-more n (d ∷ l) h = let k = unsigned-least (n * 256 + d) l in omega arith
 
 -- length octets are at a place of m, as the code answers
 abbrev Here : List ℕ → ℕ → Length → Type 0
@@ -138,7 +138,7 @@ module _ (m : List ℕ) (at : ℕ) where
   length-none k l = rw (none-at m at k)
 
   pub length-short : at < length m → getD m at 0 < 128 → at + 1 + getD m at 0 ≤ length m
-      → Here m at (ReadLength (record { start = at + 1; end = at + 1 + getD m at 0; marked = false }))
+      → Here m at (ReadLength (record { start = at + 1; end = at + 1 + getD m at 0; indefinite = false }))
   unfolding toldLength readLength fit if
   length-short h l f p =
       let g : getD m at 0 ≤ length (drop (at + 1) m) = rw length-drop (omega arith) in
@@ -152,11 +152,11 @@ module _ (m : List ℕ) (at : ℕ) where
 
 -- the k octets of a number, of which i are read and spell n
 abbrev pub Digits : List ℕ → ℕ → ℕ → ℕ → ℕ → Type 0
-Digits m at k n i = number 0 (take k (drop at m)) ≡ number n (drop i (take k (drop at m)))
+Digits m at k n i = unsigned 0 (take k (drop at m)) ≡ unsigned n (drop i (take k (drop at m)))
 
 -- behind a first octet of another form
 module _ (m : List ℕ) (at : ℕ) (some : 0 < at) (there : at ≤ length m) where
-  pub length-open : getD m (at - 1) 0 ≡ 128 → Here m (at - 1) (ReadLength (record { start = at; end = length m; marked = true }))
+  pub length-open : getD m (at - 1) 0 ≡ 128 → Here m (at - 1) (ReadLength (record { start = at; end = length m; indefinite = true }))
   unfolding toldLength readLength if
   length-open e p = rw (from-before m at some there, e, left-at m at there)
 
@@ -185,7 +185,7 @@ module _ (m : List ℕ) (at : ℕ) (some : 0 < at) (there : at ≤ length m) whe
         rw (long-form l, lt-leb k (length (drop at m)) g)
 
     module _ (f : k ≤ length m - at) where
-      whole-form : (l : ℕ) → readLength l (drop (at - 1) m) ≡ fit l (number 0 (take k (drop at m))) (drop k (drop at m))
+      whole-form : (l : ℕ) → readLength l (drop (at - 1) m) ≡ fit l (unsigned 0 (take k (drop at m))) (drop k (drop at m))
       unfolding readLong if
       whole-form l =
           let g : k ≤ length (drop at m) = rw length-drop f in
@@ -195,35 +195,35 @@ module _ (m : List ℕ) (at : ℕ) (some : 0 < at) (there : at ≤ length m) whe
       behind-long = length-drop k (drop at m) ∙ rw (length-drop at m)
 
       pub length-long : (n i : ℕ) → Digits m at k n i → k ≤ i → n ≤ length m - at - k
-          → Here m (at - 1) (ReadLength (record { start = at + k; end = at + k + n; marked = false }))
-      unfolding toldLength fit if number
+          → Here m (at - 1) (ReadLength (record { start = at + k; end = at + k + n; indefinite = false }))
+      unfolding toldLength fit if unsigned
       length-long n i d e g l =
           let t : length (take k (drop at m)) ≤ i = simp length-take (omega arith) in
-          let q : number 0 (take k (drop at m)) ≡ n = d ∙ ap (number n) (drop-of-length-le (take k (drop at m)) t) in
+          let q : unsigned 0 (take k (drop at m)) ≡ n = d ∙ ap (unsigned n) (drop-of-length-le (take k (drop at m)) t) in
           let w : length m - (length m - at - k) ≡ at + k = omega arith in
           rw (whole-form l, q, behind-long, le-leb n (length m - at - k) g, behind-long, w)
 
-      long-no : length m - at - k < number 0 (take k (drop at m)) → Here m (at - 1) (NoLength Cut)
+      long-no : length m - at - k < unsigned 0 (take k (drop at m)) → Here m (at - 1) (NoLength Cut)
       unfolding toldLength fit if
       long-no w l = rw (whole-form l, behind-long, lt-leb _ _ w)
 
       pub length-long-no : (n i : ℕ) → Digits m at k n i → length m - at - k < n → Here m (at - 1) (NoLength Cut)
-      length-long-no n i d g = let b = number-least n (drop i (take k (drop at m))) in long-no (omega arith)
+      length-long-no n i d g = let b = unsigned-least n (drop i (take k (drop at m))) in long-no (omega arith)
 
       -- an octet more makes it too large
       pub length-long-over : (n i : ℕ) → Digits m at k n i → i < k → (length m - at) / 256 < n → Here m (at - 1) (NoLength Cut)
       length-long-over n i d j g =
           let t : 0 < length (drop i (take k (drop at m))) = simp (length-drop, length-take) (omega arith) in
-          let b = number-more n (drop i (take k (drop at m))) t in
+          let b = unsigned-more n (drop i (take k (drop at m))) t in
           long-no (omega arith)
 
       pub one-digit : (n i : ℕ) → i < k → Digits m at k n i → Digits m at k (n * 256 + getD m (at + i) 0) (i + 1)
-      unfolding number
+      unfolding unsigned
       one-digit n i j d =
           let t : i < length (take k (drop at m)) = simp (length-take, length-drop) (omega arith) in
           let e : getD (take k (drop at m)) i 0 ≡ getD m (at + i) 0 = getD-take k (drop at m) i 0 j ∙ getD-drop at m i 0 in
           let q : i + 1 ≡ suc i = omega arith in
-          d ∙ ap (number n) (drop-cons (take k (drop at m)) i 0 t) ∙ rw (e, q)
+          d ∙ ap (unsigned n) (drop-cons (take k (drop at m)) i 0 t) ∙ rw (e, q)
 
 -- the place of a refusal is where l octets are left
 abbrev Faulty : {A : Type 0} → ℕ → Answer A → Type 0
@@ -302,25 +302,25 @@ module _ (m : List ℕ) (r : Identifier) (a : r ≡ toldIdentifier (length m) (r
 
 -- what an answer says of a length
 module _ (n : ℕ) (e : Extent) where
-  says-definite : (x : Answer Size) → ReadLength e ≡ toldLength n x → e .marked ≡ false
+  says-definite : (x : Answer Size) → ReadLength e ≡ toldLength n x → e .indefinite ≡ false
       → (k : ℕ) × (w : List ℕ) × (x ≡ got (definite k) w) × (e .start ≡ n - length w) × (e .end ≡ n - length w + k)
   unfolding toldLength
   says-definite (got (definite k) w) p q =
-      let h : e ≡ record { start = n - length w; end = n - length w + k; marked = false } = cc in
+      let h : e ≡ record { start = n - length w; end = n - length w + k; indefinite = false } = cc in
       (k, w, refl, ap (λ (x : Extent). x .start) h, ap (λ (x : Extent). x .end) h)
   says-definite (got indefinite w) p q =
-      let h : e ≡ record { start = n - length w; end = n; marked = true } = cc in
-      absurd (true≢false (sym (ap (λ (x : Extent). x .marked) h) ∙ q))
+      let h : e ≡ record { start = n - length w; end = n; indefinite = true } = cc in
+      absurd (true≢false (sym (ap (λ (x : Extent). x .indefinite) h) ∙ q))
   says-definite (refused c l) p q = let z : _≡_ {A = ℕ} 0 1 = cc in absurd (omega arith)
 
-  says-open : (x : Answer Size) → ReadLength e ≡ toldLength n x → e .marked ≡ true
+  says-open : (x : Answer Size) → ReadLength e ≡ toldLength n x → e .indefinite ≡ true
       → (w : List ℕ) × (x ≡ got indefinite w) × (e .start ≡ n - length w) × (e .end ≡ n)
   unfolding toldLength
   says-open (got (definite k) w) p q =
-      let h : e ≡ record { start = n - length w; end = n - length w + k; marked = false } = cc in
-      absurd (false≢true (sym (ap (λ (x : Extent). x .marked) h) ∙ q))
+      let h : e ≡ record { start = n - length w; end = n - length w + k; indefinite = false } = cc in
+      absurd (false≢true (sym (ap (λ (x : Extent). x .indefinite) h) ∙ q))
   says-open (got indefinite w) p q =
-      let h : e ≡ record { start = n - length w; end = n; marked = true } = cc in
+      let h : e ≡ record { start = n - length w; end = n; indefinite = true } = cc in
       (w, refl, ap (λ (x : Extent). x .start) h, ap (λ (x : Extent). x .end) h)
   says-open (refused c l) p q = let z : _≡_ {A = ℕ} 0 1 = cc in absurd (omega arith)
 
@@ -353,7 +353,7 @@ module _ (m : List ℕ) (at l : ℕ) where
 
   module _ (r : Length) (a : r ≡ toldLength (length m) (readLength l (drop at m))) where
     module _ (e : Extent) (d : r ≡ ReadLength e) where
-      pub length-definite : e .marked ≡ false
+      pub length-definite : e .indefinite ≡ false
           → (readLength l (drop at m) ≡ got (definite (e .end - e .start)) (drop (e .start) m)) × (at < e .start) × (e .start ≤ e .end) × (e .end ≤ length m)
       length-definite q =
           let (k, w, x, s, t) = says-definite (length m) e (readLength l (drop at m)) (sym d ∙ a) q in
@@ -364,7 +364,7 @@ module _ (m : List ℕ) (at l : ℕ) where
           let ew : w ≡ drop (e .start) m = y ∙ ap (λ (j : ℕ). drop j m) (sym es) in
           (x ∙ rw (ek, ew), omega arith, omega arith, omega arith)
 
-      pub length-indefinite : e .marked ≡ true
+      pub length-indefinite : e .indefinite ≡ true
           → (readLength l (drop at m) ≡ got indefinite (drop (e .start) m)) × (at < e .start) × (e .start ≤ length m) × (e .end ≡ length m)
       length-indefinite q =
           let (w, x, s, t) = says-open (length m) e (readLength l (drop at m)) (sym d ∙ a) q in
@@ -403,10 +403,10 @@ module _ (m : List ℕ) (at l : ℕ) where
   again-none e h = rw (none-at m at h) tt
 
   pub again-short : at < length m → getD m at 0 < 128
-      → Again (length m) (readLength l (drop at m)) (record { start = at + 1; end = at + 1 + getD m at 0; marked = false })
+      → Again (length m) (readLength l (drop at m)) (record { start = at + 1; end = at + 1 + getD m at 0; indefinite = false })
   unfolding Again readLength fit if toldLength
   again-short h k =
-      let e : Extent = record { start = at + 1; end = at + 1 + getD m at 0; marked = false } in
+      let e : Extent = record { start = at + 1; end = at + 1 + getD m at 0; indefinite = false } in
       rw (some-at m at h, lt-ltb (getD m at 0) 128 k)
       (if-cases (λ (y : Answer Size). Again (length m) y e) (leb (getD m at 0) (length (drop (at + 1) m))) _ _
       (λ t. rw (left-at m (at + 1) (omega arith))) λ t. tt)

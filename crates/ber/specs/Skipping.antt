@@ -21,4 +21,4 @@ pub data Passed : ℕ → List ℕ → List ℕ → Type 0 where
 -- an item whose identifier ends at a place of m is passed over, and w is left
 pub data Skips (m : List ℕ) (from : ℕ) : List ℕ → Type 0 where
   sized : (l n : ℕ) (r : List ℕ) → readLength l (drop from m) ≡ got (definite n) r → Skips m from (drop n r)
-  marked : (l : ℕ) {r w : List ℕ} → readLength l (drop from m) ≡ got indefinite r → Passed 1 r w → Skips m from w
+  unsized : (l : ℕ) {r w : List ℕ} → readLength l (drop from m) ≡ got indefinite r → Passed 1 r w → Skips m from w

@@ -27,8 +27,8 @@ toldIdentifier n (refused c l) = NoIdentifier c
 
 -- indefinite contents may go to the end of what was lent
 unfoldable pub toldLength : ℕ → Answer Size → Length
-toldLength n (got (definite k) s) = ReadLength (record { start = n - length s; end = n - length s + k; marked = false })
-toldLength n (got indefinite s) = ReadLength (record { start = n - length s; end = n; marked = true })
+toldLength n (got (definite k) s) = ReadLength (record { start = n - length s; end = n - length s + k; indefinite = false })
+toldLength n (got indefinite s) = ReadLength (record { start = n - length s; end = n; indefinite = true })
 toldLength n (refused c l) = NoLength c
 
 abbrev pub mode : Bool → Mode

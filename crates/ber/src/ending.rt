@@ -15,7 +15,7 @@ pub enum End {
 }
 
 // Whether contents that 00 00 closes are over at a place of m.
-fn marked_end(m: &[u8], at: usize) -> End
+fn indefinite_end(m: &[u8], at: usize) -> End
     ensures { λ r. ⌜ r ≡ endOf true (length (now (m .entry))) (drop at (now (m .entry))) ⌝ }
 {
     if m.len() <= at {
@@ -37,12 +37,12 @@ fn marked_end(m: &[u8], at: usize) -> End
     End::Over { end }
 }
 
-// Whether contents are over at a place of m; 00 00 closes them if `marked`.
-pub fn read(m: &[u8], at: usize, marked: bool) -> End
-    ensures { λ r. ⌜ r ≡ endOf marked (length (now (m .entry))) (drop at (now (m .entry))) ⌝ }
+// Whether contents are over at a place of m; 00 00 closes them if `indefinite`.
+pub fn read(m: &[u8], at: usize, indefinite: bool) -> End
+    ensures { λ r. ⌜ r ≡ endOf indefinite (length (now (m .entry))) (drop at (now (m .entry))) ⌝ }
 {
-    if marked {
-        return marked_end(m, at);
+    if indefinite {
+        return indefinite_end(m, at);
     }
     if m.len() <= at {
         return End::Over { end: m.len() };
@@ -51,13 +51,13 @@ pub fn read(m: &[u8], at: usize, marked: bool) -> End
 }
 
 // Whether contents that were read before are over at a place of m, to which they were read.
-pub fn is_over(m: &[u8], at: usize, marked: bool) -> bool
-    ensures { λ r. ⌜ r ≡ (none-left (drop at (now (m .entry))) || (marked && eqb (getD (now (m .entry)) at 0) 0)) ⌝ }
+pub fn is_over(m: &[u8], at: usize, indefinite: bool) -> bool
+    ensures { λ r. ⌜ r ≡ (none-left (drop at (now (m .entry))) || (indefinite && eqb (getD (now (m .entry)) at 0) 0)) ⌝ }
 {
     if m.len() <= at {
         return true;
     }
-    if !marked {
+    if !indefinite {
         return false;
     }
     m[at] == 0

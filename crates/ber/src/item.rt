@@ -43,7 +43,7 @@ fn open_end(m: &[u8], start: usize) -> usize
                         return m.len();
                     }
                     Length::Read(x) => {
-                        if x.marked {
+                        if x.indefinite {
                             at += x.start;
                             open += 1;
                         } else {
@@ -69,7 +69,7 @@ pub fn end(m: &[u8], from: usize) -> usize
     match length::read(m, from) {
         Length::Refused { cause: _ } => m.len(),
         Length::Read(x) => {
-            if x.marked {
+            if x.indefinite {
                 return open_end(m, x.start);
             }
             x.end

@@ -14,7 +14,7 @@ use octets::holds;
 pub struct Extent {
     pub start: usize,
     pub end: usize,
-    pub marked: bool,
+    pub indefinite: bool,
 }
 
 pub enum Length {
@@ -49,7 +49,7 @@ fn read_long(m: &[u8], at: usize, k: usize) -> Length
     Length::Read(Extent {
         start,
         end,
-        marked: false,
+        indefinite: false,
     })
 }
 
@@ -62,7 +62,7 @@ fn read_other(m: &[u8], at: usize, first: usize) -> Length
         return Length::Read(Extent {
             start: at,
             end: m.len(),
-            marked: true,
+            indefinite: true,
         });
     }
     if first == 255 {
@@ -90,7 +90,7 @@ pub fn read(m: &[u8], at: usize) -> Length
         return Length::Read(Extent {
             start,
             end,
-            marked: false,
+            indefinite: false,
         });
     }
     read_other(m, start, first)
@@ -103,7 +103,7 @@ pub fn again(m: &[u8], at: usize) -> Extent
     let none = Extent {
         start: 0,
         end: 0,
-        marked: false,
+        indefinite: false,
     };
     if m.len() <= at {
         return none;
@@ -115,7 +115,7 @@ pub fn again(m: &[u8], at: usize) -> Extent
         return Extent {
             start,
             end,
-            marked: false,
+            indefinite: false,
         };
     }
     match read_other(m, start, first) {

@@ -43,7 +43,7 @@ module _ (v : List ℕ) (m : ℕ) (size : length v ≡ 129) where
     walked-one {k} h = walked-low (λ a i. let e : a ≡ k = in-one i in rw e h)
 
   pub met-low : {T : Table} {k : ℕ} → Met T (getD (set v 128 m) 128 0) (set v 128 m) k → Met T m (take 128 v) k
-  met-low x = record { node = x .node; hit = x .hit; marked = λ z. x .marked (same ∙ z); other = λ z. x .other (same ∙ z ∙ sym behind) }
+  met-low x = record { node = x .node; hit = x .hit; some = λ z. x .some (same ∙ z); other = λ z. x .other (same ∙ z ∙ sym behind) }
     where
       q : ℕ
       q = x .node
@@ -54,4 +54,4 @@ module _ (v : List ℕ) (m : ℕ) (size : length v ≡ 129) where
           (λ e. let l = ltb-true q 128 e in getD-set-other v 128 q m 0 (λ z. omega arith) ∙ sym (getD-take 128 v q 0 l))
           (λ e. let l = ltb-false q 128 e in test (eqb q 128)
           (λ f. absurd (x .other (rw (eqb-true q 128 f))))
-          (λ f. let g = eqb-false q 128 f in absurd (x .marked (List·getD-eq-default (set v 128 m) 0 {n = q} (rw length-set (omega arith))))))
+          (λ f. let g = eqb-false q 128 f in absurd (x .some (List·getD-eq-default (set v 128 m) 0 {n = q} (rw length-set (omega arith))))))

@@ -22,7 +22,7 @@ use Rattle.table.proofs.Loops.{every-step}
 use Rattle.table.proofs.Nodes.{like-low}
 use Rattle.checker.proofs.Rules.{near-counted, entered-below, entry-at}
 use Rattle.checker.proofs.Alike.{code-none}
-use Rattle.table.proofs.Walk.{walks-append, Kept, kept, newly, keeps, stays, marked}
+use Rattle.table.proofs.Walk.{walks-append, Kept, kept, newly, keeps, stays, one-fewer}
 
 -- no octet is left
 pub every-none : (step : ℕ) (b : List ℕ) (p n : ℕ) → n ≤ 0 → everyAt step b p n ≡ []
@@ -55,7 +55,7 @@ met-before j (newly z e a i h) n = absurd (n e)
 met-midst : {T : Table} {m : ℕ} (v : List ℕ) {ks w rest : List ℕ} {a : ℕ} → Going T m v ks w rest → Met T m w a → Met T m v a
 met-midst v x y =
     let e = met-before {v = v} (y .node) (keeps (x .walked) (y .node)) (y .other) in
-    record { node = y .node; hit = y .hit; marked = λ z. y .marked (e ∙ z); other = λ z. y .other (e ∙ z) }
+    record { node = y .node; hit = y .hit; some = λ z. y .some (e ∙ z); other = λ z. y .other (e ∙ z) }
 
 -- and one that carries it under a record that was marked carried it before
 met-down : (T : Table) (m : ℕ) (v : List ℕ) (k : ℕ) {a : ℕ} → like T k < length v → In a (below T k) → Met T m (set v (like T k) m) a → Met T m v k
@@ -64,7 +64,7 @@ met-down T m v k {a} h i y =
     test (eqb j (like T k))
     (λ q. absurd (y .other (rw (eqb-true j (like T k) q) (getD-set-same v (like T k) m 0 h))))
     (λ n. let f = getD-set-other v (like T k) j m 0 (eqb-false j (like T k) n) in
-    record { node = j; hit = under a i (y .hit); marked = λ z. y .marked (f ∙ z); other = λ z. y .other (f ∙ z) })
+    record { node = j; hit = under a i (y .hit); some = λ z. y .some (f ∙ z); other = λ z. y .other (f ∙ z) })
 
 pub going-from : {T : Table} {m : ℕ} (v : List ℕ) {ks l : List ℕ} → ks ≡ l → Going T m v ks v l
 going-from v {ks} {l} e = record { past = []; whole = e; walked = done }
@@ -92,7 +92,7 @@ module _ (T : Table) (m : ℕ) (v : List ℕ) (k q : ℕ) (e : q ≡ like T k) w
 
   pub gathered-met : (getD v q 0 ≡ 0 → ⊥) → (getD v q 0 ≡ m → ⊥) → Gathered T m v k true v
   gathered-met n o =
-      record { met = λ _. record { node = q; hit = at e; marked = n; other = o }; walked = λ z. absurd (true≢false z); fewer = omega arith }
+      record { met = λ _. record { node = q; hit = at e; some = n; other = o }; walked = λ z. absurd (true≢false z); fewer = omega arith }
 
   module _ (l : q < length v) (f : getD v q 0 ≡ 0) (g : m ≡ 0 → ⊥) where
     -- with tags nothing stands below
@@ -101,7 +101,7 @@ module _ (T : Table) (m : ℕ) (v : List ℕ) (k q : ℕ) (e : q ≡ like T k) w
         record {
           met = λ z. absurd (false≢true z);
           walked = λ _. down {v = v} {u = set v q m} (rw e at l) (rw e at f) (rw (b, e) done) done;
-          fewer = omega (arith, marked v q m l f g);
+          fewer = omega (arith, one-fewer v q m l f g);
         }
 
     pub gathered-under : {w : List ℕ} {r : Bool} → GatheredUnder T m (set v q m) k r w → Gathered T m v k r w
@@ -109,7 +109,7 @@ module _ (T : Table) (m : ℕ) (v : List ℕ) (k q : ℕ) (e : q ≡ like T k) w
         record {
           met = λ z. let (a, i, y) = x .met z in met-down T m v k (rw e at l) i (rw e at y);
           walked = λ z. down (rw e at l) (rw e at f) (rw e at (x .walked z)) done;
-          fewer = omega (arith, marked v q m l f g, x .fewer);
+          fewer = omega (arith, one-fewer v q m l f g, x .fewer);
         }
 
 -- the two ways out of `gather_under`
@@ -150,7 +150,7 @@ module _ {b index nodes v : List ℕ} {t : ℕ} (x : Gathers b index nodes v t) 
   put = set v (getD nodes t 0) (getD v 128 0)
 
   pub put-fewer : getD v (getD nodes t 0) 0 ≡ 0 → (getD v 128 0 ≡ 0 → ⊥) → free put < free v
-  put-fewer e z = omega (arith, marked v (getD nodes t 0) (getD v 128 0) stand-in-within e z)
+  put-fewer e z = omega (arith, one-fewer v (getD nodes t 0) (getD v 128 0) stand-in-within e z)
 
   pub put-mark : getD put 128 0 ≡ getD v 128 0
   put-mark = getD-set-other v (getD nodes t 0) 128 (getD v 128 0) 0 (λ z. omega (arith, stand-in-small, z))

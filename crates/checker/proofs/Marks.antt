@@ -19,13 +19,13 @@ use Rattle.table.specs.Rules.{Finite}
 use Rattle.table.specs.Reading.{membersAt}
 use Rattle.table.specs.Decide.{found, finiteBody, finiteStep, infinite}
 use Rattle.table.specs.Walk.{free}
-use Rattle.checker.specs.Marks.{isMarked, Raised, same, one-more, Closed, Looked}
+use Rattle.checker.specs.Marks.{isFlagged, Raised, same, one-more, Closed, Looked}
 use Rattle.table.proofs.Loops.{lowest-same}
 use Rattle.table.proofs.Decided.{body-finite, closed-finite, finite-sound, finite-complete}
 
-pub marked-beyond : (v : List ℕ) (t : ℕ) → length v ≤ t → isMarked v t ≡ false
-unfolding isMarked
-marked-beyond v t h = rw (List·getD-eq-default v 0 {n = t} h)
+pub flagged-beyond : (v : List ℕ) (t : ℕ) → length v ≤ t → isFlagged v t ≡ false
+unfolding isFlagged
+flagged-beyond v t h = rw (List·getD-eq-default v 0 {n = t} h)
 
 -- each member is optional or marked
 abbrev pub present : (ℕ → Bool) → List Member → Bool
@@ -41,9 +41,9 @@ module _ (m : ℕ → Bool) (b : List ℕ) (p n : ℕ) (w : Bool) where
   unfolding all membersAt
   present-optional e h o = let q : n ≡ suc (n - 1) = omega arith in rw (q, o) at e
 
-  pub present-marked : present m (membersAt b p n) ≡ w → 0 < n → m (getD b p 0) ≡ true → present m (membersAt b (p + 2) (n - 1)) ≡ w
+  pub present-flagged : present m (membersAt b p n) ≡ w → 0 < n → m (getD b p 0) ≡ true → present m (membersAt b (p + 2) (n - 1)) ≡ w
   unfolding all membersAt
-  present-marked e h t = let q : n ≡ suc (n - 1) = omega arith in rw (q, t, or-true) at e
+  present-flagged e h t = let q : n ≡ suc (n - 1) = omega arith in rw (q, t, or-true) at e
 
   pub present-ends : present m (membersAt b p n) ≡ w → n ≤ 0 → true ≡ w
   unfolding all membersAt
@@ -56,9 +56,9 @@ one-fewer [] t h e = absurd (omega arith)
 one-fewer (x ∷ v) zero h e = rw e (omega arith)
 one-fewer (x ∷ v) (suc t) h e = omega (arith, one-fewer v t (omega arith) e)
 
-set-marks : (v : List ℕ) (t u : ℕ) → isMarked (set v t 1) u ≡ true → (u ≡ t) ⊎ (isMarked v u ≡ true)
-unfolding isMarked
-set-marks v t u e = test (eqb u t) (λ q. inl (eqb-true u t q)) λ q. inr (rw (getD-set-other v t u 1 0 (eqb-false u t q)) at e)
+set-flags : (v : List ℕ) (t u : ℕ) → isFlagged (set v t 1) u ≡ true → (u ≡ t) ⊎ (isFlagged v u ≡ true)
+unfolding isFlagged
+set-flags v t u e = test (eqb u t) (λ q. inl (eqb-true u t q)) λ q. inr (rw (getD-set-other v t u 1 0 (eqb-false u t q)) at e)
 
 -- the records from t on, below n
 abbrev pub From : ℕ → ℕ → ℕ → Type 0
@@ -86,7 +86,7 @@ module _ (T : Table) where
 
   module _ (t n : ℕ) (v w : List ℕ) (r : Bool) (a : Looked T (From t n) v r w) where
     -- the record before them has a mark, or is not found, or is marked
-    looked-past : (r ≡ false → finiteBody (isMarked v) (T (t - 1) .body) ≡ true → isMarked v (t - 1) ≡ true) → Looked T (From (t - 1) n) v r w
+    looked-past : (r ≡ false → finiteBody (isFlagged v) (T (t - 1) .body) ≡ true → isFlagged v (t - 1) ≡ true) → Looked T (From (t - 1) n) v r w
     looked-past h = record {
       raised = a .raised;
       idle = a .idle;
@@ -94,14 +94,14 @@ module _ (T : Table) where
       fewer = a .fewer;
     }
 
-    pub looked-marked : (getD w (t - 1) 0 ≡ 0 → ⊥) → Looked T (From (t - 1) n) v r w
-    unfolding isMarked
-    looked-marked h = looked-past (λ q f. rw (← a .idle q, ne-eqb (getD w (t - 1) 0) 0 h))
+    pub looked-flagged : (getD w (t - 1) 0 ≡ 0 → ⊥) → Looked T (From (t - 1) n) v r w
+    unfolding isFlagged
+    looked-flagged h = looked-past (λ q f. rw (← a .idle q, ne-eqb (getD w (t - 1) 0) 0 h))
 
-    pub looked-idle : finiteBody (isMarked w) (T (t - 1) .body) ≡ false → Looked T (From (t - 1) n) v r w
-    looked-idle h = looked-past (λ q f. not-both (finiteBody (isMarked v) (T (t - 1) .body)) f (rw (a .idle q) at h))
+    pub looked-idle : finiteBody (isFlagged w) (T (t - 1) .body) ≡ false → Looked T (From (t - 1) n) v r w
+    looked-idle h = looked-past (λ q f. not-both (finiteBody (isFlagged v) (T (t - 1) .body)) f (rw (a .idle q) at h))
 
-    pub looked-more : t - 1 < length w → getD w (t - 1) 0 ≡ 0 → finiteBody (isMarked w) (T (t - 1) .body) ≡ true
+    pub looked-more : t - 1 < length w → getD w (t - 1) 0 ≡ 0 → finiteBody (isFlagged w) (T (t - 1) .body) ≡ true
         → Looked T (From (t - 1) n) v true (set w (t - 1) 1)
     looked-more l z h = record {
       raised = raised-on (a .raised) (one-more (t - 1) h same);
@@ -117,31 +117,31 @@ module _ (T : Table) where
   looked-closed n l e = rw (l .idle e) (l .none e)
 
   -- marks that were put on one after another are on records that have a finite value
-  pub raised-finite : {v w : List ℕ} → Raised T v w → ((t : ℕ) → isMarked v t ≡ true → Finite T t) → (t : ℕ) → isMarked w t ≡ true → Finite T t
+  pub raised-finite : {v w : List ℕ} → Raised T v w → ((t : ℕ) → isFlagged v t ≡ true → Finite T t) → (t : ℕ) → isFlagged w t ≡ true → Finite T t
   raised-finite same h = h
   raised-finite (one-more {v} t e r) h =
-      raised-finite r (λ u f. ⊎-elim (λ (q : u ≡ t). rw q (body-finite T (isMarked v) h t (T t .body) refl e)) (h u) (set-marks v t u f))
+      raised-finite r (λ u f. ⊎-elim (λ (q : u ≡ t). rw q (body-finite T (isFlagged v) h t (T t .body) refl e)) (h u) (set-flags v t u f))
 
 -- marks that were put on one after another, from none
 module _ (T : Table) (n : ℕ) (beyond : (t : ℕ) → n ≤ t → T t ≡ absent) (v w : List ℕ) (zeros : (t : ℕ) → getD v t 0 ≡ 0) (raised : Raised T v w) where
-  marked-finite : (t : ℕ) → isMarked w t ≡ true → infinite T n t ≡ false
-  unfolding infinite isMarked
-  marked-finite t h =
+  flagged-finite : (t : ℕ) → isFlagged w t ≡ true → infinite T n t ≡ false
+  unfolding infinite isFlagged
+  flagged-finite t h =
       rw (finite-complete T n beyond (raised-finite T raised (λ u e. absurd (false≢true (rw (zeros u) at e))) t h))
 
-  unmarked-infinite : Closed T n w → (t : ℕ) → isMarked w t ≡ false → infinite T n t ≡ true
+  unflagged-infinite : Closed T n w → (t : ℕ) → isFlagged w t ≡ false → infinite T n t ≡ true
   unfolding infinite
-  unmarked-infinite c t h =
-      rw (if-not-true (found (finiteStep T) n t) (λ e. not-both (isMarked w t) (closed-finite T n beyond (isMarked w) c (finite-sound T n t e)) h))
+  unflagged-infinite c t h =
+      rw (if-not-true (found (finiteStep T) n t) (λ e. not-both (isFlagged w t) (closed-finite T n beyond (isFlagged w) c (finite-sound T n t e)) h))
 
   -- no more is found: the lowest without a mark is the lowest without a finite value
-  pub lowest-closed : Closed T n w → lowest (λ t. not (isMarked w t)) n ≡ lowest (infinite T n) n
+  pub lowest-closed : Closed T n w → lowest (λ t. not (isFlagged w t)) n ≡ lowest (infinite T n) n
   lowest-closed c =
-      lowest-same (λ t. not (isMarked w t)) (infinite T n) n (λ t h.
-      test (isMarked w t) (λ e. rw (e, marked-finite t e)) λ e. rw (e, unmarked-infinite c t e))
+      lowest-same (λ t. not (isFlagged w t)) (infinite T n) n (λ t h.
+      test (isFlagged w t) (λ e. rw (e, flagged-finite t e)) λ e. rw (e, unflagged-infinite c t e))
 
   -- each is marked
-  pub lowest-full : lowest (λ t. not (isMarked w t)) n ≡ n → lowest (λ t. not (isMarked w t)) n ≡ lowest (infinite T n) n
+  pub lowest-full : lowest (λ t. not (isFlagged w t)) n ≡ n → lowest (λ t. not (isFlagged w t)) n ≡ lowest (infinite T n) n
   lowest-full f =
-      lowest-same (λ t. not (isMarked w t)) (infinite T n) n (λ t h.
-      let e = not-false (isMarked w t) (upto (λ u. not (isMarked w u)) n f t h) in rw (e, marked-finite t e))
+      lowest-same (λ t. not (isFlagged w t)) (infinite T n) n (λ t h.
+      let e = not-false (isFlagged w t) (upto (λ u. not (isFlagged w u)) n f t h) in rw (e, flagged-finite t e))

@@ -17,7 +17,7 @@ use Rattle.octets.proofs.Tests.{test}
 use Rattle.octets.proofs.Lists.{both}
 use Rattle.table.specs.Syntax.{Tag, Table, Body, Plain, Sequence, Set, SequenceOf, SetOf, Choice, Record, references, constructed}
 use Rattle.table.specs.Octets.{recordShaped, bodyShaped}
-use Rattle.table.specs.Rules.{below, tagsBelow, parts, Circular, First, Sharing}
+use Rattle.table.specs.Rules.{below, tagsBelow, siblings, Circular, First, Sharing}
 use Rattle.table.specs.Reading.{everyAt}
 use Rattle.table.specs.Decide.{circular, pair, sharing}
 use Rattle.table.specs.Walk.{like, Hits, Walks, Met, GatheredUnder, Straight}
@@ -63,7 +63,7 @@ module _ {T : Table} {n : ℕ} (few : n ≤ 128) (there : (s a : ℕ) → s < n 
     (x : GatheredUnder T (getD (set v 128 1) 128 0) (set v 128 1) t q w) where
   -- with one mark alone, no other is met
   one-mark : q ≡ false
-  one-mark = test q (λ e. let (a, i, y) = x .met e in let k = met-low v 1 l y in absurd (k .marked (z (k .node)))) (λ e. e)
+  one-mark = test q (λ e. let (a, i, y) = x .met e in let k = met-low v 1 l y in absurd (k .some (z (k .node)))) (λ e. e)
 
   pub circle-end : (r : Bool) → r ≡ not (eqb (getD w t 0) 0) → (r ≡ true → Circular T t) × (r ≡ false → Circular T t → ⊥)
   circle-end r e =
@@ -141,7 +141,7 @@ pub record Pairing (T : Table) (ps : List ℕ) : Type 0 where
 module _ (T : Table) (n : ℕ) (c : Straight T n) (there : (s a : ℕ) → s < n → In a (below T s) → a < n) (ps : List ℕ) (named : (a : ℕ) → In a ps → a < n) where
   -- a node that two members hit
   pub owned-met : (m : ℕ) (w : List ℕ) {rest : List ℕ} {a : ℕ} → Owned T ps w m (a ∷ rest) → Met T m w a → Pairing T ps
-  owned-met m w {rest} {a} x y = by (x .from (y .node) (y .marked))
+  owned-met m w {rest} {a} x y = by (x .from (y .node) (y .some))
     where
       here : getD ps (length (x .past)) 0 ≡ a
       here = rw (x .whole) (getD-append-seam (x .past) a rest 0)
@@ -169,8 +169,8 @@ owned-end T ps m w x y =
     omega (arith, a, b, y .apart)
 
 -- what a body names is its parts, or one type of elements
-parts-or-one : (y : Body) → (parts y ≡ references y) ⊎ ((parts y ≡ []) × (length (references y) ≤ 1))
-unfolding parts references
+parts-or-one : (y : Body) → (siblings y ≡ references y) ⊎ ((siblings y ≡ []) × (length (references y) ≤ 1))
+unfolding siblings references
 parts-or-one (Plain k) = inl refl
 parts-or-one (Sequence ms) = inl refl
 parts-or-one (Set ms) = inl refl
@@ -181,13 +181,13 @@ parts-or-one (Choice ts) = inl refl
 pairing-parts : {T : Table} (ps qs : List ℕ) → ps ≡ qs → Pairing T ps → Pairing T qs
 pairing-parts ps qs e x = rw e at x
 
-sharing-pairs : {T : Table} {t : ℕ} → Sharing T t → Pairing T (parts (T t .body))
+sharing-pairs : {T : Table} {t : ℕ} → Sharing T t → Pairing T (siblings (T t .body))
 sharing-pairs x = record { i = x .i; j = x .j; apart = x .apart; within = x .within; tag = x .tag; first = x .first; second = x .second }
 
 pub pairing-shares : (T : Table) (t : ℕ) → Pairing T (references (T t .body)) → Sharing T t
 pairing-shares T t x =
     ⊎-elim
-    (λ e. let y = pairing-parts (references (T t .body)) (parts (T t .body)) (sym e) x in
+    (λ e. let y = pairing-parts (references (T t .body)) (siblings (T t .body)) (sym e) x in
     record { i = y .i; j = y .j; apart = y .apart; within = y .within; tag = y .tag; first = y .first; second = y .second })
     (λ e. absurd (omega (arith, x .apart, x .within, e .1)))
     (parts-or-one (T t .body))
@@ -195,13 +195,13 @@ pairing-shares T t x =
 pub sharing-names : (T : Table) (t : ℕ) → Sharing T t → Pairing T (references (T t .body))
 sharing-names T t x =
     ⊎-elim
-    (λ e. pairing-parts (parts (T t .body)) (references (T t .body)) e (sharing-pairs x))
+    (λ e. pairing-parts (siblings (T t .body)) (references (T t .body)) e (sharing-pairs x))
     (λ e. absurd (omega (arith, x .within, ap length (e .0))))
     (parts-or-one (T t .body))
 
 -- a simple kind has no parts
 pub no-sharing : (T : Table) (n t : ℕ) → constructed (T t .body) ≡ false → sharing T n t ≡ false
-unfolding sharing pair parts constructed
+unfolding sharing pair siblings constructed
 no-sharing T n t e = by (T t .body) refl
   where
     by : (y : Body) → T t .body ≡ y → sharing T n t ≡ false

@@ -7,7 +7,7 @@ ghost use Rattle.octets.specs.Lists.{any, all, lowest};
 ghost use Rattle.table.specs.Syntax.{Record};
 ghost use Rattle.table.specs.Reading.{membersAt, everyAt};
 ghost use Rattle.table.specs.Decide.{finiteBody, infinite};
-ghost use Rattle.checker.specs.Marks.{isMarked, Looked};
+ghost use Rattle.checker.specs.Marks.{isFlagged, Looked};
 ghost use Rattle.table.specs.Entries.{Near, tableIn, Entered, Filled};
 use octets::octet;
 use table::entry::Entry;
@@ -19,10 +19,10 @@ use table::entry::unpack;
 use table::kind::CHOICE;
 use table::kind::has_members;
 
-// Whether record t is marked; a number that is not there is not.
-fn marked(flags: &[u8; 128], t: usize) -> bool
+// Whether record t is flagged; a number that is not there is not.
+fn flagged(flags: &[u8; 128], t: usize) -> bool
     requires { ⌜ length (now flags) ≡ 128 ⌝ }
-    ensures { λ r. ⌜ r ≡ isMarked (now (flags .entry)) t ⌝ }
+    ensures { λ r. ⌜ r ≡ isFlagged (now (flags .entry)) t ⌝ }
 {
     if t < 128 {
         return flags[t] != 0;
@@ -30,16 +30,16 @@ fn marked(flags: &[u8; 128], t: usize) -> bool
     false
 }
 
-// Whether each member is optional or marked.
-fn each_marked(table: &[u8], flags: &[u8; 128], s: Span) -> bool
+// Whether each member is optional or flagged.
+fn each_flagged(table: &[u8], flags: &[u8; 128], s: Span) -> bool
     requires { ⌜ Near s × (length (now flags) ≡ 128) ⌝ }
-    ensures { λ r. ⌜ r ≡ all (λ m. m .optional || isMarked (now (flags .entry)) (m .type)) (membersAt (now (table .entry)) (s .first) (s .count)) ⌝ }
+    ensures { λ r. ⌜ r ≡ all (λ m. m .optional || isFlagged (now (flags .entry)) (m .type)) (membersAt (now (table .entry)) (s .first) (s .count)) ⌝ }
 {
     let mut at = s.first;
     let mut left = s.count;
     while 0 < left {
         if !optional(table, at) {
-            if !marked(flags, octet(table, at)) {
+            if !flagged(flags, octet(table, at)) {
                 return false;
             }
         }
@@ -49,15 +49,15 @@ fn each_marked(table: &[u8], flags: &[u8; 128], s: Span) -> bool
     true
 }
 
-// Whether one of the alternatives is marked.
-fn one_marked(table: &[u8], flags: &[u8; 128], s: Span) -> bool
+// Whether one of the alternatives is flagged.
+fn one_flagged(table: &[u8], flags: &[u8; 128], s: Span) -> bool
     requires { ⌜ Near s × (length (now flags) ≡ 128) ⌝ }
-    ensures { λ r. ⌜ r ≡ any (isMarked (now (flags .entry))) (everyAt 1 (now (table .entry)) (s .first) (s .count)) ⌝ }
+    ensures { λ r. ⌜ r ≡ any (isFlagged (now (flags .entry))) (everyAt 1 (now (table .entry)) (s .first) (s .count)) ⌝ }
 {
     let mut at = s.first;
     let mut left = s.count;
     while 0 < left {
-        if marked(flags, octet(table, at)) {
+        if flagged(flags, octet(table, at)) {
             return true;
         }
         at += 1;
@@ -66,19 +66,19 @@ fn one_marked(table: &[u8], flags: &[u8; 128], s: Span) -> bool
     false
 }
 
-// Whether a record has a finite value, if the marked ones have.
+// Whether a record has a finite value, if the flagged ones have.
 fn found(table: &[u8], flags: &[u8; 128], e: Entry) -> bool
     requires { ⌜ length (now flags) ≡ 128 ⌝ }
-    ensures { λ r. ⌜ ((x : Record) → Entered (now (table .entry)) e x → r ≡ finiteBody (isMarked (now (flags .entry))) (x .body)) ⌝ }
+    ensures { λ r. ⌜ ((x : Record) → Entered (now (table .entry)) e x → r ≡ finiteBody (isFlagged (now (flags .entry))) (x .body)) ⌝ }
 {
     if e.simple {
         return true;
     }
     if has_members(e.kind) {
-        return each_marked(table, flags, parts(table, e));
+        return each_flagged(table, flags, parts(table, e));
     }
     if e.kind == CHOICE {
-        return one_marked(table, flags, alternatives(table, e));
+        return one_flagged(table, flags, alternatives(table, e));
     }
     true
 }
@@ -106,7 +106,7 @@ fn round(table: &[u8], index: &[u64; 128], flags: &mut [u8; 128], n: usize) -> b
 // The lowest of n records without a mark; n if each has one.
 fn lowest_without(flags: &[u8; 128], n: usize) -> usize
     requires { ⌜ (length (now flags) ≡ 128) × (n ≤ 128) ⌝ }
-    ensures { λ r. ⌜ r ≡ lowest (λ t. not (isMarked (now (flags .entry)) t)) n ⌝ }
+    ensures { λ r. ⌜ r ≡ lowest (λ t. not (isFlagged (now (flags .entry)) t)) n ⌝ }
 {
     let mut t = 0;
     while t < n {

@@ -7,6 +7,13 @@ ghost use Rattle.table.specs.Octets.{rising};
 ghost use Rattle.table.specs.Reading.{everyAt, numbersAt, countedEnd, enumeratedEnd, membersEnd, referenceEnd, ownEnd, recordEnd};
 use octets::octet;
 use octets::two;
+use table::kind::CHOICE;
+use table::kind::ENUMERATED;
+use table::kind::NULL;
+use table::kind::SEQUENCE;
+use table::kind::SEQUENCE_OF;
+use table::kind::SET;
+use table::kind::SET_OF;
 
 // Whether each of n octets is at most `most`; the first is at p, each `step` behind the one before.
 fn each_at_most(table: &[u8], most: usize, step: usize, p: usize, n: usize) -> bool
@@ -106,33 +113,33 @@ fn reference_end(table: &[u8], p: usize) -> usize
     p + 1
 }
 
-// The end of the own part at p of a kind.
-fn own_end(table: &[u8], kind: usize, p: usize) -> usize
+// The end of the own part at p of a kind. The kinds up to NULL have none.
+fn own_end(table: &[u8], kind: u8, p: usize) -> usize
     requires { ⌜ p < 90000 ⌝ }
     ensures { λ r. ⌜ r ≡ ownEnd (now (table .entry)) kind p ⌝ }
 {
     if kind == 0 {
         return 0;
     }
-    if kind <= 5 {
+    if kind <= NULL {
         return p;
     }
-    if kind == 10 {
+    if kind == ENUMERATED {
         return enumerated_end(table, p);
     }
-    if kind == 16 {
+    if kind == SEQUENCE {
         return members_end(table, p);
     }
-    if kind == 17 {
+    if kind == SET {
         return members_end(table, p);
     }
-    if kind == 48 {
+    if kind == SEQUENCE_OF {
         return reference_end(table, p);
     }
-    if kind == 49 {
+    if kind == SET_OF {
         return reference_end(table, p);
     }
-    if kind == 50 {
+    if kind == CHOICE {
         return counted_end(table, 1, 1, 16, p);
     }
     0
@@ -163,5 +170,6 @@ pub(crate) fn record_end(table: &[u8], o: usize) -> usize
     if !each_at_most(table, 3, 3, o + 4, tags) {
         return 0;
     }
-    own_end(table, octet(table, o + 2), own)
+    let a = o + 2;
+    own_end(table, table[a], own)
 }

@@ -9,14 +9,14 @@ use lib.ListN.{length, drop, replicate}
 use Rattle.octets.specs.Answer.{if, then, behind, none-left}
 use Rattle.octets.specs.Lists.{any, all, joined, tabulate, lowestFrom, same}
 use Rattle.x690.specs.Identifier.{leading, following, identifier}
-use Rattle.x690.specs.Length.{number, digits, lengthOctets}
+use Rattle.x690.specs.Length.{unsigned, digits, lengthOctets}
 use Rattle.x690.specs.Item.{item}
 use Rattle.x690.specs.Integer.{negative, pile, integerOf, spare, minimal, eight, fewest}
 use Rattle.x690.specs.BitString.{unused, masked}
 use Rattle.x690.specs.Reading.{readFollowing, readIdentifier, fit, readLong, readLength, atEnd, readHeader, inside, readConstructed, contents, readPrimitive}
 use Rattle.table.specs.Syntax.{references, isChoice, universal, constructed}
 use Rattle.table.specs.Octets.{kind, rising}
-use Rattle.table.specs.Rules.{bodyBelow, tagsBelow, parts, members}
+use Rattle.table.specs.Rules.{bodyBelow, tagsBelow, siblings, members}
 use Rattle.table.specs.Reading.{tagsAt, numbersAt, membersAt, everyAt, bodyAt, recordAt, countedEnd, enumeratedEnd, membersEnd, ownEnd, recordEnd, scanFrom, scan, look}
 use Rattle.table.specs.Decide.{round, rounds, found, dangling, wrongTags, reachStep, circular, sameTag, begins as tagBegins, firstStep, firstOfBoth}
 use Rattle.table.specs.Decide.{share, pair, sharing, finiteBody, finiteStep, infinite}
@@ -87,15 +87,15 @@ abbrev said : Said → List ℕ → List ℕ
 said (ok w) buf = 0 ∷ length w ∷ (w ++ drop (length w) buf)
 said (Said.no n p) buf = 1 ∷ n ∷ p ∷ buf
 
-abbrev told : Told → List ℕ → List ℕ
-told (done n) buf = 0 ∷ n ∷ buf
-told (refusal r) buf = 1 ∷ numberOf r ∷ placeOf r ∷ buf
+abbrev shown : Told → List ℕ → List ℕ
+shown (done n) buf = 0 ∷ n ∷ buf
+shown (refusal r) buf = 1 ∷ numberOf r ∷ placeOf r ∷ buf
 
 abbrev agree : Outcome → Said → List ℕ → Bool
-agree o x buf = same (told (o .answer) (o .buffer)) (said x buf)
+agree o x buf = same (shown (o .answer) (o .buffer)) (said x buf)
 
 abbrev right : List ℕ → Example → Bool
-right buf (checks b x) = same (told (checkAnswer (verdict b)) []) (said x [])
+right buf (checks b x) = same (shown (checkAnswer (verdict b)) []) (said x [])
 right buf (writes b t v x) = agree (wholeWrite b t v buf) x buf
 right buf (reads b t m x) = agree (wholeRead b t m buf) x buf
 right buf (into n e) = right (replicate n 0xEE) e
@@ -210,9 +210,9 @@ examples =
 
 -- every row comes out as it is said
 pub examples-right : wrong 0 examples ≡ []
-unfolding if then behind none-left any all joined tabulate lowestFrom same leading following identifier number digits lengthOctets item negative pile
+unfolding if then behind none-left any all joined tabulate lowestFrom same leading following identifier unsigned digits lengthOctets item negative pile
     integerOf spare minimal eight fewest unused masked readFollowing readIdentifier fit readLong readLength atEnd readHeader inside readConstructed
-    contents readPrimitive references isChoice universal constructed kind rising bodyBelow tagsBelow parts members tagsAt numbersAt membersAt everyAt
+    contents readPrimitive references isChoice universal constructed kind rising bodyBelow tagsBelow siblings members tagsAt numbersAt membersAt everyAt
     bodyAt recordAt countedEnd enumeratedEnd membersEnd ownEnd recordEnd scanFrom scan look round rounds found dangling wrongTags reachStep circular
     sameTag tagBegins firstStep firstOfBoth share pair sharing finiteBody finiteStep infinite judgeChoices judge verdict slots bag leafOctets count
     presence octets listed identifierOf last before explicitTags ownTag explicit allowed encode element alternatives formMembers formElements formBody

@@ -17,7 +17,7 @@ use Rattle.x690.proofs.Identifiers.{identifier-complete, identifier-tag, identi
 use Rattle.x690.proofs.Items.{Readable}
 use Rattle.table.specs.Syntax.{Tag, Member, Simple, Boolean, Integer, BitString, OctetString, Null, Enumerated, Body, Plain, Sequence, Set}
 use Rattle.table.specs.Syntax.{SequenceOf, SetOf, Choice, Record, Table, absent, references, isChoice, universal, constructed}
-use Rattle.table.specs.Rules.{Mistagged, missing, not-last, not-its-number, on-choice, bodyBelow, tagsBelow, below, First, outermost, inside, parts, Sharing}
+use Rattle.table.specs.Rules.{Mistagged, missing, not-last, not-its-number, on-choice, bodyBelow, tagsBelow, below, First, outermost, inside, siblings, Sharing}
 use Rattle.table.specs.Passes.{Nested, Passes}
 use Rattle.coding.specs.Awaited.{types, further, awaited}
 use Rattle.coding.specs.Tags.{identifierOf, last, before, explicitTags, ownTag, explicit}
@@ -300,9 +300,9 @@ module _ (b : List ℕ) (T : Table) (n : ℕ) (p : Passes b T n) where
   unfolding tagsBelow bodyBelow
   ends-all t = test (ltb t n) (λ e. p .ends t (ltb-true t n e)) (λ e. nested-none T n t (ap (λ (r : Record). tagsBelow (r .tags) (r .body)) (no-body t (ltb-false t n e))))
 
-  few-parts : (r : Record) → r ≡ absent → length (parts (r .body)) ≡ 0
-  unfolding parts
-  few-parts r e = ap (λ (r : Record). length (parts (r .body))) e
+  few-parts : (r : Record) → r ≡ absent → length (siblings (r .body)) ≡ 0
+  unfolding siblings
+  few-parts r e = ap (λ (r : Record). length (siblings (r .body))) e
 
   distinct-all : (t : ℕ) → Sharing T t → ⊥
   distinct-all t =
@@ -354,13 +354,13 @@ module _ (b : List ℕ) (T : Table) (n : ℕ) (p : Passes b T n) where
       (λ ts x q u m f. let (l, h, y) = next-below n t u ts (ends-all t) x q m in more (suc l) 128 u i (omega (arith, p .few)) (bounded l 129 u i y f)) s
 
   -- two parts of one record do not begin alike: the one use of the rule that no two share a first tag
-  part-distinct : (t i j : ℕ) → i < j → j < length (parts (T t .body)) → (x : List ℕ) → begins T (getD (parts (T t .body)) i 0) x ≡ true → begins T (getD (parts (T t .body)) j 0) x ≡ true → ⊥
+  part-distinct : (t i j : ℕ) → i < j → j < length (siblings (T t .body)) → (x : List ℕ) → begins T (getD (siblings (T t .body)) i 0) x ≡ true → begins T (getD (siblings (T t .body)) j 0) x ≡ true → ⊥
   unfolding begins
   part-distinct t i j lt within x e f =
-      let a = named 129 (getD (parts (T t .body)) i 0) x e in
-      let b = named 129 (getD (parts (T t .body)) j 0) x f in
+      let a = named 129 (getD (siblings (T t .body)) i 0) x e in
+      let b = named 129 (getD (siblings (T t .body)) j 0) x f in
       let q : a .tag ≡ b .tag = one-tag (a .bit) (b .bit) (a .tag) (b .tag) (sym (a .is) ∙ b .is) in
-      distinct-all t (record { i = i; j = j; apart = lt; within = within; tag = a .tag; first = a .first; second = subst (λ g. First T g (getD (parts (T t .body)) j 0)) (sym q) (b .first) })
+      distinct-all t (record { i = i; j = j; apart = lt; within = within; tag = a .tag; first = a .first; second = subst (λ g. First T g (getD (siblings (T t .body)) j 0)) (sym q) (b .first) })
 
   abbrev Unlike : List ℕ → Type 0
   Unlike ts = (i j : ℕ) → i < j → j < length ts → (x : List ℕ) → begins T (getD ts i 0) x ≡ true → begins T (getD ts j 0) x ≡ true → ⊥
@@ -390,8 +390,8 @@ module _ (b : List ℕ) (T : Table) (n : ℕ) (p : Passes b T n) where
   apart-from [] d = tt
   apart-from (m ∷ ms) d = (λ i o e. some-false (λ t. begins T t i) ms (d .0 i e), apart-from ms (d .1))
 
-  body-good : (b : Body) → Unlike (parts b) → GoodBody T b
-  unfolding GoodBody parts references
+  body-good : (b : Body) → Unlike (siblings b) → GoodBody T b
+  unfolding GoodBody siblings references
   body-good (Plain k) f = tt
   body-good (Sequence ms) f = apart-from ms (distinct-from (types ms) f)
   body-good (Set ms) f = distinct-from (types ms) f

@@ -1,10 +1,10 @@
 -- Octets are judged to be a value of a type exactly when they are the octets of one; and a tree has one octet form.
 -- Assumes nothing.
-use borrow.Author.Tests.{ltb-true, lt-ltb, eqb-true, eq-eqb, not-false}
+use borrow.Author.Tests.{ltb-true, lt-ltb, eqb-true, not-false}
 use mathlib.Core.Bool.{Bool, true, false, false≢true}
 use mathlib.Core.List.{List, [], _∷_, _++_, append-assoc, append-nil}
 use mathlib.Core.Option.{Option, some, none}
-use mathlib.Core.Path.{_≡_, refl, sym, ap, _∙_}
+use mathlib.Core.Path.{_≡_, refl, sym, ap, subst, _∙_}
 use native.Mathlib.Omega.{arith}
 use Prim.Native.Nat.{ℕ, zero, suc, _<_}
 use lib.Dec.{eqb}
@@ -33,197 +33,40 @@ use Rattle.coding.proofs.Form.{at-index}
 use Rattle.coding.proofs.Nodes.{flagsOf, leafOwn, nodeOwn, nodeOctets, NodeShaped, node-sound, node-complete}
 
 -- the body of a kind
-record Kinds (b : Body) : Type 0 where
-  is-boolean : eqb (kind b) 1 ≡ true → b ≡ Plain Boolean
-  is-integer : eqb (kind b) 2 ≡ true → b ≡ Plain Integer
-  is-bits : eqb (kind b) 3 ≡ true → b ≡ Plain BitString
-  is-string : eqb (kind b) 4 ≡ true → b ≡ Plain OctetString
-  is-null : eqb (kind b) 5 ≡ true → b ≡ Plain Null
-  is-enumerated : eqb (kind b) 10 ≡ true → (x : List ℕ) × (b ≡ Plain (Enumerated x))
-  is-sequence : eqb (kind b) 16 ≡ true → (x : List Member) × (b ≡ Sequence x)
-  is-set : eqb (kind b) 17 ≡ true → (x : List Member) × (b ≡ Set x)
-  is-sequence-of : eqb (kind b) 48 ≡ true → (x : ℕ) × (b ≡ SequenceOf x)
-  is-set-of : eqb (kind b) 49 ≡ true → (x : ℕ) × (b ≡ SetOf x)
-  is-choice : eqb (kind b) 50 ≡ true → (x : List ℕ) × (b ≡ Choice x)
+abbrev choose : Bool → Type 0 → Type 0 → Type 0
+choose true A B = A
+choose false A B = B
 
-kinds : (b : Body) → Kinds b
+abbrev Is : ℕ → Body → Type 0
+Is k b =
+    choose (eqb k 1) (b ≡ Plain Boolean)
+    (choose (eqb k 2) (b ≡ Plain Integer)
+    (choose (eqb k 3) (b ≡ Plain BitString)
+    (choose (eqb k 4) (b ≡ Plain OctetString)
+    (choose (eqb k 5) (b ≡ Plain Null)
+    (choose (eqb k 10) ((x : List ℕ) × (b ≡ Plain (Enumerated x)))
+    (choose (eqb k 16) ((x : List Member) × (b ≡ Sequence x))
+    (choose (eqb k 17) ((x : List Member) × (b ≡ Set x))
+    (choose (eqb k 48) ((x : ℕ) × (b ≡ SequenceOf x))
+    (choose (eqb k 49) ((x : ℕ) × (b ≡ SetOf x))
+    ((x : List ℕ) × (b ≡ Choice x)))))))))))
+
+is : (b : Body) → Is (kind b) b
 unfolding kind
-kinds (Plain Boolean) = record {
-  is-boolean = λ e. refl;
-  is-integer = λ e. absurd (false≢true e);
-  is-bits = λ e. absurd (false≢true e);
-  is-string =
-      λ e. absurd (false≢true e);
-  is-null = λ e. absurd (false≢true e);
-  is-enumerated = λ e. absurd (false≢true e);
-  is-sequence = λ e. absurd
-      (false≢true e);
-  is-set = λ e. absurd (false≢true e);
-  is-sequence-of = λ e. absurd (false≢true e);
-  is-set-of = λ e. absurd
-      (false≢true e);
-  is-choice = λ e. absurd (false≢true e);
-}
-kinds (Plain Integer) = record {
-  is-boolean = λ e. absurd (false≢true e);
-  is-integer = λ e. refl;
-  is-bits = λ e. absurd (false≢true e);
-  is-string =
-      λ e. absurd (false≢true e);
-  is-null = λ e. absurd (false≢true e);
-  is-enumerated = λ e. absurd (false≢true e);
-  is-sequence = λ e. absurd
-      (false≢true e);
-  is-set = λ e. absurd (false≢true e);
-  is-sequence-of = λ e. absurd (false≢true e);
-  is-set-of = λ e. absurd
-      (false≢true e);
-  is-choice = λ e. absurd (false≢true e);
-}
-kinds (Plain BitString) = record {
-  is-boolean = λ e. absurd (false≢true e);
-  is-integer = λ e. absurd (false≢true e);
-  is-bits =
-      λ e. refl;
-  is-string = λ e. absurd (false≢true e);
-  is-null = λ e. absurd (false≢true e);
-  is-enumerated = λ e. absurd
-      (false≢true e);
-  is-sequence = λ e. absurd (false≢true e);
-  is-set = λ e. absurd (false≢true e);
-  is-sequence-of = λ e. absurd
-      (false≢true e);
-  is-set-of = λ e. absurd (false≢true e);
-  is-choice = λ e. absurd (false≢true e);
-}
-kinds (Plain OctetString) = record {
-  is-boolean = λ e. absurd (false≢true e);
-  is-integer = λ e. absurd (false≢true e);
-  is-bits = λ e. absurd
-      (false≢true e);
-  is-string = λ e. refl;
-  is-null = λ e. absurd (false≢true e);
-  is-enumerated = λ e. absurd (false≢true e);
-  is-sequence =
-      λ e. absurd (false≢true e);
-  is-set = λ e. absurd (false≢true e);
-  is-sequence-of = λ e. absurd (false≢true e);
-  is-set-of = λ e. absurd
-      (false≢true e);
-  is-choice = λ e. absurd (false≢true e);
-}
-kinds (Plain Null) = record {
-  is-boolean = λ e. absurd (false≢true e);
-  is-integer = λ e. absurd (false≢true e);
-  is-bits = λ e. absurd
-      (false≢true e);
-  is-string = λ e. absurd (false≢true e);
-  is-null = λ e. refl;
-  is-enumerated = λ e. absurd (false≢true e);
-  is-sequence =
-      λ e. absurd (false≢true e);
-  is-set = λ e. absurd (false≢true e);
-  is-sequence-of = λ e. absurd (false≢true e);
-  is-set-of = λ e. absurd
-      (false≢true e);
-  is-choice = λ e. absurd (false≢true e);
-}
-kinds (Plain (Enumerated x)) = record {
-  is-boolean = λ e. absurd (false≢true e);
-  is-integer = λ e. absurd (false≢true e);
-  is-bits = λ e. absurd
-      (false≢true e);
-  is-string = λ e. absurd (false≢true e);
-  is-null = λ e. absurd (false≢true e);
-  is-enumerated = λ e. (x, refl);
-  is-sequence =
-      λ e. absurd (false≢true e);
-  is-set = λ e. absurd (false≢true e);
-  is-sequence-of = λ e. absurd (false≢true e);
-  is-set-of = λ e. absurd
-      (false≢true e);
-  is-choice = λ e. absurd (false≢true e);
-}
-kinds (Sequence x) = record {
-  is-boolean = λ e. absurd (false≢true e);
-  is-integer = λ e. absurd (false≢true e);
-  is-bits = λ e. absurd
-      (false≢true e);
-  is-string = λ e. absurd (false≢true e);
-  is-null = λ e. absurd (false≢true e);
-  is-enumerated = λ e. absurd
-      (false≢true e);
-  is-sequence = λ e. (x, refl);
-  is-set = λ e. absurd (false≢true e);
-  is-sequence-of = λ e. absurd (false≢true e);
-  is-set-of =
-      λ e. absurd (false≢true e);
-  is-choice = λ e. absurd (false≢true e);
-}
-kinds (Set x) = record {
-  is-boolean = λ e. absurd (false≢true e);
-  is-integer = λ e. absurd (false≢true e);
-  is-bits = λ e. absurd
-      (false≢true e);
-  is-string = λ e. absurd (false≢true e);
-  is-null = λ e. absurd (false≢true e);
-  is-enumerated = λ e. absurd
-      (false≢true e);
-  is-sequence = λ e. absurd (false≢true e);
-  is-set = λ e. (x, refl);
-  is-sequence-of = λ e. absurd (false≢true e);
-  is-set-of =
-      λ e. absurd (false≢true e);
-  is-choice = λ e. absurd (false≢true e);
-}
-kinds (SequenceOf x) = record {
-  is-boolean = λ e. absurd (false≢true e);
-  is-integer = λ e. absurd (false≢true e);
-  is-bits = λ e. absurd
-      (false≢true e);
-  is-string = λ e. absurd (false≢true e);
-  is-null = λ e. absurd (false≢true e);
-  is-enumerated = λ e. absurd
-      (false≢true e);
-  is-sequence = λ e. absurd (false≢true e);
-  is-set = λ e. absurd (false≢true e);
-  is-sequence-of = λ e. (x, refl);
-  is-set-of =
-      λ e. absurd (false≢true e);
-  is-choice = λ e. absurd (false≢true e);
-}
-kinds (SetOf x) = record {
-  is-boolean = λ e. absurd (false≢true e);
-  is-integer = λ e. absurd (false≢true e);
-  is-bits = λ e. absurd
-      (false≢true e);
-  is-string = λ e. absurd (false≢true e);
-  is-null = λ e. absurd (false≢true e);
-  is-enumerated = λ e. absurd
-      (false≢true e);
-  is-sequence = λ e. absurd (false≢true e);
-  is-set = λ e. absurd (false≢true e);
-  is-sequence-of = λ e. absurd
-      (false≢true e);
-  is-set-of = λ e. (x, refl);
-  is-choice = λ e. absurd (false≢true e);
-}
-kinds (Choice x) = record {
-  is-boolean = λ e. absurd (false≢true e);
-  is-integer = λ e. absurd (false≢true e);
-  is-bits = λ e. absurd
-      (false≢true e);
-  is-string = λ e. absurd (false≢true e);
-  is-null = λ e. absurd (false≢true e);
-  is-enumerated = λ e. absurd
-      (false≢true e);
-  is-sequence = λ e. absurd (false≢true e);
-  is-set = λ e. absurd (false≢true e);
-  is-sequence-of = λ e. absurd
-      (false≢true e);
-  is-set-of = λ e. absurd (false≢true e);
-  is-choice = λ e. (x, refl);
-}
+is (Plain Boolean) = refl
+is (Plain Integer) = refl
+is (Plain BitString) = refl
+is (Plain OctetString) = refl
+is (Plain Null) = refl
+is (Plain (Enumerated x)) = (x, refl)
+is (Sequence x) = (x, refl)
+is (Set x) = (x, refl)
+is (SequenceOf x) = (x, refl)
+is (SetOf x) = (x, refl)
+is (Choice x) = (x, refl)
+
+of-kind : (b : Body) (k : ℕ) → eqb k (kind b) ≡ true → Is k b
+of-kind b k e = subst (λ (j : ℕ). Is j b) (sym (eqb-true k (kind b) e)) (is b)
 
 leaf-octets : (x : Leaf) → leafOctets x ≡ nodeOctets (a-leaf x)
 unfolding leafOctets nodeKind leafKind nodeOwn leafOwn
@@ -233,9 +76,6 @@ leaf-octets (bits n c) = refl
 leaf-octets (string c) = refl
 leaf-octets null = refl
 leaf-octets (enumerated k) = refl
-
-turn : (k j : ℕ) → eqb k j ≡ true → eqb j k ≡ true
-turn k j e = eq-eqb j k (sym (eqb-true k j e))
 
 at-place : (ts : List ℕ) (i : ℕ) → i < length ts → At (getD ts i 0) ts i
 at-place [] i h = absurd (omega arith)
@@ -248,13 +88,13 @@ listed-in b ns k q e = rw q at e
 
 leaf-typed : (b : Body) (x : Leaf) → eqb (leafKind x) (kind b) ≡ true → leafAgrees b x ≡ true → LeafShaped x → (k : Simple) × (b ≡ Plain k) × TypedLeaf k x
 unfolding leafKind leafAgrees LeafShaped
-leaf-typed b (boolean x) e a h = (Boolean, kinds b .is-boolean (turn 1 (kind b) e), l-boolean)
-leaf-typed b (integer z) e a h = (Integer, kinds b .is-integer (turn 2 (kind b) e), l-integer h)
-leaf-typed b (bits n c) e a h = (BitString, kinds b .is-bits (turn 3 (kind b) e), l-bits (h .0) (h .1) (h .2))
-leaf-typed b (string c) e a h = (OctetString, kinds b .is-string (turn 4 (kind b) e), l-string (h .0))
-leaf-typed b null e a h = (Null, kinds b .is-null (turn 5 (kind b) e), l-null)
+leaf-typed b (boolean x) e a h = (Boolean, of-kind b 1 e, l-boolean)
+leaf-typed b (integer z) e a h = (Integer, of-kind b 2 e, l-integer h)
+leaf-typed b (bits n c) e a h = (BitString, of-kind b 3 e, l-bits (h .0) (h .1) (h .2))
+leaf-typed b (string c) e a h = (OctetString, of-kind b 4 e, l-string (h .0))
+leaf-typed b null e a h = (Null, of-kind b 5 e, l-null)
 leaf-typed b (enumerated k) e a h =
-    let (ns, q) = kinds b .is-enumerated (turn 10 (kind b) e) in
+    let (ns, q) = of-kind b 10 e in
     (Enumerated ns, q, l-enumerated {k = k} (record { sfits = omega arith }) (listed-in b ns k q a))
 
 -- what is judged stood there
@@ -385,7 +225,7 @@ module _ (W : ℕ → Value → Type 0) (r : ℕ → List ℕ → Answer Value) 
       let (k, q, l) = leaf-typed b x (and-left (eqb (leafKind x) (kind b)) _ e) (and-right (eqb (leafKind x) (kind b)) _ e) h in
       yields {a = leaf x} (record { cut = ap (λ (l : List ℕ). l ++ s) (sym (leaf-octets x)); typed = rw q (t-plain l); shaped = h })
   below-sound b (a-sequence bs) s o e h =
-      let (ms, q) = kinds b .is-sequence (turn 16 (kind b) (and-left (eqb 16 (kind b)) _ e)) in
+      let (ms, q) = of-kind b 16 (and-left (eqb 16 (kind b)) _ e) in
       then-holds (members-sound (members b) bs [] s o (and-right (eqb 16 (kind b)) _ e)) λ os u y.
       let z = y .is in
       let f = y .fits in
@@ -394,7 +234,7 @@ module _ (W : ℕ → Value → Type 0) (r : ℕ → List ℕ → Answer Value) 
       let c = y .counted in
       yields {a = sequence (slots os)} (record { cut = members-octets 16 y; typed = rw z (typed-sequence b ms q f a); shaped = rw z (rw c h, g) })
   below-sound b (a-set bs) s o e h =
-      let (ms, q) = kinds b .is-set (turn 17 (kind b) (and-left (eqb 17 (kind b)) _ e)) in
+      let (ms, q) = of-kind b 17 (and-left (eqb 17 (kind b)) _ e) in
       then-holds (members-sound (members b) bs [] s o (and-right (eqb 17 (kind b)) _ e)) λ os u y.
       let z = y .is in
       let f = y .fits in
@@ -403,7 +243,7 @@ module _ (W : ℕ → Value → Type 0) (r : ℕ → List ℕ → Answer Value) 
       let c = y .counted in
       yields {a = set (slots os)} (record { cut = members-octets 17 y; typed = rw z (typed-set b ms q f a); shaped = rw z (rw c h, g) })
   below-sound b (a-sequence-of n) s o e h =
-      let (t, q) = kinds b .is-sequence-of (turn 48 (kind b) (and-left (eqb 48 (kind b)) _ e)) in
+      let (t, q) = of-kind b 48 (and-left (eqb 48 (kind b)) _ e) in
       then-holds (elements-sound n (element b) [] s o) λ vs u y.
       let z = y .is in
       let f = y .every in
@@ -412,7 +252,7 @@ module _ (W : ℕ → Value → Type 0) (r : ℕ → List ℕ → Answer Value) 
       let c = y .counted in
       yields {a = sequenceOf (bag vs)} (record { cut = elements-octets 48 y; typed = rw z (typed-sequence-of b t q f); shaped = rw z (rw c h, w, g) })
   below-sound b (a-set-of n) s o e h =
-      let (t, q) = kinds b .is-set-of (turn 49 (kind b) (and-left (eqb 49 (kind b)) _ e)) in
+      let (t, q) = of-kind b 49 (and-left (eqb 49 (kind b)) _ e) in
       then-holds (elements-sound n (element b) [] s o) λ vs u y.
       let z = y .is in
       let f = y .every in
@@ -421,7 +261,7 @@ module _ (W : ℕ → Value → Type 0) (r : ℕ → List ℕ → Answer Value) 
       let c = y .counted in
       yields {a = setOf (bag vs)} (record { cut = elements-octets 49 y; typed = rw z (typed-set-of b t q f); shaped = rw z (rw c h, w, g) })
   below-sound b (a-choice i) s o e h =
-      let (ts, q) = kinds b .is-choice (turn 50 (kind b) (and-left (eqb 50 (kind b)) _ e)) in
+      let (ts, q) = of-kind b 50 (and-left (eqb 50 (kind b)) _ e) in
       then-holds (sound (getD (alternatives b) i 0) s o) λ v u y.
       yields {a = choice i v} (record {
         cut = ap (λ (l : List ℕ). 0x56 ∷ 0x41 ∷ 50 ∷ i ∷ l) (y .cut);

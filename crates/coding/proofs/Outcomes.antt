@@ -138,7 +138,7 @@ module _ (T : Table) (t : ℕ) (m buf : List ℕ) where
       λ f.
       let room : length (octets v) ≤ min longestValue (length buf) = leb-true (length (octets v)) (min longestValue (length buf)) (not-false _ f) in
       is-read (length (octets v)) (octets v ++ drop (length (octets v)) buf)
-      (record { within = h; value = v; arrives = s .arrives; encodes = s .encodes; typed = s .typed; deep = s .deep; short = omega arith; room = omega arith; told = refl; buffer = refl })
+      (record { within = h; value = v; arrives = s .arrives; encodes = s .encodes; typed = s .typed; deep = s .deep; short = omega arith; room = omega arith; its-length = refl; buffer = refl })
       refl
 
   -- every outcome is that of a stage whose rule holds; nothing is asked of the table
@@ -229,7 +229,7 @@ module _ (T : Table) (t : ℕ) (m buf : List ℕ) where
     pub read-exactly : (k : ℕ) (after : List ℕ) → (reading T t m buf ≡ record { answer = done k; buffer = after }) ↔ Read T t m buf k after
     read-exactly k after = (
       λ e. from (read-stage o) e,
-      λ r. read-fits (r .value) (r .within) (accepts-as-given T good levels t (r .value) m (r .arrives) (r .deep)) (r .short) (r .room) ∙ told-same (r .told) (r .buffer),
+      λ r. read-fits (r .value) (r .within) (accepts-as-given T good levels t (r .value) m (r .arrives) (r .deep)) (r .short) (r .room) ∙ done-same (r .its-length) (r .buffer),
     )
       where
         refused-done : {r : Refusal} {x : Outcome} → x ≡ refuse r buf → x ≡ record { answer = done k; buffer = after } → Read T t m buf k after
@@ -241,8 +241,8 @@ module _ (T : Table) (t : ℕ) (m buf : List ℕ) where
         from (no-room x z) e = refused-done z e
         from (is-read j w x z) e = let q = sym z ∙ e in rw (← same-length q, ← same-buffer q) x
 
-        told-same : {j : ℕ} {w : List ℕ} → k ≡ j → after ≡ w → _≡_ {A = Outcome} (record { answer = done j; buffer = w }) (record { answer = done k; buffer = after })
-        told-same x y = rw (x, y)
+        done-same : {j : ℕ} {w : List ℕ} → k ≡ j → after ≡ w → _≡_ {A = Outcome} (record { answer = done j; buffer = w }) (record { answer = done k; buffer = after })
+        done-same x y = rw (x, y)
 
     -- what was sent arrives
     pub received : ((u : ℕ) → Limited (T u .body)) → (v : Value) → depth v ≤ levels → length (octets v) ≤ longestValue → Encodes T t v m → length m ≤ longestMessage
@@ -330,7 +330,7 @@ module _ (T : Table) (t : ℕ) (v buf : List ℕ) where
         short = h;
         within = within;
         room = omega arith;
-        told = refl;
+        its-length = refl;
         buffer = refl;
         encodes = form-permitted T t w (s .2) within;
       })
@@ -442,10 +442,10 @@ module _ (T : Table) (t : ℕ) (v buf : List ℕ) (o : Octets v) where
       from (WriteStage.no-room x z) e = refused-done z e
       from (is-written j w x z) e = let q = sym z ∙ e in rw (← same-length q, ← same-buffer q) x
 
-      told-same : {j : ℕ} {w : List ℕ} → k ≡ j → after ≡ w → _≡_ {A = Outcome} (record { answer = done j; buffer = w }) (record { answer = done k; buffer = after })
-      told-same x y = rw (x, y)
+      done-same : {j : ℕ} {w : List ℕ} → k ≡ j → after ≡ w → _≡_ {A = Outcome} (record { answer = done j; buffer = w }) (record { answer = done k; buffer = after })
+      done-same x y = rw (x, y)
 
       to : Wrote T t v buf k after → writing T t v buf ≡ record { answer = done k; buffer = after }
       to x =
           let s : length (octets (x .value)) ≤ longestValue = rw (← x .is) (x .short) in
-          ap (λ (l : List ℕ). writing T t l buf) (x .is) ∙ write-fits T t buf (x .value) (x .typed) (x .deep) (x .shaped) s (x .within) (x .room) ∙ told-same (x .told) (x .buffer)
+          ap (λ (l : List ℕ). writing T t l buf) (x .is) ∙ write-fits T t buf (x .value) (x .typed) (x .deep) (x .shaped) s (x .within) (x .room) ∙ done-same (x .its-length) (x .buffer)

@@ -17,14 +17,14 @@ use Rattle.octets.specs.Numbers.{Octets}
 use Rattle.octets.specs.Permutations.{here, there, none, next, any-order}
 use Rattle.octets.proofs.Tests.{and-left, and-right}
 use Rattle.x690.specs.Identifier.{leading, following, identifier}
-use Rattle.x690.specs.Length.{short, number, digits, lengthOctets}
+use Rattle.x690.specs.Length.{short, unsigned, digits, lengthOctets}
 use Rattle.x690.specs.Item.{sized, in-marks, item}
 use Rattle.x690.specs.Integer.{negative, pile, integerOf, spare, minimal, eight, fewest}
 use Rattle.x690.specs.BitString.{unused, masked}
 use Rattle.x690.specs.Reading.{readFollowing, readIdentifier, fit, readLong, readLength, atEnd, readHeader, inside, readConstructed, contents, readPrimitive}
 use Rattle.table.specs.Syntax.{Tag, Boolean, Integer, Plain, Set, Record, table, references, isChoice, universal, constructed}
 use Rattle.table.specs.Octets.{kind, tagOctets, memberOctets, ownOctets, recordOctets, rising, bodyShaped, recordShaped}
-use Rattle.table.specs.Rules.{bodyBelow, tagsBelow, parts, members}
+use Rattle.table.specs.Rules.{bodyBelow, tagsBelow, siblings, members}
 use Rattle.table.specs.Reading.{tagsAt, numbersAt, membersAt, everyAt, bodyAt, recordAt, countedEnd, enumeratedEnd, membersEnd, ownEnd, recordEnd, scanFrom, scan, look}
 use Rattle.table.specs.Decide.{round, rounds, found, dangling, wrongTags, reachStep, circular, sameTag, begins as firstBegins, firstStep, firstOfBoth}
 use Rattle.table.specs.Decide.{share, pair, sharing, finiteBody, finiteStep, infinite}
@@ -83,7 +83,7 @@ unfolding all
 table-octets = octets-by S refl
 
 passed : verdict S ≡ Passed
-unfolding any all joined tabulate lowestFrom references isChoice universal rising bodyBelow tagsBelow parts tagsAt numbersAt membersAt everyAt bodyAt
+unfolding any all joined tabulate lowestFrom references isChoice universal rising bodyBelow tagsBelow siblings tagsAt numbersAt membersAt everyAt bodyAt
     recordAt countedEnd enumeratedEnd membersEnd ownEnd recordEnd scanFrom scan look round rounds found dangling wrongTags reachStep circular sameTag
     firstBegins firstStep firstOfBoth share pair sharing finiteBody finiteStep infinite judgeChoices judge verdict
 passed = refl
@@ -167,9 +167,9 @@ outcomes :
     × (wholeWrite S 2 valueOctets (room 7) ≡ refuse (of-value MessageRoom 0) (room 7))
     × (wholeWrite S 2 valueOctets (room 9) ≡ after-writing)
 unfolding if then behind none-left any all joined tabulate lowestFrom same references isChoice universal constructed kind members rising bodyBelow
-    tagsBelow parts tagsAt numbersAt membersAt everyAt bodyAt recordAt countedEnd enumeratedEnd membersEnd ownEnd recordEnd scanFrom scan look round
+    tagsBelow siblings tagsAt numbersAt membersAt everyAt bodyAt recordAt countedEnd enumeratedEnd membersEnd ownEnd recordEnd scanFrom scan look round
     rounds found dangling wrongTags reachStep circular sameTag firstBegins firstStep firstOfBoth share pair sharing finiteBody finiteStep infinite
-    judgeChoices judge verdict leading following identifier number digits lengthOctets item negative pile integerOf spare minimal eight fewest unused
+    judgeChoices judge verdict leading following identifier unsigned digits lengthOctets item negative pile integerOf spare minimal eight fewest unused
     masked readFollowing readIdentifier fit readLong readLength atEnd readHeader inside readConstructed contents readPrimitive slots bag leafOctets
     count presence octets listed identifierOf last before explicitTags ownTag explicit allowed encode element alternatives formMembers formElements
     formBody wrap formAt need flags ownMembers ownCount ownBoolean ownInteger ownString ownBits ownEnumerated ownChoice readOwn readNode leafKind

@@ -66,7 +66,7 @@ pub record Read (T : Table) (t : ℕ) (m buf : List ℕ) (k : ℕ) (after : List
   pub deep : depth value ≤ levels
   pub short : length (octets value) ≤ longestValue
   pub room : length (octets value) ≤ length buf
-  pub told : k ≡ length (octets value)
+  pub its-length : k ≡ length (octets value)
   pub buffer : after ≡ octets value ++ drop (length (octets value)) buf
 
 -- 11 to 13: the value is over-long, which is 11 at its first octet; or the judging of it refuses for this cause, so many octets before its end.
@@ -95,7 +95,7 @@ pub record Wrote (T : Table) (t : ℕ) (v buf : List ℕ) (k : ℕ) (after : Lis
   pub short : length v ≤ longestValue
   pub within : length (formAt T levels t value) ≤ longestMessage
   pub room : length (formAt T levels t value) ≤ length buf
-  pub told : k ≡ length (formAt T levels t value)
+  pub its-length : k ≡ length (formAt T levels t value)
   pub buffer : after ≡ formAt T levels t value ++ drop (length (formAt T levels t value)) buf
   pub encodes : Encodes T t value (formAt T levels t value)
 

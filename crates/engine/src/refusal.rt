@@ -5,12 +5,12 @@ ghost use Rattle.coding.specs.Outcome.{numberOf, placeOf};
 use coding::Refusal;
 use octets::cause::cause_number;
 
-pub struct Parts {
+pub struct Report {
     pub number: u64,
     pub place: usize,
 }
 
-pub fn parts_of(r: Refusal) -> Parts
+pub fn report_of(r: Refusal) -> Report
     ensures { λ p. ⌜
         (p .number ≡ numberOf r)
         × (p .place ≡ placeOf r)
@@ -18,15 +18,15 @@ pub fn parts_of(r: Refusal) -> Parts
         ⌝ }
 {
     match r {
-        Refusal::Table { cause, place } => Parts {
+        Refusal::Table { cause, place } => Report {
             number: cause_number(cause),
             place,
         },
-        Refusal::Value { cause, place } => Parts {
+        Refusal::Value { cause, place } => Report {
             number: cause_number(cause),
             place,
         },
-        Refusal::Message { cause, place } => Parts {
+        Refusal::Message { cause, place } => Report {
             number: cause_number(cause),
             place,
         },

@@ -10,10 +10,10 @@ use Rattle.coding.specs.declared.Refusal.{Refusal}
 use Rattle.coding.specs.declared.Refusal.the-variants.{Table, Value, Message}
 use Rattle.coding.specs.declared.Answer.{Answer}
 use Rattle.coding.specs.declared.Answer.the-variants.{Done, Refused}
-use Rattle.link.specs.Pack.{number, place, packed, Staged, Tells}
+use Rattle.link.specs.Pack.{highPart, lowPart, packed, Staged, Tells}
 
-pub told : (a : Answer) → place a < 65536 → Staged a → Tells (packed a) a
-told a h s = record { high = omega arith; low = omega arith; staged = s }
+pub packed-tells : (a : Answer) → lowPart a < 65536 → Staged a → Tells (packed a) a
+packed-tells a h s = record { high = omega arith; low = omega arith; staged = s }
 
 -- no two refusals of their stages share a number and a place
 same-refusal : (r s : Refusal) → OfStage r → OfStage s → numberOf r ≡ numberOf s → placeOf r ≡ placeOf s → r ≡ s
@@ -32,11 +32,11 @@ number-some (Table c p) e = never-0 c e
 number-some (Value c p) e = never-0 c e
 number-some (Message c p) e = never-0 c e
 
-same-answer : (a b : Answer) → Staged a → Staged b → number a ≡ number b → place a ≡ place b → a ≡ b
+same-answer : (a b : Answer) → Staged a → Staged b → highPart a ≡ highPart b → lowPart a ≡ lowPart b → a ≡ b
 same-answer (Done n) (Done m) x y e f = ap Done f
 same-answer (Done n) (Refused r) x y e f = absurd (number-some r (sym e))
 same-answer (Refused r) (Done m) x y e f = absurd (number-some r e)
 same-answer (Refused r) (Refused s) x y e f = ap Refused (same-refusal r s x y e f)
 
-pub one-told : {u : ℕ} {a b : Answer} → Tells u a → Tells u b → a ≡ b
-one-told {u} {a} {b} x y = same-answer a b (x .staged) (y .staged) (sym (x .high) ∙ y .high) (sym (x .low) ∙ y .low)
+pub tells-one : {u : ℕ} {a b : Answer} → Tells u a → Tells u b → a ≡ b
+tells-one {u} {a} {b} x y = same-answer a b (x .staged) (y .staged) (sym (x .high) ∙ y .high) (sym (x .low) ∙ y .low)

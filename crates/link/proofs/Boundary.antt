@@ -20,22 +20,22 @@ use Rattle.coding.specs.declared.Answer.{Answer as Told}
 use Rattle.coding.specs.declared.Answer.the-variants.{Done, Refused}
 use Rattle.coding.specs.Calls.{checkAnswer, wholeRead, wholeWrite}
 use Rattle.coding.proofs.Demands.{check-stages, read-stages, write-stages, what-was-sent-arrives, what-is-sent-is-permitted}
-use Rattle.link.specs.Pack.{place, packed, Staged, Tells}
-use Rattle.link.proofs.Back.{told, one-told}
+use Rattle.link.specs.Pack.{lowPart, packed, Staged, Tells}
+use Rattle.link.proofs.Back.{packed-tells, tells-one}
 use Rattle.link.proofs.Small.{check-within, read-small, write-small}
 
 staged : (a : Told) → ((r : Refusal) → a ≡ Refused r → OfStage r) → Staged a
 staged (Done n) h = tt
 staged (Refused r) h = h r refl
 
-tells-exactly : {r : ℕ} {x : Told} → r ≡ packed x → place x < 65536 → Staged x → (a : Told) → Tells r a ↔ (a ≡ x)
+tells-exactly : {r : ℕ} {x : Told} → r ≡ packed x → lowPart x < 65536 → Staged x → (a : Told) → Tells r a ↔ (a ≡ x)
 tells-exactly {r} {x} e h s a =
-    let y : Tells r x = rw e (told x h s) in
-    (λ z. one-told z y, λ q. rw q y)
+    let y : Tells r x = rw e (packed-tells x h s) in
+    (λ z. tells-one z y, λ q. rw q y)
 
-outcome-told : {r : ℕ} {x : Outcome} {after : List ℕ} → r ≡ packed (x .answer) → after ≡ x .buffer → place (x .answer) < 65536 → Staged (x .answer)
+outcome-tells : {r : ℕ} {x : Outcome} {after : List ℕ} → r ≡ packed (x .answer) → after ≡ x .buffer → lowPart (x .answer) < 65536 → Staged (x .answer)
     → (a : Told) → Tells r a ↔ (record { answer = a; buffer = after } ≡ x)
-outcome-told {r} {x} {after} e f h s a =
+outcome-tells {r} {x} {after} e f h s a =
     let y = tells-exactly {r = r} {x = x .answer} e h s a in
     (λ z. let q = y .0 z in rw (q, f), λ q. y .1 (ap (λ (o : Outcome). o .answer) q))
 
@@ -47,11 +47,11 @@ link-checks b r e = tells-exactly e (check-within b) (staged (checkAnswer (verdi
 module _ (b : List ℕ) (t : ℕ) (m buf : List ℕ) (o : Octets m) (r : ℕ) (after : List ℕ) where
   pub link-reads : (r ≡ packed (wholeRead b t m buf .answer)) × (after ≡ wholeRead b t m buf .buffer)
       → (a : Told) → Tells r a ↔ (record { answer = a; buffer = after } ≡ wholeRead b t m buf)
-  link-reads (e, f) = outcome-told e f (read-small b t m buf o) (staged (wholeRead b t m buf .answer) (read-stages b t m buf o))
+  link-reads (e, f) = outcome-tells e f (read-small b t m buf o) (staged (wholeRead b t m buf .answer) (read-stages b t m buf o))
 
   pub link-writes : (r ≡ packed (wholeWrite b t m buf .answer)) × (after ≡ wholeWrite b t m buf .buffer)
       → (a : Told) → Tells r a ↔ (record { answer = a; buffer = after } ≡ wholeWrite b t m buf)
-  link-writes (e, f) = outcome-told e f (write-small b t m buf o) (staged (wholeWrite b t m buf .answer) (write-stages b t m buf o))
+  link-writes (e, f) = outcome-tells e f (write-small b t m buf o) (staged (wholeWrite b t m buf .answer) (write-stages b t m buf o))
 
 -- Demand 3 in C, for a table that is not refused and a type in it; the other theorems of the page carry over in the same way.
 module _ (b : List ℕ) (o : Octets b) (rs : List Record) (ok : Accepted b rs) (t : ℕ) (lt : t < length rs) (v : Value) (buf : List ℕ)

@@ -22,49 +22,49 @@ use Rattle.coding.specs.Demands.{ValueRefused, over-long, as-judged}
 use Rattle.coding.proofs.Outcomes.{reading, ReadStage, too-long, is-read, read-stage, writing, WriteStage, is-written, write-stage}
 use Rattle.coding.proofs.Stages.{step}
 use Rattle.octets.proofs.Answer.{if-cases}
-use Rattle.link.specs.Pack.{place}
+use Rattle.link.specs.Pack.{lowPart}
 
-pub check-within : (b : List ℕ) → place (checkAnswer (verdict b)) < 65536
+pub check-within : (b : List ℕ) → lowPart (checkAnswer (verdict b)) < 65536
 unfolding checkAnswer
 check-within b = by (verdict b) refl
   where
-    by : (v : Verdict) → verdict b ≡ v → place (checkAnswer v) < 65536
+    by : (v : Verdict) → verdict b ≡ v → lowPart (checkAnswer v) < 65536
     by Passed e = omega arith
     by (Refused c p) e = omega (arith, place-small b c p e)
 
 -- the place of a refusal in reading, and the length of what was read
 
-placed : {a b : Told} → a ≡ b → place b < 65536 → place a < 65536
+placed : {a b : Told} → a ≡ b → lowPart b < 65536 → lowPart a < 65536
 placed e h = rw e h
 
-read-place : (T : Table) (t : ℕ) (m buf : List ℕ) {x : Outcome} → ReadStage T t m buf x → place (x .answer) < 65536
+read-place : (T : Table) (t : ℕ) (m buf : List ℕ) {x : Outcome} → ReadStage T t m buf x → lowPart (x .answer) < 65536
 read-place T t m buf (too-long h e) = placed (ap (λ (o : Outcome). o .answer) e) (omega arith)
 read-place T t m buf (ReadStage.refused-at c p i x e) = placed (ap (λ (o : Outcome). o .answer) e) (omega (arith, x .place, x .within))
 read-place T t m buf (ReadStage.no-room x e) = placed (ap (λ (o : Outcome). o .answer) e) (omega arith)
-read-place T t m buf (is-read k after x e) = placed (ap (λ (o : Outcome). o .answer) e) (omega (arith, x .told, x .short))
+read-place T t m buf (is-read k after x e) = placed (ap (λ (o : Outcome). o .answer) e) (omega (arith, x .its-length, x .short))
 
 value-place : (T : Table) (t : ℕ) (v : List ℕ) (c : Cause) (p : ℕ) → ValueRefused T t v c p → p < 65536
 value-place T t v c p (over-long h q r) = omega arith
 value-place T t v c p (as-judged l h g e r) = omega arith
 
-write-place : (T : Table) (t : ℕ) (v buf : List ℕ) {x : Outcome} → WriteStage T t v buf x → place (x .answer) < 65536
+write-place : (T : Table) (t : ℕ) (v buf : List ℕ) {x : Outcome} → WriteStage T t v buf x → lowPart (x .answer) < 65536
 write-place T t v buf (WriteStage.refused-at c p i x e) = placed (ap (λ (o : Outcome). o .answer) e) (value-place T t v c p x)
 write-place T t v buf (WriteStage.no-room x e) = placed (ap (λ (o : Outcome). o .answer) e) (omega arith)
-write-place T t v buf (is-written k after x e) = placed (ap (λ (o : Outcome). o .answer) e) (omega (arith, x .told, x .within))
+write-place T t v buf (is-written k after x e) = placed (ap (λ (o : Outcome). o .answer) e) (omega (arith, x .its-length, x .within))
 
-module _ (b : List ℕ) (t : ℕ) (buf : List ℕ) (g : Table → Outcome) (h : (T : Table) → place (g T .answer) < 65536) where
-  step-place : (T : Table) (n : ℕ) → place (step b t buf g T n .answer) < 65536
-  step-place T n = if-cases (λ (x : Outcome). place (x .answer) < 65536) (not (ltb t n)) _ _ (λ e. omega arith) λ e. h T
+module _ (b : List ℕ) (t : ℕ) (buf : List ℕ) (g : Table → Outcome) (h : (T : Table) → lowPart (g T .answer) < 65536) where
+  step-place : (T : Table) (n : ℕ) → lowPart (step b t buf g T n .answer) < 65536
+  step-place T n = if-cases (λ (x : Outcome). lowPart (x .answer) < 65536) (not (ltb t n)) _ _ (λ e. omega arith) λ e. h T
 
-  after-check : (v : Verdict) → verdict b ≡ v → place (afterCheck b buf (step b t buf g) v .answer) < 65536
+  after-check : (v : Verdict) → verdict b ≡ v → lowPart (afterCheck b buf (step b t buf g) v .answer) < 65536
   unfolding afterCheck
   after-check Passed e = step-place (look b (scan b .offsets)) (length (scan b .offsets))
   after-check (Refused c p) e = omega (arith, place-small b c p e)
 
-pub read-small : (b : List ℕ) (t : ℕ) (m buf : List ℕ) → Octets m → place (wholeRead b t m buf .answer) < 65536
+pub read-small : (b : List ℕ) (t : ℕ) (m buf : List ℕ) → Octets m → lowPart (wholeRead b t m buf .answer) < 65536
 unfolding wholeRead readOutcome
 read-small b t m buf o = after-check b t buf (λ T. reading T t m buf) (λ T. read-place T t m buf (read-stage T t m buf o)) (verdict b) refl
 
-pub write-small : (b : List ℕ) (t : ℕ) (v buf : List ℕ) → Octets v → place (wholeWrite b t v buf .answer) < 65536
+pub write-small : (b : List ℕ) (t : ℕ) (v buf : List ℕ) → Octets v → lowPart (wholeWrite b t v buf .answer) < 65536
 unfolding wholeWrite writeOutcome
 write-small b t v buf o = after-check b t buf (λ T. writing T t v buf) (λ T. write-place T t v buf (write-stage T t v buf o)) (verdict b) refl

@@ -6,16 +6,16 @@ use Rattle.coding.specs.Outcome.{numberOf, placeOf, OfStage}
 use Rattle.coding.specs.declared.Answer.{Answer}
 use Rattle.coding.specs.declared.Answer.the-variants.{Done, Refused}
 
-abbrev pub number : Answer → ℕ
-number (Done n) = 0
-number (Refused r) = numberOf r
+abbrev pub highPart : Answer → ℕ
+highPart (Done n) = 0
+highPart (Refused r) = numberOf r
 
-abbrev pub place : Answer → ℕ
-place (Done n) = n
-place (Refused r) = placeOf r
+abbrev pub lowPart : Answer → ℕ
+lowPart (Done n) = n
+lowPart (Refused r) = placeOf r
 
 abbrev pub packed : Answer → ℕ
-packed a = number a * 65536 + place a
+packed a = highPart a * 65536 + lowPart a
 
 -- done, or a refusal of the stage that its number says
 abbrev pub Staged : Answer → Type 0
@@ -24,6 +24,6 @@ Staged (Refused r) = OfStage r
 
 -- what the number u tells in C, taken apart, is the answer a
 pub record Tells (u : ℕ) (a : Answer) : Type 0 where
-  pub high : u / 65536 ≡ number a
-  pub low : u % 65536 ≡ place a
+  pub high : u / 65536 ≡ highPart a
+  pub low : u % 65536 ≡ lowPart a
   pub staged : Staged a

@@ -3,25 +3,25 @@ ghost use mathlib.Core.Path.{_≡_};
 ghost use Prim.Native.Nat.{_+_, _*_, _<_};
 ghost use Rattle.table.specs.Verdict.{verdict};
 ghost use Rattle.coding.specs.Calls.{checkAnswer, wholeWrite, wholeRead};
-ghost use Rattle.link.specs.Pack.{place, packed};
+ghost use Rattle.link.specs.Pack.{lowPart, packed};
 use coding::Answer;
 
-fn join(number: u64, place: usize) -> u64
-    requires { ⌜ (number < 29) × (place < 65536) ⌝ }
-    ensures { λ r. ⌜ r ≡ number * 65536 + place ⌝ }
+fn join(high: u64, low: usize) -> u64
+    requires { ⌜ (high < 29) × (low < 65536) ⌝ }
+    ensures { λ r. ⌜ r ≡ high * 65536 + low ⌝ }
 {
-    number * 65536 + place as u64
+    high * 65536 + low as u64
 }
 
 // 0 and the length written, or the number of the refusal and its place.
 fn pack(a: Answer) -> u64
-    requires { ⌜ place a < 65536 ⌝ }
+    requires { ⌜ lowPart a < 65536 ⌝ }
     ensures { λ r. ⌜ r ≡ packed a ⌝ }
 {
     match a {
         Answer::Done(n) => join(0, n),
         Answer::Refused(r) => {
-            let p = engine::refusal::parts_of(r);
+            let p = engine::refusal::report_of(r);
             join(p.number, p.place)
         }
     }

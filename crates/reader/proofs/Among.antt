@@ -12,7 +12,7 @@ use Rattle.octets.proofs.Members.{place-in}
 use Rattle.octets.proofs.Tests.{test}
 use Rattle.table.specs.Syntax.{Record, Table, references}
 use Rattle.table.specs.Passes.{Nested}
-use Rattle.table.specs.Rules.{parts}
+use Rattle.table.specs.Rules.{siblings}
 use Rattle.table.specs.Reading.{everyAt}
 use Rattle.table.specs.Entries.{unpacked, counted, tableIn, countIn}
 use Rattle.table.specs.declared.entry.Span.{Span}
@@ -33,10 +33,10 @@ every-at b p (suc n) (suc j) h = let q : p + 1 + j ≡ p + suc j = omega arith i
 
 -- the alternatives of a CHOICE, where they stand
 pub record Alternatives (b : List ℕ) (x : ℕ) (s : Span) : Type 0 where
-  pub count : s .count ≡ length (parts (tableIn b x .body))
+  pub count : s .count ≡ length (siblings (tableIn b x .body))
   pub few : s .count ≤ 16
   pub near : s .first + s .count ≤ 8192
-  pub at : (j : ℕ) → j < s .count → getD b (s .first + j) 0 ≡ getD (parts (tableIn b x .body)) j 0
+  pub at : (j : ℕ) → j < s .count → getD b (s .first + j) 0 ≡ getD (siblings (tableIn b x .body)) j 0
 
 -- before a turn
 pub record Amid (b : List ℕ) (code : ℕ) (way : List ℕ) (t d x j : ℕ) : Type 0 where
@@ -55,13 +55,13 @@ module _ {b ix : List ℕ} (R : Ready b ix) where
   code-is a f h e = e ∙ R .filled .entered a h .code
 
   pub alternatives-of : (x : ℕ) (s : Span) → x < countIn b → firstOf (T x) ≡ untagged → s ≡ counted b (unpacked (getD ix x 0) .own) 1 → Alternatives b x s
-  unfolding parts
+  unfolding siblings
   alternatives-of x s h e q =
       let y = bare (T x) (F x) e in
       let w = entered-choice (R .filled .entered x h) (y .alternatives) (y .is) in
       let o = unpacked (getD ix x 0) .own in
       let l = R .filled .short in
-      let p : parts (T x .body) ≡ y .alternatives = ap parts (y .is) in
+      let p : siblings (T x .body) ≡ y .alternatives = ap siblings (y .is) in
       rw q
       (record {
         count = w .count ∙ ap length (sym p);
@@ -70,21 +70,21 @@ module _ {b ix : List ℕ} (R : Ready b ix) where
         at = λ j k. sym (every-at b (o + 1) (getD b o 0) j k) ∙ ap (λ (ts : List ℕ). getD ts j 0) (w .is ∙ sym p);
       })
 
-  pub part-low : (x j : ℕ) → x < countIn b → firstOf (T x) ≡ untagged → j < length (parts (T x .body)) → getD (parts (T x .body)) j 0 < countIn b
-  unfolding parts references
+  pub part-low : (x j : ℕ) → x < countIn b → firstOf (T x) ≡ untagged → j < length (siblings (T x .body)) → getD (siblings (T x .body)) j 0 < countIn b
+  unfolding siblings references
   part-low x j h e k =
       let y = bare (T x) (F x) e in
-      let a = getD (parts (T x .body)) j 0 in
+      let a = getD (siblings (T x .body)) j 0 in
       test (ltb a (countIn b)) (λ z. ltb-true a (countIn b) z)
       λ z.
       absurd (R .passes .there x h
-      (record { number = a; named = rw (y .is) (rw (y .is) at (place-in (parts (T x .body)) j 0 k)); beyond = ltb-false a (countIn b) z }))
+      (record { type = a; named = rw (y .is) (rw (y .is) at (place-in (siblings (T x .body)) j 0 k)); beyond = ltb-false a (countIn b) z }))
 
-  above-low : (x j : ℕ) → j < length (parts (T x .body)) → x < countIn b
-  unfolding parts
+  above-low : (x j : ℕ) → j < length (siblings (T x .body)) → x < countIn b
+  unfolding siblings
   above-low x j h =
       test (ltb x (countIn b)) (λ z. ltb-true x (countIn b) z)
-      λ z. let q = ap (λ (r : Record). length (parts (r .body))) (R .passes .no-more x (ltb-false x (countIn b) z)) in absurd (omega arith)
+      λ z. let q = ap (λ (r : Record). length (siblings (r .body))) (R .passes .no-more x (ltb-false x (countIn b) z)) in absurd (omega arith)
 
   -- before the first
   pub amid-first : (code : ℕ) (way : List ℕ) (t : ℕ) → code < untagged → t < countIn b → firstOf (T t) ≡ untagged → Amid b code way t 0 t 0
@@ -129,10 +129,10 @@ module _ {b ix : List ℕ} {code : ℕ} {way : List ℕ} {t d x j : ℕ} {s : Sp
 
   -- there is one more, whose number is a
   module _ (h : j < s .count) {a : ℕ} (ea : a ≡ getD b (s .first + j) 0) where
-    within : j < length (parts (Tb x .body))
+    within : j < length (siblings (Tb x .body))
     within = omega (arith, its .count)
 
-    is-part : a ≡ getD (parts (Tb x .body)) j 0
+    is-part : a ≡ getD (siblings (Tb x .body)) j 0
     is-part = ea ∙ its .at j h
 
     pub record Next : Type 0 where
@@ -155,7 +155,7 @@ module _ {b ix : List ℕ} {code : ℕ} {way : List ℕ} {t d x j : ℕ} {s : Sp
       abbrev Noted : List ℕ
       Noted = set way d (16 * x + j)
 
-      its-first : f ≡ firstOf (Tb (getD (parts (Tb x .body)) j 0))
+      its-first : f ≡ firstOf (Tb (getD (siblings (Tb x .body)) j 0))
       its-first = code-is (P .ready) a f (next .small) ef ∙ ap (λ (u : ℕ). firstOf (Tb u)) is-part
 
       room-way : d < length way
@@ -194,7 +194,7 @@ module _ {b ix : List ℕ} {code : ℕ} {way : List ℕ} {t d x j : ℕ} {s : Sp
 
   -- there is none
   module _ (h : s .count ≤ j) where
-    beyond : length (parts (Tb x .body)) ≤ j
+    beyond : length (siblings (Tb x .body)) ≤ j
     beyond = omega (arith, its .count)
 
     pub among-none : d ≡ 0 → Finds b code way t Nothing

@@ -16,7 +16,7 @@ use Rattle.x690.specs.Reading.{readIdentifier}
 use Rattle.ber.specs.Codes.{code, codeOf}
 use Rattle.ber.proofs.Codes.{bit-small, code-short, code-long, read-code-small, code-same}
 use Rattle.table.specs.Syntax.{Tag, Body, Plain, Sequence, Set, SequenceOf, SetOf, Choice, Record, Table, isChoice, constructed}
-use Rattle.table.specs.Rules.{tagsBelow, bodyBelow, below, parts, missing}
+use Rattle.table.specs.Rules.{tagsBelow, bodyBelow, below, siblings, missing}
 use Rattle.table.specs.Passes.{Nested, Passes}
 use Rattle.table.specs.Entries.{more, outermostCode}
 use Rattle.table.proofs.Promises.{shaped-classes}
@@ -55,10 +55,10 @@ pub record Bare (r : Record) : Type 0 where
   pub untold : explicit r ≡ []
   pub alternatives : List ℕ
   pub is : r .body ≡ Choice alternatives
-  pub under : tagsBelow (r .tags) (r .body) ≡ parts (r .body)
+  pub under : tagsBelow (r .tags) (r .body) ≡ siblings (r .body)
 
 bare-of : (gs : List Tag) (b : Body) → (gs ≡ [] → isChoice b ≡ true) → AllFine gs → outermostCode gs b ≡ untagged → Bare (record { tags = gs; body = b })
-unfolding explicit explicitTags tagsBelow bodyBelow parts isChoice
+unfolding explicit explicitTags tagsBelow bodyBelow siblings isChoice
 bare-of [] (Choice ts) t f e = record { untold = refl; alternatives = ts; is = refl; under = refl }
 bare-of [] (Plain k) t f e = absurd (false≢true (t refl))
 bare-of [] (Sequence ms) t f e = absurd (false≢true (t refl))
@@ -90,7 +90,7 @@ abbrev Over : ℕ → ℕ → ℕ → (ℕ → Under) → List ℕ → Under
 Over t first c g ts = if (eqb first c) (At t 0) λ _. if (not (eqb first untagged)) Nothing λ _. among g ts
 
 abbrev pub Step : Table → ℕ → ℕ → (ℕ → Under) → Under
-Step T t c f = Over t (firstOf (T t)) c f (parts (T t .body))
+Step T t c f = Over t (firstOf (T t)) c f (siblings (T t .body))
 
 over-tagged : (t c e : ℕ) (g : ℕ → Under) (ts : List ℕ) → e < untagged → hit (Over t e c g ts) ≡ eqb e c
 unfolding if
@@ -113,8 +113,8 @@ module _ (t : ℕ) (f : ℕ → Bool) (g : ℕ → Under) (ih : (a : ℕ) → f 
         ∙ sym (over-tagged t (codeOf i) (code (q .class) b (q .number)) g ts (code-below (q .class) b (q .number) (h .0) (h .1)))
 
     step-read : (gs : List Tag) (b : Body) → (gs ≡ [] → isChoice b ≡ true) → AllFine gs
-        → beginsItem f i (explicit (record { tags = gs; body = b })) (ownTag (record { tags = gs; body = b })) b ≡ hit (Over t (outermostCode gs b) (codeOf i) g (parts b))
-    unfolding explicit ownTag explicitTags before last beginsItem beginsBody outermostCode constructed isChoice parts
+        → beginsItem f i (explicit (record { tags = gs; body = b })) (ownTag (record { tags = gs; body = b })) b ≡ hit (Over t (outermostCode gs b) (codeOf i) g (siblings b))
+    unfolding explicit ownTag explicitTags before last beginsItem beginsBody outermostCode constructed isChoice siblings
     step-read [] (Choice ts) k h = let z = read-code-small s i w o e in rw (over-choice t (codeOf i) g ts (λ y. omega arith)) (hit-among f g ih ts)
     step-read [] (Plain x) k h = absurd (false≢true (k refl))
     step-read [] (Sequence ms) k h = absurd (false≢true (k refl))
@@ -134,13 +134,13 @@ module _ (t : ℕ) (f : ℕ → Bool) (g : ℕ → Under) (ih : (a : ℕ) → f 
     step-read (q ∷ p ∷ gs) (SequenceOf u) k h = by-tag q true _ (h .0)
     step-read (q ∷ p ∷ gs) (SetOf u) k h = by-tag q true _ (h .0)
 
-  step-none : ((a : ℕ) → hit (g a) ≡ false) → (gs : List Tag) (b : Body) → AllFine gs → hit (Over t (outermostCode gs b) none g (parts b)) ≡ false
+  step-none : ((a : ℕ) → hit (g a) ≡ false) → (gs : List Tag) (b : Body) → AllFine gs → hit (Over t (outermostCode gs b) none g (siblings b)) ≡ false
   unfolding outermostCode
-  step-none never [] b h = rw (over-choice t none g (parts b) (λ y. omega arith)) (sym (hit-among (λ a. false) g (λ a. sym (never a)) (parts b)) ∙ any-none (parts b))
+  step-none never [] b h = rw (over-choice t none g (siblings b) (λ y. omega arith)) (sym (hit-among (λ a. false) g (λ a. sym (never a)) (siblings b)) ∙ any-none (siblings b))
   step-none never (q ∷ gs) b h =
       let c = outermostCode (q ∷ gs) b in
       let z : c < untagged = outermost-below q gs b (h .0) in
-      over-tagged t none c g (parts b) z ∙ ne-eqb c none (λ y. omega (arith, z, y))
+      over-tagged t none c g (siblings b) z ∙ ne-eqb c none (λ y. omega (arith, z, y))
 
 module _ (T : Table) (F : (t : ℕ) → Fit (T t)) where
   search-read : (s i w : List ℕ) → Octets s → readIdentifier s ≡ got i w → (k t : ℕ) → beginsIn T k t i ≡ hit (searchIn T k t (codeOf i))
@@ -191,7 +191,7 @@ module _ (T : Table) (F : (t : ℕ) → Fit (T t)) where
       test (eqb (firstOf (T t)) c) (λ e. rw e refl) λ e.
       test (not (eqb (firstOf (T t)) untagged)) (λ k. rw (e, k) refl) λ k.
       let b = bare (T t) (F t) (eqb-true (firstOf (T t)) untagged (is-false _ k)) in
-      rw (e, k) (among-same f g (parts (T t .body)) (λ a m. h a (rw (b .under) m)))
+      rw (e, k) (among-same f g (siblings (T t .body)) (λ a m. h a (rw (b .under) m)))
 
   -- more fuel than CHOICEs finds nothing more
   stable : (k j t c : ℕ) → suc k ≤ j → Nested T k t → searchIn T j t c ≡ searchIn T (suc k) t c

@@ -26,56 +26,56 @@ use Rattle.reader.proofs.Items.{items-broken, items-full, items-unawait
 use Rattle.reader.proofs.ItemsInTurn.{filled-snoc}
 
 -- 0 is noted from place k on for those members that are missing
-pub data Marked (came : List ℕ) : ℕ → List Member → List (Option Value) → Type 0 where
-  no-more : {k : ℕ} → Marked came k [] []
-  vacant : {k : ℕ} {m : Member} {ms : List Member} {os : List (Option Value)} → getD came k 0 ≡ 0 → Marked came (suc k) ms os
-      → Marked came k (m ∷ ms) (none ∷ os)
-  taken : {k : ℕ} {m : Member} {ms : List Member} {v : Value} {os : List (Option Value)} → (getD came k 0 ≡ 0 → ⊥) → Marked came (suc k) ms os
-      → Marked came k (m ∷ ms) (some v ∷ os)
+pub data CameAs (came : List ℕ) : ℕ → List Member → List (Option Value) → Type 0 where
+  no-more : {k : ℕ} → CameAs came k [] []
+  vacant : {k : ℕ} {m : Member} {ms : List Member} {os : List (Option Value)} → getD came k 0 ≡ 0 → CameAs came (suc k) ms os
+      → CameAs came k (m ∷ ms) (none ∷ os)
+  taken : {k : ℕ} {m : Member} {ms : List Member} {v : Value} {os : List (Option Value)} → (getD came k 0 ≡ 0 → ⊥) → CameAs came (suc k) ms os
+      → CameAs came k (m ∷ ms) (some v ∷ os)
 
-pub marked-none : (came : List ℕ) → Clear came → (k : ℕ) (ms : List Member) → Marked came k ms (nothing ms)
+pub came-none : (came : List ℕ) → Clear came → (k : ℕ) (ms : List Member) → CameAs came k ms (nothing ms)
 unfolding nothing
-marked-none came clear k [] = no-more
-marked-none came clear k (m ∷ ms) = vacant (clear k) (marked-none came clear (suc k) ms)
+came-none came clear k [] = no-more
+came-none came clear k (m ∷ ms) = vacant (clear k) (came-none came clear (suc k) ms)
 
 -- one more is noted
 set-before : (came : List ℕ) (p k : ℕ) → p < k → getD (setAt came p 1) k 0 ≡ getD came k 0
 set-before came p k h = getD-set-other came p k 1 0 (λ e. omega arith)
 
 module _ (came : List ℕ) where
-  marked-other : {k : ℕ} {ms : List Member} {os : List (Option Value)} (p : ℕ) → p < k → Marked came k ms os → Marked (setAt came p 1) k ms os
-  marked-other p h no-more = no-more
-  marked-other {k} p h (vacant e d) = vacant (set-before came p k h ∙ e) (marked-other p (omega arith) d)
-  marked-other {k} p h (taken e d) = taken (λ z. e (sym (set-before came p k h) ∙ z)) (marked-other p (omega arith) d)
+  came-other : {k : ℕ} {ms : List Member} {os : List (Option Value)} (p : ℕ) → p < k → CameAs came k ms os → CameAs (setAt came p 1) k ms os
+  came-other p h no-more = no-more
+  came-other {k} p h (vacant e d) = vacant (set-before came p k h ∙ e) (came-other p (omega arith) d)
+  came-other {k} p h (taken e d) = taken (λ z. e (sym (set-before came p k h) ∙ z)) (came-other p (omega arith) d)
 
   noted-one : (p k : ℕ) → p ≡ k → p < length came → getD (setAt came p 1) k 0 ≡ 0 → ⊥
   noted-one p k e l z = let q = getD-set-same came p 1 0 l in let y : getD (setAt came p 1) p 0 ≡ 0 = ap (λ (i : ℕ). getD (setAt came p 1) i 0) e
       ∙ z in omega arith
 
-  pub marked-set : {k : ℕ} {ms : List Member} {os : List (Option Value)} (p i : ℕ) (v : Value) → p ≡ k + i → i < length ms → p < length came
-      → Marked came k ms os
-      → Marked (setAt came p 1) k ms (setAt os i (some v))
-  marked-set p i v q h l no-more = absurd (omega arith)
-  marked-set {k} p zero v q h l (vacant e d) = taken (noted-one p k (omega arith) l) (marked-other p (omega arith) d)
-  marked-set {k} p zero v q h l (taken e d) = taken (noted-one p k (omega arith) l) (marked-other p (omega arith) d)
-  marked-set {k} p (suc i) v q h l (vacant e d) = vacant (getD-set-other came p k 1 0 (λ z. omega arith) ∙ e) (marked-set p i v (omega arith) (omega arith) l d)
-  marked-set {k} p (suc i) v q h l (taken e d) =
-      taken (λ z. e (sym (getD-set-other came p k 1 0 (λ z. omega arith)) ∙ z)) (marked-set p i v (omega arith) (omega arith) l d)
+  pub came-set : {k : ℕ} {ms : List Member} {os : List (Option Value)} (p i : ℕ) (v : Value) → p ≡ k + i → i < length ms → p < length came
+      → CameAs came k ms os
+      → CameAs (setAt came p 1) k ms (setAt os i (some v))
+  came-set p i v q h l no-more = absurd (omega arith)
+  came-set {k} p zero v q h l (vacant e d) = taken (noted-one p k (omega arith) l) (came-other p (omega arith) d)
+  came-set {k} p zero v q h l (taken e d) = taken (noted-one p k (omega arith) l) (came-other p (omega arith) d)
+  came-set {k} p (suc i) v q h l (vacant e d) = vacant (getD-set-other came p k 1 0 (λ z. omega arith) ∙ e) (came-set p i v (omega arith) (omega arith) l d)
+  came-set {k} p (suc i) v q h l (taken e d) =
+      taken (λ z. e (sym (getD-set-other came p k 1 0 (λ z. omega arith)) ∙ z)) (came-set p i v (omega arith) (omega arith) l d)
 
 -- what the notes say
 module _ (came : List ℕ) where
-  allowed-marked : {k : ℕ} {ms : List Member} {os : List (Option Value)} → Marked came k ms os
+  allowed-came : {k : ℕ} {ms : List Member} {os : List (Option Value)} → CameAs came k ms os
       → allowed ms os ≡ not (any (λ x. not (x .1 .optional)) (pending came k ms))
   unfolding allowed any pending
-  allowed-marked no-more = refl
-  allowed-marked {k} (vacant {m = m} {ms = ms} e d) = rw (pending-free came k m ms e) (test (m .optional) (λ o. rw o (allowed-marked d)) λ o. rw o refl)
-  allowed-marked {k} (taken {m = m} {ms = ms} e d) = rw (pending-come came k m ms e) (allowed-marked d)
+  allowed-came no-more = refl
+  allowed-came {k} (vacant {m = m} {ms = ms} e d) = rw (pending-free came k m ms e) (test (m .optional) (λ o. rw o (allowed-came d)) λ o. rw o refl)
+  allowed-came {k} (taken {m = m} {ms = ms} e d) = rw (pending-come came k m ms e) (allowed-came d)
 
-  full-marked : {k : ℕ} {ms : List Member} {os : List (Option Value)} → Marked came k ms os → full os ≡ not (some-of (pending came k ms))
+  full-came : {k : ℕ} {ms : List Member} {os : List (Option Value)} → CameAs came k ms os → full os ≡ not (some-of (pending came k ms))
   unfolding full some-of pending
-  full-marked no-more = refl
-  full-marked {k} (vacant {m = m} {ms = ms} e d) = rw (pending-free came k m ms e) refl
-  full-marked {k} (taken {m = m} {ms = ms} e d) = rw (pending-come came k m ms e) (full-marked d)
+  full-came no-more = refl
+  full-came {k} (vacant {m = m} {ms = ms} e d) = rw (pending-free came k m ms e) refl
+  full-came {k} (taken {m = m} {ms = ms} e d) = rw (pending-come came k m ms e) (full-came d)
 
   -- the member that an item begins
   module _ (T : Table) (r : ℕ → List ℕ → Answer Value) (s : List ℕ) where
@@ -95,19 +95,19 @@ module _ (came : List ℕ) where
         let q : x .0 - k ≡ suc (x .0 - suc k) = omega arith in
         then-then (r (x .1 .type) s) _ _ ∙ then-same (r (x .1 .type) s) _ _ (λ v u _. rw q refl)
 
-    place-marked : {k : ℕ} {ms : List Member} {os : List (Option Value)} → Marked came k ms os → placeMember T r ms os s ≡ Put k os (first Begun (pending came k ms))
+    place-came : {k : ℕ} {ms : List Member} {os : List (Option Value)} → CameAs came k ms os → placeMember T r ms os s ≡ Put k os (first Begun (pending came k ms))
     unfolding placeMember pending first if
-    place-marked no-more = refl
-    place-marked {k} (vacant {m = m} {ms = ms} {os = os} e d) =
+    place-came no-more = refl
+    place-came {k} (vacant {m = m} {ms = ms} {os = os} e d) =
         rw (pending-free came k m ms e)
         (test (begun T (m .type) s)
         (λ b. let q : k - k ≡ 0 = omega arith in rw (b, q) refl)
         λ b.
-        rw b (ap (λ (y : Answer (List (Option Value))). then y (λ us s₁. got (none ∷ us) s₁)) (place-marked d)
+        rw b (ap (λ (y : Answer (List (Option Value))). then y (λ us s₁. got (none ∷ us) s₁)) (place-came d)
         ∙ put-later k m ms none os (first Begun (pending came (suc k) ms)) (pending-found came Begun (suc k) ms)))
-    place-marked {k} (taken {m = m} {ms = ms} {v = v} {os = os} e d) =
+    place-came {k} (taken {m = m} {ms = ms} {v = v} {os = os} e d) =
         rw (pending-come came k m ms e)
-        (ap (λ (y : Answer (List (Option Value))). then y (λ us s₁. got (some v ∷ us) s₁)) (place-marked d)
+        (ap (λ (y : Answer (List (Option Value))). then y (λ us s₁. got (some v ∷ us) s₁)) (place-came d)
         ∙ put-later k m ms (some v) os (first Begun (pending came (suc k) ms)) (pending-found came Begun (suc k) ms))
 
 module _ (T : Table) (r : ℕ → List ℕ → Answer Value) (ms : List Member) (mode : Mode) where
@@ -121,16 +121,16 @@ module _ (T : Table) (r : ℕ → List ℕ → Answer Value) (ms : List Member) 
   Result k came hand s = then (readItems T r H k 0 came hand mode s) λ hand u. got (Slots hand) u
 
   abbrev Agrees : ℕ → Type 0
-  Agrees k = (came : List ℕ) (hand : Hand) (s : List ℕ) → length ms ≤ length came → Marked came 0 ms (Slots hand)
+  Agrees k = (came : List ℕ) (hand : Hand) (s : List ℕ) → length ms ≤ length came → CameAs came 0 ms (Slots hand)
       → readSet T r k ms (Slots hand) mode s ≡ Result k came hand s
 
-  module _ (k : ℕ) (came : List ℕ) (hand : Hand) (s : List ℕ) (wide : length ms ≤ length came) (d : Marked came 0 ms (Slots hand)) (again : Agrees k) where
+  module _ (k : ℕ) (came : List ℕ) (hand : Hand) (s : List ℕ) (wide : length ms ≤ length came) (d : CameAs came 0 ms (Slots hand)) (again : Agrees k) where
     at-end : (u : List ℕ) → Over mode s u → readSet T r (suc k) ms (Slots hand) mode s ≡ Result (suc k) came hand s
     unfolding readSet isSingle manner partsOf if then
     at-end u end =
         test (any (λ x. not (x .1 .optional)) (pending came 0 ms))
-        (λ e. rw (end, allowed-marked came d, e, items-lacking T r H k 0 came hand mode s refl u end e) refl)
-        λ e. rw (end, allowed-marked came d, e, items-over T r H k 0 came hand mode s refl u end e) refl
+        (λ e. rw (end, allowed-came came d, e, items-lacking T r H k 0 came hand mode s refl u end e) refl)
+        λ e. rw (end, allowed-came came d, e, items-over T r H k 0 came hand mode s refl u end e) refl
 
     at-broken : (c : Cause) (l : ℕ) → Broken mode s c l → readSet T r (suc k) ms (Slots hand) mode s ≡ Result (suc k) came hand s
     unfolding readSet isSingle manner then
@@ -139,12 +139,12 @@ module _ (T : Table) (r : ℕ → List ℕ → Answer Value) (ms : List Member) 
     module _ (end : More mode s) where
       set-full : some-of (pending came 0 ms) ≡ false → readSet T r (suc k) ms (Slots hand) mode s ≡ refused Trailing (length s)
       unfolding readSet if
-      set-full e = rw (end, full-marked came d, e) refl
+      set-full e = rw (end, full-came came d, e) refl
 
       set-more : some-of (pending came 0 ms) ≡ true → readSet T r (suc k) ms (Slots hand) mode s
           ≡ then (Put came T r s 0 (Slots hand) (first (Begun came T r s) (pending came 0 ms))) λ us s₁. readSet T r k ms us mode s₁
       unfolding readSet if
-      set-more e = rw (end, full-marked came d, e, place-marked came T r s d) refl
+      set-more e = rw (end, full-came came d, e, place-came came T r s d) refl
 
       module _ (some-left : some-of (pending came 0 ms) ≡ true) where
         abbrev The : Option Placed
@@ -164,8 +164,8 @@ module _ (T : Table) (r : ℕ → List ℕ → Answer Value) (ms : List Member) 
             let q : x .0 - 0 ≡ x .0 = omega arith in
             let z = filled-snoc hand (x .0) v (nothing ms) in
             let w : length ms ≤ length (setAt came (x .0) 1) = rw length-set wide in
-            let g : Marked (setAt came (x .0) 1) 0 ms (Slots (hand ++ ((x .0, v) ∷ []))) =
-            rw z (marked-set came (x .0) (x .0) v (omega arith) (omega arith) (omega arith) d) in
+            let g : CameAs (setAt came (x .0) 1) 0 ms (Slots (hand ++ ((x .0, v) ∷ []))) =
+            rw z (came-set came (x .0) (x .0) v (omega arith) (omega arith) (omega arith) d) in
             rw (q, items-turn T r H k 0 came hand mode s refl end some-left x f v u e, ← z) (again (setAt came (x .0) 1) (hand ++ ((x .0, v) ∷ [])) u w g)
 
         on-next : (o : Option Placed) → The ≡ o → then (Put came T r s 0 (Slots hand) o) On ≡ Result (suc k) came hand s
@@ -180,7 +180,7 @@ module _ (T : Table) (r : ℕ → List ℕ → Answer Value) (ms : List Member) 
           (λ e. set-more e ∙ on-next e (first (Begun came T r s) (pending came 0 ms)) refl)
           λ e. set-full e ∙ sym (rw (items-full T r H k 0 came hand mode s refl end e) refl)
 
-  at-ending : (k : ℕ) (came : List ℕ) (hand : Hand) (s : List ℕ) → length ms ≤ length came → Marked came 0 ms (Slots hand) → Agrees k → Ending mode s
+  at-ending : (k : ℕ) (came : List ℕ) (hand : Hand) (s : List ℕ) → length ms ≤ length came → CameAs came 0 ms (Slots hand) → Agrees k → Ending mode s
       → readSet T r (suc k) ms (Slots hand) mode s ≡ Result (suc k) came hand s
   at-ending k came hand s wide d again (over u z end) = at-end k came hand s wide d again u end
   at-ending k came hand s wide d again (broken c l z end) = at-broken k came hand s wide d again c l end

@@ -23,7 +23,7 @@ use Rattle.reader.specs.Items.{assemble, blank, readHeld}
 use Rattle.reader.proofs.Items.{More, Clear, Shortens, then-self, Ending, over, broken, more, ending, unawaited-on, pending-free, items-over}
 use Rattle.reader.proofs.Items.{items-broken, items-unawaited, items-refused, items-turn, single-unawaited, single-refused, single-done}
 use Rattle.reader.proofs.ItemsInTurn.{sequence-items}
-use Rattle.reader.proofs.ItemsEachOnce.{set-items, marked-none}
+use Rattle.reader.proofs.ItemsEachOnce.{set-items, came-none}
 
 -- lists
 values-snoc : (hand : Hand) (x : ℕ × Value) → values (hand ++ (x ∷ [])) ≡ values hand ++ (x .1 ∷ [])
@@ -199,7 +199,7 @@ module _ (T : Table) (r : ℕ → List ℕ → Answer Value) where
     unfolding readBody readHeld assemble filled
     set-held ms few =
         ap (λ (x : Answer (List (Option Value))). then x λ os u. got (set (slots os)) u)
-        (set-items T r ms mode (suc (length s)) blank [] s few (marked-none blank blank-clear 0 ms))
+        (set-items T r ms mode (suc (length s)) blank [] s few (came-none blank blank-clear 0 ms))
         ∙ through (readItems T r (inside (Set ms)) (suc (length s)) 0 blank [] mode s)
         (λ hand. filled hand (nothing ms)) (λ os. set (slots os)) (inside (Set ms)) (λ hand. refl)
 

@@ -16,7 +16,7 @@ use Rattle.reader.specs.Items.{Holder, inside, message, manner, partsOf,
 use Rattle.reader.specs.Items.{assemble, nodeSize, sizesOf, blank}
 use Rattle.reader.proofs.Items.{drop-later, Found}
 use Rattle.reader.proofs.ItemsInTurn.{filled-snoc, filled-length, nothing-length}
-use Rattle.reader.proofs.ItemsEachOnce.{Marked, no-more, vacant, taken, marked-none, marked-set}
+use Rattle.reader.proofs.ItemsEachOnce.{CameAs, no-more, vacant, taken, came-none, came-set}
 use Rattle.reader.proofs.ItemsKinds.{blank-clear}
 
 pub sizes-snoc : (hand : Hand) (x : ℕ × Value) → sizesOf (hand ++ (x ∷ [])) ≡ sizesOf hand + length (octets (x .1))
@@ -109,7 +109,7 @@ assemble-size (message t) hand f = rw (one-size hand f) (omega arith)
 unfoldable pub SoFar : Holder → ℕ → List ℕ → Hand → Type 0
 SoFar (inside (Plain k)) j came hand = ⊥
 SoFar (inside (Sequence ms)) j came hand = Fits hand (nothing ms) × (drop j (filled hand (nothing ms)) ≡ drop j (nothing ms))
-SoFar (inside (Set ms)) j came hand = Fits hand (nothing ms) × Marked came 0 ms (filled hand (nothing ms)) × (length ms ≤ length came)
+SoFar (inside (Set ms)) j came hand = Fits hand (nothing ms) × CameAs came 0 ms (filled hand (nothing ms)) × (length ms ≤ length came)
 SoFar (inside (SequenceOf t)) j came hand = Unit {0}
 SoFar (inside (SetOf t)) j came hand = Unit {0}
 SoFar (inside (Choice ts)) j came hand = length hand ≡ 0
@@ -128,7 +128,7 @@ pub sofar-none : (h : Holder) → isPlain h ≡ false → length (partsOf h) ≤
 unfolding SoFar isPlain partsOf Fits filled
 sofar-none (inside (Plain k)) p few = absurd (true≢false p)
 sofar-none (inside (Sequence ms)) p few = (tt, refl)
-sofar-none (inside (Set ms)) p few = (tt, marked-none blank blank-clear 0 ms, few)
+sofar-none (inside (Set ms)) p few = (tt, came-none blank blank-clear 0 ms, few)
 sofar-none (inside (SequenceOf t)) p few = tt
 sofar-none (inside (SetOf t)) p few = tt
 sofar-none (inside (Choice ts)) p few = refl
@@ -169,13 +169,13 @@ later-none ms F j p h e =
     let f = drop-later F (nothing ms) j p h e in
     rw (← q, ← getD-drop p F 0 none, f, getD-drop p (nothing ms) 0 none) (nothing-none ms (p + 0))
 
-marked-free : (came : List ℕ) {k : ℕ} {ms : List Member} {os : List (Option Value)} (i : ℕ) → Marked came k ms os → getD came (k + i) 0 ≡ 0
+came-free : (came : List ℕ) {k : ℕ} {ms : List Member} {os : List (Option Value)} (i : ℕ) → CameAs came k ms os → getD came (k + i) 0 ≡ 0
     → getD os i none ≡ none
-marked-free came i no-more e = refl
-marked-free came zero (vacant f d) e = refl
-marked-free came {k} zero (taken f d) e = absurd (f (rw (add-zero k) at e))
-marked-free came {k} (suc i) (vacant f d) e = let q : suc k + i ≡ k + suc i = omega arith in marked-free came i d (rw q e)
-marked-free came {k} (suc i) (taken f d) e = let q : suc k + i ≡ k + suc i = omega arith in marked-free came i d (rw q e)
+came-free came i no-more e = refl
+came-free came zero (vacant f d) e = refl
+came-free came {k} zero (taken f d) e = absurd (f (rw (add-zero k) at e))
+came-free came {k} (suc i) (vacant f d) e = let q : suc k + i ≡ k + suc i = omega arith in came-free came i d (rw q e)
+came-free came {k} (suc i) (taken f d) e = let q : suc k + i ≡ k + suc i = omega arith in came-free came i d (rw q e)
 
 found-low : (came : List ℕ) (j : ℕ) (ms : List Member) (x : Placed) → Found came j (drop j ms) x → (j ≤ x .0) × (x .0 < length ms)
 found-low came j ms x y = let e = y .place in let l = y .low in (omega arith, omega (arith, length-drop j ms))
@@ -198,8 +198,8 @@ sofar-turn (inside (Set ms)) j came hand x v e y f =
     let z = l .1 in
     let w = f .2 in
     let F = filled hand (nothing ms) in (
-      fits-snoc hand (nothing ms) (x .0) v (rw (nothing-length ms) z) (marked-free came (x .0) (f .1) (rw zero-add (y .free))) (f .0),
-      rw (filled-snoc hand (x .0) v (nothing ms)) (marked-set came (x .0) (x .0) v (omega arith) z (omega arith) (f .1)),
+      fits-snoc hand (nothing ms) (x .0) v (rw (nothing-length ms) z) (came-free came (x .0) (f .1) (rw zero-add (y .free))) (f .0),
+      rw (filled-snoc hand (x .0) v (nothing ms)) (came-set came (x .0) (x .0) v (omega arith) z (omega arith) (f .1)),
       rw length-set w,
     )
 sofar-turn (inside (SequenceOf t)) j came hand x v e y f = tt

@@ -14,7 +14,7 @@ use Rattle.octets.specs.Answer.{Answer, got, refused, then, if}
 use Rattle.octets.proofs.Members.{place-in}
 use Rattle.octets.proofs.Tests.{test}
 use Rattle.table.specs.Syntax.{Table}
-use Rattle.table.specs.Rules.{parts, below}
+use Rattle.table.specs.Rules.{siblings, below}
 use Rattle.table.specs.Passes.{Nested}
 use Rattle.coding.specs.Value.{Value, choice, octets}
 use Rattle.coding.specs.Reading.{begun, readWrapped, readKind, choose, readValue}
@@ -47,14 +47,14 @@ module _ (f : ℕ → Found) where
 pub record Looking (T : Table) (code : ℕ) (way : List ℕ) (t d x j : ℕ) : Type 0 where
   pub led : Leads T code way t d x
   pub bare : firstOf (T x) ≡ untagged
-  pub missed : (i : ℕ) → i < j → searchIn T 129 (getD (parts (T x .body)) i 0) code ≡ Nothing
+  pub missed : (i : ℕ) → i < j → searchIn T 129 (getD (siblings (T x .body)) i 0) code ≡ Nothing
 
 module _ (T : Table) (F : (t : ℕ) → Fit (T t)) (N : (t : ℕ) → Nested T 128 t) (code : ℕ) (tag : code ≡ untagged → ⊥) where
   abbrev Search : ℕ → Found
   Search a = searchIn T 129 a code
 
   abbrev Parts : ℕ → List ℕ
-  Parts x = parts (T x .body)
+  Parts x = siblings (T x .body)
 
   -- one record
   pub search-here : (a : ℕ) → firstOf (T a) ≡ code → Search a ≡ At a 0
@@ -180,15 +180,15 @@ turnsOver f (a ∷ l) = suc (f a + turnsOver f l)
 
 unfoldable pub turns : Table → ℕ → List ℕ → ℕ
 turns T zero l = turnsOver (λ a. 0) l
-turns T (suc k) l = turnsOver (λ a. turns T k (parts (T a .body))) l
+turns T (suc k) l = turnsOver (λ a. turns T k (siblings (T a .body))) l
 
 -- in the CHOICEs of the way
 unfoldable pub turnsBack : Table → ℕ → List ℕ → ℕ → ℕ
 turnsBack T n way zero = 0
-turnsBack T n way (suc d) = turns T (n - d) (drop (suc (getD way d 0 % 16)) (parts (T (getD way d 0 / 16) .body))) + turnsBack T n way d
+turnsBack T n way (suc d) = turns T (n - d) (drop (suc (getD way d 0 % 16)) (siblings (T (getD way d 0 / 16) .body))) + turnsBack T n way d
 
 abbrev pub turnsLeft : Table → ℕ → List ℕ → ℕ → ℕ → ℕ → ℕ
-turnsLeft T n way d x j = turns T (n - d) (drop j (parts (T x .body))) + turnsBack T n way d
+turnsLeft T n way d x j = turns T (n - d) (drop j (siblings (T x .body))) + turnsBack T n way d
 
 module _ (T : Table) (n : ℕ) where
   back-set : (way : List ℕ) (d p v : ℕ) → d ≤ p → turnsBack T n (setAt way p v) d ≡ turnsBack T n way d
@@ -196,7 +196,7 @@ module _ (T : Table) (n : ℕ) where
   back-set way zero p v h = refl
   back-set way (suc d) p v h = rw (getD-set-other way p d v 0 (λ e. omega arith), back-set way d p v (omega arith)) refl
 
-  turns-step : (k a : ℕ) (l : List ℕ) → turns T (suc k) (a ∷ l) ≡ suc (turns T k (parts (T a .body)) + turns T (suc k) l)
+  turns-step : (k a : ℕ) (l : List ℕ) → turns T (suc k) (a ∷ l) ≡ suc (turns T k (siblings (T a .body)) + turns T (suc k) l)
   unfolding turns turnsOver
   turns-step k a l = refl
 
@@ -206,15 +206,15 @@ module _ (T : Table) (n : ℕ) where
   turns-end (suc k) = refl
 
   module _ (way : List ℕ) (d x j : ℕ) where
-    module _ (h : j < length (parts (T x .body))) (deep : d < n) where
+    module _ (h : j < length (siblings (T x .body))) (deep : d < n) where
       turns-now : turnsLeft T n way d x j
-          ≡ suc (turns T (n - suc d) (parts (T (getD (parts (T x .body)) j 0) .body))
-          + turns T (n - d) (drop (suc j) (parts (T x .body)))) + turnsBack T n way d
+          ≡ suc (turns T (n - suc d) (siblings (T (getD (siblings (T x .body)) j 0) .body))
+          + turns T (n - d) (drop (suc j) (siblings (T x .body)))) + turnsBack T n way d
       turns-now =
           let q : n - d ≡ suc (n - suc d) = omega arith in
-          rw (drop-cons (parts (T x .body)) j 0 h, q, turns-step) refl
+          rw (drop-cons (siblings (T x .body)) j 0 h, q, turns-step) refl
 
-      pub fewer-down : j < 16 → d < length way → turnsLeft T n (setAt way d (16 * x + j)) (suc d) (getD (parts (T x .body)) j 0) 0 < turnsLeft T n way d x j
+      pub fewer-down : j < 16 → d < length way → turnsLeft T n (setAt way d (16 * x + j)) (suc d) (getD (siblings (T x .body)) j 0) 0 < turnsLeft T n way d x j
       unfolding turnsBack
       fewer-down s room =
           let y : (16 * x + j) / 16 ≡ x = omega arith in
@@ -224,10 +224,10 @@ module _ (T : Table) (n : ℕ) where
       pub fewer-next : turnsLeft T n (setAt way d (16 * x + j)) d x (suc j) < turnsLeft T n way d x j
       fewer-next = rw (turns-now, back-set way d d (16 * x + j) (omega arith)) (omega arith)
 
-    pub fewer-back : length (parts (T x .body)) ≤ j → (c : ℕ) → d ≡ suc c
+    pub fewer-back : length (siblings (T x .body)) ≤ j → (c : ℕ) → d ≡ suc c
         → turnsLeft T n way c (getD way c 0 / 16) (suc (getD way c 0 % 16)) < turnsLeft T n way d x j
     unfolding turnsBack
-    fewer-back h c e = rw (e, drop-of-length-le (parts (T x .body)) h, turns-end) (omega arith)
+    fewer-back h c e = rw (e, drop-of-length-le (siblings (T x .body)) h, turns-end) (omega arith)
 
 -- the value at the end of a way
 wrapped-on : (way : List ℕ) (d j : ℕ) (v : Value) (u : List ℕ)
@@ -258,8 +258,8 @@ module _ (T : Table) (F : (t : ℕ) → Fit (T t)) (N : (t : ℕ) → Nested T 1
       let q : n + suc j ≡ suc n + j = omega arith in
       rw (miss-begun t (m 0 (omega arith)), q) (choose-at r ts (suc n) j (omega arith) (λ i k. m (suc i) (omega arith)) b)
 
-  bare-value : (k x : ℕ) → firstOf (T x) ≡ untagged → readValue T (suc k) x s ≡ choose T (readValue T k) (parts (T x .body)) 0 s
-  unfolding readValue readWrapped readKind parts
+  bare-value : (k x : ℕ) → firstOf (T x) ≡ untagged → readValue T (suc k) x s ≡ choose T (readValue T k) (siblings (T x .body)) 0 s
+  unfolding readValue readWrapped readKind siblings
   bare-value k x e = let b = bare (T x) (F x) e in rw (b .untold, b .is) refl
 
   -- k levels are left at the end of the way
@@ -268,11 +268,11 @@ module _ (T : Table) (F : (t : ℕ) → Fit (T t)) (N : (t : ℕ) → Nested T 1
   unfolding wrapped
   leads-value {t = t} here u e g k = let q : 0 + k ≡ k = omega arith in rw q (sym (then-self (readValue T k t s)))
   leads-value {way} {t} (through {d} {x} j l b n w h m) u e g k =
-      let a = getD (parts (T x .body)) j 0 in
+      let a = getD (siblings (T x .body)) j 0 in
       let q : suc d + k ≡ d + suc k = omega arith in
       let p : getD way d 0 % 16 ≡ j = omega arith in
-      let y = search-bare T F N code tag x b ∙ among-at (λ a. searchIn T 129 a code) (parts (T x .body)) j h m u e g in
-      let z = bare-value k x b ∙ choose-at (readValue T k) (parts (T x .body)) 0 j h m (hit-begun a u e g) in
+      let y = search-bare T F N code tag x b ∙ among-at (λ a. searchIn T 129 a code) (siblings (T x .body)) j h m u e g in
+      let z = bare-value k x b ∙ choose-at (readValue T k) (siblings (T x .body)) 0 j h m (hit-begun a u e g) in
       rw (q, p)
       (leads-value l u (suc e) y (suc k)
       ∙ ap (λ (o : Answer Value). then o λ v s₁. got (wrapped way d v) s₁) z
@@ -287,7 +287,7 @@ module _ (T : Table) (F : (t : ℕ) → Fit (T t)) (N : (t : ℕ) → Nested T 1
           → (y : ℕ) × (i : ℕ) × Leads T code way t n y × (searchIn T 129 y code ≡ At u i)
       shorter here e g h = absurd (omega arith)
       shorter (through {d} {x} j l b a w k m) e g h =
-          let y = search-bare T F N code tag x b ∙ among-at (λ a. searchIn T 129 a code) (parts (T x .body)) j k m u e g in
+          let y = search-bare T F N code tag x b ∙ among-at (λ a. searchIn T 129 a code) (siblings (T x .body)) j k m u e g in
           test (eqb n d) (λ q. (x, suc e, rw (eqb-true n d q) l, y)) λ q. shorter l (suc e) y (omega (arith, eqb-false n d q))
 
   -- the value of t, under d CHOICEs of which each takes a level

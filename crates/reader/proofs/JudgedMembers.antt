@@ -163,12 +163,12 @@ module _ (h : Holder) (i : ℕ) (came : List ℕ) where
         λ q. q
 
 -- before the item at a place of m
-pub record Judging (b : List ℕ) (w : ℕ) (m : List ℕ) (marked : Bool) (level : ℕ) (came : List ℕ) (total at j : ℕ) : Type 0 where
+pub record Judging (b : List ℕ) (w : ℕ) (m : List ℕ) (indefinite : Bool) (level : ℕ) (came : List ℕ) (total at j : ℕ) : Type 0 where
   pub one : isSingle (manner (held b w)) ≡ true → at < length m
   pub noted : length came ≡ 16
   pub clear : (manner (held b w) ≡ each-once → ⊥) → (p : ℕ) → getD came p 0 ≡ 0
-  pub going : Going (readHeld (tableIn b) (readValue (tableIn b) level) (held b w) (mode marked) m) (tableIn b) (readValue (tableIn b) level) (held b w)
-      (mode marked) m at (since (manner (held b w)) j) came total
+  pub going : Going (readHeld (tableIn b) (readValue (tableIn b) level) (held b w) (mode indefinite) m) (tableIn b) (readValue (tableIn b) level) (held b w)
+      (mode indefinite) m at (since (manner (held b w)) j) came total
 
 -- a refusal that an item is not awaited says the same of whatever was to be read
 unfit-alike : {A B : Type 0} (h : Holder) (i : ℕ) (came s : List ℕ) (c : Cause) (l : ℕ) → unfit {A = A} h i came s ≡ refused c l
@@ -261,25 +261,25 @@ module _ (Q : Setting) where
     node-few = omega (arith, node-total, node-small (H Q) few)
 
     -- before the first item
-    pub judging-first : (m : List ℕ) (marked : Bool) (level : ℕ) → (isSingle (manner (H Q)) ≡ true → 0 < length m)
-        → Judging (Q .b) (Q .w) m marked level blank n 0 0
-    judging-first m marked level one-item =
+    pub judging-first : (m : List ℕ) (indefinite : Bool) (level : ℕ) → (isSingle (manner (H Q)) ≡ true → 0 < length m)
+        → Judging (Q .b) (Q .w) m indefinite level blank n 0 0
+    judging-first m indefinite level one-item =
         let q : n ≡ cap (nodeSize (H Q)) = omega (arith, node-total, node-few) in
         record {
           one = one-item;
           noted = refl;
           clear = λ _. blank-clear;
-          going = rw (since-first (manner (H Q))) (going-first (T Q) (readValue (T Q) level) (H Q) (mode marked) m n no-plain few q);
+          going = rw (since-first (manner (H Q))) (going-first (T Q) (readValue (T Q) level) (H Q) (mode indefinite) m n no-plain few q);
         }
 
-  pub judging-sound : {m : List ℕ} {marked : Bool} {level : ℕ} {came : List ℕ} {total at j : ℕ} → Judging (Q .b) (Q .w) m marked level came total at j
+  pub judging-sound : {m : List ℕ} {indefinite : Bool} {level : ℕ} {came : List ℕ} {total at j : ℕ} → Judging (Q .b) (Q .w) m indefinite level came total at j
       → Sound (Q .b) (Q .index) (Q .w) came
   judging-sound S = record { ready = Q .ready; known = Q .known; noted = S .noted; clear = S .clear }
 
 -- what stands at a place of m
 pub record Turn (Q : Setting) : Type 0 where
   pub m : List ℕ
-  pub marked : Bool
+  pub indefinite : Bool
   pub level : ℕ
   pub came : List ℕ
   pub total : ℕ
@@ -289,9 +289,9 @@ pub record Turn (Q : Setting) : Type 0 where
   pub short : length m ≤ 8192
   pub levels : level < 25
   pub low : at ≤ length m
-  pub so-far : Judging (Q .b) (Q .w) m marked level came total at j
+  pub so-far : Judging (Q .b) (Q .w) m indefinite level came total at j
   pub y : Standing
-  pub stands : y ≡ standing (H Q) (since (manner (H Q)) j) came (endOf marked (length m) (drop at m))
+  pub stands : y ≡ standing (H Q) (since (manner (H Q)) j) came (endOf indefinite (length m) (drop at m))
 
 module _ {Q : Setting} (P : Turn Q) where
   -- from which part on others are left; what is left of m; how values are read; all that is judged; and whether contents end here
@@ -305,10 +305,10 @@ module _ {Q : Setting} (P : Turn Q) where
   R = readValue (T Q) (P .level)
 
   abbrev W : Answer Value
-  W = readHeld (T Q) (readValue (T Q) (P .level)) (H Q) (mode (P .marked)) (P .m)
+  W = readHeld (T Q) (readValue (T Q) (P .level)) (H Q) (mode (P .indefinite)) (P .m)
 
   abbrev E : End
-  E = endOf (P .marked) (length (P .m)) (drop (P .at) (P .m))
+  E = endOf (P .indefinite) (length (P .m)) (drop (P .at) (P .m))
 
   refused-here : (c : Cause) → W ≡ refused c (length Rest) → Refused c (length (P .m) - P .at) ≡ told (P .m) size W
   refused-here c x = tell-refused (P .m) size W c (length (P .m) - P .at) (x ∙ ap (refused c) (length-drop (P .at) (P .m)))
@@ -336,10 +336,10 @@ module _ {Q : Setting} (P : Turn Q) where
       let n = over-many (H Q) I (P .came) E u (sym (P .stands) ∙ d) in
       let (a, l) = ends-over (H Q) I (P .came) E u (sym (many-stands (H Q) I (P .came) E n) ∙ sym (P .stands) ∙ d) in
       let g =
-      going-over W (T Q) R (H Q) (mode (P .marked)) (P .m) (P .at) I (P .came) (P .total) (P .so-far .going) n (drop u (P .m))
-      (λ A f z. end-over {A = A} f z (P .m) (P .at) (P .marked) E u (P .low) refl a .0) l in
+      going-over W (T Q) R (H Q) (mode (P .indefinite)) (P .m) (P .at) I (P .came) (P .total) (P .so-far .going) n (drop u (P .m))
+      (λ A f z. end-over {A = A} f z (P .m) (P .at) (P .indefinite) E u (P .low) refl a .0) l in
       tell-done (P .m) size W (g .value) u (P .total) (g .is)
-      (end-over {A = ℕ} (λ z. got 0 z) (λ z. refused Cut 0) (P .m) (P .at) (P .marked) E u (P .low) refl a .2) (g .size)
+      (end-over {A = ℕ} (λ z. got 0 z) (λ z. refused Cut 0) (P .m) (P .at) (P .indefinite) E u (P .low) refl a .2) (g .size)
 
   -- that lack a part, or are broken
   pub judged-stopped : (c : Cause) → P .y ≡ Stops c → Refused c (length (P .m) - P .at) ≡ told (P .m) size W
@@ -352,25 +352,25 @@ module _ {Q : Setting} (P : Turn Q) where
       go : Stopped (H Q) I (P .came) E c → Refused c (length (P .m) - P .at) ≡ told (P .m) size W
       go (inl (u, a, l, q)) =
           rw q (refused-here NotAwaited
-          (going-lacking W (T Q) R (H Q) (mode (P .marked)) (P .m) (P .at) I (P .came) (P .total) (P .so-far .going) N (drop u (P .m))
-          (λ A f z. end-over {A = A} f z (P .m) (P .at) (P .marked) E u (P .low) refl a .0) l))
+          (going-lacking W (T Q) R (H Q) (mode (P .indefinite)) (P .m) (P .at) I (P .came) (P .total) (P .so-far .going) N (drop u (P .m))
+          (λ A f z. end-over {A = A} f z (P .m) (P .at) (P .indefinite) E u (P .low) refl a .0) l))
       go (inr (f, a, q)) =
           rw q (refused-here f
-          (going-broken W (T Q) R (H Q) (mode (P .marked)) (P .m) (P .at) I (P .came) (P .total) (P .so-far .going) N f (length Rest)
-          (λ A g z. end-broken {A = A} g z (P .m) (P .at) (P .marked) E f refl a)))
+          (going-broken W (T Q) R (H Q) (mode (P .indefinite)) (P .m) (P .at) I (P .came) (P .total) (P .so-far .going) N f (length Rest)
+          (λ A g z. end-broken {A = A} g z (P .m) (P .at) (P .indefinite) E f refl a)))
 
   -- an item
   module _ (d : P .y ≡ Item) where
     goes-on : isSingle (manner (H Q)) ≡ false → E ≡ GoesOn
     goes-on n = ends-item (H Q) I (P .came) E (sym (many-stands (H Q) I (P .came) E n) ∙ sym (P .stands) ∙ d)
 
-    its-more : isSingle (manner (H Q)) ≡ false → More (mode (P .marked)) Rest
-    its-more n = λ A f z. end-more {A = A} f z (P .m) (P .at) (P .marked) E refl (goes-on n) .0
+    its-more : isSingle (manner (H Q)) ≡ false → More (mode (P .indefinite)) Rest
+    its-more n = λ A f z. end-more {A = A} f z (P .m) (P .at) (P .indefinite) E refl (goes-on n) .0
 
     pub item-there : P .at < length (P .m)
     item-there =
         test (isSingle (manner (H Q))) (λ q. P .so-far .one q)
-        λ q. end-more {A = ℕ} (λ z. got 0 z) (λ z. refused Cut 0) (P .m) (P .at) (P .marked) E refl (goes-on q) .1
+        λ q. end-more {A = ℕ} (λ z. got 0 z) (λ z. refused Cut 0) (P .m) (P .at) (P .indefinite) E refl (goes-on q) .1
 
     -- of no part that is awaited
     pub judged-unfit : (way : List ℕ) (c : Cause) (r : Found) → Sought (Q .b) (H Q) I (P .came) (restOf (P .m) (P .at)) way r → r ≡ NotFound c
@@ -384,12 +384,12 @@ module _ {Q : Setting} (P : Turn Q) where
         whole : next (T Q) (H Q) I (P .came) Rest ≡ none → W ≡ unfit (H Q) I (P .came) Rest
         whole q =
             test (isSingle (manner (H Q)))
-            (λ n. rw n (one-unawaited W (T Q) R (H Q) (mode (P .marked)) (P .m) (P .at) I (P .came) (P .total) (P .so-far .going) n q))
+            (λ n. rw n (one-unawaited W (T Q) R (H Q) (mode (P .indefinite)) (P .m) (P .at) I (P .came) (P .total) (P .so-far .going) n q))
             λ n.
             test (remains (H Q) I (P .came))
             (λ r. rw (n, r)
-            (going-unawaited W (T Q) R (H Q) (mode (P .marked)) (P .m) (P .at) I (P .came) (P .total) (P .so-far .going) n (its-more n) r q))
-            λ r. rw (n, r) (going-full W (T Q) R (H Q) (mode (P .marked)) (P .m) (P .at) I (P .came) (P .total) (P .so-far .going) n (its-more n) r)
+            (going-unawaited W (T Q) R (H Q) (mode (P .indefinite)) (P .m) (P .at) I (P .came) (P .total) (P .so-far .going) n (its-more n) r q))
+            λ r. rw (n, r) (going-full W (T Q) R (H Q) (mode (P .indefinite)) (P .m) (P .at) I (P .came) (P .total) (P .so-far .going) n (its-more n) r)
 
     -- of a part that was sought
     pub found-low : (way : List ℕ) (x : Chosen) (r : Found) → Sought (Q .b) (H Q) I (P .came) (restOf (P .m) (P .at)) way r → r ≡ Part x
@@ -411,10 +411,10 @@ pub record Comes {Q : Setting} (P : Turn Q) : Type 0 where
   pub item : P .y ≡ Item
   pub way : List ℕ
   pub place : ℕ
-  pub number : ℕ
+  pub type : ℕ
   pub depth : ℕ
   pub from : ℕ
-  pub is : At-item (Q .b) (H Q) (P .m) (P .at) (I P) (P .came) way place number depth from
+  pub is : At-item (Q .b) (H Q) (P .m) (P .at) (I P) (P .came) way place type depth from
   pub ways : length way ≡ 128
 
 module _ {Q : Setting} {P : Turn Q} (X : Comes P) where
@@ -436,16 +436,16 @@ module _ {Q : Setting} {P : Turn Q} (X : Comes P) where
   pub behind-few : X .place + Q .s .step / 2 ≤ 16
   behind-few = omega (arith, place-few, onward-is Q (X .place), onward-most (kindOf (H Q)) (X .place))
 
-  pub number-few : X .number < 128
-  number-few = omega (arith, X .is .there, Q .ready .filled .few)
+  pub type-below : X .type < 128
+  type-below = omega (arith, X .is .there, Q .ready .filled .few)
 
   part-refused : (c : Cause) (l : ℕ) → R P Type-of (Rest P) ≡ refused c l → W P ≡ refused c l
   part-refused c l q =
       test (isSingle (manner (H Q)))
-      (λ n. one-refused (W P) (T Q) (R P) (H Q) (mode (P .marked)) (P .m) (P .at) (I P) (P .came) (P .total) (P .so-far .going) n
+      (λ n. one-refused (W P) (T Q) (R P) (H Q) (mode (P .indefinite)) (P .m) (P .at) (I P) (P .came) (P .total) (P .so-far .going) n
       (X .place, X .is .part) (X .is .found) c l q)
       λ n.
-      going-refused (W P) (T Q) (R P) (H Q) (mode (P .marked)) (P .m) (P .at) (I P) (P .came) (P .total) (P .so-far .going) n
+      going-refused (W P) (T Q) (R P) (H Q) (mode (P .indefinite)) (P .m) (P .at) (I P) (P .came) (P .total) (P .so-far .going) n
       (its-more P (X .item) n) some-remain (X .place, X .is .part) (X .is .found) c l q
 
   -- under more CHOICEs than there are levels
@@ -456,10 +456,10 @@ module _ {Q : Setting} {P : Turn Q} (X : Comes P) where
 
   -- the entry of its record
   abbrev Entry-of : ℕ
-  Entry-of = getD (Q .index) (X .number) 0
+  Entry-of = getD (Q .index) (X .type) 0
 
   abbrev pub is-record : IsRecord (Q .b) (Q .index) Entry-of
-  is-record = (X .number, X .is .there, refl)
+  is-record = (X .type, X .is .there, refl)
 
   pub is-headed : Headed (P .m) (P .at) (X .from) (unpacked Entry-of .code)
   is-headed = item-headed (Q .ready) (P .octets) (X .is)
@@ -472,14 +472,14 @@ pub record Valued {Q : Setting} {P : Turn Q} (X : Comes P) : Type 0 where
 
 module _ {Q : Setting} {P : Turn Q} {X : Comes P} (Y : Valued X) where
   abbrev Below : Answer Value
-  Below = readValue (T Q) (P .level - X .depth) (X .number) (Rest P)
+  Below = readValue (T Q) (P .level - X .depth) (X .type) (Rest P)
 
   record-value : readRecord (T Q) (P .level - X .depth - 1) (recordIn (Q .b) (unpacked (Entry-of X))) (Rest P) ≡ Below
   record-value =
       let q : P .level - X .depth ≡ suc (P .level - X .depth - 1) = omega (arith, Y .deep) in
       ap (λ (x : Record). readRecord (T Q) (P .level - X .depth - 1) x (Rest P)) (its-record (Q .ready) (is-record X))
-      ∙ value-step (T Q) (P .level - X .depth - 1) (X .number) (Rest P)
-      ∙ ap (λ (k : ℕ). readValue (T Q) k (X .number) (Rest P)) (sym q)
+      ∙ value-step (T Q) (P .level - X .depth - 1) (X .type) (Rest P)
+      ∙ ap (λ (k : ℕ). readValue (T Q) k (X .type) (Rest P)) (sym q)
 
   abbrev Through : Answer Value → Answer Value
   Through z = then z λ v u. got (wrapped (X .way) (X .depth) v) u
@@ -505,7 +505,7 @@ module _ {Q : Setting} {P : Turn Q} {X : Comes P} (Y : Valued X) where
     Its = told-done (P .m) size Below (Y .r) is-said end n q
 
     its-behind : (Its .1 ≡ drop (length (P .m) - length (Its .1)) (P .m)) × (P .at < length (P .m) - length (Its .1))
-    its-behind = value-behind (T Q) (P .level - X .depth) (X .number) (P .m) (P .at) (P .low) (Its .0) (Its .1) (Its .2)
+    its-behind = value-behind (T Q) (P .level - X .depth) (X .type) (P .m) (P .at) (P .low) (Its .0) (Its .1) (Its .2)
 
     pub sizes-few : (P .total < 65536) × (n + 4 * X .depth < 65536)
     sizes-few = (omega (arith, total-few P), omega (arith, Its .4, Y .deep, P .levels))
@@ -532,13 +532,13 @@ module _ {Q : Setting} {P : Turn Q} {X : Comes P} (Y : Valued X) where
         pub judged-one : k ≡ true → Done end last ≡ told (P .m) size (W P)
         judged-one z =
             let g =
-            one-done (W P) (T Q) (R P) (H Q) (mode (P .marked)) (P .m) (P .at) (I P) (P .came) (P .total) (P .so-far .going) (one-is Q k ek ∙ z)
+            one-done (W P) (T Q) (R P) (H Q) (mode (P .indefinite)) (P .m) (P .at) (I P) (P .came) (P .total) (P .so-far .going) (one-is Q k ek ∙ z)
             (X .place, X .is .part) (X .is .found) Whole (drop end (P .m)) (cap (length (octets Whole))) last its-value refl grown in
             tell-done (P .m) size (W P) (g .value) end last (g .is) value-low (g .size)
 
         -- before the next one
         pub judged-turn : k ≡ false → (came′ : List ℕ) → Notes (Q .e .kind) (P .came) (X .place) came′
-            → Judging (Q .b) (Q .w) (P .m) (P .marked) (P .level) came′ last end (X .place + Q .s .step / 2)
+            → Judging (Q .b) (Q .w) (P .m) (P .indefinite) (P .level) came′ last end (X .place + Q .s .step / 2)
         judged-turn z came′ ec =
             let y = one-is Q k ek ∙ z in
             let a : came′ ≡ noted (manner (H Q)) (P .came) (X .place) = notes-are (H Q) (P .came) (X .place) came′ (rw (← kind-is Q) ec) in
@@ -549,7 +549,7 @@ module _ {Q : Setting} {P : Turn Q} {X : Comes P} (Y : Valued X) where
               noted = ap length a ∙ noted-length (manner (H Q)) (P .came) (X .place) ∙ P .so-far .noted;
               clear = λ z p. ap (λ (l : List ℕ). getD l p 0) (a ∙ noted-clear (manner (H Q)) (P .came) (X .place) z) ∙ P .so-far .clear z p;
               going = rw (f, a)
-                  (going-turn (W P) (T Q) (R P) (H Q) (mode (P .marked)) (P .m) (P .at) (I P) (P .came) (P .total) (P .so-far .going) y
+                  (going-turn (W P) (T Q) (R P) (H Q) (mode (P .indefinite)) (P .m) (P .at) (I P) (P .came) (P .total) (P .so-far .going) y
                   (its-more P (X .item) y) (some-remain X) (X .place, X .is .part) (X .is .found) Whole end (cap (length (octets Whole))) last its-value
                   value-further value-low refl grown);
             }

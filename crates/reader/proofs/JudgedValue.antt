@@ -132,13 +132,13 @@ module _ {b index : List ℕ} {w : ℕ} {m : List ℕ} {first level : ℕ} (X : 
 module _ {b index : List ℕ} {w : ℕ} {m : List ℕ} {first level : ℕ} (Y : Filling b index w m first level) where
   -- simple contents
   module _ (simple : Y .item .entry .simple ≡ true) where
-    pub value-marked : Y .marked ≡ true → Refused Forbidden (length m - Y .item .at) ≡ Wanted (Y .item)
-    value-marked t =
+    pub value-indefinite : Y .indefinite ≡ true → Refused Forbidden (length m - Y .item .at) ≡ Wanted (Y .item)
+    value-indefinite t =
         let (k, q) = is-plain Y simple in
-        item-unfit (Y .item) Forbidden (plain-open (tableIn b) (readValue (tableIn b) level) (Own Y) (Kept Y) (S Y) k q (Y .marked) (Size-of Y)
+        item-unfit (Y .item) Forbidden (plain-open (tableIn b) (readValue (tableIn b) level) (Own Y) (Kept Y) (S Y) k q (Y .indefinite) (Size-of Y)
         (drop (Y .start) (P Y)) (plain-header Y simple k q) t)
 
-    module _ (sized : Y .marked ≡ false) (i : ℕ) (ei : i ≡ leafWeight (bodyAt b (Y .item .entry .kind) (Y .item .entry .own)) (C Y)) where
+    module _ (sized : Y .indefinite ≡ false) (i : ℕ) (ei : i ≡ leafWeight (bodyAt b (Y .item .entry .kind) (Y .item .entry .own)) (C Y)) where
       its-weight : (k : Simple) → Kept Y ≡ Plain k → i ≡ weight (decode k 0 (C Y) [])
       unfolding leafWeight
       its-weight k q =

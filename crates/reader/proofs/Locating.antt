@@ -99,37 +99,37 @@ module _ {b index : List ℕ} (R : Ready b index) {w : ℕ} (known : Known b ind
   pub end-further : (end : ℕ) → min (x .from) (length s) ≤ end → 0 < end
   end-further end l = let (part, i, n, d, f, g, y) = found-is in omega arith
 
-module _ {b index : List ℕ} (R : Ready b index) {w : ℕ} (known : Known b index w) (m : List ℕ) (marked : Bool) where
+module _ {b index : List ℕ} (R : Ready b index) {w : ℕ} (known : Known b index w) (m : List ℕ) (indefinite : Bool) where
   abbrev T : Table
   T = tableIn b
 
   -- whatever its members, they are known so far
   abbrev pub Located : List ℕ → ℕ → Type 0
-  Located ns at = (ms : List Member) → held b w ≡ inside (Set ms) → Spotting T ms marked m ns at
+  Located ns at = (ms : List Member) → held b w ≡ inside (Set ms) → Spotting T ms indefinite m ns at
 
   pub located-first : (ns : List ℕ) → ns ≡ blank → Located ns 0
-  located-first ns e ms h = spotting-first T ms marked m ns (set-few R known ms h) e
+  located-first ns e ms h = spotting-first T ms indefinite m ns (set-few R known ms h) e
 
   module _ (ns : List ℕ) (at : ℕ) (low : at ≤ length m) (L : Located ns at) (over : Bool)
-      (eo : over ≡ (none-left (drop at m) || (marked && eqb (getD m at 0) 0))) where
-    over-is : over ≡ overAt marked (drop at m)
-    over-is = over-at m at marked over eo
+      (eo : over ≡ (none-left (drop at m) || (indefinite && eqb (getD m at 0) 0))) where
+    over-is : over ≡ overAt indefinite (drop at m)
+    over-is = over-at m at indefinite over eo
 
     -- contents are over
-    pub located-over : over ≡ true → (e : ℕ) → e ≡ endAt marked at → (ms : List Member) → held b w ≡ inside (Set ms) → Spotted T ms marked m ns e
-    located-over t e ee ms h = rw ee (spotted T ms marked m ns at low (L ms h) (sym over-is ∙ t))
+    pub located-over : over ≡ true → (e : ℕ) → e ≡ endAt indefinite at → (ms : List Member) → held b w ≡ inside (Set ms) → Spotted T ms indefinite m ns e
+    located-over t e ee ms h = rw ee (spotted T ms indefinite m ns at low (L ms h) (sym over-is ∙ t))
 
     module _ (more : over ≡ false) (way : List ℕ) (r : Found) (S : Sought b (held b w) (since (manner (held b w)) 0) ns (drop at m) way r) where
       -- no member begins
-      pub located-none : (c : Cause) → r ≡ Refused c → (e : ℕ) (ms : List Member) → held b w ≡ inside (Set ms) → Spotted T ms marked m ns e
+      pub located-none : (c : Cause) → r ≡ Refused c → (e : ℕ) (ms : List Member) → held b w ≡ inside (Set ms) → Spotted T ms indefinite m ns e
       located-none c q e ms h =
           let n = (rw q at S) .0 in
-          spotted-none T ms marked m ns at low (L ms h) (sym over-is ∙ more) (sym (next-is b ns (drop at m) (held b w) ms h) ∙ n) e
+          spotted-none T ms indefinite m ns at low (L ms h) (sym over-is ∙ more) (sym (next-is b ns (drop at m) (held b w) ms h) ∙ n) e
 
       -- one does, and is passed over
       pub located-turn : (x : Chosen) → r ≡ Part x → (end : ℕ) → ((w : List ℕ) → Skips (drop at m) (x .from) w → drop end (drop at m) ≡ w)
           → Located (set ns (x .place) (at + 1)) (at + end)
       located-turn x q end skips ms h =
           let (part, i, n, d, f, g, y) = found-is R known ns (drop at m) way r S x q in
-          spotting-turn T ms marked m ns at low (L ms h) (sym over-is ∙ more) (good b T (countIn b) (R .passes)) (x .place, part)
+          spotting-turn T ms indefinite m ns at low (L ms h) (sym over-is ∙ more) (good b T (countIn b) (R .passes)) (x .place, part)
           (sym (next-is b ns (drop at m) (held b w) ms h) ∙ n) i (x .from) d end skips

@@ -306,9 +306,9 @@ module _ (b : List ℕ) (r : Record) (F : Fit r) (m : List ℕ) (om : Octets m) 
           abbrev K : ℕ
           K = length (drop at P)
 
-          pub extent : (at < x .start) × (x .start ≤ x .end) × (x .end ≤ end) × (x .marked ≡ true → x .end ≡ end)
+          pub extent : (at < x .start) × (x .start ≤ x .end) × (x .end ≤ end) × (x .indefinite ≡ true → x .end ≡ end)
           extent =
-              test (x .marked)
+              test (x .indefinite)
               (λ t.
               let y = length-indefinite P from K z (az K) x q t in
               (omega (arith, y .1, head .further), omega (arith, y .2, y .3), omega (arith, y .3, size-part), λ _. y .3 ∙ size-part))
@@ -322,12 +322,12 @@ module _ (b : List ℕ) (r : Record) (F : Fit r) (m : List ℕ) (om : Octets m) 
           size-inside = length-drop (x .start) (take (x .end) m) ∙ ap (λ (i : ℕ). i - x .start) (length-take-le (x .end) m (omega (arith, extent .2, S .high)))
 
           abbrev Contents : Answer Value → Answer Value
-          Contents y = atEnd (mode (x .marked)) U (λ _. refused NotAwaited (length U)) λ _. ended (mode (x .marked)) y
+          Contents y = atEnd (mode (x .indefinite)) U (λ _. refused NotAwaited (length U)) λ _. ended (mode (x .indefinite)) y
 
-          tag-inside : (f : List ℕ → Answer Value) → readWrapped (Id ∷ Rest) f (drop at P) ≡ sealed m end (x .end) (x .marked) (Contents (readWrapped Rest f U))
+          tag-inside : (f : List ℕ → Answer Value) → readWrapped (Id ∷ Rest) f (drop at P) ≡ sealed m end (x .end) (x .indefinite) (Contents (readWrapped Rest f U))
           unfolding readWrapped readConstructed then inside sealed ended
           tag-inside f =
-              test (x .marked)
+              test (x .indefinite)
               (λ t.
               let y = length-indefinite P from K z (az K) x q t in
               let v : x .end ≡ end = y .3 ∙ size-part in
@@ -358,16 +358,16 @@ module _ (b : List ℕ) (r : Record) (F : Fit r) (m : List ℕ) (om : Octets m) 
               ap (λ (a : List (List ℕ)). readWrapped a (readBare b n r) U) (ap (λ (i : ℕ). drop i (explicit r)) k ∙ drop-length (explicit r))
               ∙ item-refused (tableIn b) _ (ownTag r) (r .body) U c (length U) v y
 
-          no-entry : (c : Cause) → EntersTag Ids (suc j) U (x .marked) (NoTag c) → (n : ℕ)
+          no-entry : (c : Cause) → EntersTag Ids (suc j) U (x .indefinite) (NoTag c) → (n : ℕ)
               → Contents (readWrapped Rest (readBare b n r) U) ≡ refused c (length U)
           unfolding ended then
           no-entry c (goes-on g h a) n =
-              going (mode (x .marked)) U [] (length U) g (λ _. ended (mode (x .marked)) (readWrapped Rest (readBare b n r) U)) ∙ rw (rest-refused c a n) refl
+              going (mode (x .indefinite)) U [] (length U) g (λ _. ended (mode (x .indefinite)) (readWrapped Rest (readBare b n r) U)) ∙ rw (rest-refused c a n) refl
           no-entry c (is-over h) n =
-              stopping (mode (x .marked)) U [] (length U) c (length U) h (λ _. ended (mode (x .marked)) (readWrapped Rest (readBare b n r) U))
+              stopping (mode (x .indefinite)) U [] (length U) c (length U) h (λ _. ended (mode (x .indefinite)) (readWrapped Rest (readBare b n r) U))
 
-          entry : (next : ℕ) → EntersTag Ids (suc j) U (x .marked) (ReadTag next)
-              → (mustGoOn (x .marked) U ≡ got [] U) × (0 < length U) × AwaitsTag Ids (suc j) U (ReadTag next)
+          entry : (next : ℕ) → EntersTag Ids (suc j) U (x .indefinite) (ReadTag next)
+              → (mustGoOn (x .indefinite) U ≡ got [] U) × (0 < length U) × AwaitsTag Ids (suc j) U (ReadTag next)
           entry next (goes-on g h a) = (g, h, a)
 
           next-head : (next : ℕ) → AwaitsTag Ids (suc j) U (ReadTag next)
@@ -375,8 +375,8 @@ module _ (b : List ℕ) (r : Record) (F : Fit r) (m : List ℕ) (om : Octets m) 
           next-head next (behind-last k) = ((λ v. absurd (omega arith)), omega arith)
           next-head next (is-tag e v h) = ((λ _. h), h .low)
 
-          module _ (y : TagRead) (E : EntersTag Ids (j + 1) (take (x .end - x .start) (drop (x .start) m)) (x .marked) y) where
-            its : (u : TagRead) → y ≡ u → EntersTag Ids (suc j) U (x .marked) u
+          module _ (y : TagRead) (E : EntersTag Ids (j + 1) (take (x .end - x .start) (drop (x .start) m)) (x .indefinite) y) where
+            its : (u : TagRead) → y ≡ u → EntersTag Ids (suc j) U (x .indefinite) u
             its u e =
                 let q = add-one j in
                 let ep = slice-is (x .start) (x .end) m (extent .1) (omega (arith, extent .2, S .high)) in
@@ -386,21 +386,21 @@ module _ (b : List ℕ) (r : Record) (F : Fit r) (m : List ℕ) (om : Octets m) 
             open-refused c e ns =
                 let k = length U + (end - x .end) in
                 refused-all c k (length m - x .start) ns
-                (λ n. tag-inside (readBare b n r) ∙ ap (sealed m end (x .end) (x .marked)) (no-entry c (its (NoTag c) e) n)
-                ∙ sealed-refused m end (x .end) (x .marked) c (length U) (extent .3))
+                (λ n. tag-inside (readBare b n r) ∙ ap (sealed m end (x .end) (x .indefinite)) (no-entry c (its (NoTag c) e) n)
+                ∙ sealed-refused m end (x .end) (x .indefinite) c (length U) (extent .3))
                 (omega (arith, size-inside, extent .1, extent .2, S .high)) (omega arith)
 
             module _ (next : ℕ) (e : y ≡ ReadTag next) where
               pub open-next : next ≤ length m
               open-next = let q = next-head next (entry next (its (ReadTag next) e) .2) .1 in omega (arith, q, size-inside, extent .2, S .high)
 
-              pub open-turn : (note : ℕ) → note ≡ noteOf end (x .marked) → j < length notes
+              pub open-turn : (note : ℕ) → note ≡ noteOf end (x .indefinite) → j < length notes
                   → Opening b r m first (set notes j note) (x .start) (x .start + next) (x .end) (j + 1)
               open-turn note en g =
                   let (a, s, w) = entry next (its (ReadTag next) e) in
                   let (h, k) = next-head next w in
-                  let half : note / 2 ≡ end = ap (λ (i : ℕ). i / 2) en ∙ note-half end (x .marked) in
-                  let mark : eqb (note % 2) 1 ≡ x .marked = ap (λ (i : ℕ). eqb (i % 2) 1) en ∙ note-mark end (x .marked) in
+                  let half : note / 2 ≡ end = ap (λ (i : ℕ). i / 2) en ∙ note-half end (x .indefinite) in
+                  let mark : eqb (note % 2) 1 ≡ x .indefinite = ap (λ (i : ℕ). eqb (i % 2) 1) en ∙ note-mark end (x .indefinite) in
                   let made : take (j + 1) (set notes j note) ≡ take j notes ++ (note ∷ [])
                   = ap (λ (i : ℕ). take i (set notes j note)) (add-one j) ∙ take-suc-set notes j note g in
                   let fit-end : length (take (x .end) m) ≡ x .end = length-take-le (x .end) m (omega (arith, extent .2, S .high)) in
@@ -428,9 +428,9 @@ module _ (b : List ℕ) (r : Record) (F : Fit r) (m : List ℕ) (om : Octets m) 
                         under n
                         ∙ ap (closing m (take j notes) end)
                         (tag-inside (readBare b n r)
-                        ∙ ap (sealed m end (x .end) (x .marked))
-                        (going (mode (x .marked)) U [] (length U) a (λ _. ended (mode (x .marked)) (readWrapped Rest (readBare b n r) U)))
-                        ∙ sealed-shut m end (x .end) (x .marked) (readWrapped Rest (readBare b n r) U))
+                        ∙ ap (sealed m end (x .end) (x .indefinite))
+                        (going (mode (x .indefinite)) U [] (length U) a (λ _. ended (mode (x .indefinite)) (readWrapped Rest (readBare b n r) U)))
+                        ∙ sealed-shut m end (x .end) (x .indefinite) (readWrapped Rest (readBare b n r) U))
                         ∙ rw (one, rw one at made, closing-last m (take j notes) note (x .end), half, mark) refl;
                   }
 

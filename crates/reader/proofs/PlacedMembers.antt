@@ -116,25 +116,25 @@ said-long (inside (Choice ts)) = omega arith
 said-long (message t) = omega arith
 
 -- what is required, with the entry and where its parts stand
-pub record Given (b index : List ℕ) (w : ℕ) (m : List ℕ) (marked : Bool) (first : List ℕ) (to : ℕ) (e : Entry) (s : Span) : Type 0 where
+pub record Given (b index : List ℕ) (w : ℕ) (m : List ℕ) (indefinite : Bool) (first : List ℕ) (to : ℕ) (e : Entry) (s : Span) : Type 0 where
   pub ready : Ready b index
   pub known : Known b index w
   pub holds : unpacked w .simple ≡ false
   pub octets : Octets m
   pub short : length m ≤ 8192
-  pub fits : Fits (heldIn b (held b w) marked m) to first
+  pub fits : Fits (heldIn b (held b w) indefinite m) to first
   pub entry : e ≡ unpacked w
   pub span : s ≡ spanOf b (e .kind) (e .own)
 
 -- and what is known before the loop: where the members of a SET begin and where they end, and the buffer once the node was begun
-pub record Started (b index : List ℕ) (w : ℕ) (m : List ℕ) (marked : Bool) (first : List ℕ) (to : ℕ) (e : Entry) (s : Span) (ns : List ℕ) (last : ℕ)
+pub record Started (b index : List ℕ) (w : ℕ) (m : List ℕ) (indefinite : Bool) (first : List ℕ) (to : ℕ) (e : Entry) (s : Span) (ns : List ℕ) (last : ℕ)
     (opened : List ℕ) : Type 0 where
-  pub given : Given b index w m marked first to e s
-  pub spotted : (ms : List Member) → held b w ≡ inside (Set ms) → Spotted (tableIn b) ms marked m ns last
+  pub given : Given b index w m indefinite first to e s
+  pub spotted : (ms : List Member) → held b w ≡ inside (Set ms) → Spotted (tableIn b) ms indefinite m ns last
   pub opening : opened ≡ sets first to (openingOf (e .kind) (s .count))
 
-module _ {b index : List ℕ} {w : ℕ} {m : List ℕ} {marked : Bool} {first : List ℕ} {to : ℕ} {e : Entry} {s : Span}
-    (G : Given b index w m marked first to e s) where
+module _ {b index : List ℕ} {w : ℕ} {m : List ℕ} {indefinite : Bool} {first : List ℕ} {to : ℕ} {e : Entry} {s : Span}
+    (G : Given b index w m indefinite first to e s) where
   abbrev H : Holder
   H = held b w
 
@@ -150,14 +150,14 @@ module _ {b index : List ℕ} {w : ℕ} {m : List ℕ} {marked : Bool} {first : 
   -- all the items
   pub record Items : Type 0 where
     pub all : Hand
-    pub read : readItems T (readValue T 24) H (suc (length m)) 0 blank [] (mode marked) m ≡ got all (G .fits .rest)
+    pub read : readItems T (readValue T 24) H (suc (length m)) 0 blank [] (mode indefinite) m ≡ got all (G .fits .rest)
     pub value : assemble H all ≡ G .fits .value
 
   pub items : Items
   unfolding readHeld then
-  items = go (readItems T (readValue T 24) H (suc (length m)) 0 blank [] (mode marked) m) refl (G .fits .is)
+  items = go (readItems T (readValue T 24) H (suc (length m)) 0 blank [] (mode indefinite) m) refl (G .fits .is)
     where
-      go : (x : Answer Hand) → readItems T (readValue T 24) H (suc (length m)) 0 blank [] (mode marked) m ≡ x
+      go : (x : Answer Hand) → readItems T (readValue T 24) H (suc (length m)) 0 blank [] (mode indefinite) m ≡ x
           → then x (λ hand u. got (assemble H hand) u) ≡ got (G .fits .value) (G .fits .rest)
           → Items
       go (got all u) q f = record { all = all; read = q ∙ ap (got all) (got-rest f); value = got-value f }
@@ -200,7 +200,7 @@ module _ {b index : List ℕ} {w : ℕ} {m : List ℕ} {marked : Bool} {first : 
 
   -- what was placed is the value
   placed : {buf : List ℕ} {end next : ℕ} → Final (assemble H (items .all)) (G .fits .rest) m first to buf end next → (v : Value) (rest : List ℕ)
-      → heldIn b H marked m ≡ got v rest
+      → heldIn b H indefinite m ≡ got v rest
       → Final v rest m first to buf end next
   placed F v rest f =
       let q = sym (G .fits .is) ∙ f in
@@ -208,19 +208,19 @@ module _ {b index : List ℕ} {w : ℕ} {m : List ℕ} {marked : Bool} {first : 
       let y : G .fits .rest ≡ rest = got-rest q in
       rw (x, y) at F
 
-module _ {b index : List ℕ} {w : ℕ} {m : List ℕ} {marked : Bool} {first : List ℕ} {to : ℕ} {e : Entry} {s : Span} {ns : List ℕ} {last : ℕ}
-    {opened : List ℕ} (X : Started b index w m marked first to e s ns last opened) where
+module _ {b index : List ℕ} {w : ℕ} {m : List ℕ} {indefinite : Bool} {first : List ℕ} {to : ℕ} {e : Entry} {s : Span} {ns : List ℕ} {last : ℕ}
+    {opened : List ℕ} (X : Started b index w m indefinite first to e s ns last opened) where
   abbrev All : Hand
   All = items (X .given) .all
 
   -- before an item
   abbrev pub State : List ℕ → ℕ → ℕ → ℕ → ℕ → Type 0
-  State buf at next j count = Loop (tableIn b) 24 (held b w) marked m All (X .given .fits .rest) ns first to buf at next j count
+  State buf at next j count = Loop (tableIn b) 24 (held b w) indefinite m All (X .given .fits .rest) ns first to buf at next j count
 
   -- the item that comes
   abbrev pub Coming : ℕ → List ℕ → ℕ → ℕ → ℕ → Type 0
   Coming count buf at next j =
-      Comes (tableIn b) 24 (held b w) m first to (Goes (tableIn b) 24 (held b w) marked m All (X .given .fits .rest) ns first to count) buf at next j
+      Comes (tableIn b) 24 (held b w) m first to (Goes (tableIn b) 24 (held b w) indefinite m All (X .given .fits .rest) ns first to count) buf at next j
 
   pub state-first : (next : ℕ) → next ≡ to + nodeOf (e .kind) (s .count) → State opened 0 next 0 0
   state-first next en =
@@ -255,11 +255,11 @@ module _ {b index : List ℕ} {w : ℕ} {m : List ℕ} {marked : Bool} {first : 
         its-skipped : Filling (tableIn b) 24 (its-set .0) m ns (filled All (nothing (its-set .0))) first to buf₁ next k
         its-skipped = filling-skip its-filling k (F .least) (omega (arith, F .most, set-count)) (F .none) buf₁ e₁
 
-        pub set-over : k ≡ s .count → (v : Value) (rest : List ℕ) → heldIn b (held b w) marked m ≡ got v rest → Final v rest m first to buf₁ last next
+        pub set-over : k ≡ s .count → (v : Value) (rest : List ℕ) → heldIn b (held b w) indefinite m ≡ got v rest → Final v rest m first to buf₁ last next
         set-over q =
             let G = X .given in
             let W = rw (its-set .1) at (items G .read) in
-            placed G (rw (its-set .1) (sorted-end marked its-skipped (q ∙ set-count) W (X .spotted (its-set .0) (its-set .1))))
+            placed G (rw (its-set .1) (sorted-end indefinite its-skipped (q ∙ set-count) W (X .spotted (its-set .0) (its-set .1))))
 
         pub set-comes : (k ≡ s .count → ⊥) → Coming count buf₁ (getD ns k 0 - 1) next k
         set-comes q =
@@ -292,7 +292,7 @@ module _ {b index : List ℕ} {w : ℕ} {m : List ℕ} {marked : Bool} {first : 
       other : kindOf (held b w) ≡ 17 → ⊥
       other z = no-set (its-kind (X .given) ∙ z)
 
-      its-placing : Placing (tableIn b) 24 (held b w) marked m All (X .given .fits .rest) first to buf at next j count
+      its-placing : Placing (tableIn b) 24 (held b w) indefinite m All (X .given .fits .rest) first to buf at next j count
       its-placing = L .arriving other
 
       pub other-low : at ≤ length m
@@ -303,7 +303,7 @@ module _ {b index : List ℕ} {w : ℕ} {m : List ℕ} {marked : Bool} {first : 
 
       -- contents are over
       module _ (h : Bool) (eh : h ≡ holdsOne (e .kind)) (no : h ≡ false) (o : Bool)
-          (eo : o ≡ (none-left (drop at m) || (marked && eqb (getD m at 0) 0))) where
+          (eo : o ≡ (none-left (drop at m) || (indefinite && eqb (getD m at 0) 0))) where
         not-one : holdsOne (kindOf (held b w)) ≡ false
         not-one = ap holdsOne (sym (its-kind (X .given))) ∙ sym eh ∙ no
 
@@ -321,14 +321,14 @@ module _ {b index : List ℕ} {w : ℕ} {m : List ℕ} {marked : Bool} {first : 
                   (omega (arith, its-placing .room), omega (arith, other-count, other-low, G .short)),
             )
 
-        pub other-over : o ≡ true → {buf₁ : List ℕ} → buf₁ ≡ finishedIn (e .kind) j (s .count) count buf to → {end : ℕ} → end ≡ endAt marked at
-            → (v : Value) (rest : List ℕ) → heldIn b (held b w) marked m ≡ got v rest → Final v rest m first to buf₁ end next
+        pub other-over : o ≡ true → {buf₁ : List ℕ} → buf₁ ≡ finishedIn (e .kind) j (s .count) count buf to → {end : ℕ} → end ≡ endAt indefinite at
+            → (v : Value) (rest : List ℕ) → heldIn b (held b w) indefinite m ≡ got v rest → Final v rest m first to buf₁ end next
         other-over y {buf₁} e₁ e₂ =
             let G = X .given in
-            placed G (rw e₂ (arriving-over other (its-some G) its-placing not-one (sym (over-at m at marked o eo) ∙ y) buf₁ (rw (its-kind G, its-parts) at e₁)))
+            placed G (rw e₂ (arriving-over other (its-some G) its-placing not-one (sym (over-at m at indefinite o eo) ∙ y) buf₁ (rw (its-kind G, its-parts) at e₁)))
 
         pub other-comes : o ≡ false → Coming count buf at next j
-        other-comes y = arriving-comes other (its-some (X .given)) its-placing ns (λ z. sym (over-at m at marked o eo) ∙ y)
+        other-comes y = arriving-comes other (its-some (X .given)) its-placing ns (λ z. sym (over-at m at indefinite o eo) ∙ y)
 
       -- one item
       pub one-comes : (h : Bool) → h ≡ holdsOne (e .kind) → h ≡ true → Coming count buf at next j
@@ -343,12 +343,12 @@ module _ {b index : List ℕ} (R : Ready b index) where
   unfolding readRecord readValue
   record-read u l s v w e = rw (record-is (R .filled .entered u l)) (kept-got (value-kept (tableIn b) 24 25 u s (omega arith)) e)
 
-module _ {b index : List ℕ} {w : ℕ} {m : List ℕ} {marked : Bool} {first : List ℕ} {to : ℕ} {e : Entry} {s : Span} {ns : List ℕ} {last : ℕ}
-    {opened : List ℕ} (X : Started b index w m marked first to e s ns last opened) (count : ℕ) where
+module _ {b index : List ℕ} {w : ℕ} {m : List ℕ} {indefinite : Bool} {first : List ℕ} {to : ℕ} {e : Entry} {s : Span} {ns : List ℕ} {last : ℕ}
+    {opened : List ℕ} (X : Started b index w m indefinite first to e s ns last opened) (count : ℕ) where
   -- the record that the item begins, on a way from the part at `place`; its first identifier ends at `from`
   pub record Chosen (j : ℕ) (buf : List ℕ) (at next place u from : ℕ) : Type 0 where
     pub prepared : Prepared (tableIn b) 24 (held b w) m first to
-        (Goes (tableIn b) 24 (held b w) marked m (items (X .given) .all) (X .given .fits .rest) ns first to count) buf at next place u
+        (Goes (tableIn b) 24 (held b w) indefinite m (items (X .given) .all) (X .given .fits .rest) ns first to count) buf at next place u
     pub least : j ≤ place
     pub low : u < countIn b
     pub tagged : firstOf (tableIn b u) ≡ untagged → ⊥
@@ -505,7 +505,7 @@ module _ {b index : List ℕ} {w : ℕ} {m : List ℕ} {marked : Bool} {first : 
           let G = X .given in
           record {
             ready = G .ready;
-            number = u;
+            type = u;
             low = R .low;
             entry = refl;
             tagged = R .tagged;
@@ -536,7 +536,7 @@ module _ {b index : List ℕ} {w : ℕ} {m : List ℕ} {marked : Bool} {first : 
             let G = X .given in
             rw (its-onward G place) (ready-placed (R .prepared) its-noted its-final .0 (ap holdsOne (sym (its-kind G)) ∙ sym eh ∙ z))
 
-        pub chosen-one : (h : Bool) → h ≡ holdsOne (e .kind) → h ≡ true → (v : Value) (rest : List ℕ) → heldIn b (held b w) marked m ≡ got v rest
+        pub chosen-one : (h : Bool) → h ≡ holdsOne (e .kind) → h ≡ true → (v : Value) (rest : List ℕ) → heldIn b (held b w) indefinite m ≡ got v rest
             → Final v rest m first to buf₂ (r .end) (r .next)
         chosen-one h eh z =
             let G = X .given in

@@ -26,7 +26,7 @@ use Rattle.reader.specs.Items.{Holder, inside, Manner, in-turn, each-onc
 use Rattle.reader.specs.Items.{awaits, some-of, following, noted, isSingle, first, Hand, readPart, readItems, filled, blank}
 use Rattle.reader.specs.Placing.{Noted}
 use Rattle.reader.specs.Placing.{endAt, Spotted}
-use Rattle.ber.specs.Skipping.{headed, Skips, sized, marked}
+use Rattle.ber.specs.Skipping.{headed, Skips, sized, unsized}
 use Rattle.reader.proofs.Skipped as Skipping
 use Rattle.reader.proofs.Skipped.{value-skips}
 use Rattle.reader.proofs.ItemsInTurn.{filled-snoc}
@@ -87,7 +87,7 @@ items-alike T r h (suc k) j {l} {q} a hand md s =
 skips-from : {s w i : List ℕ} (from : ℕ) → readIdentifier s ≡ got i (drop from s) → Skipping.Skips s w → Skips s from w
 unfolding headed then
 skips-from {s = s} from d (Skipping.sized {n = k} {r = r} x) = sized (length s) k r (rw d at x)
-skips-from {s = s} from d (Skipping.marked x p) = marked (length s) (rw d at x) p
+skips-from {s = s} from d (Skipping.unsized x p) = unsized (length s) (rw d at x) p
 
 pub value-passed : (T : Table) → Good T → (n t : ℕ) (s : List ℕ) (v : Value) (w i : List ℕ) (from : ℕ) → readValue T n t s ≡ got v w
     → readIdentifier s ≡ got i (drop from s) → Skips s from w

@@ -108,7 +108,7 @@ pub record Accepted (b : List ℕ) (w : ℕ) (m : List ℕ) (at : ℕ) (v : Valu
   pub closes : (n : ℕ) → closing m (take (unpacked w .explicit) notes) end (got n left) ≡ got n rest
 
 -- its contents
-pub record Contents (b : List ℕ) (w : ℕ) (m : List ℕ) (at end : ℕ) (v : Value) (left : List ℕ) (start stop : ℕ) (marked : Bool) : Type 0 where
+pub record Contents (b : List ℕ) (w : ℕ) (m : List ℕ) (at end : ℕ) (v : Value) (left : List ℕ) (start stop : ℕ) (indefinite : Bool) : Type 0 where
   pub low : at < start
   pub order : start ≤ stop
   pub high : stop ≤ end
@@ -117,7 +117,7 @@ pub record Contents (b : List ℕ) (w : ℕ) (m : List ℕ) (at end : ℕ) (v : 
       Lawful (unpacked w .kind) c × (v ≡ leaf (leafOf (unpacked w .kind) c)) × (left ≡ drop stop (take end m)))
   pub holds : unpacked w .simple ≡ false
       → (let c = take (stop - start) (drop start m) in
-      (u : List ℕ) × (heldIn b (held b w) marked c ≡ got v u)
+      (u : List ℕ) × (heldIn b (held b w) indefinite c ≡ got v u)
       × ((p : ℕ) → p ≤ length c → u ≡ drop p c → (start + p ≤ end) × (left ≡ drop (start + p) (take end m))))
 
 -- the value is in the buffer
@@ -153,15 +153,15 @@ module _ {b index : List ℕ} {w : ℕ} {m : List ℕ} {at from : ℕ} {buf : Li
   Rest = P .fits .rest
 
   abbrev pub its-own : IsRecord b index w
-  its-own = (P .number, P .low, P .entry)
+  its-own = (P .type, P .low, P .entry)
 
-  its : Entered b (unpacked w) (tableIn b (P .number))
+  its : Entered b (unpacked w) (tableIn b (P .type))
   its = its-entry (P .ready) its-own
 
-  same-record : R ≡ tableIn b (P .number)
+  same-record : R ≡ tableIn b (P .type)
   same-record = its-record (P .ready) its-own
 
-  same-body : R .body ≡ tableIn b (P .number) .body
+  same-body : R .body ≡ tableIn b (P .type) .body
   same-body = ap (λ (r : Record). r .body) same-record
 
   choice-is : eqb (unpacked w .kind) 50 ≡ isChoice (R .body)
@@ -179,7 +179,7 @@ module _ {b index : List ℕ} {w : ℕ} {m : List ℕ} {at from : ℕ} {buf : Li
     none-choice : isChoice (R .body) ≡ true → ⊥
     unfolding explicitCount if outermostCode
     none-choice c =
-        let T = tableIn b (P .number) in
+        let T = tableIn b (P .type) in
         let y : isChoice (T .body) ≡ true = ap isChoice (sym same-body) ∙ c in
         let q : explicitCount T ≡ length (T .tags) = rw y refl in
         let z = nil-of (T .tags) (omega (arith, q, its .explicit)) in
@@ -219,17 +219,17 @@ module _ {b index : List ℕ} {w : ℕ} {m : List ℕ} {at from : ℕ} {buf : Li
             under = U .under;
           }
 
-      module _ (start stop : ℕ) (marked : Bool) (W : Within R (take end m) at₁ end start stop marked) where
+      module _ (start stop : ℕ) (indefinite : Bool) (W : Within R (take end m) at₁ end start stop indefinite) where
         abbrev Y : Filling b index w m at 24
-        Y = record { item = item; start = start; stop = stop; marked = marked; within = W }
+        Y = record { item = item; start = start; stop = stop; indefinite = indefinite; within = W }
 
         simple-part : unpacked w .simple ≡ true
             → Lawful (unpacked w .kind) (C Y) × (Val ≡ leaf (leafOf (unpacked w .kind) (C Y))) × (U .left ≡ drop stop (take end m))
         simple-part s =
             let (k, q) = is-plain Y s in
-            test marked
+            test indefinite
             (λ t.
-            let y = plain-open (tableIn b) (readValue (tableIn b) 24) (ownTag R) (R .body) (S Y) k q marked (stop - start) (drop start (take end m))
+            let y = plain-open (tableIn b) (readValue (tableIn b) 24) (ownTag R) (R .body) (S Y) k q indefinite (stop - start) (drop start (take end m))
             (plain-header Y s k q) t in
             refused≢got (sym y ∙ U .is))
             λ t.
@@ -241,7 +241,7 @@ module _ {b index : List ℕ} {w : ℕ} {m : List ℕ} {at from : ℕ} {buf : Li
             (rw i (y .0), sym (got-value f) ∙ ap leaf (y .1 ∙ ap (λ (j : ℕ). leafOf j (C Y)) (sym i)), sym (got-rest f) ∙ same-rest)
 
         items-part : unpacked w .simple ≡ false
-            → (u : List ℕ) × (heldIn b (held b w) marked (C Y) ≡ got Val u)
+            → (u : List ℕ) × (heldIn b (held b w) indefinite (C Y) ≡ got Val u)
             × ((p : ℕ) → p ≤ length (C Y) → u ≡ drop p (C Y) → (start + p ≤ end) × (U .left ≡ drop (start + p) (take end m)))
         items-part n = go (Held Y n) refl (fine Y n)
           where
@@ -260,7 +260,7 @@ module _ {b index : List ℕ} {w : ℕ} {m : List ℕ} {at from : ℕ} {buf : Li
                       ),
                 )
 
-        contents-at : at < start → Contents b w m at end Val (U .left) start stop marked
+        contents-at : at < start → Contents b w m at end Val (U .left) start stop indefinite
         contents-at low = record { low = low; order = W .ordered; high = W .high; simple = simple-part; holds = items-part }
 
       -- a CHOICE stands in no item of its own
@@ -270,11 +270,11 @@ module _ {b index : List ℕ} {w : ℕ} {m : List ℕ} {at from : ℕ} {buf : Li
       -- an item whose length is read again
       pub read-contents : (unpacked w .kind ≡ 50 → ⊥) → (x : Extent)
           → ((l : ℕ) → Again (length (take end m)) (readLength l (drop from₁ (take end m))) x)
-          → Contents b w m at end Val (U .left) (x .start) (x .end) (x .marked)
+          → Contents b w m at end Val (U .left) (x .start) (x .end) (x .indefinite)
       read-contents k x again =
           let n = no-choice item k in
           let W = contents-sized item k (ReadLength x) (its-length n (readLength (length (Around-rest item)) (drop from₁ (take end m))) refl) x refl in
-          contents-at (x .start) (x .end) (x .marked) W (omega (arith, U .low, W .further n))
+          contents-at (x .start) (x .end) (x .indefinite) W (omega (arith, U .low, W .further n))
         where
           its-length : isChoice (R .body) ≡ false → (y : Answer Size) → readLength (length (Around-rest item)) (drop from₁ (take end m)) ≡ y
               → ReadLength x ≡ toldLength (length (take end m)) (readLength (length (Around-rest item)) (drop from₁ (take end m)))
@@ -285,7 +285,7 @@ module _ {b index : List ℕ} {w : ℕ} {m : List ℕ} {at from : ℕ} {buf : Li
               refused≢got (sym (item-refused (tableIn b) _ (ownTag R) (R .body) (Around-rest item) c l n (own-header item n ∙ e)) ∙ U .is)
 
     -- what is placed of the contents
-    module _ {start stop : ℕ} {marked : Bool} (X : Contents b w m at end Val (U .left) start stop marked) where
+    module _ {start stop : ℕ} {indefinite : Bool} (X : Contents b w m at end Val (U .left) start stop indefinite) where
       abbrev Part : List ℕ
       Part = take (stop - start) (drop start m)
 
@@ -330,19 +330,19 @@ module _ {b index : List ℕ} {w : ℕ} {m : List ℕ} {at from : ℕ} {buf : Li
 
       -- items
       module _ (holds : unpacked w .simple ≡ false) where
-        pub items-ask : ToPlace b index w Part marked buf to way
+        pub items-ask : ToPlace b index w Part indefinite buf to way
         items-ask =
             let (u, e, f) = X .holds holds in
             record {
               ready = P .ready;
-              known = of-record (P .number) (P .low) (P .entry);
+              known = of-record (P .type) (P .low) (P .entry);
               holds = holds;
               short = omega (arith, part-less, P .short);
               ways = P .ways;
               fits = record { value = Val; rest = u; is = e; room = P .fits .room };
             }
 
-        module _ (buf₁ : List ℕ) (r : Placed) (placed : IsPlaced (heldIn b (held b w) marked Part) Part to buf buf₁ r) where
+        module _ (buf₁ : List ℕ) (r : Placed) (placed : IsPlaced (heldIn b (held b w) indefinite Part) Part to buf buf₁ r) where
           abbrev Its-final : Final Val (X .holds holds .0) Part buf to buf₁ (r .end) (r .next)
           Its-final = placed Val (X .holds holds .0) (X .holds holds .1)
 
@@ -406,9 +406,9 @@ module _ {b index : List ℕ} {w : ℕ} {m : List ℕ} {at from : ℕ} {buf : Li
         rest-behind : Rest ≡ drop (length m - length Rest) m
         unfolding readRecord readValue
         rest-behind =
-            let e : readValue (tableIn b) 25 (P .number) (drop at m) ≡ got Val Rest
+            let e : readValue (tableIn b) 25 (P .type) (drop at m) ≡ got Val Rest
             = subst (λ (r : Record). readRecord (tableIn b) 24 r (drop at m) ≡ got Val Rest) same-record (P .fits .is) in
-            let q = got-holds (value-sound as-given (tableIn b) 25 (P .number) (drop at m)) e in
+            let q = got-holds (value-sound as-given (tableIn b) 25 (P .type) (drop at m)) e in
             let low : at ≤ length m = omega (arith, P .headed .further, P .headed .low) in
             let f = behind-part m at (q .piece) Rest (q .cut) in
             let g = length-behind m at (q .piece) Rest low (q .cut) in

@@ -62,7 +62,7 @@ module _ {b index : List ℕ} (R : Ready b index) where
       let y = tableIn b t .body in
       let i = drop-in (partsOf (inside y)) k m l e in
       test (ltb (m .type) (countIn b)) (λ z. ltb-true (m .type) (countIn b) z)
-      λ z. absurd (R .passes .there t h (record { number = m .type; named = rw (named-types y) at i; beyond = ltb-false (m .type) (countIn b) z }))
+      λ z. absurd (R .passes .there t h (record { type = m .type; named = rw (named-types y) at i; beyond = ltb-false (m .type) (countIn b) z }))
 
   part-low : (w : ℕ) → Known b index w → (k : ℕ) (m : Member) (l : List Member) → drop k (partsOf (held b w)) ≡ m ∷ l → m .type < countIn b
   unfolding holderIn if partsOf

@@ -30,7 +30,7 @@ use Rattle.ber.specs.Skipping.{headed, Passed, behind-all, closes, jumps, opens
 -- an item at the front of s is passed over, and w is left
 pub data Skips : List ℕ → List ℕ → Type 0 where
   sized : {n : ℕ} {s r : List ℕ} → headed s ≡ got (definite n) r → Skips s (drop n r)
-  marked : {s r w : List ℕ} → headed s ≡ got indefinite r → Passed 1 r w → Skips s w
+  unsized : {s r w : List ℕ} → headed s ≡ got indefinite r → Passed 1 r w → Skips s w
 
 -- an answer is what it is
 itself : {A : Type 0} (x : Answer A) → Holds (λ a r. x ≡ got a r) x
@@ -47,7 +47,7 @@ pass-on {k = k} (opens h e p) q = rw suc-add (opens h e (rw (suc-add, suc-add) a
 -- an item in an indefinite one, and what follows it
 item-then : {k : ℕ} {s t w : List ℕ} → GoesOn open-ended s → Skips s t → Passed (suc k) t w → Passed (suc k) s w
 item-then (no-end h) (sized e) p = jumps h e p
-item-then {k = k} (no-end h) (marked e q) p = let f : 1 + suc k ≡ suc (suc k) = omega arith in opens h e (rw f at (pass-on q p))
+item-then {k = k} (no-end h) (unsized e q) p = let f : 1 + suc k ≡ suc (suc k) = omega arith in opens h e (rw f at (pass-on q p))
 
 ended : {s u : List ℕ} → Ends open-ended s u → Passed 1 s u
 ended mark = closes behind-all
@@ -92,7 +92,7 @@ inside-skips : {A : Type 0} (body : _ → List ℕ → Answer A) → Inner (body
     → Holds (λ v w. Skips s w) (inside body z r)
 unfolding inside
 inside-skips body f s (definite n) r e = then-holds (behind-holds _ (itself (body closed (take n r)))) λ v u x. yields (sized e)
-inside-skips body f s indefinite r e = map-holds (f r) λ v w x. marked e x
+inside-skips body f s indefinite r e = map-holds (f r) λ v w x. unsized e x
 
 constructed-skips : {A : Type 0} (i : List ℕ) (body : _ → List ℕ → Answer A) → Inner (body open-ended) → Outer (readConstructed i body)
 unfolding readConstructed

@@ -236,13 +236,13 @@ module _ {b index : List ℕ} (R : Ready b index) {w : ℕ} (I : IsRecord b inde
         awaits-other z = no-tag {c = NotAwaited} within (rw (Is .1, its-same, ne-eqb code k z) refl)
 
 -- in the contents of a tag
-module _ (is : List (List ℕ)) (j : ℕ) (m : List ℕ) (marked : Bool) (y : End) (ey : y ≡ endOf marked (length m) (drop 0 m)) where
-  pub enters-over : (u : ℕ) → y ≡ Over u → EntersTag is j m marked (NoTag NotAwaited)
-  enters-over u q = is-over (end-over {A = List ℕ} (λ _. refused NotAwaited (length m)) (λ _. got [] m) m 0 marked y u (omega arith) ey q .0)
+module _ (is : List (List ℕ)) (j : ℕ) (m : List ℕ) (indefinite : Bool) (y : End) (ey : y ≡ endOf indefinite (length m) (drop 0 m)) where
+  pub enters-over : (u : ℕ) → y ≡ Over u → EntersTag is j m indefinite (NoTag NotAwaited)
+  enters-over u q = is-over (end-over {A = List ℕ} (λ _. refused NotAwaited (length m)) (λ _. got [] m) m 0 indefinite y u (omega arith) ey q .0)
 
-  pub enters-broken : (c : Cause) → y ≡ Broken c → EntersTag is j m marked (NoTag c)
+  pub enters-broken : (c : Cause) → y ≡ Broken c → EntersTag is j m indefinite (NoTag c)
   enters-broken c q =
-      is-over (end-broken {A = List ℕ} (λ _. refused NotAwaited (length m)) (λ _. got [] m) m 0 marked y c ey q)
+      is-over (end-broken {A = List ℕ} (λ _. refused NotAwaited (length m)) (λ _. got [] m) m 0 indefinite y c ey q)
 
-  pub enters-more : y ≡ More → (t : TagRead) → AwaitsTag is j m t → EntersTag is j m marked t
-  enters-more q t a = let h = end-more {A = List ℕ} (λ _. refused NotAwaited (length m)) (λ _. got [] m) m 0 marked y ey q in goes-on (h .0) (h .1) a
+  pub enters-more : y ≡ More → (t : TagRead) → AwaitsTag is j m t → EntersTag is j m indefinite t
+  enters-more q t a = let h = end-more {A = List ℕ} (λ _. refused NotAwaited (length m)) (λ _. got [] m) m 0 indefinite y ey q in goes-on (h .0) (h .1) a

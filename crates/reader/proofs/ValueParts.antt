@@ -57,13 +57,13 @@ abbrev pub sizeOf : Bool → ℕ → Size
 sizeOf true n = indefinite
 sizeOf false n = definite n
 
-pub record Within (r : Record) (p : List ℕ) (at end start stop : ℕ) (marked : Bool) : Type 0 where
+pub record Within (r : Record) (p : List ℕ) (at end start stop : ℕ) (indefinite : Bool) : Type 0 where
   pub ordered : start ≤ stop
   pub high : stop ≤ end
-  pub unsized : marked ≡ true → stop ≡ end
+  pub unsized : indefinite ≡ true → stop ≡ end
   pub further : isChoice (r .body) ≡ false → at < start
   pub bare : isChoice (r .body) ≡ true → (start ≡ at) × (stop ≡ end)
-  pub header : isChoice (r .body) ≡ false → readHeader (ownTag r) (drop at p) ≡ got (sizeOf marked (stop - start)) (drop start p)
+  pub header : isChoice (r .body) ≡ false → readHeader (ownTag r) (drop at p) ≡ got (sizeOf indefinite (stop - start)) (drop start p)
 
 -- the item of a simple kind, by its header
 module _ (T : Table) (f : ℕ → List ℕ → Answer Value) (i : List ℕ) (y : Body) (s : List ℕ) (k : Simple) (q : y ≡ Plain k) (z : Bool) (n : ℕ)
@@ -194,10 +194,10 @@ module _ {b index : List ℕ} {w : ℕ} {m : List ℕ} {first level : ℕ} (X : 
       }
 
   module _ (k : X .entry .kind ≡ 50 → ⊥) (z : Length) (az : z ≡ toldLength (length Part) (readLength (length Rest) (drop (X .from) Part))) where
-    pub contents-sized : (x : Extent) → z ≡ ReadLength x → Within Rec Part (X .at) (X .end) (x .start) (x .end) (x .marked)
+    pub contents-sized : (x : Extent) → z ≡ ReadLength x → Within Rec Part (X .at) (X .end) (x .start) (x .end) (x .indefinite)
     contents-sized x q =
         let n = no-choice k in
-        test (x .marked)
+        test (x .indefinite)
         (λ t.
         let y = length-indefinite Part (X .from) (length Rest) z az x q t in
         record {
@@ -224,8 +224,8 @@ pub record Filling (b index : List ℕ) (w : ℕ) (m : List ℕ) (first level : 
   pub item : Item b index w m first level
   pub start : ℕ
   pub stop : ℕ
-  pub marked : Bool
-  pub within : Within (recordOf b w) (take (item .end) m) (item .at) (item .end) start stop marked
+  pub indefinite : Bool
+  pub within : Within (recordOf b w) (take (item .end) m) (item .at) (item .end) start stop indefinite
 
 module _ {b index : List ℕ} {w : ℕ} {m : List ℕ} {first level : ℕ} (Y : Filling b index w m first level) where
   abbrev pub X : Item b index w m first level
@@ -234,7 +234,7 @@ module _ {b index : List ℕ} {w : ℕ} {m : List ℕ} {first level : ℕ} (Y : 
   abbrev pub U : Under b (recordOf b w) m first (take (unpacked w .explicit) (X .notes)) (X .at) (X .from) (X .end)
   U = X .under
 
-  abbrev pub W : Within (recordOf b w) (take (X .end) m) (X .at) (X .end) (Y .start) (Y .stop) (Y .marked)
+  abbrev pub W : Within (recordOf b w) (take (X .end) m) (X .at) (X .end) (Y .start) (Y .stop) (Y .indefinite)
   W = Y .within
 
   abbrev pub Kept : Body
@@ -288,18 +288,18 @@ module _ {b index : List ℕ} {w : ℕ} {m : List ℕ} {first level : ℕ} (Y : 
     pub is-plain : (k : Simple) × (Kept ≡ Plain k)
     is-plain = plain-of Kept (not-true (constructed Kept) (sym kept-simple ∙ simple))
 
-    pub plain-header : (k : Simple) → Kept ≡ Plain k → readHeader Own S ≡ got (sizeOf (Y .marked) Size-of) (drop (Y .start) P)
+    pub plain-header : (k : Simple) → Kept ≡ Plain k → readHeader Own S ≡ got (sizeOf (Y .indefinite) Size-of) (drop (Y .start) P)
     plain-header k q = W .header (no-alternatives Kept k q)
 
-    pub leaf-read : Y .marked ≡ false → (k : Simple) → Kept ≡ Plain k → Bare X ≡ then (decode k (length S) C (drop (Y .stop) P)) λ x s. got (leaf x) s
+    pub leaf-read : Y .indefinite ≡ false → (k : Simple) → Kept ≡ Plain k → Bare X ≡ then (decode k (length S) C (drop (Y .stop) P)) λ x s. got (leaf x) s
     leaf-read sized k q =
-        plain-sized (tableIn b) (readValue (tableIn b) level) Own Kept S k q (Y .marked) Size-of (drop (Y .start) P) (plain-header k q) sized
+        plain-sized (tableIn b) (readValue (tableIn b) level) Own Kept S k q (Y .indefinite) Size-of (drop (Y .start) P) (plain-header k q) sized
         ∙ rw (part-c, rest-c) refl
 
   -- items
   module _ (plain : X .entry .simple ≡ false) where
     abbrev pub Held : Answer Value
-    Held = readHeld (tableIn b) (readValue (tableIn b) level) (held b w) (mode (Y .marked)) C
+    Held = readHeld (tableIn b) (readValue (tableIn b) level) (held b w) (mode (Y .indefinite)) C
 
     abbrev HeldIn : Mode → List ℕ → Answer Value
     HeldIn k s = readHeld (tableIn b) (readValue (tableIn b) level) (inside Kept) k s
@@ -310,8 +310,8 @@ module _ {b index : List ℕ} {w : ℕ} {m : List ℕ} {first level : ℕ} (Y : 
     kept-built : Built (tableIn b) (readValue (tableIn b) level) Own S Kept (Bare X)
     kept-built = its-built (X .ready) (X .known) level S is-built
 
-    its-held : Held ≡ HeldIn (mode (Y .marked)) C
-    its-held = ap (λ (h : Holder). readHeld (tableIn b) (readValue (tableIn b) level) h (mode (Y .marked)) C) (its-holder (X .ready) (X .known))
+    its-held : Held ≡ HeldIn (mode (Y .indefinite)) C
+    its-held = ap (λ (h : Holder). readHeld (tableIn b) (readValue (tableIn b) level) h (mode (Y .indefinite)) C) (its-holder (X .ready) (X .known))
 
     pub items-known : Known b index w × (unpacked w .simple ≡ false)
     items-known = let (t, h, q) = X .known in (of-record t h q, sym (ap (λ (e : Entry). e .simple) (X .entered)) ∙ plain)
@@ -323,10 +323,10 @@ module _ {b index : List ℕ} {w : ℕ} {m : List ℕ} {first level : ℕ} (Y : 
         omega (arith, size-C, y .0, y .1, U .some)
 
     abbrev pub Fine : Answer Value → Type 0
-    Fine x = Sane (Closes (tableIn b) level (inside Kept) (mode (Y .marked))) C x
+    Fine x = Sane (Closes (tableIn b) level (inside Kept) (mode (Y .indefinite))) C x
 
     pub fine : Fine Held
-    fine = rw its-held (held-sane (tableIn b) level (inside Kept) (mode (Y .marked)) C)
+    fine = rw its-held (held-sane (tableIn b) level (inside Kept) (mode (Y .indefinite)) C)
 
     -- what the items give, the item gives
     abbrev Reads : Answer Value → Type 0
@@ -340,10 +340,10 @@ module _ {b index : List ℕ} {w : ℕ} {m : List ℕ} {first level : ℕ} (Y : 
         y ∙ d ∙ ap (got v) (tail-at C u t ∙ ap (drop k) (sym (all-c z)) ∙ drop-drop k (Y .start) P)
     reads-open z y (refused c l) d (stops h) = let v : l ≡ l + (X .end - Y .stop) = omega arith in y ∙ d ∙ ap (refused c) v
 
-    reads-sized : isChoice Kept ≡ false → Y .marked ≡ false → (x : Answer Value) → Held ≡ x → Fine x → Reads x
+    reads-sized : isChoice Kept ≡ false → Y .indefinite ≡ false → (x : Answer Value) → Held ≡ x → Fine x → Reads x
     unfolding then behind
     reads-sized k z x d y =
-        let a = kept-built .0 k ∙ built-sized Own S (Y .marked) Size-of (drop (Y .start) P) (W .header k) HeldIn z in
+        let a = kept-built .0 k ∙ built-sized Own S (Y .indefinite) Size-of (drop (Y .start) P) (W .header k) HeldIn z in
         let g : length (drop (Y .start) P) - Size-of ≡ X .end - Y .stop = omega (arith, length-drop (Y .start) P, size-part X, W .ordered, W .high) in
         let i : HeldIn closed C ≡ x = ap (λ (t : Bool). HeldIn (mode t) C) (sym z) ∙ sym its-held ∙ d in
         go x y (a ∙ rw (part-c, rest-c, g, i) refl)
@@ -361,11 +361,11 @@ module _ {b index : List ℕ} {w : ℕ} {m : List ℕ} {first level : ℕ} (Y : 
         (λ k.
         let (a, z) = W .bare k in
         let g : S ≡ C = ap (λ (i : ℕ). drop i P) (sym a) ∙ all-c z in
-        reads-open z (kept-built .1 k (mode (Y .marked)) ∙ ap (HeldIn (mode (Y .marked))) g ∙ sym its-held) x d y)
+        reads-open z (kept-built .1 k (mode (Y .indefinite)) ∙ ap (HeldIn (mode (Y .indefinite))) g ∙ sym its-held) x d y)
         λ k.
-        test (Y .marked)
+        test (Y .indefinite)
         (λ t.
         let z = W .unsized t in
         let i : HeldIn open-ended (drop (Y .start) P) ≡ Held = rw (all-c z) (ap (λ (t : Bool). HeldIn (mode t) C) (sym t) ∙ sym its-held) in
-        reads-open z (kept-built .0 k ∙ built-open Own S (Y .marked) Size-of (drop (Y .start) P) (W .header k) HeldIn t ∙ i) x d y)
+        reads-open z (kept-built .0 k ∙ built-open Own S (Y .indefinite) Size-of (drop (Y .start) P) (W .header k) HeldIn t ∙ i) x d y)
         λ t. reads-sized k t x d y

@@ -7,7 +7,7 @@ use lib.Dec.{eqb}
 use Rattle.octets.specs.Answer.{Answer, got, refused, if}
 use Rattle.ber.specs.Codes.{codeOf}
 use Rattle.table.specs.Syntax.{Record, Table}
-use Rattle.table.specs.Rules.{parts}
+use Rattle.table.specs.Rules.{siblings}
 use Rattle.table.specs.Entries.{untagged as noTag, firstCode}
 use Rattle.reader.specs.declared.search.Under.{Under}
 use Rattle.reader.specs.declared.search.Under.the-variants.{Nothing, At}
@@ -46,4 +46,4 @@ searchIn T zero t c = Nothing
 searchIn T (suc k) t c =
     if (eqb (firstOf (T t)) c) (At t 0) λ _.
     if (not (eqb (firstOf (T t)) untagged)) Nothing λ _.
-    among (λ a. searchIn T k a c) (parts (T t .body))
+    among (λ a. searchIn T k a c) (siblings (T t .body))

@@ -38,28 +38,28 @@ IsPlaced x m to first buf r = (v : Value) (rest : List ℕ) → x ≡ got v rest
 
 -- the items in the contents m of h
 abbrev pub heldIn : List ℕ → Holder → Bool → List ℕ → Answer Value
-heldIn b h marked m = readHeld (tableIn b) (readValue (tableIn b) 24) h (mode marked) m
+heldIn b h indefinite m = readHeld (tableIn b) (readValue (tableIn b) 24) h (mode indefinite) m
 
 -- a value of an entry
 abbrev pub valueIn : List ℕ → ℕ → List ℕ → Answer Value
 valueIn b w s = readRecord (tableIn b) 24 (recordIn b (unpacked w)) s
 
 -- what the placing of the items in w requires
-pub record ToPlace (b index : List ℕ) (w : ℕ) (m : List ℕ) (marked : Bool) (buf : List ℕ) (to : ℕ) (way : List ℕ) : Type 0 where
+pub record ToPlace (b index : List ℕ) (w : ℕ) (m : List ℕ) (indefinite : Bool) (buf : List ℕ) (to : ℕ) (way : List ℕ) : Type 0 where
   pub ready : Ready b index
   pub known : Known b index w
   pub holds : unpacked w .simple ≡ false
   pub short : length m ≤ 8192
   pub ways : length way ≡ 128
-  pub fits : Fits (heldIn b (held b w) marked m) to buf
+  pub fits : Fits (heldIn b (held b w) indefinite m) to buf
 
 -- what the placing of a value of w requires: w is the entry of a record that begins with an identifier of its own, which ends at `from`
 pub record ToPlaceValue (b index : List ℕ) (w : ℕ) (m : List ℕ) (at from : ℕ) (buf : List ℕ) (to : ℕ) (way : List ℕ) : Type 0 where
   pub ready : Ready b index
-  pub number : ℕ
-  pub low : number < countIn b
-  pub entry : w ≡ getD index number 0
-  pub tagged : firstOf (tableIn b number) ≡ untagged → ⊥
+  pub type : ℕ
+  pub low : type < countIn b
+  pub entry : w ≡ getD index type 0
+  pub tagged : firstOf (tableIn b type) ≡ untagged → ⊥
   pub short : length m ≤ 8192
   pub headed : Headed m at from (unpacked w .code)
   pub ways : length way ≡ 128

@@ -77,13 +77,13 @@ pub data AwaitsTag (is : List (List ℕ)) (j : ℕ) (m : List ℕ) : Tag → Typ
       → then (readIdentifier m) (λ i s. if (same (getD is j []) i) (got i s) λ _. refused NotAwaited (length m)) ≡ refused c (length m)
       → AwaitsTag is j m (NoTag c)
 
--- the same in the contents of a tag, which 00 00 closes if `marked`: over they may not be
+-- the same in the contents of a tag, which 00 00 closes if `indefinite`: over they may not be
 abbrev pub mustGoOn : Bool → List ℕ → Answer (List ℕ)
-mustGoOn marked m = atEnd (mode marked) m (λ u. refused NotAwaited (length m)) λ _. got [] m
+mustGoOn indefinite m = atEnd (mode indefinite) m (λ u. refused NotAwaited (length m)) λ _. got [] m
 
-pub data EntersTag (is : List (List ℕ)) (j : ℕ) (m : List ℕ) (marked : Bool) : Tag → Type 0 where
-  goes-on : {r : Tag} → mustGoOn marked m ≡ got [] m → 0 < length m → AwaitsTag is j m r → EntersTag is j m marked r
-  is-over : {c : Cause} → mustGoOn marked m ≡ refused c (length m) → EntersTag is j m marked (NoTag c)
+pub data EntersTag (is : List (List ℕ)) (j : ℕ) (m : List ℕ) (indefinite : Bool) : Tag → Type 0 where
+  goes-on : {r : Tag} → mustGoOn indefinite m ≡ got [] m → 0 < length m → AwaitsTag is j m r → EntersTag is j m indefinite r
+  is-over : {c : Cause} → mustGoOn indefinite m ≡ refused c (length m) → EntersTag is j m indefinite (NoTag c)
 
 -- What opening the tags of a record says of reading it, with however many levels.
 abbrev pub Opens : List ℕ → Record → List ℕ → ℕ → List ℕ → Opened → Type 0

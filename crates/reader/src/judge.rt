@@ -50,20 +50,20 @@ pub enum Standing {
     Refused { cause: Cause },
 }
 
-// What stands at a place of the contents m of w, which 00 00 closes if `marked`. Awaited are members of a SEQUENCE from the j-th on, and
+// What stands at a place of the contents m of w, which 00 00 closes if `indefinite`. Awaited are members of a SEQUENCE from the j-th on, and
 // members of a SET that have not come.
 fn next(
     table: &[u8],
     w: u64,
     m: &[u8],
     at: usize,
-    marked: bool,
+    indefinite: bool,
     j: usize,
     came: &[u16; 16],
 ) -> Standing
     requires { ⌜ ((index : List ℕ) × Sound (now table) index w (now came) × (unpacked w .simple ≡ false)) ⌝ }
     ensures { λ r. ⌜
-        (let h = held (now (table .entry)) w in r ≡ standing h (since (manner h) j) (now (came .entry)) (endOf marked (length (now (m .entry))) (drop at (now (m .entry)))))
+        (let h = held (now (table .entry)) w in r ≡ standing h (since (manner h) j) (now (came .entry)) (endOf indefinite (length (now (m .entry))) (drop at (now (m .entry)))))
         ⌝ }
 {
     let e = unpack(w);
@@ -71,7 +71,7 @@ fn next(
         return Standing::Item;
     }
     let i = if e.kind == SEQUENCE { j } else { 0 };
-    match ending::read(m, at, marked) {
+    match ending::read(m, at, indefinite) {
         End::More => Standing::Item,
         End::Broken { cause } => Standing::Refused { cause },
         End::Over { end } => {
@@ -147,7 +147,7 @@ fn judge_value(
     let around = &m[..end];
     let mut start = at;
     let mut stop = end;
-    let mut marked = false;
+    let mut indefinite = false;
     if e.kind != CHOICE {
         match length::read(around, from) {
             Length::Refused { cause } => {
@@ -156,13 +156,13 @@ fn judge_value(
             Length::Read(x) => {
                 start = x.start;
                 stop = x.end;
-                marked = x.marked;
+                indefinite = x.indefinite;
             }
         }
     }
     let mut size: usize = 0;
     if e.simple {
-        if marked {
+        if indefinite {
             return refused(Cause::Forbidden, left);
         }
         let c = &m[start..stop];
@@ -172,7 +172,7 @@ fn judge_value(
         }
     } else {
         let c = &m[start..stop];
-        match judge_members(table, index, w, c, marked, level, way) {
+        match judge_members(table, index, w, c, indefinite, level, way) {
             Judged::Refused { cause, left: n } => {
                 return refused(cause, n + (m.len() - stop));
             }
@@ -188,14 +188,14 @@ fn judge_value(
     done(stop, size)
 }
 
-// The items in w: all of a SEQUENCE, a SET or a list, whose contents 00 00 closes if `marked`; or the one of a CHOICE or a message, with
+// The items in w: all of a SEQUENCE, a SET or a list, whose contents 00 00 closes if `indefinite`; or the one of a CHOICE or a message, with
 // which m begins. Their values have `level` levels.
 fn judge_members(
     table: &[u8],
     index: &[u64; 128],
     w: u64,
     m: &[u8],
-    marked: bool,
+    indefinite: bool,
     level: usize,
     way: &mut [u16; 128],
 ) -> Judged
@@ -211,7 +211,7 @@ fn judge_members(
     ensures { λ r. ⌜
         (length (now (way .exit)) ≡ 128)
         × (let b = now (table .entry) in
-        r ≡ told (now (m .entry)) size (readHeld (tableIn b) (readValue (tableIn b) level) (held b w) (mode marked) (now (m .entry))))
+        r ≡ told (now (m .entry)) size (readHeld (tableIn b) (readValue (tableIn b) level) (held b w) (mode indefinite) (now (m .entry))))
         ⌝ }
 {
     let e = unpack(w);
@@ -221,7 +221,7 @@ fn judge_members(
     let mut at: usize = 0;
     let mut j: usize = 0;
     loop {
-        match next(table, w, m, at, marked, j, &came) {
+        match next(table, w, m, at, indefinite, j, &came) {
             Standing::Item => {}
             Standing::Over { end } => {
                 return done(end, total);

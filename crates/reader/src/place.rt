@@ -83,12 +83,12 @@ fn place_value(
     let around = &m[..end];
     let mut start = at;
     let mut stop = end;
-    let mut marked = false;
+    let mut indefinite = false;
     if e.kind != CHOICE {
         let x = length::again(around, from);
         start = x.start;
         stop = x.end;
-        marked = x.marked;
+        indefinite = x.indefinite;
     }
     let mut next = to;
     if e.simple {
@@ -96,7 +96,7 @@ fn place_value(
         next = place_contents(e.kind, c, buf, to);
     } else {
         let c = &m[start..stop];
-        let x = place_members(table, index, w, c, marked, buf, to, way);
+        let x = place_members(table, index, w, c, indefinite, buf, to, way);
         stop = start + x.end;
         next = x.next;
     }
@@ -111,23 +111,23 @@ fn place_value(
     Placed { end: stop, next }
 }
 
-// The items in w, in the table's order: all of a SEQUENCE, a SET or a list, whose contents 00 00 closes if `marked`; or the one of a
+// The items in w, in the table's order: all of a SEQUENCE, a SET or a list, whose contents 00 00 closes if `indefinite`; or the one of a
 // CHOICE or a message, with which m begins.
 fn place_members(
     table: &[u8],
     index: &[u64; 128],
     w: u64,
     m: &[u8],
-    marked: bool,
+    indefinite: bool,
     buf: &mut [u8],
     to: usize,
     way: &mut [u16; 128],
 ) -> Placed
-    requires { ⌜ ToPlace (now table) (now index) w (now m) marked (now buf) to (now way) ⌝ }
+    requires { ⌜ ToPlace (now table) (now index) w (now m) indefinite (now buf) to (now way) ⌝ }
     ensures { λ r. ⌜
         (length (now (way .exit)) ≡ 128)
         × (let b = now (table .entry) in
-        IsPlaced (heldIn b (held b w) marked (now (m .entry))) (now (m .entry)) to (now (buf .entry)) (now (buf .exit)) r)
+        IsPlaced (heldIn b (held b w) indefinite (now (m .entry))) (now (m .entry)) to (now (buf .entry)) (now (buf .exit)) r)
         ⌝ }
 {
     let e = unpack(w);
@@ -136,7 +136,7 @@ fn place_members(
     let mut began = [0u16; 16];
     let mut last: usize = 0;
     if e.kind == SET {
-        last = locate(table, index, w, m, marked, &mut began, way);
+        last = locate(table, index, w, m, indefinite, &mut began, way);
     }
     let mut next = begin(e.kind, s.count, buf, to);
     let mut at: usize = 0;
@@ -153,10 +153,10 @@ fn place_members(
             j = k;
         } else {
             if !holds_one(e.kind) {
-                if ending::is_over(m, at, marked) {
+                if ending::is_over(m, at, indefinite) {
                     finish(e.kind, j, s.count, count, buf, to);
                     return Placed {
-                        end: behind(at, marked),
+                        end: behind(at, indefinite),
                         next,
                     };
                 }

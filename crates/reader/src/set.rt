@@ -16,12 +16,12 @@ use crate::search::search;
 use ber::ending;
 use ber::item;
 
-// Behind contents that are over at a place; 00 00 closes them if `marked`.
-pub fn behind(at: usize, marked: bool) -> usize
+// Behind contents that are over at a place; 00 00 closes them if `indefinite`.
+pub fn behind(at: usize, indefinite: bool) -> usize
     requires { ⌜ at ≤ 8192 ⌝ }
-    ensures { λ r. ⌜ r ≡ endAt marked at ⌝ }
+    ensures { λ r. ⌜ r ≡ endAt indefinite at ⌝ }
 {
-    if marked {
+    if indefinite {
         return at + 2;
     }
     at
@@ -42,13 +42,13 @@ pub fn following(began: &[u16; 16], j: usize, n: usize) -> usize
     n
 }
 
-// Where each member begins, and where the contents end, of a SET that was accepted; 00 00 closes them if `marked`.
+// Where each member begins, and where the contents end, of a SET that was accepted; 00 00 closes them if `indefinite`.
 pub fn locate(
     table: &[u8],
     index: &[u64; 128],
     w: u64,
     m: &[u8],
-    marked: bool,
+    indefinite: bool,
     began: &mut [u16; 16],
     way: &mut [u16; 128],
 ) -> usize
@@ -64,13 +64,13 @@ pub fn locate(
         (length (now (began .exit)) ≡ 16)
         × (length (now (way .exit)) ≡ 128)
         × ((ms : List Member) → held (now (table .entry)) w ≡ inside (Set ms)
-        → Spotted (tableIn (now (table .entry))) ms marked (now (m .entry)) (now (began .exit)) r)
+        → Spotted (tableIn (now (table .entry))) ms indefinite (now (m .entry)) (now (began .exit)) r)
         ⌝ }
 {
     let mut at: usize = 0;
     loop {
-        if ending::is_over(m, at, marked) {
-            return behind(at, marked);
+        if ending::is_over(m, at, indefinite) {
+            return behind(at, indefinite);
         }
         let rest = &m[at..];
         let came = *began;

@@ -33,12 +33,12 @@ pub enum Opened {
 }
 
 // The note of a tag: twice the end of what it stands in, and 1 if 00 00 closes its contents.
-fn note(end: usize, marked: bool) -> u16
+fn note(end: usize, indefinite: bool) -> u16
     requires { ⌜ end ≤ 8192 ⌝ }
-    ensures { λ r. ⌜ r ≡ noteOf end marked ⌝ }
+    ensures { λ r. ⌜ r ≡ noteOf end indefinite ⌝ }
 {
     let n = 2 * end;
-    if marked {
+    if indefinite {
         return (n + 1) as u16;
     }
     n as u16
@@ -72,12 +72,12 @@ fn awaited(table: &[u8], w: u64, j: usize, m: &[u8]) -> Tag
     }
 }
 
-// Whether an item follows in the contents m of a tag, which 00 00 closes if `marked`; then the j-th tag of w is awaited.
-fn enter(table: &[u8], w: u64, j: usize, m: &[u8], marked: bool) -> Tag
+// Whether an item follows in the contents m of a tag, which 00 00 closes if `indefinite`; then the j-th tag of w is awaited.
+fn enter(table: &[u8], w: u64, j: usize, m: &[u8], indefinite: bool) -> Tag
     requires { ⌜ ((index : List ℕ) × Ready (now table) index × IsRecord (now table) index w) ⌝ }
-    ensures { λ r. ⌜ EntersTag (identifiers (recordIn (now (table .entry)) (unpacked w))) j (now (m .entry)) marked r ⌝ }
+    ensures { λ r. ⌜ EntersTag (identifiers (recordIn (now (table .entry)) (unpacked w))) j (now (m .entry)) indefinite r ⌝ }
 {
-    match ending::read(m, 0, marked) {
+    match ending::read(m, 0, indefinite) {
         End::Over { end: _ } => Tag::Refused {
             cause: Cause::NotAwaited,
         },
@@ -117,13 +117,13 @@ pub fn open(table: &[u8], w: u64, m: &[u8], at: usize, from: usize, notes: &mut 
                 };
             }
             Length::Read(x) => {
-                let marked = x.marked;
-                notes[j] = note(end, marked);
+                let indefinite = x.indefinite;
+                notes[j] = note(end, indefinite);
                 j += 1;
                 at = x.start;
                 end = x.end;
                 let inside = &m[at..end];
-                match enter(table, w, j, inside, marked) {
+                match enter(table, w, j, inside, indefinite) {
                     Tag::Refused { cause } => {
                         return Opened::Refused {
                             cause,

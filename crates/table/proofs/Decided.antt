@@ -16,7 +16,7 @@ use Rattle.octets.proofs.Lists.{both}
 use Rattle.octets.proofs.Members.{or-cases, or-left, or-right, not-both, Some, any-some, some-any, all-each, each-all, in-place, place-in, in-below}
 use Rattle.table.specs.Syntax.{Tag, Member, Body, Plain, Sequence, Set, SequenceOf, SetOf, Choice, Record, Table, absent, isChoice, universal}
 use Rattle.table.specs.Rules.{Dangling, Mistagged, missing, not-last, not-its-number, on-choice, bodyBelow, tagsBelow, below, Reaches, here, through}
-use Rattle.table.specs.Rules.{Circular, First, outermost, inside, parts, Sharing, members, Finite, all-mandatory, one-alternative, Infinite}
+use Rattle.table.specs.Rules.{Circular, First, outermost, inside, siblings, Sharing, members, Finite, all-mandatory, one-alternative, Infinite}
 use Rattle.table.specs.Decide.{rounds, found, dangling, wrongTags, mistagged, reachStep, circular, sameTag, begins}
 use Rattle.table.specs.Decide.{firstStep, firstOfBoth, share, pair, sharing, finiteBody, finiteStep, infinite}
 use Rattle.table.proofs.Rounds.{rounds-sound, rounds-closed}
@@ -110,11 +110,11 @@ paired f (a ∷ l) (suc i) (suc j) h w e = or-right (any (f a) l) _ (paired f l 
 
 pub dangling-sound : (T : Table) (n t : ℕ) → dangling T n t ≡ true → Dangling T n t
 unfolding dangling
-dangling-sound T n t e = let s = any-some _ _ e in record { number = s .element; named = s .among; beyond = leb-true n (s .element) (s .has) }
+dangling-sound T n t e = let s = any-some _ _ e in record { type = s .element; named = s .among; beyond = leb-true n (s .element) (s .has) }
 
 pub dangling-complete : (T : Table) (n t : ℕ) → Dangling T n t → dangling T n t ≡ true
 unfolding dangling
-dangling-complete T n t d = some-any (λ r. leb n r) (d .named) (le-leb n (d .number) (d .beyond))
+dangling-complete T n t d = some-any (λ r. leb n r) (d .named) (le-leb n (d .type) (d .beyond))
 
 -- 3
 
@@ -211,7 +211,7 @@ module _ (T : Table) (n : ℕ) where
   pub sharing-sound : (t : ℕ) → sharing T n t ≡ true → Sharing T t
   unfolding sharing
   sharing-sound t e =
-      let p = some-pair (share T n) (parts (T t .body)) e in
+      let p = some-pair (share T n) (siblings (T t .body)) e in
       let s = share-sound _ _ (p .related) in
       record { i = p .i; j = p .j; apart = p .apart; within = p .within; tag = s .tag; first = s .first; second = s .second }
 

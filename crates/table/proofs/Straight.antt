@@ -18,7 +18,7 @@ use Rattle.table.specs.Rules.{below, tagsBelow, bodyBelow, Reaches, here
 use Rattle.table.specs.Passes.{Nested}
 use Rattle.table.specs.Walk.{like, free, Hits, Named, Straight}
 use Rattle.table.proofs.Nodes.{hits-record, hits-first, hits-reaches, reaches-first, like-untagged}
-use Rattle.table.proofs.Walk.{marked}
+use Rattle.table.proofs.Walk.{one-fewer}
 use Rattle.table.proofs.Reading.{limits}
 
 -- j reaches t by one step or more
@@ -57,7 +57,7 @@ module _ (T : Table) (n : ℕ) (there : (t a : ℕ) → t < n → In a (below T 
   nested (suc f) v t fr s l h = λ a i.
       test (eqb (getD v t 0) 0)
       (λ e.
-      let m = marked v t 1 (omega arith) (eqb-true (getD v t 0) 0 e) (λ z. omega arith) in
+      let m = one-fewer v t 1 (omega arith) (eqb-true (getD v t 0) 0 e) (λ z. omega arith) in
       nested f (set v t 1) a (omega arith) (length-set v t 1 ∙ s) (leads a i) (there t a h i))
       (λ e. absurd (straight t h (let x = l t (eqb-false (getD v t 0) 0 e) in record { alternative = x .alternative; of = x .of; back = x .to })))
     where
@@ -137,7 +137,7 @@ below-named (g ∷ gs) b a i = absurd (not-in-nil i)
 
 module _ (T : Table) (n : ℕ) (x : Named T n) where
   pub named-there : (t a : ℕ) → t < n → In a (references (T t .body)) → a < n
-  named-there t a h i = test (leb n a) (λ e. absurd (x .there t h (record { number = a; named = i; beyond = leb-true n a e }))) λ e. leb-false n a e
+  named-there t a h i = test (leb n a) (λ e. absurd (x .there t h (record { type = a; named = i; beyond = leb-true n a e }))) λ e. leb-false n a e
 
   pub below-there : (t a : ℕ) → t < n → In a (below T t) → a < n
   below-there t a h i = named-there t a h (below-named (T t .tags) (T t .body) a i)

@@ -17,12 +17,12 @@ use Rattle.table.specs.Walk.{like, free, Hits, at, under, Walks, done, s
 use Rattle.table.proofs.Nodes.{like-alone, like-untagged}
 
 -- a record that is marked is one fewer that is free
-pub marked : (v : List ℕ) (k m : ℕ) → k < length v → getD v k 0 ≡ 0 → (m ≡ 0 → ⊥) → free (set v k m) + 1 ≡ free v
+pub one-fewer : (v : List ℕ) (k m : ℕ) → k < length v → getD v k 0 ≡ 0 → (m ≡ 0 → ⊥) → free (set v k m) + 1 ≡ free v
 unfolding free
-marked [] k m h e z = absurd (not-suc-le-zero h)
-marked (x ∷ v) zero zero h e z = absurd (z refl)
-marked (x ∷ v) zero (suc m) h e z = rw e (omega arith)
-marked (x ∷ v) (suc k) m h e z = omega (arith, marked v k m (le-of-suc-le-suc h) e z)
+one-fewer [] k m h e z = absurd (not-suc-le-zero h)
+one-fewer (x ∷ v) zero zero h e z = absurd (z refl)
+one-fewer (x ∷ v) zero (suc m) h e z = rw e (omega arith)
+one-fewer (x ∷ v) (suc k) m h e z = omega (arith, one-fewer v k m (le-of-suc-le-suc h) e z)
 
 -- what the mark of node j is at the end
 pub data Kept (T : Table) (m : ℕ) (v ks w : List ℕ) (j : ℕ) : Type 0 where

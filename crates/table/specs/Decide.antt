@@ -7,7 +7,7 @@ use lib.Dec.{leb, eqb}
 use lib.ListN.{getD, replicate}
 use Rattle.octets.specs.Lists.{any, all, tabulate}
 use Rattle.table.specs.Syntax.{Tag, Body, Plain, Sequence, Set, SequenceOf, SetOf, Choice, Table, references, isChoice, universal}
-use Rattle.table.specs.Rules.{below, parts}
+use Rattle.table.specs.Rules.{below, siblings}
 
 -- what a rule finds of a record number, given what it has found of others
 abbrev pub Step : Type 0
@@ -71,7 +71,7 @@ pair f [] = false
 pair f (a ∷ l) = any (f a) l || pair f l
 
 unfoldable pub sharing : Table → ℕ → ℕ → Bool
-sharing T n t = pair (share T n) (parts (T t .body))
+sharing T n t = pair (share T n) (siblings (T t .body))
 
 -- 6: whether a body has a finite value, if the marked records have
 unfoldable pub finiteBody : (ℕ → Bool) → Body → Bool

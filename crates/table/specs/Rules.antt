@@ -9,9 +9,9 @@ use Rattle.table.specs.Syntax.{Tag, Member, Body, Plain, Sequence, Set, 
 
 -- 2: a body names a number that no record has (FORMATS, "Refusals")
 pub record Dangling (T : Table) (n t : ℕ) : Type 0 where
-  pub number : ℕ
-  pub named : In number (references (T t .body))
-  pub beyond : n ≤ number
+  pub type : ℕ
+  pub named : In type (references (T t .body))
+  pub beyond : n ≤ type
 
 -- 3: a kind other than CHOICE has no tag; or a UNIVERSAL tag stands before another, has not the number of its kind, or stands on a CHOICE (FORMATS, "Refusals")
 pub data Mistagged (r : Record) : Type 0 where
@@ -53,23 +53,23 @@ pub data First (T : Table) (g : Tag) : ℕ → Type 0 where
   inside : {t : ℕ} (a : ℕ) → In a (below T t) → First T g a → First T g t
 
 -- members of a SEQUENCE or SET, alternatives of a CHOICE (FORMATS, "Tables")
-unfoldable pub parts : Body → List ℕ
-parts (Plain k) = []
-parts (Sequence ms) = references (Sequence ms)
-parts (Set ms) = references (Set ms)
-parts (SequenceOf t) = []
-parts (SetOf t) = []
-parts (Choice ts) = ts
+unfoldable pub siblings : Body → List ℕ
+siblings (Plain k) = []
+siblings (Sequence ms) = references (Sequence ms)
+siblings (Set ms) = references (Set ms)
+siblings (SequenceOf t) = []
+siblings (SetOf t) = []
+siblings (Choice ts) = ts
 
 -- 5: two parts of one record have a first tag in common (FORMATS, "Refusals")
 pub record Sharing (T : Table) (t : ℕ) : Type 0 where
   pub i : ℕ
   pub j : ℕ
   pub apart : i < j
-  pub within : j < length (parts (T t .body))
+  pub within : j < length (siblings (T t .body))
   pub tag : Tag
-  pub first : First T tag (getD (parts (T t .body)) i 0)
-  pub second : First T tag (getD (parts (T t .body)) j 0)
+  pub first : First T tag (getD (siblings (T t .body)) i 0)
+  pub second : First T tag (getD (siblings (T t .body)) j 0)
 
 -- members with their flags
 unfoldable pub members : Body → List Member

@@ -75,7 +75,7 @@ pub data Walks (T : Table) (m : ℕ) : List ℕ → List ℕ → List ℕ → Ty
 pub record Met (T : Table) (m : ℕ) (v : List ℕ) (k : ℕ) : Type 0 where
   pub node : ℕ
   pub hit : Hits T node k
-  pub marked : getD v node 0 ≡ 0 → ⊥
+  pub some : getD v node 0 ≡ 0 → ⊥
   pub other : getD v node 0 ≡ m → ⊥
 
 pub record Gathered (T : Table) (m : ℕ) (v : List ℕ) (k : ℕ) (r : Bool) (w : List ℕ) : Type 0 where

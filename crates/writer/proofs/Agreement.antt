@@ -18,6 +18,7 @@ use Rattle.table.specs.Reading.{numbersAt, membersAt, everyAt, bodyAt}
 use Rattle.table.specs.Entries.{spanOf, counted, listsNumber}
 use Rattle.table.specs.declared.entry.Entry.{Entry}
 use Rattle.table.specs.declared.entry.Span.{Span}
+use Rattle.table.specs.Fields.{constructedOf}
 use Rattle.table.proofs.Promises.{entered-kind, entered-enumerated}
 use Rattle.coding.specs.Form.{alternatives}
 use Rattle.coding.specs.Content.{listed}
@@ -25,7 +26,7 @@ use Rattle.coding.specs.Judging.{flags, leafKind, nodeKind, numbers, leafAgrees
 use Rattle.writer.specs.Nodes.{ownEnd, leafOf, nodeOf}
 use Rattle.writer.specs.Known.{recordIn, Known}
 use Rattle.writer.specs.Standing.{partsOf}
-use Rattle.writer.proofs.Nodes.{node-kind, fixed-is, members-is}
+use Rattle.writer.proofs.Nodes.{node-kind, fixed-is, members-is, not-simple, no-built}
 
 -- the mandatory members are present
 module _ (b : List ℕ) (p n : ℕ) (v : List ℕ) (q : ℕ) (w : Bool) (e : agreeing (membersAt b p n) (flags (everyAt 1 v q n)) ≡ w) where
@@ -89,19 +90,14 @@ module _ (b v : List ℕ) (own p : ℕ) where
   with-choice k h = rw h (ap (ltb (getD v p 0)) (length-every (own + 1) (getD b own 0)), refl)
 
   abbrev WithRest : ℕ → Type 0
-  WithRest k = 16 ≤ k → eqb k 16 ≡ false → eqb k 17 ≡ false → eqb k 50 ≡ false → 0 < ownEnd k v p → agrees (bodyAt b k own) (nodeOf k v p) ≡ true
+  WithRest k = constructedOf k ≡ true → eqb k 16 ≡ false → eqb k 17 ≡ false → eqb k 50 ≡ false → 0 < ownEnd k v p → agrees (bodyAt b k own) (nodeOf k v p) ≡ true
 
   with-rest : (k : ℕ) → WithRest k
   unfolding agrees bodyAt nodeOf nodeKind kind counts ownEnd
   with-rest k =
-      at k 1 WithRest (λ g. absurd (omega arith)) λ e₁.
-      at k 2 WithRest (λ g. absurd (omega arith)) λ e₂.
-      at k 3 WithRest (λ g. absurd (omega arith)) λ e₃.
-      at k 4 WithRest (λ g. absurd (omega arith)) λ e₄.
-      at k 5 WithRest (λ g. absurd (omega arith)) λ e₅.
-      at k 10 WithRest (λ g. absurd (omega arith)) λ e₁₀.
       at k 48 WithRest (λ g _ _ _ _. refl) λ e₄₈.
       at k 49 WithRest (λ g _ _ _ _. refl) λ e₄₉ g e₁₆ e₁₇ e₅₀ h.
+      let (e₁, e₂, e₃, e₄, e₅, e₁₀) = not-simple k g in
       absurd (none (rw (e₁, e₂, e₃, e₄, e₅, e₁₀, e₁₆, e₁₇, e₄₈, e₄₉, e₅₀) at h))
     where
       none : 0 < 0 → ⊥
@@ -166,14 +162,14 @@ module _ (b : List ℕ) (e : Entry) (K : Known b e) (v : List ℕ) (k p : ℕ) w
             rw q (sym (z .0)) ∙ by-kind
 
         -- elements
-        pub agrees-list : (k ≡ 50 → ⊥) → 16 ≤ k → 0 < ownEnd k v p → true ≡ Agrees
+        pub agrees-list : (k ≡ 50 → ⊥) → constructedOf k ≡ true → 0 < ownEnd k v p → true ≡ Agrees
         agrees-list f g i =
             let z = or-false (eqb k 16) (eqb k 17) (sym et ∙ h) in
             sym (with-rest b v (e .own) p k g (z .0) (z .1) (ne-eqb k 50 f) i) ∙ by-kind
 
 -- a leaf of kind k against an entry
 abbrev LeafRest : List ℕ → List ℕ → ℕ → ℕ → ℕ → Type 0
-LeafRest b v own p k = k < 16 → eqb k 10 ≡ false → 0 < ownEnd k v p → agrees (bodyAt b k own) (nodeOf k v p) ≡ true
+LeafRest b v own p k = constructedOf k ≡ false → eqb k 10 ≡ false → 0 < ownEnd k v p → agrees (bodyAt b k own) (nodeOf k v p) ≡ true
 
 leaf-rest : (b v : List ℕ) (own p k : ℕ) → LeafRest b v own p k
 unfolding agrees nodeOf leafOf nodeKind leafKind kind bodyAt counts leafAgrees ownEnd
@@ -183,26 +179,11 @@ leaf-rest b v own p k =
     at k 3 (LeafRest b v own p) (λ _ _ _. refl) λ e₃.
     at k 4 (LeafRest b v own p) (λ _ _ _. refl) λ e₄.
     at k 5 (LeafRest b v own p) (λ _ _ _. refl) λ e₅ g e₁₀ h.
-    absurd (omega (
-      arith,
-      rw (
-        e₁,
-        e₂,
-        e₃,
-        e₄,
-        e₅,
-        e₁₀,
-        ne-eqb k 16 (λ z. omega arith),
-        ne-eqb k 17 (λ z. omega arith),
-        ne-eqb k 48 (λ z. omega arith),
-        ne-eqb
-            k 49 (λ z. omega arith),
-        ne-eqb k 50 (λ z. omega arith),
-      ) at h,
-    ))
+    let (e₁₆, e₁₇, e₄₈, e₄₉, e₅₀) = no-built k g in
+    absurd (omega (arith, rw (e₁, e₂, e₃, e₄, e₅, e₁₀, e₁₆, e₁₇, e₄₈, e₄₉, e₅₀) at h))
 
 module _ (b : List ℕ) (e : Entry) (K : Known b e) (v : List ℕ) (k p : ℕ) (ek : k ≡ e .kind) where
-  pub leaf-agrees : k < 16 → (k ≡ 10 → ⊥) → 0 < ownEnd k v p → true ≡ agrees (recordIn b e .body) (nodeOf k v p)
+  pub leaf-agrees : constructedOf k ≡ false → (k ≡ 10 → ⊥) → 0 < ownEnd k v p → true ≡ agrees (recordIn b e .body) (nodeOf k v p)
   leaf-agrees g f h = sym (leaf-rest b v (e .own) p k g (ne-eqb k 10 f) h) ∙ by-kind b e K v k p ek
 
   pub number-there : k ≡ 10 → 0 < ownEnd k v p → p + 2 ≤ length v

@@ -12,6 +12,7 @@ use Rattle.octets.specs.declared.cause.Cause.the-variants.{ValueShape, IllTyped
 use Rattle.octets.specs.Answer.{Answer, got, refused, then, if}
 use Rattle.octets.proofs.Tests.{test}
 use Rattle.table.specs.Syntax.{Table}
+use Rattle.table.specs.Fields.{constructedOf}
 use Rattle.coding.specs.Value.{Leaf, Value, leaf}
 use Rattle.coding.specs.Form.{encode}
 use Rattle.coding.specs.Judging.{Node, a-leaf, nodeKind, agrees, readNode, judgeBelow, judgeValue}
@@ -88,7 +89,7 @@ module _ (T : Table) (t : ℕ) (v : List ℕ) (p : ℕ) (h : p ≤ length v) (n 
 
       module _ (g : agrees (T t .body) (nodeAt v p) ≡ true) where
         -- a constructed node: what is said of its row
-        pub value-row : 16 ≤ nodeKind (nodeAt v p)
+        pub value-row : constructedOf (nodeKind (nodeAt v p)) ≡ true
             → JudgedRow T (n - 1) v (rowAt T v t p) (endAt v p) ≡ told (contentsForm T (n - 1) (T t .body)) v (judgeValue T n t (drop p v))
         value-row k = rw (value-below T t v p h n e z g) (sym (alike-told (below-row T (n - 1) (T t .body) (nodeAt v p) k (drop (endAt v p) v)) v))
 

@@ -23,7 +23,7 @@ use Rattle.writer.specs.Told.{told}
 use Rattle.writer.specs.Notes.{rowAt, Noted, NotedRow, Noting}
 use Rattle.writer.specs.declared.judge.Judged.{Judged}
 use Rattle.writer.specs.declared.judge.Judged.the-variants.{Done, Refused}
-use Rattle.writer.proofs.Nodes.{node-kind, built-big}
+use Rattle.writer.proofs.Nodes.{node-kind}
 use Rattle.writer.proofs.Known.{known, known-record}
 use Rattle.writer.proofs.Finding.{at-stands, at-start, at-row}
 use Rattle.writer.proofs.Judging.{JudgedRow}
@@ -64,9 +64,6 @@ module _ {b index v : List ℕ} {t at : ℕ} (N : Node b index v t at) (n : ℕ)
     shaped : 0 < endAt v at
     shaped = rw (N .marked .1) own-there
 
-    pub big : 16 ≤ getD v (at + 2) 0
-    big = built-big v (at + 3) (getD v (at + 2) 0) (N .constructed) own-there
-
     pub built-level : n ≡ 0 → (l : List ℕ) → NodeSaid b v t at n (Refused at ValueLevel) l l
     built-level z l = (value-level T t v at within n shaped _ z, noting-none at l ValueLevel at (λ m. Noted T v m n t at))
 
@@ -89,13 +86,13 @@ module _ {b index v : List ℕ} {t at : ℕ} (N : Node b index v t at) (n : ℕ)
           end-in = stands v at within shaped .within
 
           pub built-stands : Standing b v e (at + 3)
-          built-stands = at-stands b e built-known v at shaped t is-record (agreed true f) (N .octets) big end-in (N .ready .passes) (N .there)
+          built-stands = at-stands b e built-known v at shaped t is-record (agreed true f) (N .octets) (N .constructed) end-in (N .ready .passes) (N .there)
 
           start-is : startAt e v (at + 3) ≡ endAt v at
-          start-is = at-start b e built-known v at shaped t is-record (agreed true f) (N .octets) big end-in (N .ready .passes) (N .there)
+          start-is = at-start b e built-known v at shaped t is-record (agreed true f) (N .octets) (N .constructed) end-in (N .ready .passes) (N .there)
 
           row-is : rowIn b e v (at + 3) ≡ rowAt T v t at
-          row-is = at-row b e built-known v at shaped t is-record (agreed true f) (N .octets) big end-in (N .ready .passes) (N .there)
+          row-is = at-row b e built-known v at shaped t is-record (agreed true f) (N .octets) (N .constructed) end-in (N .ready .passes) (N .there)
 
           module _ (y : Judged) (first last : List ℕ) (S : RowSaid b v e (at + 3) (n - 1) first y last) where
             at-row-said : (y ≡ JudgedRow T (n - 1) v (rowAt T v t at) (endAt v at)) × Noting (endAt v at) first last y (λ m. NotedRow T v m (n - 1) (rowAt T v
@@ -103,7 +100,7 @@ module _ {b index v : List ℕ} {t at : ℕ} (N : Node b index v t at) (n : ℕ)
             at-row-said = rw (start-is, row-is) at S
 
             is-told : y ≡ told (contentsForm T (n - 1) (T t .body)) v (judgeValue T n t (drop at v))
-            is-told = at-row-said .0 ∙ value-row T t v at within n shaped z (agreed true f) (rw (node-kind (getD v (at + 2) 0) v (at + 3) own-there) big)
+            is-told = at-row-said .0 ∙ value-row T t v at within n shaped z (agreed true f) (rw (node-kind (getD v (at + 2) 0) v (at + 3) own-there) (N .constructed))
 
             pub built-refused : (k : Cause) (q : ℕ) → y ≡ Refused q k → NodeSaid b v t at n (Refused q k) first last
             built-refused k q d =
@@ -114,4 +111,4 @@ module _ {b index v : List ℕ} {t at : ℕ} (N : Node b index v t at) (n : ℕ)
             built-done u s d l =
                 let g = at-row-said .1 .long in
                 let h = N .ready .little in
-                (sym d ∙ is-told, value-noting T v n t at within z shaped big end-in first last y u s (at-row-said .0) d (at-row-said .1) (omega arith))
+                (sym d ∙ is-told, value-noting T v n t at within z shaped (N .constructed) end-in first last y u s (at-row-said .0) d (at-row-said .1) (omega arith))

@@ -18,6 +18,7 @@ use Rattle.table.specs.Entries.{spanOf, counted, tableIn, countIn}
 use Rattle.table.specs.Passes.{Passes}
 use Rattle.table.specs.declared.entry.Entry.{Entry}
 use Rattle.table.specs.declared.entry.Span.{Span}
+use Rattle.table.specs.Fields.{constructedOf}
 use Rattle.table.proofs.Promises.{entered-kind, entered-span, part-inside}
 use Rattle.coding.specs.Form.{element, alternatives}
 use Rattle.coding.specs.Judging.{flags, agrees}
@@ -25,7 +26,7 @@ use Rattle.writer.specs.Nodes.{ownEnd, endAt, nodeOf, nodeAt}
 use Rattle.writer.specs.Known.{recordIn, Known}
 use Rattle.writer.specs.Rows.{presentOf, rowOf}
 use Rattle.writer.specs.Standing.{startAt, countAt, partsOf, placeOf, partOf, belowAt, rowFrom, rowIn, Standing}
-use Rattle.writer.proofs.Nodes.{own-end-is, own-shaped, node-kind, fixed-is, members-is}
+use Rattle.writer.proofs.Nodes.{own-end-is, own-shaped, node-kind, fixed-is, members-is, not-simple}
 use Rattle.writer.proofs.Forms.{agreed-kind}
 use Rattle.writer.proofs.Agreement.{WithMembers, with-members, with-choice, same-count}
 use Rattle.writer.proofs.Standing.{start-message, start-members, count-members, part-members, below-missing, below-member, start-choice, part-choice}
@@ -175,23 +176,18 @@ module _ (b : List ℕ) (o : Octets b) (e : Entry) (v : List ℕ) (p : ℕ) (sha
           }
 
   abbrev Forms : ℕ → Type 0
-  Forms k = 16 ≤ k → 0 < ownEnd k v p → (eqb k 16 || eqb k 17) ≡ false → (k ≡ 50 → ⊥) → (eqb k 48 || eqb k 49) ≡ true
+  Forms k = constructedOf k ≡ true → 0 < ownEnd k v p → (eqb k 16 || eqb k 17) ≡ false → (k ≡ 50 → ⊥) → (eqb k 48 || eqb k 49) ≡ true
 
   forms : (k : ℕ) → Forms k
   unfolding ownEnd
   forms k =
-      at k 1 Forms (λ g. absurd (omega arith)) λ e₁.
-      at k 2 Forms (λ g. absurd (omega arith)) λ e₂.
-      at k 3 Forms (λ g. absurd (omega arith)) λ e₃.
-      at k 4 Forms (λ g. absurd (omega arith)) λ e₄.
-      at k 5 Forms (λ g. absurd (omega arith)) λ e₅.
-      at k 10 Forms (λ g. absurd (omega arith)) λ e₁₀.
       at k 48 Forms (λ g s a f. refl) λ e₄₈.
       at k 49 Forms (λ g s a f. refl) λ e₄₉ g s a f.
+      let (e₁, e₂, e₃, e₄, e₅, e₁₀) = not-simple k g in
       let z = or-false (eqb k 16) (eqb k 17) a in
       absurd (omega (arith, rw (e₁, e₂, e₃, e₄, e₅, e₁₀, z .0, z .1, e₄₈, e₄₉, ne-eqb k 50 f) at s))
 
-  found : 16 ≤ e .kind → Found
+  found : constructedOf (e .kind) ≡ true → Found
   found g =
       test (eqb (e .kind) 16 || eqb (e .kind) 17) found-members λ h.
       test (eqb (e .kind) 50) (λ a. found-choice h (eqb-true (e .kind) 50 a)) λ a. found-list h (forms (e .kind) g shaped h (eqb-false (e .kind) 50 a))
@@ -214,7 +210,7 @@ below-part b e v p i m h =
 
 -- the node of record t of a table that passes, at a place of its own part
 module _ (b : List ℕ) (o : Octets b) (e : Entry) (K : Known b e) (v : List ℕ) (p : ℕ) (shaped : 0 < ownEnd (e .kind) v p)
-    (ag : agrees (recordIn b e .body) (nodeOf (e .kind) v p) ≡ true) (built : 16 ≤ e .kind) (in-v : ownEnd (e .kind) v p ≤ length v)
+    (ag : agrees (recordIn b e .body) (nodeOf (e .kind) v p) ≡ true) (built : constructedOf (e .kind) ≡ true) (in-v : ownEnd (e .kind) v p ≤ length v)
     (P : Passes b (tableIn b) (countIn b)) (t : ℕ) (h : t < countIn b) (is : recordIn b e ≡ tableIn b t) where
   F : Found b o e v p shaped ag
   F = found b o e v p shaped ag built
@@ -226,7 +222,7 @@ module _ (b : List ℕ) (o : Octets b) (e : Entry) (K : Known b e) (v : List ℕ
       x) (entered-span (K .entered)) (every-in (s .step) b (s .first) (s .count) (partOf e v p i) (F .part i k)) in
       let n : In (belowAt b e v p i) (references (tableIn b t .body)) = rw (← is, ← below-part b e v p i m l) q in
       test (ltb (belowAt b e v p i) (countIn b)) (λ a. ltb-true _ _ a) λ a. absurd (P .there t h (record {
-        number = belowAt b e v p i;
+        type = belowAt b e v p i;
         named = n;
         beyond =
             ltb-false _ _ a;
@@ -271,7 +267,7 @@ module _ (b : List ℕ) (e : Entry) (K : Known b e) (v : List ℕ) (at : ℕ) (s
   end-is : ownEnd (e .kind) v (at + 3) ≡ endAt v at
   end-is = ap (λ (k : ℕ). ownEnd k v (at + 3)) at-kind ∙ sym (own-end-is v at shaped)
 
-  module _ (o : Octets b) (built : 16 ≤ getD v (at + 2) 0) (in-v : endAt v at ≤ length v) (P : Passes b (tableIn b) (countIn b)) (h : t < countIn b) where
+  module _ (o : Octets b) (built : constructedOf (getD v (at + 2) 0) ≡ true) (in-v : endAt v at ≤ length v) (P : Passes b (tableIn b) (countIn b)) (h : t < countIn b) where
     pub at-stands : Standing b v e (at + 3)
     at-stands = stand b o e K v (at + 3) at-shaped agreed-there (rw at-kind built) (rw end-is in-v) P t h is
 

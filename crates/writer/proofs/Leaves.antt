@@ -1,6 +1,6 @@
 -- A leaf by its kind: where its own part ends, its contents octets, and the octets of v that they come from.
 -- Assumes nothing.
-use mathlib.Core.Bool.{Bool, true, false, not}
+use mathlib.Core.Bool.{Bool, true, false, not, true≢false}
 use mathlib.Core.List.{List, [], _∷_}
 use mathlib.Core.Path.{_≡_, refl, sym, ap, _∙_}
 use Prim.Native.Nat.{ℕ, suc, _+_, _-_, _*_, _/_, _%_, _^_, _≤_, _<_}
@@ -15,12 +15,15 @@ use Rattle.octets.proofs.Tests.{test, at}
 use Rattle.octets.specs.Numbers.{two}
 use Rattle.octets.specs.Buffers.{filled}
 use Rattle.x690.specs.Integer.{integerOf, fewestOf, eight}
+use Rattle.table.specs.Syntax.{constructed}
+use Rattle.table.specs.Reading.{bodyAt}
+use Rattle.table.specs.Fields.{constructedOf}
 use Rattle.coding.specs.Form.{encode, truth}
 use Rattle.coding.specs.Judging.{octetsFor, spareIn}
 use Rattle.writer.specs.Nodes.{fixedEnd, booleanEnd, stringEnd, bitsEnd, clearAt, ownEnd, leafOf}
 use Rattle.writer.specs.Leaves.{Measures}
 use Rattle.writer.specs.declared.contents.Extent.{Extent}
-use Rattle.writer.proofs.Nodes.{fixed-is}
+use Rattle.writer.proofs.Nodes.{fixed-is, no-built}
 
 none : {X : Type 0} → 0 < 0 → X
 none h = absurd (omega arith)
@@ -157,34 +160,24 @@ module _ (v : List ℕ) (p : ℕ) (r : Extent) where
   unfolding ownEnd leafOf encode
   number-measured h n s en es g e f = record { ends = e ∙ sym (fixed-long (p + 2) h); sized = λ _. f ∙ es ∙ rw en refl; small = omega arith }
 
--- the kinds that are no leaves, below 16
-abbrev NoLeaf : List ℕ → ℕ → ℕ → Type 0
-NoLeaf v p k = k < 16 → eqb k 1 ≡ false → eqb k 2 ≡ false → eqb k 3 ≡ false → eqb k 4 ≡ false → eqb k 5 ≡ false → eqb k 10 ≡ false → ownEnd k v p ≡ 0
+-- the last simple kind, if it is none of the others
+abbrev LastLeaf : ℕ → Type 0
+LastLeaf k = constructedOf k ≡ false → eqb k 1 ≡ false → eqb k 2 ≡ false → eqb k 3 ≡ false → eqb k 4 ≡ false → eqb k 5 ≡ false → k ≡ 10
 
-no-leaf : (v : List ℕ) (p k : ℕ) → NoLeaf v p k
-unfolding ownEnd
-no-leaf v p k =
-    at k 16 (NoLeaf v p) (λ h. absurd (omega arith)) λ e₁₆.
-    at k 17 (NoLeaf v p) (λ h. absurd (omega arith)) λ e₁₇.
-    at k 48 (NoLeaf v p) (λ h. absurd (omega arith)) λ e₄₈.
-    at k 49 (NoLeaf v p) (λ h. absurd (omega arith)) λ e₄₉.
-    at k 50 (NoLeaf v p) (λ h. absurd (omega arith)) λ e₅₀ h e₁ e₂ e₃ e₄ e₅ e₁₀.
-    rw (e₁, e₂, e₃, e₄, e₅, e₁₀, e₁₆, e₁₇, e₄₈, e₄₉, e₅₀) refl
-
-abbrev LastLeaf : List ℕ → ℕ → ℕ → Type 0
-LastLeaf v p k = k < 16 → 0 < ownEnd k v p → eqb k 1 ≡ false → eqb k 2 ≡ false → eqb k 3 ≡ false → eqb k 4 ≡ false → eqb k 5 ≡ false → k ≡ 10
-
-last-leaf : (v : List ℕ) (p k : ℕ) → LastLeaf v p k
-last-leaf v p k = at k 10 (LastLeaf v p) (λ h g _ _ _ _ _. refl) λ e₁₀ h g e₁ e₂ e₃ e₄ e₅. none (rw (no-leaf v p k h e₁ e₂ e₃ e₄ e₅ e₁₀) at g)
+last-leaf : (k : ℕ) → LastLeaf k
+unfolding bodyAt constructed
+last-leaf k =
+    at k 10 LastLeaf (λ h _ _ _ _ _. refl) λ e₁₀ h e₁ e₂ e₃ e₄ e₅.
+    let (e₁₆, e₁₇, e₄₈, e₄₉, e₅₀) = no-built k h in
+    absurd (true≢false (rw (e₁, e₂, e₃, e₄, e₅, e₁₀, e₁₆, e₁₇, e₄₈, e₄₉) at h))
 
 module _ (k : ℕ) (v : List ℕ) (p : ℕ) where
   pub same-kind : (i : ℕ) (r : Extent) → k ≡ i → Measures i v p r → Measures k v p r
   same-kind i r e m = rw e m
 
-  pub no-kind : (r : Extent) → k < 16 → (k ≡ 1 → ⊥) → (k ≡ 2 → ⊥) → (k ≡ 3 → ⊥) → (k ≡ 4 → ⊥) → (k ≡ 5 → ⊥) → (k ≡ 10 → ⊥)
-      → Nothing r → Measures k v p r
-  no-kind r h e₁ e₂ e₃ e₄ e₅ e₁₀ z =
-      none-measured v p r k (no-leaf v p k h (ne-eqb k 1 e₁) (ne-eqb k 2 e₂) (ne-eqb k 3 e₃) (ne-eqb k 4 e₄) (ne-eqb k 5 e₅) (ne-eqb k 10 e₁₀)) z
+  pub no-kind : (r : Extent) → constructedOf k ≡ false → (k ≡ 1 → ⊥) → (k ≡ 2 → ⊥) → (k ≡ 3 → ⊥) → (k ≡ 4 → ⊥) → (k ≡ 5 → ⊥) → (k ≡ 10 → ⊥)
+      → Measures k v p r
+  no-kind r h e₁ e₂ e₃ e₄ e₅ e₁₀ = absurd (e₁₀ (last-leaf k h (ne-eqb k 1 e₁) (ne-eqb k 2 e₂) (ne-eqb k 3 e₃) (ne-eqb k 4 e₄) (ne-eqb k 5 e₅)))
 
 -- a leaf that is shaped, by its kind: where it ends, and its contents octets
 module _ (k : ℕ) (v : List ℕ) (p : ℕ) (h : 0 < ownEnd k v p) where
@@ -325,9 +318,9 @@ module _ (k : ℕ) (v : List ℕ) (p : ℕ) (h : 0 < ownEnd k v p) where
     pub null-put : (to : ℕ) (first : List ℕ) → first ≡ sets first to (encode (leafOf k v p))
     null-put to first = rw encode-null refl
 
-  module _ (g : k < 16) (e₁ : k ≡ 1 → ⊥) (e₂ : k ≡ 2 → ⊥) (e₃ : k ≡ 3 → ⊥) (e₄ : k ≡ 4 → ⊥) (e₅ : k ≡ 5 → ⊥) where
+  module _ (g : constructedOf k ≡ false) (e₁ : k ≡ 1 → ⊥) (e₂ : k ≡ 2 → ⊥) (e₃ : k ≡ 3 → ⊥) (e₄ : k ≡ 4 → ⊥) (e₅ : k ≡ 5 → ⊥) where
     last-kind : k ≡ 10
-    last-kind = last-leaf v p k g h (ne-eqb k 1 e₁) (ne-eqb k 2 e₂) (ne-eqb k 3 e₃) (ne-eqb k 4 e₄) (ne-eqb k 5 e₅)
+    last-kind = last-leaf k g (ne-eqb k 1 e₁) (ne-eqb k 2 e₂) (ne-eqb k 3 e₃) (ne-eqb k 4 e₄) (ne-eqb k 5 e₅)
 
     own-number : ownEnd k v p ≡ fixedEnd v (p + 2)
     unfolding ownEnd

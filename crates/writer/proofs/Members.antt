@@ -26,7 +26,7 @@ use Rattle.writer.specs.declared.judge.Judged.{Judged}
 use Rattle.writer.specs.declared.judge.Judged.the-variants.{Done, Refused}
 use Rattle.writer.proofs.Frames.{cap-below}
 use Rattle.writer.proofs.Known.{known, known-record, ready-tagged}
-use Rattle.writer.proofs.Simple.{simple-small, known-simple}
+use Rattle.writer.proofs.Simple.{known-simple}
 use Rattle.writer.proofs.Standing.{row-there, row-missing, row-over, row-all}
 use Rattle.writer.proofs.Judging.{told-small, value-came, JudgedRow, Left, row-begin, row-end, row-turn, row-refused}
 use Rattle.writer.proofs.Below.{value-shape}
@@ -143,7 +143,7 @@ module _ {b index v : List ℕ} {e : Entry} {p n : ℕ} {first : List ℕ} (m : 
         → ((T : Table) (t : ℕ) → T t .body ≡ recordIn b x .body → r ≡ told (contentsForm T (n - 1) (T t .body)) v (judgeValue T n t (drop (m .at) v)))
         → last ≡ m .notes → y ≡ r → Said y last
     leaf-said M y r last s es f tells el ey =
-        let k : getD v (m .at + 2) 0 < 16 = simple-small (getD v (m .at + 2) 0) (not-true _ (sym es ∙ f)) in
+        let k : constructedOf (getD v (m .at + 2) 0) ≡ false = not-true _ (sym es ∙ f) in
         let g = ey ∙ tells T (m .t) (ap (λ (r : Record). r .body) (sym entry-record)) in
         (g, rw el (leaf-noting T v n (m .t) (m .at) (m .so-far .within) k _ y g (m .notes)))
 

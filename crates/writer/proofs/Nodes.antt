@@ -5,7 +5,7 @@ use mathlib.Core.List.{List}
 use mathlib.Core.Path.{_≡_, refl, sym, ap, _∙_}
 use Prim.Native.Nat.{ℕ, _+_, _≤_, _<_}
 use native.Mathlib.Omega.{arith}
-use borrow.Author.Tests.{lt-ltb, le-ltb, le-leb, eq-eqb, ne-eqb, ltb-false, leb-true, leb-false}
+use borrow.Author.Tests.{lt-ltb, le-ltb, le-leb, eq-eqb, ne-eqb, ltb-false, leb-true}
 use lib.Dec.{ltb, leb, eqb}
 use lib.ListN.{length, getD}
 use Rattle.octets.proofs.Tests.{test, at, or-by, or-false}
@@ -52,22 +52,36 @@ node-kind k v p =
     at k 50 (NodeKindAt v p) (λ h. refl) λ e₅₀ h.
     none (rw (e₁, e₂, e₃, e₄, e₅, e₁₀, e₁₆, e₁₇, e₄₈, e₄₉, e₅₀) at h)
 
--- a kind below 16 is a leaf's
-pub leaf-node : (k : ℕ) (v : List ℕ) (p : ℕ) → k < 16 → nodeOf k v p ≡ a-leaf (leafOf k v p)
-unfolding nodeOf
-leaf-node k v p h =
-    rw (
-      ne-eqb k 16 (λ e. omega arith),
-      ne-eqb k 17 (λ e. omega arith),
-      ne-eqb k 48 (λ e. omega arith),
-      ne-eqb k 49 (λ e. omega arith),
-      ne-eqb k 50 (λ e.
-          omega arith),
-    ) refl
+-- a simple kind is none that is constructed
+other-kind : (k j : ℕ) → constructedOf k ≡ false → constructedOf j ≡ true → eqb k j ≡ false
+other-kind k j h g = ne-eqb k j (λ e. false≢true (sym h ∙ ap (λ i. constructedOf i) e ∙ g))
 
--- and one of 16 or more is constructed
-constructed-kind : (c : Body) → constructed c ≡ leb 16 (kind c)
-unfolding constructed kind
+pub no-built : (k : ℕ) → constructedOf k ≡ false → (eqb k 16 ≡ false) × (eqb k 17 ≡ false) × (eqb k 48 ≡ false) × (eqb k 49 ≡ false) × (eqb k 50 ≡ false)
+unfolding bodyAt constructed
+no-built k h = (other-kind k 16 h refl, other-kind k 17 h refl, other-kind k 48 h refl, other-kind k 49 h refl, other-kind k 50 h refl)
+
+-- a constructed kind is none of the simple ones
+abbrev SimpleNot : ℕ → Type 0
+SimpleNot k = constructedOf k ≡ true → (eqb k 1 ≡ false) × (eqb k 2 ≡ false) × (eqb k 3 ≡ false) × (eqb k 4 ≡ false) × (eqb k 5 ≡ false) × (eqb k 10 ≡ false)
+
+pub not-simple : (k : ℕ) → SimpleNot k
+unfolding bodyAt constructed
+not-simple k =
+    at k 1 SimpleNot (λ h. absurd (false≢true h)) λ e₁.
+    at k 2 SimpleNot (λ h. absurd (false≢true h)) λ e₂.
+    at k 3 SimpleNot (λ h. absurd (false≢true h)) λ e₃.
+    at k 4 SimpleNot (λ h. absurd (false≢true h)) λ e₄.
+    at k 5 SimpleNot (λ h. absurd (false≢true h)) λ e₅.
+    at k 10 SimpleNot (λ h. absurd (false≢true h)) λ e₁₀ h. (e₁, e₂, e₃, e₄, e₅, e₁₀)
+
+-- the node of a simple kind is a leaf
+pub leaf-node : (k : ℕ) (v : List ℕ) (p : ℕ) → constructedOf k ≡ false → nodeOf k v p ≡ a-leaf (leafOf k v p)
+unfolding nodeOf
+leaf-node k v p h = let (e₁₆, e₁₇, e₄₈, e₄₉, e₅₀) = no-built k h in rw (e₁₆, e₁₇, e₄₈, e₄₉, e₅₀) refl
+
+-- what a kind says of its body
+constructed-kind : (c : Body) → constructed c ≡ constructedOf (kind c)
+unfolding constructed kind bodyAt
 constructed-kind (Plain Boolean) = refl
 constructed-kind (Plain Integer) = refl
 constructed-kind (Plain BitString) = refl
@@ -84,14 +98,14 @@ module _ (c : Body) (v : List ℕ) (p : ℕ) (h : 0 < endAt v p) (a : agrees c (
   agreed-octet : getD v (p + 2) 0 ≡ kind c
   agreed-octet = sym (node-kind (getD v (p + 2) 0) v (p + 3) (own-shaped v p h)) ∙ agreed-kind c (nodeAt v p) a
 
-  pub constructed-node : constructed c ≡ leb 16 (getD v (p + 2) 0)
-  constructed-node = constructed-kind c ∙ ap (leb 16) (sym agreed-octet)
+  pub constructed-node : constructed c ≡ constructedOf (getD v (p + 2) 0)
+  constructed-node = constructed-kind c ∙ ap (λ k. constructedOf k) (sym agreed-octet)
 
-  pub built-kind : constructed c ≡ true → 16 ≤ nodeKind (nodeAt v p)
-  built-kind e = rw (agreed-kind c (nodeAt v p) a) (leb-true 16 (kind c) (sym (constructed-kind c) ∙ e))
+  pub built-kind : constructed c ≡ true → constructedOf (nodeKind (nodeAt v p)) ≡ true
+  built-kind e = rw (agreed-kind c (nodeAt v p) a) (sym (constructed-kind c) ∙ e)
 
-  pub leaf-kind : constructed c ≡ false → getD v (p + 2) 0 < 16
-  leaf-kind e = rw agreed-octet (leb-false 16 (kind c) (sym (constructed-kind c) ∙ e))
+  pub leaf-kind : constructed c ≡ false → constructedOf (getD v (p + 2) 0) ≡ false
+  leaf-kind e = rw agreed-octet (sym (constructed-kind c) ∙ e)
 
 pub fixed-is : (v : List ℕ) (e : ℕ) → 0 < fixedEnd v e → (fixedEnd v e ≡ e) × (e ≤ length v)
 unfolding fixedEnd
@@ -107,25 +121,20 @@ members-is v p h =
 
 -- a constructed node has an octet behind its kind
 abbrev LongEnd : List ℕ → ℕ → ℕ → Type 0
-LongEnd v p k = 16 ≤ k → 0 < ownEnd k v p → p + 1 ≤ ownEnd k v p
+LongEnd v p k = constructedOf k ≡ true → 0 < ownEnd k v p → p + 1 ≤ ownEnd k v p
 
 long-end : (v : List ℕ) (p k : ℕ) → LongEnd v p k
 unfolding ownEnd
 long-end v p k =
-    at k 1 (LongEnd v p) (λ g. absurd (omega arith)) λ e₁.
-    at k 2 (LongEnd v p) (λ g. absurd (omega arith)) λ e₂.
-    at k 3 (LongEnd v p) (λ g. absurd (omega arith)) λ e₃.
-    at k 4 (LongEnd v p) (λ g. absurd (omega arith)) λ e₄.
-    at k 5 (LongEnd v p) (λ g. absurd (omega arith)) λ e₅.
-    at k 10 (LongEnd v p) (λ g. absurd (omega arith)) λ e₁₀.
     at k 16 (LongEnd v p) (λ g h. let w = members-is v p h .0 in omega arith) λ e₁₆.
     at k 17 (LongEnd v p) (λ g h. let w = members-is v p h .0 in omega arith) λ e₁₇.
     at k 48 (LongEnd v p) (λ g h. let w = fixed-is v (p + 2) h .0 in omega arith) λ e₄₈.
     at k 49 (LongEnd v p) (λ g h. let w = fixed-is v (p + 2) h .0 in omega arith) λ e₄₉.
     at k 50 (LongEnd v p) (λ g h. let w = fixed-is v (p + 1) h .0 in omega arith) λ e₅₀ g h.
+    let (e₁, e₂, e₃, e₄, e₅, e₁₀) = not-simple k g in
     none (rw (e₁, e₂, e₃, e₄, e₅, e₁₀, e₁₆, e₁₇, e₄₈, e₄₉, e₅₀) at h)
 
-pub built-long : (v : List ℕ) (p : ℕ) → 0 < endAt v p → 16 ≤ getD v (p + 2) 0 → p + 4 ≤ endAt v p
+pub built-long : (v : List ℕ) (p : ℕ) → 0 < endAt v p → constructedOf (getD v (p + 2) 0) ≡ true → p + 4 ≤ endAt v p
 built-long v p h g = let w = long-end v (p + 3) (getD v (p + 2) 0) g (own-shaped v p h) in rw (own-end-is v p h) (omega arith)
 
 -- the mark of a node
@@ -166,19 +175,6 @@ module _ (v : List ℕ) (p : ℕ) (t : Bool) (et : t ≡ (leb (p + 1 + getD v p 
       rw (a, c, g) refl
 
 -- where the own part of a constructed kind ends
-abbrev SimpleNot : ℕ → Type 0
-SimpleNot k = constructedOf k ≡ true → (eqb k 1 ≡ false) × (eqb k 2 ≡ false) × (eqb k 3 ≡ false) × (eqb k 4 ≡ false) × (eqb k 5 ≡ false) × (eqb k 10 ≡ false)
-
-not-simple : (k : ℕ) → SimpleNot k
-unfolding bodyAt constructed
-not-simple k =
-    at k 1 SimpleNot (λ h. absurd (false≢true h)) λ e₁.
-    at k 2 SimpleNot (λ h. absurd (false≢true h)) λ e₂.
-    at k 3 SimpleNot (λ h. absurd (false≢true h)) λ e₃.
-    at k 4 SimpleNot (λ h. absurd (false≢true h)) λ e₄.
-    at k 5 SimpleNot (λ h. absurd (false≢true h)) λ e₅.
-    at k 10 SimpleNot (λ h. absurd (false≢true h)) λ e₁₀ h. (e₁, e₂, e₃, e₄, e₅, e₁₀)
-
 module _ (v : List ℕ) (k p : ℕ) (c : constructedOf k ≡ true) where
   module _ (t : Bool) (et : t ≡ (eqb k 16 || eqb k 17)) where
     pub end-members : t ≡ true → membersEnd v p ≡ ownEnd k v p
@@ -211,18 +207,3 @@ module _ (v : List ℕ) (k p : ℕ) (c : constructedOf k ≡ true) where
         end-none f =
             let (e₁, e₂, e₃, e₄, e₅, e₁₀) = not-simple k c in
             rw (e₁, e₂, e₃, e₄, e₅, e₁₀, none-of .0, none-of .1, no-list .0, no-list .1, ne-eqb k 50 f) refl
-
--- a constructed kind that is shaped is 16 or more
-abbrev Big : List ℕ → ℕ → ℕ → Type 0
-Big v p k = constructedOf k ≡ true → 0 < ownEnd k v p → 16 ≤ k
-
-pub built-big : (v : List ℕ) (p k : ℕ) → Big v p k
-unfolding ownEnd
-built-big v p k =
-    at k 16 (Big v p) (λ c h. omega arith) λ e₁₆.
-    at k 17 (Big v p) (λ c h. omega arith) λ e₁₇.
-    at k 48 (Big v p) (λ c h. omega arith) λ e₄₈.
-    at k 49 (Big v p) (λ c h. omega arith) λ e₄₉.
-    at k 50 (Big v p) (λ c h. omega arith) λ e₅₀ c h.
-    let (e₁, e₂, e₃, e₄, e₅, e₁₀) = not-simple k c in
-    none (rw (e₁, e₂, e₃, e₄, e₅, e₁₀, e₁₆, e₁₇, e₄₈, e₄₉, e₅₀) at h)

@@ -5,12 +5,12 @@ use mathlib.Core.List.{List, [], _∷_}
 use mathlib.Core.Path.{_≡_, refl, sym, ap, _∙_}
 use Prim.Native.Nat.{ℕ, zero, suc, _+_, _-_, _*_, _/_, _≤_, _<_}
 use native.Mathlib.Omega.{arith}
-use borrow.Author.Tests.{lt-leb}
 use lib.ListN.{length, getD, drop, set, length-set, length-drop}
 use lib.Seq.{getD-set-same, getD-set-other}
 use Rattle.octets.proofs.Answer.{got-holds}
 use Rattle.octets.specs.declared.cause.Cause.{Cause}
 use Rattle.table.specs.Syntax.{Table, constructed}
+use Rattle.table.specs.Fields.{constructedOf}
 use Rattle.coding.specs.Value.{Value}
 use Rattle.coding.specs.Judging.{judgeValue}
 use Rattle.writer.specs.Nodes.{endAt}
@@ -95,13 +95,13 @@ module _ (T : Table) (v : List ℕ) (n : ℕ) where
   rest-noted t ts from m x e q = rw q (x .1)
 
 -- a leaf: nothing is noted of it
-leaf-noted : (T : Table) (v : List ℕ) (n t at : ℕ) → getD v (at + 2) 0 < 16 → constructed (T t .body) ≡ false → (m : List ℕ) → Noted T v m n t at
+leaf-noted : (T : Table) (v : List ℕ) (n t at : ℕ) → constructedOf (getD v (at + 2) 0) ≡ false → constructed (T t .body) ≡ false → (m : List ℕ) → Noted T v m n t at
 unfolding Noted EachRow rowOf
 leaf-noted T v zero t at h c m = tt
 leaf-noted T v (suc n) t at h c m = ((λ e. absurd (false≢true (sym c ∙ e))), rw (leaf-node (getD v (at + 2) 0) v (at + 3) h) tt)
 
 module _ (T : Table) (v : List ℕ) (n t at : ℕ) (h : at ≤ length v) where
-  pub leaf-noting : getD v (at + 2) 0 < 16 → (f : Value → List ℕ) (r : Judged) → r ≡ told f v (judgeValue T n t (drop at v)) → (l : List ℕ)
+  pub leaf-noting : constructedOf (getD v (at + 2) 0) ≡ false → (f : Value → List ℕ) (r : Judged) → r ≡ told f v (judgeValue T n t (drop at v)) → (l : List ℕ)
       → Noting at l l r (λ m. Noted T v m n t at)
   unfolding IsDone
   leaf-noting g f r a l =
@@ -111,7 +111,7 @@ module _ (T : Table) (v : List ℕ) (n t at : ℕ) (h : at ≤ length v) where
         noted = λ e k d m s.
             let (x, w, y, q, z) = done f v (judgeValue T n t (drop at v)) r e k a d in
             let o = accepted T n t v at h (rw y tt) in
-            leaf-noted T v n t at g (constructed-node (T t .body) v at (o .shaped) (o .agreed) ∙ lt-leb 16 (getD v (at + 2) 0) g) m;
+            leaf-noted T v n t at g (constructed-node (T t .body) v at (o .shaped) (o .agreed) ∙ g) m;
       }
 
   module _ (z : n ≡ 0 → ⊥) where
@@ -136,7 +136,7 @@ module _ (T : Table) (v : List ℕ) (n t at : ℕ) (h : at ≤ length v) where
       value-below = value-at .1
 
     -- the judge of a constructed node writes its note after the notes below
-    module _ (shaped : 0 < endAt v at) (built : 16 ≤ getD v (at + 2) 0) (within : endAt v at ≤ length v) (first last : List ℕ) (r : Judged) (u s : ℕ)
+    module _ (shaped : 0 < endAt v at) (built : constructedOf (getD v (at + 2) 0) ≡ true) (within : endAt v at ≤ length v) (first last : List ℕ) (r : Judged) (u s : ℕ)
         (is : r ≡ JudgedRow T (n - 1) v (rowAt T v t at) (endAt v at)) (d : r ≡ Done u s) (N : Noting (endAt v at) first last r (λ m. NotedRow T v m (n - 1)
         (rowAt T v t at) (endAt v at)))
         (long : length v ≤ 4 * length last) where

@@ -5,13 +5,14 @@ use mathlib.Core.List.{List, _∷_}
 use mathlib.Core.Path.{_≡_, refl, sym, ap, _∙_}
 use Prim.Native.Nat.{ℕ, _+_, _-_, _≤_, _<_}
 use native.Mathlib.Omega.{arith}
-use borrow.Author.Tests.{not-true, not-false, leb-true}
+use borrow.Author.Tests.{not-true, not-false}
 use lib.ListN.{length, getD}
 use lib.Seq.{sets}
 use Rattle.octets.specs.Numbers.{Octets}
 use Rattle.table.specs.Syntax.{Record, Table, constructed}
 use Rattle.table.specs.Entries.{unpacked, tableIn, countIn}
 use Rattle.table.specs.declared.entry.Entry.{Entry}
+use Rattle.table.specs.Fields.{constructedOf}
 use Rattle.coding.specs.Form.{encode}
 use Rattle.writer.specs.Nodes.{ownEnd, endAt, leafOf}
 use Rattle.writer.specs.Frames.{heads}
@@ -140,8 +141,8 @@ module _ {b index v notes : List ℕ} {e : Entry} {p to : ℕ} {first : List ℕ
     primitive : constructed (T (m .t) .body) ≡ false
     primitive = not-true _ (simple-is true f)
 
-    pub put-small : m .x .kind < 16
-    put-small = rw kind-is (leaf-kind (T (m .t) .body) v (m .at) (ok .shaped) (ok .agreed) primitive)
+    pub put-simple : constructedOf (m .x .kind) ≡ false
+    put-simple = rw kind-is (leaf-kind (T (m .t) .body) v (m .at) (ok .shaped) (ok .agreed) primitive)
 
     same-leaf : encode (leafOf (m .x .kind) v (m .at + 3)) ≡ encode (leafOf (getD v (m .at + 2) 0) v (m .at + 3))
     same-leaf = ap (λ (j : ℕ). encode (leafOf j v (m .at + 3))) kind-is
@@ -208,8 +209,8 @@ module _ {b index v notes : List ℕ} {e : Entry} {p to : ℕ} {first : List ℕ
         ∙ ap (sets (q .buf) (q .next)) (same-leaf m f)))
 
   module _ (o : Octets b) (f : m .x .simple ≡ false) where
-    big : 16 ≤ getD v (m .at + 2) 0
-    big = leb-true 16 (getD v (m .at + 2) 0) (sym (constructed-node (tableIn b (m .t) .body) v (m .at) (ok m .shaped) (ok m .agreed)) ∙ built m f)
+    big : constructedOf (getD v (m .at + 2) 0) ≡ true
+    big = sym (constructed-node (tableIn b (m .t) .body) v (m .at) (ok m .shaped) (ok m .agreed)) ∙ built m f
 
     end-in : endAt v (m .at) ≤ length v
     end-in = stands v (m .at) (m .within) (ok m .shaped) .within

@@ -1,6 +1,6 @@
 -- Rows: what stands in a node is judged as its row is, with the same form; a row is judged one value after another, each at a place behind the one before.
 -- Assumes nothing.
-use mathlib.Core.Bool.{Bool, true, false}
+use mathlib.Core.Bool.{Bool, true, false, false≢true}
 use mathlib.Core.List.{List, [], _∷_, _++_, append-nil}
 use mathlib.Core.Option.{Option, some, none}
 use mathlib.Core.Path.{_≡_, refl, sym, ap, _∙_}
@@ -12,8 +12,10 @@ use Rattle.octets.specs.declared.cause.Cause.{Cause}
 use Rattle.octets.specs.Answer.{Answer, got, refused, then}
 use Rattle.octets.proofs.Answer.{Holds, yields, refuses, then-holds, map-holds, if-holds}
 use Rattle.octets.specs.Lists.{joined}
-use Rattle.table.specs.Syntax.{Member, Body, Table}
+use Rattle.table.specs.Syntax.{Member, Body, Table, constructed}
+use Rattle.table.specs.Reading.{bodyAt}
 use Rattle.table.specs.Rules.{members}
+use Rattle.table.specs.Fields.{constructedOf}
 use Rattle.coding.specs.Value.{Leaf, boolean, integer, bits, string, null, enumerated, Value, sequence, set, sequenceOf, setOf, choice, slots, bag}
 use Rattle.coding.specs.Form.{element, alternatives, formMembers, formElements, formAt}
 use Rattle.coding.specs.Judging.{Node, a-leaf, a-sequence, a-set, a-sequence-of, a-set-of, a-choice, leafKind, nodeKind, judgeMembers, judgeElements}
@@ -143,14 +145,14 @@ module _ (T : Table) (n : ℕ) where
       rw (gather-elements (λ u w. judgeValue T n u w) k t (v ∷ []) s₁, gather-row (λ u w. judgeValue T n u w) (replicate k t) (v ∷ []) s₁)
       (alike-then (λ vs. v ∷ vs) (λ vs. v ∷ vs) (λ vs ws e. ap (λ (l : List ℕ). formAt T n t v ++ l) e) (elements-row k t s₁))
 
-  leaf-small : (x : Leaf) → leafKind x < 16
-  unfolding leafKind
-  leaf-small (boolean b) = omega arith
-  leaf-small (integer z) = omega arith
-  leaf-small (bits m c) = omega arith
-  leaf-small (string c) = omega arith
-  leaf-small null = omega arith
-  leaf-small (enumerated m) = omega arith
+  leaf-simple : (x : Leaf) → constructedOf (leafKind x) ≡ false
+  unfolding leafKind bodyAt constructed
+  leaf-simple (boolean b) = refl
+  leaf-simple (integer z) = refl
+  leaf-simple (bits m c) = refl
+  leaf-simple (string c) = refl
+  leaf-simple null = refl
+  leaf-simple (enumerated m) = refl
 
   -- one value is a row of one
   pub one-row : (t : ℕ) (s : List ℕ) → Alike (formAt T n t) (rowForm T n (t ∷ [])) (judgeValue T n t s) (judgeRow T n (t ∷ []) s)
@@ -162,10 +164,10 @@ module _ (T : Table) (n : ℕ) where
       go (refused c l) = neither
 
   -- what stands below a constructed node is its row
-  pub below-row : (b : Body) (x : Node) → 16 ≤ nodeKind x → (s : List ℕ)
+  pub below-row : (b : Body) (x : Node) → constructedOf (nodeKind x) ≡ true → (s : List ℕ)
       → Alike (contentsForm T n b) (rowForm T n (rowOf b x)) (judgeBelow (λ u w. judgeValue T n u w) b x s) (judgeRow T n (rowOf b x) s)
   unfolding judgeBelow rowOf contentsForm nodeKind
-  below-row b (a-leaf x) h s = let k = leaf-small x in absurd (omega arith)
+  below-row b (a-leaf x) h s = absurd (false≢true (sym (leaf-simple x) ∙ h))
   below-row b (a-sequence bs) h s = alike-map (λ os. sequence (slots os)) (λ os. refl) (members-row (members b) bs s)
   below-row b (a-set bs) h s = alike-map (λ os. set (slots os)) (λ os. refl) (members-row (members b) bs s)
   below-row b (a-sequence-of k) h s = alike-map (λ vs. sequenceOf (bag vs)) (λ vs. refl) (elements-row k (element b) s)
@@ -191,17 +193,17 @@ each-behind v r b (t ∷ ts) vs at h =
 
 module _ (T : Table) (n : ℕ) (v : List ℕ) (b : (t at : ℕ) → at ≤ length v → Holds (λ x w. Behind v at w) (judgeValue T n t (drop at v))) (c : Body) (at : ℕ)
     (h : at ≤ length v) where
-  by-row : (x : Node) → 16 ≤ nodeKind x → Holds (λ y w. Behind v at w) (judgeBelow (λ u w. judgeValue T n u w) c x (drop at v))
+  by-row : (x : Node) → constructedOf (nodeKind x) ≡ true → Holds (λ y w. Behind v at w) (judgeBelow (λ u w. judgeValue T n u w) c x (drop at v))
   by-row x k = alike-rest (below-row T n c x k (drop at v)) (each-behind v (λ u w. judgeValue T n u w) b (rowOf c x) [] at h)
 
   below-behind : (x : Node) → Holds (λ y w. Behind v at w) (judgeBelow (λ u w. judgeValue T n u w) c x (drop at v))
-  unfolding judgeBelow nodeKind
+  unfolding judgeBelow nodeKind bodyAt constructed
   below-behind (a-leaf x) = yields (record { to = at; is = refl; onward = omega arith; within = h })
-  below-behind (a-sequence bs) = by-row (a-sequence bs) (omega arith)
-  below-behind (a-set bs) = by-row (a-set bs) (omega arith)
-  below-behind (a-sequence-of k) = by-row (a-sequence-of k) (omega arith)
-  below-behind (a-set-of k) = by-row (a-set-of k) (omega arith)
-  below-behind (a-choice i) = by-row (a-choice i) (omega arith)
+  below-behind (a-sequence bs) = by-row (a-sequence bs) refl
+  below-behind (a-set bs) = by-row (a-set bs) refl
+  below-behind (a-sequence-of k) = by-row (a-sequence-of k) refl
+  below-behind (a-set-of k) = by-row (a-set-of k) refl
+  below-behind (a-choice i) = by-row (a-choice i) refl
 
 node-behind : {v : List ℕ} {l p : ℕ} {x : Node} {e : ℕ} {a : Answer Node} → Reads v l p x e a → Holds (λ y w. Behind v p w) a
 node-behind bad = refuses

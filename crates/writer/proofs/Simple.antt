@@ -1,15 +1,13 @@
 -- What the judge says of a leaf.
 -- Assumes nothing.
-use mathlib.Core.Bool.{Bool, true, false, not, true≢false}
+use mathlib.Core.Bool.{Bool, true, false, not}
 use mathlib.Core.List.{List}
 use mathlib.Core.Path.{_≡_, sym, ap, _∙_}
 use Prim.Native.Nat.{ℕ, _+_, _-_, _≤_, _<_}
 use native.Mathlib.Omega.{arith}
 use lib.ListN.{length, getD, drop}
-use Rattle.octets.proofs.Tests.{at}
 use Rattle.octets.specs.declared.cause.Cause.the-variants.{ValueShape, IllTyped, ValueLevel}
-use Rattle.table.specs.Syntax.{Table, constructed}
-use Rattle.table.specs.Reading.{bodyAt}
+use Rattle.table.specs.Syntax.{Table}
 use Rattle.table.specs.Fields.{constructedOf}
 use Rattle.table.specs.declared.entry.Entry.{Entry}
 use Rattle.table.proofs.Promises.{constructed-of}
@@ -26,25 +24,6 @@ use Rattle.writer.specs.declared.judge.Judged.{Judged}
 use Rattle.writer.specs.declared.judge.Judged.the-variants.{Done, Refused}
 use Rattle.writer.proofs.Nodes.{leaf-node}
 use Rattle.writer.proofs.Below.{positive, value-shape, value-level, value-ill, value-leaf}
-
--- a kind that is not constructed is below 16
-abbrev Small : ℕ → Type 0
-Small k = constructedOf k ≡ false → k < 16
-
-pub simple-small : (k : ℕ) → Small k
-unfolding bodyAt constructed
-simple-small k =
-    at k 1 Small (λ _. omega arith) λ e₁.
-    at k 2 Small (λ _. omega arith) λ e₂.
-    at k 3 Small (λ _. omega arith) λ e₃.
-    at k 4 Small (λ _. omega arith) λ e₄.
-    at k 5 Small (λ _. omega arith) λ e₅.
-    at k 10 Small (λ _. omega arith) λ e₁₀.
-    at k 16 Small (λ h. absurd (true≢false h)) λ e₁₆.
-    at k 17 Small (λ h. absurd (true≢false h)) λ e₁₇.
-    at k 48 Small (λ h. absurd (true≢false h)) λ e₄₈.
-    at k 49 Small (λ h. absurd (true≢false h)) λ e₄₉ h.
-    absurd (true≢false (rw (e₁, e₂, e₃, e₄, e₅, e₁₀, e₁₆, e₁₇, e₄₈, e₄₉) at h))
 
 -- what an entry says of its kind
 pub known-simple : (b : List ℕ) (e : Entry) → Known b e → e .simple ≡ not (constructedOf (e .kind))
@@ -78,7 +57,7 @@ module _ (b : List ℕ) (e : Entry) (v : List ℕ) (at n : ℕ) (M : IsMarked v 
       pub leaf-ill : r ≡ false → Refused at IllTyped ≡ Tells
       leaf-ill f = value-ill T t v at within n is-shaped z _ (agreed false f)
 
-      pub leaf-done : r ≡ true → getD v (at + 2) 0 < 16 → (size : ℕ) → size ≡ cap (0 + x .size) → Done (x .end) size ≡ Tells
+      pub leaf-done : r ≡ true → constructedOf (getD v (at + 2) 0) ≡ false → (size : ℕ) → size ≡ cap (0 + x .size) → Done (x .end) size ≡ Tells
       leaf-done f k size es =
           let l = m .sized (rw (M .1) at is-shaped) in
           let q : 0 + x .size ≡ length (encode (leafOf (getD v (at + 2) 0) v (at + 3))) = omega arith in

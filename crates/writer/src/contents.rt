@@ -1,11 +1,13 @@
 // The contents octets of the simple kinds (X.690, 8.2 to 8.4, 8.6 to 8.8). A leaf's own part is at p.
 ghost use mathlib.Core.Path.{_≡_};
+ghost use mathlib.Core.Bool.{false};
 ghost use Prim.Native.Nat.{_<_, _≤_, _+_, _/_};
 ghost use lib.ListN.{length, take, drop};
 ghost use lib.Seq.{sets};
 ghost use lib.IntN.{pos};
 ghost use Rattle.octets.specs.Numbers.{two};
 ghost use Rattle.x690.specs.Integer.{integerOf, fewestOf};
+ghost use Rattle.table.specs.Fields.{constructedOf};
 ghost use Rattle.coding.specs.Form.{encode};
 ghost use Rattle.writer.specs.Nodes.{ownEnd, leafOf, clearAt};
 ghost use Rattle.writer.specs.Leaves.{Measures};
@@ -168,7 +170,7 @@ fn enumerated(v: &[u8], p: usize) -> Extent
 pub fn measure(kind: u8, v: &[u8], p: usize) -> Extent
     requires { ⌜
         (p < 20000)
-        × (kind < 16)
+        × (constructedOf kind ≡ false)
         ⌝ }
     ensures { λ r. ⌜ Measures kind (now (v .entry)) p r ⌝ }
 {
@@ -197,7 +199,7 @@ pub fn measure(kind: u8, v: &[u8], p: usize) -> Extent
 pub fn size(kind: u8, v: &[u8], p: usize) -> usize
     requires { ⌜
         (p < 20000)
-        × (kind < 16)
+        × (constructedOf kind ≡ false)
         × (0 < ownEnd kind (now v) p)
         ⌝ }
     ensures { λ r. ⌜
@@ -253,7 +255,7 @@ fn put_integer(z: i64, size: usize, buf: &mut [u8], to: usize)
 pub fn put(kind: u8, size: usize, v: &[u8], p: usize, buf: &mut [u8], to: usize) -> usize
     requires { ⌜
         (p < 20000)
-        × (kind < 16)
+        × (constructedOf kind ≡ false)
         × (0 < ownEnd kind (now v) p)
         × (size ≡ length (encode (leafOf kind (now v) p)))
         × (to + size ≤ length (now buf))

@@ -1,7 +1,7 @@
 // Judges a value's octets, and measures the form of what is accepted; the length of the contents of each constructed node is noted at a
 // quarter of its place (FORMATS, "Values").
 ghost use mathlib.Core.Path.{_≡_};
-ghost use mathlib.Core.Bool.{true, not};
+ghost use mathlib.Core.Bool.{true, false, not};
 ghost use Prim.Native.Nat.{ℕ, _<_, _≤_, _+_, _-_};
 ghost use lib.ListN.{length, getD, drop};
 ghost use mathlib.Core.List.{[], _∷_};
@@ -41,7 +41,7 @@ pub enum Judged {
 fn suits(table: &[u8], e: Entry, v: &[u8], kind: u8, p: usize) -> bool
     requires { ⌜
         (p < 20000)
-        × (kind < 16)
+        × (constructedOf kind ≡ false)
         × (0 < ownEnd kind (now v) p)
         × Known (now table) e
         ⌝ }
@@ -61,7 +61,7 @@ fn judge_leaf(table: &[u8], e: Entry, v: &[u8], at: usize, level: usize) -> Judg
     requires { ⌜
         (length (now v) ≤ 16384)
         × IsMarked (now v) at
-        × (getD (now v) (at + 2) 0 < 16)
+        × (constructedOf (getD (now v) (at + 2) 0) ≡ false)
         × Known (now table) e
         ⌝ }
     ensures { λ r. ⌜

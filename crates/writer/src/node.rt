@@ -132,7 +132,7 @@ fn is_complete(table: &[u8], p: usize, n: usize, v: &[u8], q: usize) -> bool
 pub fn agrees(table: &[u8], e: Entry, v: &[u8], kind: u8, p: usize) -> bool
     requires { ⌜
         (p < 20000)
-        × (16 ≤ kind)
+        × (constructedOf kind ≡ true)
         × (0 < ownEnd kind (now v) p)
         × Known (now table) e
         ⌝ }

@@ -67,15 +67,15 @@ header-complete : {n : ℕ} {i ls : List ℕ} (s : List ℕ) → Readable i → 
 unfolding readHeader
 header-complete {i = i} {ls = ls} s g l h = simp (run, g (ls ++ s), same-refl i, length-complete (length (i ++ (ls ++ s))) s l h)
 
-header-marked : (i s : List ℕ) → Readable i → readHeader i (i ++ (128 ∷ s)) ≡ got indefinite s
+header-indefinite : (i s : List ℕ) → Readable i → readHeader i (i ++ (128 ∷ s)) ≡ got indefinite s
 unfolding readHeader readLength
-header-marked i s g = simp (run, g (128 ∷ s), same-refl i)
+header-indefinite i s g = simp (run, g (128 ∷ s), same-refl i)
 
 whole : (i ls c s : List ℕ) → (i ++ (ls ++ c)) ++ s ≡ i ++ (ls ++ (c ++ s))
 whole i ls c s = append-assoc i (ls ++ c) s ∙ ap (λ (l : List ℕ). i ++ l) (append-assoc ls c s)
 
-whole-marked : (i c s : List ℕ) → (i ++ (128 ∷ (c ++ (0 ∷ 0 ∷ [])))) ++ s ≡ i ++ (128 ∷ (c ++ (0 ∷ 0 ∷ s)))
-whole-marked i c s = append-assoc i (128 ∷ (c ++ (0 ∷ 0 ∷ []))) s ∙ ap (λ (l : List ℕ). i ++ (128 ∷ l)) (append-assoc c (0 ∷ 0 ∷ []) s)
+whole-indefinite : (i c s : List ℕ) → (i ++ (128 ∷ (c ++ (0 ∷ 0 ∷ [])))) ++ s ≡ i ++ (128 ∷ (c ++ (0 ∷ 0 ∷ s)))
+whole-indefinite i c s = append-assoc i (128 ∷ (c ++ (0 ∷ 0 ∷ []))) s ∙ ap (λ (l : List ℕ). i ++ (128 ∷ l)) (append-assoc c (0 ∷ 0 ∷ []) s)
 
 pub primitive-complete : {i c m : List ℕ} (s : List ℕ) → Readable i → Definite i c m → readPrimitive i (m ++ s) ≡ got c s
 unfolding readPrimitive contents
@@ -98,7 +98,7 @@ constructed-complete body {i = i} {c} s g b (in-size (sized ls l e)) =
     }
 constructed-complete body {i = i} {c} s g b (in-marks e) =
     let x = b open-ended (0 ∷ 0 ∷ s) s mark in
-    record { value = x .value; answer = rw (e, whole-marked i c s) (simp (run, header-marked i (c ++ (0 ∷ 0 ∷ s)) g, inside, x .answer)); alike = x .alike }
+    record { value = x .value; answer = rw (e, whole-indefinite i c s) (simp (run, header-indefinite i (c ++ (0 ∷ 0 ∷ s)) g, inside, x .answer)); alike = x .alike }
 
 -- a refusal inside a part is at the same octet of the whole: what stands behind the part is left as well
 pub part-place : {A : Type 0} (body : Mode → List ℕ → Answer A) {k : Cause} {l : ℕ} (c s : List ℕ) → body closed c ≡ refused k l
@@ -168,7 +168,7 @@ module _ {A : Type 0} (C : A → List ℕ → Type 0) (body : Mode → List ℕ 
       record {
         item = i ++ (128 ∷ (b .content ++ (0 ∷ 0 ∷ [])));
         content = b .content;
-        cut = e ∙ ap (λ (x : List ℕ). i ++ x) (eu ∙ ap (λ (x : List ℕ). 128 ∷ x) (b .cut ∙ ap (λ (x : List ℕ). b .content ++ x) (ends-open (b .ends)))) ∙ sym (whole-marked i (b .content) r);
+        cut = e ∙ ap (λ (x : List ℕ). i ++ x) (eu ∙ ap (λ (x : List ℕ). 128 ∷ x) (b .cut ∙ ap (λ (x : List ℕ). b .content ++ x) (ends-open (b .ends)))) ∙ sym (whole-indefinite i (b .content) r);
         framed = in-marks refl;
         has = b .has;
       })

@@ -14,7 +14,7 @@ use Rattle.octets.specs.Answer.{got}
 use Rattle.octets.specs.Permutations.{AllOctets, every-cons}
 use Rattle.octets.proofs.Answer.{Holds, yields, refuses, if-holds, if-cases, run}
 use Rattle.octets.proofs.Permutations.{every-right}
-use Rattle.x690.specs.Length.{number, Length, short, long, digits, lengthOctets}
+use Rattle.x690.specs.Length.{unsigned, Length, short, long, digits, lengthOctets}
 use Rattle.x690.specs.Reading.{Size, definite, indefinite, fit, readLong, readLength}
 
 -- what a reader of length octets took from s
@@ -73,12 +73,12 @@ length-complete {n} l s (long ds h k v e) f =
       le-leb n (length s) f,
     ))
 
-digits-number : (k n : ℕ) (l : List ℕ) → n < 256 ^ k → number 0 (digits k n l) ≡ number n l
-unfolding digits number
-digits-number zero n l h = ap (λ (x : ℕ). number x l) (omega arith)
-digits-number (suc k) n l h =
-    if-cases (λ x. number 0 x ≡ number n l) _ _ _ (λ e. ap (λ (x : ℕ). number x l) (sym (eqb-true n 0 e)))
-    (λ e. digits-number k (n / 256) (n % 256 ∷ l) (div-lt-iff-lt-mul (omega arith) .1 (rw pow-suc at h)) ∙ ap (λ (x : ℕ). number x l) (div-add-mod' n 256))
+digits-unsigned : (k n : ℕ) (l : List ℕ) → n < 256 ^ k → unsigned 0 (digits k n l) ≡ unsigned n l
+unfolding digits unsigned
+digits-unsigned zero n l h = ap (λ (x : ℕ). unsigned x l) (omega arith)
+digits-unsigned (suc k) n l h =
+    if-cases (λ x. unsigned 0 x ≡ unsigned n l) _ _ _ (λ e. ap (λ (x : ℕ). unsigned x l) (sym (eqb-true n 0 e)))
+    (λ e. digits-unsigned k (n / 256) (n % 256 ∷ l) (div-lt-iff-lt-mul (omega arith) .1 (rw pow-suc at h)) ∙ ap (λ (x : ℕ). unsigned x l) (div-add-mod' n 256))
 
 digits-few : (k j n : ℕ) (l : List ℕ) → n < 256 ^ j → length (digits k n l) ≤ j + length l
 unfolding digits
@@ -88,13 +88,13 @@ digits-few (suc k) (suc j) n l h =
     if-cases (λ x. length x ≤ suc j + length l) _ l (λ _. digits k (n / 256) (n % 256 ∷ l)) (λ e. omega arith)
     (λ e. let f = digits-few k j (n / 256) (n % 256 ∷ l) (div-lt-iff-lt-mul (omega arith) .1 (rw pow-suc at h)) in omega arith)
 
-number-below : (i n : ℕ) (ds : List ℕ) → n < 256 ^ i → AllOctets ds → number n ds < 256 ^ (i + length ds)
-unfolding number
-number-below i n [] h o = let e : i + 0 ≡ i = omega arith in rw e h
-number-below i n (d ∷ ds) h (every-cons b o) =
+unsigned-below : (i n : ℕ) (ds : List ℕ) → n < 256 ^ i → AllOctets ds → unsigned n ds < 256 ^ (i + length ds)
+unfolding unsigned
+unsigned-below i n [] h o = let e : i + 0 ≡ i = omega arith in rw e h
+unsigned-below i n (d ∷ ds) h (every-cons b o) =
     let f : n * 256 + d < 256 ^ suc i = rw pow-suc (omega arith) in
     let e : suc i + length ds ≡ i + suc (length ds) = omega arith in
-    rw e at (number-below (suc i) (n * 256 + d) ds f o)
+    rw e at (unsigned-below (suc i) (n * 256 + d) ds f o)
 
 -- what is written is the shortest form that may be sent
 pub length-shortest : (n : ℕ) (m : List ℕ) → Length n m → AllOctets m → length (lengthOctets n) ≤ length m
@@ -102,7 +102,7 @@ unfolding lengthOctets
 length-shortest n m (short h e) o = rw (e, lt-ltb n 128 h) (simp run (omega arith))
 length-shortest n m (long ds h k v e) o =
     let z : 0 + length ds ≡ length ds = omega arith in
-    let b : n < 256 ^ length ds = rw (v, z) at (number-below 0 0 ds (omega arith) (every-right ((128 + length ds) ∷ []) (rw e at o))) in
+    let b : n < 256 ^ length ds = rw (v, z) at (unsigned-below 0 0 ds (omega arith) (every-right ((128 + length ds) ∷ []) (rw e at o))) in
     let f = digits-few 8 (length ds) n [] b in
     rw e (if-cases (λ (x : List ℕ). length x ≤ suc (length ds)) (ltb n 128) _ _ (λ t. omega arith) (λ t. omega arith))
 
@@ -123,7 +123,7 @@ some-digit n l = if-cases (λ (x : List ℕ). 1 ≤ length x) (eqb n 0) [] (λ _
 
 -- what is written may be sent
 pub length-octets : (n : ℕ) → n < 256 ^ 8 → Length n (lengthOctets n)
-unfolding lengthOctets number
+unfolding lengthOctets unsigned
 length-octets n h =
     if-cases (λ m. Length n m) _ _ _ (λ e. short (ltb-true n 128 e) refl)
-    (λ e. long (digits 8 n []) (some-digit n (ltb-false n 128 e)) (let k = digits-most 8 n [] in omega arith) (digits-number 8 n [] h) refl)
+    (λ e. long (digits 8 n []) (some-digit n (ltb-false n 128 e)) (let k = digits-most 8 n [] in omega arith) (digits-unsigned 8 n [] h) refl)

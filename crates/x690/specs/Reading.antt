@@ -8,7 +8,7 @@ use lib.Dec.{ltb, eqb, leb}
 use lib.ListN.{length, getD, take, drop}
 use Rattle.octets.specs.declared.cause.Cause.the-variants.{Cut, Forbidden, NotAwaited}
 use Rattle.octets.specs.Answer.{Answer, got, refused, then, if, behind, none-left}
-use Rattle.x690.specs.Length.{number}
+use Rattle.x690.specs.Length.{unsigned}
 use Rattle.octets.specs.Lists.{same}
 
 -- the octets up to and with the first below 128, after those in hand; l octets are left where the item begins
@@ -35,7 +35,7 @@ unfoldable pub fit : ℕ → ℕ → List ℕ → Answer Size
 fit l n s = if (leb n (length s)) (got (definite n) s) λ _. refused Cut l
 
 unfoldable pub readLong : ℕ → ℕ → List ℕ → Answer Size
-readLong l k s = if (leb k (length s)) (fit l (number 0 (take k s)) (drop k s)) λ _. refused Cut l
+readLong l k s = if (leb k (length s)) (fit l (unsigned 0 (take k s)) (drop k s)) λ _. refused Cut l
 
 -- the length octets are there (22); a first octet FF is refused as soon as it is read (23)
 unfoldable pub readLength : ℕ → List ℕ → Answer Size

@@ -7,13 +7,13 @@ use Rattle.ber.proofs.ending.read.Statement.{statement}
 use Rattle.ber.proofs.ending.read.Tie as tie
 use Rattle.ber.proofs.ending.read.Reads as reads
 use Rattle.ber.proofs.ending.read.Lts as lts
-use Rattle.ber.proofs.ending.marked_end.Reads as marked-end-reads
+use Rattle.ber.proofs.ending.indefinite_end.Reads as indefinite-end-reads
 
 pub read-spec : {M : Type 1} → statement M
 read-spec =
     tie.close
     (tie.spec
-    (λ c κs. search needs)  -- marked-end-requires
-    (λ c. rw (c .before .if1 .taken) (c .marked-end .ensures))  -- returns
+    (λ c κs. search needs)  -- indefinite-end-requires
+    (λ c. rw (c .before .if1 .taken) (c .indefinite-end .ensures))  -- returns
     (λ c. rw (c .before .if1 .left) (ends-closed (now (c .before .before .before .args .m)) _ (c .if2 .taken)))  -- returns-2
     (λ c. rw (c .before .if1 .left) (ends-not (now (c .before .before .before .args .m)) _ (c .if2 .left))))  -- returns-3

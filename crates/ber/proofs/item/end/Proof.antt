@@ -3,7 +3,7 @@
 use native.Mathlib.Omega.{arith}
 use denote.Ref.{now}
 use Rattle.ber.proofs.Told.{length-definite, length-indefinite}
-use Rattle.ber.proofs.Skipping.{skip-none, skip-sized, skip-marked}
+use Rattle.ber.proofs.Skipping.{skip-none, skip-sized, skip-indefinite}
 use borrow.Author.Needs.{needs}
 use Rattle.ber.proofs.item.end.Statement.{statement}
 use Rattle.ber.proofs.item.end.Tie as tie
@@ -30,7 +30,7 @@ end-spec =
     (c .before .if1 .taken) in (
       omega (arith, c .open-end .ensures .0),
       c .open-end .ensures .1,
-      skip-marked (now (at-start .args .m)) (at-start .args .from) _
+      skip-indefinite (now (at-start .args .m)) (at-start .args .from) _
           (at-read .read .ensures) _ (at-x .x .given .1) (c .before .if1 .taken) (c .open-end .result) (c .open-end .ensures .2),
     ))  -- returns
     (λ c. let at-start = c .before .before .before .before in (

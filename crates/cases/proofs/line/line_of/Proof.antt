@@ -36,7 +36,7 @@ line-of-spec =
     let c7 = c2 .before .before .before .before .before in
     let at-start = c7 in done-room _ _ _ (at-start .fits .number .fits) (omega (arith, c2 .all .given .0)) (at-start .pre))  -- done-line-requires-2
     (λ c. search needs)  -- enum-known-a-2
-    (λ c κs. search needs)  -- parts-of-requires
+    (λ c κs. search needs)  -- report-of-requires
     (λ c κs. refused-room _ _ _ _ (search needs) (search needs) (search needs) (c .before .before .before .before .before .before .pre))  -- refused-line-requires
     (λ c. search needs)  -- same-length
     (λ c. rw (c .before .before .before .before .before .before .before .before .a .given .1) (c .before .before .done-line .ensures))  -- returns
@@ -52,4 +52,4 @@ line-of-spec =
     let c2 = c .before .before in
     let c4 = c2 .before .before in
     let c6 = c4 .before .before in
-    rw (c6 .a2 .given .1, ← c4 .parts-of .ensures .0, ← c4 .parts-of .ensures .1) (c2 .refused-line .ensures)))  -- returns-3
+    rw (c6 .a2 .given .1, ← c4 .report-of .ensures .0, ← c4 .report-of .ensures .1) (c2 .refused-line .ensures)))  -- returns-3

@@ -18,8 +18,8 @@ found-spec =
     (λ c κs. (
       rw (c .parts .ensures) (near-span _ _ _ (λ i. omega (arith, c .before .before .before .before .shared-slice-known .given i)) (omega arith)),
       c .before .before .before .before .before .pre,
-    ))  -- each-marked-requires
-    (λ c. λ r x. rw (c .before .parts .ensures) at (c .each-marked .ensures) ∙ finite-members x _
+    ))  -- each-flagged-requires
+    (λ c. λ r x. rw (c .before .parts .ensures) at (c .each-flagged .ensures) ∙ finite-members x _
     (sym (c .before .before .before .has-members .ensures) ∙ c .before .before .if2 .taken))  -- returns-2
     (λ c κs. search needs)  -- alternatives-requires
     (λ c κs. (
@@ -27,8 +27,8 @@ found-spec =
           (c .before .before .before .before .before .before .before .args .e .own) 1
           (λ i. omega (arith, c .before .before .before .before .before .before .shared-slice-known .given i)) (omega arith) (omega arith)),
       c .before .before .before .before .before .before .before .pre,
-    ))  -- one-marked-requires
-    (λ c. λ r x. rw (c .before .alternatives .ensures) at (c .one-marked .ensures) ∙ finite-choice x _
+    ))  -- one-flagged-requires
+    (λ c. λ r x. rw (c .before .alternatives .ensures) at (c .one-flagged .ensures) ∙ finite-choice x _
     (eq-eqb _ _ (c .before .before .if3 .taken)))  -- returns-3
     (λ c. λ r x. finite-other x _ (sym (c .before .before .before .has-members .ensures) ∙ c .before .before .if2 .left)
     (ne-eqb _ _ (c .if3 .left))))  -- returns-4

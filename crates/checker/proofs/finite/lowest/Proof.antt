@@ -1,4 +1,4 @@
--- `checker::finite::lowest` meets its contract. The loop's invariant: records that were found were marked one after another, from none.
+-- `checker::finite::lowest` meets its contract. The loop's invariant: records that were found were flagged one after another, from none.
 -- The measure is how many have no mark. Assumes nothing.
 use mathlib.Core.Path.{_≡_, refl, sym, _∙_}
 use lib.ListN.{length, replicate}

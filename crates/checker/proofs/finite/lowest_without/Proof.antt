@@ -6,18 +6,18 @@ use native.Mathlib.Omega.{arith}
 use borrow.Author.Needs.{needs}
 use borrow.Author.Tests.{eq-eqb, ne-eqb}
 use Rattle.octets.proofs.Search.{Rest, rest-first, rest-here, rest-next, rest-none}
-use Rattle.checker.specs.Marks.{isMarked}
+use Rattle.checker.specs.Marks.{isFlagged}
 use Rattle.checker.proofs.finite.lowest_without.Statement.{statement}
 use Rattle.checker.proofs.finite.lowest_without.Tie as tie
 
 abbrev Inv-loop : tie.InvT-loop
-Inv-loop flags n t₀ t = Rest (λ u. not (isMarked flags u)) n t
+Inv-loop flags n t₀ t = Rest (λ u. not (isFlagged flags u)) n t
 
 abbrev μ-loop : tie.MeasureT-loop
 μ-loop flags n t₀ t = n - t
 
 pub lowest-without-spec : {M : Type 1} → statement M
-unfolding isMarked
+unfolding isFlagged
 lowest-without-spec =
     tie.close
     (tie.spec

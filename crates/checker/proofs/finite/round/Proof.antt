@@ -8,7 +8,7 @@ use borrow.Author.Needs.{needs}
 use Rattle.checker.specs.Marks.{Looked}
 use Rattle.table.specs.Entries.{tableIn}
 use Rattle.checker.proofs.Rules.{entry-at}
-use Rattle.checker.proofs.Marks.{From, looked-none, looked-all, looked-marked, looked-idle, looked-more}
+use Rattle.checker.proofs.Marks.{From, looked-none, looked-all, looked-flagged, looked-idle, looked-more}
 use Rattle.checker.proofs.finite.round.Statement.{statement}
 use Rattle.checker.proofs.finite.round.Tie as tie
 
@@ -56,7 +56,7 @@ round-spec =
     (λ c. (
       omega arith,
       c .before .before .before .loop .inv .1,
-      looked-marked _ _ _ _ _ _ (c .before .before .before .loop .inv .2)
+      looked-flagged _ _ _ _ _ _ (c .before .before .before .loop .inv .2)
           (c .if1 .left),
     ))  -- loop-again-3
     (λ c. looked-all _ _ _ (c .loop-test .left) (c .before .loop .inv .2)))  -- returns

@@ -5,17 +5,17 @@ use mathlib.Core.Path.{_≡_, _∙_}
 use Prim.Native.Nat.{_<_}
 use native.Mathlib.Omega.{arith}
 use borrow.Author.Needs.{needs}
-use Rattle.table.proofs.Packing.{marked, marked-below, unpacks}
+use Rattle.table.proofs.Packing.{highOctet, high-octet-below, unpacks}
 use Rattle.checker.proofs.index.pack.Statement.{statement}
 use Rattle.checker.proofs.index.pack.Tie as tie
 use Rattle.checker.proofs.index.pack.Reads as reads
 use Rattle.checker.proofs.index.pack.Lts as lts
 
-high-is : (c : lts.After-row-known reads.Pre reads.Post) → let a = c .before .before .args in c .before .if1 .high ≡ marked (a .simple) (a .explicit)
+high-is : (c : lts.After-row-known reads.Pre reads.Post) → let a = c .before .before .args in c .before .if1 .high ≡ highOctet (a .simple) (a .explicit)
 high-is c = ⊎-elim (λ w. w .1 ∙ rw (w .0 .taken)) (λ w. w .1 ∙ rw (w .0 .left)) (c .before .if1 .came)
 
 high-below : (c : lts.After-row-known reads.Pre reads.Post) → c .before .if1 .high < 256
-high-below c = let a = c .before .before .args in rw (high-is c) (marked-below (a .simple) (a .explicit) (c .before .before .pre))
+high-below c = let a = c .before .before .args in rw (high-is c) (high-octet-below (a .simple) (a .explicit) (c .before .before .pre))
 
 pub pack-spec : {M : Type 1} → statement M
 pack-spec =

@@ -43,8 +43,8 @@ record-end-spec =
       ← c .before .each-at-most .ensures,
       c .if6 .taken,
     ) (search tests))  -- returns-6
-    (λ c. search needs)  -- add-octet-3
-    (λ c κs. search needs)  -- octet-requires-4
+    (λ c. search needs)  -- add-a
+    (λ c. search needs)  -- shared-slice-read-own-end
     (λ c κs. omega arith)  -- own-end-requires
     (λ c. rw (
       ← c .before .before .before .before .before .before .before .before .before .before .octet .ensures .0,
@@ -52,6 +52,5 @@ record-end-spec =
       ← c .before .before .before .before .before .before .octet3 .ensures .0,
       ← c .before .before .before .each-at-most .ensures,
       c .before .before .if6 .left,
-      ← c .before .octet4 .ensures .0,
       ← c .own-end .ensures,
     ) (search tests)))  -- returns-7

@@ -12,7 +12,7 @@ use lib.ListN.{length, take}
 use Rattle.reader.proofs.ItemsFound.{item-same, item-found}
 use Rattle.reader.proofs.JudgedMembers.{Judging, Setting, count-few, judging-first, judging-sound}
 use Rattle.reader.proofs.JudgedMembers.{Turn, part-few, part-near, type-few, judged-over, judged-stopped, item-there, judged-unfit, found-low}
-use Rattle.reader.proofs.JudgedMembers.{item-here, Comes, place-few, behind-few, number-few, judged-level, is-record}
+use Rattle.reader.proofs.JudgedMembers.{item-here, Comes, place-few, behind-few, type-below, judged-level, is-record}
 use Rattle.reader.proofs.JudgedMembers.{is-headed}
 use Rattle.reader.proofs.JudgedMembers.{Valued, depth-few, judged-refused, sizes-few, value-further, value-low, judged-one, judged-turn}
 use borrow.Fn.Kinds.{In}
@@ -43,7 +43,7 @@ use Rattle.reader.proofs.judge.+judge_members+judge_value.Tie.{close}
 use Rattle.table.specs.Entries.{unpacked, tableIn}
 use Rattle.reader.proofs.Bodies.{recordOf}
 use Rattle.reader.proofs.JudgedValue.{Over, Ended, over-leaf, over-items, items-low, items-high, item-tags, item-closes}
-use Rattle.reader.proofs.JudgedValue.{value-unopened, value-unread, value-marked, value-wrong, value-unheld, value-closed, value-over}
+use Rattle.reader.proofs.JudgedValue.{value-unopened, value-unread, value-indefinite, value-wrong, value-unheld, value-closed, value-over}
 use Rattle.reader.proofs.ValueParts.{Under, Within, Item, Filling, under-tags, under-bare, item-within, item-around, contents-sized}
 use Rattle.reader.proofs.ValueParts.{contents-bare}
 use Rattle.reader.proofs.ValueParts.{contents-within, contents-short, items-known, items-some}
@@ -76,11 +76,11 @@ judge-value-below t =
     and 4 judge-value-kinds.ps (falls 4 judge-value-kinds.ps _<_ μ-judge-value t) judge-value.Pre
 
 abbrev judge-members-Inv-loop : judge-members-lts.InvT-loop
-judge-members-Inv-loop table index w m marked level way₀ e s came₀ total₀ at₀ j₀ way came total at j =
-    (at ≤ length m) × (length way ≡ 128) × Judging table w m marked level came total at j
+judge-members-Inv-loop table index w m indefinite level way₀ e s came₀ total₀ at₀ j₀ way came total at j =
+    (at ≤ length m) × (length way ≡ 128) × Judging table w m indefinite level came total at j
 
 abbrev judge-members-μ-loop : judge-members-lts.MeasureT-loop
-judge-members-μ-loop table index w m marked level way₀ e s came₀ total₀ at₀ j₀ way came total at j = length m - at
+judge-members-μ-loop table index w m indefinite level way₀ e s came₀ total₀ at₀ j₀ way came total at j = length m - at
 
 abbrev judge-members-claims : ℕ → judge-members-lts.Claims
 judge-members-claims t = (
@@ -139,7 +139,7 @@ turn t c =
     let l = c .before .before .loop in
     record {
       m = now (a .m);
-      marked = a .marked;
+      indefinite = a .indefinite;
       level = a .level;
       came = l .came;
       total = l .total;
@@ -166,7 +166,7 @@ comes t c =
       item = i;
       way = x .way;
       place = x .place;
-      number = x .«record»;
+      type = x .«record»;
       depth = x .depth;
       from = x .from;
       is =
@@ -288,8 +288,8 @@ judge-members-half t =
     (λ c. omega (arith, place-few (comes t (c .before .before .before .before))))  -- judge-members-mul-came
     (λ c. place-few (comes t (c .before .before .before .before)))  -- judge-members-array-write-came
     (λ c. omega (arith, behind-few (comes t (c .before .before .before .before .before))))  -- judge-members-add-j
-    (λ c. omega (arith, number-few (comes t (c .before .before .before .before .before .before))))  -- judge-members-mul-found
-    (λ c. number-few (comes t (c .before .before .before .before .before .before)))  -- judge-members-element-copy-out-found
+    (λ c. omega (arith, type-below (comes t (c .before .before .before .before .before .before))))  -- judge-members-mul-found
+    (λ c. type-below (comes t (c .before .before .before .before .before .before)))  -- judge-members-element-copy-out-found
     (λ c. omega arith)  -- judge-members-sub-below
     (λ c. omega arith)  -- judge-members-sub-below-2
     (λ c κs.
@@ -397,7 +397,7 @@ at-item t c =
 abbrev at-contents : (t : ℕ) (c : judge-value-lts.Joined2 (judge-value-claims t) (judge-value-at t) judge-value.Post) →
     let a = c .before .before .before .before .before .before .before .before .before .args in
     let x = c .before .before .before .before .if1 in
-    Within (recordOf (now (a .table)) (a .w)) (take (x .end) (now (a .m))) (x .at) (x .end) (c .if2 .start) (c .if2 .stop) (c .if2 .marked)
+    Within (recordOf (now (a .table)) (a .w)) (take (x .end) (now (a .m))) (x .at) (x .end) (c .if2 .start) (c .if2 .stop) (c .if2 .indefinite)
 at-contents t c =
     let x = at-item t (c .before .before .before .before) in
     ⊎-elim
@@ -413,7 +413,7 @@ at-filling t c =
       item = at-item t (c .before .before .before .before);
       start = c .if2 .start;
       stop = c .if2 .stop;
-      marked = c .if2 .marked;
+      indefinite = c .if2 .indefinite;
       within = at-contents t c;
     }
 
@@ -497,7 +497,7 @@ judge-value-half t =
     let c3 = c .before .before .before in
     let y = at-filling t (c3) in (
       c3 .before .before .before .before .before .before .before .before .before .pre .1 .5,
-      c .refused3 .ensures ∙ value-marked y (c .before .before .if3 .taken) (c .before .if4 .taken),
+      c .refused3 .ensures ∙ value-indefinite y (c .before .before .if3 .taken) (c .before .if4 .taken),
     ))  -- judge-value-returns-3
     (λ c. contents-within (at-filling t (c .before .before .before .before)) .0)  -- judge-value-sub-c
     (λ c. omega (arith, contents-within (at-filling t (c .before .before .before .before))))  -- judge-value-part-c-start

@@ -90,13 +90,13 @@ place-value-below t =
     and 5 place-value-kinds.ps (falls 5 place-value-kinds.ps _<_ μ-place-value t) place-value.Pre
 
 abbrev place-members-Inv-loop : place-members-lts.InvT-loop
-place-members-Inv-loop table index w m marked buf₀ to way₀ e s none began last next₀ at₀ j₀ count₀ buf way next at j count =
+place-members-Inv-loop table index w m indefinite buf₀ to way₀ e s none began last next₀ at₀ j₀ count₀ buf way next at j count =
     (length way ≡ 128)
     × (length buf ≡ length buf₀)
-    × ((first : List ℕ) (X : Started table index w m marked first to e s began last buf₀) → State X buf at next j count)
+    × ((first : List ℕ) (X : Started table index w m indefinite first to e s began last buf₀) → State X buf at next j count)
 
 abbrev place-members-μ-loop : place-members-lts.MeasureT-loop
-place-members-μ-loop table index w m marked buf₀ to way₀ e s none began last next₀ at₀ j₀ count₀ buf way next at j count =
+place-members-μ-loop table index w m indefinite buf₀ to way₀ e s none began last next₀ at₀ j₀ count₀ buf way next at j count =
     if (eqb (e .kind) 17) (s .count - j) λ _. length m - at
 
 abbrev place-members-claims : ℕ → place-members-lts.Claims
@@ -141,7 +141,7 @@ place-members-claims t = (
 at-given : (t : ℕ) (c : place-members-lts.After-parts (place-members-claims t) (place-members-at t)
     place-members.Post place-members-Inv-loop place-members-μ-loop) →
     let a = c .before .before .before .before .before .args in
-    Given (now (a .table)) (now (a .index)) (a .w) (now (a .m)) (a .marked) (now (a .buf)) (a .to) (c .before .unpack .result) (c .parts .result)
+    Given (now (a .table)) (now (a .index)) (a .w) (now (a .m)) (a .indefinite) (now (a .buf)) (a .to) (c .before .unpack .result) (c .parts .result)
 at-given t c =
     let p = c .before .before .before .before .before .pre .1 in
     record {
@@ -160,7 +160,7 @@ at-located : (t : ℕ) (c : place-members-lts.Joined1 (place-members-claims t) (
     place-members.Post place-members-Inv-loop place-members-μ-loop) →
     let a = c .before .before .before .before .before .before .before .args in
     (length (c .if1 .way) ≡ 128) × (length (c .if1 .began) ≡ 16)
-    × ((ms : List Member) → held (now (a .table)) (a .w) ≡ inside (Set ms) → Spotted (tableIn (now (a .table))) ms (a .marked) (now (a .m))
+    × ((ms : List Member) → held (now (a .table)) (a .w) ≡ inside (Set ms) → Spotted (tableIn (now (a .table))) ms (a .indefinite) (now (a .m))
     (c .if1 .began)
     (c .if1 .last))
 at-located t c =
@@ -174,7 +174,7 @@ at-located t c =
 at-started : (t : ℕ) (c : place-members-lts.After-begin (place-members-claims t) (place-members-at t)
     place-members.Post place-members-Inv-loop place-members-μ-loop) →
     let a = c .before .before .before .before .before .before .before .before .before .args in
-    Started (now (a .table)) (now (a .index)) (a .w) (now (a .m)) (a .marked) (now (a .buf)) (a .to)
+    Started (now (a .table)) (now (a .index)) (a .w) (now (a .m)) (a .indefinite) (now (a .buf)) (a .to)
     (c .before .before .before .before .before .unpack .result) (c .before .before .before .before .parts .result) (c .before .before .if1 .began)
     (c .before .before .if1 .last)
     (c .begin .last .1 .1 .0)
@@ -188,7 +188,7 @@ at-started t c = record {
 abbrev Starts : (t : ℕ) → place-members-lts.After-begin (place-members-claims t) (place-members-at t)
     place-members.Post place-members-Inv-loop place-members-μ-loop → List ℕ → Type 0
 Starts t c first = let a = c .before .before .before .before .before .before .before .before .before .args in
-    Started (now (a .table)) (now (a .index)) (a .w) (now (a .m)) (a .marked) first (a .to)
+    Started (now (a .table)) (now (a .index)) (a .w) (now (a .m)) (a .indefinite) first (a .to)
     (c .before .before .before .before .before .unpack .result) (c .before .before .before .before .parts .result) (c .before .before .if1 .began)
     (c .before .before .if1 .last)
     (c .begin .last .1 .1 .0)
@@ -414,7 +414,7 @@ at-contents : (t : ℕ) (c : place-value-lts.Joined2 (place-value-claims t) (pla
     let s = j .before .before .before .before .before .before in
     let a = s .args in
     Contents (now (a .table)) (a .w) (now (a .m)) (a .at) (j .if1 .end) (s .pre .1 .fits .value) (at-under t j .left) (c .if2 .start)
-    (c .if2 .stop) (c .if2 .marked)
+    (c .if2 .stop) (c .if2 .indefinite)
 at-contents t c =
     let j = c .before .before .before in
     let s = j .before .before .before .before .before .before in
@@ -653,7 +653,7 @@ pub +place-members+place-value-spec : {M : Type 1} → statement M
     (λ c κs.
     let P = c .before .before .before .before .before .before .before .pre .1 in
     let e = rw (c .before .before .before .unpack .ensures) at (c .before .if1 .taken) in
-    (_, P .ready, (P .number, P .low, P .entry), e, P .headed, P .short, refl))  -- place-value-open-requires
+    (_, P .ready, (P .type, P .low, P .entry), e, P .headed, P .short, refl))  -- place-value-open-requires
     (λ c. search needs)  -- place-value-enum-told
     (λ c. search needs)  -- place-value-enum-known-x
     (λ c. sym (length-take-le _ _ (at-under t (c .before) .under .high)))  -- place-value-slice-aggregate-around

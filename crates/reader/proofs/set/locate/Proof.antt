@@ -19,12 +19,12 @@ use Rattle.reader.proofs.set.locate.Statement.{statement}
 use Rattle.reader.proofs.set.locate.Tie as tie
 
 abbrev Inv-loop : tie.InvT-loop
-Inv-loop table index w m marked began₀ way₀ at₀ began way at =
+Inv-loop table index w m indefinite began₀ way₀ at₀ began way at =
     (at ≤ length m) × (length began ≡ 16) × (length way ≡ 128)
-    × ((ms : List Member) → held table w ≡ inside (Set ms) → Spotting (tableIn table) ms marked m began at)
+    × ((ms : List Member) → held table w ≡ inside (Set ms) → Spotting (tableIn table) ms indefinite m began at)
 
 abbrev μ-loop : tie.MeasureT-loop
-μ-loop table index w m marked began₀ way₀ at₀ began way at = length m - at
+μ-loop table index w m indefinite began₀ way₀ at₀ began way at = length m - at
 
 pub locate-spec : {M : Type 1} → statement M
 locate-spec =
@@ -35,7 +35,7 @@ locate-spec =
     (λ c.
     let c2 = c .before .before in
     let p = c2 .pre in
-    (omega arith, rw (p .4), p .5, located-first (p .0) (p .1) _ (c2 .args .marked) _ (p .4)))  -- loop-holds
+    (omega arith, rw (p .4), p .5, located-first (p .0) (p .1) _ (c2 .args .indefinite) _ (p .4)))  -- loop-holds
     (λ c κs. search needs)  -- is-over-requires
     (λ c κs. omega arith)  -- behind-requires
     (λ c.
@@ -45,7 +45,7 @@ locate-spec =
     let v = c3 .loop .inv in (
       v .1,
       v .2,
-      located-over (p .0) (p .1) _ (c6 .args .marked) _ _ (v .0) (v .3) _ (c .before .before .is-over .ensures)
+      located-over (p .0) (p .1) _ (c6 .args .indefinite) _ _ (v .0) (v .3) _ (c .before .before .is-over .ensures)
           (c .before .if1 .taken) _ (c .behind .ensures),
     ))  -- returns
     (λ c. omega arith)  -- sub-rest
@@ -67,7 +67,7 @@ locate-spec =
     let v = c9 .loop .inv in (
       v .1,
       c2 .search .ensures .0,
-      located-none (p .0) (p .1) _ (c12 .args .marked) _ _ (v .0) (v .3) _ (c8 .is-over .ensures) (c7 .if1 .left) _ _ (rw from-is
+      located-none (p .0) (p .1) _ (c12 .args .indefinite) _ _ (v .0) (v .3) _ (c8 .is-over .ensures) (c7 .if1 .left) _ _ (rw from-is
           at (c2 .search .ensures .1)) _ (c .enum-told .given .1) _,
     ))  -- returns-2
     (λ c. search needs)  -- enum-known-x
@@ -117,7 +117,7 @@ locate-spec =
       omega (arith, (rw from-is at (c .end .ensures .1)), length-drop (l .at) (now (a .m))),
       simp length-set (v .1),
       c4 .search .ensures .0,
-      located-turn (p .0) (p .1) (now (a .m)) (a .marked) (l .began) (l .at) (v .0) (v .3) _ (c10 .is-over .ensures)
+      located-turn (p .0) (p .1) (now (a .m)) (a .indefinite) (l .began) (l .at) (v .0) (v .3) _ (c10 .is-over .ensures)
           (c9 .if1 .left) _ _ (rw from-is at (c4 .search .ensures .1)) _ (c .before .before .x .given .1) _ (rw from-is at
           (c .end .ensures .2)),
     )))  -- loop-again

@@ -42,7 +42,7 @@ some-room c = let q = c .before .before .before .before .before .before .pre in 
 abbrev at-extent : (c : tie.After-x Inv-loop μ-loop) →
     let l = c .before .before .before .before .before .loop in
     let x = c .x .given .0 .0 in
-    (l .at < x .start) × (x .start ≤ x .end) × (x .end ≤ l .end) × (x .marked ≡ true → x .end ≡ l .end)
+    (l .at < x .start) × (x .start ≤ x .end) × (x .end ≤ l .end) × (x .indefinite ≡ true → x .end ≡ l .end)
 at-extent c =
     let c4 = c .before .before .before .before in
     let c8 = c4 .before .before .before .before in

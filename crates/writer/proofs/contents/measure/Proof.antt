@@ -37,4 +37,4 @@ measure-spec =
     let a = c .before .before .before .before .before .before .before .before .args in
     no-kind (a .kind) (now (a .v)) (a .p) _ (c .before .before .before .before .before .before .before .before .pre .1) (c .before .before .before
     .before .before .before .if1 .left) (c .before .before .before .before .before .if2 .left) (c .before .before .before .before .if3 .left) (c .before
-    .before .before .if4 .left) (c .before .before .if5 .left) (c .before .if6 .left) (c .none .ensures)))  -- returns-7
+    .before .before .if4 .left) (c .before .before .if5 .left) (c .before .if6 .left)))  -- returns-7

@@ -11,8 +11,7 @@ use lib.ListN.{getD}
 use Rattle.table.specs.Entries.{unpacked}
 use Rattle.writer.specs.Standing.{countAt}
 use Rattle.writer.proofs.Judging.{told-small}
-use Rattle.writer.proofs.Simple.{simple-small}
-use Rattle.writer.proofs.Built.{Node, own-there, big, built-shape, built-level, built-known, built-ill, built-stands, built-refused, built-done}
+use Rattle.writer.proofs.Built.{Node, own-there, built-shape, built-level, built-known, built-ill, built-stands, built-refused, built-done}
 use Rattle.writer.proofs.Members.{Going-on, members-begin, members-end, members-pass, Member, member-there, member-few, member-unmarked}
 use Rattle.writer.proofs.Members.{Said, member-refused, member-small, member-done, entry-known, entry-simple, leaf-said, built-said}
 use borrow.Author.Needs.{needs}
@@ -198,7 +197,7 @@ pub +judge-built+judge-members-spec : {M : Type 1} → statement M
     let q = s .pre .1 in
     let m = (at-node t (c .before .before .before .before)) in (
       omega (arith, q .2 .0, q .0 .little),
-      big m (a .level) (c .before .before .before .if1 .left),
+      m .constructed,
       own-there m (a .level) (c .before .before .before
           .if1 .left),
       built-known m (a .level) (c .before .before .before .if1 .left) _ (c .unpack .ensures),
@@ -326,7 +325,7 @@ pub +judge-built+judge-members-spec : {M : Type 1} → statement M
       q .0 .little,
       (c .before .before .before .before .before .before .marked .ensures .yes (not-false _ (c .before .before .before .before .before .if2
           .left))),
-      simple-small _ (not-true _ (sym (c .before .is-simple .ensures) ∙ c .if3 .taken)),
+      not-true _ (sym (c .before .is-simple .ensures) ∙ c .if3 .taken),
       entry-known (at-member t (c .before .before .before
           .before .before .before .before)) (c .before .before .before .unpack2 .result) (c .before .before .before .unpack2
           .ensures),

@@ -14,7 +14,7 @@ use Rattle.table.specs.Entries.{unpacked}
 use Rattle.writer.specs.Standing.{countAt}
 use Rattle.writer.specs.Putting.{Puts}
 use Rattle.writer.proofs.Standing.{start-past}
-use Rattle.writer.proofs.Placing.{Still, put-begin, put-end, put-pass, Member, put-few, put-known, put-near, put-own, put-small, put-note}
+use Rattle.writer.proofs.Placing.{Still, put-begin, put-end, put-pass, Member, put-few, put-known, put-near, put-own, put-simple, put-note}
 use Rattle.writer.proofs.Placing.{Sized, sized-leaf, sized-built, put-capped, put-front, Fronted, put-room, put-leaf, put-under, put-built}
 use borrow.Author.Needs.{needs}
 use borrow.Fn.Kinds.{In}
@@ -197,7 +197,7 @@ pub +put-members-spec : {M : Type 1} → statement M
     let a = s .args in
     let X = s .pre .1 in
     let m = (at-member t (c .before) X) in
-    (put-near m .1, put-small m (c .if2 .taken), put-own m))  -- put-members-size-requires
+    (put-near m .1, put-simple m (c .if2 .taken), put-own m))  -- put-members-size-requires
     (λ c.
     let s = c .before .before .before .before .before .before .before .before .before .before .before .before .before .before in
     let a = s .args in
@@ -231,7 +231,7 @@ pub +put-members-spec : {M : Type 1} → statement M
     let X = s .pre .1 in
     let m = (at-member t (c .before .before .before .before .before .before .before) X) in
     let z = put-room (at-front t (c .before .before) X) (c .before .if3 .taken) in
-    (put-near m .1, put-small m (c .before .if3 .taken), put-own m, z .0, z .1))  -- put-members-put-requires-2
+    (put-near m .1, put-simple m (c .before .if3 .taken), put-own m, z .0, z .1))  -- put-members-put-requires-2
     (λ c.
     let s = c .before .before .before .before .before .before .before .before .before .before .before .before .before .before .before .before .before
     .before .before .before .before .before .before .before in

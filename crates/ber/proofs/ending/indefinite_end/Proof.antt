@@ -1,15 +1,15 @@
--- `ber::ending::marked_end` meets its contract.
+-- `ber::ending::indefinite_end` meets its contract.
 -- Assumes nothing.
 use denote.Ref.{now}
 use Rattle.ber.proofs.Ends.{ends-none, ends-more, ends-half, ends-wrong, ends-over}
 use borrow.Author.Needs.{needs}
-use Rattle.ber.proofs.ending.marked_end.Statement.{statement}
-use Rattle.ber.proofs.ending.marked_end.Tie as tie
-use Rattle.ber.proofs.ending.marked_end.Reads as reads
-use Rattle.ber.proofs.ending.marked_end.Lts as lts
+use Rattle.ber.proofs.ending.indefinite_end.Statement.{statement}
+use Rattle.ber.proofs.ending.indefinite_end.Tie as tie
+use Rattle.ber.proofs.ending.indefinite_end.Reads as reads
+use Rattle.ber.proofs.ending.indefinite_end.Lts as lts
 
-pub marked-end-spec : {M : Type 1} → statement M
-marked-end-spec =
+pub indefinite-end-spec : {M : Type 1} → statement M
+indefinite-end-spec =
     tie.close
     (tie.spec
     (λ c. ends-none (now (c .before .args .m)) _ (c .if1 .taken))  -- returns

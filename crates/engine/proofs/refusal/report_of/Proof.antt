@@ -1,11 +1,11 @@
--- `engine::refusal::parts_of` meets its contract: in each stage the number of the cause, and the place.
+-- `engine::refusal::report_of` meets its contract: in each stage the number of the cause, and the place.
 -- Assumes nothing.
 use borrow.Author.Needs.{needs}
-use Rattle.engine.proofs.refusal.parts_of.Statement.{statement}
-use Rattle.engine.proofs.refusal.parts_of.Tie as tie
+use Rattle.engine.proofs.refusal.report_of.Statement.{statement}
+use Rattle.engine.proofs.refusal.report_of.Tie as tie
 
-pub parts-of-spec : {M : Type 1} → statement M
-parts-of-spec =
+pub report-of-spec : {M : Type 1} → statement M
+report-of-spec =
     tie.close
     (tie.spec
     (λ c. search needs)  -- enum-known-r
