@@ -35,13 +35,9 @@ fn open_end(m: &[u8], start: usize) -> usize
         } else {
             let rest = &m[at..];
             match identifier::read(rest) {
-                Identifier::Refused { cause: _ } => {
-                    return m.len();
-                }
+                Identifier::Refused { cause: _ } => return m.len(),
                 Identifier::Read { code: _, end } => match length::read(rest, end) {
-                    Length::Refused { cause: _ } => {
-                        return m.len();
-                    }
+                    Length::Refused { cause: _ } => return m.len(),
                     Length::Read(x) => {
                         if x.indefinite {
                             at += x.start;

@@ -16,7 +16,7 @@ use Rattle.octets.specs.Permutations.{Sel, Sel.here, Sel.there, Perm, Perm.none
 use Rattle.octets.proofs.Answer.{run, Reads}
 use Rattle.octets.proofs.Permutations.{flat, joined-flat, arranged-each}
 use Rattle.octets.proofs.Tests.{or-by, and-left, and-right}
-use Rattle.x690.specs.Reading.{readIdentifier, Mode, atEnd}
+use Rattle.x690.specs.Reading.{readIdentifier, Mode, closed, atEnd}
 use Rattle.x690.specs.Item.{Definite, sized, Constructed, in-size, in-marks}
 use Rattle.x690.proofs.Identifiers.{Begun}
 use Rattle.x690.proofs.Items.{Ends, no-more, mark, atEnd-end, atEnd-more, Readable, constructed-complete, primitive-complete}
@@ -32,6 +32,11 @@ use Rattle.coding.proofs.Content.{content-complete}
 use Rattle.coding.specs.Awaited.{begins}
 use Rattle.coding.proofs.FirstTags.{beginsAny, Distinct, Apart, GoodBody, Proper, proper-readable, proper-begun, Begins, Good}
 use Rattle.coding.proofs.Sound.{Pending, p-done, p-left, p-sent, p-have}
+
+-- a list of no elements
+no-elements : (T : Table) (r : ℕ → List ℕ → Answer Value) (t : ℕ) → readBody T r (SequenceOf t) closed [] ≡ got (sequenceOf (bag [])) []
+unfolding if then none-left atEnd readMany readBody
+no-elements T r t = refl
 
 -- m begins with identifier octets with which encodings of the type t begin; of one of the types ts
 pub record Starts (T : Table) (t : ℕ) (m : List ℕ) : Type 0 where

@@ -9,19 +9,30 @@ use Prim.Native.Nat.{ℕ, suc}
 use lib.Dec.{leb}
 use lib.IntN.{ℤ, pos, negsuc}
 use lib.ListN.{length}
-use Rattle.octets.specs.Answer.{got, none-left}
+use Rattle.octets.specs.declared.cause.Cause.the-variants.{Contents}
+use Rattle.octets.specs.Answer.{got, refused, if, none-left}
+use Rattle.octets.specs.Lists.{any}
 use Rattle.octets.specs.Permutations.{AllOctets, every-cons}
 use Rattle.octets.proofs.Answer.{Holds, yields, refuses, if-holds, run}
-use Rattle.x690.specs.Integer.{integerOf, minimal, fewestOf}
+use Rattle.x690.specs.Integer.{negative, pile, integerOf, minimal, fewestOf}
 use Rattle.x690.specs.BitString.{unused}
 use Rattle.x690.proofs.Integers.{fewest-written, integer-fits}
 use Rattle.x690.proofs.BitString.{masked-masked, masked-unused, masked-octets}
 use Rattle.table.specs.Syntax.{Simple, Boolean, Integer, BitString, OctetString, Null, Enumerated}
-use Rattle.coding.specs.Value.{Leaf}
+use Rattle.coding.specs.Value.{Leaf, enumerated}
 use Rattle.coding.specs.Content.{listed, Content, c-boolean, c-integer, c-bits, c-string, c-null, c-enumerated}
 use Rattle.coding.specs.Typed.{TypedLeaf, l-boolean, l-integer, l-bits, l-string, l-null, l-enumerated}
 use Rattle.coding.specs.Form.{encode}
 use Rattle.coding.specs.Reading.{isListed, natural, decode}
+
+-- a number that is listed, and one that is not
+number-listed : decode (Enumerated (1 ∷ [])) 3 (0x01 ∷ []) [] ≡ got (enumerated 1) []
+unfolding if negative pile integerOf minimal any listed isListed decode
+number-listed = refl
+
+number-unlisted : decode (Enumerated (1 ∷ [])) 3 (0x02 ∷ []) [] ≡ refused Contents 3
+unfolding if negative pile integerOf minimal any listed isListed decode
+number-unlisted = refl
 
 pub content-complete : {k : Simple} {x : Leaf} {c : List ℕ} (l : ℕ) (s : List ℕ) → Content k x c → decode k l c s ≡ got x s
 unfolding decode isListed

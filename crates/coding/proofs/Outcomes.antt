@@ -1,8 +1,8 @@
 -- The outcome of reading and of writing once the type is found: each stage gives its answer exactly where its rule holds.
 -- Assumes nothing.
 use borrow.Author.Tests.{leb-true, leb-false, le-leb, lt-leb, not-true, not-false}
-use mathlib.Core.Bool.{not}
-use mathlib.Core.List.{List, [], _++_}
+use mathlib.Core.Bool.{true, not}
+use mathlib.Core.List.{List, [], _∷_, _++_}
 use mathlib.Core.Logic.{_↔_}
 use mathlib.Core.Path.{_≡_, refl, sym, ap, subst, _∙_}
 use native.Mathlib.Omega.{arith}
@@ -18,14 +18,14 @@ use Rattle.octets.specs.Permutations.{any-order}
 use Rattle.octets.proofs.Answer.{run, if-cases, got-holds}
 use Rattle.octets.proofs.Permutations.{all-octets}
 use Rattle.table.specs.Syntax.{Table}
-use Rattle.coding.specs.Value.{Value, octets, depth}
+use Rattle.coding.specs.Value.{boolean, Value, leaf, leafOctets, octets, depth}
 use Rattle.coding.specs.Encodes.{Encodes}
 use Rattle.coding.specs.Typed.{WellTypedAt, WellTyped}
 use Rattle.coding.specs.Shaped.{Shaped}
 use Rattle.coding.specs.Form.{formAt}
 use Rattle.coding.specs.Judging.{judgeWhole}
 use Rattle.coding.specs.Reading.{readMessage}
-use Rattle.coding.specs.Calls.{afterReading, afterJudging}
+use Rattle.coding.specs.Calls.{afterReading, readOutcome, afterJudging}
 use Rattle.coding.specs.Outcome.{levels, longestValue, longestMessage, Refusal, of-table, of-value, of-message, OfStage, Told, done, refusal, Outcome, refuse, write-at-start}
 use Rattle.coding.specs.Demands.{MessageRefused, NoRoomForValue, Read, ValueRefused, over-long, as-judged, NoRoomForMessage, Wrote, Received, Sent}
 use Rattle.coding.proofs.FirstTags.{Good}
@@ -36,6 +36,20 @@ use Rattle.coding.proofs.Shaped.{Limited, encodes-shaped}
 use Rattle.coding.proofs.Equivalence.{equivalent-length}
 use Rattle.coding.proofs.Refusals.{OfMessage, is-22, is-23, is-24, is-25, is-26, is-28, OfValue, is-11, is-12, is-13, Says, Speaks, names, message-says, whole-says}
 use Rattle.coding.proofs.Messages.{sound, message-complete, accepts-as-given}
+
+-- a value of four octets, of a message of three, in a buffer of four and of three
+room-for-four : (m : List ℕ) → afterReading m (7 ∷ 7 ∷ 7 ∷ 7 ∷ []) (got (leaf (boolean true)) []) ≡ write-at-start (0x56 ∷ 0x41 ∷ 1 ∷ 1 ∷ []) (7 ∷ 7 ∷ 7 ∷ 7 ∷ [])
+unfolding if leafOctets octets afterReading
+room-for-four m = refl
+
+room-for-three : afterReading (0x01 ∷ 0x01 ∷ 0xFF ∷ []) (7 ∷ 7 ∷ 7 ∷ []) (got (leaf (boolean true)) []) ≡ refuse (of-message ValueRoom 0) (7 ∷ 7 ∷ 7 ∷ [])
+unfolding if leafOctets octets afterReading
+room-for-three = refl
+
+-- one octet more than a message may have
+one-too-many : (T : Table) (m buf : List ℕ) → length m ≡ 8193 → readOutcome T 1 0 m buf ≡ refuse (of-message MessageLength 0) buf
+unfolding if readOutcome
+one-too-many T m buf e = rw e refl
 
 -- the outcome is no refusal of the table or the type
 abbrev pub Beyond : Outcome → Type 0

@@ -8,6 +8,7 @@ pub mod Records
 pub mod Sought
 pub mod Wraps
 pub mod Standing
+pub mod Judging
 pub mod Weights
 pub mod Placing
 pub mod Leaves

@@ -2,7 +2,7 @@
 // m is the contents in which items stand, from their first octet on, or the message; places in it count from there. A refusal says how many
 // octets are left from its place to the end of m.
 ghost use mathlib.Core.Path.{_≡_};
-ghost use mathlib.Core.Bool.{true, false};
+ghost use mathlib.Core.Bool.{false};
 ghost use mathlib.Core.List.{List};
 ghost use Prim.Native.Nat.{ℕ, _<_, _≤_};
 ghost use lib.ListN.{length, drop};
@@ -10,11 +10,11 @@ ghost use Rattle.ber.specs.Told.{endOf, mode};
 ghost use Rattle.table.specs.Entries.{unpacked, tableIn, countIn};
 ghost use Rattle.coding.specs.Reading.{readValue, readMessage};
 ghost use Rattle.reader.specs.Answers.{told, size};
-ghost use Rattle.reader.specs.Items.{manner, since, isSingle, readHeld};
-ghost use Rattle.reader.specs.Records.{Ready, Known, IsRecord, recordIn, readRecord};
+ghost use Rattle.reader.specs.Items.{manner, since, readHeld};
+ghost use Rattle.reader.specs.Records.{Ready, recordIn, readRecord};
 ghost use Rattle.reader.specs.Sought.{held, Sound};
 ghost use Rattle.reader.specs.Standing.{standing};
-ghost use Rattle.reader.specs.Wraps.{Headed};
+ghost use Rattle.reader.specs.Judging.{ToJudge, ToJudgeValue};
 ghost use Rattle.reader.specs.declared.answer.Judged.the-variants.{Done, Refused};
 use crate::answer::Judged;
 use crate::answer::grow;
@@ -112,14 +112,7 @@ fn judge_value(
     level: usize,
     way: &mut [u16; 128],
 ) -> Judged
-    requires { ⌜
-        Ready (now table) (now index)
-        × IsRecord (now table) (now index) w
-        × Headed (now m) at from (unpacked w .code)
-        × (length (now m) ≤ 8192)
-        × (level < 24)
-        × (length (now way) ≡ 128)
-        ⌝ }
+    requires { ⌜ ToJudgeValue (now table) (now index) w (now m) at from level (now way) ⌝ }
     ensures { λ r. ⌜
         (length (now (way .exit)) ≡ 128)
         × (let b = now (table .entry) in
@@ -133,9 +126,7 @@ fn judge_value(
     let mut from = from;
     if 0 < e.explicit {
         match open(table, w, m, at, from, &mut notes) {
-            Opened::Refused { cause, left } => {
-                return refused(cause, left);
-            }
+            Opened::Refused { cause, left } => return refused(cause, left),
             Opened::Inside(x) => {
                 at = x.at;
                 from = x.from;
@@ -150,9 +141,7 @@ fn judge_value(
     let mut indefinite = false;
     if e.kind != CHOICE {
         match length::read(around, from) {
-            Length::Refused { cause } => {
-                return refused(cause, left);
-            }
+            Length::Refused { cause } => return refused(cause, left),
             Length::Read(x) => {
                 start = x.start;
                 stop = x.end;
@@ -173,9 +162,7 @@ fn judge_value(
     } else {
         let c = &m[start..stop];
         match judge_members(table, index, w, c, indefinite, level, way) {
-            Judged::Refused { cause, left: n } => {
-                return refused(cause, n + (m.len() - stop));
-            }
+            Judged::Refused { cause, left: n } => return refused(cause, n + (m.len() - stop)),
             Judged::Done { end: x, size: y } => {
                 stop = start + x;
                 size = y;
@@ -199,15 +186,7 @@ fn judge_members(
     level: usize,
     way: &mut [u16; 128],
 ) -> Judged
-    requires { ⌜
-        Ready (now table) (now index)
-        × Known (now table) (now index) w
-        × (unpacked w .simple ≡ false)
-        × (isSingle (manner (held (now table) w)) ≡ true → 0 < length (now m))
-        × (length (now m) ≤ 8192)
-        × (level < 25)
-        × (length (now way) ≡ 128)
-        ⌝ }
+    requires { ⌜ ToJudge (now table) (now index) w (now m) level (now way) ⌝ }
     ensures { λ r. ⌜
         (length (now (way .exit)) ≡ 128)
         × (let b = now (table .entry) in
@@ -223,12 +202,8 @@ fn judge_members(
     loop {
         match next(table, w, m, at, indefinite, j, &came) {
             Standing::Item => {}
-            Standing::Over { end } => {
-                return done(end, total);
-            }
-            Standing::Refused { cause } => {
-                return refused(cause, m.len() - at);
-            }
+            Standing::Over { end } => return done(end, total),
+            Standing::Refused { cause } => return refused(cause, m.len() - at),
         }
         let mut place = j;
         let mut record: usize = 0;
@@ -242,9 +217,7 @@ fn judge_members(
         if !fits {
             let rest = &m[at..];
             match search(table, index, w, rest, j, &came, way) {
-                Found::Refused { cause } => {
-                    return refused(cause, m.len() - at);
-                }
+                Found::Refused { cause } => return refused(cause, m.len() - at),
                 Found::Part(x) => {
                     place = x.place;
                     record = x.record;
@@ -263,9 +236,7 @@ fn judge_members(
         let found = index[record];
         let below = level - depth - 1;
         match judge_value(table, index, found, m, at, from, below, way) {
-            Judged::Refused { cause, left } => {
-                return refused(cause, left);
-            }
+            Judged::Refused { cause, left } => return refused(cause, left),
             Judged::Done { end, size } => {
                 at = end;
                 total = grow(total, size + 4 * depth);

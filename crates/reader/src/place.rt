@@ -151,15 +151,13 @@ fn place_members(
             }
             at = began[k] as usize - 1;
             j = k;
-        } else {
-            if !holds_one(e.kind) {
-                if ending::is_over(m, at, indefinite) {
-                    finish(e.kind, j, s.count, count, buf, to);
-                    return Placed {
-                        end: behind(at, indefinite),
-                        next,
-                    };
-                }
+        } else if !holds_one(e.kind) {
+            if ending::is_over(m, at, indefinite) {
+                finish(e.kind, j, s.count, count, buf, to);
+                return Placed {
+                    end: behind(at, indefinite),
+                    next,
+                };
             }
         }
         let mut place = j;

@@ -75,9 +75,7 @@ pub fn locate(
         let rest = &m[at..];
         let came = *began;
         match search(table, index, w, rest, 0, &came, way) {
-            Found::Refused { cause: _ } => {
-                return at;
-            }
+            Found::Refused { cause: _ } => return at,
             Found::Part(x) => {
                 let place = x.place;
                 began[place] = (at + 1) as u16;

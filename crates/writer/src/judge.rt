@@ -212,9 +212,7 @@ fn judge_members(
                 judge_built(table, index, t, v, at, level, notes)
             };
             match judged {
-                Judged::Refused { cause, place } => {
-                    return Judged::Refused { cause, place };
-                }
+                Judged::Refused { cause, place } => return Judged::Refused { cause, place },
                 Judged::Done { end, size } => {
                     at = end;
                     total = frame::grow(total, frame::size(table, x, size));

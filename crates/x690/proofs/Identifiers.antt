@@ -9,10 +9,19 @@ use Prim.Native.Nat.{ℕ, zero, suc, _+_, _-_, _*_, _/_, _%_, _≤_, _<_}
 use lib.Dec.{ltb, eqb}
 use lib.ListN.{length, getD}
 use lib.Seq.{append-snoc}
-use Rattle.octets.specs.Answer.{got}
+use Rattle.octets.specs.Answer.{got, if}
 use Rattle.octets.proofs.Answer.{Holds, yields, refuses, if-holds, then-holds, map-holds, if-cases, run}
 use Rattle.x690.specs.Identifier.{bit, leading, following, identifier}
 use Rattle.x690.specs.Reading.{readFollowing, readIdentifier}
+
+-- 8.1.2.4: the last number in one octet, and the next
+number-30 : identifier 2 false 30 ≡ 0x9E ∷ []
+unfolding if leading identifier
+number-30 = refl
+
+number-31 : identifier 2 false 31 ≡ 0x9F ∷ 0x1F ∷ []
+unfolding if leading following identifier
+number-31 = refl
 
 following-sound : (l : ℕ) (ds s : List ℕ) → Holds (λ xs r. ds ++ s ≡ xs ++ r) (readFollowing l ds s)
 unfolding readFollowing

@@ -20,6 +20,23 @@ use Rattle.octets.proofs.Answer.{if-cases}
 use Rattle.octets.proofs.Tests.{test}
 use Rattle.x690.specs.Integer.{negative, digit, pile, signed, integerOf, spare, minimal, eight, eightOf, fewest, fewestOf}
 
+-- 8.3.2: 127 needs no 00 in front of it, and 128 does; -128 needs no FF, and -129 does
+spare-127 : minimal (0x00 ∷ 0x7F ∷ []) ≡ false
+unfolding spare minimal
+spare-127 = refl
+
+needed-128 : minimal (0x00 ∷ 0x80 ∷ []) ≡ true
+unfolding spare minimal
+needed-128 = refl
+
+spare-minus-128 : minimal (0xFF ∷ 0x80 ∷ []) ≡ false
+unfolding spare minimal
+spare-minus-128 = refl
+
+needed-minus-129 : minimal (0xFF ∷ 0x7F ∷ []) ≡ true
+unfolding spare minimal
+needed-minus-129 = refl
+
 -- the eight octets read back
 pub spelt : (u : ℕ) → u < 18446744073709551616 → pile false 0 (eight u) ≡ u
 unfolding pile eight

@@ -10,12 +10,34 @@ use Prim.Native.Nat.{ℕ, zero, suc, _+_, _-_, _*_, _/_, _%_, _^_, _≤_, _<_}
 use lib.Dec.{ltb, eqb}
 use lib.ListN.{length, take, length-append, take-append-drop}
 use lib.Seq.{length-take-le, take-append-seam, drop-append-seam}
-use Rattle.octets.specs.Answer.{got}
+use Rattle.octets.specs.declared.cause.Cause.the-variants.{Cut, Forbidden}
+use Rattle.octets.specs.Answer.{got, refused, if}
 use Rattle.octets.specs.Permutations.{AllOctets, every-cons}
 use Rattle.octets.proofs.Answer.{Holds, yields, refuses, if-holds, if-cases, run}
 use Rattle.octets.proofs.Permutations.{every-right}
 use Rattle.x690.specs.Length.{unsigned, Length, short, long, digits, lengthOctets}
 use Rattle.x690.specs.Reading.{Size, definite, indefinite, fit, readLong, readLength}
+
+-- 8.1.3: a length that fits, in both forms, and one that does not; the indefinite form; FF
+length-fits : readLength 3 (0x01 ∷ 7 ∷ []) ≡ got (definite 1) (7 ∷ [])
+unfolding if fit readLength
+length-fits = refl
+
+long-length-fits : readLength 4 (0x81 ∷ 0x01 ∷ 7 ∷ []) ≡ got (definite 1) (7 ∷ [])
+unfolding if unsigned fit readLong readLength
+long-length-fits = refl
+
+length-over : readLength 3 (0x02 ∷ 7 ∷ []) ≡ refused Cut 3
+unfolding if fit readLength
+length-over = refl
+
+length-80 : readLength 2 (0x80 ∷ []) ≡ got indefinite []
+unfolding if readLength
+length-80 = refl
+
+length-ff : readLength 2 (0xFF ∷ []) ≡ refused Forbidden 2
+unfolding if readLong readLength
+length-ff = refl
 
 -- what a reader of length octets took from s
 pub data Shape (s : List ℕ) : Size → List ℕ → Type 0 where

@@ -123,9 +123,9 @@ setting t c =
       w = a .w;
       e = c .before .unpack .result;
       s = c .parts .result;
-      ready = q .0;
-      known = q .1;
-      holds = q .2;
+      ready = q .ready;
+      known = q .known;
+      holds = q .holds;
       entry = c .before .unpack .ensures;
       span = c .parts .ensures;
     }
@@ -146,8 +146,8 @@ turn t c =
       at = l .at;
       j = l .j;
       octets = λ i. omega (arith, c .before .before .before .before .before .before .shared-slice-known2 .given i);
-      short = c .before .before .before .before .before .before .before .before .pre .1 .4;
-      levels = c .before .before .before .before .before .before .before .before .pre .1 .5;
+      short = c .before .before .before .before .before .before .before .before .pre .1 .short;
+      levels = c .before .before .before .before .before .before .before .before .pre .1 .levels;
       low = l .inv .0;
       so-far = l .inv .2;
       y = c .next .result;
@@ -212,11 +212,11 @@ judge-members-half t =
     (λ c κs. omega (arith, count-few (setting t c)))  -- judge-members-node-size-requires
     (λ c.
     let q = c .before .before .before .before .before .pre in
-    (omega arith, q .1 .6, judging-first (setting t (c .before)) _ (c .node-size .ensures) _ _ _ (q .1 .3)))  -- judge-members-loop-holds
+    (omega arith, q .1 .ways, judging-first (setting t (c .before)) _ (c .node-size .ensures) _ _ _ (q .1 .some)))  -- judge-members-loop-holds
     (λ c κs.
     let c3 = c .before .before .before in
     let c7 = c3 .before .before .before .before in
-    (c7 .args .index .now, judging-sound (setting t (c3)) (c .before .loop .inv .2), c7 .pre .1 .2))  -- judge-members-next-requires
+    (c7 .args .index .now, judging-sound (setting t (c3)) (c .before .loop .inv .2), c7 .pre .1 .holds))  -- judge-members-next-requires
     (λ c. search needs)  -- judge-members-enum-told
     (λ c. search needs)  -- judge-members-enum-known-end
     (λ c κs. search needs)  -- judge-members-done-requires
@@ -297,7 +297,14 @@ judge-members-half t =
     let q = c9 .before .before .before .before .before .before .before .before .before .before .before .before .before .pre in
     let X = comes t (c9) in (
       omega (arith, q .0),
-      (q .1 .0, is-record X, is-headed X, q .1 .4, omega (arith, q .1 .5), X .ways),
+      record {
+        ready = q .1 .ready;
+        is = is-record X;
+        headed = is-headed X;
+        short = q .1 .short;
+        levels = omega (arith, q .1 .levels);
+        ways = X .ways;
+      },
     ))  -- judge-members-judge-value-requires
     (λ c. search needs)  -- judge-members-enum-known-cause-3
     (λ c κs. search needs)  -- judge-members-refused-requires-4
@@ -369,8 +376,8 @@ at-under t c =
     let u = c .before .before .unpack in
     ⊎-elim
     (λ z. rw (z .6, z .7, z .8, z .9)
-    (under-tags (q .0) (q .1) (now (a .m)) (a .at) _ (z .2 .result) (z .2 .ensures .1) (z .4 .given .0 .0) (z .4 .given .1)))
-    (λ z. rw (z .1, z .2, z .3, z .4) (under-bare (q .0) (q .1) (u .result) (u .ensures) (now (a .m)) (a .at) (a .from) (z .0 .left) (q .2) _))
+    (under-tags (q .ready) (q .is) (now (a .m)) (a .at) _ (z .2 .result) (z .2 .ensures .1) (z .4 .given .0 .0) (z .4 .given .1)))
+    (λ z. rw (z .1, z .2, z .3, z .4) (under-bare (q .ready) (q .is) (u .result) (u .ensures) (now (a .m)) (a .at) (a .from) (z .0 .left) (q .headed) _))
     (c .if1 .came)
 
 abbrev at-item : (t : ℕ) (c : judge-value-lts.Joined1 (judge-value-claims t) (judge-value-at t) judge-value.Post) →
@@ -379,10 +386,10 @@ at-item t c =
     let q = c .before .before .before .before .before .pre .1 in
     let u = c .before .before .unpack in
     record {
-      ready = q .0;
-      known = q .1;
+      ready = q .ready;
+      known = q .is;
       all-octets = λ i. omega (arith, c .before .before .before .shared-slice-known2 .given i);
-      short = q .3;
+      short = q .short;
       entry = u .result;
       entered = u .ensures;
       notes = c .if1 .notes;
@@ -442,7 +449,7 @@ at-ended t c =
     }
 
 abbrev at-way : (t : ℕ) (c : judge-value-lts.Joined3 (judge-value-claims t) (judge-value-at t) judge-value.Post) → length (c .if3 .way) ≡ 128
-at-way t c = ⊎-elim (λ z. rw (z .7) (c .before .before .before .before .before .before .before .before .before .before .pre .1 .5))
+at-way t c = ⊎-elim (λ z. rw (z .7) (c .before .before .before .before .before .before .before .before .before .before .pre .1 .ways))
     (λ z. rw (z .9) (z .5 .ensures .0)) (c .if3 .came)
 
 -- the half of `judge_value`
@@ -458,11 +465,11 @@ judge-value-half t =
     let c6 = c3 .before .before .before in
     let q = c6 .pre .1 in (
       now (c6 .args .index),
-      q .0,
-      q .1,
+      q .ready,
+      q .is,
       rw (c3 .unpack .ensures) at (c .before .if1 .taken),
-      q .2,
-      q .3,
+      q .headed,
+      q .short,
       refl,
     ))  -- judge-value-open-requires
     (λ c. search needs)  -- judge-value-enum-known-cause
@@ -473,8 +480,8 @@ judge-value-half t =
     let q = c11 .pre .1 in
     let o = c4 .«open» in
     let x = c .before .before .cause .given in (
-      q .5,
-      c .refused .ensures ∙ value-unopened (q .0) (q .1) _ _ _ (o .result) (o .ensures .1) (x .0 .0) (x .0 .1 .0) (x .1)
+      q .ways,
+      c .refused .ensures ∙ value-unopened (q .ready) (q .is) _ _ _ (o .result) (o .ensures .1) (x .0 .0) (x .0 .1 .0) (x .1)
           (c11 .args .level),
     ))  -- judge-value-returns
     (λ c. search needs)  -- judge-value-enum-known-x
@@ -488,7 +495,7 @@ judge-value-half t =
     let c5 = c4 .before in
     let c9 = c5 .before .before .before .before in
     let f = c .before .before .cause2 .given in (
-      c9 .before .before .before .before .before .pre .1 .5,
+      c9 .before .before .before .before .before .pre .1 .ways,
       c .refused2 .ensures ∙ value-unread (at-item t c9) (c5 .if2 .taken) _ (c4 .read .ensures _) (f .0 .0) (f .1),
     ))  -- judge-value-returns-2
     (λ c. search needs)  -- judge-value-enum-known-x-2
@@ -496,7 +503,7 @@ judge-value-half t =
     (λ c.
     let c3 = c .before .before .before in
     let y = at-filling t (c3) in (
-      c3 .before .before .before .before .before .before .before .before .before .pre .1 .5,
+      c3 .before .before .before .before .before .before .before .before .before .pre .1 .ways,
       c .refused3 .ensures ∙ value-indefinite y (c .before .before .if3 .taken) (c .before .if4 .taken),
     ))  -- judge-value-returns-3
     (λ c. contents-within (at-filling t (c .before .before .before .before)) .0)  -- judge-value-sub-c
@@ -507,8 +514,8 @@ judge-value-half t =
     let c11 = c5 .before .before .before .before .before .before in
     let c14 = c11 .before .before .before in
     let q = c14 .pre .1 in (
-      tableIn (now (c14 .args .table)) (q .1 .0),
-      rw (c11 .unpack .ensures) (its-entry (q .0) (q .1)),
+      tableIn (now (c14 .args .table)) (q .is .0),
+      rw (c11 .unpack .ensures) (its-entry (q .ready) (q .is)),
       contents-short (at-filling t (c5)),
     ))  -- judge-value-contents-size-requires
     (λ c κs. tt)  -- judge-value-refused-requires-4
@@ -518,7 +525,7 @@ judge-value-half t =
     let c8 = c7 .before in
     let y = at-filling t (c8) in
     let s = c .before .before .contents-size in (
-      c8 .before .before .before .before .before .before .before .before .before .pre .1 .5,
+      c8 .before .before .before .before .before .before .before .before .before .pre .1 .ways,
       c .refused4 .ensures ∙ value-wrong y (c7 .if3 .taken) (c6 .if4 .left) (s .result) (s .ensures .0) (c .before .if5 .taken),
     ))  -- judge-value-returns-4
     (λ c. contents-within (at-filling t (c .before .before .before)) .0)  -- judge-value-sub-c-2
@@ -533,7 +540,15 @@ judge-value-half t =
     let n = c4 .if3 .left in
     let k = items-known y n in (
       omega (arith, p .0),
-      (q .0, k .0, k .1, items-some y n, contents-short y, omega (arith, q .4), q .5),
+      record {
+        ready = q .ready;
+        known = k .0;
+        holds = k .1;
+        some = items-some y n;
+        short = contents-short y;
+        levels = omega (arith, q .levels);
+        ways = q .ways;
+      },
     ))  -- judge-value-judge-members-requires
     (λ c. search needs)  -- judge-value-enum-known-cause-3
     (λ c.

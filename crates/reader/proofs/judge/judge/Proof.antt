@@ -22,7 +22,15 @@ judge-spec =
     (λ c κs.
     let q = c .before .before .before .before .before .pre in
     let k = message-known _ _ (q .1) (c .before .whole .ensures) in
-    (q .0, k .0, k .1, (λ _. omega (arith, c .before .before .if1 .left)), q .2, omega arith, q .3))  -- judge-members-requires
+    record {
+      ready = q .0;
+      known = k .0;
+      holds = k .1;
+      some = λ _. omega (arith, c .before .before .if1 .left);
+      short = q .2;
+      levels = omega arith;
+      ways = q .3;
+    })  -- judge-members-requires
     (λ c. search needs)  -- enum-known-cause
     (λ c κs. tt)  -- refused-requires-2
     (λ c. search needs)  -- enum-known-end

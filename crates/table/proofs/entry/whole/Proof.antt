@@ -1,11 +1,12 @@
 -- `table::entry::whole` meets its contract: its number is that of an entry with 0 for all but the place and the kind.
 -- Assumes nothing.
 use mathlib.Core.Bool.{false}
-use mathlib.Core.Path.{_≡_}
-use Prim.Native.Nat.{_+_, _*_}
+use mathlib.Core.Path.{ap, _∙_}
+use Prim.Native.Nat.{ℕ}
 use native.Mathlib.Omega.{arith}
 use borrow.Author.Needs.{needs}
-use Rattle.table.proofs.Packing.{packed, unpacks}
+use Rattle.table.specs.Entries.{unpacked}
+use Rattle.table.proofs.Packing.{unpacks}
 use Rattle.table.proofs.entry.whole.Statement.{statement}
 use Rattle.table.proofs.entry.whole.Tie as tie
 
@@ -19,5 +20,4 @@ whole-spec =
     (λ c. search needs)  -- mul-result-2
     (λ c.
     let a = c .args in
-    let e : (51 * 65536 + a .t) * 4294967296 ≡ packed 0 51 (a .t) 0 = omega arith in
-    rw e (unpacks false 0 51 (a .t) 0 (omega arith) (omega arith) (omega arith) (omega arith))))  -- returns
+    ap (λ (w : ℕ). unpacked w) (omega arith) ∙ unpacks false 0 51 (a .t) 0 (omega arith) (omega arith) (omega arith) (omega arith)))  -- returns
