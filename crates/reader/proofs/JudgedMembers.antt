@@ -327,6 +327,9 @@ module _ {Q : Setting} (P : Turn Q) where
     pub part-near : Q .s .first + Q .s .step * P .j < 8192
     part-near = its-span Q .near (P .j) l
 
+    pub part-inside : Q .s .first + Q .s .step * P .j < length (Q .b)
+    part-inside = its-span Q .inside (P .j) l
+
     pub type-few : (t : ℕ) → t ≡ getD (Q .b) (Q .s .first + Q .s .step * P .j) 0 → t < 128
     type-few t et = omega (arith, type-low its-parted (P .j) l t et, Q .ready .filled .few)
 

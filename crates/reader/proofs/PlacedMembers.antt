@@ -6,7 +6,6 @@ use mathlib.Core.Option.{Option, none, Option·some-injective, Option·none-ne-s
 use mathlib.Core.Path.{_≡_, refl, sym, ap, _∙_}
 use Prim.Native.Nat.{ℕ, suc, _+_, _-_, _*_, _/_, _≤_, _<_}
 use native.Mathlib.Omega.{arith}
-use native.Mathlib.Nat.{mul-comm}
 use borrow.Author.Tests.{eqb-true, eqb-false, ltb-true, ltb-false}
 use lib.Dec.{eqb, ltb}
 use lib.ListN.{length, getD, take, drop, length-append, length-drop}
@@ -364,8 +363,11 @@ module _ {b index : List ℕ} {w : ℕ} {m : List ℕ} {indefinite : Bool} {firs
     pub coming-low : at < length m
     coming-low = omega (arith, got-holds (value-shorter (tableIn b) 24 (C .part .1 .type) (drop at m)) (C .read), length-drop at m)
 
-    pub part-near : j < s .count → s .first + j * s .step < 8192
-    part-near l = let z = mul-comm j (s .step) in omega (arith, its-spanned (X .given) .near j l)
+    pub part-near : j < s .count → s .first + s .step * j < 8192
+    part-near l = its-spanned (X .given) .near j l
+
+    pub part-inside : j < s .count → s .first + s .step * j < length b
+    part-inside l = its-spanned (X .given) .inside j l
 
     -- an item of a part: with the nodes of the way to its record, and those between told of
     module _ {way : List ℕ} {place u depth from : ℕ}
@@ -411,19 +413,16 @@ module _ {b index : List ℕ} {w : ℕ} {m : List ℕ} {indefinite : Bool} {firs
             })
 
     -- the part at hand, as it stands in the table, if the item begins it with one octet
-    module _ (l : j < s .count) (t : ℕ) (et : t ≡ getD b (s .first + j * s .step) 0) where
-      part-type : t ≡ getD b (s .first + s .step * j) 0
-      part-type = et ∙ ap (λ (z : ℕ). getD b (s .first + z) 0) (mul-comm j (s .step))
-
+    module _ (l : j < s .count) (t : ℕ) (et : t ≡ getD b (s .first + s .step * j) 0) where
       pub part-low : t < countIn b
-      part-low = type-low parted j l t part-type
+      part-low = type-low parted j l t et
 
       pub chosen-here : (f : ℕ) → f ≡ unpacked (getD index t 0) .code → f ≡ getD m at 0 → Chosen j buf at next j t (at + 1)
       unfolding wayOctets
       chosen-here f ef q =
           let z : j - j ≡ 0 = omega arith in
           item-chosen
-          (item-fits parted m (X .given .octets) at coming-low j l (blank-clear j) t f part-type ef q [])
+          (item-fits parted m (X .given .octets) at coming-low j l (blank-clear j) t f et ef q [])
           (omega arith) refl (omega arith) (λ _. rw z refl) (λ _. refl)
 
     -- the part that the search found

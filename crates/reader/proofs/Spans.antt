@@ -53,6 +53,7 @@ pub record Spanned (b : List ℕ) (h : Holder) (k : ℕ) (s : Span) : Type 0 whe
   pub count : s .count ≡ tabledCount h
   pub few : s .count ≤ 16
   pub near : (i : ℕ) → i < s .count → s .first + s .step * i < 8192
+  pub inside : (i : ℕ) → i < s .count → s .first + s .step * i < length b
   pub at : (i : ℕ) → i < s .count → PartAt b h k s i
 
 pub or-true : (a : Bool) → (a || true) ≡ true
@@ -96,6 +97,7 @@ module _ {b : List ℕ} {e : Entry} {r : Record} (x : Entered b e r) (short : le
         count = w .count ∙ sym c;
         few = omega (arith, w .few, w .count);
         near = λ i k. omega (arith, w .within, w .count);
+        inside = λ i k. omega (arith, w .within, w .count);
         at = λ i k.
             record {
               part = record { type = getD b (o + 1 + 2 * i) 0; optional = eqb (getD b (o + 1 + 2 * i + 1) 0) 1 };
@@ -115,6 +117,7 @@ module _ {b : List ℕ} {e : Entry} {r : Record} (x : Entered b e r) (short : le
         count = sym c;
         few = omega arith;
         near = λ i k. let q : i ≡ 0 = omega arith in rw q (omega (arith, w .within));
+        inside = λ i k. let q : i ≡ 0 = omega arith in rw q (omega (arith, w .within));
         at = λ i k.
             let q : i ≡ 0 = omega arith in
             rw q
@@ -133,7 +136,7 @@ module _ {b : List ℕ} {e : Entry} {r : Record} (x : Entered b e r) (short : le
   unfolding partsOf tabledCount kind
   spanned-body (Plain q) h =
       let z = plain-span q h in
-      record { count = z; few = omega arith; near = λ i k. absurd (omega arith); at = λ i k. absurd (omega arith) }
+      record { count = z; few = omega arith; near = λ i k. absurd (omega arith); inside = λ i k. absurd (omega arith); at = λ i k. absurd (omega arith) }
   spanned-body (Sequence ms) h = members-spanned ms (inside (Sequence ms)) (inl h) refl refl
   spanned-body (Set ms) h = members-spanned ms (inside (Set ms)) (inr h) refl refl
   spanned-body (SequenceOf t) h = list-spanned t (inside (SequenceOf t)) (inl h) refl refl (rw (kind-of (SequenceOf t) h 48 refl) refl)
@@ -147,6 +150,7 @@ module _ {b : List ℕ} {e : Entry} {r : Record} (x : Entered b e r) (short : le
         count = w .count ∙ sym (length-map ts _);
         few = omega (arith, w .few, w .count);
         near = λ i k. omega (arith, w .within, w .count);
+        inside = λ i k. omega (arith, w .within, w .count);
         at = λ i k.
             record {
               part = record { type = getD b (o + 1 + 1 * i) 0; optional = true };
@@ -236,7 +240,7 @@ module _ {b index : List ℕ} (R : Ready b index) where
   unfolding holderIn if spanOf tabledCount manner
   entry-message t =
       record {
-        spanned = record { count = refl; few = omega arith; near = λ i k. absurd (omega arith); at = λ i k. absurd (omega arith) };
+        spanned = record { count = refl; few = omega arith; near = λ i k. absurd (omega arith); inside = λ i k. absurd (omega arith); at = λ i k. absurd (omega arith) };
         sequence = refl;
         members = refl;
       }

@@ -22,6 +22,7 @@ use crate::came::lacks;
 use crate::contents::contents_size;
 use crate::node::node_size;
 use crate::search::Found;
+use crate::search::part;
 use crate::search::search;
 use crate::tags::Opened;
 use crate::tags::close;
@@ -32,7 +33,6 @@ use ber::length;
 use ber::length::Length;
 use coding::LEVELS;
 use octets::cause::Cause;
-use octets::octet;
 use table::entry::first;
 use table::entry::parts;
 use table::entry::unpack;
@@ -211,7 +211,7 @@ fn judge_members(
         let mut from = at + 1;
         let mut fits = false;
         if j < s.count && came[j] == 0 {
-            record = octet(table, s.first + s.step * j);
+            record = part(table, s, j);
             fits = first(index[record]) == m[at] as u32;
         }
         if !fits {

@@ -22,6 +22,7 @@ use crate::node::put_absent;
 use crate::node::put_place;
 use crate::node::put_way;
 use crate::search::Found;
+use crate::search::part;
 use crate::search::search;
 use crate::set::behind;
 use crate::set::following;
@@ -31,7 +32,6 @@ use crate::tags::close;
 use crate::tags::open;
 use ber::ending;
 use ber::length;
-use octets::octet;
 use table::entry::first;
 use table::entry::parts;
 use table::entry::unpack;
@@ -165,7 +165,7 @@ fn place_members(
         let mut from = at + 1;
         let mut fits = false;
         if j < s.count {
-            record = octet(table, s.first + j * s.step);
+            record = part(table, s, j);
             fits = first(index[record]) == m[at] as u32;
         }
         if !fits {

@@ -2,8 +2,8 @@
 // CHOICEs without tags (X.690, 8.13).
 ghost use mathlib.Core.Path.{_≡_};
 ghost use mathlib.Core.List.{List};
-ghost use Prim.Native.Nat.{ℕ, _<_};
-ghost use lib.ListN.{length};
+ghost use Prim.Native.Nat.{ℕ, _<_, _+_, _*_};
+ghost use lib.ListN.{length, getD};
 ghost use Rattle.table.specs.Entries.{tableIn, countIn};
 ghost use Rattle.reader.specs.Codes.{untagged, firstOf};
 ghost use Rattle.reader.specs.Records.{Ready, Finds};
@@ -15,6 +15,7 @@ use ber::identifier;
 use ber::identifier::Identifier;
 use octets::cause::Cause;
 use octets::octet;
+use table::entry::Span;
 use table::entry::UNTAGGED;
 use table::entry::alternatives;
 use table::entry::first;
@@ -24,6 +25,21 @@ use table::entry::unpack;
 use table::kind::MESSAGE;
 use table::kind::SEQUENCE;
 use table::kind::has_members;
+
+// The record of the j-th part of a span that lies in the table.
+pub fn part(table: &[u8], s: Span, j: usize) -> usize
+    requires { ⌜
+        (s .first + s .step * j < length (now table))
+        × (s .first + s .step * j < 8192)
+        ⌝ }
+    ensures { λ r. ⌜
+        (r ≡ getD (now (table .entry)) (s .first + s .step * j) 0)
+        × (r < 256)
+        ⌝ }
+{
+    let p = s.first + s.step * j;
+    table[p] as usize
+}
 
 // A record, and how many CHOICEs without tags stand above it.
 pub enum Under {

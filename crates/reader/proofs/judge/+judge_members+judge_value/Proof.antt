@@ -11,7 +11,7 @@ use denote.Ref.{now}
 use lib.ListN.{length, take}
 use Rattle.reader.proofs.ItemsFound.{item-same, item-found}
 use Rattle.reader.proofs.JudgedMembers.{Judging, Setting, count-few, judging-first, judging-sound}
-use Rattle.reader.proofs.JudgedMembers.{Turn, part-few, part-near, type-few, judged-over, judged-stopped, item-there, judged-unfit, found-low}
+use Rattle.reader.proofs.JudgedMembers.{Turn, part-few, part-near, part-inside, type-few, judged-over, judged-stopped, item-there, judged-unfit, found-low}
 use Rattle.reader.proofs.JudgedMembers.{item-here, Comes, place-few, behind-few, type-below, judged-level, is-record}
 use Rattle.reader.proofs.JudgedMembers.{is-headed}
 use Rattle.reader.proofs.JudgedMembers.{Valued, depth-few, judged-refused, sizes-few, value-further, value-low, judged-one, judged-turn}
@@ -24,7 +24,7 @@ use Rattle.reader.proofs.judge.judge_value.Reads as judge-value
 use Rattle.reader.proofs.judge.judge_value.Kinds as judge-value-kinds
 use Rattle.reader.proofs.judge.+judge_members+judge_value.Lts-judge_value as judge-value-lts
 use Rattle.ber.proofs.length.read.Reads as read-reads
-use Rattle.octets.proofs.octet.Reads as octet-reads
+use Rattle.reader.proofs.search.part.Reads as part-reads
 use Rattle.reader.proofs.answer.grow.Reads as grow-reads
 use Rattle.reader.proofs.contents.contents_size.Reads as contents-size-reads
 use Rattle.reader.proofs.judge.done.Reads as done-reads
@@ -96,8 +96,8 @@ judge-members-claims t = (
   done-reads.Learnt,
   refused-reads.Asked,
   refused-reads.Learnt,
-  octet-reads.Asked,
-  octet-reads.Learnt,
+  part-reads.Asked,
+  part-reads.Learnt,
   first-reads.Asked,
   first-reads.Learnt,
   search-reads.Asked,
@@ -175,8 +175,8 @@ comes t c =
           (item-found _ _ (P .low) (v .4 .ensures .1) (v .6 .given .1)))
           (λ v. let y = not-false _ (v .0 .left) in
           ⊎-elim
-          (λ u. item-same (v .1) (v .2) (v .3 ∙ u .8) (v .4) (v .5)
-          (item-here P i (u .0 .taken) (eqb-true _ _ (u .1 .taken)) _ _ (u .4 .ensures .0) (u .6 .ensures) (eqb-true _ _ (sym (u .9) ∙ y)) _))
+          (λ u. item-same (v .1) (v .2) (v .3 ∙ u .6) (v .4) (v .5)
+          (item-here P i (u .0 .taken) (eqb-true _ _ (u .1 .taken)) _ _ (u .2 .ensures .0) (u .4 .ensures) (eqb-true _ _ (sym (u .7) ∙ y)) _))
           (λ u. absurd (true≢false (sym y ∙ u .2)))
           (c .before .if1 .came))
           (x .came);
@@ -236,25 +236,22 @@ judge-members-half t =
     (λ c. omega arith)  -- judge-members-add-from
     (λ c. omega (arith, part-few (turn t (c .before .before .before .before)) (c .if1 .taken)))  -- judge-members-mul-if2
     (λ c. part-few (turn t (c .before .before .before .before)) (c .if1 .taken))  -- judge-members-array-read-if2
+    (λ c κs.
+    let T = turn t (c .before .before .before .before .before) in
+    (part-inside T (c .before .if1 .taken), part-near T (c .before .if1 .taken)))  -- judge-members-part-requires
+    (λ c. omega (arith, c .part .ensures .1))  -- judge-members-mul-first
     (λ c.
-    omega (arith, part-near (turn t (c .before .before .before .before .before .before)) (c .before .before .if1 .taken)))  -- judge-members-mul-octet
-    (λ c.
-    let c3 = c .before .before .before in
-    omega (arith, part-near (turn t (c3 .before .before .before .before)) (c3 .if1 .taken)))  -- judge-members-add-octet
-    (λ c κs. search needs)  -- judge-members-octet-requires
-    (λ c. omega (arith, c .octet .ensures .1))  -- judge-members-mul-first
-    (λ c.
-    let c4 = c .before .before .before .before in
-    type-few (turn t (c4 .before .before .before .before)) (c4 .if1 .taken) _ (c .octet .ensures .0))  -- judge-members-element-copy-out-first
+    let c2 = c .before .before in
+    type-few (turn t (c2 .before .before .before .before)) (c2 .if1 .taken) _ (c .part .ensures .0))  -- judge-members-element-copy-out-first
     (λ c κs. search needs)  -- judge-members-first-requires
     (λ c.
-    let c9 = c .before .before .before .before .before .before .before .before .before in
-    item-there (turn t (c9 .before .before)) (c9 .enum-told .given .1))  -- judge-members-shared-slice-read-fits
+    let c7 = c .before .before .before .before .before .before .before in
+    item-there (turn t (c7 .before .before)) (c7 .enum-told .given .1))  -- judge-members-shared-slice-read-fits
     (λ c.
     omega (
       arith,
       c .shared-slice-known3 .given
-          (c .before .before .before .before .before .before .before .before .before .before .before .before .before .loop .at),
+          (c .before .before .before .before .before .before .before .before .before .before .before .loop .at),
     ))  -- judge-members-cast-fits
     (λ c. omega arith)  -- judge-members-sub-rest
     (λ c. omega arith)  -- judge-members-part-rest-start

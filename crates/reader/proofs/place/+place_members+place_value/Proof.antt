@@ -24,7 +24,7 @@ use Rattle.reader.specs.Placing.{Spotted}
 use Rattle.reader.proofs.PlacedMembers.{Given, Started, State, its-few, begin-room, no-members, state-first}
 use Rattle.reader.proofs.PlacedMembers.{set-low, set-room, set-over, set-came, set-comes, other-low, finish-room, other-over, other-comes}
 use Rattle.reader.proofs.PlacedMembers.{one-comes}
-use Rattle.reader.proofs.PlacedMembers.{Coming, sound, coming-low, part-near, part-low, Chosen, chosen-here, Picked, picked, found-some}
+use Rattle.reader.proofs.PlacedMembers.{Coming, sound, coming-low, part-near, part-inside, part-low, Chosen, chosen-here, Picked, picked, found-some}
 use Rattle.reader.proofs.PlacedMembers.{found-deep, found-room, found-low}
 use Rattle.reader.proofs.PlacedMembers.{state-count, chosen-node, chosen-onward, chosen-asks, chosen-one, chosen-fewer, chosen-next}
 use borrow.Fn.Kinds.{In}
@@ -37,7 +37,7 @@ use Rattle.reader.proofs.place.place_value.Kinds as place-value-kinds
 use Rattle.reader.proofs.place.+place_members+place_value.Lts-place_value as place-value-lts
 use Rattle.ber.proofs.ending.is_over.Reads as is-over-reads
 use Rattle.ber.proofs.length.again.Reads as again-reads
-use Rattle.octets.proofs.octet.Reads as octet-reads
+use Rattle.reader.proofs.search.part.Reads as part-reads
 use Rattle.reader.proofs.contents.place_contents.Reads as place-contents-reads
 use Rattle.reader.proofs.node.begin.Reads as begin-reads
 use Rattle.reader.proofs.node.finish.Reads as finish-reads
@@ -121,8 +121,8 @@ place-members-claims t = (
   finish-reads.Learnt,
   behind-reads.Asked,
   behind-reads.Learnt,
-  octet-reads.Asked,
-  octet-reads.Learnt,
+  part-reads.Asked,
+  part-reads.Learnt,
   first-reads.Asked,
   first-reads.Learnt,
   search-reads.Asked,
@@ -245,14 +245,13 @@ at-low t c =
     (l, omega (arith, l, X .given .short))
 
 -- the type of the part at hand
-at-type : (t : ℕ) (c : place-members-lts.After-octet (place-members-claims t) (place-members-at t)
-    place-members.Post place-members-Inv-loop place-members-μ-loop) → c .octet .result < 128
+at-type : (t : ℕ) (c : place-members-lts.After-part (place-members-claims t) (place-members-at t)
+    place-members.Post place-members-Inv-loop place-members-μ-loop) → c .part .result < 128
 at-type t c =
-    let X = at-started t (c .before .before .before .before .before .before .before .before .before .before .before .before) in
+    let X = at-started t (c .before .before .before .before .before .before .before .before .before) in
     omega (
       arith,
-      part-low X _ (at-item t (c .before .before .before .before .before .before .before) X)
-          (c .before .before .before .before .if6 .taken) _ (c .octet .ensures .0),
+      part-low X _ (at-item t (c .before .before .before .before) X) (c .before .if6 .taken) _ (c .part .ensures .0),
       X .given .ready .passes .few,
     )
 
@@ -291,11 +290,11 @@ at-fits : (t : ℕ) (c : place-members-lts.Joined6 (place-members-claims t) (pla
     let y = c .before .before .before .before .before .before .before .before .before .before .before .before in
     let a = y .before .before .before .before .before .args in
     let s = y .parts .result in
-    (x .j < s .count) × (c .if6 .«record» ≡ getD (now (a .table)) (s .first + x .j * s .step) 0)
+    (x .j < s .count) × (c .if6 .«record» ≡ getD (now (a .table)) (s .first + s .step * x .j) 0)
     × (getD (now (a .m)) (x .at) 0 ≡ unpacked (getD (now (a .index)) (c .if6 .«record») 0) .code)
 at-fits t c z =
     ⊎-elim
-    (λ x. (x .0 .taken, x .8 ∙ x .4 .ensures .0, rw (x .8) (sym (eqb-true _ _ (sym (x .9) ∙ z)) ∙ x .6 .ensures)))
+    (λ x. (x .0 .taken, x .5 ∙ x .1 .ensures .0, rw (x .5) (sym (eqb-true _ _ (sym (x .6) ∙ z)) ∙ x .3 .ensures)))
     (λ x. absurd (false≢true (sym (x .2) ∙ z)))
     (c .if6 .came)
 
@@ -532,27 +531,22 @@ pub +place-members+place-value-spec : {M : Type 1} → statement M
           (c6 .is-over .ensures) (c5 .if5 .taken) (c3 .finish .ensures) (c .behind .ensures),
     ))  -- place-members-returns-2
     (λ c. let l = at-low t (c .before) in omega arith)  -- place-members-add-from
-    (λ c.
-    let c5 = c .before .before .before .before .before in
-    let c10 = c5 .before .before .before .before .before in
-    omega (arith, part-near (at-started t (c10)) _ (at-item t (c5) (at-started t (c10))) (c .before .before .if6 .taken)))  -- place-members-mul-octet
-    (λ c.
+    (λ c κs.
     let c3 = c .before .before .before in
-    let c6 = c3 .before .before .before in
-    let c11 = c6 .before .before .before .before .before in
-    omega (arith, part-near (at-started t (c11)) _ (at-item t (c6) (at-started t (c11))) (c3 .if6 .taken)))  -- place-members-add-octet
-    (λ c κs. tt)  -- place-members-octet-requires
+    let X = at-started t (c3 .before .before .before .before .before) in
+    let i = at-item t (c3) X in
+    (part-inside X _ i (c .if6 .taken), part-near X _ i (c .if6 .taken)))  -- place-members-part-requires
     (λ c. let l = at-type t c in omega arith)  -- place-members-mul-first
     (λ c. at-type t c)  -- place-members-element-copy-out-first
     (λ c κs. tt)  -- place-members-first-requires
     (λ c.
-    at-low t (c .before .before .before .before .before .before .before .before .before .before) .0)  -- place-members-shared-slice-read-fits
+    at-low t (c .before .before .before .before .before .before .before) .0)  -- place-members-shared-slice-read-fits
     (λ c.
-    let c10 = c .before .before .before .before .before .before .before .before .before .before in
+    let c7 = c .before .before .before .before .before .before .before in
     omega (
       arith,
-      c10 .before .before .before .before .before .before .before .before .before .before .before .before .shared-slice-known2 .given
-          (c10 .if2 .at),
+      c7 .before .before .before .before .before .before .before .before .before .before .before .before .shared-slice-known2 .given
+          (c7 .if2 .at),
     ))  -- place-members-cast-fits
     (λ c. let l = at-low t (c .before .before .before .before) in omega arith)  -- place-members-sub-rest
     (λ c. let l = at-low t (c .before .before .before .before) in omega arith)  -- place-members-part-rest-start
