@@ -94,9 +94,18 @@ def listed(sets, records, element, size, definite=False):
     return [plain(SET, [(i + 1, 0)]) for i in range(sets)] + [plain(SEQUENCE_OF, [sets + 1])] + records, m
 
 
+def runs(n, below):
+    """n SEQUENCEs, each of eight runs of record n, optional, and the last record, mandatory; behind them the records `below` and a NULL."""
+    return [(SEQUENCE, [(CONTEXT, i)], [(n, 1), (RECORDS - 1, 0)] * 8) for i in range(n)] + below + [plain(NULL)]
+
+
 def tables():
     """Tables whose check is dear."""
     last = RECORDS - 1
+    n = RECORDS // 2 - 2
+    yield '62 SEQUENCEs of eight runs, above 64 CHOICEs without tags, each of the next 16 records', \
+        runs(n, [(CHOICE, [], [min(n + i + 1 + k, last - 1) for k in range(16)]) for i in range(last - 1 - n)] + [plain(BOOLEAN)])
+    yield '62 SEQUENCEs of eight runs, above a chain of 64 CHOICEs without tags', runs(n, chain(n, last - 1 - n))
     yield '127 CHOICEs without tags, each of the next 16 records, and a BOOLEAN', \
         [(CHOICE, [], [min(i + 1 + k, last) for k in range(16)]) for i in range(last)] + [plain(BOOLEAN)]
     yield 'a chain of 127 CHOICEs without tags, and a BOOLEAN', chain(0, last)
@@ -140,6 +149,8 @@ def messages():
         n = RECORDS - sets - 4
         yield 'NULLs in a list, each in a CHOICE behind %d nested CHOICEs' % n + within(sets), \
             listed(sets, [(CHOICE, [], [sets + 3, sets + 2]), null] + chain(sets + 3, n), b'\5\0', 7)
+        yield 'SEQUENCEs of eight NULLs in a list, each behind an optional member of %d nested CHOICEs' % n + within(sets), \
+            listed(sets, [plain(SEQUENCE, [(sets + 3, 1), (sets + 2, 0)] * 8), null] + chain(sets + 3, n), b'\x30\x10' + b'\5\0' * 8, 4 + 16 + 24)
         yield 'SETs of 15 NULLs in a list, with an optional member of %d nested CHOICEs' % (n - 14) + within(sets), crowded(sets)
     for sets in (0, 22):
         n = RECORDS - sets - 3

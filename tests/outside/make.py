@@ -72,10 +72,27 @@ def wide_table(R):
     return [(kind, [] if kind == CHOICE else [(0, kind)], own)] + members
 
 
+def repeating_table(R):
+    """A SEQUENCE whose members are of few types, so that most first tags stand in several runs; one type may be a CHOICE without tags."""
+    kinds = R.sample(SIMPLE[:-1], 3)
+    types = [(k, [(0, OWN_NUMBER[k])], None) for k in kinds] + [(NULL, [(2, 0)], None), (CHOICE, [], R.sample(range(1, 5), R.choice([1, 2, 3])))]
+    firsts = [{i + 1} for i in range(4)] + [set(types[4][2])]
+    own, run, n = [], set(), R.choice([2, 3, 5, 8, 16])
+    while len(own) < n:
+        i = R.randrange(5)
+        if not run & firsts[i]:
+            own.append((i + 1, R.choice([0, 1])))
+            run = run | firsts[i] if own[-1][1] else set()
+        elif len(run) == 4:
+            break
+    return [(SEQUENCE, [(0, SEQUENCE)], own)] + types
+
+
 def table(R, recursive=True):
     """The octets and the records of a random table that passes."""
     while True:
-        records = wide_table(R) if R.random() < .08 else any_table(R, recursive)
+        p = R.random()
+        records = wide_table(R) if p < .08 else repeating_table(R) if p < .2 else any_table(R, recursive)
         b = rendered(records)
         if model.checked(b)[0] == 'ok' and (recursive or not circular(records)):
             return b, records

@@ -122,10 +122,12 @@ def check(b):
     for i, r in enumerate(records):
         if r[0] in MEMBERS + (CHOICE,):
             seen = set()
-            for x in named(r):
+            for j, x in enumerate(named(r)):
                 if seen & first(x):
                     raise No(5, i)
                 seen |= first(x)
+                if r[0] == SEQUENCE and not r[2][j][1]:
+                    seen = set()
     finite = set(heights(records))
     for i in range(n):
         if i not in finite:

@@ -5,6 +5,7 @@ mod Rules
 mod Alike
 mod Flags
 mod Gather
+mod Runs
 mod Shared
 mod Judged
 mod Marks

@@ -3,7 +3,6 @@
 use mathlib.Core.Bool.{Bool, true, false, not, true≢false, false≢true}
 use mathlib.Core.List.{List, [], _∷_, _++_, append-assoc, append-nil, List·Memᴰ as In, List·Memᴰ·head as first-of, List·Memᴰ·tail as later}
 use mathlib.Core.List.{List·Memᴰ·not-nil as not-in-nil, List·Memᴰ·eq-of-singleton as in-one, Memᴰ·append-right as in-right}
-use mathlib.Core.Logic.{_⊎_, inl, inr, ⊎-elim}
 use mathlib.Core.Path.{_≡_, refl, sym, ap, _∙_}
 use Prim.Native.Nat.{ℕ, zero, suc, _+_, _-_, _≤_, _<_}
 use native.Mathlib.Nat.{not-suc-le-zero, le-of-suc-le-suc}
@@ -13,20 +12,26 @@ use lib.ListN.{length, getD, set, take, length-append, length-map, List·getD-ap
 use lib.Seq.{getD-append-seam, getD-take}
 use borrow.Author.Tests.{ltb-true, ltb-false, leb-true, eq-eqb}
 use Rattle.octets.specs.Lists.{any}
+use Rattle.octets.specs.Numbers.{Octets}
 use Rattle.octets.proofs.Tests.{test}
 use Rattle.octets.proofs.Lists.{both}
 use Rattle.table.specs.Syntax.{Tag, Table, Body, Plain, Sequence, Set, SequenceOf, SetOf, Choice, Record, references, constructed}
 use Rattle.table.specs.Octets.{recordShaped, bodyShaped}
-use Rattle.table.specs.Rules.{below, tagsBelow, siblings, Circular, First, Sharing}
+use Rattle.table.specs.Rules.{below, tagsBelow, siblings, Circular, Clash, Sharing}
 use Rattle.table.specs.Reading.{everyAt}
 use Rattle.table.specs.Decide.{circular, pair, sharing}
-use Rattle.table.specs.Walk.{like, Hits, Walks, Met, GatheredUnder, Straight}
+use Rattle.table.specs.Walk.{like, Hits, Walks, Met, GatheredUnder, StandIns, Straight, Compares, optionalIn}
+use Rattle.table.specs.Entries.{unpacked, spanOf, tableIn, countIn, Filled}
+use Rattle.table.specs.declared.entry.Entry.{Entry}
+use Rattle.table.specs.declared.entry.Span.{Span}
 use Rattle.table.proofs.Nodes.{hits-reaches, reaches-hits, first-record, first-hits}
 use Rattle.table.proofs.Walk.{Kept, kept, newly, keeps, complete}
+use Rattle.checker.proofs.Rules.{entry-at, span-near, span-named}
+use Rattle.checker.proofs.Runs.{asked, other-clash, sequence-step, sequence-clash}
 use Rattle.checker.proofs.Flags.{walked-low, met-low}
 use Rattle.table.proofs.Pieces.{length-every}
 use Rattle.table.proofs.Reading.{limits}
-use Rattle.table.proofs.Straight.{share-tag}
+use Rattle.table.proofs.Straight.{share-tag, named-there}
 use Rattle.table.proofs.Loops.{every-step}
 
 abbrev pub Zero : List ℕ → Type 0
@@ -128,19 +133,9 @@ module _ (T : Table) (m : ℕ) (ps w u rest : List ℕ) (a : ℕ) (x : Owned T p
           from = from-next;
         }
 
--- two of the records ps have a first tag in common
-pub record Pairing (T : Table) (ps : List ℕ) : Type 0 where
-  pub i : ℕ
-  pub j : ℕ
-  pub apart : i < j
-  pub within : j < length ps
-  pub tag : Tag
-  pub first : First T tag (getD ps i 0)
-  pub second : First T tag (getD ps j 0)
-
 module _ (T : Table) (n : ℕ) (c : Straight T n) (there : (s a : ℕ) → s < n → In a (below T s) → a < n) (ps : List ℕ) (named : (a : ℕ) → In a ps → a < n) where
   -- a node that two members hit
-  pub owned-met : (m : ℕ) (w : List ℕ) {rest : List ℕ} {a : ℕ} → Owned T ps w m (a ∷ rest) → Met T m w a → Pairing T ps
+  pub owned-met : (m : ℕ) (w : List ℕ) {rest : List ℕ} {a : ℕ} → Owned T ps w m (a ∷ rest) → Met T m w a → Clash T ps (λ k. true)
   owned-met m w {rest} {a} x y = by (x .from (y .node) (y .some))
     where
       here : getD ps (length (x .past)) 0 ≡ a
@@ -149,17 +144,17 @@ module _ (T : Table) (n : ℕ) (c : Straight T n) (there : (s a : ℕ) → s < n
       inside : length (x .past) < length ps
       inside = rw (x .whole) (omega (arith, length-append (x .past) (a ∷ rest)))
 
-      by : ((i : ℕ) × (i < length (x .past)) × (getD w (y .node) 0 ≡ suc i) × Hits T (y .node) (getD (x .past) i 0)) → Pairing T ps
+      by : ((i : ℕ) × (i < length (x .past)) × (getD w (y .node) 0 ≡ suc i) × Hits T (y .node) (getD (x .past) i 0)) → Clash T ps (λ k. true)
       by (i, l, f, g) =
           let same : getD ps i 0 ≡ getD (x .past) i 0 = rw (x .whole) (List·getD-append (x .past) (a ∷ rest) 0 i l) in
           let k : i < length ps = omega (arith, l, inside) in
           let (tag, p, q) = share-tag T n c there (y .node) (getD ps i 0) (getD ps (length (x .past)) 0)
           (named (getD ps i 0) (at-in ps i k)) (named (getD ps (length (x .past)) 0) (at-in ps (length (x .past)) inside))
           (rw same g) (rw here (y .hit)) in
-          record { i = i; j = length (x .past); apart = l; within = inside; tag = tag; first = p; second = q }
+          record { i = i; j = length (x .past); apart = l; within = inside; one-run = λ k _ _. refl; tag = tag; first = p; second = q }
 
 -- no two members share a first tag
-pub owned-end : (T : Table) (ps : List ℕ) (m : ℕ) (w : List ℕ) → Owned T ps w m [] → Pairing T ps → ⊥
+pub owned-end : (T : Table) (ps : List ℕ) (m : ℕ) (w : List ℕ) → Owned T ps w m [] → Clash T ps (λ k. true) → ⊥
 owned-end T ps m w x y =
     let (u, gs, f) = first-record T (y .first) in
     let p : x .past ≡ ps = sym (x .whole ∙ append-nil (x .past)) in
@@ -167,37 +162,6 @@ owned-end T ps m w x y =
     let a = x .own (y .i) (like T u) (omega (arith, y .apart, k)) (rw p (first-hits T u (y .tag) gs f (y .first))) in
     let b = x .own (y .j) (like T u) k (rw p (first-hits T u (y .tag) gs f (y .second))) in
     omega (arith, a, b, y .apart)
-
--- what a body names is its parts, or one type of elements
-parts-or-one : (y : Body) → (siblings y ≡ references y) ⊎ ((siblings y ≡ []) × (length (references y) ≤ 1))
-unfolding siblings references
-parts-or-one (Plain k) = inl refl
-parts-or-one (Sequence ms) = inl refl
-parts-or-one (Set ms) = inl refl
-parts-or-one (SequenceOf t) = inr (refl, omega arith)
-parts-or-one (SetOf t) = inr (refl, omega arith)
-parts-or-one (Choice ts) = inl refl
-
-pairing-parts : {T : Table} (ps qs : List ℕ) → ps ≡ qs → Pairing T ps → Pairing T qs
-pairing-parts ps qs e x = rw e at x
-
-sharing-pairs : {T : Table} {t : ℕ} → Sharing T t → Pairing T (siblings (T t .body))
-sharing-pairs x = record { i = x .i; j = x .j; apart = x .apart; within = x .within; tag = x .tag; first = x .first; second = x .second }
-
-pub pairing-shares : (T : Table) (t : ℕ) → Pairing T (references (T t .body)) → Sharing T t
-pairing-shares T t x =
-    ⊎-elim
-    (λ e. let y = pairing-parts (references (T t .body)) (siblings (T t .body)) (sym e) x in
-    record { i = y .i; j = y .j; apart = y .apart; within = y .within; tag = y .tag; first = y .first; second = y .second })
-    (λ e. absurd (omega (arith, x .apart, x .within, e .1)))
-    (parts-or-one (T t .body))
-
-pub sharing-names : (T : Table) (t : ℕ) → Sharing T t → Pairing T (references (T t .body))
-sharing-names T t x =
-    ⊎-elim
-    (λ e. pairing-parts (siblings (T t .body)) (references (T t .body)) e (sharing-pairs x))
-    (λ e. absurd (omega (arith, x .within, ap length (e .0))))
-    (parts-or-one (T t .body))
 
 -- a simple kind has no parts
 pub no-sharing : (T : Table) (n t : ℕ) → constructed (T t .body) ≡ false → sharing T n t ≡ false
@@ -232,3 +196,33 @@ few-named (Choice ts) e = leb-true (length ts) 16 (both (leb 1 (length ts)) (leb
 
 pub named-few : (r : Record) (step : ℕ) (b : List ℕ) (p n : ℕ) → recordShaped r ≡ true → everyAt step b p n ≡ references (r .body) → n ≤ 16
 named-few r step b p n s e = omega (arith, few-named (r .body) (limits r s .shaped), ap length e, length-every step b p n)
+
+-- the parts of record t, in the code's hands: what comparing them needs, and what it says of the record
+module _ {b index : List ℕ} (x : Filled b index (countIn b)) {t : ℕ} (h : t < countIn b) {e : Entry} (d : e ≡ unpacked (getD index t 0)) {s : Span}
+    (q : s ≡ spanOf b (e .kind) (e .own)) where
+  pub compares : Octets b → {nodes : List ℕ} → StandIns (tableIn b) (countIn b) nodes → Straight (tableIn b) (countIn b) → Compares b index nodes s
+  compares o r y =
+      let near = span-near x t h d o q in
+      let named = span-named x t h d q in
+      record {
+        filled = x;
+        ready = r;
+        straight = y;
+        there = λ a i. named-there (tableIn b) (countIn b) (y .named) t a h (rw named at i);
+        few = named-few (tableIn b t) (s .step) b (s .first) (s .count) (x .shaped t h) named;
+        near = omega (arith, near .near, near .few);
+        close = near .close;
+      }
+
+  pub members-two-apart : e .kind ≡ 16 → s .step ≡ 2
+  members-two-apart k = rw q (sequence-step (tableIn b) (entry-at x t h d) k)
+
+  pub of-sequence : e .kind ≡ 16 → {z : Bool}
+      → (let C = Clash (tableIn b) (everyAt 2 b (s .first) (s .count)) (optionalIn b (s .first)) in (z ≡ true → C) × (z ≡ false → C → ⊥))
+      → (z ≡ true → Sharing (tableIn b) t) × (z ≡ false → Sharing (tableIn b) t → ⊥)
+  of-sequence k = asked (rw q (sequence-clash (tableIn b) (entry-at x t h d) k))
+
+  pub of-other : (e .kind ≡ 16 → ⊥) → {z : Bool}
+      → (let C = Clash (tableIn b) (everyAt (s .step) b (s .first) (s .count)) (λ k. true) in (z ≡ true → C) × (z ≡ false → C → ⊥))
+      → (z ≡ true → Sharing (tableIn b) t) × (z ≡ false → Sharing (tableIn b) t → ⊥)
+  of-other k = asked (rw q (other-clash (tableIn b) (entry-at x t h d) k))

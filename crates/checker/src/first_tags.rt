@@ -1,19 +1,24 @@
 // 4 and 5: a CHOICE without tags that comes back to itself, and first tags that two parts share (FORMATS, "Tables" and "Refusals").
 ghost use mathlib.Core.Path.{_≡_};
-ghost use mathlib.Core.Bool.{true, false};
-ghost use Prim.Native.Nat.{ℕ, _<_};
+ghost use mathlib.Core.Bool.{true, false, not};
+ghost use Prim.Native.Nat.{ℕ, suc, _+_, _-_, _*_, _≤_, _<_};
 ghost use lib.ListN.{length, getD, replicate};
 ghost use Rattle.octets.specs.Lists.{lowest};
-ghost use Rattle.table.specs.Rules.{Circular, Sharing};
+ghost use Rattle.table.specs.Rules.{Circular, Clash, Sharing};
+ghost use Rattle.table.specs.Reading.{everyAt};
 ghost use Rattle.table.specs.Decide.{circular, sharing};
-ghost use Rattle.table.specs.Walk.{like, likeIn, tagOf, StandIns, Named, Straight, Gathers, Gathered, GatheredUnder};
+ghost use Rattle.table.specs.Walk.{like, likeIn, tagOf, StandIns, Named, Straight, Gathers, Gathered, GatheredUnder, Compares};
+ghost use Rattle.table.specs.Walk.{optionalIn};
 ghost use Rattle.table.specs.Entries.{unpacked, untagged, tableIn, countIn, Filled};
 use octets::octet;
+use table::entry::Span;
 use table::entry::UNTAGGED;
 use table::entry::alternatives;
 use table::entry::first;
+use table::entry::optional;
 use table::entry::parts;
 use table::entry::unpack;
+use table::kind::SEQUENCE;
 
 // The first tag of an entry: its code but for the bit that says constructed.
 fn first_tag(w: u64) -> u32
@@ -143,12 +148,18 @@ pub(crate) fn lowest_circular(
     n
 }
 
-// Whether two parts of a record share a first tag.
-fn is_sharing(table: &[u8], index: &[u64; 128], nodes: &[u8; 128], t: usize) -> bool
-    requires { ⌜ Gathers (now table) (now index) (now nodes) (replicate 129 0) t × Straight (tableIn (now table)) (countIn (now table)) ⌝ }
-    ensures { λ r. ⌜ (let T = tableIn (now (table .entry)) in (r ≡ true → Sharing T t) × (r ≡ false → Sharing T t → ⊥)) ⌝ }
+// Whether two of the parts have a first tag in common.
+fn clash(table: &[u8], index: &[u64; 128], nodes: &[u8; 128], s: Span) -> bool
+    requires { ⌜ Compares (now table) (now index) (now nodes) s ⌝ }
+    ensures { λ r. ⌜
+        (let b = now (table .entry) in
+        let C = Clash (tableIn b) (everyAt (s .step) b (s .first) (s .count)) (λ k. true) in
+        (r ≡ true → C) × (r ≡ false → C → ⊥))
+        ⌝ }
 {
-    let s = parts(table, unpack(index[t]));
+    if s.count < 2 {
+        return false;
+    }
     let mut at = s.first;
     let mut left = s.count;
     let mut flags = [0u8; 129];
@@ -164,6 +175,65 @@ fn is_sharing(table: &[u8], index: &[u64; 128], nodes: &[u8; 128], t: usize) -> 
         left -= 1;
     }
     false
+}
+
+// How many of the members from the place `at` on stand in one run: optional ones, if any, and the mandatory one behind them, if any.
+fn run_length(table: &[u8], at: usize, left: usize) -> usize
+    requires { ⌜ (0 < left) × (at + 3 * left ≤ 100000) ⌝ }
+    ensures { λ r. ⌜ r ≡ suc (lowest (λ k. not (optionalIn (now (table .entry)) at k)) (left - 1)) ⌝ }
+{
+    let last = left - 1;
+    let mut k = 0;
+    while k < last {
+        if !optional(table, at + 2 * k) {
+            return k + 1;
+        }
+        k += 1;
+    }
+    left
+}
+
+// Whether two members of one run have a first tag in common.
+fn clash_in_a_run(table: &[u8], index: &[u64; 128], nodes: &[u8; 128], s: Span) -> bool
+    requires { ⌜ Compares (now table) (now index) (now nodes) s × (s .step ≡ 2) ⌝ }
+    ensures { λ r. ⌜
+        (let b = now (table .entry) in
+        let C = Clash (tableIn b) (everyAt 2 b (s .first) (s .count)) (optionalIn b (s .first)) in
+        (r ≡ true → C) × (r ≡ false → C → ⊥))
+        ⌝ }
+{
+    let mut first = s.first;
+    let mut left = s.count;
+    while 0 < left {
+        let count = run_length(table, first, left);
+        let r = Span {
+            first,
+            count,
+            step: 2,
+        };
+        if clash(table, index, nodes, r) {
+            return true;
+        }
+        first += 2 * count;
+        left -= count;
+    }
+    false
+}
+
+// Whether a record is refused: a SEQUENCE if two members of one run share a first tag, a SET or a CHOICE if any two parts do.
+fn is_sharing(table: &[u8], index: &[u64; 128], nodes: &[u8; 128], t: usize) -> bool
+    requires { ⌜
+        (let b = now table in
+        Filled b (now index) (countIn b) × StandIns (tableIn b) (countIn b) (now nodes) × Straight (tableIn b) (countIn b) × (t < countIn b))
+        ⌝ }
+    ensures { λ r. ⌜ (let T = tableIn (now (table .entry)) in (r ≡ true → Sharing T t) × (r ≡ false → Sharing T t → ⊥)) ⌝ }
+{
+    let e = unpack(index[t]);
+    let s = parts(table, e);
+    if e.kind == SEQUENCE {
+        return clash_in_a_run(table, index, nodes, s);
+    }
+    clash(table, index, nodes, s)
 }
 
 // The lowest of n records with such parts; n if there is none.

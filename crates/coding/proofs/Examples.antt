@@ -4,7 +4,7 @@
 use mathlib.Core.Bool.{Bool, true, false}
 use mathlib.Core.List.{List, [], _∷_, _++_}
 use mathlib.Core.Path.{_≡_, refl}
-use Prim.Native.Nat.{ℕ, suc}
+use Prim.Native.Nat.{ℕ, suc, _/_}
 use lib.ListN.{length, drop, replicate}
 use Rattle.octets.specs.Answer.{if, then, behind, none-left}
 use Rattle.octets.specs.Lists.{any, all, joined, tabulate, lowestFrom, same}
@@ -16,10 +16,10 @@ use Rattle.x690.specs.BitString.{unused, masked}
 use Rattle.x690.specs.Reading.{readFollowing, readIdentifier, fit, readLong, readLength, atEnd, readHeader, inside, readConstructed, contents, readPrimitive}
 use Rattle.table.specs.Syntax.{references, isChoice, universal, constructed}
 use Rattle.table.specs.Octets.{kind, rising}
-use Rattle.table.specs.Rules.{bodyBelow, tagsBelow, siblings, members}
+use Rattle.table.specs.Rules.{bodyBelow, tagsBelow, siblings, runsOn, members}
 use Rattle.table.specs.Reading.{tagsAt, numbersAt, membersAt, everyAt, bodyAt, recordAt, countedEnd, enumeratedEnd, membersEnd, ownEnd, recordEnd, scanFrom, scan, look}
 use Rattle.table.specs.Decide.{round, rounds, found, dangling, wrongTags, reachStep, circular, sameTag, begins as tagBegins, firstStep, firstOfBoth}
-use Rattle.table.specs.Decide.{share, pair, sharing, finiteBody, finiteStep, infinite}
+use Rattle.table.specs.Decide.{share, reached, pair, sharing, finiteBody, finiteStep, infinite}
 use Rattle.table.specs.Verdict.{judgeChoices, judge, verdict}
 use Rattle.coding.specs.Value.{slots, bag, leafOctets, count, presence, octets}
 use Rattle.coding.specs.Content.{listed}
@@ -60,6 +60,10 @@ T = hex 0x54_59_03_01_00_00_03
 
 abbrev O : List ℕ
 O = hex 0x54_59_04_01_00_00_04
+
+-- B, I, and as record 2 a SEQUENCE: of each member its record, and 1 if it is optional
+abbrev sequence : List ℕ → List ℕ
+sequence ms = B ++ I ++ hex 0x54_59_10_01_00_00_10 ++ (length ms / 2 ∷ ms)
 
 -- the nodes of true and of 5; a list in n others, each the only element of the next
 abbrev yea : List ℕ
@@ -157,6 +161,25 @@ examples =
     -- 5: with an alternative of an alternative
     ∷ checks (B ++ hex 0x54_59_11_01_00_00_11_02_00_00_00_00) (no 5 1)
     ∷ checks (B ++ hex 0x54_59_32_00_02_00_02_54_59_32_00_01_00) (no 5 1)
+    -- "Tables", runs of a SEQUENCE: the BOOLEAN twice; with an INTEGER between, optional or not; in a SET, and in a CHOICE without tags
+    ∷ checks (sequence (0 ∷ 0 ∷ 0 ∷ 0 ∷ [])) (ok [])
+    ∷ checks (sequence (0 ∷ 1 ∷ 0 ∷ 0 ∷ [])) (no 5 2)
+    ∷ checks (sequence (0 ∷ 0 ∷ 0 ∷ 1 ∷ [])) (ok [])
+    ∷ checks (sequence (0 ∷ 1 ∷ 1 ∷ 0 ∷ 0 ∷ 1 ∷ [])) (ok [])
+    ∷ checks (sequence (0 ∷ 1 ∷ 1 ∷ 1 ∷ 0 ∷ 0 ∷ [])) (no 5 2)
+    ∷ checks (sequence (0 ∷ 0 ∷ 1 ∷ 1 ∷ 0 ∷ 1 ∷ [])) (ok [])
+    ∷ checks (B ++ I ++ hex 0x54_59_11_01_00_00_11_03_00_01_01_00_00_01) (no 5 2)
+    ∷ checks (B ++ I ++ hex 0x54_59_32_00_03_00_01_00) (no 5 2)
+    ∷ checks (sequence (3 ∷ 1 ∷ 0 ∷ 0 ∷ []) ++ hex 0x54_59_32_00_02_00_01) (no 5 2)
+    ∷ checks (sequence (3 ∷ 0 ∷ 0 ∷ 0 ∷ []) ++ hex 0x54_59_32_00_02_00_01) (ok [])
+    -- "Messages": what is awaited is the rest of a run, so the order of items tells its members apart from those of another
+    ∷ writes (sequence (0 ∷ 0 ∷ 0 ∷ 0 ∷ [])) 2 (hex 0x56_41_10_02_01_01_56_41_01_00 ++ yea) (ok (hex 0x30_06_01_01_00_01_01_FF))
+    ∷ reads (sequence (0 ∷ 0 ∷ 0 ∷ 0 ∷ [])) 2 (hex 0x30_06_01_01_00_01_01_FF) (ok (hex 0x56_41_10_02_01_01_56_41_01_00 ++ yea))
+    ∷ reads (sequence (0 ∷ 0 ∷ 0 ∷ 0 ∷ [])) 2 (hex 0x30_03_01_01_FF) (no 24 5)
+    ∷ writes (sequence (0 ∷ 1 ∷ 1 ∷ 0 ∷ 0 ∷ 1 ∷ [])) 2 (hex 0x56_41_10_03_00_01_01 ++ five ++ yea) (ok (hex 0x30_06_02_01_05_01_01_FF))
+    ∷ reads (sequence (0 ∷ 1 ∷ 1 ∷ 0 ∷ 0 ∷ 1 ∷ [])) 2 (hex 0x30_06_02_01_05_01_01_FF) (ok (hex 0x56_41_10_03_00_01_01 ++ five ++ yea))
+    ∷ reads (sequence (0 ∷ 1 ∷ 1 ∷ 0 ∷ 0 ∷ 1 ∷ [])) 2 (hex 0x30_06_01_01_FF_02_01_05) (ok (hex 0x56_41_10_03_01_01_00 ++ yea ++ five))
+    ∷ reads (sequence (0 ∷ 1 ∷ 1 ∷ 0 ∷ 0 ∷ 1 ∷ [])) 2 (hex 0x30_06_01_01_FF_01_01_FF) (no 24 5)
     -- 6, of a record behind a sound one
     ∷ checks (hex 0x54_59_10_01_00_00_10_01_00_00) (no 6 0)
     ∷ checks (B ++ hex 0x54_59_10_01_00_00_10_01_01_00) (no 6 1)
@@ -212,9 +235,9 @@ examples =
 pub examples-right : wrong 0 examples ≡ []
 unfolding if then behind none-left any all joined tabulate lowestFrom same leading following identifier unsigned digits lengthOctets item negative pile
     integerOf spare minimal eight fewest unused masked readFollowing readIdentifier fit readLong readLength atEnd readHeader inside readConstructed
-    contents readPrimitive references isChoice universal constructed kind rising bodyBelow tagsBelow siblings members tagsAt numbersAt membersAt everyAt
+    contents readPrimitive references isChoice universal constructed kind rising bodyBelow tagsBelow siblings runsOn members tagsAt numbersAt membersAt everyAt
     bodyAt recordAt countedEnd enumeratedEnd membersEnd ownEnd recordEnd scanFrom scan look round rounds found dangling wrongTags reachStep circular
-    sameTag tagBegins firstStep firstOfBoth share pair sharing finiteBody finiteStep infinite judgeChoices judge verdict slots bag leafOctets count
+    sameTag tagBegins firstStep firstOfBoth share reached pair sharing finiteBody finiteStep infinite judgeChoices judge verdict slots bag leafOctets count
     presence octets listed identifierOf last before explicitTags ownTag explicit allowed encode element alternatives formMembers formElements formBody
     wrap formAt need flags ownMembers ownCount ownBoolean ownInteger ownString ownBits ownEnumerated ownChoice readOwn readNode leafKind nodeKind
     numbers leafAgrees agreeing counts agrees judgeMembers judgeElements judgeBelow judgeValue judgeWhole beginsBody beginsItem beginsIn begins

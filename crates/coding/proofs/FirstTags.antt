@@ -11,13 +11,14 @@ use lib.ListN.{length, getD}
 use lib.Seq.{append-snoc}
 use Rattle.octets.specs.Lists.{any}
 use Rattle.octets.specs.Permutations.{Every, every-nil, every-cons}
-use Rattle.octets.proofs.Tests.{test, or-by, or-false}
+use Rattle.octets.proofs.Tests.{test, or-by}
+use Rattle.octets.proofs.Search.{passes-later, passes-longer}
 use Rattle.octets.proofs.Lists.{same-refl, same-true}
 use Rattle.x690.proofs.Identifiers.{identifier-complete, identifier-tag, identifier-begun, Begun}
 use Rattle.x690.proofs.Items.{Readable}
 use Rattle.table.specs.Syntax.{Tag, Member, Simple, Boolean, Integer, BitString, OctetString, Null, Enumerated, Body, Plain, Sequence, Set}
 use Rattle.table.specs.Syntax.{SequenceOf, SetOf, Choice, Record, Table, absent, references, isChoice, universal, constructed}
-use Rattle.table.specs.Rules.{Mistagged, missing, not-last, not-its-number, on-choice, bodyBelow, tagsBelow, below, First, outermost, inside, siblings, Sharing}
+use Rattle.table.specs.Rules.{Mistagged, missing, not-last, not-its-number, on-choice, bodyBelow, tagsBelow, below, First, outermost, inside, siblings, runsOn, Sharing}
 use Rattle.table.specs.Passes.{Nested, Passes}
 use Rattle.coding.specs.Awaited.{types, further, awaited}
 use Rattle.coding.specs.Tags.{identifierOf, last, before, explicitTags, ownTag, explicit}
@@ -353,47 +354,78 @@ module _ (b : List ℕ) (T : Table) (n : ℕ) (p : Passes b T n) where
       item-begins T (λ a. beginsIn T 128 a i) i (explicit (T t)) (ownTag (T t)) (T t .body)
       (λ ts x q u m f. let (l, h, y) = next-below n t u ts (ends-all t) x q m in more (suc l) 128 u i (omega (arith, p .few)) (bounded l 129 u i y f)) s
 
-  -- two parts of one record do not begin alike: the one use of the rule that no two share a first tag
-  part-distinct : (t i j : ℕ) → i < j → j < length (siblings (T t .body)) → (x : List ℕ) → begins T (getD (siblings (T t .body)) i 0) x ≡ true → begins T (getD (siblings (T t .body)) j 0) x ≡ true → ⊥
+  -- two parts in one run do not begin alike
+  abbrev Unlike : (ℕ → Bool) → List ℕ → Type 0
+  Unlike on ts = (i j : ℕ) → i < j → j < length ts → ((k : ℕ) → i ≤ k → k < j → on k ≡ true)
+      → (x : List ℕ) → begins T (getD ts i 0) x ≡ true → begins T (getD ts j 0) x ≡ true → ⊥
+
+  -- the one use of the rule that no two share a first tag
+  part-distinct : (t : ℕ) → Unlike (runsOn (T t .body)) (siblings (T t .body))
   unfolding begins
-  part-distinct t i j lt within x e f =
+  part-distinct t i j lt within run x e f =
       let a = named 129 (getD (siblings (T t .body)) i 0) x e in
       let b = named 129 (getD (siblings (T t .body)) j 0) x f in
       let q : a .tag ≡ b .tag = one-tag (a .bit) (b .bit) (a .tag) (b .tag) (sym (a .is) ∙ b .is) in
-      distinct-all t (record { i = i; j = j; apart = lt; within = within; tag = a .tag; first = a .first; second = subst (λ g. First T g (getD (siblings (T t .body)) j 0)) (sym q) (b .first) })
+      distinct-all t (record {
+        i = i;
+        j = j;
+        apart = lt;
+        within = within;
+        one-run = run;
+        tag = a .tag;
+        first = a .first;
+        second = subst (λ g. First T g (getD (siblings (T t .body)) j 0)) (sym q) (b .first);
+      })
 
-  abbrev Unlike : List ℕ → Type 0
-  Unlike ts = (i j : ℕ) → i < j → j < length ts → (x : List ℕ) → begins T (getD ts i 0) x ≡ true → begins T (getD ts j 0) x ≡ true → ⊥
-
-  distinct-from : (ts : List ℕ) → Unlike ts → Distinct T ts
+  -- all in one run
+  distinct-from : (ts : List ℕ) → Unlike (λ k. true) ts → Distinct T ts
   unfolding Distinct
   distinct-from [] f = tt
   distinct-from (t ∷ ts) f = (
     λ x e. never _ (λ g.
         let y = any-found (λ u. begins T u x) ts g in
         let w = y .within in
-        f 0 (suc (y .place)) (omega arith) (omega arith) x e (rw (y .there) (y .passes))),
-    distinct-from ts (λ i j lt w. f (suc i) (suc j) (omega arith) (omega arith)),
+        f 0 (suc (y .place)) (omega arith) (omega arith) (λ k _ _. refl) x e (rw (y .there) (y .passes))),
+    distinct-from ts (λ i j lt w _. f (suc i) (suc j) (omega arith) (omega arith) (λ k _ _. refl)),
   )
 
-  some-false : (f : ℕ → Bool) (ms : List Member) → any f (types ms) ≡ false → any f (awaited ms) ≡ false
+  abbrev optionalAt : List Member → ℕ → Bool
+  optionalAt ms k = getD (map (λ m. m .optional) ms) k false
+
+  -- what is awaited together is the rest of a run
+  record AwaitedAt (f : ℕ → Bool) (ms : List Member) : Type 0 where
+    place : ℕ
+    within : place < length (types ms)
+    run : (k : ℕ) → k < place → optionalAt ms k ≡ true
+    passes : f (getD (types ms) place 0) ≡ true
+
+  awaited-found : (f : ℕ → Bool) (ms : List Member) → any f (awaited ms) ≡ true → AwaitedAt f ms
   unfolding any awaited
-  some-false f [] e = refl
-  some-false f (m ∷ ms) e = rw (or-false (f (m .type)) _ e .0) (cut-short f (m .optional) (awaited ms) (some-false f ms (or-false (f (m .type)) _ e .1)))
-    where
-      cut-short : (f : ℕ → Bool) (b : Bool) (ts : List ℕ) → any f ts ≡ false → any f (further b ts) ≡ false
-      cut-short f true ts e = e
-      cut-short f false ts e = refl
+  awaited-found f [] e = absurd (false≢true e)
+  awaited-found f (m ∷ ms) e =
+      or-by (f (m .type)) _ e
+      (λ h. record { place = 0; within = omega arith; run = λ k l. absurd (omega arith); passes = h })
+      λ h.
+      test (m .optional)
+      (λ o.
+      let y = awaited-found f ms (rw o at h) in
+      record { place = suc (y .place); within = omega (arith, y .within); run = passes-longer (optionalAt (m ∷ ms)) (y .place) o (y .run); passes = y .passes })
+      λ o. absurd (false≢true (rw o at h))
 
-  apart-from : (ms : List Member) → Distinct T (types ms) → Apart T ms
-  unfolding Distinct Apart
-  apart-from [] d = tt
-  apart-from (m ∷ ms) d = (λ i o e. some-false (λ t. begins T t i) ms (d .0 i e), apart-from ms (d .1))
+  apart-from : (ms : List Member) → Unlike (optionalAt ms) (types ms) → Apart T ms
+  unfolding Apart
+  apart-from [] f = tt
+  apart-from (m ∷ ms) f = (
+    λ x o e. never _ (λ g.
+        let y = awaited-found (λ t. begins T t x) ms g in
+        f 0 (suc (y .place)) (omega arith) (omega (arith, y .within)) (λ k _. passes-longer (optionalAt (m ∷ ms)) (y .place) o (y .run) k) x e (y .passes)),
+    apart-from ms (λ i j lt w r. f (suc i) (suc j) (omega arith) (omega arith) (passes-later (optionalAt (m ∷ ms)) i j r)),
+  )
 
-  body-good : (b : Body) → Unlike (siblings b) → GoodBody T b
-  unfolding GoodBody siblings references
+  body-good : (b : Body) → Unlike (runsOn b) (siblings b) → GoodBody T b
+  unfolding GoodBody siblings runsOn references
   body-good (Plain k) f = tt
-  body-good (Sequence ms) f = apart-from ms (distinct-from (types ms) f)
+  body-good (Sequence ms) f = apart-from ms f
   body-good (Set ms) f = distinct-from (types ms) f
   body-good (SequenceOf t) f = tt
   body-good (SetOf t) f = tt

@@ -24,10 +24,10 @@ use Rattle.x690.specs.BitString.{unused, masked}
 use Rattle.x690.specs.Reading.{readFollowing, readIdentifier, fit, readLong, readLength, atEnd, readHeader, inside, readConstructed, contents, readPrimitive}
 use Rattle.table.specs.Syntax.{Tag, Boolean, Integer, Plain, Set, Record, table, references, isChoice, universal, constructed}
 use Rattle.table.specs.Octets.{kind, tagOctets, memberOctets, ownOctets, recordOctets, rising, bodyShaped, recordShaped}
-use Rattle.table.specs.Rules.{bodyBelow, tagsBelow, siblings, members}
+use Rattle.table.specs.Rules.{bodyBelow, tagsBelow, siblings, runsOn, members}
 use Rattle.table.specs.Reading.{tagsAt, numbersAt, membersAt, everyAt, bodyAt, recordAt, countedEnd, enumeratedEnd, membersEnd, ownEnd, recordEnd, scanFrom, scan, look}
 use Rattle.table.specs.Decide.{round, rounds, found, dangling, wrongTags, reachStep, circular, sameTag, begins as firstBegins, firstStep, firstOfBoth}
-use Rattle.table.specs.Decide.{share, pair, sharing, finiteBody, finiteStep, infinite}
+use Rattle.table.specs.Decide.{share, reached, pair, sharing, finiteBody, finiteStep, infinite}
 use Rattle.table.specs.Cause.{Breaks, FirstCause}
 use Rattle.table.specs.Verdict.{judgeChoices, judge, verdict}
 use Rattle.octets.specs.Causes.{causeNumber}
@@ -83,9 +83,9 @@ unfolding all
 table-octets = octets-by S refl
 
 passed : verdict S ≡ Passed
-unfolding any all joined tabulate lowestFrom references isChoice universal rising bodyBelow tagsBelow siblings tagsAt numbersAt membersAt everyAt bodyAt
+unfolding any all joined tabulate lowestFrom references isChoice universal rising bodyBelow tagsBelow siblings runsOn tagsAt numbersAt membersAt everyAt bodyAt
     recordAt countedEnd enumeratedEnd membersEnd ownEnd recordEnd scanFrom scan look round rounds found dangling wrongTags reachStep circular sameTag
-    firstBegins firstStep firstOfBoth share pair sharing finiteBody finiteStep infinite judgeChoices judge verdict
+    firstBegins firstStep firstOfBoth share reached pair sharing finiteBody finiteStep infinite judgeChoices judge verdict
 passed = refl
 
 accepted : Accepted S records
@@ -167,8 +167,8 @@ outcomes :
     × (wholeWrite S 2 valueOctets (room 7) ≡ refuse (of-value MessageRoom 0) (room 7))
     × (wholeWrite S 2 valueOctets (room 9) ≡ after-writing)
 unfolding if then behind none-left any all joined tabulate lowestFrom same references isChoice universal constructed kind members rising bodyBelow
-    tagsBelow siblings tagsAt numbersAt membersAt everyAt bodyAt recordAt countedEnd enumeratedEnd membersEnd ownEnd recordEnd scanFrom scan look round
-    rounds found dangling wrongTags reachStep circular sameTag firstBegins firstStep firstOfBoth share pair sharing finiteBody finiteStep infinite
+    tagsBelow siblings runsOn tagsAt numbersAt membersAt everyAt bodyAt recordAt countedEnd enumeratedEnd membersEnd ownEnd recordEnd scanFrom scan look round
+    rounds found dangling wrongTags reachStep circular sameTag firstBegins firstStep firstOfBoth share reached pair sharing finiteBody finiteStep infinite
     judgeChoices judge verdict leading following identifier unsigned digits lengthOctets item negative pile integerOf spare minimal eight fewest unused
     masked readFollowing readIdentifier fit readLong readLength atEnd readHeader inside readConstructed contents readPrimitive slots bag leafOctets
     count presence octets listed identifierOf last before explicitTags ownTag explicit allowed encode element alternatives formMembers formElements

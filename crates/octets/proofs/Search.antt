@@ -89,3 +89,12 @@ before-lowest f n k h = lowest-is f 0 n .before k (omega arith) h
 -- a test that, computed, none of the n numbers passes
 pub upto : (f : ℕ → Bool) (n : ℕ) → lowest f n ≡ n → (k : ℕ) → k < n → f k ≡ false
 upto f n e k h = before-lowest f n k (omega arith)
+
+-- a test that passes everywhere from one place up to, not with, another: one place later, and from the first place on
+pub passes-later : (f : ℕ → Bool) (i j : ℕ) → ((k : ℕ) → i ≤ k → k < j → f (suc k) ≡ true) → (k : ℕ) → suc i ≤ k → k < suc j → f k ≡ true
+passes-later f i j h zero g l = absurd (omega arith)
+passes-later f i j h (suc k) g l = h k (omega arith) (omega arith)
+
+pub passes-longer : (f : ℕ → Bool) (j : ℕ) → f 0 ≡ true → ((k : ℕ) → k < j → f (suc k) ≡ true) → (k : ℕ) → k < suc j → f k ≡ true
+passes-longer f j e h zero l = e
+passes-longer f j e h (suc k) l = h k (omega arith)

@@ -14,6 +14,7 @@ pub mod Fields
 pub mod Loops
 pub mod Entries
 pub mod Packing
+mod Runs
 mod Causes
 mod Places
 mod Limits

@@ -7,7 +7,7 @@ use lib.Dec.{leb, eqb}
 use lib.ListN.{getD, replicate}
 use Rattle.octets.specs.Lists.{any, all, tabulate}
 use Rattle.table.specs.Syntax.{Tag, Body, Plain, Sequence, Set, SequenceOf, SetOf, Choice, Table, references, isChoice, universal}
-use Rattle.table.specs.Rules.{below, siblings}
+use Rattle.table.specs.Rules.{below, siblings, runsOn}
 
 -- what a rule finds of a record number, given what it has found of others
 abbrev pub Step : Type 0
@@ -65,13 +65,18 @@ firstOfBoth T n a c (g ∷ gs) = found (firstStep T g) n a && found (firstStep T
 unfoldable pub share : Table → ℕ → ℕ → ℕ → Bool
 share T n a c = any (λ u. firstOfBoth T n a c (T u .tags)) (tabulate (λ u. u) 0 n)
 
--- two that the test relates, in the order of the list
-unfoldable pub pair : (ℕ → ℕ → Bool) → List ℕ → Bool
-pair f [] = false
-pair f (a ∷ l) = any (f a) l || pair f l
+-- one of the list passes the test, and the run goes on up to it: `on` says of each place whether it does behind that
+unfoldable pub reached : (ℕ → Bool) → (ℕ → Bool) → List ℕ → Bool
+reached on f [] = false
+reached on f (c ∷ l) = on 0 && (f c || reached (λ k. on (suc k)) f l)
+
+-- two of one run that the test relates, in the order of the list
+unfoldable pub pair : (ℕ → Bool) → (ℕ → ℕ → Bool) → List ℕ → Bool
+pair on f [] = false
+pair on f (a ∷ l) = reached on (f a) l || pair (λ k. on (suc k)) f l
 
 unfoldable pub sharing : Table → ℕ → ℕ → Bool
-sharing T n t = pair (share T n) (siblings (T t .body))
+sharing T n t = pair (runsOn (T t .body)) (share T n) (siblings (T t .body))
 
 -- 6: whether a body has a finite value, if the marked records have
 unfoldable pub finiteBody : (ℕ → Bool) → Body → Bool

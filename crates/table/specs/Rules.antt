@@ -1,7 +1,7 @@
 -- The rules that a table of shaped records must keep, each for a record number t, and n records (FORMATS, "Tables" and "Refusals" 2 to 6).
 -- Assumes nothing.
-use mathlib.Core.Bool.{true, false}
-use mathlib.Core.List.{List, [], _∷_, _++_, List·Memᴰ as In}
+use mathlib.Core.Bool.{Bool, true, false}
+use mathlib.Core.List.{List, [], _∷_, _++_, map, List·Memᴰ as In}
 use mathlib.Core.Path.{_≡_}
 use Prim.Native.Nat.{ℕ, _≤_, _<_}
 use lib.ListN.{length, getD}
@@ -61,15 +61,29 @@ siblings (SequenceOf t) = []
 siblings (SetOf t) = []
 siblings (Choice ts) = ts
 
--- 5: two parts of one record have a first tag in common (FORMATS, "Refusals")
-pub record Sharing (T : Table) (t : ℕ) : Type 0 where
+-- Behind the part at place k its run goes on: in a SEQUENCE behind an optional member alone; the members of a SET are one run, and so are the alternatives of a CHOICE (FORMATS, "Tables").
+unfoldable pub runsOn : Body → ℕ → Bool
+runsOn (Plain s) k = true
+runsOn (Sequence ms) k = getD (map (λ m. m .optional) ms) k false
+runsOn (Set ms) k = true
+runsOn (SequenceOf t) k = true
+runsOn (SetOf t) k = true
+runsOn (Choice ts) k = true
+
+-- two of the records ps have a first tag in common and stand in one run: it goes on behind each from the first of them up to, not with, the second
+pub record Clash (T : Table) (ps : List ℕ) (on : ℕ → Bool) : Type 0 where
   pub i : ℕ
   pub j : ℕ
   pub apart : i < j
-  pub within : j < length (siblings (T t .body))
+  pub within : j < length ps
+  pub one-run : (k : ℕ) → i ≤ k → k < j → on k ≡ true
   pub tag : Tag
-  pub first : First T tag (getD (siblings (T t .body)) i 0)
-  pub second : First T tag (getD (siblings (T t .body)) j 0)
+  pub first : First T tag (getD ps i 0)
+  pub second : First T tag (getD ps j 0)
+
+-- 5: two such parts of one record (FORMATS, "Refusals")
+abbrev pub Sharing : Table → ℕ → Type 0
+Sharing T t = Clash T (siblings (T t .body)) (runsOn (T t .body))
 
 -- members with their flags
 unfoldable pub members : Body → List Member

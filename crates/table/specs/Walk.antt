@@ -11,10 +11,12 @@ use Rattle.octets.specs.Tests.{if}
 use Rattle.octets.specs.Lists.{lowest}
 use Rattle.table.specs.Syntax.{Tag, Table}
 use Rattle.table.specs.Octets.{recordShaped}
+use Rattle.table.specs.Reading.{everyAt}
 use Rattle.table.specs.Rules.{below, Dangling, Mistagged}
 use Rattle.table.specs.Decide.{begins}
 use Rattle.table.specs.Passes.{Nested}
 use Rattle.table.specs.Entries.{unpacked, untagged, tableIn, countIn, Filled}
+use Rattle.table.specs.declared.entry.Span.{Span}
 
 unfoldable pub sameOutermost : List Tag → List Tag → Bool
 sameOutermost [] hs = false
@@ -96,3 +98,17 @@ pub record Gathers (b index nodes flags : List ℕ) (t : ℕ) : Type 0 where
   pub named : Named (tableIn b) (countIn b)
   pub marks : length flags ≡ 129
   pub there : t < countIn b
+
+-- what comparing the parts of a span needs: the same, and that every part is there
+pub record Compares (b index nodes : List ℕ) (s : Span) : Type 0 where
+  pub filled : Filled b index (countIn b)
+  pub ready : StandIns (tableIn b) (countIn b) nodes
+  pub straight : Straight (tableIn b) (countIn b)
+  pub there : (a : ℕ) → In a (everyAt (s .step) b (s .first) (s .count)) → a < countIn b
+  pub few : s .count ≤ 16
+  pub near : s .first + 3 * s .count ≤ 100000
+  pub close : s .step < 3
+
+-- of the members from p on, the k-th is optional
+abbrev pub optionalIn : List ℕ → ℕ → ℕ → Bool
+optionalIn b p k = eqb (getD b (p + 2 * k + 1) 0) 1

@@ -4,14 +4,13 @@ use borrow.Author.Needs.{needs}
 use borrow.Author.Tests.{not-true, not-false}
 use Prim.Native.Nat.{_-_}
 use mathlib.Core.Logic.{⊎-elim}
-use mathlib.Core.Path.{refl, sym, _∙_}
+use mathlib.Core.Path.{sym, _∙_}
 use native.Mathlib.Omega.{arith}
 use Rattle.octets.proofs.Search.{Rest, rest-first, rest-here, rest-next, rest-none}
 use Rattle.table.specs.Decide.{sharing}
 use Rattle.table.specs.Entries.{tableIn}
 use Rattle.table.proofs.Decided.{sharing-is}
 use Rattle.checker.proofs.Rules.{filled-beyond, entry-at}
-use Rattle.checker.proofs.Gather.{gathers-from}
 use Rattle.checker.proofs.Shared.{no-sharing}
 use Rattle.checker.proofs.first_tags.lowest_sharing.Statement.{statement}
 use Rattle.checker.proofs.first_tags.lowest_sharing.Tie as tie
@@ -33,7 +32,7 @@ lowest-sharing-spec =
     (λ c. omega (arith, c .before .before .before .pre .0 .few))  -- element-copy-out-unpack
     (λ c κs. search needs)  -- unpack-requires
     (λ c κs. let x = c .before .before .before .before .before .before .before .pre in
-    (gathers-from (x .0) (x .1) (x .2 .named) refl (c .before .before .before .before .loop-test .taken), rw (x .0 .count) at (x .2)))  -- is-sharing-requires
+    let n = x .0 .count in (rw n at (x .0), rw n at (x .1), rw n at (x .2), rw n at (c .before .before .before .before .loop-test .taken)))  -- is-sharing-requires
     (λ c. rest-here _ _ _ (c .before .before .before .before .before .before .before .loop .inv)
     (c .before .before .before .before .before .before .loop-test .taken)
     (sharing-is _ _ (filled-beyond (c .before .before .before .before .before .before .before .before .before .pre .0)) _ _ (c .before .is-sharing .ensures) ∙
