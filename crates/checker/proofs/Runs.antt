@@ -3,19 +3,19 @@
 use mathlib.Core.Bool.{Bool, true, false, not, true≢false, false≢true}
 use mathlib.Core.List.{List, [], _∷_, _++_, map, List·Memᴰ as In, Memᴰ·append-left as in-left, Memᴰ·append-right as in-right}
 use mathlib.Core.Logic.{inl}
-use mathlib.Core.Path.{_≡_, refl, sym, ap, subst, _∙_}
+use mathlib.Core.Path.{_≡_, refl, sym, ap, _∙_}
 use Prim.Native.Nat.{ℕ, zero, suc, _+_, _-_, _*_, _≤_, _<_}
 use native.Mathlib.Omega.{arith}
-use lib.Dec.{eqb, ltb}
+use lib.Dec.{ltb}
 use lib.ListN.{length, getD, length-append, List·getD-append}
 use lib.Seq.{getD-append-add}
 use borrow.Author.Tests.{ltb-true, ltb-false, not-true, not-false}
 use Rattle.octets.specs.Lists.{lowest}
 use Rattle.octets.proofs.Tests.{test}
 use Rattle.octets.proofs.Search.{lowest-most, lowest-passes, before-lowest}
-use Rattle.table.specs.Syntax.{Tag, Member, Body, Plain, Sequence, Set, SequenceOf, SetOf, Choice, Record, Table, references}
+use Rattle.table.specs.Syntax.{Member, Body, Plain, Sequence, Set, SequenceOf, SetOf, Choice, Record, Table, references}
 use Rattle.table.specs.Octets.{kind}
-use Rattle.table.specs.Rules.{First, siblings, runsOn, Clash}
+use Rattle.table.specs.Rules.{siblings, runsOn, Clash}
 use Rattle.table.specs.Reading.{membersAt, everyAt}
 use Rattle.table.specs.Walk.{Compares, optionalIn}
 use Rattle.table.specs.Entries.{hasMembers, spanOf, tableIn, countIn, Entered, WithMembers}

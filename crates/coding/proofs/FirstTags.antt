@@ -20,7 +20,7 @@ use Rattle.table.specs.Syntax.{Tag, Member, Simple, Boolean, Integer, BitString
 use Rattle.table.specs.Syntax.{SequenceOf, SetOf, Choice, Record, Table, absent, references, isChoice, universal, constructed}
 use Rattle.table.specs.Rules.{Mistagged, missing, not-last, not-its-number, on-choice, bodyBelow, tagsBelow, below, First, outermost, inside, siblings, runsOn, Sharing}
 use Rattle.table.specs.Passes.{Nested, Passes}
-use Rattle.coding.specs.Awaited.{types, further, awaited}
+use Rattle.coding.specs.Awaited.{types, awaited}
 use Rattle.coding.specs.Tags.{identifierOf, last, before, explicitTags, ownTag, explicit}
 use Rattle.coding.specs.Awaited.{beginsBody, beginsItem, beginsIn, begins}
 

@@ -5,22 +5,22 @@ use mathlib.Core.List.{List, [], _∷_, _++_, append-assoc, List·Memᴰ as In, 
 use mathlib.Core.List.{List·Memᴰ·not-nil as in-none, Memᴰ·append-right as in-right}
 use mathlib.Core.Logic.{⊎-elim}
 use mathlib.Core.Path.{_≡_, refl, sym, ap, _∙_}
-use Prim.Native.Nat.{ℕ, zero, suc, _≤_, _<_}
+use Prim.Native.Nat.{ℕ, _≤_, _<_}
 use native.Mathlib.Omega.{arith}
 use lib.Dec.{ltb, leb, eqb}
-use lib.ListN.{length, getD}
+use lib.ListN.{getD}
 use borrow.Author.Tests.{ltb-true, ltb-false, leb-true, le-leb, eqb-true, eqb-false, eq-eqb, ne-eqb, not-true, not-false}
 use Rattle.octets.proofs.Tests.{test}
-use Rattle.octets.proofs.Search.{passes-later, passes-longer}
 use Rattle.octets.specs.Lists.{any}
 use Rattle.octets.proofs.Lists.{both}
-use Rattle.octets.proofs.Members.{or-cases, or-left, or-right, not-both, Some, any-some, some-any, all-each, each-all, in-place, place-in, in-below}
+use Rattle.octets.proofs.Members.{or-cases, or-left, or-right, not-both, any-some, some-any, all-each, each-all, in-below}
 use Rattle.table.specs.Syntax.{Tag, Member, Body, Plain, Sequence, Set, SequenceOf, SetOf, Choice, Record, Table, absent, isChoice, universal}
 use Rattle.table.specs.Rules.{Dangling, Mistagged, missing, not-last, not-its-number, on-choice, bodyBelow, tagsBelow, below, Reaches, here, through}
 use Rattle.table.specs.Rules.{Circular, First, outermost, inside, siblings, runsOn, Sharing, members, Finite, all-mandatory, one-alternative, Infinite}
 use Rattle.table.specs.Decide.{rounds, found, dangling, wrongTags, mistagged, reachStep, circular, sameTag, begins}
-use Rattle.table.specs.Decide.{firstStep, firstOfBoth, share, reached, pair, sharing, finiteBody, finiteStep, infinite}
+use Rattle.table.specs.Decide.{firstStep, firstOfBoth, share, sharing, finiteBody, finiteStep, infinite}
 use Rattle.table.proofs.Rounds.{rounds-sound, rounds-closed}
+use Rattle.table.proofs.Runs.{some-pair, paired}
 
 -- 6
 
@@ -78,70 +78,6 @@ record Owner (T : Table) (n : ℕ) (g : Tag) : Type 0 where
   there : place < n
   rest : List Tag
   is : T place .tags ≡ g ∷ rest
-
--- a place of a list that passes the test, and the run goes on up to it
-record Reached (on : ℕ → Bool) (f : ℕ → Bool) (l : List ℕ) : Type 0 where
-  place : ℕ
-  within : place < length l
-  run : (k : ℕ) → k < suc place → on k ≡ true
-  passes : f (getD l place 0) ≡ true
-
--- two places of a list in one run that the test relates
-pub record Pair (on : ℕ → Bool) (f : ℕ → ℕ → Bool) (l : List ℕ) : Type 0 where
-  pub i : ℕ
-  pub j : ℕ
-  pub apart : i < j
-  pub within : j < length l
-  pub one-run : (k : ℕ) → i ≤ k → k < j → on k ≡ true
-  pub related : f (getD l i 0) (getD l j 0) ≡ true
-
-some-reached : (on f : ℕ → Bool) (l : List ℕ) → reached on f l ≡ true → Reached on f l
-unfolding reached
-some-reached on f [] e = absurd (false≢true e)
-some-reached on f (c ∷ l) e =
-    let o = both (on 0) (f c || reached (λ k. on (suc k)) f l) e in
-    ⊎-elim
-    (λ p. record { place = 0; within = omega arith; run = λ k m. let q : k ≡ 0 = omega arith in rw q (o .0); passes = p })
-    (λ p. let r = some-reached (λ k. on (suc k)) f l p in
-    record { place = suc (r .place); within = omega (arith, r .within); run = passes-longer on (suc (r .place)) (o .0) (r .run); passes = r .passes })
-    (or-cases (f c) _ (o .1))
-
-reached-at : (on f : ℕ → Bool) (l : List ℕ) (j : ℕ) → j < length l → ((k : ℕ) → k < suc j → on k ≡ true) → f (getD l j 0) ≡ true → reached on f l ≡ true
-unfolding reached
-reached-at on f [] j w r p = absurd (omega arith)
-reached-at on f (c ∷ l) zero w r p = rw (r 0 (omega arith), p)
-reached-at on f (c ∷ l) (suc j) w r p =
-    rw (r 0 (omega arith)) (or-right (f c) _ (reached-at (λ k. on (suc k)) f l j (omega arith) (λ k m. r (suc k) (omega arith)) p))
-
-first-pair : (on : ℕ → Bool) (f : ℕ → ℕ → Bool) (a : ℕ) (l : List ℕ) → Reached on (f a) l → Pair on f (a ∷ l)
-first-pair on f a l r =
-    record { i = 0; j = suc (r .place); apart = omega arith; within = omega (arith, r .within); one-run = λ k _ h. r .run k h; related = r .passes }
-
-next-pair : (on : ℕ → Bool) (f : ℕ → ℕ → Bool) (a : ℕ) (l : List ℕ) → Pair (λ k. on (suc k)) f l → Pair on f (a ∷ l)
-next-pair on f a l p =
-    record {
-      i = suc (p .i);
-      j = suc (p .j);
-      apart = omega (arith, p .apart);
-      within = omega (arith, p .within);
-      one-run = passes-later on (p .i) (p .j) (p .one-run);
-      related = p .related;
-    }
-
-pub some-pair : (on : ℕ → Bool) (f : ℕ → ℕ → Bool) (l : List ℕ) → pair on f l ≡ true → Pair on f l
-unfolding pair
-some-pair on f [] e = absurd (false≢true e)
-some-pair on f (a ∷ l) e =
-    ⊎-elim (λ h. first-pair on f a l (some-reached on (f a) l h)) (λ h. next-pair on f a l (some-pair (λ k. on (suc k)) f l h)) (or-cases (reached on (f a) l) _ e)
-
-pub paired : (on : ℕ → Bool) (f : ℕ → ℕ → Bool) (l : List ℕ) (i j : ℕ) → i < j → j < length l → ((k : ℕ) → i ≤ k → k < j → on k ≡ true)
-    → f (getD l i 0) (getD l j 0) ≡ true → pair on f l ≡ true
-unfolding pair
-paired on f [] i j h w r e = absurd (omega arith)
-paired on f (a ∷ l) i zero h w r e = absurd (omega arith)
-paired on f (a ∷ l) zero (suc j) h w r e = or-left (reached on (f a) l) _ (reached-at on (f a) l j (omega arith) (λ k m. r k (omega arith) (omega arith)) e)
-paired on f (a ∷ l) (suc i) (suc j) h w r e =
-    or-right (reached on (f a) l) _ (paired (λ k. on (suc k)) f l i j (omega arith) (omega arith) (λ k g m. r (suc k) (omega arith) (omega arith)) e)
 
 -- 2
 

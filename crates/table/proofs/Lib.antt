@@ -14,11 +14,11 @@ pub mod Fields
 pub mod Loops
 pub mod Entries
 pub mod Packing
-mod Runs
 mod Causes
 mod Places
 mod Limits
 mod Own
 mod Spelled
 mod Rounds
+mod Runs
 mod Listed
