@@ -149,13 +149,14 @@ def messages():
         n = RECORDS - sets - 4
         yield 'NULLs in a list, each in a CHOICE behind %d nested CHOICEs' % n + within(sets), \
             listed(sets, [(CHOICE, [], [sets + 3, sets + 2]), null] + chain(sets + 3, n), b'\5\0', 7)
-        yield 'SEQUENCEs of eight NULLs in a list, each behind an optional member of %d nested CHOICEs' % n + within(sets), \
-            listed(sets, [plain(SEQUENCE, [(sets + 3, 1), (sets + 2, 0)] * 8), null] + chain(sets + 3, n), b'\x30\x10' + b'\5\0' * 8, 4 + 16 + 24)
         yield 'SETs of 15 NULLs in a list, with an optional member of %d nested CHOICEs' % (n - 14) + within(sets), crowded(sets)
     for sets in (0, 22):
         n = RECORDS - sets - 3
         yield 'empty SEQUENCEs in a list, with an optional member of %d nested CHOICEs' % n + within(sets), \
             listed(sets, [plain(SEQUENCE, [(sets + 2, 1)])] + chain(sets + 2, n), b'\x30\0', 5)
+    n = RECORDS - 5
+    yield 'SEQUENCEs of eight CHOICEs of a NULL in a list, each behind an optional member of %d nested CHOICEs' % n, \
+        listed(0, [plain(SEQUENCE, [(4, 1), (2, 0)] * 8), (CHOICE, [], [3]), null] + chain(4, n), b'\x30\x10' + b'\5\0' * 8, 4 + 16 + 8 * 7)
     deep, beside = 22, RECORDS - 25
     yield 'NULLs in a list, each under 22 CHOICEs, the last with %d nested CHOICEs before it' % beside, \
         listed(0, [(CHOICE, [], [i + 2]) for i in range(deep - 1)] + [(CHOICE, [], [deep + 2, deep + 1]), null] + chain(deep + 2, beside),

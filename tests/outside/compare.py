@@ -81,6 +81,8 @@ PINS = [
     ('pyasn1', 'repeated member', '54 59 11 01 00 00 11 01 01 00 54 59 05 01 00 00 05', 0, '31 04 05 00 05 00', ('no', 26, 4), True),
     ('pyasn1 from 0.5', 'more than 8 length octets', STRINGS, 0, '04 89 00 00 00 00 00 00 00 00 01 55', ('ok',), False),
     ('pyasn1 from 0.5', 'an empty item of indefinite length in a CHOICE', '54 59 32 00 01 01 ' + EMPTY, 0, '30 80 00 00', ('ok',), False),
+    ('pyasn1 from 0.5', 'a mandatory CHOICE that is left out', '54 59 10 01 00 00 10 01 01 00 54 59 32 00 01 02 54 59 01 01 00 00 01', 0,
+     '30 04 01 80 00 00', ('no', 23, 2), True),
     ('pyasn1', 'a SET of indefinite length, last member first',
      '54 59 11 01 00 00 11 02 01 00 02 00 54 59 05 01 02 00 00 54 59 05 01 02 00 01', 0, '31 80 81 00 80 00 00 00', ('ok',), False),
 ]
@@ -124,6 +126,17 @@ def lax_reading(coder, table, t, m, tree):
     return used if mine == tree else None
 
 
+def lacking(records, t, tree):
+    """Whether a tree lacks a mandatory member."""
+    kind, own = tree
+    rules = records[t][2]
+    if kind in model.MEMBERS:
+        return any(not optional if c is None else lacking(records, a, c) for (a, optional), c in zip(rules, own))
+    if kind in model.LISTS:
+        return any(lacking(records, rules[0], c) for c in own)
+    return kind == model.CHOICE and lacking(records, rules[own[0]], own[1])
+
+
 def judged(coder, tally, table, t, m, we, they, damaged):
     """Compares two readings of a message: ours, and ('ok', tree), ('rest', ..) or ('error', ..)."""
     what = coder + (' and we read a damaged message: ' if damaged else ' and we read a permitted encoding: ')
@@ -135,6 +148,8 @@ def judged(coder, tally, table, t, m, we, they, damaged):
         used = lax_reading(coder, table, t, m, they[1])
         if used:
             return tally.add(what + 'explained: ' + ', '.join(sorted(used)))
+        if coder == 'pyasn1' and lacking(model.check(table), t, they[1]):
+            return tally.add(what + 'explained: read by them without a mandatory CHOICE, where an empty item of indefinite length is chosen')
     if we[0] == 'ok' and coder == 'pyasn1' and 'Component not chosen' in str(they[1]):
         return tally.add(what + 'explained: refused by them, an empty item of indefinite length chosen in a CHOICE')
     tally.fault(what + ('other value' if we[0] == they[0] == 'ok' else 'refused by ' + ('us' if we[0] == 'no' else 'them')),
@@ -171,6 +186,17 @@ def write_all(command, made, work, tally):
         if a[0] != 'ok':
             tally.fault('we refuse to write a value', made[i][0], t, model.octets(tree), a, ('ok', tree))
     return answers
+
+
+def verdicts(args, R, tally):
+    """Compares our check of small tables with the model's; no outside coder says where a table is wrong."""
+    tables = [make.rendered(make.small_table(R)) for _ in range(100 * args.tables)]
+    for b, we in zip(tables, ours.run(args.ours, [(ours.CHECK, 0, b, b'') for b in tables])):
+        they = model.checked(b)
+        if we[0] == they[0] == 'ok' or we == they:
+            tally.add('we and the model check a table: %s' % ('passes' if we[0] == 'ok' else 'no %d' % we[1]))
+        else:
+            tally.fault('we and the model check a table', b, 0, b'', we, they)
 
 
 def with_erlang(args, R, tally):
@@ -347,6 +373,7 @@ def main():
     tally = Tally(sys.stdout)
     R = random.Random(args.seed)
     pinned(args, tally)
+    verdicts(args, random.Random(args.seed), tally)
     version, stored = with_erlang(args, R, tally)
     if args.record:
         record(R, args.record, version, stored, args.seed)

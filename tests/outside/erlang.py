@@ -15,10 +15,10 @@ CLASS = ['UNIVERSAL ', 'APPLICATION ', '', 'PRIVATE ']
 def text(module, records):
     """The ASN.1 module of a table: type Tn for record n, and Tn-j below its tag j, since the compiler takes one tag a type.
 
-    Types that reach themselves come first: the compiler codes one wrongly whose first mention is an OF above it."""
+    Types that reach themselves come first, lists before the others: the compiler codes one wrongly whose first mention is an OF above it."""
     lines = [module + ' DEFINITIONS EXPLICIT TAGS ::= BEGIN']
     on_circle = circular(records)
-    for i in sorted(range(len(records)), key=lambda i: (i not in on_circle, i)):
+    for i in sorted(range(len(records)), key=lambda i: (i not in on_circle, records[i][0] not in LISTS, i)):
         kind, tags, own = records[i]
         words = ['T%d ::=' % i]
         for j, (c, n) in enumerate(tags):

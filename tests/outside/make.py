@@ -88,6 +88,26 @@ def repeating_table(R):
     return [(SEQUENCE, [(0, SEQUENCE)], own)] + types
 
 
+def small_table(R):
+    """A few records that name each other and share a few tags: most such tables are refused, by 4, 5 or 6."""
+    n = R.randrange(2, 8)
+    records = []
+    for _ in range(n):
+        kind = R.choice((BOOLEAN, INTEGER, NULL, SEQUENCE, SEQUENCE, SEQUENCE, SET, CHOICE, CHOICE, SEQUENCE_OF))
+        tags = [(2, R.randrange(3))]
+        if R.random() < .7:
+            tags = [] if kind == CHOICE else [(0, OWN_NUMBER[kind])]
+        own = None
+        if kind in MEMBERS:
+            own = [(R.randrange(n), R.choice([0, 1])) for _ in range(R.choice([0, 1, 2, 2, 3, 3, 4, 5, 8]))]
+        elif kind == CHOICE:
+            own = [R.randrange(n) for _ in range(R.choice([1, 1, 2, 2, 3]))]
+        elif kind in LISTS:
+            own = [R.randrange(n)]
+        records.append((kind, tags, own))
+    return records
+
+
 def table(R, recursive=True):
     """The octets and the records of a random table that passes."""
     while True:

@@ -411,14 +411,16 @@ class Reader:
         self.used.add('no item')
         return (kind, None if kind == NULL else []), e
 
-    def passed(self, p, end, indefinite):
-        """Where the contents that begin at p end, whatever items they are: one may begin with 00 too, unless another 00 follows."""
+    def passed(self, p, end, indefinite, inside=True):
+        """Where the contents that begin at p end, whatever items they are: one may begin with 00 too, unless another 00 follows.
+
+        Without `inside`, a constructed item of definite length may hold anything."""
         while indefinite or p < end:
             if indefinite and p + 2 <= end and self.m[p:p + 2] == b'\0\0':
                 return p + 2
             i, q = self.identifier(p, end)
             n, q = self.length(p, q, end, not i[0] & 0x20)
-            p = self.passed(q, end, True) if n is None else self.passed(q, q + n, False) if i[0] & 0x20 else q + n
+            p = self.passed(q, end, True, inside) if n is None else self.passed(q, q + n, False) if inside and i[0] & 0x20 else q + n
         return p
 
     def begins(self, t, at, end):
@@ -527,7 +529,7 @@ class Reader:
             n, p = self.length(at, p, end, not i[0] & 0x20)
             return (kind, ANY), self.passed(p, end, True) if n is None else p + n
         if kind in (BIT_STRING, OCTET_STRING) and self.m[p:p + 1] == b'\x80' and self.may('indefinite primitive'):
-            return (kind, ANY), self.passed(p + 1, end, True)
+            return (kind, ANY), self.passed(p + 1, end, True, False)
         if i != mine:
             raise No(24, at)
         n, p = self.length(at, p, end, kind not in CONSTRUCTED)
