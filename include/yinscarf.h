@@ -37,7 +37,7 @@ enum yinscarf_number {
     YINSCARF_TABLE_NO_RECORD = 2,       /* a record names one that is not there */
     YINSCARF_TABLE_TAG = 3,             /* a tag missing, or a UNIVERSAL tag that is not allowed */
     YINSCARF_TABLE_CHOICE_LOOP = 4,     /* a CHOICE without tags reaches itself through such CHOICEs alone */
-    YINSCARF_TABLE_SHARED_TAG = 5,      /* two members in one run, of a SET any two, or two alternatives share a first tag */
+    YINSCARF_TABLE_SHARED_TAG = 5,      /* two members in one run (of a SET any two) or two alternatives share a first tag */
     YINSCARF_TABLE_NO_VALUE = 6,        /* a record has no finite value */
     YINSCARF_TABLE_NO_TYPE = 7,         /* the type is not in the table */
     /* the value */

@@ -2,7 +2,7 @@
 -- Assumes nothing.
 use mathlib.Core.Bool.{Bool, true, false, not, true≢false, false≢true}
 use mathlib.Core.List.{List, [], _∷_, _++_, map, List·Memᴰ as In, Memᴰ·append-left as in-left, Memᴰ·append-right as in-right}
-use mathlib.Core.Logic.{inl}
+use mathlib.Core.Logic.{_↔_, Iff·rfl, inl}
 use mathlib.Core.Path.{_≡_, refl, sym, ap, _∙_}
 use Prim.Native.Nat.{ℕ, zero, suc, _+_, _-_, _*_, _≤_, _<_}
 use native.Mathlib.Omega.{arith}
@@ -25,12 +25,8 @@ use Rattle.table.proofs.Pieces.{length-every, types-every}
 use Rattle.table.proofs.Entries.{entered-kind, kind-members, entered-members, entered-span}
 
 -- one question, asked of the table's octets and of the record
-pub record Same (A B : Type 0) : Type 0 where
-  pub to : A → B
-  pub back : B → A
-
-pub asked : {A B : Type 0} {r : Bool} → Same A B → (r ≡ true → A) × (r ≡ false → A → ⊥) → (r ≡ true → B) × (r ≡ false → B → ⊥)
-asked s x = (λ e. s .to (x .0 e), λ e y. x .1 e (s .back y))
+pub asked : {A B : Type 0} {r : Bool} → A ↔ B → (r ≡ true → A) × (r ≡ false → A → ⊥) → (r ≡ true → B) × (r ≡ false → B → ⊥)
+asked s x = (λ e. s .0 (x .0 e), λ e y. x .1 e (s .1 y))
 
 -- runs that agree wherever a part stands
 clash-same : {T : Table} {ps : List ℕ} {on to : ℕ → Bool} → ((k : ℕ) → k < length ps → on k ≡ to k) → Clash T ps on → Clash T ps to
@@ -185,10 +181,10 @@ pub record Remaining (b : List ℕ) (from all at left : ℕ) : Type 0 where
   pub near : at + 3 * left ≤ 100000
   pub few : left ≤ 16
   pub there : (a : ℕ) → In a (everyAt 2 b at left) → a < countIn b
-  pub same : Same (Clash (tableIn b) (everyAt 2 b at left) (optionalIn b at)) (Clash (tableIn b) (everyAt 2 b from all) (optionalIn b from))
+  pub same : Clash (tableIn b) (everyAt 2 b at left) (optionalIn b at) ↔ Clash (tableIn b) (everyAt 2 b from all) (optionalIn b from)
 
 pub remaining-all : {b index nodes : List ℕ} {s : Span} → Compares b index nodes s → s .step ≡ 2 → Remaining b (s .first) (s .count) (s .first) (s .count)
-remaining-all x e = record { near = x .near; few = x .few; there = rw e at (x .there); same = record { to = λ c. c; back = λ c. c } }
+remaining-all x e = record { near = x .near; few = x .few; there = rw e at (x .there); same = Iff·rfl }
 
 module _ {b : List ℕ} {from all at left n : ℕ} (x : Remaining b from all at left) (some : 0 < left)
     (e : n ≡ suc (lowest (λ k. not (optionalIn b at k)) (left - 1))) where
@@ -209,7 +205,7 @@ module _ {b : List ℕ} {from all at left n : ℕ} (x : Remaining b from all at 
 
   module _ {r : Bool} (y : let C = Clash (tableIn b) (everyAt 2 b at n) (λ k. true) in (r ≡ true → C) × (r ≡ false → C → ⊥)) where
     pub remaining-clash : r ≡ true → Clash (tableIn b) (everyAt 2 b from all) (optionalIn b from)
-    remaining-clash z = x .same .to (run-clash (tableIn b) b at left n some e (y .0 z))
+    remaining-clash z = x .same .0 (run-clash (tableIn b) b at left n some e (y .0 z))
 
     pub remaining-next : r ≡ false → Remaining b from all (at + 2 * n) (left - n)
     remaining-next z =
@@ -217,14 +213,14 @@ module _ {b : List ℕ} {from all at left n : ℕ} (x : Remaining b from all at 
           near = omega (arith, x .near, its-count .0);
           few = omega (arith, x .few);
           there = λ a i. x .there a (rw (left-split (tableIn b) b at left n some e) (in-right (everyAt 2 b at n) i));
-          same = record {
-            to = λ c. x .same .to (rest-clash (tableIn b) b at left n some e c);
-            back = λ c. clash-rest (tableIn b) b at left n some e (y .1 z) (x .same .back c);
-          };
+          same = (
+            λ c. x .same .0 (rest-clash (tableIn b) b at left n some e c),
+            λ c. clash-rest (tableIn b) b at left n some e (y .1 z) (x .same .1 c),
+          );
         }
 
 pub remaining-none : {b : List ℕ} {from all at left : ℕ} → Remaining b from all at left → left ≤ 0 → Clash (tableIn b) (everyAt 2 b from all) (optionalIn b from) → ⊥
-remaining-none {b} {from} {all} {at} {left} x h c = lone-part 2 b at left (omega (arith, h)) (x .same .back c)
+remaining-none {b} {from} {all} {at} {left} x h c = lone-part 2 b at left (omega (arith, h)) (x .same .1 c)
 
 -- the members' flags in the table
 optional-every : (b : List ℕ) (p n k : ℕ) → k < n → getD (map (λ m. m .optional) (membersAt b p n)) k false ≡ optionalIn b p k
@@ -234,14 +230,14 @@ optional-every b p (suc n) zero h = let q : p + 2 * 0 + 1 ≡ p + 1 = omega arit
 optional-every b p (suc n) (suc k) h = let q : p + 2 + 2 * k + 1 ≡ p + 2 * suc k + 1 = omega arith in optional-every b (p + 2) n k (omega arith) ∙ rw q refl
 
 -- what is named is the parts, of which all are one run but in a SEQUENCE; or one type of elements
-named-clash : (T : Table) (y : Body) → (kind y ≡ 16 → ⊥) → Same (Clash T (references y) (λ k. true)) (Clash T (siblings y) (runsOn y))
+named-clash : (T : Table) (y : Body) → (kind y ≡ 16 → ⊥) → Clash T (references y) (λ k. true) ↔ Clash T (siblings y) (runsOn y)
 unfolding references siblings runsOn kind
-named-clash T (Plain s) h = record { to = clash-same (λ k _. refl); back = clash-same (λ k _. refl) }
+named-clash T (Plain s) h = (clash-same (λ k _. refl), clash-same (λ k _. refl))
 named-clash T (Sequence ms) h = absurd (h refl)
-named-clash T (Set ms) h = record { to = clash-same (λ k _. refl); back = clash-same (λ k _. refl) }
-named-clash T (SequenceOf t) h = record { to = λ x. absurd (lone-clash (t ∷ []) (omega arith) x); back = λ x. absurd (lone-clash [] (omega arith) x) }
-named-clash T (SetOf t) h = record { to = λ x. absurd (lone-clash (t ∷ []) (omega arith) x); back = λ x. absurd (lone-clash [] (omega arith) x) }
-named-clash T (Choice ts) h = record { to = clash-same (λ k _. refl); back = clash-same (λ k _. refl) }
+named-clash T (Set ms) h = (clash-same (λ k _. refl), clash-same (λ k _. refl))
+named-clash T (SequenceOf t) h = (λ x. absurd (lone-clash (t ∷ []) (omega arith) x), λ x. absurd (lone-clash [] (omega arith) x))
+named-clash T (SetOf t) h = (λ x. absurd (lone-clash (t ∷ []) (omega arith) x), λ x. absurd (lone-clash [] (omega arith) x))
+named-clash T (Choice ts) h = (clash-same (λ k _. refl), clash-same (λ k _. refl))
 
 module _ (T : Table) {b : List ℕ} {e : Entry} {r : Record} (x : Entered b e r) where
   abbrev its : Span
@@ -250,7 +246,7 @@ module _ (T : Table) {b : List ℕ} {e : Entry} {r : Record} (x : Entered b e r)
   abbrev Its : Type 0
   Its = Clash T (siblings (r .body)) (runsOn (r .body))
 
-  pub other-clash : (e .kind ≡ 16 → ⊥) → Same (Clash T (everyAt (its .step) b (its .first) (its .count)) (λ k. true)) Its
+  pub other-clash : (e .kind ≡ 16 → ⊥) → Clash T (everyAt (its .step) b (its .first) (its .count)) (λ k. true) ↔ Its
   other-clash h = rw (entered-span x) (named-clash T (r .body) (λ q. h (entered-kind x ∙ q)))
 
   -- a SEQUENCE has its members in the table
@@ -272,7 +268,7 @@ module _ (T : Table) {b : List ℕ} {e : Entry} {r : Record} (x : Entered b e r)
   pub sequence-step : e .kind ≡ 16 → its .step ≡ 2
   sequence-step h = let (ms, q, w) = its-members h in rw (w .span)
 
-  pub sequence-clash : e .kind ≡ 16 → Same (Clash T (everyAt 2 b (its .first) (its .count)) (optionalIn b (its .first))) Its
+  pub sequence-clash : e .kind ≡ 16 → Clash T (everyAt 2 b (its .first) (its .count)) (optionalIn b (its .first)) ↔ Its
   unfolding siblings references runsOn
   sequence-clash h =
       let (ms, q, w) = its-members h in
@@ -281,4 +277,4 @@ module _ (T : Table) {b : List ℕ} {e : Entry} {r : Record} (x : Entered b e r)
       let t : everyAt 2 b p n ≡ map (λ m. m .type) ms = sym (types-every b p n) ∙ ap (map (λ m. m .type)) (w .is) in
       let f : (j : ℕ) → j < length (everyAt 2 b p n) → optionalIn b p j ≡ getD (map (λ m. m .optional) ms) j false =
       λ j l. rw (w .is) at (sym (optional-every b p n j (omega (arith, l, length-every 2 b p n)))) in
-      rw (w .span, q) (record { to = λ c. rw t at (clash-same f c); back = λ c. clash-same (λ j l. sym (f j l)) (rw (← t) at c) })
+      rw (w .span, q) (λ c. rw t at (clash-same f c), λ c. clash-same (λ j l. sym (f j l)) (rw (← t) at c))

@@ -55,20 +55,25 @@ optional-then-mandatory =
       second = outermost [] refl;
     }
 
--- with an optional INTEGER between
-another-between : Refused (Sequence (may 1 ∷ may 2 ∷ must 1 ∷ []))
-unfolding lowestFrom table siblings references runsOn
-another-between =
+-- the same BOOLEAN behind another part, if the run goes on behind both
+behind-another : (b : Body) → siblings b ≡ 1 ∷ 2 ∷ 1 ∷ [] → ((k : ℕ) → k < 2 → runsOn b k ≡ true) → Refused b
+unfolding table
+behind-another b e on =
     record {
       i = 0;
       j = 2;
       apart = omega arith;
-      within = omega arith;
-      one-run = λ k _ l. passes-all (runsOn (Sequence (may 1 ∷ may 2 ∷ must 1 ∷ []))) 2 refl k (omega (arith, l));
+      within = rw e (omega arith);
+      one-run = λ k _ l. on k (omega (arith, l));
       tag = boolean;
-      first = outermost [] refl;
-      second = outermost [] refl;
+      first = rw e (outermost [] refl);
+      second = rw e (outermost [] refl);
     }
+
+-- with an optional INTEGER between
+optional-between : Refused (Sequence (may 1 ∷ may 2 ∷ must 1 ∷ []))
+unfolding lowestFrom siblings references runsOn
+optional-between = behind-another _ refl (passes-all (runsOn (Sequence (may 1 ∷ may 2 ∷ must 1 ∷ []))) 2 refl)
 
 -- the first mandatory: two runs
 two-mandatory : Refused (Sequence (must 1 ∷ must 1 ∷ [])) → ⊥
@@ -79,34 +84,14 @@ mandatory-then-optional : Refused (Sequence (must 1 ∷ may 1 ∷ [])) → ⊥
 unfolding table siblings references runsOn
 mandatory-then-optional x = false≢true (x .one-run 0 (omega (arith, x .apart, x .within)) (omega (arith, x .apart)))
 
--- a SET and a CHOICE have no runs
+-- a SET is one run, and so is a CHOICE
 two-of-a-set : Refused (Set (must 1 ∷ must 2 ∷ must 1 ∷ []))
-unfolding table siblings references runsOn
-two-of-a-set =
-    record {
-      i = 0;
-      j = 2;
-      apart = omega arith;
-      within = omega arith;
-      one-run = λ k _ l. refl;
-      tag = boolean;
-      first = outermost [] refl;
-      second = outermost [] refl;
-    }
+unfolding siblings references runsOn
+two-of-a-set = behind-another _ refl (λ k _. refl)
 
 two-alternatives : Refused (Choice (1 ∷ 2 ∷ 1 ∷ []))
-unfolding table siblings runsOn
-two-alternatives =
-    record {
-      i = 0;
-      j = 2;
-      apart = omega arith;
-      within = omega arith;
-      one-run = λ k _ l. refl;
-      tag = boolean;
-      first = outermost [] refl;
-      second = outermost [] refl;
-    }
+unfolding siblings runsOn
+two-alternatives = behind-another _ refl (λ k _. refl)
 
 -- a place of a list that passes the test, and the run goes on up to it
 record Reached (on : ℕ → Bool) (f : ℕ → Bool) (l : List ℕ) : Type 0 where
