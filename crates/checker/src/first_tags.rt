@@ -1,4 +1,4 @@
-// 4 and 5: a CHOICE without tags that comes back to itself, and first tags that two parts share (FORMATS, "Tables" and "Refusals").
+// 4 and 5: a CHOICE without tags that comes back to itself, and first tags that two parts in one run share (FORMATS, "Tables" and "Refusals").
 ghost use mathlib.Core.Path.{_≡_};
 ghost use mathlib.Core.Bool.{true, false, not};
 ghost use Prim.Native.Nat.{ℕ, suc, _+_, _-_, _*_, _≤_, _<_};
