@@ -103,9 +103,9 @@ def tables():
     """Tables whose check is dear."""
     last = RECORDS - 1
     n = RECORDS // 2 - 2
-    yield '62 SEQUENCEs of eight runs, above 64 CHOICEs without tags, each of the next 16 records', \
+    yield '%d SEQUENCEs of eight runs, above %d CHOICEs without tags, each of the next 16 records' % (n, last - 1 - n), \
         runs(n, [(CHOICE, [], [min(n + i + 1 + k, last - 1) for k in range(16)]) for i in range(last - 1 - n)] + [plain(BOOLEAN)])
-    yield '62 SEQUENCEs of eight runs, above a chain of 64 CHOICEs without tags', runs(n, chain(n, last - 1 - n))
+    yield '%d SEQUENCEs of eight runs, above a chain of %d CHOICEs without tags' % (n, last - 1 - n), runs(n, chain(n, last - 1 - n))
     yield '127 CHOICEs without tags, each of the next 16 records, and a BOOLEAN', \
         [(CHOICE, [], [min(i + 1 + k, last) for k in range(16)]) for i in range(last)] + [plain(BOOLEAN)]
     yield 'a chain of 127 CHOICEs without tags, and a BOOLEAN', chain(0, last)

@@ -1,11 +1,11 @@
 -- The ways through the code that judges circles and shared first tags.
 -- Assumes nothing.
 use mathlib.Core.Bool.{Bool, true, false, not, true≢false, false≢true}
-use mathlib.Core.List.{List, [], _∷_, _++_, append-assoc, append-nil, List·Memᴰ as In, List·Memᴰ·head as first-of, List·Memᴰ·tail as later}
+use mathlib.Core.List.{List, [], _∷_, _++_, append-assoc, append-nil, List·Memᴰ as In, List·Memᴰ·head as first-of}
 use mathlib.Core.List.{List·Memᴰ·not-nil as not-in-nil, List·Memᴰ·eq-of-singleton as in-one, Memᴰ·append-right as in-right}
 use mathlib.Core.Path.{_≡_, refl, sym, ap, _∙_}
-use Prim.Native.Nat.{ℕ, zero, suc, _+_, _-_, _≤_, _<_}
-use native.Mathlib.Nat.{not-suc-le-zero, le-of-suc-le-suc}
+use Prim.Native.Nat.{ℕ, suc, _+_, _-_, _≤_, _<_}
+use native.Mathlib.Nat.{not-suc-le-zero}
 use native.Mathlib.Omega.{arith}
 use lib.Dec.{eqb, ltb, leb}
 use lib.ListN.{length, getD, set, take, length-append, length-map, List·getD-append}
@@ -15,6 +15,7 @@ use Rattle.octets.specs.Lists.{any}
 use Rattle.octets.specs.Numbers.{Octets}
 use Rattle.octets.proofs.Tests.{test}
 use Rattle.octets.proofs.Lists.{both}
+use Rattle.octets.proofs.Members.{place-in}
 use Rattle.table.specs.Syntax.{Tag, Table, Body, Plain, Sequence, Set, SequenceOf, SetOf, Choice, Record, references, constructed}
 use Rattle.table.specs.Octets.{recordShaped, bodyShaped}
 use Rattle.table.specs.Rules.{below, tagsBelow, siblings, Circular, Clash, Sharing}
@@ -36,11 +37,6 @@ use Rattle.table.proofs.Loops.{every-step}
 
 abbrev pub Zero : List ℕ → Type 0
 Zero v = (j : ℕ) → getD v j 0 ≡ 0
-
-pub at-in : (l : List ℕ) (i : ℕ) → i < length l → In (getD l i 0) l
-at-in [] i h = absurd (not-suc-le-zero h)
-at-in (x ∷ l) zero h = first-of refl
-at-in (x ∷ l) (suc i) h = later (at-in l i (le-of-suc-le-suc h))
 
 -- a record that has something below it has no tags
 untagged : (gs : List Tag) (b : Body) (a : ℕ) → In a (tagsBelow gs b) → gs ≡ []
@@ -149,7 +145,7 @@ module _ (T : Table) (n : ℕ) (c : Straight T n) (there : (s a : ℕ) → s < n
           let same : getD ps i 0 ≡ getD (x .past) i 0 = rw (x .whole) (List·getD-append (x .past) (a ∷ rest) 0 i l) in
           let k : i < length ps = omega (arith, l, inside) in
           let (tag, p, q) = share-tag T n c there (y .node) (getD ps i 0) (getD ps (length (x .past)) 0)
-          (named (getD ps i 0) (at-in ps i k)) (named (getD ps (length (x .past)) 0) (at-in ps (length (x .past)) inside))
+          (named (getD ps i 0) (place-in ps i 0 k)) (named (getD ps (length (x .past)) 0) (place-in ps (length (x .past)) 0 inside))
           (rw same g) (rw here (y .hit)) in
           record { i = i; j = length (x .past); apart = l; within = inside; one-run = λ k _ _. refl; tag = tag; first = p; second = q }
 

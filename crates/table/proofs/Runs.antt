@@ -30,8 +30,8 @@ may t = record { type = t; optional = true }
 abbrev must : ℕ → Member
 must t = record { type = t; optional = false }
 
-abbrev Refused : Body → Type 0
-Refused b = Sharing (with b) 0
+abbrev Shares : Body → Type 0
+Shares b = Sharing (with b) 0
 
 abbrev boolean : Tag
 boolean = record { class = 0; number = 1 }
@@ -41,7 +41,7 @@ passes-all : (f : ℕ → Bool) (n : ℕ) → lowest (λ k. not (f k)) n ≡ n �
 passes-all f n e k l = not-false (f k) (upto (λ k. not (f k)) n e k l)
 
 -- the BOOLEAN, optional, and again: one run
-optional-then-mandatory : Refused (Sequence (may 1 ∷ must 1 ∷ []))
+optional-then-mandatory : Shares (Sequence (may 1 ∷ must 1 ∷ []))
 unfolding lowestFrom table siblings references runsOn
 optional-then-mandatory =
     record {
@@ -56,7 +56,7 @@ optional-then-mandatory =
     }
 
 -- the same BOOLEAN behind another part, if the run goes on behind both
-behind-another : (b : Body) → siblings b ≡ 1 ∷ 2 ∷ 1 ∷ [] → ((k : ℕ) → k < 2 → runsOn b k ≡ true) → Refused b
+behind-another : (b : Body) → siblings b ≡ 1 ∷ 2 ∷ 1 ∷ [] → ((k : ℕ) → k < 2 → runsOn b k ≡ true) → Shares b
 unfolding table
 behind-another b e on =
     record {
@@ -71,25 +71,25 @@ behind-another b e on =
     }
 
 -- with an optional INTEGER between
-optional-between : Refused (Sequence (may 1 ∷ may 2 ∷ must 1 ∷ []))
+optional-between : Shares (Sequence (may 1 ∷ may 2 ∷ must 1 ∷ []))
 unfolding lowestFrom siblings references runsOn
 optional-between = behind-another _ refl (passes-all (runsOn (Sequence (may 1 ∷ may 2 ∷ must 1 ∷ []))) 2 refl)
 
 -- the first mandatory: two runs
-two-mandatory : Refused (Sequence (must 1 ∷ must 1 ∷ [])) → ⊥
+two-mandatory : Shares (Sequence (must 1 ∷ must 1 ∷ [])) → ⊥
 unfolding table siblings references runsOn
 two-mandatory x = false≢true (x .one-run 0 (omega (arith, x .apart, x .within)) (omega (arith, x .apart)))
 
-mandatory-then-optional : Refused (Sequence (must 1 ∷ may 1 ∷ [])) → ⊥
+mandatory-then-optional : Shares (Sequence (must 1 ∷ may 1 ∷ [])) → ⊥
 unfolding table siblings references runsOn
 mandatory-then-optional x = false≢true (x .one-run 0 (omega (arith, x .apart, x .within)) (omega (arith, x .apart)))
 
 -- a SET is one run, and so is a CHOICE
-two-of-a-set : Refused (Set (must 1 ∷ must 2 ∷ must 1 ∷ []))
+two-of-a-set : Shares (Set (must 1 ∷ must 2 ∷ must 1 ∷ []))
 unfolding siblings references runsOn
 two-of-a-set = behind-another _ refl (λ k _. refl)
 
-two-alternatives : Refused (Choice (1 ∷ 2 ∷ 1 ∷ []))
+two-alternatives : Shares (Choice (1 ∷ 2 ∷ 1 ∷ []))
 unfolding siblings runsOn
 two-alternatives = behind-another _ refl (λ k _. refl)
 

@@ -65,7 +65,7 @@ firstOfBoth T n a c (g ∷ gs) = found (firstStep T g) n a && found (firstStep T
 unfoldable pub share : Table → ℕ → ℕ → ℕ → Bool
 share T n a c = any (λ u. firstOfBoth T n a c (T u .tags)) (tabulate (λ u. u) 0 n)
 
--- one of the list passes the test, and the run goes on up to it: `on` says of each place whether it does behind that
+-- One of the list passes the test, and the run goes on up to it. `on` says of each part whether it goes on behind that, from the one before the list on.
 unfoldable pub reached : (ℕ → Bool) → (ℕ → Bool) → List ℕ → Bool
 reached on f [] = false
 reached on f (c ∷ l) = on 0 && (f c || reached (λ k. on (suc k)) f l)
