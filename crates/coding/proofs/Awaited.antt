@@ -2,7 +2,7 @@
 -- explicit tag, and in the message.
 -- Assumes nothing.
 use borrow.Author.Tests.{ne-eqb}
-use mathlib.Core.Bool.{Bool, true, false, not, _||_, true≢false}
+use mathlib.Core.Bool.{Bool, true, false, not, _&&_, _||_, true≢false}
 use mathlib.Core.List.{List, [], _∷_, _++_}
 use mathlib.Core.Option.{Option, some, none}
 use mathlib.Core.Path.{_≡_, refl, sym, ap, _∙_}
@@ -16,7 +16,9 @@ use Rattle.octets.proofs.Lists.{same-refl, same-true}
 use Rattle.octets.proofs.Answer.{run}
 use Rattle.octets.proofs.Tests.{test, or-false}
 use Rattle.x690.specs.Reading.{readIdentifier, Size, readLength, Mode, atEnd, readHeader, readConstructed, readPrimitive}
+use Rattle.x690.specs.Segments.{Kind, inParts, inEither, readCarried}
 use Rattle.table.specs.Syntax.{Member, Body, Plain, Sequence, Set, SequenceOf, SetOf, Choice, Table}
+use Rattle.coding.specs.Content.{segmented}
 use Rattle.coding.specs.Value.{Value, leaf}
 use Rattle.coding.specs.Awaited.{further, awaited, notYetRead, anything, Slotted, no-slot, a-slot, GoesOn, an-octet, no-end, begins, beginsItem, beginsBody}
 use Rattle.coding.specs.Reading.{decode, passes, begun, notAwaited, unwanted, full, readWrapped, readSequence, placeMember, readSet, readMany, choose, readKind, readValue, readMessage}
@@ -105,6 +107,24 @@ header-unwanted i s f e = by (readIdentifier s) e
     by (got j u) q = simp (run, same-false i j q)
     by (refused c l) q = refl
 
+-- a string has them with either bit 6
+
+passes-fails : (f g : List ℕ → Bool) (x : Answer (List ℕ)) → ((j : List ℕ) → f j ≡ false → g j ≡ false) → passes f x ≡ false → passes g x ≡ false
+unfolding passes
+passes-fails f g (got j u) h e = h j e
+passes-fails f g (refused c l) h e = refl
+
+primitive-unwanted : (i s : List ℕ) → passes (λ j. same j i) (readIdentifier s) ≡ false → readPrimitive i s ≡ notAwaited s
+unfolding readPrimitive
+primitive-unwanted i s e = header-unwanted i s _ e
+
+carried-unwanted : (k : Option Kind) (i s : List ℕ) → passes (λ j. same j i || (inEither k && same j (inParts i))) (readIdentifier s) ≡ false → readCarried k i s ≡ notAwaited s
+unfolding readCarried
+carried-unwanted none i s e = primitive-unwanted i s (passes-fails _ _ (readIdentifier s) (λ j h. or-false (same j i) _ h .0) e)
+carried-unwanted (some k) i s e =
+    let h = passes-fails _ (same (inParts i)) (readIdentifier s) (λ j h. same-false (inParts i) j (or-false (same j i) _ h .1)) e in
+    simp (run, h) (primitive-unwanted i s (passes-fails _ _ (readIdentifier s) (λ j h. or-false (same j i) _ h .0) e))
+
 -- the alternatives of a CHOICE
 
 any-none : (ts : List ℕ) → any (λ t. false) ts ≡ false
@@ -129,9 +149,9 @@ choose-unwanted T r (t ∷ ts) n s e = let h = or-false (begun T t s) _ e in sim
 module _ (T : Table) (r : ℕ → List ℕ → Answer Value) (i : List ℕ) where
   pub item-unwanted : (is : List (List ℕ)) (b : Body) (s : List ℕ) → passes (λ j. beginsItem (λ a. begins T a j) j is i b) (readIdentifier s) ≡ false
       → readWrapped is (readKind T r i b) s ≡ notAwaited s
-  unfolding readWrapped readKind readConstructed readPrimitive beginsItem beginsBody
+  unfolding readWrapped readKind readConstructed beginsItem beginsBody
   item-unwanted (e ∷ es) b s h = header-unwanted e s _ h
-  item-unwanted [] (Plain k) s h = ap (λ (x : Answer (List ℕ)). then x λ c s₁. then (decode k (length s) c s₁) λ y s₂. got (leaf y) s₂) (header-unwanted i s _ h) ∙ refused-on s _
+  item-unwanted [] (Plain k) s h = ap (λ (x : Answer (List ℕ)). then x λ c s₁. then (decode k (length s) c s₁) λ y s₂. got (leaf y) s₂) (carried-unwanted (segmented k) i s h) ∙ refused-on s _
   item-unwanted [] (Sequence ms) s h = header-unwanted i s _ h
   item-unwanted [] (Set ms) s h = header-unwanted i s _ h
   item-unwanted [] (SequenceOf t) s h = header-unwanted i s _ h

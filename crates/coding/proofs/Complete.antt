@@ -7,7 +7,7 @@ use mathlib.Core.Path.{_≡_, refl, sym, ap, _∙_}
 use native.Mathlib.Nat.{add-zero, zero-add}
 use native.Mathlib.Omega.{arith}
 use Prim.Native.Nat.{ℕ, zero, suc, _+_, _<_}
-use lib.ListN.{length, getD, length-append}
+use lib.ListN.{length, getD}
 use lib.Seq.{append-snoc}
 use Rattle.octets.specs.declared.cause.Cause.the-variants.{NotAwaited, Trailing}
 use Rattle.octets.specs.Answer.{Answer, got, refused, then, if, none-left}
@@ -17,10 +17,11 @@ use Rattle.octets.proofs.Answer.{run, Reads}
 use Rattle.octets.proofs.Permutations.{flat, joined-flat, arranged-each}
 use Rattle.octets.proofs.Tests.{or-by, and-left, and-right}
 use Rattle.x690.specs.Reading.{readIdentifier, Mode, closed, atEnd}
-use Rattle.x690.specs.Item.{Definite, sized, Constructed, in-size, in-marks}
 use Rattle.x690.proofs.Identifiers.{Begun}
-use Rattle.x690.proofs.Items.{Ends, no-more, mark, atEnd-end, atEnd-more, Readable, constructed-complete, primitive-complete}
-use Rattle.table.specs.Syntax.{Member, Body, Sequence, Set, SequenceOf, SetOf, Table, isChoice}
+use Rattle.x690.specs.Segments.{Kind, inParts}
+use Rattle.x690.proofs.Items.{Ends, no-more, mark, atEnd-end, constructed-head, begun-more, begun-longer, Readable, constructed-complete}
+use Rattle.x690.proofs.Segments.{Heading, as-whole, as-parts, carried-complete, carried-begins}
+use Rattle.table.specs.Syntax.{Member, Body, Sequence, Set, SequenceOf, SetOf, Table, isChoice, constructed}
 use Rattle.coding.specs.Value.{Value, leaf, sequence, set, sequenceOf, setOf, choice, slots, bag}
 use Rattle.coding.specs.Tags.{ownTag, explicit}
 use Rattle.coding.specs.Awaited.{types, further, awaited}
@@ -102,13 +103,6 @@ any-proper T good (t ∷ ts) i e = or-by (begins T t i) _ e (good t .first i) (a
 
 no-zero : Proper (0 ∷ []) → ⊥
 no-zero p = let b = proper-begun p in let e : 0 ≡ b .head = ap (λ (l : List ℕ). getD l 0 0) (b .is) in let z = b .not-zero in omega arith
-
--- an item that has begun is no end
-pub begun-more : {A : Type 0} {i m : List ℕ} (rest s : List ℕ) (mode : Mode) (f : List ℕ → Answer A) (x : Unit {0} → Answer A) → Begun i → m ≡ i ++ rest → atEnd mode (m ++ s) f x ≡ x tt
-begun-more rest s mode f x b e = rw (e, b .is) (atEnd-more mode (b .head) ((b .rest ++ rest) ++ s) f x (b .not-zero))
-
-begun-longer : {i m : List ℕ} (rest s : List ℕ) → Begun i → m ≡ i ++ rest → length s < length (m ++ s)
-begun-longer rest s b e = rw (e, b .is) (simp length-append (omega arith))
 
 module _ (o : Order) (T : Table) (good : Good T) (E : Coding) (Q : Value → Value → Type 0) (r : ℕ → List ℕ → Answer Value)
     (begin : (t : ℕ) (v : Value) (m : List ℕ) → E t v m → Starts T t m)
@@ -277,37 +271,33 @@ module _ (o : Order) (T : Table) (good : Good T) (E : Coding) (Q : Value → Val
       let (ws, y, q) = many-complete (suc (length (flat qs tail))) t mode [] tail u es′ (omega arith) z in
       record { value = setOf (bag ws); answer = simp (run, y); alike = same-set-of us c′ q }
 
-  pub kind-complete : (i : List ℕ) (k : Body) {v : Value} {m : List ℕ} (s : List ℕ) → (isChoice k ≡ false → Proper i) → GoodBody T k
+  pub kind-complete : (i : List ℕ) (k : Body) {v : Value} {m : List ℕ} (s : List ℕ) → (isChoice k ≡ false → Proper i) → (constructed k ≡ false → Proper (inParts i)) → GoodBody T k
       → Codes o E i k v m → Reads (Alike o Q) (readKind T r i k) v (m ++ s) s
-  unfolding readKind GoodBody isChoice
-  kind-complete i k {m = m} s g d (is-plain {x = x} c h p) = record {
+  unfolding readKind GoodBody isChoice constructed
+  kind-complete i k {m = m} s g w d (is-plain {x = x} c h p) = record {
     value = leaf x;
     answer = simp (
       run,
-      primitive-complete s (proper-readable
-          (g refl)) p,
+      carried-complete s (proper-readable (g refl)) (proper-readable (w refl)) p,
       content-complete (length (m ++ s)) s h,
     );
     alike = same-leaf;
   }
-  kind-complete i k s g d (is-sequence ps p a f) = constructed-complete _ s (proper-readable (g refl)) (λ mode t u z. at-pieces _ ps t u (sequence-body d p a mode t u z)) f
-  kind-complete i k s g d (is-set ps qs p a c f) = constructed-complete _ s (proper-readable (g refl)) (λ mode t u z. at-pieces _ qs t u (set-body d p a c mode t u z)) f
-  kind-complete i k s g d (is-sequence-of ps es f) = constructed-complete _ s (proper-readable (g refl)) (λ mode t u z. at-pieces _ ps t u (many-body es mode t u z)) f
-  kind-complete i k s g d (is-set-of ps qs es c f) = constructed-complete _ s (proper-readable (g refl)) (λ mode t u z. at-pieces _ qs t u (of-body es c mode t u z)) f
-  kind-complete i k s g d (is-choice {ts = ts} {n = n} a e) =
+  kind-complete i k s g w d (is-sequence ps p a f) = constructed-complete _ s (proper-readable (g refl)) (λ mode t u z. at-pieces _ ps t u (sequence-body d p a mode t u z)) f
+  kind-complete i k s g w d (is-set ps qs p a c f) = constructed-complete _ s (proper-readable (g refl)) (λ mode t u z. at-pieces _ qs t u (set-body d p a c mode t u z)) f
+  kind-complete i k s g w d (is-sequence-of ps es f) = constructed-complete _ s (proper-readable (g refl)) (λ mode t u z. at-pieces _ ps t u (many-body es mode t u z)) f
+  kind-complete i k s g w d (is-set-of ps qs es c f) = constructed-complete _ s (proper-readable (g refl)) (λ mode t u z. at-pieces _ qs t u (of-body es c mode t u z)) f
+  kind-complete i k s g w d (is-choice {ts = ts} {n = n} a e) =
       let (w, x, q) = choose-complete ts 0 s d a e in record { value = choice n w; answer = rw zero-add at x; alike = same-choice q }
 
-definite-head : {i c m : List ℕ} → Definite i c m → (n : List ℕ) × (m ≡ i ++ n)
-definite-head {c = c} (sized ls l e) = (ls ++ c, e)
-
-constructed-head : {i c m : List ℕ} → Constructed i c m → (n : List ℕ) × (m ≡ i ++ n)
-constructed-head (in-size p) = definite-head p
-constructed-head {c = c} (in-marks e) = (128 ∷ (c ++ (0 ∷ 0 ∷ [])), e)
+heading-begun : {i x : List ℕ} {k : Option Kind} → Begun i → Begun (inParts i) → Heading i k x → Begun x
+heading-begun b w (as-whole e) = rw e b
+heading-begun b w (as-parts h e) = rw e w
 
 module _ (o : Order) (T : Table) (E : Coding) (begin : (t : ℕ) (v : Value) (m : List ℕ) → E t v m → Starts T t m) where
   kind-starts : (i : List ℕ) (k : Body) {v : Value} {m : List ℕ} → Codes o E i k v m → (x : List ℕ) × (n : List ℕ) × (m ≡ x ++ n) × Begins T [] i k x
   unfolding Begins
-  kind-starts i k (is-plain c x p) = let (n, h) = definite-head p in (i, n, h, refl)
+  kind-starts i k (is-plain c x p) = carried-begins p
   kind-starts i k (is-sequence ps p a f) = let (n, h) = constructed-head f in (i, n, h, refl)
   kind-starts i k (is-set ps qs p a c f) = let (n, h) = constructed-head f in (i, n, h, refl)
   kind-starts i k (is-sequence-of ps es f) = let (n, h) = constructed-head f in (i, n, h, refl)
@@ -315,14 +305,14 @@ module _ (o : Order) (T : Table) (E : Coding) (begin : (t : ℕ) (v : Value) (m 
   kind-starts i k (is-choice {ts = ts} {t = t} a c) = let x = at-starts a (begin t _ _ c) in (x .ident, x .rest, x .is, x .begins)
 
   -- identifier octets of an item that is no end stand first
-  kind-opened : Good T → (i : List ℕ) (k : Body) {v : Value} {m : List ℕ} → (isChoice k ≡ false → Proper i) → Codes o E i k v m → (x : List ℕ) × (n : List ℕ) × (m ≡ x ++ n) × Begun x
-  unfolding isChoice
-  kind-opened good i k g (is-plain c x p) = let (n, h) = definite-head p in (i, n, h, proper-begun (g refl))
-  kind-opened good i k g (is-sequence ps p a f) = let (n, h) = constructed-head f in (i, n, h, proper-begun (g refl))
-  kind-opened good i k g (is-set ps qs p a c f) = let (n, h) = constructed-head f in (i, n, h, proper-begun (g refl))
-  kind-opened good i k g (is-sequence-of ps es f) = let (n, h) = constructed-head f in (i, n, h, proper-begun (g refl))
-  kind-opened good i k g (is-set-of ps qs es c f) = let (n, h) = constructed-head f in (i, n, h, proper-begun (g refl))
-  kind-opened good i k g (is-choice {ts = ts} {t = t} a c) = let x = at-starts a (begin t _ _ c) in (x .ident, x .rest, x .is, proper-begun (any-proper T good ts (x .ident) (x .begins)))
+  kind-opened : Good T → (i : List ℕ) (k : Body) {v : Value} {m : List ℕ} → (isChoice k ≡ false → Proper i) → (constructed k ≡ false → Proper (inParts i)) → Codes o E i k v m → (x : List ℕ) × (n : List ℕ) × (m ≡ x ++ n) × Begun x
+  unfolding isChoice constructed
+  kind-opened good i k g w (is-plain c x p) = let (y, n, e, h) = carried-begins p in (y, n, e, heading-begun (proper-begun (g refl)) (proper-begun (w refl)) h)
+  kind-opened good i k g w (is-sequence ps p a f) = let (n, h) = constructed-head f in (i, n, h, proper-begun (g refl))
+  kind-opened good i k g w (is-set ps qs p a c f) = let (n, h) = constructed-head f in (i, n, h, proper-begun (g refl))
+  kind-opened good i k g w (is-sequence-of ps es f) = let (n, h) = constructed-head f in (i, n, h, proper-begun (g refl))
+  kind-opened good i k g w (is-set-of ps qs es c f) = let (n, h) = constructed-head f in (i, n, h, proper-begun (g refl))
+  kind-opened good i k g w (is-choice {ts = ts} {t = t} a c) = let x = at-starts a (begin t _ _ c) in (x .ident, x .rest, x .is, proper-begun (any-proper T good ts (x .ident) (x .begins)))
 
 wrapped-starts : (T : Table) {C X : List ℕ → Type 0} {m : List ℕ} (es : List (List ℕ)) (o : List ℕ) (b : Body) → ((i : List ℕ) → Begins T es o b i → X i)
     → ((m : List ℕ) → C m → (i : List ℕ) × (n : List ℕ) × (m ≡ i ++ n) × Begins T [] o b i) → Wrapped C es m → (i : List ℕ) × (n : List ℕ) × (m ≡ i ++ n) × X i
@@ -363,8 +353,8 @@ value-complete o T good zero t v m s e = absurd e
 value-complete o T good (suc n) t v m s e =
     let x = wrapped-complete _
     (λ c u. kind-complete o T good (EncodesAt o T n) (EquivalentAt o n) (λ u w. readValue T n u w) (starts-at o T good n)
-    (value-complete o T good n) (ownTag (T t)) (T t .body) u (good t .item) (good t .apart))
-    (λ c. kind-opened o T (EncodesAt o T n) (starts-at o T good n) good (ownTag (T t)) (T t .body) (good t .item)) s (good t .inner) e in
+    (value-complete o T good n) (ownTag (T t)) (T t .body) u (good t .item) (good t .parts) (good t .apart))
+    (λ c. kind-opened o T (EncodesAt o T n) (starts-at o T good n) good (ownTag (T t)) (T t .body) (good t .item) (good t .parts)) s (good t .inner) e in
     record { value = x .value; answer = x .answer; alike = x .alike }
 
 -- what begins as a type does is not empty

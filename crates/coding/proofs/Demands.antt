@@ -22,8 +22,8 @@ use Rattle.table.specs.declared.Verdict.{Verdict}
 use Rattle.table.specs.declared.Verdict.the-variants.{Passed, Refused}
 use Rattle.table.proofs.Promises.{cause-low}
 use Rattle.table.proofs.Theorems.{rules-kept, named-first, first-named, passed-none, none-passed}
-use Rattle.coding.specs.Value.{Value, octets, depth}
-use Rattle.coding.specs.Encodes.{Encodes}
+use Rattle.coding.specs.Value.{Leaf, Value, leaf, octets, depth}
+use Rattle.coding.specs.Encodes.{Encodes, Arrives}
 use Rattle.coding.specs.Typed.{WellTyped}
 use Rattle.coding.specs.Shaped.{Shaped}
 use Rattle.coding.specs.Judging.{judgeWhole}
@@ -33,8 +33,9 @@ use Rattle.coding.specs.Demands.{Accepted, NoSuchType, OfType, MessageRe
 use Rattle.coding.proofs.FirstTags.{Good, good}
 use Rattle.coding.proofs.Levels.{retype}
 use Rattle.coding.proofs.Judging.{judge-octets}
+use Rattle.coding.proofs.Messages.{accepts-as-given, accepts-a-leaf}
 use Rattle.coding.proofs.Shaped.{Limited, limited, encodes-shaped}
-use Rattle.coding.proofs.Outcomes.{Beyond, reading, writing, long-exactly, refused-exactly, lacks-exactly, read-exactly, received, read-beyond}
+use Rattle.coding.proofs.Outcomes.{Beyond, reading, writing, long-exactly, refused-exactly, lacks-exactly, read-exactly, received, read-alike, read-beyond}
 use Rattle.coding.proofs.Outcomes.{read-unchanged, read-stage, read-never-value, write-stage, write-never-message, judged-exactly}
 use Rattle.coding.proofs.Outcomes.{full-exactly, written-exactly, sent, write-beyond, write-unchanged, done≢refusal, message-beyond}
 use Rattle.coding.proofs.Outcomes.{value-beyond, done-beyond, staged-by, read-staged, write-staged}
@@ -218,6 +219,24 @@ module _ (b : List ℕ) (o : Octets b) (rs : List Record) (a : Accepted b rs) (t
       → length (octets v) ≤ length buf → Received (table rs) t v m buf (wholeRead b t m buf)
   what-was-sent-arrives v m buf d l p e h k =
       subst (λ (x : Outcome). Received (table rs) t v m buf x) (sym (read-found m buf)) (received (table rs) t m buf p (good-of o a) (limits-of o a) v d l e h k)
+
+  -- Demand 3: however a value is sent, with strings whole or in segments, the lengths in any form and the members of SETs in any order, every
+  -- buffer gets the same.
+  pub however-it-is-sent : (v : Value) (m n buf : List ℕ) → depth v ≤ levels → Arrives (table rs) t v m → Arrives (table rs) t v n → length m ≤ longestMessage → length n ≤ longestMessage
+      → wholeRead b t m buf ≡ wholeRead b t n buf
+  however-it-is-sent v m n buf d e f h k =
+      read-found m buf
+      ∙ read-alike (table rs) t m buf v n h k (accepts-as-given (table rs) (good-of o a) levels t v m e d) (accepts-as-given (table rs) (good-of o a) levels t v n f d)
+      ∙ sym (read-found n buf)
+
+  -- Of a simple value alone, so of a string: any two permitted encodings.
+  pub however-a-string-is-sent : (x : Leaf) (m n buf : List ℕ) → Encodes (table rs) t (leaf x) m → Encodes (table rs) t (leaf x) n → length m ≤ longestMessage → length n ≤ longestMessage
+      → wholeRead b t m buf ≡ wholeRead b t n buf
+  unfolding depth
+  however-a-string-is-sent x m n buf e f h k =
+      read-found m buf
+      ∙ read-alike (table rs) t m buf (leaf x) n h k (accepts-a-leaf (table rs) (good-of o a) levels t x m e (omega arith)) (accepts-a-leaf (table rs) (good-of o a) levels t x n f (omega arith))
+      ∙ sym (read-found n buf)
 
   -- Demand 3, the sender.
   pub what-is-sent-is-permitted : (v : Value) (buf : List ℕ) → WellTyped (table rs) t v → depth v ≤ levels → Shaped v → length (octets v) ≤ longestValue

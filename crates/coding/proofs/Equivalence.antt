@@ -128,6 +128,12 @@ equivalent-up o zero k v w l h = absurd h
 equivalent-up o (suc n) zero v w l h = absurd (omega arith)
 equivalent-up o (suc n) (suc k) v w l h = alike-map (λ a b. equivalent-up o n k a b (omega arith)) h
 
+-- a leaf is equivalent to itself alone
+pub equivalent-leaf : (o : Order) (n : ℕ) (x : Leaf) (w : Value) → EquivalentAt o n (leaf x) w → w ≡ leaf x
+unfolding EquivalentAt
+equivalent-leaf o zero x w h = absurd h
+equivalent-leaf o (suc n) x w h = from-leaf h
+
 -- in the order that is given, equivalent values are equal
 
 each-equal : {A : Type 0} {Q : A → A → Type 0} {l r : List A} → ((a b : A) → Q a b → a ≡ b) → Each Q l r → l ≡ r

@@ -1,5 +1,5 @@
 -- Document 01's examples in one table that one fact covers: what the definitions answer to octets, and what the lent buffer then holds.
--- The rows that the paper marks come first, then a row or more for each refusal. Quoted words are sections of docs/FORMATS.md.
+-- The rows that the paper marks come first, then a row or more for each refusal, then strings in segments. Quoted words are sections of docs/FORMATS.md.
 -- Assumes nothing.
 use mathlib.Core.Bool.{Bool, true, false}
 use mathlib.Core.List.{List, [], _∷_, _++_}
@@ -14,6 +14,7 @@ use Rattle.x690.specs.Item.{item}
 use Rattle.x690.specs.Integer.{negative, pile, integerOf, spare, minimal, eight, fewest}
 use Rattle.x690.specs.BitString.{unused, masked}
 use Rattle.x690.specs.Reading.{readFollowing, readIdentifier, fit, readLong, readLength, atEnd, readHeader, inside, readConstructed, contents, readPrimitive}
+use Rattle.x690.specs.Segments.{segmentTag, inParts, empty, join, inForm, whole, readJoined, readSegment, readCarried}
 use Rattle.table.specs.Syntax.{references, isChoice, universal, constructed}
 use Rattle.table.specs.Octets.{kind, rising}
 use Rattle.table.specs.Rules.{bodyBelow, tagsBelow, siblings, runsOn, members}
@@ -22,7 +23,7 @@ use Rattle.table.specs.Decide.{round, rounds, found, dangling, wrongTags, reach
 use Rattle.table.specs.Decide.{share, reached, pair, sharing, finiteBody, finiteStep, infinite}
 use Rattle.table.specs.Verdict.{judgeChoices, judge, verdict}
 use Rattle.coding.specs.Value.{slots, bag, leafOctets, count, presence, octets}
-use Rattle.coding.specs.Content.{listed}
+use Rattle.coding.specs.Content.{listed, segmented}
 use Rattle.coding.specs.Tags.{identifierOf, last, before, explicitTags, ownTag, explicit}
 use Rattle.coding.specs.Encodes.{allowed}
 use Rattle.coding.specs.Form.{encode, element, alternatives, formMembers, formElements, formBody, wrap, formAt}
@@ -60,6 +61,10 @@ T = hex 0x54_59_03_01_00_00_03
 
 abbrev O : List ℕ
 O = hex 0x54_59_04_01_00_00_04
+
+-- a list of a CHOICE without tags of this list and an OCTET STRING
+abbrev tree : List ℕ
+tree = hex 0x54_59_30_01_00_00_10_01_54_59_32_00_02_00_02 ++ O
 
 -- B, I, and as record 2 a SEQUENCE: of each member its record, and 1 if it is optional
 abbrev sequence : List ℕ → List ℕ
@@ -229,16 +234,42 @@ examples =
     ∷ reads L 0 (times 25 (hex 0x30_80)) (no 28 48)
     ∷ reads (hex 0x54_59_30_01_00_00_10_01_54_59_32_00_02_00_02_54_59_05_01_00_00_05) 0 (times 12 (hex 0x30_80) ++ hex 0x05) (no 28 24)
     ∷ reads L 0 (times 24 (hex 0x30_80) ++ replicate 48 0) (ok (nested 23))
+    -- "Messages", strings in segments: four deep, and no fifth; cut, and of no segment; joined in order, the unused bits of the last one cleared
+    ∷ reads O 0 (times 4 (hex 0x24_80) ++ hex 0x04_01_AA ++ replicate 8 0) (ok (hex 0x56_41_04_00_01_AA))
+    ∷ reads O 0 (times 5 (hex 0x24_80) ++ hex 0x04_01_AA ++ replicate 10 0) (no 28 10)
+    ∷ reads O 0 (hex 0x24) (no 22 0)
+    ∷ reads O 0 (hex 0x24_00) (ok (hex 0x56_41_04_00_00))
+    ∷ reads T 0 (hex 0x23_80_00_00) (ok (hex 0x56_41_03_00_00))
+    ∷ reads O 0 (hex 0x24_06_04_01_AA_04_01_BB) (ok (hex 0x56_41_04_00_02_AA_BB))
+    ∷ reads T 0 (hex 0x23_09_03_02_00_0A_03_03_04_3B_F5) (ok (hex 0x56_41_03_00_14_0A_3B_F0))
+    -- segments have the UNIVERSAL tag of the kind, whatever tag the string has
+    ∷ reads (hex 0x54_59_04_01_02_00_00) 0 (hex 0xA0_03_04_01_AA) (ok (hex 0x56_41_04_00_01_AA))
+    ∷ reads (hex 0x54_59_04_01_02_00_00) 0 (hex 0xA0_03_80_01_AA) (no 24 2)
+    -- unused bits before a further segment, once its identifier is found awaited; in the last one they may be, deeper too; a bad segment
+    ∷ reads T 0 (hex 0x23_05_03_02_04_F0_03) (no 25 2)
+    ∷ reads T 0 (hex 0x23_05_03_02_04_F0_04) (no 24 6)
+    ∷ reads T 0 (hex 0x23_05_03_02_04_F0_1F) (no 22 6)
+    ∷ reads T 0 (hex 0x23_0A_23_04_03_02_04_F0_03_02_00_AA) (no 25 4)
+    ∷ reads T 0 (hex 0x23_06_23_04_03_02_04_F0) (ok (hex 0x56_41_03_00_04_F0))
+    ∷ reads T 0 (hex 0x23_02_03_00) (no 25 2)
+    -- under an explicit tag; in a SEQUENCE behind an optional member; in a CHOICE without tags; on level 24
+    ∷ reads (hex 0x54_59_04_02_02_00_00_00_00_04) 0 (hex 0xA0_80_24_80_04_01_AA_00_00_00_00) (ok (hex 0x56_41_04_00_01_AA))
+    ∷ reads (B ++ O ++ hex 0x54_59_10_01_00_00_10_02_00_01_01_00) 2 (hex 0x30_05_24_03_04_01_AA) (ok (hex 0x56_41_10_02_00_01_56_41_04_00_01_AA))
+    ∷ reads (O ++ T ++ hex 0x54_59_32_00_02_00_01) 2 (hex 0x23_04_03_02_04_FF) (ok (hex 0x56_41_32_01_56_41_03_00_04_F0))
+    ∷ reads tree 1 (times 11 (hex 0x30_80) ++ times 4 (hex 0x24_80) ++ hex 0x04_01_AA ++ replicate 30 0) (ok (times 11 (hex 0x56_41_32_00_56_41_30_00_01) ++ hex 0x56_41_32_01_56_41_04_00_01_AA))
+    -- the other kinds have none
+    ∷ reads B 0 (hex 0x21_03_04_01_FF) (no 24 0)
+    ∷ reads (hex 0x54_59_05_01_00_00_05) 0 (hex 0x25_00) (no 24 0)
     ∷ []
 
 -- every row comes out as it is said
 pub examples-right : wrong 0 examples ≡ []
 unfolding if then behind none-left any all joined tabulate lowestFrom same leading following identifier unsigned digits lengthOctets item negative pile
     integerOf spare minimal eight fewest unused masked readFollowing readIdentifier fit readLong readLength atEnd readHeader inside readConstructed
-    contents readPrimitive references isChoice universal constructed kind rising bodyBelow tagsBelow siblings runsOn members tagsAt numbersAt membersAt everyAt
+    contents readPrimitive segmentTag inParts empty join inForm whole readJoined readSegment readCarried references isChoice universal constructed kind rising bodyBelow tagsBelow siblings runsOn members tagsAt numbersAt membersAt everyAt
     bodyAt recordAt countedEnd enumeratedEnd membersEnd ownEnd recordEnd scanFrom scan look round rounds found dangling wrongTags reachStep circular
     sameTag tagBegins firstStep firstOfBoth share reached pair sharing finiteBody finiteStep infinite judgeChoices judge verdict slots bag leafOctets count
-    presence octets listed identifierOf last before explicitTags ownTag explicit allowed encode element alternatives formMembers formElements formBody
+    presence octets listed segmented identifierOf last before explicitTags ownTag explicit allowed encode element alternatives formMembers formElements formBody
     wrap formAt need flags ownMembers ownCount ownBoolean ownInteger ownString ownBits ownEnumerated ownChoice readOwn readNode leafKind nodeKind
     numbers leafAgrees agreeing counts agrees judgeMembers judgeElements judgeBelow judgeValue judgeWhole beginsBody beginsItem beginsIn begins
     isListed decode passes begun notAwaited nothing full unwanted readWrapped readSequence placeMember readSet readMany choose readBody readKind readValue

@@ -1,25 +1,29 @@
 -- What a table that passes gives to reading: first tags tell apart what is awaited together, and no item begins as an end does.
 -- Assumes nothing.
 use borrow.Author.Tests.{ltb-true, ltb-false}
-use mathlib.Core.Bool.{Bool, true, false, _||_, false≢true, true≢false}
+use mathlib.Core.Bool.{Bool, true, false, _&&_, _||_, false≢true, true≢false}
 use mathlib.Core.List.{List, [], _∷_, _++_, map, List·Memᴰ as In, List·Memᴰ·head, List·Memᴰ·tail, List·Memᴰ·not-nil}
+use mathlib.Core.Option.{Option}
 use mathlib.Core.Path.{_≡_, refl, sym, ap, subst, _∙_}
 use native.Mathlib.Omega.{arith}
 use Prim.Native.Nat.{ℕ, zero, suc, _≤_, _<_}
 use lib.Dec.{ltb}
 use lib.ListN.{length, getD}
 use lib.Seq.{append-snoc}
-use Rattle.octets.specs.Lists.{any}
+use Rattle.octets.specs.Lists.{any, same}
 use Rattle.octets.specs.Permutations.{Every, every-nil, every-cons}
-use Rattle.octets.proofs.Tests.{test, or-by}
+use Rattle.octets.proofs.Tests.{test, and-right, or-by}
 use Rattle.octets.proofs.Search.{passes-later, passes-longer}
 use Rattle.octets.proofs.Lists.{same-refl, same-true}
 use Rattle.x690.proofs.Identifiers.{identifier-complete, identifier-tag, identifier-begun, Begun}
+use Rattle.x690.specs.Segments.{Kind, inParts, inEither}
 use Rattle.x690.proofs.Items.{Readable}
+use Rattle.x690.proofs.Segments.{Heading, as-whole, as-parts, parts-identifier}
 use Rattle.table.specs.Syntax.{Tag, Member, Simple, Boolean, Integer, BitString, OctetString, Null, Enumerated, Body, Plain, Sequence, Set}
 use Rattle.table.specs.Syntax.{SequenceOf, SetOf, Choice, Record, Table, absent, references, isChoice, universal, constructed}
 use Rattle.table.specs.Rules.{Mistagged, missing, not-last, not-its-number, on-choice, bodyBelow, tagsBelow, below, First, outermost, inside, siblings, runsOn, Sharing}
 use Rattle.table.specs.Passes.{Nested, Passes}
+use Rattle.coding.specs.Content.{segmented}
 use Rattle.coding.specs.Awaited.{types, awaited}
 use Rattle.coding.specs.Tags.{identifierOf, last, before, explicitTags, ownTag, explicit}
 use Rattle.coding.specs.Awaited.{beginsBody, beginsItem, beginsIn, begins}
@@ -64,7 +68,7 @@ proper-begun p = rw (p .is) (identifier-begun (p .tag .class) (p .bit) (p .tag .
 -- with what the encodings of a kind begin
 unfoldable pub Begins : Table → List (List ℕ) → List ℕ → Body → List ℕ → Type 0
 Begins T [] o (Choice ts) i = beginsAny T i ts ≡ true
-Begins T [] o (Plain k) i = i ≡ o
+Begins T [] o (Plain k) i = Heading o (segmented k) i
 Begins T [] o (Sequence ms) i = i ≡ o
 Begins T [] o (Set ms) i = i ≡ o
 Begins T [] o (SequenceOf t) i = i ≡ o
@@ -77,6 +81,7 @@ pub record GoodRecord (T : Table) (t : ℕ) : Type 0 where
   pub begin : (i : List ℕ) → Begins T (explicit (T t)) (ownTag (T t)) (T t .body) i → begins T t i ≡ true
   pub inner : Every Proper (explicit (T t))
   pub item : isChoice (T t .body) ≡ false → Proper (ownTag (T t))
+  pub parts : constructed (T t .body) ≡ false → Proper (inParts (ownTag (T t)))
   pub first : (i : List ℕ) → begins T t i ≡ true → Proper i
 
 abbrev pub Good : Table → Type 0
@@ -120,6 +125,11 @@ any-found f (t ∷ ts) e =
     (λ x. let y = any-found f ts x in let h = y .within in
     record { element = y .element; among = List·Memᴰ·tail (y .among); passes = y .passes; place = suc (y .place); within = omega arith; there = y .there })
 
+-- the constructed form of a tag's identifier octets
+parts-of : (g : Tag) → inParts (identifierOf false g) ≡ identifierOf true g
+unfolding identifierOf
+parts-of g = parts-identifier (g .class) (g .number)
+
 -- why identifier octets begin a record
 
 data Shown (f : ℕ → Bool) (i : List ℕ) (gs : List Tag) (b : Body) : Type 0 where
@@ -130,7 +140,9 @@ shown : (f : ℕ → Bool) (i : List ℕ) (gs : List Tag) (b : Body) → (gs ≡
     → beginsItem f i (map (identifierOf true) (explicitTags b gs)) (identifierOf (constructed b) (last b gs)) b ≡ true → Shown f i gs b
 unfolding beginsItem beginsBody explicitTags before last constructed isChoice
 shown f i [] (Plain k) ok e = absurd (false≢true (ok refl))
-shown f i (g ∷ []) (Plain k) ok e = by-tag g [] false refl (same-true i _ e)
+shown f i (g ∷ []) (Plain k) ok e =
+    or-by (same i (identifierOf false g)) _ e (λ h. by-tag g [] false refl (same-true i _ h))
+    λ h. by-tag g [] true refl (same-true i _ (and-right (inEither (segmented k)) _ h) ∙ parts-of g)
 shown f i (g ∷ h ∷ gs) (Plain k) ok e = by-tag g (h ∷ gs) true refl (same-true i _ e)
 shown f i [] (Sequence ms) ok e = absurd (false≢true (ok refl))
 shown f i (g ∷ []) (Sequence ms) ok e = by-tag g [] true refl (same-true i _ e)
@@ -159,11 +171,15 @@ item-mono f g i [] o (SetOf t) h e = e
 item-mono f g i [] o (Choice ts) h e = any-mono f g ts (h ts refl refl) e
 item-mono f g i (x ∷ es) o b h e = e
 
+heading-begins : {i o : List ℕ} {k : Option Kind} → Heading o k i → (same i o || (inEither k && same i (inParts o))) ≡ true
+heading-begins {o = o} (as-whole e) = rw e (or-left (same o o) _ (same-refl o))
+heading-begins {i = i} {o = o} (as-parts h e) = or-right (same i o) _ (rw (h, e) (same-refl (inParts o)))
+
 item-begins : (T : Table) (f : ℕ → Bool) (i : List ℕ) (es : List (List ℕ)) (o : List ℕ) (b : Body)
     → ((ts : List ℕ) → es ≡ [] → b ≡ Choice ts → (u : ℕ) → In u ts → begins T u i ≡ true → f u ≡ true)
     → Begins T es o b i → beginsItem f i es o b ≡ true
 unfolding beginsItem beginsBody Begins
-item-begins T f i [] o (Plain k) h e = rw e (same-refl o)
+item-begins T f i [] o (Plain k) h e = heading-begins e
 item-begins T f i [] o (Sequence ms) h e = rw e (same-refl o)
 item-begins T f i [] o (Set ms) h e = rw e (same-refl o)
 item-begins T f i [] o (SequenceOf t) h e = rw e (same-refl o)
@@ -246,6 +262,18 @@ tag-real r f g rest e true k c z = f (on-choice g (rw e (List·Memᴰ·head refl
 tag-real r f g [] e false k c z = f (not-its-number [] g e c (λ q. universal-some (r .body) k (sym q ∙ z)))
 tag-real r f g (h ∷ rest) e false k c z = f (not-last [] rest g h e c)
 
+not-choice : (b : Body) → constructed b ≡ false → isChoice b ≡ false
+unfolding constructed isChoice
+not-choice (Plain k) e = refl
+not-choice (Sequence ms) e = absurd (true≢false e)
+not-choice (Set ms) e = absurd (true≢false e)
+not-choice (SequenceOf t) e = absurd (true≢false e)
+not-choice (SetOf t) e = absurd (true≢false e)
+not-choice (Choice ts) e = absurd (true≢false e)
+
+own-number : (r : Record) → (Mistagged r → ⊥) → isChoice (r .body) ≡ false → last (r .body) (r .tags) .class ≡ 0 → last (r .body) (r .tags) .number ≡ 0 → ⊥
+own-number r f k = last-real (r .body) (universal-some (r .body) k) [] (r .tags) (λ bf g e c q. f (not-its-number bf g e c q))
+
 own-real : (r : Record) → (Mistagged r → ⊥) → isChoice (r .body) ≡ false → Proper (ownTag r)
 unfolding ownTag
 own-real r f k =
@@ -253,9 +281,14 @@ own-real r f k =
       tag = last (r .body) (r .tags);
       bit = constructed (r .body);
       is = refl;
-      real = last-real (r .body) (universal-some (r .body) k) []
-          (r .tags) (λ bf g e c q. f (not-its-number bf g e c q));
+      real = own-number r f k;
     }
+
+own-parts : (r : Record) → (Mistagged r → ⊥) → constructed (r .body) ≡ false → Proper (inParts (ownTag r))
+unfolding ownTag
+own-parts r f k =
+    let g = last (r .body) (r .tags) in
+    record { tag = g; bit = true; is = ap (λ (b : Bool). inParts (identifierOf b g)) k ∙ parts-of g; real = own-number r f (not-choice (r .body) k) }
 
 -- a number without a record breaks no rule
 
@@ -440,5 +473,6 @@ module _ (b : List ℕ) (T : Table) (n : ℕ) (p : Passes b T n) where
         begin = begin-all t;
         inner = body-inner (T t .tags) (T t .body) (tagged-all t);
         item = own-real (T t) (tagged-all t);
+        parts = own-parts (T t) (tagged-all t);
         first = λ i e. let x = named 129 t i e in record { tag = x .tag; bit = x .bit; is = x .is; real = x .real };
       }

@@ -11,6 +11,7 @@ use Rattle.octets.specs.Permutations.{Each, nil, cons, Every, every-nil, every-
 use Rattle.octets.proofs.Permutations.{Perm·refl, arranged-refl}
 use Rattle.x690.specs.Item.{in-size}
 use Rattle.x690.proofs.Items.{Short, item-content, item-definite}
+use Rattle.x690.specs.Segments.{in-whole}
 use Rattle.table.specs.Syntax.{Member, Body, Table}
 use Rattle.table.specs.Rules.{members}
 use Rattle.coding.specs.Value.{Value, slots, bag}
@@ -44,7 +45,7 @@ module _ (o : Order) (W : ℕ → Value → Type 0) (E : Coding) (w : ℕ → Va
 
   kind-written : (i : List ℕ) (k : Body) {v : Value} → Typed W k v → Short (formBody w i k v) → Codes o E i k v (formBody w i k v)
   unfolding formBody members element alternatives
-  kind-written i k (t-plain {x = x} l) h = is-plain (encode x) (encode-content l) (item-definite i _ h)
+  kind-written i k (t-plain {x = x} l) h = is-plain (encode x) (encode-content l) (in-whole (item-definite i _ h))
   kind-written i k (t-sequence f a) h = is-sequence _ (fits-written f (item-content i _ h)) a (in-size (item-definite i _ h))
   kind-written i k (t-set f a) h = is-set _ _ (fits-written f (item-content i _ h)) a (Perm·refl _) (in-size (item-definite i _ h))
   kind-written i k (t-sequence-of f) h = is-sequence-of _ (all-written f (item-content i _ h)) (in-size (item-definite i _ h))

@@ -6,7 +6,8 @@ use native.Mathlib.Omega.{arith}
 use Prim.Native.Nat.{ℕ, zero, suc, _≤_}
 use Rattle.octets.specs.Permutations.{Each, nil, cons, Every, every-nil, every-cons, AllOctets, Order, any-order, permuted}
 use Rattle.octets.proofs.Permutations.{every-perm, joined-octets, arranged-perm}
-use Rattle.x690.proofs.Items.{definite-octets, constructed-octets}
+use Rattle.x690.proofs.Items.{constructed-octets}
+use Rattle.x690.proofs.Segments.{carried-octets}
 use Rattle.table.specs.Syntax.{Member, Body, Table}
 use Rattle.coding.specs.Value.{Value, leaf, sequence, set, sequenceOf, setOf, choice, slots, bag, depth, depths}
 use Rattle.coding.specs.Encodes.{Coding, Pieces, done, left, sent, Codes, is-plain, is-sequence, is-set, is-sequence-of, is-set-of, is-choice, Wrapped, bare, tagged, EncodesAt}
@@ -56,7 +57,7 @@ module _ {E : Coding} {W : ℕ → Value → Type 0} (typed : (t : ℕ) (v : Val
   each-typed (every-cons h o) (cons e es) = every-cons (typed _ _ _ h e) (each-typed o es)
 
   codes-typed : {o : Order} {i : List ℕ} {k : Body} {v : Value} {m : List ℕ} → AllOctets m → Codes o E i k v m → Typed W k v
-  codes-typed o (is-plain c x p) = t-plain (content-typed (definite-octets p o) x)
+  codes-typed o (is-plain c x p) = t-plain (content-typed (carried-octets p o) x)
   codes-typed o (is-sequence ps p a r) = t-sequence (pieces-typed (joined-octets ps (constructed-octets r o)) p) a
   codes-typed o (is-set ps qs p a c r) = t-set (pieces-typed (every-perm c (joined-octets qs (constructed-octets r o))) p) a
   codes-typed o (is-sequence-of ps p r) = t-sequence-of (each-typed (joined-octets ps (constructed-octets r o)) p)

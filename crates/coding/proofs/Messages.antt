@@ -12,7 +12,7 @@ use Rattle.octets.specs.Permutations.{Order, any-order, as-given}
 use Rattle.octets.proofs.Answer.{run, Holds, yields, refuses, if-holds, then-holds, got-holds, got-value, got-rest, Reads, none-there}
 use Rattle.octets.proofs.Permutations.{all-octets}
 use Rattle.table.specs.Syntax.{Table}
-use Rattle.coding.specs.Value.{Value, depth}
+use Rattle.coding.specs.Value.{Leaf, Value, leaf, depth}
 use Rattle.coding.specs.Encodes.{EncodesAt, Encodes, Arrives}
 use Rattle.coding.specs.Typed.{WellTyped}
 use Rattle.coding.specs.Equivalent.{EquivalentAt, Equivalent}
@@ -21,7 +21,7 @@ use Rattle.coding.proofs.Sound.{value-sound, not-awaited}
 use Rattle.coding.proofs.FirstTags.{Good, good, proper-readable}
 use Rattle.coding.proofs.Complete.{value-complete, starts-at, next-is, started-some}
 use Rattle.coding.proofs.Levels.{relevel, well-typed, deep, in-some-order}
-use Rattle.coding.proofs.Equivalence.{equivalent-equal, equivalent-sym, equivalent-trans}
+use Rattle.coding.proofs.Equivalence.{equivalent-equal, equivalent-leaf, equivalent-sym, equivalent-trans}
 
 -- an accepted message is an encoding of the value that is read
 message-holds : (o : Order) (T : Table) (n t : ℕ) (m : List ℕ) → Holds (λ v r. (r ≡ []) × EncodesAt o T n t v m) (readMessage T n t m)
@@ -86,6 +86,12 @@ message-complete o T good n t v m e =
     let x = value-complete o T good n t v m [] e in
     let z : readValue T n t m ≡ got (x .value) [] = rw append-nil at (x .answer) in
     record { value = x .value; answer = message-accepts o T good n t v (x .value) m e z; alike = x .alike }
+
+-- Every permitted encoding of a leaf, a string in segments too, is read to that very leaf.
+pub accepts-a-leaf : (T : Table) → Good T → (n t : ℕ) (x : Leaf) (m : List ℕ) → Encodes T t (leaf x) m → depth (leaf x) ≤ n → readMessage T n t m ≡ got (leaf x) []
+accepts-a-leaf T good n t x m e h =
+    let y = message-complete any-order T good n t (leaf x) m (relevel any-order T (e .level) n t (leaf x) m h (e .encodes)) in
+    rw (← equivalent-leaf any-order n x (y .value) (y .alike)) (y .answer)
 
 -- an encoding that begins with an encoding is that encoding, and of an equivalent value
 pub unique : (T : Table) → Good T → (t : ℕ) (v w : Value) (m x : List ℕ) → Encodes T t v m → Encodes T t w (m ++ x) → (x ≡ []) × Equivalent v w

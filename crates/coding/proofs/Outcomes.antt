@@ -228,6 +228,12 @@ module _ (T : Table) (t : ℕ) (m buf : List ℕ) where
   unfolding afterReading
   read-fits v h e k l = read-within h (got v []) e ∙ simp (run, le-leb (length (octets v)) (min longestValue (length buf)) (omega arith))
 
+  -- what is read to the same value has the same outcome
+  pub read-alike : (v : Value) (w : List ℕ) → length m ≤ longestMessage → length w ≤ longestMessage → readMessage T levels t m ≡ got v [] → readMessage T levels t w ≡ got v []
+      → reading T t m buf ≡ reading T t w buf
+  unfolding afterReading
+  read-alike v w h k d e = simp (run, le-leb (length m) longestMessage h, le-leb (length w) longestMessage k, d, e)
+
   module _ (o : Octets m) (good : Good T) where
     -- 27
     pub lacks-exactly : (p : ℕ) → (reading T t m buf ≡ refuse (of-message ValueRoom p) buf) ↔ (NoRoomForValue T t m buf × (p ≡ 0))

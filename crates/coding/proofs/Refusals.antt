@@ -3,26 +3,30 @@
 use mathlib.Core.Bool.{Bool, true, false}
 use mathlib.Core.List.{List, [], _∷_, _++_}
 use mathlib.Core.Option.{Option, some, none}
-use mathlib.Core.Path.{_≡_, refl, subst}
+use mathlib.Core.Path.{_≡_, refl, ap, subst, _∙_}
 use native.Mathlib.Omega.{arith}
 use Prim.Native.Nat.{ℕ, zero, suc, _+_, _-_, _≤_, _<_}
-use lib.ListN.{length, take, drop, length-append}
+use lib.ListN.{length, take, drop, length-append, length-drop}
 use lib.Seq.{length-take-le}
 use Rattle.octets.specs.declared.cause.Cause.{Cause}
 use Rattle.octets.specs.declared.cause.Cause.the-variants.{ValueShape, IllTyped, ValueLevel, Cut, Forbidden, NotAwaited, Contents, Trailing, MessageLevel}
 use Rattle.octets.specs.Answer.{Answer, got, refused, then, if, behind}
 use Rattle.octets.specs.Permutations.{AllOctets, Order, as-given}
-use Rattle.octets.proofs.Answer.{Holds, yields, if-holds, then-holds, map-holds, got-holds, Taken}
+use Rattle.octets.proofs.Answer.{Holds, yields, refuses, if-holds, then-holds, map-holds, behind-holds, got-holds, Taken}
 use Rattle.octets.proofs.Permutations.{every-right}
 use Rattle.x690.specs.Reading.{readFollowing, readIdentifier, Size, definite, indefinite, fit, readLong, readLength, Mode, closed, open-ended, atEnd}
 use Rattle.x690.specs.Reading.{readHeader, inside, readConstructed, contents, readPrimitive}
 use Rattle.x690.specs.Length.{short, long}
 use Rattle.x690.specs.Item.{Definite, sized, Constructed, in-size, in-marks}
+use Rattle.x690.specs.Segments.{Kind, segmentTag, inParts, empty, join, Carries, in-whole, in-segments, deepest, Gathered, readJoined, readAll, readSegment, readCarried}
+use Rattle.x690.proofs.Identifiers.{identifier-sound}
 use Rattle.x690.proofs.Lengths.{Shape, is-definite, is-indefinite}
-use Rattle.x690.proofs.Items.{Ends, no-more, mark, header-sound}
+use Rattle.x690.proofs.Items.{Ends, no-more, mark, atEnd-holds, header-sound, primitive-sound}
+use Rattle.x690.proofs.Segments.{segment-shorter}
 use Rattle.table.specs.Syntax.{Member, Simple, Boolean, Integer, BitString, OctetString, Null, Enumerated, Body, Plain, Sequence, Set, SequenceOf, SetOf, Choice, Table}
 use Rattle.coding.specs.Value.{Value, octets}
 use Rattle.coding.specs.Reading.{decode, notAwaited, unwanted, nothing, readWrapped, readSequence, placeMember, readSet, readMany, choose, readBody, readKind, readValue, readMessage}
+use Rattle.coding.specs.Content.{segmented}
 use Rattle.coding.specs.Tags.{ownTag, explicit}
 use Rattle.coding.specs.Encodes.{Coding, Codes, is-plain, is-sequence, is-set, is-sequence-of, is-set-of, is-choice, Wrapped, bare, tagged, EncodesAt}
 use Rattle.coding.specs.Judging.{Node, a-leaf, a-sequence, a-set, a-sequence-of, a-set-of, a-choice, need, ownMembers, ownCount, ownBoolean}
@@ -89,8 +93,12 @@ constructed-some : {i c m : List ℕ} → Constructed i c m → 0 < length m
 constructed-some (in-size p) = definite-some p
 constructed-some (in-marks q) = rw q (simp length-append (omega arith))
 
+carried-some : {k : Option Kind} {i c m : List ℕ} → Carries i c m k → 0 < length m
+carried-some (in-whole p) = definite-some p
+carried-some (in-segments j p) = constructed-some p
+
 kind-some : {o : Order} {E : Coding} {i : List ℕ} {k : Body} {v : Value} {m : List ℕ} → ((t : ℕ) (v : Value) (m : List ℕ) → E t v m → 0 < length m) → Codes o E i k v m → 0 < length m
-kind-some f (is-plain c x p) = definite-some p
+kind-some f (is-plain c x p) = carried-some p
 kind-some f (is-sequence ps p a c) = constructed-some c
 kind-some f (is-set ps qs p a c d) = constructed-some d
 kind-some f (is-sequence-of ps es c) = constructed-some c
@@ -234,6 +242,79 @@ end-says n open-ended s h f x =
     if-speaks _ (λ e. names is-22 h) λ e _.
     if-speaks _ (λ e. names is-23 h) λ e _. f (drop 2 s)
 
+-- strings in segments: the one that has unused bits begins no more octets back than were read
+
+inside-back : (body : Mode → List ℕ → Answer Gathered) → ((mode : Mode) (s : List ℕ) → Holds (λ g u. length u + g .1 ≤ length s) (body mode s))
+    → (z : Size) (w : List ℕ) → ((n : ℕ) → z ≡ definite n → n ≤ length w) → Holds (λ g u. length u + g .1 ≤ length w) (inside body z w)
+unfolding inside
+inside-back body f (definite n) w h =
+    let e : length (take n w) ≡ n = length-take-le n w (h n refl) in
+    let d = length-drop n w in
+    let k = h n refl in
+    then-holds (behind-holds _ (f closed (take n w))) λ g r x. yields (omega arith)
+inside-back body f indefinite w h = f open-ended w
+
+constructed-back : (i : List ℕ) (body : Mode → List ℕ → Answer Gathered) → ((mode : Mode) (s : List ℕ) → Holds (λ g u. length u + g .1 ≤ length s) (body mode s))
+    → (s : List ℕ) → Holds (λ g u. length u + g .1 ≤ length s) (readConstructed i body s)
+unfolding readConstructed
+constructed-back i body f s = then-holds (header-shorter i s) λ z w x. map-holds (inside-back body f z w (x .1)) λ g u y. omega (arith, x .0)
+
+module _ (k : Kind) (r : List ℕ → Answer Gathered) (back : (s : List ℕ) → Holds (λ g u. length u + g .1 ≤ length s) (r s)) where
+  joined-back : (n : ℕ) (c : List ℕ) (b : ℕ) (mode : Mode) (s : List ℕ) → Holds (λ g u. length u + g .1 ≤ length s + b) (readJoined k r n c b mode s)
+  unfolding readJoined
+  joined-back zero c b mode s = refuses
+  joined-back (suc n) c b mode s =
+      atEnd-holds mode s (λ u z. let h = ends-shorter z in yields (omega arith)) λ _.
+      then-holds (identifier-sound s) λ i s₁ e.
+      if-holds _ (λ a. refuses) λ a _.
+      if-holds _ (λ w. refuses) λ w _.
+      then-holds (back s) λ g s₂ x.
+      map-holds (joined-back n (join k c (g .0)) (g .1) mode s₂) λ h u y. omega arith
+
+segment-back : (k : Kind) (d : ℕ) (s : List ℕ) → Holds (λ g u. length u + g .1 ≤ length s) (readSegment k d s)
+unfolding readSegment
+segment-back k zero s = refuses
+segment-back k (suc d) s =
+    if-holds _ (λ h. constructed-back (segmentTag k true) _ (λ mode u. map-holds (joined-back k (readSegment k d) (segment-back k d) _ (empty k) 0 mode u) λ g w y. omega arith) s) λ h _.
+    then-holds (primitive-sound (segmentTag k false) s) λ c u x.
+    if-holds _ (λ f. refuses) λ f _.
+    let e : length s ≡ length (x .item) + length u = ap length (x .cut) ∙ length-append (x .item) u in
+    yields (omega arith)
+
+module _ (k : Kind) (r : List ℕ → Answer Gathered) (says : (s : List ℕ) → Says (length s) (r s)) (shorter : (s : List ℕ) → Holds (λ g u. length u < length s) (r s))
+    (back : (s : List ℕ) → Holds (λ g u. length u + g .1 ≤ length s) (r s)) where
+  joined-says : (l n : ℕ) (c : List ℕ) (b : ℕ) (mode : Mode) (s : List ℕ) → length s + b ≤ l → length s < n → Says l (readJoined k r n c b mode s)
+  unfolding readJoined
+  joined-says l zero c b mode s h f = absurd (omega arith)
+  joined-says l (suc n) c b mode s h f =
+      end-says l mode s (omega arith) (λ u. answers) λ _.
+      then-speaks (wider (identifier-says s) (omega arith)) λ i s₁ e.
+      if-speaks _ (λ a. names {l = length s} is-24 (omega arith)) λ a _.
+      if-speaks _ (λ w. names {l = length s + b} is-25 h) λ w _.
+      then-speaks (wider (says s) (omega arith)) λ g s₂ q.
+      let x = got-holds (back s) q in
+      let y = got-holds (shorter s) q in
+      joined-says l n (join k c (g .0)) (g .1) mode s₂ (omega arith) (omega arith)
+
+  all-says : (mode : Mode) (s : List ℕ) → Says (length s) (readAll k r mode s)
+  all-says mode s = joined-says (length s) (suc (length s)) (empty k) 0 mode s (omega arith) (omega arith)
+
+segment-says : (k : Kind) (d : ℕ) (s : List ℕ) → Says (length s) (readSegment k d s)
+unfolding readSegment
+segment-says k zero s = here is-28
+segment-says k (suc d) s =
+    if-speaks _ (λ h. constructed-says (segmentTag k true) _ (all-says k (readSegment k d) (segment-says k d) (segment-shorter k d) (segment-back k d)) s) λ h _.
+    then-speaks (primitive-says (segmentTag k false) s) λ c u e.
+    if-speaks _ (λ f. here is-25) λ f _. answers
+
+carried-says : (k : Option Kind) (i s : List ℕ) → Says (length s) (readCarried k i s)
+unfolding readCarried
+carried-says none i s = primitive-says i s
+carried-says (some k) i s =
+    if-speaks _
+    (λ h. then-speaks (constructed-says (inParts i) _ (all-says k (readSegment k deepest) (segment-says k deepest) (segment-shorter k deepest) (segment-back k deepest)) s) λ g u e. answers)
+    λ h _. primitive-says i s
+
 wrapped-says : {A : Type 0} (C : A → List ℕ → Type 0) (r : List ℕ → Answer A) → ((s : List ℕ) → Says (length s) (r s)) → ((s : List ℕ) → Holds (Taken C s) (r s)) → (is : List (List ℕ)) (s : List ℕ)
     → Says (length s) (readWrapped is r s)
 unfolding readWrapped
@@ -306,7 +387,7 @@ module _ (T : Table) (r : ℕ → List ℕ → Answer Value) (says : (t : ℕ) (
   -- the body of a constructed kind
   kind-says : (i : List ℕ) (k : Body) (s : List ℕ) → Says (length s) (readKind T r i k s)
   unfolding readKind readBody
-  kind-says i (Plain k) s = then-speaks (primitive-says i s) λ c s₁ e. then-speaks (decode-says (length s) k (length s) c s₁ (omega arith)) λ x s₂ g. answers
+  kind-says i (Plain k) s = then-speaks (carried-says (segmented k) i s) λ c s₁ e. then-speaks (decode-says (length s) k (length s) c s₁ (omega arith)) λ x s₂ g. answers
   kind-says i (Sequence ms) s = constructed-says i _ (λ mode u. then-speaks (sequence-says (length u) ms [] false mode u (omega arith)) λ os s₁ e. answers) s
   kind-says i (Set ms) s = constructed-says i _ (λ mode u. then-speaks (set-says (length u) (suc (length u)) ms (nothing ms) mode u (omega arith) (omega arith)) λ os s₁ e. answers) s
   kind-says i (SequenceOf t) s = constructed-says i _ (λ mode u. then-speaks (many-says (length u) (suc (length u)) t mode [] u (omega arith) (omega arith)) λ vs s₁ e. answers) s

@@ -15,11 +15,10 @@ use Rattle.octets.proofs.Tests.{test, and-right}
 use Rattle.octets.proofs.Members.{any-some}
 use Rattle.octets.proofs.Permutations.{Perm·sym, every-perm, joined-octets, arranged-perm}
 use Rattle.x690.specs.BitString.{masked}
-use Rattle.x690.specs.Length.{short, long}
-use Rattle.x690.specs.Item.{Definite, sized, Constructed, in-size, in-marks}
 use Rattle.x690.proofs.Integers.{integer-fits}
 use Rattle.x690.proofs.BitString.{masked-masked, masked-unused, masked-octets}
-use Rattle.x690.proofs.Items.{definite-octets, constructed-octets}
+use Rattle.x690.proofs.Items.{constructed-octets, constructed-fits}
+use Rattle.x690.proofs.Segments.{carried-octets, carried-fits}
 use Rattle.table.specs.Syntax.{Member, Simple, Boolean, Integer, BitString, OctetString, Null, Enumerated, Body, Plain, Sequence, Set, SequenceOf, SetOf, Choice, Record, Table, absent}
 use Rattle.table.specs.Octets.{bodyShaped, recordShaped}
 use Rattle.table.specs.Passes.{Passes}
@@ -128,7 +127,7 @@ masked-length n [] = refl
 masked-length n (x ∷ []) = refl
 masked-length n (x ∷ y ∷ c) = ap suc (masked-length n (y ∷ c))
 
-content-shaped : {k : Simple} {x : Leaf} {c : List ℕ} → Limited (Plain k) → AllOctets c → length c ≤ 8191 → Content k x c → LeafShaped x
+content-shaped : {k : Simple} {x : Leaf} {c : List ℕ} → Limited (Plain k) → AllOctets c → length c ≤ 8192 → Content k x c → LeafShaped x
 unfolding Limited LeafShaped
 content-shaped l o h c-boolean = tt
 content-shaped l o h (c-integer {c = c} e k) = integer-fits c o k
@@ -138,15 +137,6 @@ content-shaped l o h c-string = (o, omega arith)
 content-shaped l o h c-null = tt
 content-shaped l o h (c-enumerated {k = k} e g z q) = l k q
 
-definite-fits : {i c m : List ℕ} → Definite i c m → length c < length m
-definite-fits {i = i} {c = c} (sized ls (short h e) q) = rw (q, e) (simp length-append (omega arith))
-definite-fits {i = i} {c = c} (sized ls (long ds h k v e) q) = rw (q, e) (simp length-append (omega arith))
-
-constructed-fits : {i c m : List ℕ} → Constructed i c m → length c < length m
-constructed-fits (in-size p) = definite-fits p
-constructed-fits (in-marks q) = rw q (simp length-append (omega arith))
-
--- pieces that are encodings: each is no longer than all together, and there are no more of them than octets
 module _ {E : Coding} (n : ℕ) (some-octet : (t : ℕ) (v : Value) (m : List ℕ) → E t v m → 0 < length m) (f : (t : ℕ) (v : Value) (m : List ℕ) → AllOctets m → length m ≤ n → E t v m → Shaped v) where
   pieces-shaped : {ms : List Member} {os : List (Option Value)} {ps : List (List ℕ)} → Every (λ p. AllOctets p) ps → Every (λ p. length p ≤ n) ps → Pieces E ms os ps → AllShaped (slots os)
   unfolding slots AllShaped
@@ -185,7 +175,7 @@ module _ {o : Order} {E : Coding} (some-octet : (t : ℕ) (v : Value) (m : List 
     → AllOctets m → length m ≤ 8192 → E t v m → Shaped v) where
   kind-shaped : {i : List ℕ} {k : Body} {v : Value} {m : List ℕ} → Limited k → AllOctets m → length m ≤ 8192 → Codes o E i k v m → Shaped v
   unfolding Limited Shaped
-  kind-shaped l a h (is-plain c x p) = let g = definite-fits p in content-shaped l (definite-octets p a) (omega arith) x
+  kind-shaped l a h (is-plain c x p) = let g = carried-fits p in content-shaped l (carried-octets p a) (omega arith) x
   kind-shaped l a h (is-sequence {os = os} ps p q r) =
       let g = constructed-fits r in
       let e = slots-count os in

@@ -17,9 +17,11 @@ use Rattle.octets.proofs.Permutations.{flat, joined-flat, arranged-refl}
 use Rattle.octets.proofs.Tests.{and-right}
 use Rattle.x690.specs.Reading.{Mode}
 use Rattle.x690.proofs.Identifiers.{identifier-sound}
-use Rattle.x690.proofs.Items.{Ends, no-more, mark, atEnd-holds, Body as Contents, constructed-sound, primitive-sound}
+use Rattle.x690.proofs.Items.{Ends, no-more, mark, atEnd-holds, Body as Contents, constructed-sound}
+use Rattle.x690.proofs.Segments.{carried-sound}
 use Rattle.table.specs.Syntax.{Member, Body, Plain, Sequence, Set, SequenceOf, SetOf, Choice, Table}
 use Rattle.coding.specs.Value.{Value, sequence, set, sequenceOf, setOf, choice, slots, bag}
+use Rattle.coding.specs.Content.{segmented}
 use Rattle.coding.specs.Tags.{ownTag, explicit}
 use Rattle.coding.specs.Encodes.{allowed, Coding, Pieces, done, left, sent, At, first, later, Codes, is-plain, is-sequence, is-set}
 use Rattle.coding.specs.Encodes.{is-sequence-of, is-set-of, is-choice, Wrapped, bare, tagged, EncodesAt}
@@ -225,9 +227,9 @@ module _ (o : Order) (T : Table) (E : Coding) (r : ℕ → List ℕ → Answer V
   pub kind-sound : (i : List ℕ) (k : Body) (s : List ℕ) → Holds (Taken (Codes o E i k) s) (readKind T r i k s)
   unfolding readKind Parts
   kind-sound i (Plain k) s =
-      then-holds (primitive-sound i s) λ c s₁ x.
+      then-holds (carried-sound (segmented k) i s) λ c s₁ x.
       then-holds (content-sound k _ c s₁) λ y s₂ h.
-      yields (record { piece = x .item; cut = rw (h .0) (x .cut); has = is-plain c (h .1) (rw (x .has) at (x .framed)) })
+      yields (record { piece = x .piece; cut = rw (h .0) (x .cut); has = is-plain c (h .1) (x .has) })
   kind-sound i (Sequence ms) s =
       map-holds (constructed-sound (Together (Parts (Sequence ms))) _ (body-sound (Sequence ms)) i s) λ v s₁ x.
       let (ps, e, h) = x .has in let (os, q, g) = h in record { piece = x .item; cut = x .cut; has = rw q (is-sequence ps (g .0) (g .1) (rw e at (x .framed))) }

@@ -1,5 +1,5 @@
 -- One table, one value and one message carried through every theorem of `Demands`, so that no premise there is empty: table S of document 01,
--- its type 2 with 5 and true, and a permitted encoding of it in the indefinite form with the members in the other order.
+-- its type 2 with 5 and true, and a permitted encoding of it in the indefinite form with the members in the other order; for strings one of an octet.
 -- Assumes nothing.
 use borrow.Author.Tests.{ltb-true}
 use mathlib.Core.Bool.{Bool, true, false}
@@ -14,7 +14,7 @@ use lib.ListN.{length, getD, replicate}
 use Rattle.octets.specs.Answer.{got, then, if, behind, none-left}
 use Rattle.octets.specs.Lists.{any, all, joined, tabulate, lowestFrom, same}
 use Rattle.octets.specs.Numbers.{Octets}
-use Rattle.octets.specs.Permutations.{here, there, none, next, any-order}
+use Rattle.octets.specs.Permutations.{here, there, none, next, Order, any-order, as-given}
 use Rattle.octets.proofs.Tests.{and-left, and-right}
 use Rattle.x690.specs.Identifier.{leading, following, identifier}
 use Rattle.x690.specs.Length.{short, unsigned, digits, lengthOctets}
@@ -22,7 +22,8 @@ use Rattle.x690.specs.Item.{sized, in-marks, item}
 use Rattle.x690.specs.Integer.{negative, pile, integerOf, spare, minimal, eight, fewest}
 use Rattle.x690.specs.BitString.{unused, masked}
 use Rattle.x690.specs.Reading.{readFollowing, readIdentifier, fit, readLong, readLength, atEnd, readHeader, inside, readConstructed, contents, readPrimitive}
-use Rattle.table.specs.Syntax.{Tag, Boolean, Integer, Plain, Set, Record, table, references, isChoice, universal, constructed}
+use Rattle.x690.specs.Segments.{octet-string, segmentTag, inParts, inForm, last as last-segment, primitive, SegmentIn, in-whole, in-segments, readCarried}
+use Rattle.table.specs.Syntax.{Tag, Boolean, Integer, OctetString, Plain, Set, Record, table, references, isChoice, universal, constructed}
 use Rattle.table.specs.Octets.{kind, tagOctets, memberOctets, ownOctets, recordOctets, rising, bodyShaped, recordShaped}
 use Rattle.table.specs.Rules.{bodyBelow, tagsBelow, siblings, runsOn, members}
 use Rattle.table.specs.Reading.{tagsAt, numbersAt, membersAt, everyAt, bodyAt, recordAt, countedEnd, enumeratedEnd, membersEnd, ownEnd, recordEnd, scanFrom, scan, look}
@@ -35,10 +36,10 @@ use Rattle.octets.specs.declared.cause.Cause.{Cause}
 use Rattle.octets.specs.declared.cause.Cause.the-variants.{TableShape, NoType, ValueShape, MessageRoom, MessageLength, Cut, ValueRoom}
 use Rattle.table.specs.declared.Verdict.the-variants.{Passed}
 use Rattle.table.proofs.Theorems.{passed-none}
-use Rattle.coding.specs.Value.{Value, leaf, integer, boolean, set, slots, bag, leafOctets, count, presence, octets, depth}
+use Rattle.coding.specs.Value.{Value, leaf, integer, boolean, string, set, slots, bag, leafOctets, count, presence, octets, depth}
 use Rattle.coding.specs.Tags.{identifierOf, last, before, explicitTags, ownTag, explicit}
-use Rattle.coding.specs.Content.{listed, c-boolean, c-integer}
-use Rattle.coding.specs.Encodes.{allowed, done, sent, is-plain, is-set, bare, EncodesAt, Encodes}
+use Rattle.coding.specs.Content.{listed, segmented, c-boolean, c-integer, c-string}
+use Rattle.coding.specs.Encodes.{allowed, done, sent, is-plain, is-set, bare, EncodesAt, Encodes, Arrives}
 use Rattle.coding.specs.Typed.{l-boolean, l-integer, f-done, f-sent, t-plain, t-set, WellTypedAt, WellTyped}
 use Rattle.coding.specs.Shaped.{LeafShaped, Shaped}
 use Rattle.coding.specs.Form.{encode, element, alternatives, formMembers, formElements, formBody, wrap, formAt}
@@ -113,19 +114,19 @@ message-octets : Octets message
 unfolding all
 message-octets = octets-by message refl
 
-five-permitted : EncodesAt any-order (table records) 1 0 (leaf (integer (pos 5))) five
+five-permitted : (o : Order) → EncodesAt o (table records) 1 0 (leaf (integer (pos 5))) five
 unfolding EncodesAt table explicit explicitTags before ownTag identifierOf identifier leading last constructed if minimal integerOf negative pile
-five-permitted = bare (is-plain {x = integer (pos 5)} (5 ∷ []) (c-integer {c = 5 ∷ []} refl (omega arith)) (sized (1 ∷ []) (short (omega arith) refl) refl))
+five-permitted o = bare (is-plain {x = integer (pos 5)} (5 ∷ []) (c-integer {c = 5 ∷ []} refl (omega arith)) (in-whole (sized (1 ∷ []) (short (omega arith) refl) refl)))
 
-truth-permitted : EncodesAt any-order (table records) 1 1 (leaf (boolean true)) truth
+truth-permitted : (o : Order) → EncodesAt o (table records) 1 1 (leaf (boolean true)) truth
 unfolding EncodesAt table explicit explicitTags before ownTag identifierOf identifier leading last constructed if
-truth-permitted = bare (is-plain {x = boolean true} (0x7F ∷ []) (c-boolean {x = 0x7F}) (sized (1 ∷ []) (short (omega arith) refl) refl))
+truth-permitted o = bare (is-plain {x = boolean true} (0x7F ∷ []) (c-boolean {x = 0x7F}) (in-whole (sized (1 ∷ []) (short (omega arith) refl) refl)))
 
 permitted : Encodes (table records) 2 value message
 unfolding EncodesAt table explicit explicitTags before ownTag identifierOf identifier leading last constructed if joined allowed
 permitted = record {
   level = 2;
-  encodes = bare (is-set (five ∷ truth ∷ []) (truth ∷ five ∷ []) (sent five-permitted (sent truth-permitted done)) refl (next (there here) (next here none)) (in-marks refl));
+  encodes = bare (is-set (five ∷ truth ∷ []) (truth ∷ five ∷ []) (sent (five-permitted any-order) (sent (truth-permitted any-order) done)) refl (next (there here) (next here none)) (in-marks refl));
 }
 
 typed : WellTyped (table records) 2 value
@@ -170,8 +171,8 @@ unfolding if then behind none-left any all joined tabulate lowestFrom same refer
     tagsBelow siblings runsOn tagsAt numbersAt membersAt everyAt bodyAt recordAt countedEnd enumeratedEnd membersEnd ownEnd recordEnd scanFrom scan look round
     rounds found dangling wrongTags reachStep circular sameTag firstBegins firstStep firstOfBoth share reached pair sharing finiteBody finiteStep infinite
     judgeChoices judge verdict leading following identifier unsigned digits lengthOctets item negative pile integerOf spare minimal eight fewest unused
-    masked readFollowing readIdentifier fit readLong readLength atEnd readHeader inside readConstructed contents readPrimitive slots bag leafOctets
-    count presence octets listed identifierOf last before explicitTags ownTag explicit allowed encode element alternatives formMembers formElements
+    masked readFollowing readIdentifier fit readLong readLength atEnd readHeader inside readConstructed contents readPrimitive readCarried slots bag leafOctets
+    count presence octets listed segmented identifierOf last before explicitTags ownTag explicit allowed encode element alternatives formMembers formElements
     formBody wrap formAt need flags ownMembers ownCount ownBoolean ownInteger ownString ownBits ownEnumerated ownChoice readOwn readNode leafKind
     nodeKind numbers leafAgrees agreeing counts agrees judgeMembers judgeElements judgeBelow judgeValue judgeWhole beginsBody beginsItem beginsIn
     begins isListed decode passes begun notAwaited nothing full unwanted readWrapped readSequence placeMember readSet readMany choose readBody readKind
@@ -275,3 +276,70 @@ arrives = page.what-was-sent-arrives S table-octets records accepted 2 (omega ar
 
 pub sends : Sent (table records) 2 value (room 9) (wholeWrite S 2 (octets value) (room 9))
 sends = page.what-is-sent-is-permitted S table-octets records accepted 2 (omega arith) value (room 9) typed low shaped (omega (arith, small))
+
+-- the same value in two messages, and a string in two: whole, and in one segment of indefinite length
+
+abbrev in-order : List ℕ
+in-order = 0x31 ∷ 0x80 ∷ (five ++ truth ++ (0 ∷ 0 ∷ []))
+
+message-arrives : Arrives (table records) 2 value message
+unfolding EncodesAt table explicit explicitTags before ownTag identifierOf identifier leading last constructed if joined allowed
+message-arrives = record {
+  level = 2;
+  encodes =
+      bare (is-set (five ∷ truth ∷ []) (truth ∷ five ∷ []) (sent (five-permitted as-given) (sent (truth-permitted as-given) done)) refl (next (there here) (next here none)) (in-marks refl));
+}
+
+in-order-arrives : Arrives (table records) 2 value in-order
+unfolding EncodesAt table explicit explicitTags before ownTag identifierOf identifier leading last constructed if joined allowed
+in-order-arrives = record {
+  level = 2;
+  encodes =
+      bare (is-set (five ∷ truth ∷ []) (five ∷ truth ∷ []) (sent (five-permitted as-given) (sent (truth-permitted as-given) done)) refl (next here (next here none)) (in-marks refl));
+}
+
+abbrev O : List ℕ
+O = 0x54 ∷ 0x59 ∷ 4 ∷ 1 ∷ 0 ∷ 0 ∷ 4 ∷ []
+
+abbrev one : List Record
+one = record { tags = tag 0 4 ∷ []; body = Plain OctetString } ∷ []
+
+string-table : Octets O
+unfolding all
+string-table = octets-by O refl
+
+string-passed : verdict O ≡ Passed
+unfolding any all joined tabulate lowestFrom references isChoice universal rising bodyBelow tagsBelow siblings runsOn tagsAt numbersAt membersAt everyAt bodyAt
+    recordAt countedEnd enumeratedEnd membersEnd ownEnd recordEnd scanFrom scan look round rounds found dangling wrongTags reachStep circular sameTag
+    firstBegins firstStep firstOfBoth share reached pair sharing finiteBody finiteStep infinite judgeChoices judge verdict
+string-passed = refl
+
+string-accepted : Accepted O one
+unfolding all joined kind tagOctets memberOctets ownOctets recordOctets rising bodyShaped recordShaped
+string-accepted = record {
+  spells = record { is = refl; shaped = refl; some = omega arith; few = omega arith; short = omega arith };
+  no-cause = passed-none O string-table string-passed;
+}
+
+abbrev whole : List ℕ
+whole = 4 ∷ 1 ∷ 0xAA ∷ []
+
+abbrev parted : List ℕ
+parted = 0x24 ∷ 0x80 ∷ (whole ++ (0 ∷ 0 ∷ []))
+
+whole-permitted : Encodes (table one) 0 (leaf (string (0xAA ∷ []))) whole
+unfolding EncodesAt table explicit explicitTags before ownTag identifierOf identifier leading last constructed if
+whole-permitted = record { level = 1; encodes = bare (is-plain (0xAA ∷ []) c-string (in-whole (sized (1 ∷ []) (short (omega arith) refl) refl))) }
+
+parted-permitted : Encodes (table one) 0 (leaf (string (0xAA ∷ []))) parted
+unfolding EncodesAt table explicit explicitTags before ownTag identifierOf identifier leading last constructed if segmented segmentTag inParts inForm SegmentIn
+parted-permitted = record {
+  level = 1;
+  encodes = bare (is-plain (0xAA ∷ []) c-string (in-segments {k = octet-string} (last-segment {c = 0xAA ∷ []} {p = whole} (primitive refl (sized (1 ∷ []) (short (omega arith) refl) refl))) (in-marks refl)));
+}
+
+pub however-sent : (wholeRead S 2 message (room 24) ≡ wholeRead S 2 in-order (room 24)) × (wholeRead O 0 whole (room 9) ≡ wholeRead O 0 parted (room 9))
+however-sent = (
+  page.however-it-is-sent S table-octets records accepted 2 (omega arith) value message in-order (room 24) low message-arrives in-order-arrives (omega arith) (omega arith),
+  page.however-a-string-is-sent O string-table one string-accepted 0 (omega arith) (string (0xAA ∷ [])) whole parted (room 9) whole-permitted parted-permitted (omega arith) (omega arith),
+)

@@ -1,18 +1,20 @@
 -- Which identifier octets begin a value of a type, and what is awaited where (FORMATS, "Tables" and "Messages").
 -- Assumes nothing.
-use mathlib.Core.Bool.{Bool, true, false}
+use mathlib.Core.Bool.{Bool, true, false, _&&_, _||_}
 use mathlib.Core.List.{List, [], _∷_, map}
 use mathlib.Core.Option.{Option, some, none}
 use Prim.Native.Nat.{ℕ, zero, suc, _<_}
 use Rattle.octets.specs.Lists.{any, same}
 use Rattle.x690.specs.Reading.{Mode, closed, open-ended}
+use Rattle.x690.specs.Segments.{inEither, inParts}
 use Rattle.table.specs.Syntax.{Body, Plain, Sequence, Set, SequenceOf, SetOf, Choice, Table, Member}
+use Rattle.coding.specs.Content.{segmented}
 use Rattle.coding.specs.Tags.{ownTag, explicit}
 use Rattle.coding.specs.Value.{Value}
 
--- the first tags as identifier octets i, the constructed bit included: the outermost one, or what begins an alternative of a CHOICE without tags, as f says
+-- the first tags as identifier octets i, the constructed bit included, which of a string is either: the outermost one, or what begins an alternative of a CHOICE without tags, as f says
 unfoldable pub beginsBody : (ℕ → Bool) → List ℕ → List ℕ → Body → Bool
-beginsBody f i o (Plain k) = same i o
+beginsBody f i o (Plain k) = same i o || (inEither (segmented k) && same i (inParts o))
 beginsBody f i o (Sequence ms) = same i o
 beginsBody f i o (Set ms) = same i o
 beginsBody f i o (SequenceOf t) = same i o

@@ -2,6 +2,7 @@
 -- Assumes nothing.
 use mathlib.Core.Bool.{Bool, true, not}
 use mathlib.Core.List.{List, [], _∷_}
+use mathlib.Core.Option.{Option, some, none}
 use mathlib.Core.Path.{_≡_}
 use Prim.Native.Nat.{ℕ, _≤_}
 use lib.Dec.{eqb}
@@ -10,6 +11,7 @@ use lib.ListN.{length}
 use Rattle.octets.specs.Lists.{any}
 use Rattle.x690.specs.Integer.{integerOf, minimal}
 use Rattle.x690.specs.BitString.{unused, masked}
+use Rattle.x690.specs.Segments.{Kind, bit-string, octet-string}
 use Rattle.table.specs.Syntax.{Simple, Boolean, Integer, BitString, OctetString, Null, Enumerated}
 use Rattle.coding.specs.Value.{Leaf, boolean, integer, bits, string, null, enumerated}
 
@@ -27,3 +29,12 @@ pub data Content : Simple → Leaf → List ℕ → Type 0 where
   c-string : {c : List ℕ} → Content OctetString (string c) c
   c-null : Content Null null []
   c-enumerated : {ns c : List ℕ} {k : ℕ} → minimal c ≡ true → length c ≤ 8 → integerOf c ≡ pos k → listed ns k ≡ true → Content (Enumerated ns) (enumerated k) c
+
+-- 8.6.1, 8.7.1: the strings may be sent in segments too, which join to such contents
+unfoldable pub segmented : Simple → Option Kind
+segmented Boolean = none
+segmented Integer = none
+segmented BitString = some bit-string
+segmented OctetString = some octet-string
+segmented Null = none
+segmented (Enumerated ns) = none

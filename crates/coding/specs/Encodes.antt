@@ -7,10 +7,11 @@ use mathlib.Core.Path.{_≡_}
 use Prim.Native.Nat.{ℕ, zero, suc}
 use Rattle.octets.specs.Lists.{joined}
 use Rattle.octets.specs.Permutations.{Perm, Each, Order, any-order, as-given, Arranged}
-use Rattle.x690.specs.Item.{Definite, Constructed}
+use Rattle.x690.specs.Item.{Constructed}
+use Rattle.x690.specs.Segments.{Carries}
 use Rattle.table.specs.Syntax.{Member, Simple, Body, Plain, Sequence, Set, SequenceOf, SetOf, Choice, Table}
 use Rattle.coding.specs.Value.{Leaf, Value, leaf, sequence, set, sequenceOf, setOf, choice, slots, bag}
-use Rattle.coding.specs.Content.{Content}
+use Rattle.coding.specs.Content.{Content, segmented}
 use Rattle.coding.specs.Tags.{ownTag, explicit}
 
 -- which octets encode which values of which types
@@ -40,7 +41,7 @@ pub data At {A : Type 0} (x : A) : List A → ℕ → Type 0 where
 -- The item of a value of a kind, with the identifier octets i, where E encodes the values below. 8.9 SEQUENCE, 8.10 SEQUENCE OF in order;
 -- 8.11 SET, 8.12 SET OF in any order (or the elements of a SET OF as the value gives them); 8.13 CHOICE: the encoding of the chosen value.
 pub data Codes (o : Order) (E : Coding) (i : List ℕ) : Body → Value → List ℕ → Type 0 where
-  is-plain : {k : Simple} {x : Leaf} {m : List ℕ} (c : List ℕ) → Content k x c → Definite i c m → Codes o E i (Plain k) (leaf x) m
+  is-plain : {k : Simple} {x : Leaf} {m : List ℕ} (c : List ℕ) → Content k x c → Carries i c m (segmented k) → Codes o E i (Plain k) (leaf x) m
   is-sequence : {ms : List Member} {os : List (Option Value)} {m : List ℕ} (ps : List (List ℕ))
       → Pieces E ms os ps → allowed ms os ≡ true → Constructed i (joined ps) m → Codes o E i (Sequence ms) (sequence (slots os)) m
   is-set : {ms : List Member} {os : List (Option Value)} {m : List ℕ} (ps qs : List (List ℕ))

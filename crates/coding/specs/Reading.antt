@@ -8,14 +8,17 @@ use Prim.Native.Nat.{ℕ, zero, suc}
 use lib.ListN.{length, getD, drop}
 use lib.Dec.{leb, eqb}
 use lib.IntN.{ℤ, pos, negsuc}
-use Rattle.octets.specs.declared.cause.Cause.the-variants.{TableShape, Cut, NotAwaited, Contents, Trailing, MessageLevel}
+use Rattle.octets.specs.declared.cause.Cause.the-variants.{Cut, NotAwaited, Contents, Trailing, MessageLevel}
 use Rattle.octets.specs.Answer.{Answer, got, refused, then, if, none-left}
-use Rattle.x690.specs.Reading.{readIdentifier, Mode, atEnd, readConstructed, readPrimitive}
+use Rattle.x690.specs.Reading.{readIdentifier, Mode, atEnd, readConstructed}
+unfoldable pub use Rattle.x690.specs.Reading.{passes}
+pub use Rattle.x690.specs.Reading.{never}
+use Rattle.x690.specs.Segments.{readCarried}
 use Rattle.x690.specs.Integer.{integerOf, minimal}
 use Rattle.x690.specs.BitString.{unused, masked}
 use Rattle.table.specs.Syntax.{Member, Body, Plain, Sequence, Set, SequenceOf, SetOf, Choice, Table, Simple, Boolean, Integer, BitString, OctetString, Null, Enumerated}
 use Rattle.coding.specs.Value.{Value, leaf, sequence, set, sequenceOf, setOf, choice, slots, bag, Leaf, boolean, integer, bits, string, null, enumerated}
-use Rattle.coding.specs.Content.{listed}
+use Rattle.coding.specs.Content.{listed, segmented}
 use Rattle.coding.specs.Encodes.{allowed}
 use Rattle.coding.specs.Tags.{ownTag, explicit}
 use Rattle.coding.specs.Awaited.{begins}
@@ -47,18 +50,9 @@ decode (Enumerated ns) l c s =
     if (not (isListed ns (integerOf c))) (refused Contents l) λ _.
     got (enumerated (natural (integerOf c))) s
 
--- the identifier octets that come next pass a test
-unfoldable pub passes : (List ℕ → Bool) → Answer (List ℕ) → Bool
-passes f (got i s) = f i
-passes f (refused c l) = false
-
 -- the next item begins a value of the type
 unfoldable pub begun : Table → ℕ → List ℕ → Bool
 begun T t s = passes (begins T t) (readIdentifier s)
-
--- What cannot be: there are no more items than octets, and contents of items are of a kind that has items. Its cause is no message's.
-abbrev pub never : {A : Type 0} → List ℕ → Answer A
-never s = refused TableShape (length s)
 
 -- an item that is not awaited: 24, once its identifier octets are whole (22) and in form (23)
 unfoldable pub notAwaited : {A : Type 0} → List ℕ → Answer A
@@ -141,7 +135,7 @@ module _ (T : Table) (r : ℕ → List ℕ → Answer Value) where
 
   -- the item of a kind, with the identifier octets i
   unfoldable pub readKind : List ℕ → Body → List ℕ → Answer Value
-  readKind i (Plain k) s = then (readPrimitive i s) λ c s₁. then (decode k (length s) c s₁) λ x s₂. got (leaf x) s₂
+  readKind i (Plain k) s = then (readCarried (segmented k) i s) λ c s₁. then (decode k (length s) c s₁) λ x s₂. got (leaf x) s₂
   readKind i (Sequence ms) s = readConstructed i (readBody (Sequence ms)) s
   readKind i (Set ms) s = readConstructed i (readBody (Set ms)) s
   readKind i (SequenceOf t) s = readConstructed i (readBody (SequenceOf t)) s

@@ -2,7 +2,8 @@
 -- Assumes nothing.
 use mathlib.Core.List.{List, [], _∷_, _++_, append-assoc}
 use mathlib.Core.Path.{_≡_, refl, ap, _∙_}
-use Prim.Native.Nat.{ℕ, suc}
+use Prim.Native.Nat.{ℕ, zero, suc}
+use lib.ListN.{drop}
 use Rattle.octets.specs.Lists.{joined}
 use Rattle.octets.specs.Numbers.{Octets}
 use Rattle.octets.specs.Permutations.{Sel, here, there, Perm, none, next, Every, every-nil, every-cons, Each, nil, cons, Order, any-order, as-given, Arranged, permuted, kept, AllOctets}
@@ -51,6 +52,15 @@ module _ {A : Type 0} where
   pub every-right : {P : A → Type 0} (a : List A) {b : List A} → Every P (a ++ b) → Every P b
   every-right [] es = es
   every-right (x ∷ a) (every-cons e es) = every-right a es
+
+  pub every-append : {P : A → Type 0} {a b : List A} → Every P a → Every P b → Every P (a ++ b)
+  every-append every-nil bs = bs
+  every-append (every-cons e es) bs = every-cons e (every-append es bs)
+
+  pub every-drop : {P : A → Type 0} (n : ℕ) {a : List A} → Every P a → Every P (drop n a)
+  every-drop zero es = es
+  every-drop (suc n) every-nil = every-nil
+  every-drop (suc n) (every-cons e es) = every-drop n es
 
 module _ {A B : Type 0} where
   sel-each : {R : A → B → Type 0} {l : List A} {r r′ : List B} {y : B} → Each R l r → Sel y r r′ → (x : A) × (l′ : List A) × Sel x l l′ × R x y × Each R l′ r′

@@ -60,6 +60,16 @@ unfolding masked
 masked-last n x [] = refl
 masked-last n x (y ∷ c) = ap (λ (l : List ℕ). x ∷ l) (masked-last n y c)
 
+-- octets with their last one over-written
+pub masked-nothing : (n : ℕ) (c : List ℕ) → length c ≡ 0 → c ≡ masked n c
+unfolding masked
+masked-nothing n [] h = refl
+masked-nothing n (x ∷ c) h = absurd (omega arith)
+
+pub masked-set : (n u : ℕ) (c : List ℕ) → (length c ≡ 0 → ⊥) → u ≡ 2 ^ n → set c (length c - 1) (getD c (length c - 1) 0 / u * u) ≡ masked n c
+masked-set n u [] h e = absurd (h refl)
+masked-set n u (x ∷ c) h e = rw (e, sub-one) (sym (masked-last n x c))
+
 -- contents over a part that has as many octets, or that stays as it was
 pub masked-stays : (n : ℕ) (c p : List ℕ) → (length c ≡ length p → ⊥) → p ≡ filled p (masked n c)
 masked-stays n c p h = rw (length-masked, ne-eqb (length c) (length p) h) refl
@@ -72,11 +82,10 @@ masked-none n (x ∷ c) p h k = absurd (omega arith)
 
 pub masked-filled : (n u : ℕ) (c p d : List ℕ) → length c ≡ length p → (length c ≡ 0 → ⊥) → d ≡ filled p c → u ≡ 2 ^ n
     → set d (length c - 1) (getD c (length c - 1) 0 / u * u) ≡ filled p (masked n c)
-masked-filled n u [] p d h k e f = absurd (k refl)
-masked-filled n u (x ∷ c) p d h k e f =
-    let q : eqb (length (x ∷ c)) (length p) ≡ true = eq-eqb (length (x ∷ c)) (length p) h in
-    let w : d ≡ x ∷ c = rw q at e in
-    rw (length-masked, q, w, f, sub-one) (sym (masked-last n x c))
+masked-filled n u c p d h k e f =
+    let q : eqb (length c) (length p) ≡ true = eq-eqb (length c) (length p) h in
+    let w : d ≡ c = rw q at e in
+    rw (length-masked, q, w) (masked-set n u c k f)
 
 -- the values of the eight bits
 abbrev powers : List ℕ

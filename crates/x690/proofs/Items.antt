@@ -15,9 +15,9 @@ use Rattle.octets.proofs.Answer.{Holds, yields, refuses, if-holds, then-holds, 
 use Rattle.octets.proofs.Permutations.{every-left, every-right}
 use Rattle.octets.proofs.Lists.{same-refl, same-true}
 use Rattle.x690.specs.Reading.{readIdentifier, Size, definite, indefinite, readLength, Mode, closed, open-ended, atEnd, readHeader, inside, readConstructed, contents, readPrimitive}
-use Rattle.x690.specs.Length.{Length, lengthOctets}
+use Rattle.x690.specs.Length.{Length, short, long, lengthOctets}
 use Rattle.x690.specs.Item.{Definite, sized, Constructed, in-size, in-marks, item}
-use Rattle.x690.proofs.Identifiers.{identifier-sound}
+use Rattle.x690.proofs.Identifiers.{identifier-sound, Begun}
 use Rattle.x690.proofs.Lengths.{length-complete, length-sound, length-octets, Shape, is-definite, is-indefinite}
 
 -- behind contents stands `tail`: the contents end there, and r follows
@@ -58,6 +58,30 @@ definite-octets {i = i} (sized ls l e) o = every-right ls (every-right i (rw e a
 pub constructed-octets : {i c m : List ℕ} → Constructed i c m → AllOctets m → AllOctets c
 constructed-octets (in-size p) o = definite-octets p o
 constructed-octets {i = i} {c = c} (in-marks e) o = every-left c _ (every-right (128 ∷ []) (every-right i (rw e at o)))
+
+-- the identifier octets stand first
+pub definite-head : {i c m : List ℕ} → Definite i c m → (n : List ℕ) × (m ≡ i ++ n)
+definite-head {c = c} (sized ls l e) = (ls ++ c, e)
+
+pub constructed-head : {i c m : List ℕ} → Constructed i c m → (n : List ℕ) × (m ≡ i ++ n)
+constructed-head (in-size p) = definite-head p
+constructed-head {c = c} (in-marks e) = (128 ∷ (c ++ (0 ∷ 0 ∷ [])), e)
+
+-- contents are shorter than their item
+pub definite-fits : {i c m : List ℕ} → Definite i c m → length c < length m
+definite-fits {i = i} {c = c} (sized ls (short h e) q) = rw (q, e) (simp length-append (omega arith))
+definite-fits {i = i} {c = c} (sized ls (long ds h k v e) q) = rw (q, e) (simp length-append (omega arith))
+
+pub constructed-fits : {i c m : List ℕ} → Constructed i c m → length c < length m
+constructed-fits (in-size p) = definite-fits p
+constructed-fits (in-marks q) = rw q (simp length-append (omega arith))
+
+-- an item that has begun is no end
+pub begun-more : {A : Type 0} {i m : List ℕ} (rest s : List ℕ) (mode : Mode) (f : List ℕ → Answer A) (x : Unit {0} → Answer A) → Begun i → m ≡ i ++ rest → atEnd mode (m ++ s) f x ≡ x tt
+begun-more rest s mode f x b e = rw (e, b .is) (atEnd-more mode (b .head) ((b .rest ++ rest) ++ s) f x (b .not-zero))
+
+pub begun-longer : {i m : List ℕ} (rest s : List ℕ) → Begun i → m ≡ i ++ rest → length s < length (m ++ s)
+begun-longer rest s b e = rw (e, b .is) (simp length-append (omega arith))
 
 -- identifier octets that are read as they stand
 abbrev pub Readable : List ℕ → Type 0

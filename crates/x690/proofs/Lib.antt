@@ -5,3 +5,5 @@ pub mod Lengths
 pub mod Items
 pub mod Integers
 pub mod BitString
+pub mod Segmented
+pub mod Segments

@@ -6,3 +6,4 @@ pub mod Item
 pub mod Integer
 pub mod BitString
 pub mod Reading
+pub mod Segments

@@ -2,11 +2,11 @@
 -- (X.690, 8.1; FORMATS, "Order of refusals").
 -- Assumes nothing.
 use mathlib.Core.List.{List, [], _∷_, _++_}
-use mathlib.Core.Bool.{not}
+use mathlib.Core.Bool.{Bool, false, not}
 use Prim.Native.Nat.{ℕ, suc, _+_, _%_, _-_}
 use lib.Dec.{ltb, eqb, leb}
 use lib.ListN.{length, getD, take, drop}
-use Rattle.octets.specs.declared.cause.Cause.the-variants.{Cut, Forbidden, NotAwaited}
+use Rattle.octets.specs.declared.cause.Cause.the-variants.{TableShape, Cut, Forbidden, NotAwaited}
 use Rattle.octets.specs.Answer.{Answer, got, refused, then, if, behind, none-left}
 use Rattle.x690.specs.Length.{unsigned}
 use Rattle.octets.specs.Lists.{same}
@@ -25,6 +25,15 @@ readIdentifier (b ∷ s) =
     if (eqb (getD ds 0 0) 128) (refused Forbidden (suc (length s))) λ _.
     if (ltb (getD ds 0 0) 31) (refused Forbidden (suc (length s))) λ _.
     got (b ∷ ds) s₁
+
+-- the identifier octets that come next pass a test
+unfoldable pub passes : (List ℕ → Bool) → Answer (List ℕ) → Bool
+passes f (got i s) = f i
+passes f (refused c l) = false
+
+-- What cannot be: there are no more items than octets, and contents of items are of a kind that has items. Its cause is no message's.
+abbrev pub never : {A : Type 0} → List ℕ → Answer A
+never s = refused TableShape (length s)
 
 pub data Size : Type 0 where
   definite : ℕ → Size
