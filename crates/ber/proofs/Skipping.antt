@@ -33,16 +33,19 @@ abbrev IsDefinite : Size → Type 0
 IsDefinite (definite n) = Unit {0}
 IsDefinite indefinite = ⊥
 
-not-both : {n : ℕ} {r w : List ℕ} {x : Answer Size} → x ≡ got (definite n) r → x ≡ got indefinite w → ⊥
+pub not-both : {n : ℕ} {r w : List ℕ} {x : Answer Size} → x ≡ got (definite n) r → x ≡ got indefinite w → ⊥
 not-both e f = subst IsDefinite (got-value (sym e ∙ f)) tt
 
 abbrev count : Size → ℕ
 count (definite n) = n
 count indefinite = 0
 
+pub same-size : {n k : ℕ} {r w : List ℕ} {x : Answer Size} → x ≡ got (definite n) r → x ≡ got (definite k) w → n ≡ k
+same-size e f = ap count (got-value (sym e ∙ f))
+
 same-rest : {n k : ℕ} {r w : List ℕ} {x : Answer Size} → x ≡ got (definite n) r → x ≡ got (definite k) w → drop n r ≡ drop k w
 same-rest {n} {k} {r} {w} e f =
-    let q : n ≡ k = ap count (got-value (sym e ∙ f)) in
+    let q : n ≡ k = same-size e f in
     let p : r ≡ w = got-rest (sym e ∙ f) in
     rw (q, p) refl
 

@@ -226,11 +226,11 @@ module _ (m : List ℕ) (at : ℕ) (some : 0 < at) (there : at ≤ length m) whe
           d ∙ ap (unsigned n) (drop-cons (take k (drop at m)) i 0 t) ∙ rw (e, q)
 
 -- the place of a refusal is where l octets are left
-abbrev Faulty : {A : Type 0} → ℕ → Answer A → Type 0
+abbrev pub Faulty : {A : Type 0} → ℕ → Answer A → Type 0
 Faulty l (got a s) = Unit {0}
 Faulty l (refused c k) = k ≡ l
 
-then-faulty : {A B : Type 0} (l : ℕ) (x : Answer A) (f : A → List ℕ → Answer B)
+pub then-faulty : {A B : Type 0} (l : ℕ) (x : Answer A) (f : A → List ℕ → Answer B)
     → Faulty l x → ((a : A) (s : List ℕ) → Faulty l (f a s)) → Faulty l (then x f)
 unfolding then
 then-faulty l (got a s) f h k = k a s
@@ -241,7 +241,7 @@ unfolding readFollowing if
 following-faulty l ds [] = refl
 following-faulty l ds (d ∷ s) = if-cases (Faulty l) (ltb d 128) _ _ (λ e. tt) λ e. following-faulty l (ds ++ (d ∷ [])) s
 
-identifier-faulty : (m : List ℕ) → Faulty (length m) (readIdentifier m)
+pub identifier-faulty : (m : List ℕ) → Faulty (length m) (readIdentifier m)
 unfolding readIdentifier if
 identifier-faulty [] = refl
 identifier-faulty (b ∷ s) =
@@ -259,7 +259,7 @@ long-faulty : (l k : ℕ) (s : List ℕ) → Faulty l (readLong l k s)
 unfolding readLong if
 long-faulty l k s = if-cases (Faulty l) (leb k (length s)) _ _ (λ e. fit-faulty l _ _) λ e. refl
 
-length-faulty : (l : ℕ) (s : List ℕ) → Faulty l (readLength l s)
+pub length-faulty : (l : ℕ) (s : List ℕ) → Faulty l (readLength l s)
 unfolding readLength if
 length-faulty l [] = refl
 length-faulty l (b ∷ s) =
@@ -267,16 +267,16 @@ length-faulty l (b ∷ s) =
     if-cases (Faulty l) (eqb b 128) _ _ (λ e. tt) λ e.
     if-cases (Faulty l) (ltb b 255) _ _ (λ e. long-faulty l (b - 128) s) λ e. refl
 
-the-refusal : {A : Type 0} {c : Cause} {l k : ℕ} (x : Answer A) → Faulty l x → x ≡ refused c k → x ≡ refused c l
+pub the-refusal : {A : Type 0} {c : Cause} {l k : ℕ} (x : Answer A) → Faulty l x → x ≡ refused c k → x ≡ refused c l
 the-refusal {A} {c} {l} {k} x h e = let q : Faulty {A = A} l (refused c k) = rw e at h in e ∙ rw q
 
 -- what an answer says of an identifier
 module _ (n : ℕ) where
-  abbrev Says : Answer (List ℕ) → Identifier → Type 0
+  abbrev pub Says : Answer (List ℕ) → Identifier → Type 0
   Says x (Read c e) = (i : List ℕ) × (w : List ℕ) × (x ≡ got i w) × (codeOf i ≡ c) × (n - length w ≡ e)
   Says x (NoIdentifier c) = (l : ℕ) × (x ≡ refused c l)
 
-  says : (x : Answer (List ℕ)) → Says x (toldIdentifier n x)
+  pub says : (x : Answer (List ℕ)) → Says x (toldIdentifier n x)
   unfolding toldIdentifier
   says (got i w) = (i, w, refl, refl, refl)
   says (refused c l) = (l, refl)
@@ -335,11 +335,11 @@ octets-some (short h e) = rw e (omega arith)
 octets-some (long ds a b c e) = rw e (omega arith)
 
 -- the contents have room behind the length octets
-abbrev Room : Size → List ℕ → Type 0
+abbrev pub Room : Size → List ℕ → Type 0
 Room (definite n) w = n ≤ length w
 Room indefinite w = Unit {0}
 
-shape-some : {s : List ℕ} {z : Size} {w : List ℕ} → Shape s z w → (p : List ℕ) × (s ≡ p ++ w) × (0 < length p) × Room z w
+pub shape-some : {s : List ℕ} {z : Size} {w : List ℕ} → Shape s z w → (p : List ℕ) × (s ≡ p ++ w) × (0 < length p) × Room z w
 shape-some (is-definite m e l h) = (m, e, octets-some l, h)
 shape-some (is-indefinite e) = (128 ∷ [], e, omega arith, tt)
 

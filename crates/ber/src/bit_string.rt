@@ -47,3 +47,16 @@ pub fn copy_masked(c: &[u8], n: usize, part: &mut [u8])
     let x = c[last];
     part[last] = x / p * p;
 }
+
+// Clears the last n bits of octets, of at most seven.
+pub fn mask(n: usize, part: &mut [u8])
+    ensures { λ _. ⌜ now (part .exit) ≡ masked (n % 8) (now (part .entry)) ⌝ }
+{
+    let k = part.len();
+    if k == 0 {
+        return;
+    }
+    let last = k - 1;
+    let p = unit(n);
+    part[last] = part[last] / p * p;
+}

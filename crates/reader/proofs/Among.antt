@@ -3,6 +3,7 @@
 use borrow.Author.Tests.{ltb-true, ltb-false}
 use lib.Dec.{ltb}
 use lib.ListN.{length, getD, set}
+use mathlib.Core.Bool.{Bool, true, false}
 use mathlib.Core.List.{List}
 use mathlib.Core.Path.{_≡_, refl, sym, ap, _∙_}
 use native.Mathlib.Numerals.{add-one}
@@ -17,11 +18,11 @@ use Rattle.table.specs.Reading.{everyAt}
 use Rattle.table.specs.Entries.{unpacked, counted, tableIn, countIn}
 use Rattle.table.specs.declared.entry.Span.{Span}
 use Rattle.table.proofs.Promises.{entered-choice}
-use Rattle.reader.specs.Codes.{firstOf, untagged}
+use Rattle.reader.specs.Codes.{firstOf, untagged, startsWith}
 use Rattle.reader.specs.Ways.{here}
-use Rattle.reader.specs.Records.{Ready, Finds}
+use Rattle.reader.specs.Records.{Ready, Begins, Finds}
 use Rattle.reader.specs.declared.search.Under.the-variants.{Nothing, At}
-use Rattle.reader.proofs.Begun.{Fit, bare, fit, nested, nested-all}
+use Rattle.reader.proofs.Begun.{Fit, bare, first-most, fit, nested, nested-all}
 use Rattle.reader.proofs.ItemsWay.{Looking, look-first, look-found, look-down, look-next, look-none, look-back, look-above, look-deep}
 use Rattle.reader.proofs.ItemsWay.{turnsLeft, fewer-down, fewer-next, fewer-back, search-here, search-other}
 
@@ -53,6 +54,12 @@ module _ {b ix : List ℕ} (R : Ready b ix) where
 
   pub code-is : (a f : ℕ) → a < countIn b → f ≡ unpacked (getD ix a 0) .code → f ≡ firstOf (T a)
   code-is a f h e = e ∙ R .filled .entered a h .code
+
+  pub code-most : (a : ℕ) → a < countIn b → unpacked (getD ix a 0) .code ≤ untagged
+  code-most a h = let q = first-most (T a) (F a) in omega (arith, R .filled .entered a h .code, q)
+
+  pub starts-is : (code a : ℕ) (g : Bool) → a < countIn b → Begins (getD ix a 0) code g → g ≡ startsWith (T a) code
+  starts-is code a g h e = e b (T a) (R .filled .entered a h)
 
   pub alternatives-of : (x : ℕ) (s : Span) → x < countIn b → firstOf (T x) ≡ untagged → s ≡ counted b (unpacked (getD ix x 0) .own) 1 → Alternatives b x s
   unfolding siblings
@@ -92,16 +99,15 @@ module _ {b ix : List ℕ} (R : Ready b ix) where
       record { looking = look-first T F (nested-all b T (countIn b) (R .passes)) code (λ z. omega arith) way t e; low = h; deep = omega arith }
 
   -- a record itself
-  pub seek-here : (code : ℕ) (way : List ℕ) (t f : ℕ) → code < untagged → t < countIn b → f ≡ unpacked (getD ix t 0) .code → f ≡ code → Finds b code way t (At t 0)
-  seek-here code way t f tag h ef e =
-      let q = sym (code-is t f h ef) ∙ e in
+  pub seek-here : (code : ℕ) (way : List ℕ) (t : ℕ) (g : Bool) → code < untagged → t < countIn b → Begins (getD ix t 0) code g → g ≡ true → Finds b code way t (At t 0)
+  seek-here code way t g tag h eg e =
+      let q = sym (starts-is code t g h eg) ∙ e in
       (search-here T F (nested-all b T (countIn b) (R .passes)) code (λ z. omega arith) t q, here, q, h)
 
-  pub seek-other : (code : ℕ) (way : List ℕ) (t f : ℕ) → code < untagged → t < countIn b → f ≡ unpacked (getD ix t 0) .code → (f ≡ code → ⊥) → (f ≡ untagged → ⊥)
-      → Finds b code way t Nothing
-  seek-other code way t f tag h ef e g =
-      let q = code-is t f h ef in
-      search-other T F (nested-all b T (countIn b) (R .passes)) code (λ z. omega arith) t (λ z. e (q ∙ z)) (λ z. g (q ∙ z))
+  pub seek-other : (code : ℕ) (way : List ℕ) (t : ℕ) (g : Bool) (f : ℕ) → code < untagged → t < countIn b → Begins (getD ix t 0) code g → g ≡ false
+      → f ≡ unpacked (getD ix t 0) .code → (f ≡ untagged → ⊥) → Finds b code way t Nothing
+  seek-other code way t g f tag h eg e ef n =
+      search-other T F (nested-all b T (countIn b) (R .passes)) code (λ z. omega arith) t (sym (starts-is code t g h eg) ∙ e) (λ z. n (code-is t f h ef ∙ z))
 
 -- one turn: the CHOICE x has its alternatives at s
 pub record Turn (b ix : List ℕ) (code : ℕ) (way : List ℕ) (t d x j : ℕ) (s : Span) : Type 0 where
@@ -151,37 +157,40 @@ module _ {b ix : List ℕ} {code : ℕ} {way : List ℕ} {t d x j : ℕ} {s : Sp
           room = omega (arith, P .ready .passes .few);
         }
 
-    module _ {f : ℕ} (ef : f ≡ unpacked (getD ix a 0) .code) where
+    module _ {g : Bool} (eg : Begins (getD ix a 0) code g) where
       abbrev Noted : List ℕ
       Noted = set way d (16 * x + j)
 
-      its-first : f ≡ firstOf (Tb (getD (siblings (Tb x .body)) j 0))
-      its-first = code-is (P .ready) a f (next .small) ef ∙ ap (λ (u : ℕ). firstOf (Tb u)) is-part
+      its-start : g ≡ startsWith (Tb (getD (siblings (Tb x .body)) j 0)) code
+      its-start = starts-is (P .ready) code a g (next .small) eg ∙ ap (λ (u : ℕ). startsWith (Tb u) code) is-part
 
       room-way : d < length way
       room-way = omega (arith, next .room, P .wide)
 
-      pub among-found : f ≡ code → Finds b code Noted t (At a (d + 1))
+      pub among-found : g ≡ true → Finds b code Noted t (At a (d + 1))
       among-found e =
-          let y = look-found Tb Fb N code not-tag way t d x j (P .amid .looking) within (next .few) room-way (sym its-first ∙ e) in
-          rw (add-one, is-part) (y .0, y .1, sym its-first ∙ e, rw is-part at (next .small))
+          let y = look-found Tb Fb N code not-tag way t d x j (P .amid .looking) within (next .few) room-way (sym its-start ∙ e) in
+          rw (add-one, is-part) (y .0, y .1, sym its-start ∙ e, rw is-part at (next .small))
 
-      pub among-down : f ≡ untagged → Amid b code Noted t (d + 1) a 0
-      among-down e =
+      its-first : (f : ℕ) → f ≡ unpacked (getD ix a 0) .code → f ≡ firstOf (Tb (getD (siblings (Tb x .body)) j 0))
+      its-first f ef = code-is (P .ready) a f (next .small) ef ∙ ap (λ (u : ℕ). firstOf (Tb u)) is-part
+
+      pub among-down : (f : ℕ) → f ≡ unpacked (getD ix a 0) .code → f ≡ untagged → Amid b code Noted t (d + 1) a 0
+      among-down f ef e =
           rw (add-one, is-part)
           (record {
-            looking = look-down Tb Fb N code not-tag way t d x j (P .amid .looking) within (next .few) room-way (sym its-first ∙ e);
+            looking = look-down Tb Fb N code not-tag way t d x j (P .amid .looking) within (next .few) room-way (sym (its-first f ef) ∙ e);
             low = rw is-part at (next .small);
             deep = omega (arith, next .deep);
           })
 
-      pub among-next : (f ≡ code → ⊥) → (f ≡ untagged → ⊥) → Amid b code Noted t d x (j + 1)
-      among-next e g =
+      pub among-next : g ≡ false → (f : ℕ) → f ≡ unpacked (getD ix a 0) .code → (f ≡ untagged → ⊥) → Amid b code Noted t d x (j + 1)
+      among-next e f ef n =
           rw add-one
           (record {
             looking =
                 look-next Tb Fb N code not-tag way t d x j (P .amid .looking) within
-                (next .few) room-way (λ z. e (its-first ∙ z)) (λ z. g (its-first ∙ z));
+                (next .few) room-way (sym its-start ∙ e) (λ z. n (its-first f ef ∙ z));
             low = P .amid .low;
             deep = P .amid .deep;
           })

@@ -13,11 +13,12 @@ use Rattle.x690.specs.Reading.{Mode}
 use Rattle.x690.specs.Reading.{readConstructed}
 use Rattle.table.specs.Syntax.{Simple, Body, Plain, Sequence, Set}
 use Rattle.table.specs.Syntax.{SequenceOf, SetOf, Choice, Record, Table, isChoice, constructed}
+use Rattle.table.specs.Octets.{kind}
 use Rattle.table.specs.Rules.{members}
 use Rattle.table.specs.Reading.{bodyAt}
 use Rattle.table.specs.Entries.{unpacked, tableIn, countIn}
 use Rattle.table.specs.declared.entry.Entry.{Entry}
-use Rattle.table.proofs.Promises.{kind-choice, entered-members}
+use Rattle.table.proofs.Promises.{kind-choice, entered-kind, entered-members}
 use Rattle.coding.specs.Tags.{ownTag}
 use Rattle.coding.specs.Value.{Value}
 use Rattle.coding.specs.Reading.{readValue}
@@ -84,6 +85,9 @@ module _ {b index : List ℕ} (R : Ready b index) {w : ℕ} (I : IsRecord b inde
 
   pub its-body : bodyAt b (unpacked w .kind) (unpacked w .own) ≡ r .body
   its-body = its-entry R I .body ∙ ap (λ (x : Record). x .body) (sym (its-record R I))
+
+  pub its-kind : unpacked w .kind ≡ kind (r .body)
+  its-kind = entered-kind (its-entry R I) ∙ ap (λ (x : Record). kind (x .body)) (sym (its-record R I))
 
   pub its-holder : held b w ≡ inside (r .body)
   its-holder = held-body (its-entry R I) (R .filled .short) ∙ ap (λ (x : Record). inside (x .body)) (sym (its-record R I))

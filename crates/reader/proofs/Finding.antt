@@ -1,7 +1,5 @@
 -- What the search for the part that an item begins answers.
 -- Assumes nothing.
-use borrow.Author.Tests.{eqb-true}
-use lib.Dec.{eqb}
 use lib.ListN.{length, getD, drop}
 use lib.Seq.{drop-drop}
 use mathlib.Core.Bool.{true, false}
@@ -28,7 +26,7 @@ use Rattle.table.specs.declared.entry.Entry.{Entry}
 use Rattle.table.specs.declared.entry.Span.{Span}
 use Rattle.coding.specs.Reading.{passes, begun, notAwaited}
 use Rattle.coding.proofs.FirstTags.{good}
-use Rattle.reader.specs.Codes.{firstOf, untagged, peeked}
+use Rattle.reader.specs.Codes.{untagged, startsWith, peeked}
 use Rattle.reader.specs.Items.{Holder, manner, partsOf, Placed, awaits, remains, isSingle, first, next}
 use Rattle.reader.specs.Records.{Ready, Known, of-record, of-message, holderIn, Finds}
 use Rattle.reader.specs.Sought.{held, placeOf, tabledCount, direct, unfit, unfitCause, Indirect, Sought}
@@ -107,28 +105,28 @@ module _ {b index : List ℕ} {w : ℕ} {came : List ℕ} {e : Entry} {s : Span}
       abbrev At-place : PartAt b H (unpacked w .kind) s place
       At-place = spanned D .at place l
 
-      first-part : (z : Option Placed) → first (λ x. eqb (firstOf (T (x .1 .type))) code) (awaits H i came) ≡ z → place ≡ placeOf (tabledCount H) z
-          → first (λ x. eqb (firstOf (T (x .1 .type))) code) (awaits H i came) ≡ some (place, At-place .part)
+      first-part : (z : Option Placed) → first (λ x. startsWith (T (x .1 .type)) code) (awaits H i came) ≡ z → place ≡ placeOf (tabledCount H) z
+          → first (λ x. startsWith (T (x .1 .type)) code) (awaits H i came) ≡ some (place, At-place .part)
       first-part none a d = let k = spanned D .count in absurd (omega arith)
       first-part (some x) a d =
-          let F = found-of came i (drop i (partsOf H)) _ x (awaits-found H i came (λ x. eqb (firstOf (T (x .1 .type))) code)) a in
+          let F = found-of came i (drop i (partsOf H)) _ x (awaits-found H i came (λ x. startsWith (T (x .1 .type)) code)) a in
           let n : i + F .offset ≡ place = omega (arith, F .place, d) in
           let u : drop place (partsOf H) ≡ x .1 ∷ drop (suc (F .offset)) (drop i (partsOf H)) = rw (← n) (sym (drop-drop (F .offset) i (partsOf H)) ∙ F .is) in
           let v : x .1 ≡ At-place .part = ap (λ (z : List Member). getD z 0 (x .1)) (sym u ∙ At-place .is) in
           a ∙ ap (λ (z : Placed). some z) (paired x place (At-place .part) d v)
 
-      its-first : first (λ x. eqb (firstOf (T (x .1 .type))) code) (awaits H i came) ≡ some (place, At-place .part)
+      its-first : first (λ x. startsWith (T (x .1 .type)) code) (awaits H i came) ≡ some (place, At-place .part)
       its-first =
           let k = tabled-some H (omega (arith, spanned D .count)) .1 i came in
-          first-part _ refl (ep ∙ ap (λ (z : List Placed). placeOf (tabledCount H) (first (λ x. eqb (firstOf (T (x .1 .type))) code) z)) k)
+          first-part _ refl (ep ∙ ap (λ (z : List Placed). placeOf (tabledCount H) (first (λ x. startsWith (T (x .1 .type)) code) z)) k)
 
-      begins-itself : eqb (firstOf (T (At-place .part .type))) code ≡ true
-      begins-itself = first-passes (λ x. eqb (firstOf (T (x .1 .type))) code) (awaits H i came) (place, At-place .part) its-first
+      begins-itself : startsWith (T (At-place .part .type)) code ≡ true
+      begins-itself = first-passes (λ x. startsWith (T (x .1 .type)) code) (awaits H i came) (place, At-place .part) its-first
 
       its-way : Finds b code way (At-place .part .type) (At (At-place .part .type) 0)
       its-way =
           let t = At-place .part .type in
-          (search-itself T m code its-tells t begins-itself, here, eqb-true (firstOf (T t)) code begins-itself, type-low D place l t (sym (At-place .type)))
+          (search-itself T m code its-tells t begins-itself, here, begins-itself, type-low D place l t (sym (At-place .type)))
 
       pub sought-direct : (t : ℕ) → t ≡ getD b (s .first + s .step * place) 0
           → (part : Member) × (a : List ℕ) × (next T H i came m ≡ some (place, part)) × (readIdentifier m ≡ got a (drop end m)) × (0 < end) × (end ≤ length m)

@@ -1,6 +1,6 @@
 -- The item at a place of a message: the part that it begins, the record under that part which begins with its code, and what is read of it.
 -- Assumes nothing.
-use borrow.Author.Tests.{eq-eqb, eqb-true, eqb-false, lt-ltb, ltb-true, ltb-false}
+use borrow.Author.Tests.{eqb-true, eqb-false, lt-ltb, ltb-true, ltb-false}
 use lib.Dec.{eqb, ltb}
 use lib.ListN.{length, getD, take, drop, length-drop}
 use lib.Seq.{drop-drop}
@@ -25,10 +25,10 @@ use Rattle.table.specs.declared.entry.Entry.{Entry}
 use Rattle.table.specs.declared.entry.Span.{Span}
 use Rattle.table.specs.Passes.{Nested}
 use Rattle.coding.specs.Reading.{begun, readValue}
-use Rattle.reader.specs.Codes.{firstOf, peeked, hit}
+use Rattle.reader.specs.Codes.{firstOf, either, startsWith, peeked, hit}
 use Rattle.reader.specs.Items.{Holder, Manner, in-turn, each-once, repeated, single, manner, partsOf, Placed}
 use Rattle.reader.specs.Items.{pending, within, since, first, next}
-use Rattle.reader.specs.Records.{Ready}
+use Rattle.reader.specs.Records.{Ready, recordIn}
 use Rattle.reader.specs.Sought.{held, Sought}
 use Rattle.reader.specs.Ways.{Leads, here, wrapped}
 use Rattle.reader.specs.Wraps.{Headed}
@@ -37,6 +37,7 @@ use Rattle.reader.specs.declared.search.Found.{Found}
 use Rattle.reader.specs.declared.search.Found.the-variants.{Part}
 use Rattle.reader.proofs.Among.{code-is}
 use Rattle.reader.proofs.Begun.{Fit, fit, nested-all}
+use Rattle.reader.proofs.Starts.{coded-is, coded-least}
 use Rattle.reader.proofs.Items.{first-hit, first-miss, pending-free, pending-come, no-cons}
 use Rattle.reader.proofs.ItemsSearch.{Lone, GoodHolder, lone-awaits, Tells, tells, search-itself, first-any}
 use Rattle.reader.proofs.ItemsWay.{way-level, way-value}
@@ -44,6 +45,7 @@ use Rattle.reader.proofs.Searching.{Parted, spanned, type-low, clear-tu
 use Rattle.reader.proofs.Finding.{good-held}
 use Rattle.reader.proofs.Spans.{PartAt, its, awaits-hit}
 use Rattle.reader.proofs.Opening.{octets-drop}
+use Rattle.reader.proofs.Tagging.{record-is}
 
 -- the part at hand, which has not come, is the one that the item begins, if the item begins it
 module _ (f : Placed → Bool) (came : List ℕ) (k : Member) where
@@ -148,7 +150,7 @@ pub record At-item (b : List ℕ) (h : Holder) (m : List ℕ) (at i : ℕ) (came
   pub further : at < from
   pub low : from ≤ length m
   pub leads : Leads (tableIn b) (codeOf identifier) way (part .type) depth number
-  pub its : firstOf (tableIn b number) ≡ codeOf identifier
+  pub its : startsWith (tableIn b number) (codeOf identifier) ≡ true
   pub there : number < countIn b
 
 -- what was sought
@@ -202,9 +204,9 @@ module _ {b index : List ℕ} {w : ℕ} {came : List ℕ} {e : Entry} {s : Span}
   its-read : readIdentifier (drop at m) ≡ got (getD m at 0 ∷ []) (drop (at + 1) m)
   its-read = let k = o at in let c = its-code in read-one m at here-is (rw c (short-first (Records t) (omega arith)))
 
-  its-first : firstOf (Records t) ≡ codeOf (getD m at 0 ∷ [])
+  its-first : startsWith (Records t) (codeOf (getD m at 0 ∷ [])) ≡ true
   unfolding codeOf
-  its-first = sym its-code
+  its-first = coded-is _ (firstOf (Records t)) (getD m at 0) (sym its-code)
 
   its-tells : Tells Records (drop at m) (codeOf (getD m at 0 ∷ []))
   its-tells = code-tells (D .sound .ready) (drop at m) (octets-drop m o at) (getD m at 0 ∷ []) (drop (at + 1) m) its-read
@@ -212,7 +214,7 @@ module _ {b index : List ℕ} {w : ℕ} {came : List ℕ} {e : Entry} {s : Span}
   its-begun : begun Records t (drop at m) ≡ true
   its-begun =
       let c = codeOf (getD m at 0 ∷ []) in
-      its-tells t ∙ ap hit (search-itself Records (drop at m) c its-tells t (eq-eqb (firstOf (Records t)) c its-first))
+      its-tells t ∙ ap hit (search-itself Records (drop at m) c its-tells t its-first)
 
   abbrev Part-j : PartAt b Held (unpacked w .kind) s j
   Part-j = spanned D .at j l
@@ -243,7 +245,7 @@ module _ {b index : List ℕ} (R : Ready b index) {h : Holder} {m : List ℕ} (o
   code-small = omega (arith, read-code-small (drop at m) (X .identifier) (drop from m) (octets-drop m o at) (X .read))
 
   pub item-tagged : firstOf (tableIn b number) ≡ untagged → ⊥
-  item-tagged z = omega (arith, code-small, X .its)
+  item-tagged z = omega (arith, code-small, coded-least _ (firstOf (tableIn b number)) Code (X .its))
 
   not-bare : Code ≡ untagged → ⊥
   not-bare z = omega (arith, code-small)
@@ -264,12 +266,12 @@ module _ {b index : List ℕ} (R : Ready b index) {h : Holder} {m : List ℕ} (o
       ≡ then (readValue (tableIn b) (n - depth) number (drop at m)) λ v u. got (wrapped way depth v) u
   item-value n l = way-value (tableIn b) all-fit all-nested Code not-bare (drop at m) its-told (X .leads) (X .its) n l
 
-  pub item-headed : Headed m at from (unpacked (getD index number 0) .code)
+  pub item-headed : let e = unpacked (getD index number 0) in Headed m at from (either (recordIn b e)) (e .code)
   item-headed =
       record {
         identifier = X .identifier;
         is = X .read;
-        coded = sym (X .its) ∙ sym (R .filled .entered number (X .there) .code);
+        coded = let x = R .filled .entered number (X .there) in rw (record-is x, x .code) (X .its);
         further = X .further;
         low = X .low;
       }

@@ -17,7 +17,7 @@ use Rattle.table.specs.Syntax.{Member, Plain, Sequence, Set, SequenceOf, SetOf,
 use Rattle.coding.specs.Awaited.{types, awaited, begins}
 use Rattle.coding.specs.Reading.{passes, begun}
 use Rattle.coding.proofs.FirstTags.{Distinct, Apart, GoodBody}
-use Rattle.reader.specs.Codes.{firstOf, peeked, hit, searchIn}
+use Rattle.reader.specs.Codes.{startsWith, peeked, hit, searchIn}
 use Rattle.reader.specs.declared.search.Under.the-variants.{At}
 use Rattle.reader.proofs.Begun.{Fit, begun-hit}
 use Rattle.reader.specs.Items.{Holder, inside, message, in-turn, manner, partsOf, optionals, Placed, pending, upToMandatory, within, awaits}
@@ -153,19 +153,19 @@ pub tells : (T : Table) → ((t : ℕ) → Fit (T t)) → (s : List ℕ) → Oct
 tells T fine s o t = begun-hit T fine t s o
 
 module _ (T : Table) (s : List ℕ) (code : ℕ) (known : Tells T s code) where
-  pub search-itself : (t : ℕ) → eqb (firstOf (T t)) code ≡ true → searchIn T 129 t code ≡ At t 0
+  pub search-itself : (t : ℕ) → startsWith (T t) code ≡ true → searchIn T 129 t code ≡ At t 0
   unfolding searchIn if
   search-itself t e = rw e refl
 
-  itself-begun : (t : ℕ) → eqb (firstOf (T t)) code ≡ true → begun T t s ≡ true
+  itself-begun : (t : ℕ) → startsWith (T t) code ≡ true → begun T t s ≡ true
   itself-begun t e = known t ∙ ap hit (search-itself t e)
 
   module _ (h : Holder) (good : GoodHolder T h) (j : ℕ) (came : List ℕ) (clear : (p : ℕ) → manner h ≡ in-turn → getD came p 0 ≡ 0) where
     -- the first that begins with the code itself is the one that is begun
-    pub direct-next : (x : Placed) → first (λ x. eqb (firstOf (T (x .1 .type))) code) (awaits h j came) ≡ some x
+    pub direct-next : (x : Placed) → first (λ x. startsWith (T (x .1 .type)) code) (awaits h j came) ≡ some x
         → first (λ x. begun T (x .1 .type) s) (awaits h j came) ≡ some x
     direct-next x e =
-        first-lone (λ x. eqb (firstOf (T (x .1 .type))) code) (Begun T s) (λ x. itself-begun (x .1 .type))
+        first-lone (λ x. startsWith (T (x .1 .type)) code) (Begun T s) (λ x. itself-begun (x .1 .type))
         (awaits h j came) (lone-awaits T s h good j came clear) x e
 
   -- in all cases it is the first under which the search finds a record

@@ -18,12 +18,13 @@ use Rattle.table.specs.Rules.{siblings, below}
 use Rattle.table.specs.Passes.{Nested}
 use Rattle.coding.specs.Value.{Value, choice, octets}
 use Rattle.coding.specs.Reading.{begun, readWrapped, readKind, choose, readValue}
-use Rattle.reader.specs.Codes.{firstOf, untagged, hit, pick, among, searchIn}
+use Rattle.reader.specs.Codes.{firstOf, untagged, startsWith, hit, pick, among, searchIn}
 use Rattle.reader.specs.declared.search.Under.{Under as Found}
 use Rattle.reader.specs.declared.search.Under.the-variants.{Nothing, At}
 use Rattle.reader.proofs.Begun.{Fit}
 use Rattle.reader.specs.Ways.{Leads, here, through, wrapped}
-use Rattle.reader.proofs.Begun.{search-step, bare}
+use Rattle.reader.proofs.Begun.{search-step, bare, bare-either}
+use Rattle.reader.proofs.Starts.{coded-one}
 use Rattle.reader.proofs.Items.{then-self, then-same, then-then}
 use Rattle.reader.proofs.ItemsSearch.{Tells}
 
@@ -57,17 +58,21 @@ module _ (T : Table) (F : (t : ℕ) → Fit (T t)) (N : (t : ℕ) → Nested T 1
   Parts x = siblings (T x .body)
 
   -- one record
-  pub search-here : (a : ℕ) → firstOf (T a) ≡ code → Search a ≡ At a 0
+  pub search-here : (a : ℕ) → startsWith (T a) code ≡ true → Search a ≡ At a 0
   unfolding searchIn if
-  search-here a e = rw (eq-eqb (firstOf (T a)) code e) refl
+  search-here a e = rw e refl
 
-  pub search-other : (a : ℕ) → (firstOf (T a) ≡ code → ⊥) → (firstOf (T a) ≡ untagged → ⊥) → Search a ≡ Nothing
+  pub search-other : (a : ℕ) → startsWith (T a) code ≡ false → (firstOf (T a) ≡ untagged → ⊥) → Search a ≡ Nothing
   unfolding searchIn if
-  search-other a e g = rw (ne-eqb (firstOf (T a)) code e, ne-eqb (firstOf (T a)) untagged g) refl
+  search-other a e g = rw (e, ne-eqb (firstOf (T a)) untagged g) refl
+
+  bare-starts : (x : ℕ) → firstOf (T x) ≡ untagged → startsWith (T x) code ≡ false
+  bare-starts x e =
+      rw (bare-either (T x) (bare (T x) (F x) e)) (coded-one (firstOf (T x)) code ∙ ne-eqb (firstOf (T x)) code (λ q. tag (sym q ∙ e)))
 
   pub search-bare : (x : ℕ) → firstOf (T x) ≡ untagged → Search x ≡ among Search (Parts x)
   unfolding if
-  search-bare x e = search-step T F x code (N x) ∙ rw (ne-eqb (firstOf (T x)) code (λ q. tag (sym q ∙ e)), eq-eqb (firstOf (T x)) untagged e) refl
+  search-bare x e = search-step T F x code (N x) ∙ rw (bare-starts x e, eq-eqb (firstOf (T x)) untagged e) refl
 
   -- what is found at the end of a way is found from its beginning
   pub leads-found : {way : List ℕ} {t d x : ℕ} → Leads T code way t d x → (u e : ℕ) → Search x ≡ At u e → Search t ≡ At u (d + e)
@@ -99,13 +104,13 @@ module _ (T : Table) (F : (t : ℕ) → Fit (T t)) (N : (t : ℕ) → Nested T 1
       look-led : Leads T code Noted t (suc d) Alternative
       look-led = through j (leads-set d (16 * x + j) (omega arith) (S .led)) (S .bare) (getD-set-same way d (16 * x + j) 0 room) s h (S .missed)
 
-      pub look-found : firstOf (T Alternative) ≡ code → (Search t ≡ At Alternative (suc d)) × Leads T code Noted t (suc d) Alternative
+      pub look-found : startsWith (T Alternative) code ≡ true → (Search t ≡ At Alternative (suc d)) × Leads T code Noted t (suc d) Alternative
       look-found e = (leads-found look-led Alternative 0 (search-here Alternative e) ∙ ap (At Alternative) (omega arith), look-led)
 
       pub look-down : firstOf (T Alternative) ≡ untagged → Looking T code Noted t (suc d) Alternative 0
       look-down e = record { led = look-led; bare = e; missed = λ i k. absurd (omega arith) }
 
-      pub look-next : (firstOf (T Alternative) ≡ code → ⊥) → (firstOf (T Alternative) ≡ untagged → ⊥) → Looking T code Noted t d x (suc j)
+      pub look-next : startsWith (T Alternative) code ≡ false → (firstOf (T Alternative) ≡ untagged → ⊥) → Looking T code Noted t d x (suc j)
       look-next e g =
           record {
             led = leads-set d (16 * x + j) (omega arith) (S .led);
@@ -291,7 +296,7 @@ module _ (T : Table) (F : (t : ℕ) → Fit (T t)) (N : (t : ℕ) → Nested T 1
           test (eqb n d) (λ q. (x, suc e, rw (eqb-true n d q) l, y)) λ q. shorter l (suc e) y (omega (arith, eqb-false n d q))
 
   -- the value of t, under d CHOICEs of which each takes a level
-  module _ {way : List ℕ} {t d u : ℕ} (l : Leads T code way t d u) (its : firstOf (T u) ≡ code) where
+  module _ {way : List ℕ} {t d u : ℕ} (l : Leads T code way t d u) (its : startsWith (T u) code ≡ true) where
     pub way-level : (n : ℕ) → n ≤ d → readValue T n t s ≡ refused MessageLevel (length s)
     unfolding readValue then
     way-level n h =

@@ -37,6 +37,7 @@ use Rattle.reader.specs.Items.{Holder, inside, message, Manner, in-turn,
 use Rattle.reader.specs.Items.{upToMandatory, within, left, some-of, remains, lacks, since, following, noted, isSingle, first, next}
 use Rattle.reader.specs.Items.{nodeSize, blank, readHeld}
 use Rattle.reader.specs.Placing.{kindOf, onward, nodeOf}
+use Rattle.reader.specs.Codes.{either}
 use Rattle.reader.specs.Records.{Ready, Known, IsRecord, recordIn, readRecord}
 use Rattle.reader.specs.Sought.{held, Sound, unfit, Sought}
 use Rattle.reader.specs.Standing.{atEnding, standing}
@@ -464,7 +465,7 @@ module _ {Q : Setting} {P : Turn Q} (X : Comes P) where
   abbrev pub is-record : IsRecord (Q .b) (Q .index) Entry-of
   is-record = (X .type, X .is .there, refl)
 
-  pub is-headed : Headed (P .m) (P .at) (X .from) (unpacked Entry-of .code)
+  pub is-headed : Headed (P .m) (P .at) (X .from) (either (recordIn (Q .b) (unpacked Entry-of))) (unpacked Entry-of .code)
   is-headed = item-headed (Q .ready) (P .octets) (X .is)
 
 -- whose value was judged

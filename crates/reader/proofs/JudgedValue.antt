@@ -1,36 +1,43 @@
 -- A value of a record in a message: under its explicit tags, its length, its contents, simple ones or items, and what stands behind them.
 -- Assumes nothing.
-use lib.ListN.{length, take, drop, length-drop}
-use mathlib.Core.Bool.{true, false, not}
+use lib.ListN.{length, getD, take, drop, length-drop}
+use lib.Seq.{drop-drop}
+use mathlib.Core.Bool.{Bool, true, false, not, false≢true}
 use mathlib.Core.List.{List, [], _∷_}
+use mathlib.Core.Logic.{_⊎_, inl, inr}
 use mathlib.Core.Option.{some}
-use mathlib.Core.Path.{_≡_, refl, sym, ap, _∙_}
+use mathlib.Core.Path.{_≡_, refl, sym, ap, subst, _∙_}
 use native.Mathlib.Omega.{arith}
 use Prim.Native.Nat.{ℕ, _+_, _-_, _≤_, _<_}
 use Rattle.octets.specs.declared.cause.Cause.{Cause}
-use Rattle.octets.specs.declared.cause.Cause.the-variants.{Cut, Forbidden, Contents, Trailing}
-use Rattle.octets.specs.Answer.{Answer, got, refused, then, if, none-left}
-use Rattle.octets.proofs.Answer.{got-holds, if-cases, refused≢got}
+use Rattle.octets.specs.declared.cause.Cause.the-variants.{Cut, Trailing}
+use Rattle.octets.specs.Answer.{Answer, got, refused, then, if, behind, none-left}
+use Rattle.octets.proofs.Answer.{refused≢got}
+use Rattle.octets.proofs.Tests.{test}
 use Rattle.x690.specs.Reading.{closed, readLength}
+use Rattle.x690.specs.Segments.{inEither}
 use Rattle.ber.specs.Told.{toldLength}
 use Rattle.ber.specs.declared.length.Length.{Length}
 use Rattle.ber.specs.declared.length.Length.the-variants.{Refused as NoLength}
 use Rattle.ber.proofs.Told.{length-refused}
 use Rattle.table.specs.Syntax.{Simple, Boolean, Integer, BitString, OctetString, Null, Enumerated, Body, Plain}
 use Rattle.table.specs.Syntax.{Record, Table}
+use Rattle.table.specs.Octets.{kind}
 use Rattle.table.specs.Reading.{bodyAt}
-use Rattle.table.specs.Entries.{unpacked, tableIn, countIn}
+use Rattle.table.specs.Entries.{unpacked, tableIn, countIn, Entered}
 use Rattle.table.specs.declared.entry.Entry.{Entry}
-use Rattle.coding.specs.Tags.{ownTag, explicit}
-use Rattle.coding.specs.Value.{Value, leaf, Leaf, leafOctets, octets}
-use Rattle.coding.specs.Reading.{decode, readValue, readMessage}
-use Rattle.coding.proofs.Content.{content-sound, content-complete}
+use Rattle.coding.specs.Content.{segmented}
+use Rattle.coding.specs.Tags.{explicit}
+use Rattle.coding.specs.Value.{Value, leaf, Leaf, octets}
+use Rattle.coding.specs.Reading.{readValue, readMessage}
 use Rattle.reader.specs.Answers.{cap, told, size}
 use Rattle.reader.specs.Items.{Holder, message}
 use Rattle.reader.specs.Items.{readHeld}
 use Rattle.reader.specs.Records.{Ready, IsRecord, Known, of-message, holderIn, readRecord}
 use Rattle.reader.specs.Sought.{held}
-use Rattle.reader.specs.Weights.{weight, leafWeight}
+use Rattle.reader.specs.Codes.{ownEither}
+use Rattle.reader.specs.Leaves.{inSegments, readLeaf, readLeafIn, leafSize}
+use Rattle.reader.specs.Weights.{sizeBy}
 use Rattle.reader.specs.Wraps.{closing, Around, readBare, Opens}
 use Rattle.reader.specs.declared.answer.Judged.{Judged}
 use Rattle.reader.specs.declared.answer.Judged.the-variants.{Done, Refused}
@@ -38,54 +45,20 @@ use Rattle.reader.specs.declared.tags.Opened.{Opened}
 use Rattle.reader.specs.declared.tags.Opened.the-variants.{Refused as NotOpened}
 use Rattle.reader.proofs.Items.{over}
 use Rattle.reader.proofs.ItemsKinds.{message-whole}
-use Rattle.reader.proofs.LeafKinds.{leaf-three}
-use Rattle.reader.proofs.Bodies.{recordOf, its-body}
-use Rattle.reader.proofs.Opening.{item-refused, its-count, its-few}
+use Rattle.reader.proofs.Bodies.{recordOf, its-body, its-kind}
+use Rattle.reader.proofs.LeafReading.{leafEnd, leaf-shift}
+use Rattle.reader.proofs.LeafCode.{whole-done}
+use Rattle.reader.proofs.Tagging.{its-entry}
+use Rattle.reader.proofs.Weighing.{by-whole}
+use Rattle.reader.proofs.Opening.{its-count, its-few}
 use Rattle.reader.proofs.Tails.{Sane, leaves, stops, tail-less, Closes, held-sane, not-none}
 use Rattle.reader.proofs.Told.{told-refused, told-done, tell-refused}
-use Rattle.reader.proofs.ValueParts.{Item, Filling, Rec, Part, Rest, Bare, left-part, own-header, no-choice, P, S, C, Own, Kept, Size-of}
+use Rattle.reader.proofs.ValueParts.{Item, Filling, Part, Rest, Bare, left-part, item-unsized, no-choice, P, S, C}
 use Rattle.reader.proofs.ValueParts.{size-C, size-part}
-use Rattle.reader.proofs.ValueParts.{contents-within, is-plain, plain-header, plain-open, leaf-read, Held, Fine, fine, reads, its-notes}
+use Rattle.reader.proofs.ValueParts.{contents-within, is-plain, leaf-read, leaf-lead, leaf-string, Held, Fine, fine, reads, its-notes}
 use Rattle.reader.proofs.ValueParts.{no-notes, tags-refused}
 use Rattle.reader.proofs.Wrapping.{closing-refused}
 use Rattle.reader.proofs.ClosedAlike.{closing-size}
-
--- Simple contents are read alike wherever they stand: their leaf has a size, and wrong ones are refused at the item.
-abbrev Only : ℕ → Answer Leaf → Type 0
-Only l (got x s) = Unit {0}
-Only l (refused c k) = (c ≡ Contents) × (k ≡ l)
-
-decode-only : (k : Simple) (l : ℕ) (c s : List ℕ) → Only l (decode k l c s)
-unfolding decode
-decode-only Boolean l c s = if-cases (Only l) _ _ _ (λ e. (refl, refl)) (λ e. tt)
-decode-only Integer l c s = if-cases (Only l) _ _ _ (λ e. (refl, refl)) (λ e. if-cases (Only l) _ _ _ (λ f. (refl, refl)) (λ f. tt))
-decode-only BitString l c s = if-cases (Only l) _ _ _ (λ e. (refl, refl)) (λ e. if-cases (Only l) _ _ _ (λ f. (refl, refl)) (λ f. tt))
-decode-only OctetString l c s = tt
-decode-only Null l c s = if-cases (Only l) _ _ _ (λ e. (refl, refl)) (λ e. tt)
-decode-only (Enumerated ns) l c s =
-    if-cases (Only l) _ _ _ (λ e. (refl, refl)) (λ e. if-cases (Only l) _ _ _ (λ f. (refl, refl))
-    (λ f. if-cases (Only l) _ _ _ (λ g. (refl, refl)) (λ g. tt)))
-
-decode-moves : (k : Simple) (l : ℕ) (c s : List ℕ) (l₂ : ℕ) (s₂ : List ℕ) (x : Leaf) (w : List ℕ) → decode k l c s ≡ got x w
-    → decode k l₂ c s₂ ≡ got x s₂
-decode-moves k l c s l₂ s₂ x w e = content-complete l₂ s₂ (got-holds (content-sound k l c s) e .1)
-
-module _ (k : Simple) (c : List ℕ) (l : ℕ) (s : List ℕ) (n : ℕ) (en : n ≡ weight (decode k 0 c [])) where
-  weight-none : n ≡ 0 → decode k l c s ≡ refused Contents l
-  unfolding weight
-  weight-none z = go (decode k l c s) refl
-    where
-      go : (y : Answer Leaf) → decode k l c s ≡ y → y ≡ refused Contents l
-      go (got x w) e = let q = rw (decode-moves k l c s 0 [] x w e) at en in absurd (omega (arith, leaf-three x))
-      go (refused a b) e = let (i, j) = rw e at (decode-only k l c s) in rw (i, j) refl
-
-  weight-some : (n ≡ 0 → ⊥) → (x : Leaf) × (decode k l c s ≡ got x s) × (n ≡ length (leafOctets x))
-  unfolding weight
-  weight-some z = go (decode k 0 c []) refl
-    where
-      go : (y : Answer Leaf) → decode k 0 c [] ≡ y → (x : Leaf) × (decode k l c s ≡ got x s) × (n ≡ length (leafOctets x))
-      go (got x w) e = (x, decode-moves k 0 c [] l s x w e, rw e at en)
-      go (refused a b) e = absurd (z (rw e at en))
 
 -- the item is read, its value has `count` octets, and what follows begins at `stop`
 pub record Over (b : List ℕ) (r : Record) (n : ℕ) (p : List ℕ) (at end stop count : ℕ) : Type 0 where
@@ -94,6 +67,20 @@ pub record Over (b : List ℕ) (r : Record) (n : ℕ) (p : List ℕ) (at end sto
   pub value : Value
   pub is : readBare b n r (drop at p) ≡ got value (drop stop p)
   pub sized : count ≡ cap (length (octets value))
+
+either-kind : (k : Simple) → inEither (segmented k) ≡ true → {y : Body} → y ≡ Plain k → ownEither y ≡ true
+unfolding ownEither
+either-kind k e q = rw q e
+
+-- a string by the number of its kind
+string-kind : (k : Simple) → inEither (segmented k) ≡ true → {n : ℕ} → n ≡ kind (Plain k) → (n ≡ 3) ⊎ (n ≡ 4)
+unfolding segmented kind
+string-kind Boolean e h = absurd (false≢true e)
+string-kind Integer e h = absurd (false≢true e)
+string-kind BitString e h = inl h
+string-kind OctetString e h = inr h
+string-kind Null e h = absurd (false≢true e)
+string-kind (Enumerated ns) e h = absurd (false≢true e)
 
 -- tags that were not opened
 pub value-unopened : {b index : List ℕ} (R : Ready b index) {w : ℕ} (I : IsRecord b index w) (m : List ℕ) (first : ℕ) (ns : List ℕ) (y : Opened)
@@ -126,44 +113,105 @@ module _ {b index : List ℕ} {w : ℕ} {m : List ℕ} {first level : ℕ} (X : 
   pub value-unread : (X .entry .kind ≡ 50 → ⊥) → (z : Length) → z ≡ toldLength (length (Part X)) (readLength (length (Rest X)) (drop (X .from) (Part X)))
       → (c : Cause) → z ≡ NoLength c → Refused c (length m - X .at) ≡ Wanted
   value-unread k z az c q =
-      let y = own-header X (no-choice X k) ∙ length-refused (Part X) (X .from) (length (Rest X)) z az c q in
-      item-unfit c (item-refused (tableIn b) _ (ownTag (Rec X)) (Rec X .body) (Rest X) c (length (Rest X)) (no-choice X k) y)
+      item-unfit c (item-unsized X (no-choice X k) c (length (Rest X)) (length-refused (Part X) (X .from) (length (Rest X)) z az c q))
 
 module _ {b index : List ℕ} {w : ℕ} {m : List ℕ} {first level : ℕ} (Y : Filling b index w m first level) where
   -- simple contents
   module _ (simple : Y .item .entry .simple ≡ true) where
-    pub value-indefinite : Y .indefinite ≡ true → Refused Forbidden (length m - Y .item .at) ≡ Wanted (Y .item)
-    value-indefinite t =
+    abbrev Lead : ℕ
+    Lead = getD m (Y .item .at) 0
+
+    pub leaf-kind : inSegments Lead ≡ true → (Y .item .entry .kind ≡ 3) ⊎ (Y .item .entry .kind ≡ 4)
+    leaf-kind t =
         let (k, q) = is-plain Y simple in
-        item-unfit (Y .item) Forbidden (plain-open (tableIn b) (readValue (tableIn b) level) (Own Y) (Kept Y) (S Y) k q (Y .indefinite) (Size-of Y)
-        (drop (Y .start) (P Y)) (plain-header Y simple k q) t)
+        let e = ap (λ (x : Entry). x .kind) (Y .item .entered) ∙ its-kind (Y .item .ready) (Y .item .known) ∙ ap kind q in
+        string-kind k (leaf-string Y simple k q (sym (leaf-lead Y simple k q) ∙ t)) e
 
-    module _ (sized : Y .indefinite ≡ false) (i : ℕ) (ei : i ≡ leafWeight (bodyAt b (Y .item .entry .kind) (Y .item .entry .own)) (C Y)) where
-      its-weight : (k : Simple) → Kept Y ≡ Plain k → i ≡ weight (decode k 0 (C Y) [])
-      unfolding leafWeight
-      its-weight k q =
-          ei ∙ ap (λ (x : Entry). leafWeight (bodyAt b (x .kind) (x .own)) (C Y)) (Y .item .entered)
-          ∙ ap (λ (y : Body). leafWeight y (C Y)) (its-body (Y .item .ready) (Y .item .known) ∙ q)
+    its-entered : Entered b (Y .item .entry) (tableIn b (Y .item .known .0))
+    its-entered = rw (Y .item .entered) (its-entry (Y .item .ready) (Y .item .known))
 
-      pub value-wrong : i ≡ 0 → Refused Contents (length m - Y .item .at) ≡ Wanted (Y .item)
-      unfolding then
-      value-wrong z =
+    module _ (y : Judged) (ey : y ≡ told (C Y) leafSize (readLeafIn (bodyAt b (Y .item .entry .kind) (Y .item .entry .own)) (inSegments Lead) (Y .indefinite)
+        (length m - Y .item .at) (length m - Y .stop) (C Y))) where
+      -- the same in the octets around the item, with what stands behind those
+      record Local : Type 0 where
+        answer : Answer Leaf
+        told-so : y ≡ told (C Y) leafSize (behind (length m - Y .item .end) answer)
+        reads-so : Bare (Y .item) ≡ leafEnd (C Y) (drop (Y .start) (P Y)) answer
+
+      local : Local
+      unfolding readLeafIn
+      local =
           let (k, q) = is-plain Y simple in
-          let y = weight-none k (C Y) (length (S Y)) (drop (Y .stop) (P Y)) i (its-weight k q) z in
-          item-unfit (Y .item) Contents (leaf-read Y simple sized k q ∙ rw y refl)
-
-      pub over-leaf : (i ≡ 0 → ⊥) → i < 16386 → Over b (recordOf b w) level (P Y) (Y .item .at) (Y .item .end) (Y .stop) i
-      unfolding then octets
-      over-leaf z small =
-          let (k, q) = is-plain Y simple in
-          let (x, y, v) = weight-some k (C Y) (length (S Y)) (drop (Y .stop) (P Y)) i (its-weight k q) z in
+          let n = length m - Y .item .end in
+          let i : length m - Y .item .at ≡ length (S Y) + n = omega (arith, left-part (Y .item), Y .item .under .some, Y .item .under .high) in
+          let j : length m - Y .stop ≡ Y .item .end - Y .stop + n = omega (arith, Y .within .high, Y .item .under .high) in
+          let e = ey ∙ ap (λ (x : Entry). told (C Y) leafSize (readLeafIn (bodyAt b (x .kind) (x .own)) (inSegments Lead) (Y .indefinite)
+          (length m - Y .item .at) (length m - Y .stop) (C Y))) (Y .item .entered)
+          ∙ ap (λ (x : Body). told (C Y) leafSize (readLeafIn x (inSegments Lead) (Y .indefinite) (length m - Y .item .at) (length m - Y .stop) (C Y)))
+          (its-body (Y .item .ready) (Y .item .known) ∙ q) in
           record {
-            within = Y .within .high;
-            small = small;
-            value = leaf x;
-            is = leaf-read Y simple sized k q ∙ rw y refl;
-            sized = omega arith;
+            answer = readLeaf k (Y .within .parts) (Y .indefinite) (length (S Y)) (Y .item .end - Y .stop) (C Y);
+            told-so = e ∙ ap (told (C Y) leafSize)
+                (ap (λ (p : Bool). readLeaf k p (Y .indefinite) (length m - Y .item .at) (length m - Y .stop) (C Y)) (leaf-lead Y simple k q)
+                ∙ ap (λ (x : ℕ × ℕ). readLeaf k (Y .within .parts) (Y .indefinite) (x .0) (x .1) (C Y)) (λ h. (i h, j h))
+                ∙ leaf-shift k (Y .within .parts) (Y .indefinite) (length (S Y)) (Y .item .end - Y .stop) n (C Y));
+            reads-so = leaf-read Y simple k q;
           }
+
+      pub value-wrong : (c : Cause) (l : ℕ) → y ≡ Refused c l → Refused c l ≡ Wanted (Y .item)
+      unfolding behind then
+      value-wrong c l d = go (local .answer) (local .reads-so) (told-refused (C Y) leafSize (behind (length m - Y .item .end) (local .answer)) y (local .told-so) c l d)
+        where
+          go : (x : Answer Leaf) → Bare (Y .item) ≡ leafEnd (C Y) (drop (Y .start) (P Y)) x → behind (length m - Y .item .end) x ≡ refused c l → Refused c l ≡ Wanted (Y .item)
+          go (got x s) r e = refused≢got (sym e)
+          go (refused a j) r e =
+              let z : a ≡ c = cc in
+              let v : j + (length m - Y .item .end) ≡ l = cc in
+              rw (← z, ← v) (under-refused (Y .item) a j r)
+
+      module _ (u i : ℕ) (d : y ≡ Done u i) where
+        pub over-leaf : Over b (recordOf b w) level (P Y) (Y .item .at) (Y .item .end) (Y .start + u) i
+        unfolding behind then octets
+        over-leaf =
+            let (x, s, e, f, g) = told-done (C Y) leafSize (behind (length m - Y .item .end) (local .answer)) y (local .told-so) u i d in
+            let r = its (local .answer) (local .reads-so) x s e in
+            record {
+              within = omega (arith, size-C Y, Y .within .ordered, Y .within .high);
+              small = omega arith;
+              value = leaf x;
+              is = r ∙ ap (got (leaf x)) (drop-drop (length (C Y) - length s) (Y .start) (P Y) ∙ ap (λ (j : ℕ). drop (Y .start + j) (P Y)) (sym f));
+              sized = g;
+            }
+          where
+            its : (z : Answer Leaf) → Bare (Y .item) ≡ leafEnd (C Y) (drop (Y .start) (P Y)) z → (x : Leaf) (s : List ℕ) → behind (length m - Y .item .end) z ≡ got x s
+                → Bare (Y .item) ≡ got (leaf x) (drop (length (C Y) - length s) (drop (Y .start) (P Y)))
+            its (got a t) r x s e = let p : a ≡ x = cc in let q : t ≡ s = cc in rw (← p, ← q) r
+            its (refused c l) r x s e = refused≢got e
+
+        pub leaf-high : Y .start + u ≤ 8192
+        leaf-high = omega (arith, over-leaf .within, Y .item .under .high, Y .item .short)
+
+    -- contents that have a size by themselves
+    module _ (sized : Y .indefinite ≡ false) (i : ℕ) (ei : i ≡ sizeBy (bodyAt b (Y .item .entry .kind) (Y .item .entry .own)) Lead (C Y)) (some : i ≡ 0 → ⊥) where
+      whole : inSegments Lead ≡ false
+      unfolding sizeBy if
+      whole =
+          test (inSegments Lead)
+          (λ t.
+          let (k, q) = is-plain Y simple in
+          let z : ownEither (bodyAt b (Y .item .entry .kind) (Y .item .entry .own)) ≡ true = either-kind k (leaf-string Y simple k q (sym (leaf-lead Y simple k q) ∙ t))
+          (ap (λ (x : Entry). bodyAt b (x .kind) (x .own)) (Y .item .entered) ∙ its-body (Y .item .ready) (Y .item .known) ∙ q) in
+          absurd (some (ei ∙ rw (z, t) refl)))
+          λ t. t
+
+      pub over-sized : i < 16386 → Over b (recordOf b w) level (P Y) (Y .item .at) (Y .item .end) (Y .stop) i
+      over-sized small =
+          let e = whole-done its-entered simple (Y .indefinite) (length m - Y .item .at) (length m - Y .stop) (C Y) sized
+          (ei ∙ sym (by-whole its-entered Lead (C Y) whole refl)) some small in
+          let o = over-leaf (Done (length (C Y)) i) (e ∙ ap (λ (p : Bool). told (C Y) leafSize (readLeafIn (bodyAt b (Y .item .entry .kind) (Y .item .entry .own)) p
+          (Y .indefinite) (length m - Y .item .at) (length m - Y .stop) (C Y))) (sym whole)) (length (C Y)) i refl in
+          let s : Y .start + length (C Y) ≡ Y .stop = omega (arith, size-C Y, Y .within .ordered) in
+          subst (λ (j : ℕ). Over b (recordOf b w) level (P Y) (Y .item .at) (Y .item .end) j i) s o
 
   -- items
   module _ (plain : Y .item .entry .simple ≡ false) where

@@ -5,6 +5,7 @@ pub mod ItemsInTurn
 pub mod ItemsEachOnce
 pub mod ItemsKinds
 pub mod ItemsSizes
+pub mod Starts
 pub mod Begun
 pub mod ItemsSearch
 pub mod ItemsWay
@@ -20,6 +21,9 @@ pub mod Opening
 pub mod Told
 pub mod Tails
 pub mod Bodies
+pub mod OwnForm
+pub mod LeafReading
+pub mod LeafCode
 pub mod ValueParts
 pub mod JudgedValue
 pub mod Ending

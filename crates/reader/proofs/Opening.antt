@@ -1,13 +1,14 @@
 -- The explicit tags of a record, opened from the outermost in.
 -- Assumes nothing.
-use borrow.Author.Tests.{eq-eqb, ne-eqb, ltb-true, ltb-false}
+use borrow.Author.Tests.{eq-eqb, ne-eqb, eqb-true, ltb-true, ltb-false}
 use lib.Dec.{eqb, ltb}
 use lib.ListN.{length, getD, take, drop, set, length-take, length-drop, length-map, length-append, List·getD-eq-default}
 use lib.Seq.{getD-take, getD-drop, take-length, take-take, take-suc-set, length-take-le, take-add, drop-drop, drop-length, drop-append-seam}
-use mathlib.Core.Bool.{Bool, true, false, not, true≢false, false≢true}
+use mathlib.Core.Bool.{Bool, true, false, not, _&&_, true≢false, false≢true}
 use mathlib.Core.List.{List, [], _∷_, _++_, map, append-nil}
 use mathlib.Core.Logic.{_⊎_, inl, inr}
-use mathlib.Core.Path.{_≡_, refl, sym, ap, _∙_}
+use mathlib.Core.Option.{Option, some, none}
+use mathlib.Core.Path.{_≡_, refl, sym, ap, subst, _∙_}
 use native.Mathlib.Numerals.{add-one}
 use native.Mathlib.Omega.{arith}
 use Prim.Native.Nat.{ℕ, zero, suc, _+_, _-_, _/_, _%_, _≤_, _<_}
@@ -16,9 +17,10 @@ use Rattle.octets.specs.declared.cause.Cause.the-variants.{Cut, Forbidden, NotA
 use Rattle.octets.specs.Answer.{Answer, got, refused, then, if, behind, none-left}
 use Rattle.octets.specs.Lists.{same}
 use Rattle.octets.specs.Numbers.{Octets}
-use Rattle.octets.proofs.Tests.{test}
+use Rattle.octets.proofs.Tests.{test, or-false}
 use Rattle.ber.specs.Codes.{codeOf}
-use Rattle.x690.specs.Reading.{Mode, closed, open-ended, readIdentifier, readLength, readHeader, inside, readConstructed, readPrimitive, atEnd}
+use Rattle.x690.specs.Reading.{Mode, closed, open-ended, passes, readIdentifier, readLength, readHeader, inside, readConstructed, readPrimitive, atEnd}
+use Rattle.x690.specs.Segments.{Kind, inParts, inEither, heads, readCarried}
 use Rattle.ber.specs.Told.{toldLength, mode}
 use Rattle.ber.specs.declared.length.Length.{Length}
 use Rattle.ber.specs.declared.length.Length.the-variants.{Read as ReadLength, Refused as NoLength}
@@ -26,15 +28,18 @@ use Rattle.ber.specs.declared.length.Extent.{Extent}
 use Rattle.ber.proofs.Told.{length-definite, length-indefinite, length-refused}
 use Rattle.table.specs.Syntax.{Tag, Body, Plain, Sequence, Set, SequenceOf, SetOf, Choice, Record, Table, isChoice}
 use Rattle.table.specs.Entries.{allButLast, unpacked, tableIn, firstCode, explicitCount}
+use Rattle.coding.specs.Content.{segmented}
 use Rattle.coding.specs.Tags.{identifierOf, before, explicitTags, ownTag, explicit}
 use Rattle.coding.specs.Value.{Value}
 use Rattle.coding.specs.Reading.{readWrapped, readKind}
+use Rattle.reader.specs.Codes.{ownEither, eitherAt, either as firstEither}
 use Rattle.reader.specs.Records.{Ready, recordIn, IsRecord, readRecord}
-use Rattle.reader.specs.Wraps.{ended, shut, closing, noteOf, Around, identifiers, Headed, readBare, AwaitsTag, behind-last, is-tag, no-tag}
+use Rattle.reader.specs.Wraps.{ended, shut, closing, noteOf, Around, identifiers, Headed, readBare, sentAs, AwaitsTag, behind-last, is-tag, no-tag}
 use Rattle.reader.specs.Wraps.{mustGoOn, EntersTag, goes-on, is-over, Opens}
 use Rattle.reader.specs.declared.tags.Tag.{Tag as TagRead}
 use Rattle.reader.specs.declared.tags.Tag.the-variants.{Read as ReadTag, Refused as NoTag}
 use Rattle.reader.specs.declared.tags.Opened.the-variants.{Inside, Refused as NotOpened}
+use Rattle.reader.proofs.Starts.{and-true, and-false, coded-one}
 use Rattle.reader.proofs.Begun.{Fit}
 use Rattle.reader.proofs.Tagging.{first-code, own-at, own-low, count-identifiers, same-at, its-entry, its-record, its-fit}
 use Rattle.reader.proofs.Wrapping.{closing-last, around-more, closing-refused, note-half, note-mark}
@@ -94,6 +99,19 @@ count-of (g ∷ gs) (Sequence ms) t = but-one g gs
 count-of (g ∷ gs) (Set ms) t = but-one g gs
 count-of (g ∷ gs) (SequenceOf u) t = but-one g gs
 count-of (g ∷ gs) (SetOf u) t = but-one g gs
+
+-- which may have either bit 6: none that is explicit
+module _ (r : Record) (F : Fit r) where
+  explicit-count : explicitCount r ≡ length (explicit r)
+  explicit-count = sym (count-of (r .tags) (r .body) (F .tagged))
+
+  either-before : (j : ℕ) → j < length (explicit r) → eitherAt r j ≡ false
+  unfolding eitherAt
+  either-before j l = rw (ne-eqb (explicitCount r) j (λ z. omega (arith, explicit-count, z))) (and-false (ownEither (r .body)))
+
+  pub either-own : (j : ℕ) → j ≡ length (explicit r) → eitherAt r j ≡ ownEither (r .body)
+  unfolding eitherAt
+  either-own j q = rw (eq-eqb (explicitCount r) j (explicit-count ∙ sym q)) (and-true (ownEither (r .body)))
 
 -- contents of a tag: they go on, or they are refused, whatever comes then
 clash : {A : Type 0} (a : A) (s : List ℕ) (c : Cause) (l : ℕ) → _≡_ {A = Answer A} (got a s) (refused c l) → ⊥
@@ -158,31 +176,63 @@ unfolding sealed then behind
 sealed-refused m outer inner true c l o = let q : l ≡ l + (outer - inner) = omega (arith, o refl) in ap (refused c) q
 sealed-refused m outer inner false c l o = refl
 
+-- a string whose header is refused, in whole or in segments
+carried-refused : (k : Option Kind) (o s : List ℕ) (c : Cause) (l : ℕ) → (inEither k && heads (inParts o) s) ≡ false → readHeader o s ≡ refused c l
+    → readCarried k o s ≡ refused c l
+unfolding readCarried readPrimitive then if
+carried-refused none o s c l p e = rw e refl
+carried-refused (some k) o s c l p e = rw (p, e) refl
+
+parts-refused : (k : Option Kind) (o s : List ℕ) (c : Cause) (l : ℕ) → (inEither k && heads (inParts o) s) ≡ true → readHeader (inParts o) s ≡ refused c l
+    → readCarried k o s ≡ refused c l
+unfolding readCarried readConstructed then if
+parts-refused none o s c l p e = absurd (false≢true p)
+parts-refused (some k) o s c l p e = rw (p, e) refl
+
 -- an item whose header is refused
 pub item-refused : (T : Table) (f : ℕ → List ℕ → Answer Value) (o : List ℕ) (y : Body) (s : List ℕ) (c : Cause) (l : ℕ)
-    → isChoice y ≡ false → readHeader o s ≡ refused c l → readKind T f o y s ≡ refused c l
-unfolding readKind readPrimitive readConstructed then isChoice
-item-refused T f o (Plain k) s c l n e = rw e refl
-item-refused T f o (Sequence ms) s c l n e = rw e refl
-item-refused T f o (Set ms) s c l n e = rw e refl
-item-refused T f o (SequenceOf u) s c l n e = rw e refl
-item-refused T f o (SetOf u) s c l n e = rw e refl
-item-refused T f o (Choice ts) s c l n e = absurd (true≢false n)
+    → isChoice y ≡ false → (ownEither y && heads (inParts o) s) ≡ false → readHeader o s ≡ refused c l → readKind T f o y s ≡ refused c l
+unfolding readKind readConstructed then isChoice ownEither
+item-refused T f o (Plain k) s c l n p e = rw (carried-refused (segmented k) o s c l p e) refl
+item-refused T f o (Sequence ms) s c l n p e = rw e refl
+item-refused T f o (Set ms) s c l n p e = rw e refl
+item-refused T f o (SequenceOf u) s c l n p e = rw e refl
+item-refused T f o (SetOf u) s c l n p e = rw e refl
+item-refused T f o (Choice ts) s c l n p e = absurd (true≢false n)
+
+pub item-in-parts : (T : Table) (f : ℕ → List ℕ → Answer Value) (o : List ℕ) (y : Body) (s : List ℕ) (c : Cause) (l : ℕ)
+    → (ownEither y && heads (inParts o) s) ≡ true → readHeader (inParts o) s ≡ refused c l → readKind T f o y s ≡ refused c l
+unfolding readKind then ownEither
+item-in-parts T f o (Plain k) s c l p e = rw (parts-refused (segmented k) o s c l p e) refl
+item-in-parts T f o (Sequence ms) s c l p e = absurd (false≢true p)
+item-in-parts T f o (Set ms) s c l p e = absurd (false≢true p)
+item-in-parts T f o (SequenceOf u) s c l p e = absurd (false≢true p)
+item-in-parts T f o (SetOf u) s c l p e = absurd (false≢true p)
+item-in-parts T f o (Choice ts) s c l p e = absurd (false≢true p)
 
 wrapped-refused : {A : Type 0} (i : List ℕ) (is : List (List ℕ)) (r : List ℕ → Answer A) (s : List ℕ) (c : Cause) (l : ℕ) → readHeader i s ≡ refused c l
     → readWrapped (i ∷ is) r s ≡ refused c l
 unfolding readWrapped readConstructed then
 wrapped-refused i is r s c l e = rw e refl
 
-header-none : (i s : List ℕ) (c : Cause) → then (readIdentifier s) (λ j u. if (same i j) (got j u) λ _. refused NotAwaited (length s)) ≡ refused c (length s)
-    → readHeader i s ≡ refused c (length s)
-unfolding readHeader then if
-header-none i s c e = go (readIdentifier s) e
+header-none : (b : Bool) (i s : List ℕ) (c : Cause)
+    → then (readIdentifier s) (λ j u. if (sentAs b i j) (got j u) λ _. refused NotAwaited (length s)) ≡ refused c (length s)
+    → (readHeader i s ≡ refused c (length s)) × ((b && heads (inParts i) s) ≡ false)
+unfolding readHeader then if passes
+header-none b i s c e = go (readIdentifier s) e
   where
-    go : (x : Answer (List ℕ)) → then x (λ j u. if (same i j) (got j u) λ _. refused NotAwaited (length s)) ≡ refused c (length s)
-        → then x (λ j u. if (not (same i j)) (refused NotAwaited (length s)) λ _. readLength (length s) u) ≡ refused c (length s)
-    go (got j u) e = test (same i j) (λ t. absurd (clash j u c (length s) (rw t at e))) λ t. rw t (let k = rw t at e in let v : NotAwaited ≡ c = cc in rw v refl)
-    go (refused a n) e = let v : a ≡ c = cc in let w : n ≡ length s = cc in rw (v, w) refl
+    go : (x : Answer (List ℕ)) → then x (λ j u. if (sentAs b i j) (got j u) λ _. refused NotAwaited (length s)) ≡ refused c (length s)
+        → (then x (λ j u. if (not (same i j)) (refused NotAwaited (length s)) λ _. readLength (length s) u) ≡ refused c (length s))
+        × ((b && passes (same (inParts i)) x) ≡ false)
+    go (got j u) e =
+        test (sentAs b i j)
+        (λ t. absurd (clash j u c (length s) (rw t at e)))
+        λ t.
+        let k = rw t at e in
+        let v : NotAwaited ≡ c = cc in
+        let (p, q) = or-false (same i j) (b && same (inParts i) j) t in
+        (rw (p, v) refl, q)
+    go (refused a n) e = let v : a ≡ c = cc in let w : n ≡ length s = cc in (rw (v, w) refl, and-false b)
 
 -- the tags that are opened: j notes are made, and what is read next stands from `at` to `end`, with its identifier up to `from`
 pub record Opening (b : List ℕ) (r : Record) (m : List ℕ) (first : ℕ) (notes : List ℕ) (at from end j : ℕ) : Type 0 where
@@ -192,7 +242,7 @@ pub record Opening (b : List ℕ) (r : Record) (m : List ℕ) (first : ℕ) (not
   pub some : at < end
   pub high : end ≤ length m
   pub around : Around (length m) (take j notes) end
-  pub headed : j < length (identifiers r) → Headed (take end m) at from (codeOf (getD (identifiers r) j []))
+  pub headed : j < length (identifiers r) → Headed (take end m) at from (eitherAt r j) (codeOf (getD (identifiers r) j []))
   pub whole : (n : ℕ)
       → readRecord (tableIn b) n r (drop first m) ≡ closing m (take j notes) end (readWrapped (drop j (explicit r)) (readBare b n r) (drop at (take end m)))
 
@@ -220,7 +270,7 @@ module _ (b : List ℕ) (r : Record) (F : Fit r) (m : List ℕ) (om : Octets m) 
       short true t l = let q = ap length (append-nil (explicit r)) in omega (arith, q)
       short false t l = false≢true t
 
-  pub open-none : (notes : List ℕ) (from : ℕ) → 0 < Count → Headed m first from (firstCode r) → Opening b r m first notes first from (length m) 0
+  pub open-none : (notes : List ℕ) (from : ℕ) → 0 < Count → Headed m first from (firstEither r) (firstCode r) → Opening b r m first notes first from (length m) 0
   unfolding Around closing readRecord
   open-none notes from l h =
       let k : 0 < length (r .tags) = omega (arith, more-ids, count-identifiers r F) in
@@ -251,7 +301,7 @@ module _ (b : List ℕ) (r : Record) (F : Fit r) (m : List ℕ) (om : Octets m) 
           (λ n.
               let w : getD Ids j [] ≡ ownTag r = ap (λ (i : ℕ). getD Ids i []) q ∙ own-at r n in
               let y = own-low r F n in let u : j < length Ids = omega (arith, q, y, count-identifiers r F) in
-              rw (← w) (S .headed u)),
+              rw (← w, ← either-own r F j q) (S .headed u)),
           λ n.
               S .whole n
               ∙ ap (λ (z : List (List ℕ)). closing m (take j notes) end (readWrapped z (readBare b n r) (drop at (take end m))))
@@ -274,7 +324,7 @@ module _ (b : List ℕ) (r : Record) (F : Fit r) (m : List ℕ) (om : Octets m) 
       left-part : length (drop at P) ≡ end - at
       left-part = length-drop at P ∙ ap (λ (i : ℕ). i - at) size-part
 
-      head : Headed P at from (codeOf Id)
+      head : Headed P at from (eitherAt r j) (codeOf Id)
       head = S .headed (omega (arith, more-ids))
 
       header-is : readHeader Id (drop at P) ≡ readLength (length (drop at P)) (drop from P)
@@ -282,7 +332,9 @@ module _ (b : List ℕ) (r : Record) (F : Fit r) (m : List ℕ) (om : Octets m) 
       header-is =
           let k : j < length (r .tags) = omega (arith, more-ids, count-identifiers r F) in
           let o = octets-drop P (octets-take m om end) at in
-          let y = same-at r F j k (drop at P) (head .identifier) (drop from P) o (head .is) ∙ eq-eqb (codeOf (head .identifier)) (codeOf Id) (head .coded) in
+          let c = sym (coded-one (codeOf Id) (codeOf (head .identifier))) ∙ rw (either-before r F j l) at (head .coded) in
+          let y = same-at r F j k (drop at P) (head .identifier) (drop from P) o (head .is)
+          ∙ eq-eqb (codeOf (head .identifier)) (codeOf Id) (sym (eqb-true (codeOf Id) (codeOf (head .identifier)) c)) in
           rw (head .is, y) refl
 
       under : (n : ℕ) → readRecord (tableIn b) n r (drop first m) ≡ closing m (take j notes) end (readWrapped (Id ∷ Rest) (readBare b n r) (drop at P))
@@ -342,23 +394,24 @@ module _ (b : List ℕ) (r : Record) (F : Fit r) (m : List ℕ) (om : Octets m) 
               rw (header-is, y .0, t, a, d, h) refl
 
           -- the identifier that is awaited next
-          rest-refused : (c : Cause) → AwaitsTag Ids (suc j) U (NoTag c) → (n : ℕ) → readWrapped Rest (readBare b n r) U ≡ refused c (length U)
+          rest-refused : (c : Cause) → AwaitsTag r (suc j) U (NoTag c) → (n : ℕ) → readWrapped Rest (readBare b n r) U ≡ refused c (length U)
           unfolding readWrapped
           rest-refused c (no-tag w e) n =
               test (ltb (suc j) Count)
               (λ t.
               let k = ltb-true (suc j) Count t in
               ap (λ (y : List (List ℕ)). readWrapped y (readBare b n r) U) (wraps-at (suc j) k)
-              ∙ wrapped-refused (getD Ids (suc j) []) (drop (suc (suc j)) (explicit r)) (readBare b n r) U c (length U) (header-none (getD Ids (suc j) []) U c e))
+              ∙ wrapped-refused (getD Ids (suc j) []) (drop (suc (suc j)) (explicit r)) (readBare b n r) U c (length U)
+              (header-none (eitherAt r (suc j)) (getD Ids (suc j) []) U c e .0))
               λ t.
               let k : suc j ≡ Count = omega (arith, ltb-false (suc j) Count t) in
               let v = is-last (omega (arith, w, k)) in
               let u : getD Ids (suc j) [] ≡ ownTag r = ap (λ (i : ℕ). getD Ids i []) k ∙ own-at r v in
-              let y = header-none (ownTag r) U c (rw u at e) in
+              let (y, p) = header-none (ownEither (r .body)) (ownTag r) U c (rw (u, either-own r F (suc j) k) at e) in
               ap (λ (a : List (List ℕ)). readWrapped a (readBare b n r) U) (ap (λ (i : ℕ). drop i (explicit r)) k ∙ drop-length (explicit r))
-              ∙ item-refused (tableIn b) _ (ownTag r) (r .body) U c (length U) v y
+              ∙ item-refused (tableIn b) _ (ownTag r) (r .body) U c (length U) v p y
 
-          no-entry : (c : Cause) → EntersTag Ids (suc j) U (x .indefinite) (NoTag c) → (n : ℕ)
+          no-entry : (c : Cause) → EntersTag r (suc j) U (x .indefinite) (NoTag c) → (n : ℕ)
               → Contents (readWrapped Rest (readBare b n r) U) ≡ refused c (length U)
           unfolding ended then
           no-entry c (goes-on g h a) n =
@@ -366,17 +419,17 @@ module _ (b : List ℕ) (r : Record) (F : Fit r) (m : List ℕ) (om : Octets m) 
           no-entry c (is-over h) n =
               stopping (mode (x .indefinite)) U [] (length U) c (length U) h (λ _. ended (mode (x .indefinite)) (readWrapped Rest (readBare b n r) U))
 
-          entry : (next : ℕ) → EntersTag Ids (suc j) U (x .indefinite) (ReadTag next)
-              → (mustGoOn (x .indefinite) U ≡ got [] U) × (0 < length U) × AwaitsTag Ids (suc j) U (ReadTag next)
+          entry : (next : ℕ) → EntersTag r (suc j) U (x .indefinite) (ReadTag next)
+              → (mustGoOn (x .indefinite) U ≡ got [] U) × (0 < length U) × AwaitsTag r (suc j) U (ReadTag next)
           entry next (goes-on g h a) = (g, h, a)
 
-          next-head : (next : ℕ) → AwaitsTag Ids (suc j) U (ReadTag next)
-              → (suc j < length Ids → Headed U 0 next (codeOf (getD Ids (suc j) []))) × (next ≤ length U)
+          next-head : (next : ℕ) → AwaitsTag r (suc j) U (ReadTag next)
+              → (suc j < length Ids → Headed U 0 next (eitherAt r (suc j)) (codeOf (getD Ids (suc j) []))) × (next ≤ length U)
           next-head next (behind-last k) = ((λ v. absurd (omega arith)), omega arith)
           next-head next (is-tag e v h) = ((λ _. h), h .low)
 
-          module _ (y : TagRead) (E : EntersTag Ids (j + 1) (take (x .end - x .start) (drop (x .start) m)) (x .indefinite) y) where
-            its : (u : TagRead) → y ≡ u → EntersTag Ids (suc j) U (x .indefinite) u
+          module _ (y : TagRead) (E : EntersTag r (j + 1) (take (x .end - x .start) (drop (x .start) m)) (x .indefinite) y) where
+            its : (u : TagRead) → y ≡ u → EntersTag r (suc j) U (x .indefinite) u
             its u e =
                 let q = add-one j in
                 let ep = slice-is (x .start) (x .end) m (extent .1) (omega (arith, extent .2, S .high)) in
@@ -443,6 +496,10 @@ module _ {b index : List ℕ} (R : Ready b index) {w : ℕ} (I : IsRecord b inde
 
   pub its-first : unpacked w .code ≡ firstCode (recordIn b (unpacked w))
   its-first = its-entry R I .code ∙ ap (λ (x : Record). firstCode x) (sym (its-record R I))
+
+  pub its-headed : {m : List ℕ} {at from : ℕ} {either : Bool} → Headed m at from either (unpacked w .code)
+      → Headed m at from either (firstCode (recordIn b (unpacked w)))
+  its-headed {m} {at} {from} {either} h = subst (λ (c : ℕ). Headed m at from either c) its-first h
 
   pub its-few : length (explicit (recordIn b (unpacked w))) ≤ 4
   its-few =

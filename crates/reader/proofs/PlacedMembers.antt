@@ -25,15 +25,15 @@ use Rattle.coding.specs.Value as Value-of
 use Rattle.coding.specs.Reading.{nothing, readValue}
 use Rattle.coding.proofs.FirstTags.{good}
 use Rattle.coding.proofs.Refusals.{value-shorter}
-use Rattle.reader.specs.Codes.{firstOf, untagged}
+use Rattle.reader.specs.Codes.{firstOf, untagged, either}
 use Rattle.reader.specs.Items.{Holder, inside, message, manner, partsOf, since, Hand, next as nextPart, readItems, filled, assemble}
 use Rattle.reader.specs.Items.{nodeSize, blank, readHeld}
-use Rattle.reader.specs.Records.{Ready, Known, readRecord}
+use Rattle.reader.specs.Records.{Ready, Known, recordIn, readRecord}
 use Rattle.reader.specs.Sought.{held, Sound, Sought, tabledCount}
 use Rattle.reader.specs.Ways.{wrapped}
 use Rattle.reader.specs.declared.search.Choice.{Choice as Choice-found}
 use Rattle.reader.specs.declared.search.Found.the-variants.{Part}
-use Rattle.reader.specs.declared.place.Placed.{Placed as Spot}
+use Rattle.reader.specs.declared.node.Placed.{Placed as Spot}
 use Rattle.reader.specs.Placing.{kindOf, hasMembers, holdsOne, onward, nodeOf, openingOf, absentIn, finishedIn, notedIn, said}
 use Rattle.reader.specs.Placing.{flags, wayOctets, endAt, Spotted}
 use Rattle.reader.specs.Placed.{Fits, Final, IsPlaced, heldIn, valueIn, ToPlaceValue, Following}
@@ -351,7 +351,7 @@ module _ {b index : List ℕ} {w : ℕ} {m : List ℕ} {indefinite : Bool} {firs
     pub least : j ≤ place
     pub low : u < countIn b
     pub tagged : firstOf (tableIn b u) ≡ untagged → ⊥
-    pub headed : Headed m at from (unpacked (getD index u 0) .code)
+    pub headed : let e = unpacked (getD index u 0) in Headed m at from (either (recordIn b e)) (e .code)
 
   pub sound : Sound b index w blank
   sound = record { ready = X .given .ready; known = X .given .known; noted = refl; clear = λ z p. blank-clear p }

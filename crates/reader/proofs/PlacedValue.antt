@@ -4,9 +4,10 @@
 use borrow.Author.Tests.{eq-eqb, eqb-true}
 use lib.Dec.{eqb}
 use lib.ListN.{length, getD, take, drop, length-drop}
-use lib.Seq.{sets, length-sets, take-length, length-take-le}
+use lib.Seq.{sets, length-sets, take-length, length-take-le, drop-drop, drop-length}
 use mathlib.Core.Bool.{Bool, true, false, false≢true}
 use mathlib.Core.List.{List, [], _∷_}
+use mathlib.Core.Option.{Option, some, none}
 use mathlib.Core.Path.{_≡_, refl, sym, ap, subst, _∙_}
 use native.Mathlib.Omega.{arith}
 use Prim.Native.Nat.{ℕ, zero, suc, _+_, _-_, _≤_, _<_}
@@ -19,43 +20,45 @@ use Rattle.octets.proofs.Answer.{got-holds, refused≢got, got-value, got-rest}
 use Rattle.octets.proofs.Lists.{behind as behind-part, length-behind}
 use Rattle.octets.proofs.Tests.{test}
 use Rattle.x690.specs.Integer.{minimal}
-use Rattle.x690.specs.Reading.{Size, readLength}
-use Rattle.ber.specs.Told.{toldLength, Again}
+use Rattle.x690.specs.Reading.{Mode, Size, readLength}
+use Rattle.x690.specs.Segments.{Kind, bit-string, octet-string, universal, deepest, readAll, readSegment}
+use Rattle.ber.specs.Told.{toldLength, Again, mode}
 use Rattle.ber.specs.declared.length.Length.the-variants.{Read as ReadLength}
 use Rattle.ber.specs.declared.length.Extent.{Extent}
 use Rattle.ber.proofs.Told.{again-told}
-use Rattle.table.specs.Syntax.{Simple, Enumerated}
+use Rattle.table.specs.Syntax.{Simple, Boolean, Integer, BitString, OctetString, Null, Enumerated}
 use Rattle.table.specs.Syntax.{Plain, Record, isChoice}
 use Rattle.table.specs.Reading.{numbersAt}
 use Rattle.table.specs.Octets.{kind}
 use Rattle.table.specs.Entries.{unpacked, tableIn, countIn, Entered, outermostCode, explicitCount}
 use Rattle.table.specs.declared.entry.Entry.{Entry}
 use Rattle.table.proofs.Promises.{entered-kind, entered-enumerated}
-use Rattle.coding.specs.Content.{listed, Content, c-boolean, c-integer, c-bits, c-string, c-null, c-enumerated}
-use Rattle.coding.specs.Tags.{ownTag, explicit}
+use Rattle.coding.specs.Content.{listed, segmented, Content, c-boolean, c-integer, c-bits, c-string, c-null, c-enumerated}
+use Rattle.coding.specs.Tags.{explicit}
 use Rattle.coding.specs.Value.{Leaf, Value, leaf, leafOctets, octets}
-use Rattle.coding.specs.Reading.{decode, readValue}
+use Rattle.coding.specs.Reading.{readValue}
 use Rattle.coding.proofs.Content.{content-sound}
 use Rattle.coding.proofs.Sound.{value-sound}
 use Rattle.reader.specs.Answers.{told}
 use Rattle.reader.specs.Items.{Holder, message, next}
 use Rattle.reader.specs.Leaves.{leafOf, Lawful, one-octet, one-to-eight, some-unused, any-octets, no-octet, small-number}
+use Rattle.reader.specs.Leaves.{inSegments, readSegments, readLeaf, Carried, by-itself, by-segments, ToPlaceLeaf, LeafPlaced}
 use Rattle.reader.specs.Placed.{Fits, Final, IsPlaced, heldIn, valueIn, ToPlace, ToPlaceValue}
 use Rattle.reader.specs.Records.{Ready, of-record, of-message, holderIn, IsRecord, readRecord}
 use Rattle.reader.specs.Sought.{held}
 use Rattle.reader.specs.Wraps.{closing, Around, readBare, Opens}
 use Rattle.reader.specs.declared.answer.Judged.{Judged}
 use Rattle.reader.specs.declared.answer.Judged.the-variants.{Done, Refused}
-use Rattle.reader.specs.declared.place.Placed.{Placed}
+use Rattle.reader.specs.declared.node.Placed.{Placed}
 use Rattle.reader.specs.declared.tags.Inner.{Inner}
 use Rattle.reader.specs.declared.tags.Opened.{Opened}
 use Rattle.reader.specs.declared.tags.Opened.the-variants.{Inside, Refused as NotOpened}
 use Rattle.reader.proofs.Bodies.{recordOf, nil-of, its-choice}
 use Rattle.reader.proofs.ClosedAlike.{closing-through}
-use Rattle.reader.proofs.Opening.{item-refused, its-count, its-few}
+use Rattle.reader.proofs.Opening.{its-count, its-few}
 use Rattle.reader.proofs.Tagging.{its-entry, its-record}
-use Rattle.reader.proofs.ValueParts.{Under, Within, Item, Filling, under-bare, under-tags, tags-refused, no-choice, own-header, contents-bare}
-use Rattle.reader.proofs.ValueParts.{contents-sized, Rest as Around-rest, C, S, size-C, is-plain, plain-header, plain-open, leaf-read}
+use Rattle.reader.proofs.ValueParts.{Under, Within, Item, Filling, under-bare, under-tags, tags-refused, no-choice, item-unsized, contents-bare}
+use Rattle.reader.proofs.ValueParts.{contents-sized, Rest as Around-rest, C, S, size-C, is-plain, leaf-read, leaf-lead}
 use Rattle.reader.proofs.ValueParts.{Held, Fine, fine, reads}
 
 -- A leaf that was accepted, by the number of its kind.
@@ -97,6 +100,54 @@ unfolding then
 then-through (got a u) f b w e = (a, u, refl, e)
 then-through (refused c l) f b w e = refused≢got e
 
+-- a string by the number of its kind
+abbrev number : Option Kind → ℕ
+number none = 0
+number (some j) = universal j
+
+some-number : (j : Kind) → 0 ≡ universal j → ⊥
+some-number bit-string e = omega arith
+some-number octet-string e = omega arith
+
+kind-of : (k : Simple) (j : Kind) → segmented k ≡ some j → universal j ≡ kind (Plain k)
+unfolding segmented kind
+kind-of Boolean j e = absurd (some-number j (ap number e))
+kind-of Integer j e = absurd (some-number j (ap number e))
+kind-of BitString j e = sym (ap number e)
+kind-of OctetString j e = sym (ap number e)
+kind-of Null j e = absurd (some-number j (ap number e))
+kind-of (Enumerated ns) j e = absurd (some-number j (ap number e))
+
+-- the contents by which a leaf was accepted
+behind-through : {A : Type 0} (n : ℕ) (x : Answer A) {a : A} {u : List ℕ} → behind n x ≡ got a u → x ≡ got a u
+unfolding behind
+behind-through n (got a u) e = e
+behind-through n (refused c l) e = refused≢got e
+
+segments-of : (o : Option Kind) (i : Mode) (c d u : List ℕ) → readSegments o i c ≡ got d u
+    → (j : Kind) × (b : ℕ) × (o ≡ some j) × (readAll j (readSegment j deepest) i c ≡ got (d, b) u)
+unfolding readSegments
+segments-of none i c d u e = refused≢got e
+segments-of (some j) i c d u e =
+    let (g, v, f, h) = then-through (readAll j (readSegment j deepest) i c) _ d u e in
+    (j, g .1, refl, f ∙ ap (λ (x : List ℕ). got (x, g .1) v) (got-value h) ∙ ap (got (d, g .1)) (got-rest h))
+
+carried-of : (k : Simple) (parts z : Bool) (l j : ℕ) (c : List ℕ) (x : Leaf) (u : List ℕ) → readLeaf k parts z l j c ≡ got x u
+    → (d : List ℕ) × Carried (kind (Plain k)) c parts d u × Content k x d
+unfolding readLeaf
+carried-of k true z l j c x u e =
+    let (d, v, f, h) = then-through (behind j (readSegments (segmented k) (mode z) c)) _ x u e in
+    let (r, y) = got-holds (content-sound k l d v) h in
+    let (i, b, o, g) = segments-of (segmented k) (mode z) c d v (behind-through j _ f) in
+    (d, by-segments i z b (kind-of k i o) (g ∙ ap (got (d, b)) (sym r)), y)
+carried-of k false true l j c x u e = refused≢got e
+carried-of k false false l j c x u e =
+    let (r, y) = got-holds (content-sound k l c []) e in
+    (c, rw r by-itself, y)
+
+itself : {kind : ℕ} {c d u : List ℕ} → Carried kind c false d u → (d ≡ c) × (u ≡ [])
+itself by-itself = (refl, refl)
+
 -- under the tags of a value v of w, behind which `rest` follows: the item is read with that value, and `left` follows it
 pub record Accepted (b : List ℕ) (w : ℕ) (m : List ℕ) (at : ℕ) (v : Value) (rest notes : List ℕ) (at₁ from₁ end : ℕ) : Type 0 where
   pub sized : length notes ≡ 4
@@ -107,14 +158,15 @@ pub record Accepted (b : List ℕ) (w : ℕ) (m : List ℕ) (at : ℕ) (v : Valu
   pub is : readBare b 24 (recordOf b w) (drop at₁ (take end m)) ≡ got v left
   pub closes : (n : ℕ) → closing m (take (unpacked w .explicit) notes) end (got n left) ≡ got n rest
 
--- its contents
-pub record Contents (b : List ℕ) (w : ℕ) (m : List ℕ) (at end : ℕ) (v : Value) (left : List ℕ) (start stop : ℕ) (indefinite : Bool) : Type 0 where
+-- its contents; the item begins at `lead`
+pub record Contents (b : List ℕ) (w : ℕ) (m : List ℕ) (at lead end : ℕ) (v : Value) (left : List ℕ) (start stop : ℕ) (indefinite : Bool) : Type 0 where
   pub low : at < start
   pub order : start ≤ stop
   pub high : stop ≤ end
   pub simple : unpacked w .simple ≡ true
       → (let c = take (stop - start) (drop start m) in
-      Lawful (unpacked w .kind) c × (v ≡ leaf (leafOf (unpacked w .kind) c)) × (left ≡ drop stop (take end m)))
+      (d u : List ℕ) × Carried (unpacked w .kind) c (inSegments (getD m lead 0)) d u × Lawful (unpacked w .kind) d × (v ≡ leaf (leafOf (unpacked w .kind) d))
+      × ((p : ℕ) → p ≤ length c → u ≡ drop p c → (start + p ≤ end) × (left ≡ drop (start + p) (take end m))))
   pub holds : unpacked w .simple ≡ false
       → (let c = take (stop - start) (drop start m) in
       (u : List ℕ) × (heldIn b (held b w) indefinite c ≡ got v u)
@@ -133,8 +185,8 @@ pub accepted-as : {b : List ℕ} {w : ℕ} {m : List ℕ} {at : ℕ} {v : Value}
     → Accepted b w m at v rest n a f e → n₁ ≡ n → a₁ ≡ a → f₁ ≡ f → e₁ ≡ e → Accepted b w m at v rest n₁ a₁ f₁ e₁
 accepted-as U en ea ef ee = rw (en, ea, ef, ee) U
 
-pub contents-as : {b : List ℕ} {w : ℕ} {m : List ℕ} {at end : ℕ} {v : Value} {left : List ℕ} {s e s₁ e₁ : ℕ} {k k₁ : Bool}
-    → Contents b w m at end v left s e k → s₁ ≡ s → e₁ ≡ e → k₁ ≡ k → Contents b w m at end v left s₁ e₁ k₁
+pub contents-as : {b : List ℕ} {w : ℕ} {m : List ℕ} {at lead end : ℕ} {v : Value} {left : List ℕ} {s e s₁ e₁ : ℕ} {k k₁ : Bool}
+    → Contents b w m at lead end v left s e k → s₁ ≡ s → e₁ ≡ e → k₁ ≡ k → Contents b w m at lead end v left s₁ e₁ k₁
 contents-as X es ee ek = rw (es, ee, ek) X
 
 pub stored-as : {v : Value} {m : List ℕ} {end : ℕ} {left first : List ℕ} {to : ℕ} {b b₁ : List ℕ} {s n s₁ n₁ : ℕ} {w w₁ : List ℕ}
@@ -224,21 +276,27 @@ module _ {b index : List ℕ} {w : ℕ} {m : List ℕ} {at from : ℕ} {buf : Li
         Y = record { item = item; start = start; stop = stop; indefinite = indefinite; within = W }
 
         simple-part : unpacked w .simple ≡ true
-            → Lawful (unpacked w .kind) (C Y) × (Val ≡ leaf (leafOf (unpacked w .kind) (C Y))) × (U .left ≡ drop stop (take end m))
+            → (d u : List ℕ) × Carried (unpacked w .kind) (C Y) (inSegments (getD m at₁ 0)) d u × Lawful (unpacked w .kind) d × (Val ≡ leaf (leafOf (unpacked w .kind) d))
+            × ((p : ℕ) → p ≤ length (C Y) → u ≡ drop p (C Y) → (start + p ≤ end) × (U .left ≡ drop (start + p) (take end m)))
         simple-part s =
             let (k, q) = is-plain Y s in
-            test indefinite
-            (λ t.
-            let y = plain-open (tableIn b) (readValue (tableIn b) 24) (ownTag R) (R .body) (S Y) k q indefinite (stop - start) (drop start (take end m))
-            (plain-header Y s k q) t in
-            refused≢got (sym y ∙ U .is))
-            λ t.
-            let (x, r, e, f) = then-through (decode k (length (S Y)) (C Y) (drop stop (take end m))) _ Val (U .left)
-            (sym (leaf-read Y s t k q) ∙ U .is) in
-            let (same-rest, content) = got-holds (content-sound k (length (S Y)) (C Y) (drop stop (take end m))) e in
-            let y = content-leaf content (entered-small its ob k (sym same-body ∙ q)) in
+            let l = length (S Y) in
+            let (x, u, e, f) = then-through (readLeaf k (W .parts) indefinite l (end - stop) (C Y)) _ Val (U .left) (sym (leaf-read Y s k q) ∙ U .is) in
+            let (d, a, c) = carried-of k (W .parts) indefinite l (end - stop) (C Y) x u e in
             let i : unpacked w .kind ≡ kind (Plain k) = entered-kind its ∙ ap kind (sym same-body ∙ q) in
-            (rw i (y .0), sym (got-value f) ∙ ap leaf (y .1 ∙ ap (λ (j : ℕ). leafOf j (C Y)) (sym i)), sym (got-rest f) ∙ same-rest)
+            let y = content-leaf c (entered-small its ob k (sym same-body ∙ q)) in (
+              d,
+              u,
+              subst (λ (n : ℕ). Carried n (C Y) (inSegments (getD m at₁ 0)) d u) (sym i)
+                  (subst (λ (p : Bool). Carried (kind (Plain k)) (C Y) p d u) (sym (leaf-lead Y s k q)) a),
+              subst (λ (n : ℕ). Lawful n d) (sym i) (y .0),
+              sym (got-value f) ∙ ap leaf (y .1 ∙ ap (λ (j : ℕ). leafOf j d) (sym i)),
+              λ p h z.
+                  let j : length (C Y) - length u ≡ p = omega (arith, ap length z, length-drop p (C Y)) in (
+                    omega (arith, size-C Y, W .ordered, W .high),
+                    sym (got-rest f) ∙ drop-drop (length (C Y) - length u) start (take end m) ∙ ap (λ (i : ℕ). drop (start + i) (take end m)) j,
+                  ),
+            )
 
         items-part : unpacked w .simple ≡ false
             → (u : List ℕ) × (heldIn b (held b w) indefinite (C Y) ≡ got Val u)
@@ -260,17 +318,17 @@ module _ {b index : List ℕ} {w : ℕ} {m : List ℕ} {at from : ℕ} {buf : Li
                       ),
                 )
 
-        contents-at : at < start → Contents b w m at end Val (U .left) start stop indefinite
+        contents-at : at < start → Contents b w m at at₁ end Val (U .left) start stop indefinite
         contents-at low = record { low = low; order = W .ordered; high = W .high; simple = simple-part; holds = items-part }
 
       -- a CHOICE stands in no item of its own
-      pub choice-contents : unpacked w .kind ≡ 50 → Contents b w m at end Val (U .left) at₁ end false
+      pub choice-contents : unpacked w .kind ≡ 50 → Contents b w m at at₁ end Val (U .left) at₁ end false
       choice-contents k = contents-at at₁ end false (contents-bare item k) (U .deeper (sym choice-is ∙ eq-eqb (unpacked w .kind) 50 k))
 
       -- an item whose length is read again
       pub read-contents : (unpacked w .kind ≡ 50 → ⊥) → (x : Extent)
           → ((l : ℕ) → Again (length (take end m)) (readLength l (drop from₁ (take end m))) x)
-          → Contents b w m at end Val (U .left) (x .start) (x .end) (x .indefinite)
+          → Contents b w m at at₁ end Val (U .left) (x .start) (x .end) (x .indefinite)
       read-contents k x again =
           let n = no-choice item k in
           let W = contents-sized item k (ReadLength x) (its-length n (readLength (length (Around-rest item)) (drop from₁ (take end m))) refl) x refl in
@@ -282,10 +340,10 @@ module _ {b index : List ℕ} {w : ℕ} {m : List ℕ} {at from : ℕ} {buf : Li
               again-told (length (take end m)) (readLength (length (Around-rest item)) (drop from₁ (take end m))) x z u
               (again (length (Around-rest item))) e
           its-length n (refused c l) e =
-              refused≢got (sym (item-refused (tableIn b) _ (ownTag R) (R .body) (Around-rest item) c l n (own-header item n ∙ e)) ∙ U .is)
+              refused≢got (sym (item-unsized item n c l e) ∙ U .is)
 
     -- what is placed of the contents
-    module _ {start stop : ℕ} {indefinite : Bool} (X : Contents b w m at end Val (U .left) start stop indefinite) where
+    module _ {start stop : ℕ} {indefinite : Bool} (X : Contents b w m at at₁ end Val (U .left) start stop indefinite) where
       abbrev Part : List ℕ
       Part = take (stop - start) (drop start m)
 
@@ -295,38 +353,103 @@ module _ {b index : List ℕ} {w : ℕ} {m : List ℕ} {at from : ℕ} {buf : Li
       pub part-less : length Part < length m
       part-less = omega (arith, part-size, X .low, X .order, X .high, U .under .high)
 
+      pub lead-inside : at₁ < length m
+      lead-inside = omega (arith, U .under .some, U .under .high)
+
       pub part-high : stop ≤ length m
       part-high = omega (arith, X .high, U .under .high)
 
       -- a leaf
       module _ (e : Entry) (ee : e ≡ unpacked w) (simple : e .simple ≡ true) where
-        abbrev Its-leaf : Leaf
-        Its-leaf = leafOf (e .kind) Part
+        its-simple : unpacked w .simple ≡ true
+        its-simple = ap (λ (x : Entry). x .simple) (sym ee) ∙ simple
 
-        abbrev Its-facts : Lawful (e .kind) Part × (Val ≡ leaf Its-leaf) × (U .left ≡ drop stop (take end m))
-        Its-facts =
-            let k : e .kind ≡ unpacked w .kind = ap (λ (x : Entry). x .kind) ee in
-            let (l, v, r) = X .simple (ap (λ (x : Entry). x .simple) (sym ee) ∙ simple) in
-            (subst (λ (i : ℕ). Lawful i Part) (sym k) l, v ∙ ap (λ (i : ℕ). leaf (leafOf i Part)) (sym k), r)
+        abbrev Its : List ℕ
+        Its = X .simple its-simple .0
 
-        pub leaf-asks : Lawful (e .kind) Part × (length Part ≤ 8192) × (to + length (leafOctets Its-leaf) ≤ length buf)
+        abbrev Left-in : List ℕ
+        Left-in = X .simple its-simple .1
+
+        its-kind : e .kind ≡ unpacked w .kind
+        its-kind = ap (λ (x : Entry). x .kind) ee
+
+        its-carried : Carried (e .kind) Part (inSegments (getD m at₁ 0)) Its Left-in
+        its-carried = subst (λ (i : ℕ). Carried i Part (inSegments (getD m at₁ 0)) Its Left-in) (sym its-kind) (X .simple its-simple .2)
+
+        its-value : Val ≡ leaf (leafOf (e .kind) Its)
+        its-value = X .simple its-simple .4 ∙ ap (λ (i : ℕ). leaf (leafOf i Its)) (sym its-kind)
+
+        its-lawful : Lawful (e .kind) Its
+        its-lawful = subst (λ (i : ℕ). Lawful i Its) (sym its-kind) (X .simple its-simple .3)
+
+        its-room : to + length (leafOctets (leafOf (e .kind) Its)) ≤ length buf
         unfolding octets
-        leaf-asks =
-            let room : to + length (octets (leaf Its-leaf)) ≤ length buf
-            = subst (λ (v : Value). to + length (octets v) ≤ length buf) (Its-facts .1) (P .fits .room) in
-            (Its-facts .0, omega (arith, part-less, P .short), room)
+        its-room = subst (λ (v : Value). to + length (octets v) ≤ length buf) its-value (P .fits .room)
 
-        pub leaf-stored : (buf₁ : List ℕ) (next : ℕ) → next ≡ to + length (leafOctets Its-leaf) → buf₁ ≡ sets buf to (leafOctets Its-leaf)
-            → Stored Val m end (U .left) buf to buf₁ stop next way
+        -- the value is in the buffer, and its contents end at a place of the part
+        its-stored : (buf₁ : List ℕ) (p next : ℕ) → p ≤ length Part → Left-in ≡ drop p Part → next ≡ to + length (leafOctets (leafOf (e .kind) Its))
+            → buf₁ ≡ sets buf to (leafOctets (leafOf (e .kind) Its)) → Stored Val m end (U .left) buf to buf₁ (start + p) next way
         unfolding octets
-        leaf-stored buf₁ next en eb =
+        its-stored buf₁ p next h z en eb =
+            let q = X .simple its-simple .5 p h z in
             record {
-              ends = en ∙ ap (λ (v : Value). to + length (octets v)) (sym (Its-facts .1));
-              buffer = eb ∙ ap (λ (v : Value). sets buf to (octets v)) (sym (Its-facts .1));
-              within = X .high;
-              behind = Its-facts .2;
+              ends = en ∙ ap (λ (v : Value). to + length (octets v)) (sym its-value);
+              buffer = eb ∙ ap (λ (v : Value). sets buf to (octets v)) (sym its-value);
+              within = q .0;
+              behind = q .1;
               ways = P .ways;
             }
+
+        -- in segments
+        module _ (parts : inSegments (getD m at₁ 0) ≡ true) where
+          pub parts-ask : ToPlaceLeaf (e .kind) Part true (length buf) to
+          parts-ask =
+              record {
+                contents = Its;
+                rest = Left-in;
+                carried = subst (λ (t : Bool). Carried (e .kind) Part t Its Left-in) parts its-carried;
+                lawful = its-lawful;
+                short = omega (arith, part-less, P .short);
+                fits = its-room;
+              }
+
+          module _ (buf₁ : List ℕ) (r : Placed)
+              (placed : (p : ToPlaceLeaf (e .kind) Part true (length buf) to) → LeafPlaced (e .kind) (p .contents) (p .rest) Part buf to buf₁ r) where
+            its-placed : LeafPlaced (e .kind) Its Left-in Part buf to buf₁ r
+            unfolding parts-ask
+            its-placed = placed parts-ask
+
+            pub parts-stored : Stored Val m end (U .left) buf to buf₁ (start + r .end) (r .next) way
+            parts-stored = its-stored buf₁ (r .end) (r .next) (its-placed .within) (its-placed .left) (its-placed .next) (its-placed .buffer)
+
+            pub parts-end : start + r .end ≤ 8192
+            parts-end = omega (arith, parts-stored .within, U .under .high, P .short)
+
+        -- by themselves
+        module _ (whole : inSegments (getD m at₁ 0) ≡ false) where
+          its-own-contents : (Its ≡ Part) × (Left-in ≡ [])
+          its-own-contents = itself (subst (λ (t : Bool). Carried (e .kind) Part t Its Left-in) whole its-carried)
+
+          abbrev Leaf-of : Leaf
+          Leaf-of = leafOf (e .kind) Part
+
+          same-leaf : leafOf (e .kind) Its ≡ Leaf-of
+          same-leaf = ap (leafOf (e .kind)) (its-own-contents .0)
+
+          pub leaf-asks : Lawful (e .kind) Part × (length Part ≤ 8192) × (to + length (leafOctets Leaf-of) ≤ length buf)
+          leaf-asks = (
+            subst (Lawful (e .kind)) (its-own-contents .0) its-lawful,
+            omega (arith, part-less, P .short),
+            subst (λ (x : Leaf). to + length (leafOctets x) ≤ length buf) same-leaf its-room,
+          )
+
+          pub leaf-stored : (buf₁ : List ℕ) (next : ℕ) → next ≡ to + length (leafOctets Leaf-of) → buf₁ ≡ sets buf to (leafOctets Leaf-of)
+              → Stored Val m end (U .left) buf to buf₁ stop next way
+          leaf-stored buf₁ next en eb =
+              let h : start + length Part ≡ stop = omega (arith, part-size, X .order) in
+              subst (λ (j : ℕ). Stored Val m end (U .left) buf to buf₁ j next way) h
+              (its-stored buf₁ (length Part) next (omega arith) (its-own-contents .1 ∙ sym (drop-length Part))
+              (en ∙ ap (λ (x : Leaf). to + length (leafOctets x)) (sym same-leaf)) (eb ∙ ap (λ (x : Leaf). sets buf to (leafOctets x)) (sym same-leaf)))
 
       -- items
       module _ (holds : unpacked w .simple ≡ false) where
@@ -371,7 +494,7 @@ module _ {b index : List ℕ} {w : ℕ} {m : List ℕ} {at from : ℕ} {buf : Li
 
       pub bare-placed : unpacked w .explicit ≤ 0 → IsPlaced (valueIn b w (drop at m)) m to buf buf₁ (record { end = stop; next = next })
       unfolding Around closing
-      bare-placed none =
+      bare-placed l =
           let z : unpacked w .explicit ≡ 0 = omega arith in
           let n : length m ≡ end = subst (λ (i : ℕ). Around (length m) (take i notes) end) z (U .under .around) in
           let r : _≡_ {A = Answer ℕ} (got 0 (U .left)) (got 0 Rest)

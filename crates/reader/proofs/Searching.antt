@@ -20,16 +20,16 @@ use Rattle.table.specs.Entries.{unpacked, spanOf, tableIn, countIn}
 use Rattle.table.specs.declared.entry.Entry.{Entry}
 use Rattle.table.specs.declared.entry.Span.{Span}
 use Rattle.coding.specs.Awaited.{types}
-use Rattle.reader.specs.Codes.{firstOf, searchIn, hit}
+use Rattle.reader.specs.Codes.{startsWith, searchIn, hit}
 use Rattle.reader.specs.Items.{Holder, inside, message, Manner, in-turn, each-once, repeated, single, manner, partsOf, optionals, Placed, left}
 use Rattle.reader.specs.Items.{awaits, remains, some-of, since, isSingle, first}
-use Rattle.reader.specs.Records.{Ready, Known, of-record, of-message, holderIn, Finds}
+use Rattle.reader.specs.Records.{Ready, Known, of-record, of-message, holderIn, Begins, Finds}
 use Rattle.reader.specs.Sought.{held, Sound, placeOf, tabled, tabledCount, direct, unfitCause, Indirect}
 use Rattle.reader.specs.declared.search.Found.{Found}
 use Rattle.reader.specs.declared.search.Found.the-variants.{Refused}
 use Rattle.reader.specs.declared.search.Under.{Under}
 use Rattle.reader.specs.declared.search.Under.the-variants.{Nothing, At}
-use Rattle.reader.proofs.Among.{code-is}
+use Rattle.reader.proofs.Among.{starts-is}
 use Rattle.reader.proofs.Items.{pending-free, no-cons}
 use Rattle.reader.proofs.ItemsSearch.{optional-types}
 use Rattle.reader.proofs.Spans.{PartAt, Spanned, turns-by, turn-is, turn-not, by-member, entry-of, held-body, its, awaits-none, awaits-hit}
@@ -214,7 +214,7 @@ module _ {b index : List ℕ} {w : ℕ} {came : List ℕ} {e : Entry} {s : Span}
     -- the part itself begins with the code
     module _ (code : ℕ) where
       abbrev Itself : Placed → Bool
-      Itself x = eqb (firstOf (tableIn b (x .1 .type))) code
+      Itself x = startsWith (tableIn b (x .1 .type)) code
 
       first-all : (j : ℕ) → first Itself (tabled H j came) ≡ first Itself (awaits H j came)
       first-all j = ap (λ (x : List Placed). first Itself x) (tabled-some H (omega (arith, spanned .count, l)) .1 j came)
@@ -222,17 +222,15 @@ module _ {b index : List ℕ} {w : ℕ} {came : List ℕ} {e : Entry} {s : Span}
       abbrev pub Other : Type 0
       Other = getD came k 0 ≡ 0 → Itself (k, At-k .part) ≡ false
 
-      module _ (t f : ℕ) (et : t ≡ getD b (s .first + s .step * k) 0) (ef : f ≡ unpacked (getD index t 0) .code) where
-        first-is : f ≡ firstOf (tableIn b (At-k .part .type))
-        first-is = code-is (D .sound .ready) t f (type-low t et) ef ∙ ap (λ (u : ℕ). firstOf (tableIn b u)) (et ∙ At-k .type)
+      module _ (t : ℕ) (g : Bool) (et : t ≡ getD b (s .first + s .step * k) 0) (eg : Begins (getD index t 0) code g) where
+        start-is : g ≡ startsWith (tableIn b (At-k .part .type)) code
+        start-is = starts-is (D .sound .ready) code t g (type-low t et) eg ∙ ap (λ (u : ℕ). startsWith (tableIn b u) code) (et ∙ At-k .type)
 
-        pub other-code : (f ≡ code → ⊥) → Other
-        other-code n = λ z. ne-eqb (firstOf (tableIn b (At-k .part .type))) code (λ q. n (first-is ∙ q))
+        pub other-code : g ≡ false → Other
+        other-code n = λ z. sym start-is ∙ n
 
-        pub direct-found : getD came k 0 ≡ 0 → f ≡ code → direct b H k came code ≡ k
-        direct-found z q =
-            let y = eq-eqb (firstOf (tableIn b (At-k .part .type))) code (sym first-is ∙ q) in
-            ap (placeOf (tabledCount H)) (first-all k ∙ awaits-hit H came k Itself (At-k .part) (At-k .is) z y)
+        pub direct-found : getD came k 0 ≡ 0 → g ≡ true → direct b H k came code ≡ k
+        direct-found z q = ap (placeOf (tabledCount H)) (first-all k ∙ awaits-hit H came k Itself (At-k .part) (At-k .is) z (sym start-is ∙ q))
 
       pub other-come : (getD came k 0 ≡ 0 → ⊥) → Other
       other-come n = λ z. absurd (n z)
@@ -254,7 +252,7 @@ module _ {b index : List ℕ} {w : ℕ} {came : List ℕ} {e : Entry} {s : Span}
 
   pub direct-end : (k code : ℕ) → s .count ≤ k → direct b H k came code ≡ s .count
   direct-end k code l =
-      ap (placeOf (tabledCount H)) (tabled-none H came k (λ x. eqb (firstOf (tableIn b (x .1 .type))) code) (omega (arith, spanned .count))) ∙ sym (spanned .count)
+      ap (placeOf (tabledCount H)) (tabled-none H came k (λ x. startsWith (tableIn b (x .1 .type)) code) (omega (arith, spanned .count))) ∙ sym (spanned .count)
 
   -- all parts, a message's one with them
   whole-is : eqb (e .kind) 51 ≡ true → H ≡ message (e .own)

@@ -13,9 +13,11 @@ use Rattle.octets.specs.Answer.{Answer, got, refused, then, if, none-left}
 use Rattle.octets.proofs.Answer.{Holds, yields, refuses, then-holds, map-holds, behind-holds, if-holds, got-holds}
 use Rattle.x690.specs.Reading.{readIdentifier, Size, definite, indefinite, readLength, open-ended, closed, atEnd, readHeader, inside, readConstructed}
 use Rattle.x690.specs.Reading.{contents, readPrimitive}
+use Rattle.x690.specs.Segments.{Kind, segmentTag, inParts, deepest, Gathered, readJoined, readSegment, readCarried}
 use Rattle.x690.proofs.Identifiers.{identifier-sound}
 use Rattle.x690.proofs.Items.{Ends, mark, atEnd-holds}
 use Rattle.table.specs.Syntax.{Member, Body, Plain, Sequence, Set, SequenceOf, SetOf, Choice, Table}
+use Rattle.coding.specs.Content.{segmented}
 use Rattle.coding.specs.Value.{Value}
 use Rattle.coding.specs.Reading.{passes, begun, unwanted, nothing, readWrapped, readSequence, placeMember, readSet, readMany, choose, readBody, readKind}
 use Rattle.coding.specs.Reading.{readValue}
@@ -107,6 +109,35 @@ primitive-skips : (i : List ℕ) → Outer (readPrimitive i)
 unfolding readPrimitive
 primitive-skips i s = then-holds (header-headed i s) (contents-skips _ s)
 
+-- a string in segments is passed over by its header, or by theirs
+joined-skips : (k : Kind) (r : List ℕ → Answer Gathered) → Outer r → (n : ℕ) (c : List ℕ) (b : ℕ) → Inner (readJoined k r n c b open-ended)
+unfolding readJoined
+joined-skips k r f zero c b s = refuses
+joined-skips k r f (suc n) c b s =
+    open-end s (λ u h. yields (ended h)) λ g _.
+    then-holds (itself (readIdentifier s)) λ i s₁ e.
+    if-holds _ (λ q. refuses) λ q _.
+    if-holds _ (λ q. refuses) λ q _.
+    then-holds (f s) λ d s₂ x.
+    map-holds (joined-skips k r f n _ _ s₂) λ d w y. item-then g x y
+
+segment-skips : (k : Kind) (d : ℕ) → Outer (readSegment k d)
+unfolding readSegment
+segment-skips k zero s = refuses
+segment-skips k (suc d) s =
+    if-holds _ (λ e. constructed-skips (segmentTag k true) _ (λ u. joined-skips k (readSegment k d) (segment-skips k d) _ _ _ u) s) λ e _.
+    then-holds (primitive-skips (segmentTag k false) s) λ c u x.
+    if-holds _ (λ q. refuses) λ q _. yields x
+
+carried-skips : (k : Option Kind) (i : List ℕ) → Outer (readCarried k i)
+unfolding readCarried
+carried-skips none i s = primitive-skips i s
+carried-skips (some k) i s =
+    if-holds _
+    (λ e.
+    then-holds (constructed-skips (inParts i) _ (λ u. joined-skips k (readSegment k deepest) (segment-skips k deepest) _ _ _ u) s) λ g u x. yields x)
+    λ e _. primitive-skips i s
+
 wrapped-skips : {A : Type 0} (is : List (List ℕ)) (r : List ℕ → Answer A) → Outer r → Outer (readWrapped is r)
 unfolding readWrapped
 wrapped-skips [] r f s = f s
@@ -178,7 +209,7 @@ module _ (T : Table) (good : Good T) (r : ℕ → List ℕ → Answer Value) (sk
   kind-skips : (i : List ℕ) (k : Body) → Outer (readKind T r i k)
   unfolding readKind
   kind-skips i (Plain k) s =
-      then-holds (primitive-skips i s) λ c s₁ x.
+      then-holds (carried-skips (segmented k) i s) λ c s₁ x.
       then-holds (content-sound k _ c s₁) λ y s₂ h. yields (rw (h .0) x)
   kind-skips i (Sequence ms) s = constructed-skips i _ (body-skips (Sequence ms)) s
   kind-skips i (Set ms) s = constructed-skips i _ (body-skips (Set ms)) s

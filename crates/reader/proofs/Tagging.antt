@@ -1,6 +1,6 @@
 -- The identifiers of a record by its tags, and whether octets begin with the one that is awaited.
 -- Assumes nothing.
-use borrow.Author.Tests.{lt-ltb, le-ltb, ltb-true, ltb-false, ne-eqb}
+use borrow.Author.Tests.{lt-ltb, le-ltb, ltb-true, ltb-false, ne-eqb, eqb-true}
 use lib.Dec.{ltb, eqb}
 use lib.ListN.{length, getD, drop, length-append}
 use mathlib.Core.Bool.{Bool, true, false, not, _||_, false≢true}
@@ -13,9 +13,11 @@ use Rattle.octets.specs.declared.cause.Cause.the-variants.{NotAwaited}
 use Rattle.octets.specs.Answer.{got, refused, then, if}
 use Rattle.octets.specs.Lists.{same}
 use Rattle.octets.specs.Numbers.{Octets, two}
-use Rattle.octets.proofs.Tests.{test}
+use Rattle.octets.proofs.Tests.{test, and-left, and-right}
 use Rattle.ber.specs.Codes.{codeOf, code as codeBy}
+use Rattle.x690.specs.Identifier.{identifier}
 use Rattle.x690.specs.Reading.{readIdentifier}
+use Rattle.x690.specs.Segments.{inParts}
 use Rattle.ber.specs.Told.{toldIdentifier, endOf}
 use Rattle.ber.specs.declared.ending.End.{End}
 use Rattle.ber.specs.declared.ending.End.the-variants.{More, Over, Broken}
@@ -25,15 +27,17 @@ use Rattle.ber.proofs.Codes.{code-of-identifier, code-awaited}
 use Rattle.ber.proofs.Ends.{end-more, end-over, end-broken}
 use Rattle.ber.proofs.Told.{identifier-read, identifier-refused}
 use Rattle.table.specs.Syntax.{Tag, Body, Plain, Sequence, Set, SequenceOf, SetOf, Choice, Record, isChoice, constructed}
-use Rattle.table.specs.Entries.{unpacked, tagCount, tagPlace, tableIn, countIn, Entered, firstCode, outermostCode}
+use Rattle.table.specs.Entries.{unpacked, tagCount, tagPlace, allButLast, tableIn, countIn, Entered, firstCode, outermostCode, explicitCount}
 use Rattle.table.specs.declared.entry.Entry.{Entry}
 use Rattle.table.proofs.Promises.{entered-tags, entered-tag, entered-bit}
 use Rattle.coding.specs.Tags.{identifierOf, last, before, explicitTags, ownTag, explicit}
+use Rattle.reader.specs.Codes.{ownEither, eitherAt, coded}
 use Rattle.reader.specs.Records.{Ready, recordIn, IsRecord}
-use Rattle.reader.specs.Wraps.{identifiers, AwaitsTag, behind-last, is-tag, no-tag, EntersTag, goes-on, is-over}
+use Rattle.reader.specs.Wraps.{identifiers, sentAs, AwaitsTag, behind-last, is-tag, no-tag, EntersTag, goes-on, is-over}
 use Rattle.reader.specs.declared.tags.Tag.{Tag as TagRead}
 use Rattle.reader.specs.declared.tags.Tag.the-variants.{Read as ReadTag, Refused as NoTag}
-use Rattle.reader.proofs.Begun.{AllFine, Fit, fit}
+use Rattle.reader.proofs.Starts.{coded-one, coded-is, coded-parts, coded-other, either-entry, either-explicit}
+use Rattle.reader.proofs.Begun.{AllFine, Fit, fit, eqb-turn, code-below, parts-tag, code-parts}
 use Rattle.reader.proofs.Spans.{or-true}
 
 -- a record by its entry
@@ -111,6 +115,25 @@ fine-at [] f j l = absurd (omega arith)
 fine-at (g ∷ gs) f zero l = f .0
 fine-at (g ∷ gs) f (suc j) l = fine-at gs (f .1) j (omega arith)
 
+-- the own identifier of a string is primitive
+own-bit : (y : Body) → ownEither y ≡ true → (constructed y ≡ false) × (isChoice y ≡ false)
+unfolding ownEither constructed isChoice
+own-bit (Plain k) t = (refl, refl)
+own-bit (Sequence ms) t = absurd (false≢true t)
+own-bit (Set ms) t = absurd (false≢true t)
+own-bit (SequenceOf u) t = absurd (false≢true t)
+own-bit (SetOf u) t = absurd (false≢true t)
+own-bit (Choice ts) t = absurd (false≢true t)
+
+last-bit : (r : Record) (j : ℕ) → j < length (r .tags) → ownEither (r .body) ≡ true → explicitCount r ≡ j
+    → (ltb (j + 1) (length (r .tags)) || constructed (r .body)) ≡ false
+unfolding explicitCount if
+last-bit r j l t e =
+    let (c, n) = own-bit (r .body) t in
+    let q : allButLast (length (r .tags)) ≡ j = rw n at e in
+    let k : length (r .tags) - 1 ≡ j = rw (ne-eqb (length (r .tags)) 0 (λ z. omega arith)) at q in
+    rw (le-ltb (j + 1) (length (r .tags)) (omega arith)) c
+
 -- of a record that fits
 module _ (r : Record) (F : Fit r) where
   pub count-identifiers : length (identifiers r) ≡ length (r .tags)
@@ -130,6 +153,12 @@ module _ (r : Record) (F : Fit r) where
     unfolding identifierOf
     code-at = ap codeOf identifier-at ∙ code-of-identifier (Its .class) Bit (Its .number) (fine-at (r .tags) (F .fine) j l .1)
 
+    pub code-most : codeOf (getD (identifiers r) j []) < 16777216
+    code-most =
+        let f = fine-at (r .tags) (F .fine) j l in
+        let z = code-below (Its .class) Bit (Its .number) (f .0) (f .1) in
+        omega (arith, code-at, z)
+
     -- identifiers that are read are compared by their codes
     pub same-at : (s i u : List ℕ) → Octets s → readIdentifier s ≡ got i u
         → same (getD (identifiers r) j []) i ≡ eqb (codeOf i) (codeOf (getD (identifiers r) j []))
@@ -137,6 +166,36 @@ module _ (r : Record) (F : Fit r) where
     same-at s i u o e =
         let f = fine-at (r .tags) (F .fine) j l in
         ap (λ (z : List ℕ). same z i) identifier-at ∙ code-awaited s i u o e (Its .class) Bit (Its .number) (f .0) (f .1) ∙ ap (λ (z : ℕ). eqb (codeOf i) z) (sym code-at)
+
+    -- or by either form, if it may have both: then it is primitive
+    plain-bit : eitherAt r j ≡ true → Bit ≡ false
+    unfolding eitherAt
+    plain-bit t =
+        let w = ownEither (r .body) in
+        last-bit r j l (and-left w (eqb (explicitCount r) j) t) (eqb-true (explicitCount r) j (and-right w (eqb (explicitCount r) j) t))
+
+    parts-at : eitherAt r j ≡ true → (s i u : List ℕ) → Octets s → readIdentifier s ≡ got i u
+        → same (inParts (getD (identifiers r) j [])) i ≡ eqb (codeOf (getD (identifiers r) j []) + 32) (codeOf i)
+    unfolding identifierOf
+    parts-at t s i u o e =
+        let f = fine-at (r .tags) (F .fine) j l in
+        let z = plain-bit t in
+        let c = code-at ∙ ap (λ (k : Bool). codeBy (Its .class) k (Its .number)) z in
+        ap (λ (x : List ℕ). same (inParts x) i) (identifier-at ∙ ap (λ (k : Bool). identifierOf k Its) z)
+        ∙ ap (λ (x : List ℕ). same x i) (parts-tag Its)
+        ∙ code-awaited s i u o e (Its .class) true (Its .number) (f .0) (f .1)
+        ∙ eqb-turn (codeOf i) (codeBy (Its .class) true (Its .number))
+        ∙ ap (λ (x : ℕ). eqb x (codeOf i)) (code-parts (Its .class) (Its .number) ∙ ap (λ (x : ℕ). x + 32) (sym c))
+
+    pub sent-at : (s i u : List ℕ) → Octets s → readIdentifier s ≡ got i u
+        → sentAs (eitherAt r j) (getD (identifiers r) j []) i ≡ coded (eitherAt r j) (codeOf (getD (identifiers r) j [])) (codeOf i)
+    unfolding coded
+    sent-at s i u o e =
+        let x = getD (identifiers r) j [] in
+        let y = same-at s i u o e ∙ eqb-turn (codeOf i) (codeOf x) in
+        test (eitherAt r j)
+        (λ t. rw (t, y, parts-at t s i u o e) refl)
+        λ t. rw (t, y) refl
 
 -- its own identifier is the last
 behind-at : (a : List (List ℕ)) (x : List ℕ) → getD (a ++ (x ∷ [])) (length a) [] ≡ x
@@ -146,6 +205,16 @@ behind-at (y ∷ a) x = behind-at a x
 pub own-at : (r : Record) → isChoice (r .body) ≡ false → getD (identifiers r) (length (explicit r)) [] ≡ ownTag r
 unfolding if
 own-at r n = rw n (behind-at (explicit r) (ownTag r))
+
+-- and no constructed form of itself
+pub own-parts : (r : Record) → same (inParts (ownTag r)) (ownTag r) ≡ false
+unfolding ownTag identifierOf identifier inParts same if
+own-parts r =
+    let n = last (r .body) (r .tags) .number in
+    test (ltb n 31) (λ e. rw (e, higher _) refl) λ e. rw (e, higher _) refl
+  where
+    higher : (x : ℕ) → eqb (x + 32) x ≡ false
+    higher x = ne-eqb (x + 32) x (λ z. omega arith)
 
 pub own-low : (r : Record) → Fit r → isChoice (r .body) ≡ false → length (explicit r) < length (r .tags)
 unfolding if
@@ -191,14 +260,14 @@ module _ {b index : List ℕ} (R : Ready b index) {w : ℕ} (I : IsRecord b inde
     how-many : n ≡ length (identifiers r)
     how-many = en ∙ ap tagCount ee ∙ its-tags
 
-    pub awaits-none : n ≤ j → AwaitsTag (identifiers r) j m (ReadTag 0)
+    pub awaits-none : n ≤ j → AwaitsTag r j m (ReadTag 0)
     awaits-none l = behind-last (omega (arith, how-many))
 
     module _ (l : j < n) (o : Octets m) (y : Identifier) (ey : y ≡ toldIdentifier (length m) (readIdentifier m)) where
       within : j < length (identifiers r)
       within = omega (arith, how-many)
 
-      pub awaits-unread : (c : Cause) → y ≡ NoIdentifier c → AwaitsTag (identifiers r) j m (NoTag c)
+      pub awaits-unread : (c : Cause) → y ≡ NoIdentifier c → AwaitsTag r j m (NoTag c)
       unfolding then
       awaits-unread c q = no-tag {c = c} within (rw (identifier-refused m y ey c q) refl)
 
@@ -222,27 +291,62 @@ module _ {b index : List ℕ} (R : Ready b index) {w : ℕ} (I : IsRecord b inde
             ∙ ap (λ (x : Tag). codeBy (x .class) (ltb (j + 1) (length (t .tags)) || constructed (t .body)) (x .number)) g
             ∙ sym (code-at t F j in-tags))
 
-        its-same : same (getD (identifiers r) j []) (Is .0) ≡ eqb code k
-        its-same =
+        pub awaits-small : k < 16777216
+        awaits-small =
             let l : j < length (r .tags) = omega (arith, within, count-identifiers r its-fit) in
-            same-at r its-fit j l m (Is .0) (drop end m) o (Is .1) ∙ ap (λ (z : ℕ). eqb z (codeOf (getD (identifiers r) j []))) (Is .2) ∙ ap (eqb code) (sym its-code)
+            omega (arith, its-code, code-most r its-fit j l)
 
-        pub awaits-tag : code ≡ k → AwaitsTag (identifiers r) j m (ReadTag end)
-        awaits-tag z =
-            is-tag end within (record { identifier = Is .0; is = Is .1; coded = Is .2 ∙ z ∙ its-code; further = Is .3; low = Is .4 })
+        its-coded : coded (eitherAt r j) (codeOf (getD (identifiers r) j [])) (codeOf (Is .0)) ≡ coded (eitherAt r j) k code
+        its-coded = rw (← its-code, Is .2) refl
 
-        pub awaits-other : (code ≡ k → ⊥) → AwaitsTag (identifiers r) j m (NoTag NotAwaited)
+        its-sent : sentAs (eitherAt r j) (getD (identifiers r) j []) (Is .0) ≡ coded (eitherAt r j) k code
+        its-sent =
+            let l : j < length (r .tags) = omega (arith, within, count-identifiers r its-fit) in
+            sent-at r its-fit j l m (Is .0) (drop end m) o (Is .1) ∙ its-coded
+
+        is-awaited : coded (eitherAt r j) k code ≡ true → AwaitsTag r j m (ReadTag end)
+        is-awaited z =
+            is-tag end within (record { identifier = Is .0; is = Is .1; coded = its-coded ∙ z; further = Is .3; low = Is .4 })
+
+        not-awaited : coded (eitherAt r j) k code ≡ false → AwaitsTag r j m (NoTag NotAwaited)
         unfolding then if
-        awaits-other z = no-tag {c = NotAwaited} within (rw (Is .1, its-same, ne-eqb code k z) refl)
+        not-awaited z = no-tag {c = NotAwaited} within (rw (Is .1, its-sent, z) refl)
+
+        pub awaits-tag : code ≡ k → AwaitsTag r j m (ReadTag end)
+        awaits-tag z = is-awaited (coded-is (eitherAt r j) k code (sym z))
+
+        -- not the code itself
+        module _ (unlike : code ≡ k → ⊥) where
+          pub awaits-neither : (code ≡ k + 32 → ⊥) → AwaitsTag r j m (NoTag NotAwaited)
+          awaits-neither z = not-awaited (coded-other (eitherAt r j) k code (λ q. unlike (sym q)) (λ q. z (sym q)))
+
+          exactly : eitherAt r j ≡ false → AwaitsTag r j m (NoTag NotAwaited)
+          exactly q = not-awaited (rw q (coded-one k code ∙ ne-eqb k code (λ z. unlike (sym z))))
+
+          pub awaits-explicit : (e .explicit ≡ j → ⊥) → AwaitsTag r j m (NoTag NotAwaited)
+          awaits-explicit z =
+              exactly (rw its-record (either-explicit its-entry j (λ q. z (ap (λ (x : Entry). x .explicit) ee ∙ q))))
+
+          module _ (z : e .explicit ≡ j) (g : Bool) (eg : g ≡ (eqb (e .kind) 3 || eqb (e .kind) 4)) where
+            its-either : eitherAt r j ≡ g
+            its-either =
+                rw its-record
+                (either-entry its-entry j g (eg ∙ ap (λ (x : Entry). eqb (x .kind) 3 || eqb (x .kind) 4) ee) (ap (λ (x : Entry). x .explicit) (sym ee) ∙ z))
+
+            pub awaits-string : code ≡ k + 32 → g ≡ true → AwaitsTag r j m (ReadTag end)
+            awaits-string q y = is-awaited (coded-parts (eitherAt r j) k code (its-either ∙ y) (sym q))
+
+            pub awaits-other : g ≡ false → AwaitsTag r j m (NoTag NotAwaited)
+            awaits-other y = exactly (its-either ∙ y)
 
 -- in the contents of a tag
-module _ (is : List (List ℕ)) (j : ℕ) (m : List ℕ) (indefinite : Bool) (y : End) (ey : y ≡ endOf indefinite (length m) (drop 0 m)) where
-  pub enters-over : (u : ℕ) → y ≡ Over u → EntersTag is j m indefinite (NoTag NotAwaited)
+module _ (r : Record) (j : ℕ) (m : List ℕ) (indefinite : Bool) (y : End) (ey : y ≡ endOf indefinite (length m) (drop 0 m)) where
+  pub enters-over : (u : ℕ) → y ≡ Over u → EntersTag r j m indefinite (NoTag NotAwaited)
   enters-over u q = is-over (end-over {A = List ℕ} (λ _. refused NotAwaited (length m)) (λ _. got [] m) m 0 indefinite y u (omega arith) ey q .0)
 
-  pub enters-broken : (c : Cause) → y ≡ Broken c → EntersTag is j m indefinite (NoTag c)
+  pub enters-broken : (c : Cause) → y ≡ Broken c → EntersTag r j m indefinite (NoTag c)
   enters-broken c q =
       is-over (end-broken {A = List ℕ} (λ _. refused NotAwaited (length m)) (λ _. got [] m) m 0 indefinite y c ey q)
 
-  pub enters-more : y ≡ More → (t : TagRead) → AwaitsTag is j m t → EntersTag is j m indefinite t
+  pub enters-more : y ≡ More → (t : TagRead) → AwaitsTag r j m t → EntersTag r j m indefinite t
   enters-more q t a = let h = end-more {A = List ℕ} (λ _. refused NotAwaited (length m)) (λ _. got [] m) m 0 indefinite y ey q in goes-on (h .0) (h .1) a

@@ -1,37 +1,42 @@
 -- A value of a record in a message, taken apart: what stands under its explicit tags, its length, and its contents, simple ones or items.
 -- Assumes nothing.
 use borrow.Author.Tests.{eq-eqb, ne-eqb, not-true, not-false}
-use lib.ListN.{length, take, drop, length-drop}
-use lib.Seq.{take-length, take-take, length-take-le, drop-drop}
+use lib.ListN.{length, getD, take, drop, length-drop}
+use lib.Seq.{take-length, take-take, length-take-le, drop-drop, getD-take, getD-drop}
 use mathlib.Core.Bool.{Bool, true, false, not, true≢false, false≢true}
-use mathlib.Core.List.{List, []}
+use mathlib.Core.List.{List, [], _∷_, _++_}
 use mathlib.Core.Option.{some}
 use mathlib.Core.Path.{_≡_, refl, sym, ap, _∙_}
 use native.Mathlib.Omega.{arith}
 use Prim.Native.Nat.{ℕ, _+_, _-_, _≤_, _<_}
 use Rattle.octets.specs.declared.cause.Cause.{Cause}
-use Rattle.octets.specs.declared.cause.Cause.the-variants.{Forbidden}
 use Rattle.octets.specs.Answer.{Answer, got, refused, then, if, behind}
 use Rattle.octets.specs.Numbers.{Octets}
+use Rattle.octets.proofs.Answer.{got-holds}
 use Rattle.octets.proofs.Tests.{test}
 use Rattle.ber.specs.Codes.{codeOf}
-use Rattle.x690.specs.Reading.{Mode, closed, open-ended, Size, definite, indefinite, readLength, readHeader, inside as insideSize}
-use Rattle.x690.specs.Reading.{readConstructed, contents, readPrimitive}
+use Rattle.x690.specs.Reading.{Mode, closed, open-ended, readLength, readHeader, inside as insideSize}
+use Rattle.x690.specs.Reading.{readConstructed, readIdentifier}
+use Rattle.x690.specs.Segments.{inEither}
+use Rattle.x690.proofs.Identifiers.{identifier-sound, identifier-some}
 use Rattle.ber.specs.Told.{toldLength, mode}
 use Rattle.ber.specs.declared.length.Length.{Length}
 use Rattle.ber.specs.declared.length.Length.the-variants.{Read as ReadLength}
 use Rattle.ber.specs.declared.length.Extent.{Extent}
 use Rattle.ber.proofs.Told.{length-definite, length-indefinite}
 use Rattle.table.specs.Syntax.{Simple, Body, Plain}
-use Rattle.table.specs.Syntax.{Record, Table, isChoice, constructed}
+use Rattle.table.specs.Syntax.{Record, isChoice, constructed}
 use Rattle.table.specs.Entries.{unpacked, tableIn}
 use Rattle.table.specs.declared.entry.Entry.{Entry}
 use Rattle.coding.specs.Tags.{ownTag, explicit}
-use Rattle.coding.specs.Value.{Value, leaf}
-use Rattle.coding.specs.Reading.{decode, readWrapped, readKind, readValue}
+use Rattle.coding.specs.Content.{segmented}
+use Rattle.coding.specs.Value.{Value}
+use Rattle.coding.specs.Reading.{readWrapped, readValue}
+use Rattle.reader.specs.Codes.{ownEither, either}
 use Rattle.reader.specs.Items.{Holder, inside, manner, isSingle}
 use Rattle.reader.specs.Items.{readHeld}
 use Rattle.reader.specs.Records.{Ready, IsRecord, Known, of-record, readRecord}
+use Rattle.reader.specs.Leaves.{inSegments, readLeaf}
 use Rattle.reader.specs.Sought.{held}
 use Rattle.reader.specs.Wraps.{closing, Around, Headed, readBare, Opens}
 use Rattle.reader.specs.declared.tags.Inner.{Inner}
@@ -39,8 +44,10 @@ use Rattle.reader.specs.declared.tags.Opened.{Opened}
 use Rattle.reader.specs.declared.tags.Opened.the-variants.{Inside, Refused as NotOpened}
 use Rattle.reader.proofs.Bodies.{recordOf, nil-of, plain-of, no-alternatives, single-kind, Built, its-holder, its-built}
 use Rattle.reader.proofs.Bodies.{its-choice, its-simple}
-use Rattle.reader.proofs.Opening.{octets-drop, octets-take, slice-is, its-count, its-first}
-use Rattle.reader.proofs.Tagging.{own-at, own-low, own-first, same-at, its-fit}
+use Rattle.reader.proofs.Opening.{octets-drop, octets-take, slice-is, its-count, its-first, either-own}
+use Rattle.reader.proofs.Tagging.{own-at, own-low, own-first, sent-at, its-fit}
+use Rattle.reader.proofs.OwnForm.{Form, form-of, form-lead, form-own, form-string, lead-header}
+use Rattle.reader.proofs.LeafReading.{leafEnd, sizeOf, form-read, form-refused}
 use Rattle.reader.proofs.Tails.{Sane, leaves, stops, tail-at, Closes, held-sane}
 
 -- Under the explicit tags of r, the item of r stands from `at` on, in octets that end at `end`; its identifier, if it has one, ends at `from`.
@@ -49,33 +56,21 @@ pub record Under (b : List ℕ) (r : Record) (m : List ℕ) (first : ℕ) (ns : 
   pub some : at < end
   pub high : end ≤ length m
   pub around : Around (length m) ns end
-  pub headed : isChoice (r .body) ≡ false → Headed (take end m) at from (codeOf (ownTag r))
+  pub headed : isChoice (r .body) ≡ false → Headed (take end m) at from (ownEither (r .body)) (codeOf (ownTag r))
   pub whole : (n : ℕ) → readRecord (tableIn b) n r (drop first m) ≡ closing m ns end (readBare b n r (drop at (take end m)))
 
--- where the contents of that item stand
-abbrev pub sizeOf : Bool → ℕ → Size
-sizeOf true n = indefinite
-sizeOf false n = definite n
-
+-- where the contents of that item stand, behind the identifier octets `lead`, of which bit 6 is set if `parts`
 pub record Within (r : Record) (p : List ℕ) (at end start stop : ℕ) (indefinite : Bool) : Type 0 where
   pub ordered : start ≤ stop
   pub high : stop ≤ end
   pub unsized : indefinite ≡ true → stop ≡ end
   pub further : isChoice (r .body) ≡ false → at < start
   pub bare : isChoice (r .body) ≡ true → (start ≡ at) × (stop ≡ end)
-  pub header : isChoice (r .body) ≡ false → readHeader (ownTag r) (drop at p) ≡ got (sizeOf indefinite (stop - start)) (drop start p)
-
--- the item of a simple kind, by its header
-module _ (T : Table) (f : ℕ → List ℕ → Answer Value) (i : List ℕ) (y : Body) (s : List ℕ) (k : Simple) (q : y ≡ Plain k) (z : Bool) (n : ℕ)
-    (u : List ℕ)
-    (h : readHeader i s ≡ got (sizeOf z n) u) where
-  pub plain-open : z ≡ true → readKind T f i y s ≡ refused Forbidden (length s)
-  unfolding readKind readPrimitive then contents
-  plain-open t = let g = rw t at h in rw (q, g) refl
-
-  plain-sized : z ≡ false → readKind T f i y s ≡ then (decode k (length s) (take n u) (drop n u)) λ x w. got (leaf x) w
-  unfolding readKind readPrimitive then contents
-  plain-sized t = let g = rw t at h in rw (q, g) refl
+  pub lead : List ℕ
+  pub parts : Bool
+  pub form : isChoice (r .body) ≡ false → Form r lead parts
+  pub leads : isChoice (r .body) ≡ false → (u : List ℕ) × (readIdentifier (drop at p) ≡ got lead u)
+  pub header : isChoice (r .body) ≡ false → readHeader lead (drop at p) ≡ got (sizeOf indefinite (stop - start)) (drop start p)
 
 -- the item of a constructed kind, by its header
 module _ (i : List ℕ) (s : List ℕ) (z : Bool) (n : ℕ) (u : List ℕ) (h : readHeader i s ≡ got (sizeOf z n) u)
@@ -101,7 +96,7 @@ module _ {b index : List ℕ} (R : Ready b index) {w : ℕ} (I : IsRecord b inde
     no-notes l notes = let z : e .explicit ≡ 0 = omega arith in sym (its-notes notes) ∙ ap (λ (i : ℕ). take i notes) z
 
     -- without tags
-    pub under-bare : (m : List ℕ) (first from : ℕ) → e .explicit ≤ 0 → Headed m first from (unpacked w .code) → (notes : List ℕ)
+    pub under-bare : (m : List ℕ) (first from : ℕ) → e .explicit ≤ 0 → Headed m first from (either r) (unpacked w .code) → (notes : List ℕ)
         → Under b r m first (take (unpacked w .explicit) notes) first from (length m)
     unfolding Around closing readRecord readWrapped
     under-bare m first from l h notes =
@@ -111,7 +106,7 @@ module _ {b index : List ℕ} (R : Ready b index) {w : ℕ} (I : IsRecord b inde
           some = omega (arith, h .further, h .low);
           high = omega arith;
           around = refl;
-          headed = λ n. rw (take-length m, own-first r (its-fit R I) z n, ← its-first R I) h;
+          headed = λ n. rw (take-length m, own-first r (its-fit R I) z n, ← its-first R I, ← either-own r (its-fit R I) 0 (sym z)) h;
           whole = λ n. rw (nil-of (explicit r) z, take-length m) refl;
         })
 
@@ -163,18 +158,27 @@ module _ {b index : List ℕ} {w : ℕ} {m : List ℕ} {first level : ℕ} (X : 
   pub item-within : X .at ≤ length m
   item-within = omega (arith, X .under .some, X .under .high)
 
+  pub item-inside : X .at < length m
+  item-inside = omega (arith, X .under .some, X .under .high)
+
   pub item-around : X .end ≡ length Part
   item-around = sym size-part
 
-  pub own-header : isChoice (Rec .body) ≡ false → readHeader (ownTag Rec) Rest ≡ readLength (length Rest) (drop (X .from) Part)
-  unfolding readHeader then if
-  own-header n =
+  -- its identifier, and the length behind it
+  own-form : (n : isChoice (Rec .body) ≡ false) → (parts : Bool) × Form Rec (X .under .headed n .identifier) parts
+  own-form n =
       let h = X .under .headed n in
       let o = octets-drop Part (octets-take m (X .all-octets) (X .end)) (X .at) in
       let F = its-fit (X .ready) (X .known) in
-      let y = same-at Rec F (length (explicit Rec)) (own-low Rec F n) Rest (h .identifier) (drop (X .from) Part) o (h .is) in
-      let v = rw (own-at Rec n) at y in
-      rw (h .is, v, eq-eqb (codeOf (h .identifier)) (codeOf (ownTag Rec)) (h .coded)) refl
+      let y = sent-at Rec F (length (explicit Rec)) (own-low Rec F n) Rest (h .identifier) (drop (X .from) Part) o (h .is) in
+      form-of Rec (h .identifier) (rw (own-at Rec n, either-own Rec F (length (explicit Rec)) refl) at y ∙ h .coded)
+
+  own-header : (n : isChoice (Rec .body) ≡ false) → readHeader (X .under .headed n .identifier) Rest ≡ readLength (length Rest) (drop (X .from) Part)
+  own-header n = let h = X .under .headed n in lead-header Rest (h .identifier) (drop (X .from) Part) (h .is)
+
+  -- an item whose length is refused
+  pub item-unsized : isChoice (Rec .body) ≡ false → (c : Cause) (l : ℕ) → readLength (length Rest) (drop (X .from) Part) ≡ refused c l → Bare ≡ refused c l
+  item-unsized n c l e = form-refused (tableIn b) _ Rec Rest c l n (X .under .headed n .identifier) _ (X .under .headed n .is) (own-form n .1) (own-header n ∙ e)
 
   pub no-choice : (X .entry .kind ≡ 50 → ⊥) → isChoice (Rec .body) ≡ false
   no-choice n = sym (its-choice (X .ready) (X .known) (X .entry) (X .entered)) ∙ ne-eqb (X .entry .kind) 50 n
@@ -190,6 +194,10 @@ module _ {b index : List ℕ} {w : ℕ} {m : List ℕ} {first level : ℕ} (X : 
         unsized = λ e. absurd (false≢true e);
         further = λ n. absurd (true≢false (sym (is-choice y) ∙ n));
         bare = λ _. (refl, refl);
+        lead = [];
+        parts = false;
+        form = λ n. absurd (true≢false (sym (is-choice y) ∙ n));
+        leads = λ n. absurd (true≢false (sym (is-choice y) ∙ n));
         header = λ n. absurd (true≢false (sym (is-choice y) ∙ n));
       }
 
@@ -206,6 +214,10 @@ module _ {b index : List ℕ} {w : ℕ} {m : List ℕ} {first level : ℕ} (X : 
           unsized = λ _. y .3 ∙ size-part;
           further = λ _. omega (arith, y .1, X .under .headed n .further);
           bare = λ c. absurd (true≢false (sym c ∙ n));
+          lead = X .under .headed n .identifier;
+          parts = own-form n .0;
+          form = λ _. own-form n .1;
+          leads = λ _. (_, X .under .headed n .is);
           header = λ _. own-header n ∙ rw t (y .0);
         })
         λ t.
@@ -216,8 +228,16 @@ module _ {b index : List ℕ} {w : ℕ} {m : List ℕ} {first level : ℕ} (X : 
           unsized = λ e. absurd (true≢false (sym e ∙ t));
           further = λ _. omega (arith, y .1, X .under .headed n .further);
           bare = λ c. absurd (true≢false (sym c ∙ n));
+          lead = X .under .headed n .identifier;
+          parts = own-form n .0;
+          form = λ _. own-form n .1;
+          leads = λ _. (_, X .under .headed n .is);
           header = λ _. own-header n ∙ rw t (y .0);
         }
+
+first-of : (i u : List ℕ) → 0 < length i → getD (i ++ u) 0 0 ≡ getD i 0 0
+first-of [] u h = absurd (omega arith)
+first-of (x ∷ i) u h = refl
 
 -- its contents, by the length
 pub record Filling (b index : List ℕ) (w : ℕ) (m : List ℕ) (first level : ℕ) : Type 0 where
@@ -288,13 +308,30 @@ module _ {b index : List ℕ} {w : ℕ} {m : List ℕ} {first level : ℕ} (Y : 
     pub is-plain : (k : Simple) × (Kept ≡ Plain k)
     is-plain = plain-of Kept (not-true (constructed Kept) (sym kept-simple ∙ simple))
 
-    pub plain-header : (k : Simple) → Kept ≡ Plain k → readHeader Own S ≡ got (sizeOf (Y .indefinite) Size-of) (drop (Y .start) P)
-    plain-header k q = W .header (no-alternatives Kept k q)
+    -- what the contents give, the item gives
+    pub leaf-read : (k : Simple) → Kept ≡ Plain k → Bare X ≡ leafEnd C (drop (Y .start) P) (readLeaf k (W .parts) (Y .indefinite) (length S) (X .end - Y .stop) C)
+    leaf-read k q =
+        let n = no-alternatives Kept k q in
+        let u = drop (Y .start) P in
+        let fits : Size-of ≤ length u = omega (arith, length-drop (Y .start) P, size-part X, W .ordered, W .high) in
+        let all : Y .indefinite ≡ true → Size-of ≡ length u = λ t. let z = W .unsized t in omega (arith, length-drop (Y .start) P, size-part X) in
+        let g : length u - Size-of ≡ X .end - Y .stop = omega (arith, length-drop (Y .start) P, size-part X, W .ordered, W .high) in
+        form-read (tableIn b) (readValue (tableIn b) level) (recordOf b w) S k q (Y .indefinite) Size-of u (W .leads n .0) fits all
+        (W .lead) (W .leads n .1) (W .form n) (W .header n)
+        ∙ rw (part-c, g) refl
 
-    pub leaf-read : Y .indefinite ≡ false → (k : Simple) → Kept ≡ Plain k → Bare X ≡ then (decode k (length S) C (drop (Y .stop) P)) λ x s. got (leaf x) s
-    leaf-read sized k q =
-        plain-sized (tableIn b) (readValue (tableIn b) level) Own Kept S k q (Y .indefinite) Size-of (drop (Y .start) P) (plain-header k q) sized
-        ∙ rw (part-c, rest-c) refl
+    pub leaf-lead : (k : Simple) → Kept ≡ Plain k → inSegments (getD m (X .at) 0) ≡ W .parts
+    leaf-lead k q =
+        let n = no-alternatives Kept k q in
+        let e = got-holds (identifier-sound S) (W .leads n .1) in
+        let i = got-holds (identifier-some S) (W .leads n .1) in
+        let z : X .at + 0 ≡ X .at = omega arith in
+        let s : getD S 0 0 ≡ getD m (X .at) 0 = getD-drop (X .at) P 0 0 ∙ ap (λ (j : ℕ). getD P j 0) z ∙ getD-take (X .end) m (X .at) 0 (U .some) in
+        ap inSegments (sym s ∙ ap (λ (l : List ℕ). getD l 0 0) e ∙ first-of (W .lead) (W .leads n .0) i)
+        ∙ form-lead (recordOf b w) k q (W .lead) (W .form n)
+
+    pub leaf-string : (k : Simple) → Kept ≡ Plain k → W .parts ≡ true → inEither (segmented k) ≡ true
+    leaf-string k q t = form-string (recordOf b w) k q (W .lead) (W .parts) (W .form (no-alternatives Kept k q)) t
 
   -- items
   module _ (plain : X .entry .simple ≡ false) where
@@ -309,6 +346,9 @@ module _ {b index : List ℕ} {w : ℕ} {m : List ℕ} {first level : ℕ} (Y : 
 
     kept-built : Built (tableIn b) (readValue (tableIn b) level) Own S Kept (Bare X)
     kept-built = its-built (X .ready) (X .known) level S is-built
+
+    own-lead : isChoice Kept ≡ false → readHeader Own S ≡ got (sizeOf (Y .indefinite) Size-of) (drop (Y .start) P)
+    own-lead n = ap (λ (i : List ℕ). readHeader i S) (sym (form-own (recordOf b w) is-built (W .form n))) ∙ W .header n
 
     its-held : Held ≡ HeldIn (mode (Y .indefinite)) C
     its-held = ap (λ (h : Holder). readHeld (tableIn b) (readValue (tableIn b) level) h (mode (Y .indefinite)) C) (its-holder (X .ready) (X .known))
@@ -343,7 +383,7 @@ module _ {b index : List ℕ} {w : ℕ} {m : List ℕ} {first level : ℕ} (Y : 
     reads-sized : isChoice Kept ≡ false → Y .indefinite ≡ false → (x : Answer Value) → Held ≡ x → Fine x → Reads x
     unfolding then behind
     reads-sized k z x d y =
-        let a = kept-built .0 k ∙ built-sized Own S (Y .indefinite) Size-of (drop (Y .start) P) (W .header k) HeldIn z in
+        let a = kept-built .0 k ∙ built-sized Own S (Y .indefinite) Size-of (drop (Y .start) P) (own-lead k) HeldIn z in
         let g : length (drop (Y .start) P) - Size-of ≡ X .end - Y .stop = omega (arith, length-drop (Y .start) P, size-part X, W .ordered, W .high) in
         let i : HeldIn closed C ≡ x = ap (λ (t : Bool). HeldIn (mode t) C) (sym z) ∙ sym its-held ∙ d in
         go x y (a ∙ rw (part-c, rest-c, g, i) refl)
@@ -367,5 +407,5 @@ module _ {b index : List ℕ} {w : ℕ} {m : List ℕ} {first level : ℕ} (Y : 
         (λ t.
         let z = W .unsized t in
         let i : HeldIn open-ended (drop (Y .start) P) ≡ Held = rw (all-c z) (ap (λ (t : Bool). HeldIn (mode t) C) (sym t) ∙ sym its-held) in
-        reads-open z (kept-built .0 k ∙ built-open Own S (Y .indefinite) Size-of (drop (Y .start) P) (W .header k) HeldIn t ∙ i) x d y)
+        reads-open z (kept-built .0 k ∙ built-open Own S (Y .indefinite) Size-of (drop (Y .start) P) (own-lead k) HeldIn t ∙ i) x d y)
         λ t. reads-sized k t x d y

@@ -4,7 +4,7 @@ use borrow.Author.Tests.{eq-eqb, ne-eqb}
 use lib.Dec.{leb, eqb}
 use lib.IntN.{ℤ, pos, negsuc}
 use lib.ListN.{length, getD, drop, length-drop}
-use mathlib.Core.Bool.{Bool, true, false, not, _&&_}
+use mathlib.Core.Bool.{Bool, true, false, not, _&&_, _||_}
 use mathlib.Core.List.{List, [], _∷_}
 use mathlib.Core.Path.{_≡_, refl, sym, ap, _∙_}
 use native.Mathlib.Omega.{arith}
@@ -15,15 +15,18 @@ use Rattle.octets.proofs.Lists.{both}
 use Rattle.x690.specs.Integer.{integerOf, minimal, eight}
 use Rattle.x690.specs.BitString.{unused, masked}
 use Rattle.ber.specs.Told.{integerIn}
-use Rattle.table.specs.Syntax.{Record, Plain, Enumerated}
+use Rattle.table.specs.Syntax.{Record, Body, Plain, Enumerated}
 use Rattle.table.specs.Reading.{numbersAt, bodyAt}
 use Rattle.table.specs.Entries.{Entered, listsNumber}
 use Rattle.table.specs.declared.entry.Entry.{Entry}
-use Rattle.table.proofs.Promises.{entered-enumerated}
+use Rattle.table.proofs.Promises.{entered-kind, entered-enumerated}
 use Rattle.coding.specs.Value.{leafOctets}
 use Rattle.coding.specs.Content.{listed}
 use Rattle.coding.specs.Reading.{isListed, decode}
-use Rattle.reader.specs.Weights.{weight, leafWeight}
+use Rattle.reader.specs.Codes.{ownEither}
+use Rattle.reader.specs.Leaves.{inSegments}
+use Rattle.reader.specs.Weights.{weight, leafWeight, sizeBy}
+use Rattle.reader.proofs.Starts.{string-kind, and-false}
 use Rattle.reader.proofs.Tails.{not-none, some-left}
 
 length-masked : (n : ℕ) (c : List ℕ) → length (masked n c) ≡ length c
@@ -132,3 +135,30 @@ lists-all {b} {e} {r} x q z s es =
     let ns = numbersAt b (e .own + 1) (getD b (e .own) 0) in
     let y : r .body ≡ Plain (Enumerated ns) = sym (x .body) ∙ rw q refl in
     es ∙ rw (entered-enumerated x ns y .within) (listed-is ns z)
+
+-- with the octet that the item begins with
+module _ {b : List ℕ} {e : Entry} {r : Record} (X : Entered b e r) (lead : ℕ) (c : List ℕ) where
+  abbrev Its : Body
+  Its = bodyAt b (e .kind) (e .own)
+
+  its-either : ownEither Its ≡ (eqb (e .kind) 3 || eqb (e .kind) 4)
+  its-either = ap ownEither (X .body) ∙ sym (string-kind (r .body)) ∙ ap (λ (k : ℕ). eqb k 3 || eqb k 4) (sym (entered-kind X))
+
+  -- a kind that is no string
+  no-string : (eqb (e .kind) 3 || eqb (e .kind) 4) ≡ false → {n : ℕ} → n ≡ leafWeight Its c → n ≡ sizeBy Its lead c
+  unfolding sizeBy if
+  no-string z h = h ∙ rw (its-either, z) refl
+
+  pub by-kind : {k n : ℕ} → e .kind ≡ k → (eqb k 3 || eqb k 4) ≡ false → n ≡ leafWeight Its c → n ≡ sizeBy Its lead c
+  by-kind q z h = no-string (ap (λ (k : ℕ). eqb k 3 || eqb k 4) q ∙ z) h
+
+  pub by-others : {n : ℕ} → (e .kind ≡ 3 → ⊥) → (e .kind ≡ 4 → ⊥) → n ≡ leafWeight Its c → n ≡ sizeBy Its lead c
+  by-others f g h = no-string (rw (ne-eqb (e .kind) 3 f, ne-eqb (e .kind) 4 g) refl) h
+
+  pub by-whole : {n : ℕ} → inSegments lead ≡ false → n ≡ leafWeight Its c → n ≡ sizeBy Its lead c
+  unfolding sizeBy if
+  by-whole z h = h ∙ rw (z, and-false (ownEither Its)) refl
+
+  pub by-parts : {k : ℕ} → e .kind ≡ k → (eqb k 3 || eqb k 4) ≡ true → inSegments lead ≡ true → 0 ≡ sizeBy Its lead c
+  unfolding sizeBy if
+  by-parts q z t = rw (its-either, q, z, t) refl

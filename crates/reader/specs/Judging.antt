@@ -6,8 +6,9 @@ use mathlib.Core.Path.{_≡_}
 use Prim.Native.Nat.{ℕ, _≤_, _<_}
 use lib.ListN.{length}
 use Rattle.table.specs.Entries.{unpacked}
+use Rattle.reader.specs.Codes.{either}
 use Rattle.reader.specs.Items.{manner, isSingle}
-use Rattle.reader.specs.Records.{Ready, Known, IsRecord}
+use Rattle.reader.specs.Records.{Ready, Known, recordIn, IsRecord}
 use Rattle.reader.specs.Sought.{held}
 use Rattle.reader.specs.Wraps.{Headed}
 
@@ -25,7 +26,7 @@ pub record ToJudge (b index : List ℕ) (w : ℕ) (m : List ℕ) (level : ℕ) (
 pub record ToJudgeValue (b index : List ℕ) (w : ℕ) (m : List ℕ) (at from level : ℕ) (way : List ℕ) : Type 0 where
   pub ready : Ready b index
   pub is : IsRecord b index w
-  pub headed : Headed m at from (unpacked w .code)
+  pub headed : Headed m at from (either (recordIn b (unpacked w))) (unpacked w .code)
   pub short : length m ≤ 8192
   pub levels : level < 24
   pub ways : length way ≡ 128

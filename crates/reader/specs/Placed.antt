@@ -12,12 +12,12 @@ use Rattle.ber.specs.Told.{mode}
 use Rattle.table.specs.Entries.{unpacked, tableIn, countIn}
 use Rattle.coding.specs.Value.{Value, octets}
 use Rattle.coding.specs.Reading.{readValue}
-use Rattle.reader.specs.Codes.{firstOf, untagged}
+use Rattle.reader.specs.Codes.{firstOf, untagged, either}
 use Rattle.reader.specs.Items.{Holder, readHeld}
 use Rattle.reader.specs.Records.{Ready, Known, recordIn, readRecord}
 use Rattle.reader.specs.Sought.{held}
 use Rattle.reader.specs.Wraps.{Headed}
-use Rattle.reader.specs.declared.place.Placed.{Placed}
+use Rattle.reader.specs.declared.node.Placed.{Placed}
 
 -- x is accepted, and its octets have room
 pub record Fits (x : Answer Value) (to : ℕ) (buf : List ℕ) : Type 0 where
@@ -61,7 +61,7 @@ pub record ToPlaceValue (b index : List ℕ) (w : ℕ) (m : List ℕ) (at from :
   pub entry : w ≡ getD index type 0
   pub tagged : firstOf (tableIn b type) ≡ untagged → ⊥
   pub short : length m ≤ 8192
-  pub headed : Headed m at from (unpacked w .code)
+  pub headed : Headed m at from (either (recordIn b (unpacked w))) (unpacked w .code)
   pub ways : length way ≡ 128
   pub fits : Fits (valueIn b w (drop at m)) to buf
 

@@ -1,6 +1,6 @@
 -- What the reader relies on of a table and its index, and what an entry stands for (FORMATS, "Tables").
 -- Assumes nothing.
-use mathlib.Core.Bool.{false}
+use mathlib.Core.Bool.{Bool, true, false}
 use mathlib.Core.List.{List}
 use mathlib.Core.Path.{_≡_}
 use Prim.Native.Nat.{ℕ, _<_}
@@ -10,12 +10,12 @@ use Rattle.octets.specs.Answer.{Answer, if}
 use Rattle.table.specs.Syntax.{Record, Table}
 use Rattle.table.specs.Reading.{tagsAt, bodyAt}
 use Rattle.table.specs.Passes.{Passes}
-use Rattle.table.specs.Entries.{unpacked, tagCount, tagPlace, tableIn, countIn, Filled}
+use Rattle.table.specs.Entries.{unpacked, tagCount, tagPlace, tableIn, countIn, Entered, Filled}
 use Rattle.table.specs.declared.entry.Entry.{Entry}
 use Rattle.coding.specs.Value.{Value}
 use Rattle.coding.specs.Tags.{ownTag, explicit}
 use Rattle.coding.specs.Reading.{readWrapped, readKind, readValue}
-use Rattle.reader.specs.Codes.{firstOf, searchIn}
+use Rattle.reader.specs.Codes.{startsWith, searchIn}
 use Rattle.reader.specs.Items.{Holder, inside, message}
 use Rattle.reader.specs.Ways.{Leads}
 use Rattle.reader.specs.declared.search.Under.{Under}
@@ -43,6 +43,10 @@ pub data Known (b index : List ℕ) (w : ℕ) : Type 0 where
 abbrev pub IsRecord : List ℕ → List ℕ → ℕ → Type 0
 IsRecord b index w = (t : ℕ) × (t < countIn b) × (w ≡ getD index t 0)
 
+-- the code begins the record of the entry w itself
+abbrev pub Begins : ℕ → ℕ → Bool → Type 0
+Begins w code r = (b : List ℕ) (x : Record) → Entered b (unpacked w) x → r ≡ startsWith x code
+
 -- a value of a record, where the values in it have n levels
 unfoldable pub readRecord : Table → ℕ → Record → List ℕ → Answer Value
 readRecord T n r s = readWrapped (explicit r) (readKind T (λ u w. readValue T n u w) (ownTag r) (r .body)) s
@@ -51,4 +55,4 @@ readRecord T n r s = readWrapped (explicit r) (readKind T (λ u w. readValue T n
 abbrev pub Finds : List ℕ → ℕ → List ℕ → ℕ → Under → Type 0
 Finds b code way t Nothing = searchIn (tableIn b) 129 t code ≡ Nothing
 Finds b code way t (At u d) =
-    (searchIn (tableIn b) 129 t code ≡ At u d) × Leads (tableIn b) code way t d u × (firstOf (tableIn b u) ≡ code) × (u < countIn b)
+    (searchIn (tableIn b) 129 t code ≡ At u d) × Leads (tableIn b) code way t d u × (startsWith (tableIn b u) code ≡ true) × (u < countIn b)

@@ -5,7 +5,6 @@ use mathlib.Core.List.{List, []}
 use mathlib.Core.Option.{Option, some, none}
 use mathlib.Core.Path.{_≡_}
 use Prim.Native.Nat.{ℕ, _<_, _≤_}
-use lib.Dec.{eqb}
 use lib.ListN.{length, getD, drop}
 use Rattle.octets.specs.declared.cause.Cause.{Cause}
 use Rattle.octets.specs.declared.cause.Cause.the-variants.{NotAwaited, Trailing}
@@ -15,7 +14,7 @@ use Rattle.x690.specs.Reading.{readIdentifier}
 use Rattle.table.specs.Syntax.{Member}
 use Rattle.table.specs.Entries.{unpacked, tableIn}
 use Rattle.coding.specs.Reading.{notAwaited}
-use Rattle.reader.specs.Codes.{firstOf, searchIn, hit}
+use Rattle.reader.specs.Codes.{startsWith, searchIn, hit}
 use Rattle.reader.specs.Items.{Holder, inside, message, each-once, manner, partsOf, Placed, awaits, remains, isSingle, first, next}
 use Rattle.reader.specs.Records.{Ready, Known, holderIn, Finds}
 use Rattle.reader.specs.declared.search.Under.the-variants.{At}
@@ -49,7 +48,7 @@ tabledCount (message t) = 0
 
 -- the first that begins with the code itself
 abbrev pub direct : List ℕ → Holder → ℕ → List ℕ → ℕ → ℕ
-direct b h i came code = placeOf (tabledCount h) (first (λ x. eqb (firstOf (tableIn b (x .1 .type))) code) (tabled h i came))
+direct b h i came code = placeOf (tabledCount h) (first (λ x. startsWith (tableIn b (x .1 .type)) code) (tabled h i came))
 
 -- the refusal of an item that begins no part that is awaited
 unfoldable pub unfit : {A : Type 0} → Holder → ℕ → List ℕ → List ℕ → Answer A

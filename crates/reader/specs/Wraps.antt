@@ -1,7 +1,7 @@
 -- Explicit tags that were opened one after another, and their closing (X.690, 8.14).
 -- A note for each: twice the end of the octets around its item, and 1 if its length is indefinite.
 -- Assumes nothing.
-use mathlib.Core.Bool.{Bool, true, false}
+use mathlib.Core.Bool.{Bool, true, false, _&&_, _||_}
 use mathlib.Core.List.{List, [], _∷_, _++_}
 use mathlib.Core.Path.{_≡_}
 use Prim.Native.Nat.{ℕ, _+_, _-_, _*_, _/_, _%_, _≤_, _<_}
@@ -14,11 +14,13 @@ use Rattle.octets.specs.Lists.{same}
 use Rattle.ber.specs.Codes.{codeOf}
 use Rattle.ber.specs.Told.{mode}
 use Rattle.x690.specs.Reading.{readIdentifier, Mode, closed, open-ended, atEnd}
+use Rattle.x690.specs.Segments.{inParts}
 use Rattle.table.specs.Syntax.{Record, isChoice}
 use Rattle.table.specs.Entries.{tableIn}
 use Rattle.coding.specs.Tags.{ownTag, explicit}
 use Rattle.coding.specs.Value.{Value}
 use Rattle.coding.specs.Reading.{readKind, readValue}
+use Rattle.reader.specs.Codes.{ownEither, eitherAt, coded as codedAs}
 use Rattle.reader.specs.Records.{readRecord}
 use Rattle.reader.specs.declared.tags.Tag.{Tag}
 use Rattle.reader.specs.declared.tags.Tag.the-variants.{Read as ReadTag, Refused as NoTag}
@@ -53,11 +55,11 @@ unfoldable pub Around : ℕ → List ℕ → ℕ → Type 0
 Around n [] e = n ≡ e
 Around n (k ∷ ns) e = (k / 2 ≡ n) × (innerEnd ns e ≤ n) × (k % 2 ≡ 1 → innerEnd ns e ≡ n) × Around (innerEnd ns e) ns e
 
--- an identifier at a place of m, where it ends, and its code
-pub record Headed (m : List ℕ) (at from code : ℕ) : Type 0 where
+-- an identifier at a place of m, where it ends, and its code; if `either`, it may be of the constructed form too
+pub record Headed (m : List ℕ) (at from : ℕ) (either : Bool) (code : ℕ) : Type 0 where
   pub identifier : List ℕ
   pub is : readIdentifier (drop at m) ≡ got identifier (drop from m)
-  pub coded : codeOf identifier ≡ code
+  pub coded : codedAs either code (codeOf identifier) ≡ true
   pub further : at < from
   pub low : from ≤ length m
 
@@ -69,26 +71,30 @@ identifiers r = explicit r ++ if (isChoice (r .body)) [] λ _. ownTag r ∷ []
 abbrev pub readBare : List ℕ → ℕ → Record → List ℕ → Answer Value
 readBare b n r s = readKind (tableIn b) (λ u w. readValue (tableIn b) n u w) (ownTag r) (r .body) s
 
--- the j-th identifier, which m must begin with: where it ends; behind the last there is none; or why it is refused
-pub data AwaitsTag (is : List (List ℕ)) (j : ℕ) (m : List ℕ) : Tag → Type 0 where
-  behind-last : length is ≤ j → AwaitsTag is j m (ReadTag 0)
-  is-tag : (end : ℕ) → j < length is → Headed m 0 end (codeOf (getD is j [])) → AwaitsTag is j m (ReadTag end)
-  no-tag : {c : Cause} → j < length is
-      → then (readIdentifier m) (λ i s. if (same (getD is j []) i) (got i s) λ _. refused NotAwaited (length m)) ≡ refused c (length m)
-      → AwaitsTag is j m (NoTag c)
+-- the identifier octets i are the awaited ones o or, if e, those of the constructed form
+abbrev pub sentAs : Bool → List ℕ → List ℕ → Bool
+sentAs e o i = same o i || (e && same (inParts o) i)
+
+-- the j-th identifier of r, which m must begin with: where it ends; behind the last there is none; or why it is refused
+pub data AwaitsTag (r : Record) (j : ℕ) (m : List ℕ) : Tag → Type 0 where
+  behind-last : length (identifiers r) ≤ j → AwaitsTag r j m (ReadTag 0)
+  is-tag : (end : ℕ) → j < length (identifiers r) → Headed m 0 end (eitherAt r j) (codeOf (getD (identifiers r) j [])) → AwaitsTag r j m (ReadTag end)
+  no-tag : {c : Cause} → j < length (identifiers r)
+      → then (readIdentifier m) (λ i s. if (sentAs (eitherAt r j) (getD (identifiers r) j []) i) (got i s) λ _. refused NotAwaited (length m)) ≡ refused c (length m)
+      → AwaitsTag r j m (NoTag c)
 
 -- the same in the contents of a tag, which 00 00 closes if `indefinite`: over they may not be
 abbrev pub mustGoOn : Bool → List ℕ → Answer (List ℕ)
 mustGoOn indefinite m = atEnd (mode indefinite) m (λ u. refused NotAwaited (length m)) λ _. got [] m
 
-pub data EntersTag (is : List (List ℕ)) (j : ℕ) (m : List ℕ) (indefinite : Bool) : Tag → Type 0 where
-  goes-on : {r : Tag} → mustGoOn indefinite m ≡ got [] m → 0 < length m → AwaitsTag is j m r → EntersTag is j m indefinite r
-  is-over : {c : Cause} → mustGoOn indefinite m ≡ refused c (length m) → EntersTag is j m indefinite (NoTag c)
+pub data EntersTag (r : Record) (j : ℕ) (m : List ℕ) (indefinite : Bool) : Tag → Type 0 where
+  goes-on : {x : Tag} → mustGoOn indefinite m ≡ got [] m → 0 < length m → AwaitsTag r j m x → EntersTag r j m indefinite x
+  is-over : {c : Cause} → mustGoOn indefinite m ≡ refused c (length m) → EntersTag r j m indefinite (NoTag c)
 
 -- What opening the tags of a record says of reading it, with however many levels.
 abbrev pub Opens : List ℕ → Record → List ℕ → ℕ → List ℕ → Opened → Type 0
 Opens b r m at ns (Inside x) =
     (at < x .at) × (x .at < x .end) × (x .end ≤ length m) × Around (length m) ns (x .end)
-    × (isChoice (r .body) ≡ false → Headed (take (x .end) m) (x .at) (x .from) (codeOf (ownTag r)))
+    × (isChoice (r .body) ≡ false → Headed (take (x .end) m) (x .at) (x .from) (ownEither (r .body)) (codeOf (ownTag r)))
     × ((n : ℕ) → readRecord (tableIn b) n r (drop at m) ≡ closing m ns (x .end) (readBare b n r (drop (x .at) (take (x .end) m))))
 Opens b r m at ns (NotOpened c l) = (l ≤ length m) × ((n : ℕ) → readRecord (tableIn b) n r (drop at m) ≡ refused c l)

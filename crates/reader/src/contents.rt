@@ -5,8 +5,8 @@ ghost use lib.ListN.{length, getD, drop};
 ghost use Rattle.table.specs.Syntax.{Record};
 ghost use Rattle.table.specs.Reading.{bodyAt};
 ghost use Rattle.table.specs.Entries.{Entered};
-ghost use Rattle.reader.specs.Weights.{leafWeight};
-ghost use mathlib.Core.Bool.{not};
+ghost use Rattle.reader.specs.Weights.{sizeBy};
+ghost use mathlib.Core.Bool.{true, false, not};
 ghost use mathlib.Core.List.{[], _∷_, _++_};
 ghost use lib.Dec.{eqb};
 ghost use lib.IntN.{pos};
@@ -16,12 +16,18 @@ ghost use Rattle.x690.specs.Integer.{integerOf, eightOf};
 ghost use Rattle.x690.specs.BitString.{masked};
 ghost use Rattle.coding.specs.Value.{leafOctets, flag};
 ghost use Rattle.coding.specs.Reading.{natural};
-ghost use Rattle.reader.specs.Leaves.{leafOf, Lawful};
+ghost use mathlib.Core.Logic.{_⊎_};
+ghost use Rattle.reader.specs.Answers.{told};
+ghost use Rattle.reader.specs.Leaves.{leafOf, Lawful, inSegments, readLeafIn, leafSize, ToPlaceLeaf, LeafPlaced};
+use crate::answer::Judged;
+use crate::node::Placed;
 use crate::node::begin_node;
 use crate::node::put_number;
 use ber::bit_string;
 use ber::integer;
+use octets::cause::Cause;
 use octets::copy;
+use segments::Segments;
 use table::entry::Entry;
 use table::entry::lists;
 use table::kind::BIT_STRING;
@@ -31,10 +37,11 @@ use table::kind::INTEGER;
 use table::kind::NULL;
 use table::kind::OCTET_STRING;
 
-// How many octets the value of contents of a simple record has; 0 if they are wrong for it.
-pub fn contents_size(table: &[u8], e: Entry, c: &[u8]) -> usize
+// How many octets the value of contents of a simple record has, in an item that begins with the octet `lead`; 0 if they are wrong for it, or
+// come in segments.
+pub fn contents_size(table: &[u8], e: Entry, lead: u8, c: &[u8]) -> usize
     requires { ⌜ ((r : Record) × Entered (now table) e r × (length (now c) ≤ 8192)) ⌝ }
-    ensures { λ r. ⌜ (r ≡ leafWeight (bodyAt (now (table .entry)) (e .kind) (e .own)) (now (c .entry))) × (r < 16386) ⌝ }
+    ensures { λ r. ⌜ (r ≡ sizeBy (bodyAt (now (table .entry)) (e .kind) (e .own)) lead (now (c .entry))) × (r < 16386) ⌝ }
 {
     let n = c.len();
     let k = e.kind;
@@ -51,12 +58,18 @@ pub fn contents_size(table: &[u8], e: Entry, c: &[u8]) -> usize
         return 0;
     }
     if k == BIT_STRING {
+        if in_segments(lead) {
+            return 0;
+        }
         if bit_string::are_bits(c) {
             return n + 4;
         }
         return 0;
     }
     if k == OCTET_STRING {
+        if in_segments(lead) {
+            return 0;
+        }
         return n + 5;
     }
     if k == NULL {
@@ -76,6 +89,73 @@ pub fn contents_size(table: &[u8], e: Entry, c: &[u8]) -> usize
         return 5;
     }
     0
+}
+
+// Whether an item is constructed, by its leading octet; one of a simple kind then is a string in segments.
+pub fn in_segments(lead: u8) -> bool
+    ensures { λ r. ⌜ r ≡ inSegments lead ⌝ }
+{
+    31 < lead % 64
+}
+
+// How many octets the value of a string has whose segments join to contents of n octets.
+fn string_size(kind: u8, n: usize) -> usize
+    requires { ⌜ n ≤ 8193 ⌝ }
+    ensures { λ r. ⌜ (kind ≡ 3 → r ≡ n + 4) × (kind ≡ 4 → r ≡ n + 5) ⌝ }
+{
+    if kind == BIT_STRING {
+        return n + 4;
+    }
+    n + 5
+}
+
+// Judges contents c of a simple record that have no size by themselves, in an item that begins with the octet `lead`: those of a string in
+// segments, where they end and how many octets the value has; all others are refused. 00 00 closes them if `indefinite`; `left` octets are left
+// where the item begins, and `behind` octets behind c.
+pub fn judge_segments(
+    table: &[u8],
+    e: Entry,
+    lead: u8,
+    c: &[u8],
+    indefinite: bool,
+    left: usize,
+    behind: usize,
+) -> Judged
+    requires { ⌜
+        ((r : Record) × Entered (now table) e r
+        × (inSegments lead ≡ true → (e .kind ≡ 3) ⊎ (e .kind ≡ 4))
+        × (length (now c) ≤ 8192)
+        × (behind ≤ 8192)
+        × (e .simple ≡ true)
+        × (indefinite ≡ false → sizeBy (bodyAt (now table) (e .kind) (e .own)) lead (now c) ≡ 0))
+        ⌝ }
+    ensures { λ r. ⌜
+        (let d = now (c .entry) in
+        r ≡ told d leafSize (readLeafIn (bodyAt (now (table .entry)) (e .kind) (e .own)) (inSegments lead) indefinite left behind d))
+        ⌝ }
+{
+    if in_segments(lead) {
+        return match segments::read(c, indefinite, e.kind == BIT_STRING) {
+            Segments::Refused { cause, left: n } => Judged::Refused {
+                cause,
+                left: n + behind,
+            },
+            Segments::Read(x) => Judged::Done {
+                end: x.end,
+                size: string_size(e.kind, x.size),
+            },
+        };
+    }
+    if indefinite {
+        return Judged::Refused {
+            cause: Cause::Forbidden,
+            left,
+        };
+    }
+    Judged::Refused {
+        cause: Cause::Contents,
+        left,
+    }
 }
 
 fn one_if(x: bool) -> u8
@@ -163,4 +243,31 @@ pub fn place_contents(kind: u8, c: &[u8], buf: &mut [u8], to: usize) -> usize
         return next;
     }
     put_enumerated(c, buf, next)
+}
+
+// Places the value of a string whose segments stand in c; where they end, and the value.
+pub fn place_segments(kind: u8, c: &[u8], buf: &mut [u8], to: usize) -> Placed
+    requires { ⌜ ToPlaceLeaf kind (now c) true (length (now buf)) to ⌝ }
+    ensures { λ r. ⌜
+        ((p : ToPlaceLeaf kind (now (c .entry)) true (length (now (buf .entry))) to)
+        → LeafPlaced kind (p .contents) (p .rest) (now (c .entry)) (now (buf .entry)) to (now (buf .exit)) r)
+        ⌝ }
+{
+    begin_node(buf, to, kind);
+    let start = to + 5;
+    let bits = kind == BIT_STRING;
+    let x = segments::join(c, bits, buf, start);
+    let end = x.end;
+    let next = x.next;
+    let n = next - start;
+    let number = to + 3;
+    if !bits {
+        put_number(buf, number, n);
+        return Placed { end, next };
+    }
+    let unused = x.unused;
+    let part = &mut buf[start..next];
+    bit_string::mask(unused, part);
+    put_number(buf, number, 8 * n - unused);
+    Placed { end, next }
 }

@@ -20,6 +20,7 @@ use crate::answer::Judged;
 use crate::answer::grow;
 use crate::came::lacks;
 use crate::contents::contents_size;
+use crate::contents::judge_segments;
 use crate::node::node_size;
 use crate::search::Found;
 use crate::search::part;
@@ -151,13 +152,18 @@ fn judge_value(
     }
     let mut size: usize = 0;
     if e.simple {
-        if indefinite {
-            return refused(Cause::Forbidden, left);
-        }
         let c = &m[start..stop];
-        size = contents_size(table, e, c);
+        if !indefinite {
+            size = contents_size(table, e, m[at], c);
+        }
         if size == 0 {
-            return refused(Cause::Contents, left);
+            match judge_segments(table, e, m[at], c, indefinite, left, m.len() - stop) {
+                Judged::Refused { cause, left: n } => return refused(cause, n),
+                Judged::Done { end: x, size: y } => {
+                    stop = start + x;
+                    size = y;
+                }
+            }
         }
     } else {
         let c = &m[start..stop];

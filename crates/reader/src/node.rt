@@ -12,6 +12,12 @@ use table::kind::MESSAGE;
 use table::kind::has_members;
 use table::kind::is_list;
 
+// Where an item or contents end in the message, and their value in the buffer.
+pub struct Placed {
+    pub end: usize,
+    pub next: usize,
+}
+
 // How many octets the node of a constructed kind has before those in it, with n members. A message has none.
 pub fn node_size(kind: u8, n: usize) -> usize
     requires { ⌜ n < 256 ⌝ }

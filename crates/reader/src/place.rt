@@ -15,7 +15,10 @@ ghost use Rattle.reader.specs.Records.{Ready};
 ghost use Rattle.reader.specs.Sought.{held};
 ghost use Rattle.reader.specs.Placed.{ToPlace, ToPlaceValue, Fits, IsPlaced, heldIn, valueIn};
 use crate::answer::Judged;
+use crate::contents::in_segments;
 use crate::contents::place_contents;
+use crate::contents::place_segments;
+use crate::node::Placed;
 use crate::node::begin;
 use crate::node::finish;
 use crate::node::put_absent;
@@ -40,12 +43,6 @@ use table::kind::CHOICE;
 use table::kind::SET;
 use table::kind::has_members;
 use table::kind::holds_one;
-
-// Where an item or contents end in the message, and their value in the buffer.
-pub struct Placed {
-    pub end: usize,
-    pub next: usize,
-}
 
 // The value of w at a place of m: explicit tags, length, and contents, simple ones or items. Its first identifier ends at `from`.
 fn place_value(
@@ -93,7 +90,13 @@ fn place_value(
     let mut next = to;
     if e.simple {
         let c = &m[start..stop];
-        next = place_contents(e.kind, c, buf, to);
+        if in_segments(m[at]) {
+            let x = place_segments(e.kind, c, buf, to);
+            stop = start + x.end;
+            next = x.next;
+        } else {
+            next = place_contents(e.kind, c, buf, to);
+        }
     } else {
         let c = &m[start..stop];
         let x = place_members(table, index, w, c, indefinite, buf, to, way);

@@ -2,11 +2,11 @@
 // CHOICEs without tags (X.690, 8.13).
 ghost use mathlib.Core.Path.{_≡_};
 ghost use mathlib.Core.List.{List};
-ghost use Prim.Native.Nat.{ℕ, _<_, _+_, _*_};
+ghost use Prim.Native.Nat.{ℕ, _≤_, _<_, _+_, _*_};
 ghost use lib.ListN.{length, getD};
-ghost use Rattle.table.specs.Entries.{tableIn, countIn};
+ghost use Rattle.table.specs.Entries.{unpacked, tableIn, countIn};
 ghost use Rattle.reader.specs.Codes.{untagged, firstOf};
-ghost use Rattle.reader.specs.Records.{Ready, Finds};
+ghost use Rattle.reader.specs.Records.{Ready, Begins, Finds};
 ghost use Rattle.reader.specs.Sought.{held, Sound, direct as Sought·direct, unfitCause, Indirect, Sought};
 ghost use Rattle.reader.specs.declared.search.Found.the-variants.{Refused};
 ghost use Rattle.reader.specs.Items.{manner, since};
@@ -25,6 +25,7 @@ use table::entry::unpack;
 use table::kind::MESSAGE;
 use table::kind::SEQUENCE;
 use table::kind::has_members;
+use table::kind::is_string;
 
 // The record of the j-th part of a span that lies in the table.
 pub fn part(table: &[u8], s: Span, j: usize) -> usize
@@ -39,6 +40,26 @@ pub fn part(table: &[u8], s: Span, j: usize) -> usize
 {
     let p = s.first + s.step * j;
     table[p] as usize
+}
+
+// Whether an item with the code begins the record of w itself. A string that stands under no explicit tag may be constructed too: then it is
+// in segments.
+pub fn begins(w: u64, code: u32) -> bool
+    requires { ⌜ unpacked w .code ≤ untagged ⌝ }
+    ensures { λ r. ⌜ Begins w code r ⌝ }
+{
+    let found = first(w);
+    if found == code {
+        return true;
+    }
+    if found + 32 != code {
+        return false;
+    }
+    let e = unpack(w);
+    if e.explicit != 0 {
+        return false;
+    }
+    is_string(e.kind)
 }
 
 // A record, and how many CHOICEs without tags stand above it.
@@ -67,14 +88,13 @@ fn among(table: &[u8], index: &[u64; 128], t: usize, code: u32, way: &mut [u16; 
         if j < s.count {
             let a = octet(table, s.first + j);
             way[depth] = (16 * choice + j) as u16;
-            let found = first(index[a]);
-            if found == code {
+            if begins(index[a], code) {
                 return Under::At {
                     record: a,
                     depth: depth + 1,
                 };
             }
-            if found == UNTAGGED {
+            if first(index[a]) == UNTAGGED {
                 depth += 1;
                 choice = a;
                 j = 0;
@@ -98,14 +118,13 @@ fn seek(table: &[u8], index: &[u64; 128], t: usize, code: u32, way: &mut [u16; 1
     requires { ⌜ Ready (now table) (now index) × (t < countIn (now table)) × (code < untagged) × (length (now way) ≡ 128) ⌝ }
     ensures { λ r. ⌜ (length (now (way .exit)) ≡ 128) × Finds (now (table .entry)) code (now (way .exit)) t r ⌝ }
 {
-    let found = first(index[t]);
-    if found == code {
+    if begins(index[t], code) {
         return Under::At {
             record: t,
             depth: 0,
         };
     }
-    if found != UNTAGGED {
+    if first(index[t]) != UNTAGGED {
         return Under::Nothing;
     }
     among(table, index, t, code, way)
@@ -137,7 +156,7 @@ fn direct(table: &[u8], index: &[u64; 128], w: u64, i: usize, came: &[u16; 16], 
         let p = s.first + s.step * k;
         if came[k] == 0 {
             let t = octet(table, p);
-            if first(index[t]) == code {
+            if begins(index[t], code) {
                 return k;
             }
         }

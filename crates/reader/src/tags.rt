@@ -6,8 +6,9 @@ ghost use lib.ListN.{length, take, drop};
 ghost use Rattle.octets.specs.Answer.{got};
 ghost use Rattle.table.specs.Entries.{unpacked};
 ghost use Rattle.reader.specs.Answers.{told};
+ghost use Rattle.reader.specs.Codes.{either};
 ghost use Rattle.reader.specs.Records.{Ready, recordIn, IsRecord};
-ghost use Rattle.reader.specs.Wraps.{noteOf, Headed, identifiers, AwaitsTag, EntersTag, Opens, Around, closing};
+ghost use Rattle.reader.specs.Wraps.{noteOf, Headed, AwaitsTag, EntersTag, Opens, Around, closing};
 use crate::answer::Judged;
 use ber::ending;
 use ber::ending::End;
@@ -19,6 +20,7 @@ use octets::cause::Cause;
 use table::entry::tag_code;
 use table::entry::tag_count;
 use table::entry::unpack;
+use table::kind::is_string;
 
 // The item under all tags: where it begins, where its identifier ends, and where what it stands in ends.
 pub struct Inner {
@@ -53,7 +55,7 @@ pub enum Tag {
 // Where the identifier of the j-th tag of w ends, which m must begin with; there is none if a CHOICE has no tag more.
 fn awaited(table: &[u8], w: u64, j: usize, m: &[u8]) -> Tag
     requires { ⌜ ((index : List ℕ) × Ready (now table) index × IsRecord (now table) index w) ⌝ }
-    ensures { λ r. ⌜ AwaitsTag (identifiers (recordIn (now (table .entry)) (unpacked w))) j (now (m .entry)) r ⌝ }
+    ensures { λ r. ⌜ AwaitsTag (recordIn (now (table .entry)) (unpacked w)) j (now (m .entry)) r ⌝ }
 {
     let e = unpack(w);
     if tag_count(e) <= j {
@@ -62,8 +64,16 @@ fn awaited(table: &[u8], w: u64, j: usize, m: &[u8]) -> Tag
     match identifier::read(m) {
         Identifier::Refused { cause } => Tag::Refused { cause },
         Identifier::Read { code, end } => {
-            if code == tag_code(table, e, j) {
+            let awaited = tag_code(table, e, j);
+            if code == awaited {
                 return Tag::Read { end };
+            }
+            if code == awaited + 32 {
+                if e.explicit as usize == j {
+                    if is_string(e.kind) {
+                        return Tag::Read { end };
+                    }
+                }
             }
             Tag::Refused {
                 cause: Cause::NotAwaited,
@@ -75,7 +85,7 @@ fn awaited(table: &[u8], w: u64, j: usize, m: &[u8]) -> Tag
 // Whether an item follows in the contents m of a tag, which 00 00 closes if `indefinite`; then the j-th tag of w is awaited.
 fn enter(table: &[u8], w: u64, j: usize, m: &[u8], indefinite: bool) -> Tag
     requires { ⌜ ((index : List ℕ) × Ready (now table) index × IsRecord (now table) index w) ⌝ }
-    ensures { λ r. ⌜ EntersTag (identifiers (recordIn (now (table .entry)) (unpacked w))) j (now (m .entry)) indefinite r ⌝ }
+    ensures { λ r. ⌜ EntersTag (recordIn (now (table .entry)) (unpacked w)) j (now (m .entry)) indefinite r ⌝ }
 {
     match ending::read(m, 0, indefinite) {
         End::Over { end: _ } => Tag::Refused {
@@ -92,7 +102,7 @@ pub fn open(table: &[u8], w: u64, m: &[u8], at: usize, from: usize, notes: &mut 
         ((index : List ℕ) × Ready (now table) index
         × IsRecord (now table) index w
         × (0 < unpacked w .explicit)
-        × Headed (now m) at from (unpacked w .code)
+        × Headed (now m) at from (either (recordIn (now table) (unpacked w))) (unpacked w .code)
         × (length (now m) ≤ 8192)
         × (length (now notes) ≡ 4))
         ⌝ }

@@ -49,6 +49,16 @@ pub fn is_list(kind: u8) -> bool
     kind == SET_OF
 }
 
+// Whether a kind is a string, which may come in segments.
+pub fn is_string(kind: u8) -> bool
+    ensures { λ r. ⌜ r ≡ (eqb kind 3 || eqb kind 4) ⌝ }
+{
+    if kind == BIT_STRING {
+        return true;
+    }
+    kind == OCTET_STRING
+}
+
 // Whether what a kind holds is one item.
 pub fn holds_one(kind: u8) -> bool
     ensures { λ r. ⌜ r ≡ (eqb kind 50 || eqb kind 51) ⌝ }

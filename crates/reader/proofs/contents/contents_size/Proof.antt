@@ -1,12 +1,13 @@
 -- `reader::contents::contents_size` meets its contract.
 -- Assumes nothing.
 use borrow.Author.Tests.{not-true, not-false}
-use mathlib.Core.Path.{_∙_}
+use mathlib.Core.Path.{refl, sym, _∙_}
 use mir.Syntax.{w64}
 use mir.ValLaws.{toZ-ofZ}
 use native.Mathlib.Omega.{arith}
 use Rattle.reader.proofs.Weighing.{boolean-wrong, boolean-size, integer-size, integer-wrong, bits-size, bits-wrong, string-size, null-wrong}
 use Rattle.reader.proofs.Weighing.{null-size, number-wrong, number-size, number-unlisted, other-wrong, lists-all}
+use Rattle.reader.proofs.Weighing.{by-kind, by-others, by-whole, by-parts}
 use Rattle.reader.proofs.contents.contents_size.Statement.{statement}
 use Rattle.reader.proofs.contents.contents_size.Tie as tie
 
@@ -15,62 +16,84 @@ contents-size-spec =
     tie.close
     (tie.spec
     (λ c.
-    let a = c .before .before .before .before .args in
-    (boolean-wrong _ (a .e .kind) (a .e .own) _ (c .before .if1 .taken) (c .if2 .taken), omega arith))  -- returns
+    let s = c .before .before .before .before in
+    let a = s .args in
+    (by-kind (s .pre .1) _ _ (c .before .if1 .taken) refl (boolean-wrong _ (a .e .kind) (a .e .own) _ (c .before .if1 .taken) (c .if2 .taken)), omega arith))  -- returns
     (λ c.
-    let a = c .before .before .before .before .args in
-    (boolean-size _ (a .e .kind) (a .e .own) _ (c .before .if1 .taken) (c .if2 .left), omega arith))  -- returns-2
+    let s = c .before .before .before .before in
+    let a = s .args in
+    (by-kind (s .pre .1) _ _ (c .before .if1 .taken) refl (boolean-size _ (a .e .kind) (a .e .own) _ (c .before .if1 .taken) (c .if2 .left)), omega arith))  -- returns-2
     (λ c κs. tt)  -- is-integer-requires
     (λ c.
-    let a = c .before .before .before .before .before .before .args in (
-      integer-size _ (a .e .kind) (a .e .own) _ (c .before .before .if3 .taken) (c .before .is-integer .ensures) (c .if4 .taken),
+    let s = c .before .before .before .before .before .before in
+    let a = s .args in
+    let k = c .before .before .if3 .taken in (
+      by-kind (s .pre .1) _ _ k refl (integer-size _ (a .e .kind) (a .e .own) _ k (c .before .is-integer .ensures) (c .if4 .taken)),
       omega arith,
     ))  -- returns-3
     (λ c.
-    let a = c .before .before .before .before .before .before .args in (
-      integer-wrong _ (a .e .kind) (a .e .own) _ (c .before .before .if3 .taken) (c .before .is-integer .ensures) (c .if4 .left),
+    let s = c .before .before .before .before .before .before in
+    let a = s .args in
+    let k = c .before .before .if3 .taken in (
+      by-kind (s .pre .1) _ _ k refl (integer-wrong _ (a .e .kind) (a .e .own) _ k (c .before .is-integer .ensures) (c .if4 .left)),
       omega arith,
     ))  -- returns-4
+    (λ c κs. tt)  -- in-segments-requires
+    (λ c.
+    let s = c .before .before .before .before .before .before .before in
+    (by-parts (s .pre .1) _ _ (c .before .before .if5 .taken) refl (sym (c .before .in-segments .ensures) ∙ c .if6 .taken), omega arith))  -- returns-5
     (λ c κs. tt)  -- are-bits-requires
-    (λ c. omega (arith, c .before .before .before .before .before .before .before .pre .2))  -- add-result
+    (λ c. omega (arith, c .before .before .before .before .before .before .before .before .before .pre .2))  -- add-result
     (λ c.
-    let c7 = c .before .before .before .before .before .before .before in
-    let a = c7 .args in (
-      bits-size _ (a .e .kind) (a .e .own) _ (c .before .before .if5 .taken) (c .before .are-bits .ensures) (c .if6 .taken),
-      omega (arith, c7 .pre .2),
-    ))  -- returns-5
-    (λ c.
-    let a = c .before .before .before .before .before .before .before .args in (
-      bits-wrong _ (a .e .kind) (a .e .own) _ (c .before .before .if5 .taken) (c .before .are-bits .ensures) (c .if6 .left),
-      omega arith,
+    let s = c .before .before .before .before .before .before .before .before .before in
+    let a = s .args in
+    let w = sym (c .before .before .before .in-segments .ensures) ∙ c .before .before .if6 .left in (
+      by-whole (s .pre .1) _ _ w (bits-size _ (a .e .kind) (a .e .own) _ (c .before .before .before .before .if5 .taken) (c .before .are-bits .ensures) (c .if7 .taken)),
+      omega (arith, s .pre .2),
     ))  -- returns-6
-    (λ c. omega (arith, c .before .before .before .before .before .before .pre .2))  -- add-result-2
     (λ c.
-    let c6 = c .before .before .before .before .before .before in
-    let a = c6 .args in
-    (string-size _ (a .e .kind) (a .e .own) _ (c .if7 .taken), omega (arith, c6 .pre .2)))  -- returns-7
+    let s = c .before .before .before .before .before .before .before .before .before in
+    let a = s .args in
+    let w = sym (c .before .before .before .in-segments .ensures) ∙ c .before .before .if6 .left in (
+      by-whole (s .pre .1) _ _ w (bits-wrong _ (a .e .kind) (a .e .own) _ (c .before .before .before .before .if5 .taken) (c .before .are-bits .ensures) (c .if7 .left)),
+      omega arith,
+    ))  -- returns-7
+    (λ c κs. tt)  -- in-segments-requires-2
     (λ c.
-    let a = c .before .before .before .before .before .before .before .before .args in
-    (null-wrong _ (a .e .kind) (a .e .own) _ (c .before .if8 .taken) (c .if9 .taken), omega arith))  -- returns-8
+    let s = c .before .before .before .before .before .before .before .before in
+    (by-parts (s .pre .1) _ _ (c .before .before .if8 .taken) refl (sym (c .before .in-segments2 .ensures) ∙ c .if9 .taken), omega arith))  -- returns-8
+    (λ c. omega (arith, c .before .before .before .before .before .before .before .before .pre .2))  -- add-result-2
     (λ c.
-    let a = c .before .before .before .before .before .before .before .before .args in
-    (null-size _ (a .e .kind) (a .e .own) _ (c .before .if8 .taken) (c .if9 .left), omega arith))  -- returns-9
+    let s = c .before .before .before .before .before .before .before .before in
+    let a = s .args in
+    let w = sym (c .before .in-segments2 .ensures) ∙ c .if9 .left in
+    (by-whole (s .pre .1) _ _ w (string-size _ (a .e .kind) (a .e .own) _ (c .before .before .if8 .taken)), omega (arith, s .pre .2)))  -- returns-9
+    (λ c.
+    let s = c .before .before .before .before .before .before .before .before in
+    let a = s .args in
+    (by-kind (s .pre .1) _ _ (c .before .if10 .taken) refl (null-wrong _ (a .e .kind) (a .e .own) _ (c .before .if10 .taken) (c .if11 .taken)), omega arith))  -- returns-10
+    (λ c.
+    let s = c .before .before .before .before .before .before .before .before in
+    let a = s .args in
+    (by-kind (s .pre .1) _ _ (c .before .if10 .taken) refl (null-size _ (a .e .kind) (a .e .own) _ (c .before .if10 .taken) (c .if11 .left)), omega arith))  -- returns-11
     (λ c.
     let c3 = c .before .before .before in
     let c4 = c3 .before in
     let c5 = c4 .before in
-    let a = c5 .before .before .before .args in (
-      other-wrong _ (a .e .kind) (a .e .own) _ (c5 .if1 .left) (c4 .if3 .left) (c3 .if5 .left) (c .before .before .if7 .left)
-          (c .before .if8 .left) (c .if10 .taken),
+    let s = c5 .before .before .before in
+    let a = s .args in (
+      by-others (s .pre .1) _ _ (c3 .if5 .left) (c .before .before .if8 .left) (other-wrong _ (a .e .kind) (a .e .own) _ (c5 .if1 .left) (c4 .if3 .left)
+          (c3 .if5 .left) (c .before .before .if8 .left) (c .before .if10 .left) (c .if12 .taken)),
       omega arith,
-    ))  -- returns-10
+    ))  -- returns-12
     (λ c κs. tt)  -- is-integer-requires-2
     (λ c.
-    let a = c .before .before .before .before .before .before .before .before .before .before .args in (
-      number-wrong _ (a .e .kind) (a .e .own) _ (c .before .before .if10 .left) (c .before .is-integer2 .ensures) (not-true _
-          (c .if11 .taken)),
+    let s = c .before .before .before .before .before .before .before .before .before .before in
+    let a = s .args in
+    let k = c .before .before .if12 .left in (
+      by-kind (s .pre .1) _ _ k refl (number-wrong _ (a .e .kind) (a .e .own) _ k (c .before .is-integer2 .ensures) (not-true _ (c .if13 .taken))),
       omega arith,
-    ))  -- returns-11
+    ))  -- returns-13
     (λ c κs. tt)  -- of-requires
     (λ c κs. tt)  -- lists-requires
     (λ c.
@@ -79,21 +102,21 @@ contents-size-spec =
     let c4 = c3 .before in
     let c5 = c4 .before in
     let c13 = c5 .before .before .before .before .before .before .before .before in
-    let a = c13 .args in (
-      number-size _ (a .e .kind) (a .e .own) _ (c5 .if10 .left) (c4 .is-integer2 .ensures) (not-false _ (c3 .if11 .left)) _
-          (toZ-ofZ w64 _ (record { sfits = c2 .of .ok }) ∙ c2 .of .ensures) (lists-all (c13 .pre .1) (c5 .if10 .left) _ _
-          (c .before .lists .ensures)) (c .if12 .taken),
+    let a = c13 .args in
+    let k = c5 .if12 .left in (
+      by-kind (c13 .pre .1) _ _ k refl (number-size _ (a .e .kind) (a .e .own) _ k (c4 .is-integer2 .ensures) (not-false _ (c3 .if13 .left)) _
+          (toZ-ofZ w64 _ (record { sfits = c2 .of .ok }) ∙ c2 .of .ensures) (lists-all (c13 .pre .1) k _ _ (c .before .lists .ensures)) (c .if14 .taken)),
       omega arith,
-    ))  -- returns-12
+    ))  -- returns-14
     (λ c.
     let c2 = c .before .before in
     let c3 = c2 .before in
     let c4 = c3 .before in
     let c5 = c4 .before in
     let c13 = c5 .before .before .before .before .before .before .before .before in
-    let a = c13 .args in (
-      number-unlisted _ (a .e .kind) (a .e .own) _ (c5 .if10 .left) (c4 .is-integer2 .ensures) (not-false _ (c3 .if11 .left)) _
-          (toZ-ofZ w64 _ (record { sfits = c2 .of .ok }) ∙ c2 .of .ensures) (lists-all (c13 .pre .1) (c5 .if10 .left) _ _
-          (c .before .lists .ensures)) (c .if12 .left),
+    let a = c13 .args in
+    let k = c5 .if12 .left in (
+      by-kind (c13 .pre .1) _ _ k refl (number-unlisted _ (a .e .kind) (a .e .own) _ k (c4 .is-integer2 .ensures) (not-false _ (c3 .if13 .left)) _
+          (toZ-ofZ w64 _ (record { sfits = c2 .of .ok }) ∙ c2 .of .ensures) (lists-all (c13 .pre .1) k _ _ (c .before .lists .ensures)) (c .if14 .left)),
       omega arith,
-    )))  -- returns-13
+    )))  -- returns-15

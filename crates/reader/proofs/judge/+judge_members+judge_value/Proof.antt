@@ -6,7 +6,7 @@ use mathlib.Core.Path.{_≡_, sym, ap, _∙_, refl}
 use native.Mathlib.Omega.{arith}
 use Prim.Native.Nat.{ℕ, _+_, _-_, _*_, _≤_, _<_}
 use borrow.Author.Needs.{needs}
-use borrow.Author.Tests.{eqb-true, not-false}
+use borrow.Author.Tests.{eqb-true, not-true, not-false}
 use denote.Ref.{now}
 use lib.ListN.{length, take}
 use Rattle.reader.proofs.ItemsFound.{item-same, item-found}
@@ -27,6 +27,7 @@ use Rattle.ber.proofs.length.read.Reads as read-reads
 use Rattle.reader.proofs.search.part.Reads as part-reads
 use Rattle.reader.proofs.answer.grow.Reads as grow-reads
 use Rattle.reader.proofs.contents.contents_size.Reads as contents-size-reads
+use Rattle.reader.proofs.contents.judge_segments.Reads as judge-segments-reads
 use Rattle.reader.proofs.judge.done.Reads as done-reads
 use Rattle.reader.proofs.judge.next.Reads as next-reads
 use Rattle.reader.proofs.judge.refused.Reads as refused-reads
@@ -42,9 +43,10 @@ use Rattle.reader.proofs.judge.+judge_members+judge_value.{statement}
 use Rattle.reader.proofs.judge.+judge_members+judge_value.Tie.{close}
 use Rattle.table.specs.Entries.{unpacked, tableIn}
 use Rattle.reader.proofs.Bodies.{recordOf}
-use Rattle.reader.proofs.JudgedValue.{Over, Ended, over-leaf, over-items, items-low, items-high, item-tags, item-closes}
-use Rattle.reader.proofs.JudgedValue.{value-unopened, value-unread, value-indefinite, value-wrong, value-unheld, value-closed, value-over}
-use Rattle.reader.proofs.ValueParts.{Under, Within, Item, Filling, under-tags, under-bare, item-within, item-around, contents-sized}
+use Rattle.reader.proofs.JudgedValue.{Over, Ended, over-leaf, over-sized, over-items, items-low, items-high, item-tags, item-closes}
+use Rattle.reader.proofs.JudgedValue.{leaf-kind, leaf-high}
+use Rattle.reader.proofs.JudgedValue.{value-unopened, value-unread, value-wrong, value-unheld, value-closed, value-over}
+use Rattle.reader.proofs.ValueParts.{Under, Within, Item, Filling, under-tags, under-bare, item-within, item-inside, item-around, contents-sized}
 use Rattle.reader.proofs.ValueParts.{contents-bare}
 use Rattle.reader.proofs.ValueParts.{contents-within, contents-short, items-known, items-some}
 use Rattle.reader.proofs.Tagging.{its-entry}
@@ -351,6 +353,8 @@ judge-value-claims t = (
   read-reads.Learnt,
   contents-size-reads.Asked,
   contents-size-reads.Learnt,
+  judge-segments-reads.Asked,
+  judge-segments-reads.Learnt,
   judge-members-below t,
   judge-members.Post,
   close-reads.Asked,
@@ -429,9 +433,17 @@ abbrev at-over : (t : ℕ) (c : judge-value-lts.Joined3 (judge-value-claims t) (
 at-over t c =
     let y = at-filling t (c .before) in
     ⊎-elim
-    (λ z. rw (z .8, z .9) (over-leaf y (z .0 .taken) (z .1 .left) (z .5 .result) (z .5 .ensures .0) (z .6 .left) (z .5 .ensures .1)))
+    (λ z. rw (z .12, z .13) (over-leaf y (z .0 .taken) (z .7 .result) (z .7 .ensures) (z .9 .given .0 .0) (z .9 .given .0 .1 .0) (z .9 .given .1)))
+    (λ v.
+    ⊎-elim
+    (λ z. rw (z .7, z .8)
+    (⊎-elim
+    (λ x. over-sized y (z .0 .taken) (not-true _ (x .0 .taken)) _ (x .3 ∙ x .2 .ensures .0) (z .5 .left) (omega (arith, x .3, x .2 .ensures .1)))
+    (λ x. absurd (z .5 .left (x .1)))
+    (z .4 .came)))
     (λ z. rw (z .10, z .11)
     (over-items y (z .0 .left) (z .5 .result) (z .5 .ensures .1) (z .7 .given .0 .0) (z .7 .given .0 .1 .0) (z .7 .given .1)))
+    v)
     (c .if3 .came)
 
 abbrev at-ended : (t : ℕ) (c : judge-value-lts.Joined3 (judge-value-claims t) (judge-value-at t) judge-value.Post) →
@@ -446,8 +458,9 @@ at-ended t c =
     }
 
 abbrev at-way : (t : ℕ) (c : judge-value-lts.Joined3 (judge-value-claims t) (judge-value-at t) judge-value.Post) → length (c .if3 .way) ≡ 128
-at-way t c = ⊎-elim (λ z. rw (z .7) (c .before .before .before .before .before .before .before .before .before .before .pre .1 .ways))
-    (λ z. rw (z .9) (z .5 .ensures .0)) (c .if3 .came)
+at-way t c =
+    let w = c .before .before .before .before .before .before .before .before .before .before .pre .1 .ways in
+    ⊎-elim (λ z. rw (z .11) w) (λ v. ⊎-elim (λ z. rw (z .6) w) (λ z. rw (z .9) (z .5 .ensures .0)) v) (c .if3 .came)
 
 -- the half of `judge_value`
 judge-value-half : {M : Type 1} (t : ℕ) → judge-value-lts.Closed (judge-value-claims t) (judge-value-at t) judge-value.Post M
@@ -496,35 +509,59 @@ judge-value-half t =
       c .refused2 .ensures ∙ value-unread (at-item t c9) (c5 .if2 .taken) _ (c4 .read .ensures _) (f .0 .0) (f .1),
     ))  -- judge-value-returns-2
     (λ c. search needs)  -- judge-value-enum-known-x-2
-    (λ c κs. tt)  -- judge-value-refused-requires-3
-    (λ c.
-    let c3 = c .before .before .before in
-    let y = at-filling t (c3) in (
-      c3 .before .before .before .before .before .before .before .before .before .pre .1 .ways,
-      c .refused3 .ensures ∙ value-indefinite y (c .before .before .if3 .taken) (c .before .if4 .taken),
-    ))  -- judge-value-returns-3
-    (λ c. contents-within (at-filling t (c .before .before .before .before)) .0)  -- judge-value-sub-c
-    (λ c. omega (arith, contents-within (at-filling t (c .before .before .before .before))))  -- judge-value-part-c-start
-    (λ c. contents-within (at-filling t (c .before .before .before .before)) .1)  -- judge-value-part-c-end
+    (λ c. contents-within (at-filling t (c .before .before .before)) .0)  -- judge-value-sub-c
+    (λ c. omega (arith, contents-within (at-filling t (c .before .before .before))))  -- judge-value-part-c-start
+    (λ c. contents-within (at-filling t (c .before .before .before)) .1)  -- judge-value-part-c-end
+    (λ c. item-inside (at-filling t (c .before .before .before .before .before .before) .item))  -- judge-value-shared-slice-read-contents-size
     (λ c κs.
-    let c5 = c .before .before .before .before .before in
-    let c11 = c5 .before .before .before .before .before .before in
-    let c14 = c11 .before .before .before in
-    let q = c14 .pre .1 in (
-      tableIn (now (c14 .args .table)) (q .is .0),
-      rw (c11 .unpack .ensures) (its-entry (q .ready) (q .is)),
-      contents-short (at-filling t (c5)),
+    let c6 = c .before .before .before .before .before .before in
+    let c12 = c6 .before .before .before .before .before .before in
+    let c15 = c12 .before .before .before in
+    let q = c15 .pre .1 in (
+      tableIn (now (c15 .args .table)) (q .is .0),
+      rw (c12 .unpack .ensures) (its-entry (q .ready) (q .is)),
+      contents-short (at-filling t (c6)),
     ))  -- judge-value-contents-size-requires
-    (λ c κs. tt)  -- judge-value-refused-requires-4
-    (λ c.
+    (λ c. item-inside (at-filling t (c .before .before .before .before .before .before .before) .item))  -- judge-value-shared-slice-read-judge-segments
+    (λ c. contents-within (at-filling t (c .before .before .before .before .before .before .before)) .1)  -- judge-value-sub-judge-segments
+    (λ c κs.
     let c6 = c .before .before .before .before .before .before in
     let c7 = c6 .before in
-    let c8 = c7 .before in
-    let y = at-filling t (c8) in
-    let s = c .before .before .contents-size in (
-      c8 .before .before .before .before .before .before .before .before .before .pre .1 .ways,
-      c .refused4 .ensures ∙ value-wrong y (c7 .if3 .taken) (c6 .if4 .left) (s .result) (s .ensures .0) (c .before .if5 .taken),
-    ))  -- judge-value-returns-4
+    let c13 = c7 .before .before .before .before .before .before in
+    let c16 = c13 .before .before .before in
+    let q = c16 .pre .1 in
+    let y = at-filling t (c7) in (
+      tableIn (now (c16 .args .table)) (q .is .0),
+      rw (c13 .unpack .ensures) (its-entry (q .ready) (q .is)),
+      leaf-kind y (c6 .if3 .taken),
+      contents-short y,
+      omega (arith, q .short),
+      c6 .if3 .taken,
+      λ h. ⊎-elim
+          (λ x. sym (x .2 .ensures .0) ∙ sym (x .3) ∙ c .before .if5 .taken)
+          (λ x. absurd (true≢false (sym (not-false _ (x .0 .left)) ∙ h)))
+          (c .before .before .if4 .came),
+    ))  -- judge-value-judge-segments-requires
+    (λ c. search needs)  -- judge-value-enum-known-cause-3
+    (λ c κs. tt)  -- judge-value-refused-requires-3
+    (λ c.
+    let c4 = c .before .before .before .before in
+    let c11 = c4 .before .before .before .before .before .before .before in
+    let c12 = c11 .before in
+    let y = at-filling t (c12) in
+    let r = c4 .judge-segments in
+    let x = c .before .before .cause3 .given in (
+      c12 .before .before .before .before .before .before .before .before .before .pre .1 .ways,
+      c .refused3 .ensures ∙ value-wrong y (c11 .if3 .taken) (r .result) (r .ensures) (x .0 .0) (x .0 .1 .0) (x .1),
+    ))  -- judge-value-returns-3
+    (λ c. search needs)  -- judge-value-enum-known-x-3
+    (λ c.
+    let c3 = c .before .before .before in
+    let c10 = c3 .before .before .before .before .before .before .before in
+    let y = at-filling t (c10 .before) in
+    let r = c3 .judge-segments in
+    let x = c .before .x3 .given in
+    omega (arith, leaf-high y (c10 .if3 .taken) (r .result) (r .ensures) (x .0 .0) (x .0 .1 .0) (x .1)))  -- judge-value-add-stop
     (λ c. contents-within (at-filling t (c .before .before .before)) .0)  -- judge-value-sub-c-2
     (λ c. omega (arith, contents-within (at-filling t (c .before .before .before))))  -- judge-value-part-c-start-2
     (λ c. contents-within (at-filling t (c .before .before .before)) .1)  -- judge-value-part-c-end-2
@@ -547,7 +584,7 @@ judge-value-half t =
         ways = q .ways;
       },
     ))  -- judge-value-judge-members-requires
-    (λ c. search needs)  -- judge-value-enum-known-cause-3
+    (λ c. search needs)  -- judge-value-enum-known-cause-4
     (λ c.
     contents-within (at-filling t (c .before .before .before .before .before .before .before .before .before)) .1)  -- judge-value-sub-refused
     (λ c.
@@ -555,35 +592,35 @@ judge-value-half t =
     let c8 = c3 .before .before .before .before .before in
     let y = at-filling t (c8 .before) in
     let r = c3 .judge-members in
-    let x = c .before .cause3 .given in
+    let x = c .before .cause4 .given in
     omega (arith, items-low y (c8 .if3 .left) (r .result) (r .ensures .1) (x .0 .0) (x .0 .1 .0) (x .1)))  -- judge-value-add-refused
-    (λ c κs. tt)  -- judge-value-refused-requires-5
+    (λ c κs. tt)  -- judge-value-refused-requires-4
     (λ c.
     let c4 = c .before .before .before .before in
     let c9 = c4 .before .before .before .before .before in
     let y = at-filling t (c9 .before) in
     let r = c4 .judge-members in
-    let x = c .before .before .cause3 .given in (
+    let x = c .before .before .cause4 .given in (
       r .ensures .0,
-      c .refused5 .ensures ∙ value-unheld y (c9 .if3 .left) (r .result) (r .ensures .1) (x .0 .0) (x .0 .1 .0) (x .1),
-    ))  -- judge-value-returns-5
-    (λ c. search needs)  -- judge-value-enum-known-x-3
+      c .refused4 .ensures ∙ value-unheld y (c9 .if3 .left) (r .result) (r .ensures .1) (x .0 .0) (x .0 .1 .0) (x .1),
+    ))  -- judge-value-returns-4
+    (λ c. search needs)  -- judge-value-enum-known-x-4
     (λ c.
     let c3 = c .before .before .before in
     let c8 = c3 .before .before .before .before .before in
     let y = at-filling t (c8 .before) in
     let r = c3 .judge-members in
-    let x = c .before .x3 .given in
-    omega (arith, items-high y (c8 .if3 .left) (r .result) (r .ensures .1) (x .0 .0) (x .0 .1 .0) (x .1)))  -- judge-value-add-stop
+    let x = c .before .x4 .given in
+    omega (arith, items-high y (c8 .if3 .left) (r .result) (r .ensures .1) (x .0 .0) (x .0 .1 .0) (x .1)))  -- judge-value-add-stop-2
     (λ c. omega (arith, item-tags (at-ended t (c .before .before .before .before))))  -- judge-value-cast-close
     (λ c κs. item-closes (at-ended t (c .before .before .before .before)))  -- judge-value-close-requires
     (λ c.
     let c5 = c .before .before .before .before .before in
-    (at-way t (c5), value-closed (at-ended t (c5)) _ (c .close .ensures)))  -- judge-value-returns-6
+    (at-way t (c5), value-closed (at-ended t (c5)) _ (c .close .ensures)))  -- judge-value-returns-5
     (λ c κs. tt)  -- judge-value-done-requires
     (λ c.
     let c3 = c .before .before .before in
-    (at-way t (c3), c .done .ensures ∙ value-over (at-ended t (c3)) (c .before .if6 .left)))  -- judge-value-returns-7
+    (at-way t (c3), c .done .ensures ∙ value-over (at-ended t (c3)) (c .before .if6 .left)))  -- judge-value-returns-6
 
 pub +judge-members+judge-value-spec : {M : Type 1} → statement M
 +judge-members+judge-value-spec = close μ-judge-members μ-judge-value judge-members-half judge-value-half

@@ -38,7 +38,9 @@ use Rattle.reader.proofs.place.+place_members+place_value.Lts-place_val
 use Rattle.ber.proofs.ending.is_over.Reads as is-over-reads
 use Rattle.ber.proofs.length.again.Reads as again-reads
 use Rattle.reader.proofs.search.part.Reads as part-reads
+use Rattle.reader.proofs.contents.in_segments.Reads as in-segments-reads
 use Rattle.reader.proofs.contents.place_contents.Reads as place-contents-reads
+use Rattle.reader.proofs.contents.place_segments.Reads as place-segments-reads
 use Rattle.reader.proofs.node.begin.Reads as begin-reads
 use Rattle.reader.proofs.node.finish.Reads as finish-reads
 use Rattle.reader.proofs.node.put_absent.Reads as put-absent-reads
@@ -59,7 +61,7 @@ use Rattle.reader.proofs.place.+place_members+place_value.{statement}
 use Rattle.reader.proofs.place.+place_members+place_value.Tie.{close}
 use lib.Seq.{length-take-le}
 use Rattle.reader.proofs.PlacedValue.{Accepted, Contents, Stored, accepted-as, contents-as, stored-as, under-none, must-open, under-open}
-use Rattle.reader.proofs.PlacedValue.{read-contents, choice-contents, part-less, part-high, leaf-asks, leaf-stored}
+use Rattle.reader.proofs.PlacedValue.{read-contents, choice-contents, part-less, part-high, lead-inside, parts-ask, parts-stored, parts-end, leaf-asks, leaf-stored}
 use Rattle.reader.proofs.PlacedValue.{items-ask, items-end, items-stored}
 use Rattle.reader.proofs.PlacedValue.{stored-length, bare-placed, close-asks, must-close, closed-placed}
 
@@ -382,6 +384,10 @@ place-value-claims t = (
   open-reads.Learnt,
   again-reads.Asked,
   again-reads.Learnt,
+  in-segments-reads.Asked,
+  in-segments-reads.Learnt,
+  place-segments-reads.Asked,
+  place-segments-reads.Learnt,
   place-contents-reads.Asked,
   place-contents-reads.Learnt,
   place-members-below t,
@@ -412,7 +418,7 @@ at-contents : (t : ℕ) (c : place-value-lts.Joined2 (place-value-claims t) (pla
     let j = c .before .before .before in
     let s = j .before .before .before .before .before .before in
     let a = s .args in
-    Contents (now (a .table)) (a .w) (now (a .m)) (a .at) (j .if1 .end) (s .pre .1 .fits .value) (at-under t j .left) (c .if2 .start)
+    Contents (now (a .table)) (a .w) (now (a .m)) (a .at) (j .if1 .at) (j .if1 .end) (s .pre .1 .fits .value) (at-under t j .left) (c .if2 .start)
     (c .if2 .stop) (c .if2 .indefinite)
 at-contents t c =
     let j = c .before .before .before in
@@ -443,8 +449,10 @@ at-stored t c =
     let U = at-under t j in
     let X = at-contents t (c .before) in
     ⊎-elim
-    (λ x. stored-as (leaf-stored P U X _ e (x .0 .taken) _ _ (x .5 .ensures .0) (x .5 .ensures .1)) (x .8) (x .9) (x .10) (x .11))
-    (λ x. stored-as (items-stored P U X (rw e at (x .0 .left)) _ _ (x .6 .ensures .1) _ (x .6 .ensures .0)) (x .10) (x .11) (x .12) (x .13))
+    (λ x. stored-as (parts-stored P U X _ e (x .0 .taken) (sym (x .5 .ensures) ∙ x .6 .taken) _ _ (x .8 .ensures)) (x .12) (x .13) (x .14) (x .15))
+    (⊎-elim
+    (λ x. stored-as (leaf-stored P U X _ e (x .0 .taken) (sym (x .5 .ensures) ∙ x .6 .left) _ _ (x .8 .ensures .0) (x .8 .ensures .1)) (x .11) (x .12) (x .13) (x .14))
+    λ x. stored-as (items-stored P U X (rw e at (x .0 .left)) _ _ (x .6 .ensures .1) _ (x .6 .ensures .0)) (x .10) (x .11) (x .12) (x .13))
     (c .if3 .came)
 
 pub +place-members+place-value-spec : {M : Type 1} → statement M
@@ -660,13 +668,35 @@ pub +place-members+place-value-spec : {M : Type 1} → statement M
     let s = j .before .before .before .before .before .before in
     let h = part-high (s .pre .1) (at-under t j) (at-contents t x) in
     search needs)  -- place-value-part-c-end
-    (λ c κs.
+    (λ c.
     let x = c .before .before .before .before .before in
     let j = x .before .before .before in
     let s = j .before .before .before .before .before .before in
+    lead-inside (s .pre .1) (at-under t j) (at-contents t x))  -- place-value-shared-slice-read-in-segments
+    (λ c κs. tt)  -- place-value-in-segments-requires
+    (λ c κs.
+    let x = c .before .before .before .before .before .before .before .before in
+    let j = x .before .before .before in
+    let s = j .before .before .before .before .before .before in
     let e = j .before .before .unpack .ensures in
-    let f = c .before .before .before .before .if3 .taken in
-    leaf-asks (s .pre .1) (at-under t j) (at-contents t x) _ e f)  -- place-value-place-contents-requires
+    let f = c .before .before .before .before .before .before .before .if3 .taken in
+    parts-ask (s .pre .1) (at-under t j) (at-contents t x) _ e f (sym (c .before .before .in-segments .ensures) ∙ c .before .if4 .taken))  -- place-value-place-segments-requires
+    (λ c.
+    let c5 = c .before .before .before .before .before in
+    let x = c5 .before .before .before .before .before .before .before in
+    let j = x .before .before .before in
+    let s = j .before .before .before .before .before .before in
+    let e = j .before .before .unpack .ensures in
+    let f = c5 .before .before .before .before .before .before .if3 .taken in
+    let z = sym (c5 .before .in-segments .ensures) ∙ c5 .if4 .taken in
+    omega (arith, parts-end (s .pre .1) (at-under t j) (at-contents t x) _ e f z _ _ (c .before .before .before .place-segments .ensures)))  -- place-value-add-stop
+    (λ c κs.
+    let x = c .before .before .before .before .before .before .before .before in
+    let j = x .before .before .before in
+    let s = j .before .before .before .before .before .before in
+    let e = j .before .before .unpack .ensures in
+    let f = c .before .before .before .before .before .before .before .if3 .taken in
+    leaf-asks (s .pre .1) (at-under t j) (at-contents t x) _ e f (sym (c .before .before .in-segments .ensures) ∙ c .before .if4 .left))  -- place-value-place-contents-requires
     (λ c. at-contents t (c .before .before .before) .order)  -- place-value-sub-c-2
     (λ c. let h = at-contents t (c .before .before .before) .order in search needs)  -- place-value-part-c-start-2
     (λ c.
@@ -690,7 +720,7 @@ pub +place-members+place-value-spec : {M : Type 1} → statement M
     let f = c .before .before .before .before .before .before .before .before .before .if3 .left in
     let e = rw (j .before .before .unpack .ensures) at f in
     let q = c .before .before .before .place-members .ensures .1 in
-    omega (arith, items-end (s .pre .1) (at-under t j) (at-contents t x) e _ _ q))  -- place-value-add-stop
+    omega (arith, items-end (s .pre .1) (at-under t j) (at-contents t x) e _ _ q))  -- place-value-add-stop-2
     (λ c. search needs)  -- place-value-cast-close
     (λ c κs.
     let x = c .before .before .before .before in
@@ -731,5 +761,5 @@ pub +place-members+place-value-spec : {M : Type 1} → statement M
     let x = c .before .before in
     let j = x .before .before .before .before in
     let s = j .before .before .before .before .before .before in
-    let e = rw (j .before .before .unpack .ensures) at (c .if4 .left) in
+    let e = rw (j .before .before .unpack .ensures) at (c .if5 .left) in
     (at-stored t x .ways, bare-placed (s .pre .1) (at-under t j) (at-stored t x) e))  -- place-value-returns-3

@@ -9,7 +9,7 @@ use lib.ListN.{length, length-set}
 use Rattle.table.specs.Entries.{tableIn, countIn, counted}
 use Rattle.table.specs.declared.entry.Entry.{Entry}
 use Rattle.reader.proofs.ItemsWay.{turnsLeft}
-use Rattle.reader.proofs.Among.{Amid, amid-first, Turn, its, Next, next, among-found, among-down, among-next, among-none, among-back}
+use Rattle.reader.proofs.Among.{code-most, Amid, amid-first, Turn, its, Next, next, among-found, among-down, among-next, among-none, among-back}
 use Rattle.reader.proofs.Among.{fewer-under, fewer-beside, fewer-above, among-small}
 use Rattle.reader.proofs.search.among.Statement.{statement}
 use Rattle.reader.proofs.search.among.Tie as tie
@@ -64,36 +64,45 @@ among-spec =
     (λ c. omega (arith, few (c .before .before .before .before .before .before .before) .0, one c .few))  -- cast-way
     (λ c. omega (arith, one c .room))  -- mul-way-2
     (λ c. one c .room)  -- element-write-way
-    (λ c. omega (arith, c .octet .ensures .1))  -- mul-first
-    (λ c. omega (arith, one c .small, c .before .before .before .before .before .before .before .before .before .pre .0 .passes .few))  -- element-copy-out-first
-    (λ c κs. tt)  -- first-requires
-    (λ c. omega (arith, one (c .before .before .before) .room))  -- add-t29
+    (λ c. omega (arith, c .octet .ensures .1))  -- mul-begins
+    (λ c. omega (arith, one c .small, c .before .before .before .before .before .before .before .before .before .pre .0 .passes .few))  -- element-copy-out-begins
+    (λ c κs.
+    code-most (c .before .before .before .before .before .before .before .before .before .before .pre .0) _ (one (c .before) .small))  -- begins-requires
+    (λ c. omega (arith, one (c .before .before .before) .room))  -- add-t28
     (λ c.
     let c3 = c .before .before .before in
     let c7 = c3 .before .before .before .before in (
       simp length-set (c7 .before .before .before .loop .inv .0),
-      among-found (turn c7) (c3 .before .before .if1 .taken) (c3 .octet .ensures .0) (c .before .first .ensures) (c .if2 .taken),
+      among-found (turn c7) (c3 .before .before .if1 .taken) (c3 .octet .ensures .0) (c .before .begins .ensures) (c .if2 .taken),
     ))  -- returns
-    (λ c. omega (arith, one (c .before .before .before .before) .room))  -- add-depth
+    (λ c. omega (arith, c .before .before .before .octet .ensures .1))  -- mul-first
+    (λ c.
+    let c3 = c .before .before .before in
+    omega (arith, one c3 .small, c3 .before .before .before .before .before .before .before .before .before .pre .0 .passes .few))  -- element-copy-out-first
+    (λ c κs. tt)  -- first-requires
+    (λ c. omega (arith, one (c .before .before .before .before .before .before) .room))  -- add-depth
+    (λ c.
+    let c6 = c .before .before .before .before .before .before in
+    fewer-under (turn (c6 .before .before .before .before)) (c6 .before .before .if1 .taken) (c6 .octet .ensures .0))  -- loop-less
     (λ c.
     let c4 = c .before .before .before .before in
-    fewer-under (turn (c4 .before .before .before .before)) (c4 .before .before .if1 .taken) (c4 .octet .ensures .0))  -- loop-less
-    (λ c.
-    let c4 = c .before .before .before .before in
-    let c8 = c4 .before .before .before .before in (
-      simp length-set (c8 .before .before .before .loop .inv .0),
-      among-down (turn c8) (c4 .before .before .if1 .taken) (c4 .octet .ensures .0) (c .before .before .first .ensures) (c .if3 .taken),
+    let c6 = c4 .before .before in
+    let c10 = c6 .before .before .before .before in (
+      simp length-set (c10 .before .before .before .loop .inv .0),
+      among-down (turn c10) (c6 .before .before .if1 .taken) (c6 .octet .ensures .0) (c4 .begins .ensures) _ (c .before .first .ensures)
+          (c .if3 .taken),
     ))  -- loop-again
-    (λ c. omega (arith, one (c .before .before .before .before) .few))  -- add-j
+    (λ c. omega (arith, one (c .before .before .before .before .before .before) .few))  -- add-j
+    (λ c.
+    let c6 = c .before .before .before .before .before .before in
+    fewer-beside (turn (c6 .before .before .before .before)) (c6 .before .before .if1 .taken) (c6 .octet .ensures .0))  -- loop-less-2
     (λ c.
     let c4 = c .before .before .before .before in
-    fewer-beside (turn (c4 .before .before .before .before)) (c4 .before .before .if1 .taken) (c4 .octet .ensures .0))  -- loop-less-2
-    (λ c.
-    let c4 = c .before .before .before .before in
-    let c8 = c4 .before .before .before .before in (
-      simp length-set (c8 .before .before .before .loop .inv .0),
-      among-next (turn c8) (c4 .before .before .if1 .taken) (c4 .octet .ensures .0) (c .before .before .first .ensures) (c .before .if2 .left)
-          (c .if3 .left),
+    let c6 = c4 .before .before in
+    let c10 = c6 .before .before .before .before in (
+      simp length-set (c10 .before .before .before .loop .inv .0),
+      among-next (turn c10) (c6 .before .before .if1 .taken) (c6 .octet .ensures .0) (c4 .begins .ensures) (c .before .before .before .if2 .left) _
+          (c .before .first .ensures) (c .if3 .left),
     ))  -- loop-again-2
     (λ c.
     let c3 = c .before .before .before in

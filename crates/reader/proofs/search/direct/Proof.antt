@@ -7,6 +7,7 @@ use native.Mathlib.Omega.{arith}
 use denote.Ref.{now}
 use Prim.Native.Nat.{_-_}
 use Rattle.reader.specs.Sought.{held, direct as Sought·direct}
+use Rattle.reader.proofs.Among.{code-most}
 use Rattle.reader.proofs.Searching.{Parted, few, near, type-low, may-optional, may-other, other-code, other-come, direct-found, direct-skip}
 use Rattle.reader.proofs.Searching.{direct-stop, direct-end}
 use Rattle.reader.proofs.search.direct.Statement.{statement}
@@ -38,7 +39,7 @@ direct-spec =
     (λ c. omega (arith, few (at-parts (c .before .before .before .before .before)), c .before .before .if1 .taken))  -- mul-if2
     (λ c. omega (arith, few (at-parts (c .before .before .before .before .before)), c .before .before .if1 .taken))  -- element-copy-out-if2
     (λ c κs. tt)  -- octet-requires
-    (λ c. omega (arith, c .octet .ensures .1))  -- mul-first
+    (λ c. omega (arith, c .octet .ensures .1))  -- mul-begins
     (λ c.
     let c5 = c .before .before .before .before .before in
     let c8 = c5 .before .before .before in
@@ -46,15 +47,18 @@ direct-spec =
       arith,
       type-low (at-parts (c8)) _ (c5 .if1 .taken) _ (c .octet .ensures .0),
       c8 .before .before .before .pre .ready .passes .few,
-    ))  -- element-copy-out-first
-    (λ c κs. tt)  -- first-requires
+    ))  -- element-copy-out-begins
+    (λ c κs.
+    let c6 = c .before .before .before .before .before .before in
+    let c9 = c6 .before .before .before in
+    code-most (c9 .before .before .before .pre .ready) _ (type-low (at-parts c9) _ (c6 .if1 .taken) _ (c .before .octet .ensures .0)))  -- begins-requires
     (λ c.
     let c3 = c .before .before .before in
     let c4 = c3 .before in
     let c8 = c4 .before .before .before .before in
     let c10 = c8 .before .before in
     sym (c10 .loop .inv ∙ direct-found (at-parts (c10 .before)) _ (c8 .if1 .taken) _ _ _ (c3 .octet .ensures .0)
-    (c .before .first .ensures) (c4 .if2 .taken) (c .if3 .taken)))  -- returns
+    (c .before .begins .ensures) (c4 .if2 .taken) (c .if3 .taken)))  -- returns
     (λ c κs. tt)  -- optional-requires
     (λ c.
     let c4 = c .before .before .before .before in

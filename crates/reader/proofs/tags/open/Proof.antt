@@ -13,7 +13,7 @@ use Rattle.table.specs.declared.entry.Entry.{Entry}
 use Rattle.coding.specs.Tags.{explicit}
 use Rattle.reader.specs.Records.{recordIn}
 use Rattle.reader.proofs.Tagging.{its-fit}
-use Rattle.reader.proofs.Opening.{Opening, its-count, its-first, its-few, open-none, open-unread, extent, open-refused, open-next}
+use Rattle.reader.proofs.Opening.{Opening, its-count, its-headed, its-few, open-none, open-unread, extent, open-refused, open-next}
 use Rattle.reader.proofs.Opening.{open-turn, open-done}
 use Rattle.reader.proofs.tags.open.Statement.{statement}
 use Rattle.reader.proofs.tags.open.Tie as tie
@@ -62,7 +62,7 @@ open-spec =
     let q = c .before .before .before .before .pre in (
       q .6,
       open-none _ _ (its-fit (q .1) (q .2)) _ (λ n. omega (arith, c .before .before .shared-slice-known2 .given n)) _ _ _
-          (omega (arith, its-count (q .1) (q .2), q .3)) (rw (its-first (q .1) (q .2)) at (q .4)),
+          (omega (arith, its-count (q .1) (q .2), q .3)) (its-headed (q .1) (q .2) (q .4)),
     ))  -- loop-holds
     (λ c. sym (length-take-le _ _ (c .before .before .loop .inv .1 .high)))  -- slice-aggregate-around
     (λ c κs. tt)  -- read-requires
