@@ -1,6 +1,6 @@
 #!/usr/bin/env python3
-"""Makes what the benchmark runs on: the batch of call records with its table, batches of other lengths, and the dearest tables,
-messages and values that were found.
+"""Makes what the benchmark runs on: the batch of call records with its table, batches of other lengths, strings in segments of half and of
+the whole length, and the dearest tables, messages and values that were found.
 
   inputs.py FOLDER     each input is a file in the form of document 01's cases; FOLDER/list names them, a line each:
                        group, file, words for people"""
@@ -12,7 +12,7 @@ sys.path.insert(0, os.path.join(HERE, '..', 'tests', 'outside'))
 import make
 import model
 import ours
-from model import (BIT_STRING, BOOLEAN, CHOICE, ENUMERATED, INTEGER, MESSAGE, NULL, OCTET_STRING, RECORDS, SEQUENCE, SEQUENCE_OF, SET,
+from model import (BIT_STRING, BOOLEAN, CHOICE, DEEPEST, ENUMERATED, INTEGER, MESSAGE, NULL, OCTET_STRING, RECORDS, SEQUENCE, SEQUENCE_OF, SET,
                    VALUE)
 
 UNIVERSAL, APPLICATION, CONTEXT, PRIVATE = 0, 1, 2, 3
@@ -136,6 +136,31 @@ def crowded(sets):
     return listed(sets, [plain(SET, own)] + nulls + chain(first + 15, RECORDS - first - 16), m, 4 + 16 + 45)
 
 
+def string(kind, segment, sets, most):
+    """A string of as many segments as fit so many octets, in so many SETs of indefinite length."""
+    m = item(bytes([kind + 0x20]), segment * ((most - 4 * sets - 4) // len(segment)), True)
+    for _ in range(sets):
+        m = item(b'\x31', m)
+    return [plain(SET, [(i + 1, 0)]) for i in range(sets)] + [plain(kind)], m
+
+
+def strings():
+    """Strings in segments whose reading is dear: kind, segment, SETs around, words."""
+    for kind, name, empty in ((OCTET_STRING, 'an OCTET STRING', b'\4\0'), (BIT_STRING, 'a BIT STRING', b'\3\1\0')):
+        nested = {}
+        for definite in (True, False):
+            nested[definite] = empty
+            for _ in range(DEEPEST - 1):
+                nested[definite] = item(bytes([kind + 0x20]), nested[definite], definite)
+        yield kind, empty, 0, name + ' of empty segments'
+        yield kind, empty, 23, name + ' of empty segments' + within(23)
+        yield kind, bytes([kind + 0x20, 0]), 0, name + ' of segments that are constructed of none'
+        yield kind, nested[True], 0, name + ' of empty segments, each four deep, definite'
+        yield kind, nested[False], 0, name + ' of empty segments, each four deep, indefinite'
+        yield kind, nested[False], 23, name + ' of empty segments, each four deep, indefinite' + within(23)
+        yield kind, empty[:1] + (b'\1\x55' if kind == OCTET_STRING else b'\2\0\x55'), 0, name + ' of segments of one octet'
+
+
 def within(sets):
     return ', in %d SETs, indefinite' % sets if sets else ''
 
@@ -170,6 +195,7 @@ def messages():
     yield 'NULLs with four long tags in a list, in 22 SETs, indefinite', listed(22, [(NULL, LONG_TAGS, None)], element, 3)
     yield 'NULLs with lengths of 126 octets in a list, in 22 SETs, indefinite', listed(22, [null], b'\5\xfe' + bytes(126), 3)
     yield 'one OCTET STRING of 8,188 octets', ([plain(OCTET_STRING)], b'\4' + model.length(8188) + bytes(8188))
+    yield 'OCTET STRINGs of no segments in a list, in 22 SETs, indefinite', listed(22, [plain(OCTET_STRING)], b'\x24\x80\0\0', 5)
 
 
 def deep():
@@ -210,6 +236,9 @@ def main():
         m = model.form(BATCH, 0, tree)
         put('growth', 'read-%d' % n, '%d' % len(m), ours.READ, BATCH, m)
         put('growth', 'write-%d' % n, '%d' % len(m), ours.WRITE, BATCH, model.octets(tree))
+    for i, (kind, segment, sets, words) in enumerate(strings()):
+        for half in (2, 1):
+            put('growth', 'segments-%d-%d' % (i, half), words, ours.READ, *string(kind, segment, sets, MESSAGE // half))
     for i, (words, records) in enumerate(tables()):
         put('worst', 'table-%d' % i, words, ours.CHECK, records, b'')
     for group, some in (('worst', messages()), ('deep', deep())):

@@ -100,6 +100,23 @@ def growth(f):
     return steps
 
 
+def segments(f):
+    """Prints how reading strings in segments grows, and answers for each how many times the instructions of half its length it takes."""
+    print('\n### Strings in segments\n')
+    print('Each of half and of the whole length. "Further": instructions for each octet more than half.\n')
+    some, shares = [], []
+    for name in f.alone:
+        if name.startswith('segments-') and name.endswith('-1'):
+            short, long = f.alone[name[:-1] + '2'], f.alone[name]
+            a, b = (f.counts['growth/' + x] for x in (name[:-1] + '2', name))
+            shares.append(b / a * short['data'] / long['data'])
+            some.append([f.words[name]] + [x for y, n in ((short, a), (long, b)) for x in
+                                           (count(y['data']), '%s (%s)' % (micro(y['least']), micro(y['median'])), count(n))] +
+                        ['%.0f' % ((b - a) / (long['data'] - short['data'])), count(f.stack[name])])
+    show(['String', 'octets', 'read, µs', 'instructions', 'octets', 'read, µs', 'instructions', 'further', 'stack'], some)
+    return shares
+
+
 def dearest(f):
     print('\n### The dearest inputs found\n')
     print('Microseconds: least (median). Stack: octets that the call touches. The value is what the message is read to.\n')
@@ -122,7 +139,7 @@ def dearest(f):
          [[words, count(d['read'][0]['table'])] + cells(d['read']) + cells(d.get('write')) for words, d in some if 'read' in d])
 
 
-def goals(f, steps):
+def goals(f, steps, shares):
     print('\n### Goals\n')
     some = []
 
@@ -139,6 +156,8 @@ def goals(f, steps):
     for o, each in steps.items():
         goal(o + ' grows linearly', 'a further octet costs the same within a fifth', '%.0f to %.0f instructions' % (min(each), max(each)),
              max(each) <= 1.2 * min(each))
+    goal('strings in segments are read linearly', 'an octet costs the same as in half the length within a tenth',
+         '%.2f to %.2f times' % (min(shares), max(shares)), max(shares) <= 1.1)
     slow = max(x['least'] for x in f.alone.values() if x['op'] == 'read')
     goal('the worst read', 'under %.0f ms' % (WORST / 1e6), '%.1f ms' % (slow / 1e6), slow < WORST)
     most = max(f.stack, key=f.stack.get)
@@ -151,8 +170,9 @@ def main():
     f = Figures(sys.argv[1])
     batch(f)
     steps = growth(f)
+    shares = segments(f)
     dearest(f)
-    goals(f, steps)
+    goals(f, steps, shares)
 
 
 main()

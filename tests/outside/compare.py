@@ -1,4 +1,5 @@
-"""Compares the program of cases with Erlang/OTP's asn1 and with pyasn1, both ways, on random tables, values and messages.
+"""Compares the program of cases with Erlang/OTP's asn1 and with pyasn1, both ways, on random tables, values and messages; and its reading
+of strings in segments, sound and damaged, with the model.
 
 Each disagreement is either one of EXPLAINED, where the outside coder departs from X.690 or from document 01's limits, or it is
 printed with its octets and the run fails."""
@@ -16,6 +17,7 @@ import make
 import model
 import ours
 import python_asn1
+import segments
 
 # Rules that the outside coders do not keep (the model reads without the rule and finds their value), by coder.
 LAX = {
@@ -25,7 +27,9 @@ LAX = {
         'no octet': 'an INTEGER, ENUMERATED (or, by pyasn1, BOOLEAN) without contents octets is read as 0 (X.690, 8.3.1)',
         'long tag': 'a number to 30 in the long form, or leading zero digits, is read (X.690, 8.1.2.2 and 8.1.2.4.2 c)',
         'level': 'more than 24 levels are read: no limit',
-        'segments': 'a string in segments is read, and several items under an explicit tag as its segments (document 01 leaves it out)',
+        'any parts': 'a string is joined of whatever items are in it, of any tags and depth, and of several under an explicit tag; none are '
+                     'refused; of a BIT STRING the unused bits of all are added up, and those nested in another are joined wrongly '
+                     '(X.690, 8.6.4 and 8.7.3)',
         'no members': 'nothing inside a SEQUENCE or SET without members is looked at, nor its form bit, nor what follows it under an explicit tag',
         'unused bits': 'a BIT STRING with more than 7 unused bits is read (X.690, 8.6.2.2)',
     },
@@ -34,7 +38,9 @@ LAX = {
         'wide integer': 'INTEGER contents of more than 8 octets are read: no limit',
         'no octet': 'an INTEGER, ENUMERATED (or, by pyasn1, BOOLEAN) without contents octets is read as 0 (X.690, 8.3.1)',
         'long tag': 'a number to 30 in the long form, or leading zero digits, is read (X.690, 8.1.2.2 and 8.1.2.4.2 c)',
-        'segments': 'a string in segments is read (document 01 leaves it out)',
+        'raw parts': 'in a string in segments the contents of a constructed one are taken for octets of the string, but read if they are of '
+                     'an OCTET STRING and indefinite; any tag that is not UNIVERSAL passes for that; each may have unused bits; a BIT STRING '
+                     'of no segments is refused if it is definite (X.690, 8.6.4 and 8.7.3)',
         'indefinite primitive': 'a primitive string with an indefinite length is read (X.690, 8.1.3.2 a)',
         'form bit': 'the tag of a CHOICE without the constructed bit is read (X.690, 8.14.2)',
         'repeated member': 'a SET member that comes twice is read, the later one counts (X.690, 8.11)',
@@ -48,8 +54,8 @@ LAX = {
 }
 
 
-# An example of each departure: coder, rule, table, type, message, our answer, and whether the coder accepts. A run fails if one no
-# longer holds, so that this list stays true when a coder changes. pyasn1 was written anew in its version 0.5.
+# An example of each departure: coder, rule, table, type, message, our answer, and whether the coder accepts, or the value that it reads. A
+# run fails if one no longer holds, so that this list stays true when a coder changes. pyasn1 was written anew in its version 0.5.
 INTEGERS = '54 59 02 01 00 00 02'
 STRINGS = '54 59 04 01 00 00 04'
 BITS = '54 59 03 01 00 00 03'
@@ -63,8 +69,22 @@ PINS = [
     ('both', 'wide integer', INTEGERS, 0, '02 09 01 00 00 00 00 00 00 00 00', ('no', 25, 0), True),
     ('both', 'no octet', INTEGERS, 0, '02 00', ('no', 25, 0), True),
     ('both', 'long tag', INTEGERS, 0, '1F 02 01 05', ('no', 23, 0), True),
-    ('both', 'segments', STRINGS, 0, '24 06 04 01 AA 04 01 BB', ('no', 24, 0), True),
-    ('erlang', 'segments', '54 59 04 02 02 00 00 00 00 04', 0, 'A0 06 04 01 AA 04 01 BB', ('no', 26, 5), True),
+    ('erlang', 'any parts', '54 59 04 02 02 00 00 00 00 04', 0, 'A0 06 04 01 AA 04 01 BB', ('no', 26, 5), True),
+    ('erlang', 'any parts', STRINGS, 0, '24 03 80 01 AA', ('no', 24, 2), True),
+    ('erlang', 'any parts', STRINGS, 0, '24 00', ('ok', b'\x56\x41\x04\0\0'), False),
+    ('erlang', 'any parts', BITS, 0, '23 80 00 00', ('ok', b'\x56\x41\x03\0\0'), False),
+    ('erlang', 'any parts', BITS, 0, '23 0C 23 04 03 02 00 AA 23 04 03 02 00 BB', ('ok', b'\x56\x41\x03\0\x10\xAA\xBB'),
+     '56 41 03 00 18 AA 00 BB'),
+    ('erlang', 'any parts', BITS, 0, '23 08 03 02 04 F0 03 02 04 A0', ('no', 25, 2), '56 41 03 00 08 F0'),
+    ('both', 'any parts, raw parts: depth', STRINGS, 0, '24 80 ' * 6 + '04 01 AA ' + '00 00 ' * 6, ('no', 28, 10), True),
+    ('both', 'any parts, raw parts: unused bits', BITS, 0, '23 08 03 02 04 F0 03 02 00 AA', ('no', 25, 2), True),
+    ('pyasn1', 'raw parts', STRINGS, 0, '24 03 24 01 AA', ('no', 24, 4), True),
+    ('pyasn1', 'raw parts', STRINGS, 0, '24 05 24 03 04 01 AA', ('ok', b'\x56\x41\x04\0\1\xAA'), '56 41 04 00 03 04 01 AA'),
+    ('pyasn1', 'raw parts', BITS, 0, '23 08 03 02 04 F0 03 02 04 A0', ('no', 25, 2), '56 41 03 00 08 FA'),
+    ('pyasn1', 'raw parts', STRINGS, 0, '24 05 A5 03 04 01 AA', ('no', 24, 2), True),
+    ('pyasn1', 'raw parts', STRINGS, 0, '24 80 04 80 00 00 00 00', ('no', 23, 2), True),
+    ('pyasn1', 'raw parts', BITS, 0, '23 00', ('ok', b'\x56\x41\x03\0\0'), False),
+    ('pyasn1', 'raw parts', BITS, 0, '23 80 23 80 03 02 00 AA 00 00 00 00', ('ok', b'\x56\x41\x03\0\x08\xAA'), False),
     ('erlang', 'level', NESTED, 0, '30 80 ' * 25 + '00 00 ' * 25, ('no', 28, 48), True),
     ('erlang', 'unused bits', BITS, 0, '03 02 08 FF', ('no', 25, 0), True),
     ('erlang', 'no members', EMPTY, 0, '30 02 00 00', ('no', 26, 2), True),
@@ -118,11 +138,12 @@ def same(we, tree):
 
 
 def lax_reading(coder, table, t, m, tree):
-    """The rules without which the model reads a message to the tree that an outside coder gives, or None."""
+    """The rules without which the model reads a message to the tree that an outside coder gives, or refuses it if that is None."""
+    used = set()
     try:
-        mine, used = model.read_tree(model.check(table), t, m, LAX[coder])
+        mine = model.read_tree(model.check(table), t, m, LAX[coder], used)
     except model.No:
-        return None
+        mine = None
     return used if mine == tree else None
 
 
@@ -139,15 +160,17 @@ def lacking(records, t, tree):
 
 def judged(coder, tally, table, t, m, we, they, damaged):
     """Compares two readings of a message: ours, and ('ok', tree), ('rest', ..) or ('error', ..)."""
-    what = coder + (' and we read a damaged message: ' if damaged else ' and we read a permitted encoding: ')
+    what = coder + (' and we read a damaged message: ' if damaged else ' and we read a permitted encoding in segments: '
+                    if segments.in_segments(model.check(table), t, m) else ' and we read a permitted encoding: ')
     if they[0] == 'ok' and same(we, they[1]):
         return tally.add(what + 'same value')
     if we[0] == 'no' and they[0] != 'ok':
         return tally.add(what + 'both refuse')
+    used = lax_reading(coder, table, t, m, they[1] if they[0] == 'ok' else None)
+    if used and (we[0] == 'no' or used & {'any parts', 'raw parts'}):
+        return tally.add(what + ('explained: ' if we[0] == 'no' else 'other value, explained: ' if they[0] == 'ok' else
+                                 'refused by them, explained: ') + ', '.join(sorted(used)))
     if we[0] == 'no':
-        used = lax_reading(coder, table, t, m, they[1])
-        if used:
-            return tally.add(what + 'explained: ' + ', '.join(sorted(used)))
         if coder == 'pyasn1' and lacking(model.check(table), t, they[1]):
             return tally.add(what + 'explained: read by them without a mandatory CHOICE, where an empty item of indefinite length is chosen')
     if we[0] == 'ok' and coder == 'pyasn1' and 'Component not chosen' in str(they[1]):
@@ -156,7 +179,7 @@ def judged(coder, tally, table, t, m, we, they, damaged):
                 table, t, m, we, they)
 
 
-def plan(R, tables, takes, recursive, values, tame):
+def plan(R, tables, takes, recursive, values, coder):
     """Tables, and for each value (table index, type, tree) its permitted encodings and damaged messages."""
     made, work = [], []
     while len(made) < tables:
@@ -171,7 +194,7 @@ def plan(R, tables, takes, recursive, values, tame):
                 tree = make.value(R, records, t, min(model.LEVELS, h[t] + R.choice([0, 1, 2, 3, 5])), h)
                 if len(model.octets(tree)) > 4000:
                     continue
-                sent = [make.encoding(R, records, t, tree, tame) for _ in range(3)]
+                sent = [make.encoding(R, records, t, tree, coder) for _ in range(3)]
                 bad = [make.damaged(R, R.choice(sent)[0]) for _ in range(2)]
                 bad += [make.faulty(R, model.form(records, t, tree)) for _ in range(4)]
                 work.append((len(made), t, tree, sent, bad))
@@ -199,9 +222,14 @@ def verdicts(args, R, tally):
             tally.fault('we and the model check a table', b, 0, b'', we, they)
 
 
+def in_segments(args, R, tally):
+    """Compares our reading of strings in segments with the model's, with the place of each refusal."""
+    segments.compare(args.ours, R, args.messages, tally.add, lambda what, table, m, we, they: tally.fault(what, table, 0, m, we, they))
+
+
 def with_erlang(args, R, tally):
     folder = args.keep or tempfile.mkdtemp()
-    made, work = plan(R, args.tables, erlang.takes, True, args.values, False)
+    made, work = plan(R, args.tables, erlang.takes, True, args.values, 'erlang')
     written = write_all(args.ours, made, work, tally)
     requests, marks = [], []
     for (i, t, tree, sent, bad), w in zip(work, written):
@@ -294,7 +322,7 @@ def record(R, path, version, stored, seed):
 
 
 def with_pyasn1(args, R, tally):
-    made, work = plan(R, args.tables, lambda records: True, False, args.values, True)
+    made, work = plan(R, args.tables, lambda records: True, False, args.values, 'pyasn1')
     coders = [python_asn1.Coder(records) for _, records in made]
     written = write_all(args.ours, made, work, tally)
     reads, compared = [], []
@@ -306,14 +334,21 @@ def with_pyasn1(args, R, tally):
                 tally.add('we write, pyasn1 reads: same value')
             else:
                 tally.fault('we write, pyasn1 reads', table, t, w[1], ('ok', tree), they)
-        for definite in (True, False):
+        said = set()
+        for definite, chunk in ((True, 0), (False, 0), (True, R.choice([1, 2, 3])), (False, R.choice([1, 2, 3]))):
             if not definite and any(len(tags) > 1 for kind, tags, _ in records if kind in make.SIMPLE):
                 tally.add('pyasn1 writes indefinite lengths: left out, explicit tags on a primitive')
                 continue
-            they = coder.encode(t, tree, definite)
-            if they[0] == 'ok':
+            they = coder.encode(t, tree, definite, chunk)
+            if chunk and they in said:
+                tally.add('pyasn1 writes strings in segments: none is long enough')
+                continue
+            said.add(they)
+            if they[0] == 'ok' and len(they[1]) <= model.MESSAGE:
                 reads.append((ours.READ, t, table, they[1]))
-                compared.append(('enc', tree, coder))
+                compared.append(('segments' if chunk else 'enc', tree, coder))
+            elif they[0] == 'ok':
+                tally.add('pyasn1 writes strings in segments: left out, over 8,192 octets')
             else:
                 tally.fault('pyasn1 refuses to write', table, t, model.octets(tree), ('ok', tree), they)
         for m, arrived in sent:
@@ -323,21 +358,28 @@ def with_pyasn1(args, R, tally):
             reads.append((ours.READ, t, table, m))
             compared.append(('bad', None, coder.decode(t, m)))
     for (op, t, table, m), (kind, tree, they), we in zip(reads, compared, ours.run(args.ours, reads)):
-        if kind != 'enc':
+        how = 'pyasn1 writes strings in segments' if kind == 'segments' else 'pyasn1 writes'
+        if kind in ('sent', 'bad'):
             if kind == 'sent' and they != ('ok', tree):
                 tally.fault('pyasn1 reads a permitted encoding', table, t, m, ('ok', tree), they)
             judged('pyasn1', tally, table, t, m, we, they, kind == 'bad')
         elif we == ('ok', model.octets(tree)):
-            tally.add('pyasn1 writes, we read: same value')
+            tally.add(how + ', we read: same value')
         elif lax_reading('pyasn1', table, t, m, tree) == {'spare octets'}:
-            tally.add('pyasn1 writes, we refuse: explained: spare octets of a negative INTEGER')
+            tally.add(how + ', we refuse: explained: spare octets of a negative INTEGER')
         else:
             back = they.decode(t, m)
             if back[0] == 'ok' and (same(we, back[1]) or lax_reading('pyasn1', table, t, m, back[1]) == {'spare octets'}):
-                tally.add('pyasn1 writes another value: explained: an absent optional member is sent')
+                tally.add(how + ', another value: explained: an absent optional member is sent')
             else:
-                tally.fault('pyasn1 writes, we read', table, t, m, we, ('ok', tree))
+                tally.fault(how + ', we read', table, t, m, we, ('ok', tree))
     return 'pyasn1 ' + python_asn1.VERSION
+
+
+def as_pinned(they, accepts):
+    if isinstance(accepts, str):
+        return they[0] == 'ok' and model.octets(they[1]) == bytes.fromhex(accepts)
+    return (they[0] == 'ok') == accepts
 
 
 def pinned(args, tally):
@@ -351,11 +393,13 @@ def pinned(args, tally):
     for (coder, rule, table, t, m, answer, accepts), mine, theirs in zip(rows, we, said):
         if mine[:len(answer)] != answer:
             tally.fault('pinned, ' + rule, table, t, m, mine, answer)
-        if coder in ('erlang', 'both') and theirs.startswith('ok') != accepts:
-            tally.fault('pinned, erlang, ' + rule, table, t, m, mine, (theirs,))
+        if coder in ('erlang', 'both'):
+            they = ('ok', erlang.parsed(model.check(table), t, theirs[3:])) if theirs.startswith('ok') else (theirs,)
+            if not as_pinned(they, accepts):
+                tally.fault('pinned, erlang, ' + rule, table, t, m, mine, they)
         if coder in ('pyasn1', 'both', 'pyasn1 before 0.5' if python_asn1.OLD else 'pyasn1 from 0.5'):
             they = python_asn1.Coder(model.check(table)).decode(t, m) if not make.circular(model.check(table)) else ('error', '')
-            if (they[0] == 'ok') != accepts:
+            if not as_pinned(they, accepts):
                 tally.fault('pinned, pyasn1, ' + rule, table, t, m, mine, they)
     tally.add('pinned departures of the outside coders hold', len(rows))
 
@@ -367,8 +411,9 @@ def main():
     p.add_argument('--seed', type=int, default=1)
     p.add_argument('--tables', type=int, default=200, help='tables for each coder')
     p.add_argument('--values', type=int, default=2, help='values of each type')
+    p.add_argument('--messages', type=int, default=300, help='messages with strings in segments, each damaged at every octet')
     p.add_argument('--keep', help='a folder for the ASN.1 modules and the requests')
-    p.add_argument('--record', help='a file for cases with Erlang\'s answers; pyasn1 is then left out')
+    p.add_argument('--record', help='a file for cases with Erlang\'s answers; pyasn1 and the model are then left out')
     args = p.parse_args()
     tally = Tally(sys.stdout)
     R = random.Random(args.seed)
@@ -380,6 +425,7 @@ def main():
         versions = [version]
     else:
         versions = [version, with_pyasn1(args, R, tally)]
+        in_segments(args, random.Random(args.seed), tally)
     for what, n in sorted(tally.counts.items()):
         print('%7d %s' % (n, what))
     print('%s; ours: %s; seed %d' % ('; '.join(versions), os.path.basename(args.ours), args.seed))

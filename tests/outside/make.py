@@ -2,8 +2,8 @@
 import struct
 
 import model
-from model import (BIT_STRING, BOOLEAN, CHOICE, CONSTRUCTED, ENUMERATED, INTEGER, LISTS, MEMBERS, NULL, OCTET_STRING, OWN_NUMBER,
-                   SEQUENCE, SEQUENCE_OF, SET, SET_OF)
+from model import (BIT_STRING, BOOLEAN, CHOICE, CONSTRUCTED, DEEPEST, ENUMERATED, INTEGER, LISTS, MEMBERS, NULL, OCTET_STRING, OWN_NUMBER,
+                   SEQUENCE, SEQUENCE_OF, SET, SET_OF, STRINGS)
 
 SIMPLE = (BOOLEAN, INTEGER, BIT_STRING, OCTET_STRING, NULL, ENUMERATED)
 
@@ -181,19 +181,49 @@ def constructed(R, i, c, most, indefinite=.4):
     return i + b'\x80' + c + b'\0\0' if R.random() < indefinite else i + length(R, len(c), most) + c
 
 
-def encoding(R, records, t, tree, tame=False):
+def cut(R, c, parts, last):
+    """So many parts of octets, some of them empty; the last is not if it must not be."""
+    cuts = sorted(R.randrange(len(c)) if last else R.randrange(len(c) + 1) for _ in range(parts - 1))
+    return [c[a:b] for a, b in zip([0] + cuts, cuts + [len(c)])]
+
+
+def segments(R, kind, unused, c, depth, coder):
+    """Segments of a string, the first of them at a depth: any that join to the octets c, of which the last has so many unused bits."""
+    number = bytes([OWN_NUMBER[kind]])
+    most = 8 if coder == 'pyasn1' else 126
+    least = 1 if c or depth == 1 and coder and not (coder == 'pyasn1' and kind == OCTET_STRING) else 0
+    deeper = depth < DEEPEST and not (coder and kind == BIT_STRING)
+    parts = cut(R, c, R.choice([least, 1, 1, 2, 2, 3, 4]), unused > 0)
+    out = b''
+    for j, part in enumerate(parts):
+        bits = unused if j + 1 == len(parts) else 0
+        if deeper and R.random() < (.3 if coder else .6):
+            inner = segments(R, kind, bits, part, depth + 1, coder)
+            out += constructed(R, bytes([number[0] | 0x20]), inner, most, 1 if coder == 'pyasn1' else .4)
+            continue
+        if kind == BIT_STRING:
+            part = bytes([bits]) + part
+            if bits:
+                part = part[:-1] + bytes([part[-1] >> bits << bits | R.randrange(1 << bits)])
+        out += number + length(R, len(part), most) + part
+    return out
+
+
+def encoding(R, records, t, tree, coder=None):
     """A permitted encoding of a tree, and the tree with the elements of each SET OF in the order in which they are sent.
 
-    A tame one has at most 8 length octets, and no SET and nothing empty of indefinite length, which is what pyasn1 reads."""
+    One for a coder keeps to what that coder reads. For pyasn1: at most 8 length octets; no SET and nothing empty of indefinite length; in a
+    segment others only if its length is indefinite. For both: not without segments, and in a segment of a BIT STRING no other."""
+    tame = coder == 'pyasn1'
     most = 8 if tame else 126
     kind, own = tree
     explicit, mine = model.identifiers(records[t])
     rules = records[t][2]
     if kind == CHOICE:
-        m, kid = encoding(R, records, rules[own[0]], own[1], tame)
+        m, kid = encoding(R, records, rules[own[0]], own[1], coder)
         sent = own[0], kid
     elif kind in MEMBERS:
-        parts = [(j,) + encoding(R, records, a, x, tame) for j, ((a, _), x) in enumerate(zip(rules, own)) if x is not None]
+        parts = [(j,) + encoding(R, records, a, x, coder) for j, ((a, _), x) in enumerate(zip(rules, own)) if x is not None]
         sent = [None] * len(own)
         for j, _, kid in parts:
             sent[j] = kid
@@ -201,11 +231,15 @@ def encoding(R, records, t, tree, tame=False):
             R.shuffle(parts)
         m = constructed(R, mine, b''.join(p for _, p, _ in parts), most, 0 if tame and (kind == SET or not parts) else .4)
     elif kind in LISTS:
-        parts = [encoding(R, records, rules[0], x, tame) for x in own]
+        parts = [encoding(R, records, rules[0], x, coder) for x in own]
         if kind == SET_OF:
             R.shuffle(parts)
         sent = [kid for _, kid in parts]
         m = constructed(R, mine, b''.join(p for p, _ in parts), most, 0 if tame and not parts else .4)
+    elif kind in STRINGS and R.random() < .4:
+        unused, c = own if kind == BIT_STRING else (0, own)
+        c, sent = segments(R, kind, unused, c, 1, coder), own
+        m = constructed(R, bytes([mine[0] | 0x20]) + mine[1:], c, most, 0 if tame and not c else .4)
     else:
         c, sent = model.contents(kind, own), own
         if kind == BOOLEAN and own:
@@ -308,8 +342,11 @@ def faulty(R, m):
     elif way == 11:
         row[k] = [None, i + b'\xff' + plain]
     elif way == 12 and not i[0] & 0x20:
-        cut = R.randrange(len(plain) + 1)
-        row[k] = [bytes([i[0] | 0x20]) + i[1:], [[b'\4', plain[:cut]], [b'\4', plain[cut:]]]]
+        at, number = R.randrange(len(plain) + 1), R.choice([b'\3', b'\4', b'\4', i])
+        first = R.choice([b'', b'', bytes([R.randrange(9)])])
+        row[k] = [bytes([i[0] | 0x20]) + i[1:], [[number, first + plain[:at]], [number, first[:1] + plain[at:]]]]
+        for _ in range(R.choice([0, 0, 1, 3, 4])):
+            row[k] = [R.choice([b'\x23', b'\x24', b'\x24', row[k][0]]), [row[k]]]
     elif way == 13:
         row[k][1] = plain + b'\0\0'
     elif way == 14:

@@ -1,6 +1,6 @@
-"""Document 01 in Python: check, write and read, with every refusal and its place.
+"""Document 01 in Python, and of document 02 what has landed: check, write and read, with every refusal and its place.
 
-It was written from the document alone, without the proved definitions, and serves two ends: it stands in for the program
+It was written from the documents alone, without the proved definitions, and serves two ends: it stands in for the program
 of cases where that is not built yet, and it gives the outside coders' answers a shape to be compared with.
 
 A table is octets; a record is (kind, tags, own); a value is a tree (kind, own), where own is
@@ -14,7 +14,9 @@ SEQUENCE, SET, SEQUENCE_OF, SET_OF, CHOICE = 16, 17, 48, 49, 50
 OWN_NUMBER = {1: 1, 2: 2, 3: 3, 4: 4, 5: 5, 10: 10, 16: 16, 17: 17, 48: 16, 49: 17, 50: None}
 MEMBERS, LISTS = (SEQUENCE, SET), (SEQUENCE_OF, SET_OF)
 CONSTRUCTED = MEMBERS + LISTS
+STRINGS = (BIT_STRING, OCTET_STRING)
 LEVELS, MESSAGE, VALUE, TABLE, RECORDS = 24, 8192, 16384, 8192, 128
+DEEPEST = 4
 
 
 class No(Exception):
@@ -316,7 +318,7 @@ def form(records, t, tree):
 
 # ---- messages ----
 class Any:
-    """Equal to everything: the contents of a string in segments, which document 01 leaves out."""
+    """Equal to everything: contents that an outside coder reads in a way of its own."""
 
     def __eq__(self, other):
         return True
@@ -328,8 +330,8 @@ ANY = Any()
 class Reader:
     """The reader. `lax` names rules that an outside coder is known not to keep; `used` gathers those that mattered."""
 
-    def __init__(self, records, m, lax=()):
-        self.records, self.m, self.lax, self.used, self.memo = records, m, set(lax), set(), {}
+    def __init__(self, records, m, lax=(), used=None):
+        self.records, self.m, self.lax, self.used, self.memo = records, m, set(lax), set() if used is None else used, {}
 
     def may(self, rule):
         if rule in self.lax:
@@ -372,15 +374,12 @@ class Reader:
                 s = {mine}
             else:
                 s = set().union(*[self.first(a) for a in self.records[t][2]])
-            if mine and not explicit and (self.segments(t) or self.no_members(t)):
+            if mine and not explicit and (self.records[t][0] in STRINGS or self.no_members(t)):
                 s = s | {(mine[0] ^ 0x20, mine[1])}
             if explicit and self.records[t][0] == CHOICE and 'form bit' in self.lax:
                 s = s | {(explicit[0][0] ^ 0x20, explicit[0][1])}
             self.memo[t] = s
         return self.memo[t]
-
-    def segments(self, t):
-        return 'segments' in self.lax and self.records[t][0] in (BIT_STRING, OCTET_STRING)
 
     def no_members(self, t):
         return 'no members' in self.lax and self.records[t][0] in MEMBERS and not self.records[t][2]
@@ -411,17 +410,9 @@ class Reader:
         self.used.add('no item')
         return (kind, None if kind == NULL else []), e
 
-    def passed(self, p, end, indefinite, inside=True):
-        """Where the contents that begin at p end, whatever items they are: one may begin with 00 too, unless another 00 follows.
-
-        Without `inside`, a constructed item of definite length may hold anything."""
-        while indefinite or p < end:
-            if indefinite and p + 2 <= end and self.m[p:p + 2] == b'\0\0':
-                return p + 2
-            i, q = self.identifier(p, end)
-            n, q = self.length(p, q, end, not i[0] & 0x20)
-            p = self.passed(q, end, True, inside) if n is None else self.passed(q, q + n, False) if inside and i[0] & 0x20 else q + n
-        return p
+    def passed(self, p, end, indefinite):
+        """Where the contents that begin at p end, whatever items they are: one may begin with 00 too, unless another 00 follows."""
+        return self.items(p, end, indefinite)[1]
 
     def begins(self, t, at, end):
         try:
@@ -499,19 +490,19 @@ class Reader:
                 return (kind, ANY), q
             if over:
                 raise No(24, p)
-            begin = p
-            try:
-                tree, p = self.under(t, explicit[1:], mine, p, e, level)
-                over, q = self.ended(p, e, n is None)
-            except No:
-                if not self.segments(t) or explicit[1:]:
-                    raise
-                self.used.add('segments')
-                return (kind, ANY), self.passed(begin, e, n is None)
+            if not explicit[1:] and kind in STRINGS and 'any parts' in self.lax:
+                items, q = self.items(p, e, n is None)
+                if len(items) > 1:
+                    self.used.add('any parts')
+                    if items[0][0] != (mine[0] & 0xC0, mine[1]):
+                        raise No(24, p)
+                    return self.together(kind, items), q
+            tree, p = self.under(t, explicit[1:], mine, p, e, level)
+            over, q = self.ended(p, e, n is None)
             if not over and n is not None and self.may('octets behind'):
                 return tree, e
-            if not over and not explicit[1:] and (self.segments(t) or self.no_members(t)):
-                self.used.add('segments' if self.segments(t) else 'no members')
+            if not over and not explicit[1:] and self.no_members(t):
+                self.used.add('no members')
                 return (kind, ANY), self.passed(p, e, n is None)
             if not over and n is None and self.may('several items'):
                 return (kind, ANY), self.passed(p, e, True)
@@ -524,12 +515,14 @@ class Reader:
                     tree, p = self.value(a, at, end, level + 1)
                     return (CHOICE, (j, tree)), p
             raise No(24, at)
-        if (self.segments(t) and i == (mine[0] | 0x20, mine[1])) or (self.no_members(t) and i in (mine, (mine[0] ^ 0x20, mine[1]))):
-            self.used.add('segments' if self.segments(t) else 'no members')
+        if self.no_members(t) and i in (mine, (mine[0] ^ 0x20, mine[1])):
+            self.used.add('no members')
             n, p = self.length(at, p, end, not i[0] & 0x20)
             return (kind, ANY), self.passed(p, end, True) if n is None else p + n
-        if kind in (BIT_STRING, OCTET_STRING) and self.m[p:p + 1] == b'\x80' and self.may('indefinite primitive'):
-            return (kind, ANY), self.passed(p + 1, end, True, False)
+        if kind in STRINGS and i == (mine[0] | 0x20, mine[1]):
+            return self.string(kind, at, p, end)
+        if kind in STRINGS and self.m[p:p + 1] == b'\x80' and self.may('indefinite primitive'):
+            return self.pieces(kind, p + 1, end, True, at)
         if i != mine:
             raise No(24, at)
         n, p = self.length(at, p, end, kind not in CONSTRUCTED)
@@ -546,6 +539,132 @@ class Reader:
         if kind in MEMBERS:
             return self.members(kind, rules, p, e, indefinite, level)
         return (kind, self.simple(kind, rules, self.m[p:e], at)), e
+
+    def string(self, kind, at, p, end):
+        """A string in segments, whose identifier ends at p, and where it ends."""
+        n, p = self.length(at, p, end, False)
+        e = end if n is None else p + n
+        if not self.lax & {'any parts', 'raw parts'}:
+            found = []
+            q = self.segments(kind, p, e, n is None, 1, found)
+            return self.whole(kind, found), q
+        if 'any parts' in self.lax:
+            rule, theirs = 'any parts', lambda: self.parts(kind, p, e, n is None)
+        else:
+            rule, theirs = 'raw parts', lambda: self.pieces(kind, p, e, n is None, at)
+        they = answer(theirs)
+        if they != answer(lambda: Reader(self.records, self.m).string(kind, at, self.identifier(at, end)[1], end)):
+            self.used.add(rule)
+        if they[0] == 'no':
+            raise No(*they[1:])
+        return they[1]
+
+    def segments(self, kind, p, e, indefinite, depth, found):
+        """Reads segments that begin at p into `found`, the place and the contents of each primitive one; where they end."""
+        while True:
+            over, q = self.ended(p, e, indefinite)
+            if over:
+                return q
+            i, q = self.identifier(p, e)
+            if i not in ((0, OWN_NUMBER[kind]), (0x20, OWN_NUMBER[kind])):
+                raise No(24, p)
+            if kind == BIT_STRING and found and found[-1][1][0]:
+                raise No(25, found[-1][0])
+            if depth > DEEPEST:
+                raise No(28, p)
+            n, q = self.length(p, q, e, not i[0])
+            if i[0]:
+                p = self.segments(kind, q, e if n is None else q + n, n is None, depth + 1, found)
+            else:
+                self.simple(kind, None, self.m[q:q + n], p)
+                found.append((p, self.m[q:q + n]))
+                p = q + n
+
+    def whole(self, kind, found):
+        """The string that segments join to."""
+        if kind == OCTET_STRING:
+            return kind, b''.join(c for _, c in found)
+        unused = found[-1][1][0] if found else 0
+        return kind, self.simple(kind, None, bytes([unused]) + b''.join(c[1:] for _, c in found), 0)
+
+    # How the outside coders read strings in segments, where that is another way.
+    def items(self, p, e, indefinite):
+        """All items from p on, whatever they are: class and number, and contents octets or items; and where they end."""
+        out = []
+        while indefinite or p < e:
+            if indefinite and p + 2 <= e and self.m[p:p + 2] == b'\0\0':
+                return out, p + 2
+            i, q = self.identifier(p, e)
+            n, q = self.length(p, q, e, not i[0] & 0x20)
+            c, q = self.items(q, e if n is None else q + n, n is None) if i[0] & 0x20 else (self.m[q:q + n], q + n)
+            out.append(((i[0] & 0xC0, i[1]), c))
+            p = q
+        return out, p
+
+    def parts(self, kind, p, e, indefinite):
+        items, q = self.items(p, e, indefinite)
+        return self.together(kind, items), q
+
+    def together(self, kind, items):
+        """Erlang's joining of items: of an OCTET STRING whatever their tags and depth, and not of none; of a BIT STRING one level deep."""
+        def bits(items):
+            if any(t != (0, BIT_STRING) or isinstance(c, list) or not c for t, c in items):
+                raise No(24, 0)
+            unused = sum(c[0] for _, c in items)
+            if unused > 255:
+                raise No(25, 0)
+            return bytes([unused]) + b''.join(c[1:] for _, c in items)
+
+        def all_of(items):
+            out = b''
+            for j, (t, c) in enumerate(items):
+                if isinstance(c, list):
+                    out += all_of(c)
+                elif t == (0, BIT_STRING) and c:
+                    return bits(items[j:])
+                else:
+                    out += c
+            return out
+        if not items:
+            raise No(24, 0)
+        c = all_of(items)
+        if kind == BIT_STRING and c and c[0] > 8 * (len(c) - 1):
+            raise No(25, 0)
+        return kind, self.simple(kind, None, c, 0)
+
+    def pieces(self, kind, p, e, indefinite, at):
+        """pyasn1's joining of segments: the contents of a constructed one are taken for octets of the string, but those of one of an
+        OCTET STRING of indefinite length are read; unused bits may be in each; a definite BIT STRING of none is refused."""
+        if kind == BIT_STRING and not indefinite and p == e:
+            raise No(25, at)
+        value = '' if kind == BIT_STRING else b''
+        while True:
+            if indefinite and p + 2 > e:
+                raise No(22, p)
+            if self.m[p:p + 2] == b'\0\0' if indefinite else p == e:
+                break
+            i, q = self.identifier(p, e)
+            own = i[0] & 0xC0 == 0 and i[1] == OWN_NUMBER[kind]
+            if not own and not (i[0] & 0x20 and i[0] & 0xC0):
+                raise No(24, p)
+            n, q = self.length(p, q, e, False)
+            if n is None and own and kind == OCTET_STRING:
+                (_, c), p = self.pieces(kind, q, e, True, p)
+            else:
+                if n is None and (q == e or e != len(self.m)):
+                    raise No(22, p)
+                c, p = (self.m[q:], e) if n is None else (self.m[q:q + n], q + n)
+            if kind == OCTET_STRING:
+                value += c
+                continue
+            if not c or c[0] > 7 or c[0] > 8 * (len(c) - 1):
+                raise No(25, q)
+            value += ''.join(format(b, '08b') for b in c[1:])[:8 * (len(c) - 1) - c[0]]
+        if kind == BIT_STRING:
+            unused = -len(value) % 8
+            value += '0' * unused
+            value = unused, bytes(int(value[j:j + 8], 2) for j in range(0, len(value), 8))
+        return (kind, value), p + 2 if indefinite else p
 
     def members(self, kind, rules, p, e, indefinite, level):
         kids, next_ = [None] * len(rules), 0
@@ -659,24 +778,24 @@ def write(table, t, v, room=VALUE):
 
 def read(table, t, m, room=VALUE):
     def work():
-        v = octets(read_tree(start(table, t), t, m)[0])
+        v = octets(read_tree(start(table, t), t, m))
         if len(v) > min(room, VALUE):
             raise No(27, 0)
         return v
     return answer(work)
 
 
-def read_tree(records, t, m, lax=()):
-    """The tree of a message, and which of the rules in `lax` had to be dropped."""
+def read_tree(records, t, m, lax=(), used=None):
+    """The tree of a message; `used` gathers which of the rules in `lax` had to be dropped."""
     if len(m) > MESSAGE:
         raise No(21, 0)
     if not m:
         raise No(22, 0)
-    r = Reader(records, m, lax)
+    r = Reader(records, m, lax, used)
     tree, p = r.value(t, 0, len(m), 1)
     if p != len(m) and not r.may('tail'):
         raise No(26, p)
-    return tree, r.used
+    return tree
 
 
 def line(number, a):

@@ -99,8 +99,9 @@ class Coder:
         except Exception as e:
             return 'error', '%s: %s' % (type(e).__name__, str(e)[:80])
 
-    def encode(self, t, tree, definite):
+    def encode(self, t, tree, definite, chunk=0):
+        """A message; strings in segments of so many octets, if that is not 0."""
         try:
-            return 'ok', encoder.encode(self.value(t, tree), defMode=definite)
+            return 'ok', encoder.encode(self.value(t, tree), defMode=definite, maxChunkSize=chunk)
         except Exception as e:
             return 'error', '%s: %s' % (type(e).__name__, str(e)[:80])
