@@ -49,11 +49,11 @@ enum yinscarf_number {
     YINSCARF_MESSAGE_LONG = 21,         /* message over 8,192 octets */
     YINSCARF_MESSAGE_CUT = 22,          /* message cut, or a length beyond what encloses it */
     YINSCARF_MESSAGE_FORM = 23,         /* a header form that X.690 forbids */
-    YINSCARF_MESSAGE_NOT_AWAITED = 24,  /* an identifier not awaited, or an awaited item missing */
-    YINSCARF_MESSAGE_CONTENTS = 25,     /* contents wrong for the kind */
+    YINSCARF_MESSAGE_NOT_AWAITED = 24,  /* an identifier not awaited or no segment's, or an awaited item missing */
+    YINSCARF_MESSAGE_CONTENTS = 25,     /* contents wrong for the kind; unused bits before a further segment */
     YINSCARF_MESSAGE_TRAILING = 26,     /* octets where nothing is awaited */
     YINSCARF_MESSAGE_ROOM = 27,         /* value longer than buf or 16,384 octets */
-    YINSCARF_MESSAGE_LEVEL = 28         /* a value at level 25 */
+    YINSCARF_MESSAGE_LEVEL = 28         /* a value at level 25, or a segment of a string at depth 5 */
 };
 
 /* Whether a type table passes: 0, or a refusal 1 to 6. */
