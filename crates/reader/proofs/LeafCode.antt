@@ -19,7 +19,7 @@ use Rattle.octets.proofs.Answer.{got-holds}
 use Rattle.octets.proofs.Lists.{both}
 use Rattle.x690.specs.BitString.{unused, masked}
 use Rattle.x690.specs.Reading.{Size, readLength}
-use Rattle.x690.specs.Segments.{Kind, bit-string, octet-string, universal, empty, join, inForm, Gathered, deepest, readAll, readSegment}
+use Rattle.x690.specs.Segments.{Kind, bit-string, octet-string, universal, empty, inForm, Gathered, deepest, readAll, readSegment}
 use Rattle.x690.proofs.BitString.{length-masked}
 use Rattle.x690.proofs.Lengths.{length-sound}
 use Rattle.x690.proofs.Segments.{all-form}
@@ -30,6 +30,7 @@ use Rattle.segments.specs.declared.Joined.{Joined}
 use Rattle.segments.specs.declared.Segments.{Segments}
 use Rattle.segments.specs.declared.Segments.the-variants.{Read as ReadSegments, Refused as NoSegments}
 use Rattle.segments.proofs.Gathering.{all-gathers}
+use Rattle.segments.proofs.JoinCode.{carried-empty, carried-join}
 use Rattle.segments.proofs.Joining.{empty-few}
 use Rattle.segments.proofs.SegmentCode.{Came, all-came, all-refused}
 use Rattle.ber.proofs.Told.{shape-some}
@@ -192,20 +193,10 @@ string-length kind d bit-string e = rw (bits-octets kind d (sym e), its-kind kin
 string-length kind d octet-string e = rw (string-octets kind d (sym e), its-kind kind octet-string e) (omega arith)
 
 -- Segments carry less than they take: each has a header.
-carried-join : (k : Kind) (c d : List ℕ) → carried k (join k c d) ≡ carried k c ++ carried k d
-unfolding carried join
-carried-join bit-string c d = refl
-carried-join octet-string c d = refl
-
 carried-less : (k : Kind) (c : List ℕ) → length (carried k c) ≤ length c
 unfolding carried
 carried-less bit-string c = omega (arith, length-drop 1 c)
 carried-less octet-string c = omega arith
-
-carried-empty : (k : Kind) → length (carried k (empty k)) ≡ 0
-unfolding carried empty
-carried-empty bit-string = refl
-carried-empty octet-string = refl
 
 rest-less : (s : List ℕ) {z : Size} {r : List ℕ} → ((l : ℕ) → readLength l s ≡ got z r) → length r ≤ length s
 rest-less s {r = r} e =
@@ -266,7 +257,7 @@ module _ {kind : ℕ} {c : List ℕ} {to : ℕ} (b : List ℕ) (P : ToPlaceLeaf 
   parts-room = omega (arith, parts-length, P .fits)
 
   parts-number : length (carried (kindIn kind) (P .contents)) < 8192
-  parts-number = omega (arith, gathers-less gathered, carried-empty (kindIn kind), P .short)
+  parts-number = omega (arith, gathers-less gathered, ap length (carried-empty (kindIn kind)), P .short)
 
   four : not (eqb kind 3) ≡ true → kind ≡ 4
   four h = by (P .contents) (P .rest) (P .carried)

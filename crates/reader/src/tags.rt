@@ -52,7 +52,8 @@ pub enum Tag {
     Refused { cause: Cause },
 }
 
-// Where the identifier of the j-th tag of w ends, which m must begin with; there is none if a CHOICE has no tag more.
+// Where the identifier of the j-th tag of w ends, which m must begin with; a string's own may be constructed too. There is none if a CHOICE has
+// no tag more.
 fn awaited(table: &[u8], w: u64, j: usize, m: &[u8]) -> Tag
     requires { ⌜ ((index : List ℕ) × Ready (now table) index × IsRecord (now table) index w) ⌝ }
     ensures { λ r. ⌜ AwaitsTag (recordIn (now (table .entry)) (unpacked w)) j (now (m .entry)) r ⌝ }

@@ -36,12 +36,12 @@ universal-low : (k : Kind) → universal k < 32
 universal-low bit-string = omega arith
 universal-low octet-string = omega arith
 
-carried-empty : (k : Kind) → carried k (empty k) ≡ []
+pub carried-empty : (k : Kind) → carried k (empty k) ≡ []
 unfolding carried empty
 carried-empty bit-string = refl
 carried-empty octet-string = refl
 
-carried-join : (k : Kind) (c d : List ℕ) → carried k (join k c d) ≡ carried k c ++ carried k d
+pub carried-join : (k : Kind) (c d : List ℕ) → carried k (join k c d) ≡ carried k c ++ carried k d
 unfolding carried join
 carried-join bit-string c d = refl
 carried-join octet-string c d = refl
