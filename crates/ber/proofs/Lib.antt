@@ -1,8 +1,5 @@
 -- Laws of the code that reads and puts X.690's octets, and of its answers.
 -- Assumes nothing.
-pub mod IntegerCode
-pub mod LastOctets
-pub mod Sizes
 pub mod Places
 pub mod Codes
 pub mod Headers

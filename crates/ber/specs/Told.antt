@@ -1,17 +1,14 @@
--- What the functions that read X.690's octets answer, in terms of the reading of items; n octets were lent (X.690, 8.1). And integers as code
--- has them, of at most eight octets (8.3).
+-- What the functions that read X.690's octets answer, in terms of the reading of items; n octets were lent (X.690, 8.1).
 -- Assumes nothing.
 use mathlib.Core.Bool.{Bool, true, false, not}
-use mathlib.Core.List.{List, [], _∷_}
+use mathlib.Core.List.{List}
 use mathlib.Core.Path.{_≡_}
-use Prim.Native.Nat.{ℕ, zero, suc, _+_, _-_, _/_, _%_}
-use lib.Dec.{leb, eqb}
-use lib.IntN.{ℤ, pos}
+use Prim.Native.Nat.{ℕ, _+_, _-_}
+use lib.Dec.{eqb}
 use lib.ListN.{length, getD, drop}
 use Rattle.octets.specs.declared.cause.Cause.the-variants.{Cut, Forbidden}
 use Rattle.octets.specs.Answer.{Answer, got, refused, if, none-left}
 use Rattle.ber.specs.Codes.{codeOf}
-use Rattle.x690.specs.Integer.{integerOf}
 use Rattle.x690.specs.Reading.{Size, definite, indefinite, Mode, closed, open-ended}
 use Rattle.ber.specs.declared.identifier.Identifier.{Identifier}
 use Rattle.ber.specs.declared.identifier.Identifier.the-variants.{Read as ReadIdentifier, Refused as NoIdentifier}
@@ -49,15 +46,3 @@ endOf true n s =
 unfoldable pub Again : ℕ → Answer Size → Extent → Type 0
 Again n (got z s) x = ReadLength x ≡ toldLength n (got z s)
 Again n (refused c l) x = Unit {0}
-
--- the integer of at most eight octets; 0 for more
-abbrev pub integerIn : List ℕ → ℤ
-integerIn c = if (leb (length c) 8) (integerOf c) λ _. pos 0
-
--- the last n octets of a number to the base 256, after which those in hand stand
-unfoldable pub lastBefore : ℕ → ℕ → List ℕ → List ℕ
-lastBefore zero u l = l
-lastBefore (suc n) u l = lastBefore n (u / 256) (u % 256 ∷ l)
-
-abbrev pub lastOctets : ℕ → ℕ → List ℕ
-lastOctets n u = lastBefore n u []

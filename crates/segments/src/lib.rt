@@ -10,7 +10,6 @@ ghost use Rattle.x690.specs.Segments.{universal, segmentTag, empty, inForm, rea
 ghost use Rattle.ber.specs.Told.{toldIdentifier, mode};
 ghost use Rattle.segments.specs.Segments.{kindOf, unusedIn, carried, toldSegments, toldPrimitive, readTag, Gathers, IsJoined};
 ghost use Rattle.segments.specs.declared.Segments.the-variants.{Refused};
-use ber::bit_string::are_bits;
 use ber::ending;
 use ber::ending::End;
 use ber::identifier;
@@ -21,6 +20,7 @@ use octets::cause::Cause;
 use octets::copy;
 use octets::holds;
 use octets::octet;
+use simple::bit_string::are_bits;
 
 // Segments nest at most so deep.
 const DEEPEST: usize = 4;

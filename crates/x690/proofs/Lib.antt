@@ -7,3 +7,4 @@ pub mod Integers
 pub mod BitString
 pub mod Segmented
 pub mod Segments
+pub mod Times

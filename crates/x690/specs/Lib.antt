@@ -1,4 +1,4 @@
--- X.690 with no table: identifier octets, length octets, items, contents of integers and bit strings; and how items are read.
+-- X.690 with no table: identifier octets, length octets, items, contents of integers, bit strings and times; and how items are read.
 -- Assumes nothing.
 pub mod Identifier
 pub mod Length
@@ -7,3 +7,4 @@ pub mod Integer
 pub mod BitString
 pub mod Reading
 pub mod Segments
+pub mod Time

@@ -5,7 +5,7 @@ use borrow.Author.Needs.{needs}
 use Rattle.x690.specs.Segments.{inForm}
 use Rattle.segments.proofs.in_form.Statement.{statement}
 use Rattle.segments.proofs.in_form.Tie as tie
-use Rattle.ber.proofs.bit_string.are_bits.Reads as are-bits-reads
+use Rattle.simple.proofs.bit_string.are_bits.Reads as are-bits-reads
 
 pub in-form-spec : {M : Type 1} → statement M
 unfolding inForm

@@ -1,0 +1,6 @@
+-- Laws of the code of contents octets.
+-- Assumes nothing.
+pub mod IntegerCode
+pub mod LastOctets
+pub mod Sizes
+pub mod TimeCode

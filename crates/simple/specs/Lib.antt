@@ -1,0 +1,4 @@
+-- What the contracts of the code cite beside the definitions of `x690`.
+-- Assumes nothing.
+pub mod Integers
+pub mod Times

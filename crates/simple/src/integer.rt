@@ -1,0 +1,164 @@
+// Integers as two's complement octets (X.690, 8.3): one to eight of them become an i64, and an i64 its fewest, or all eight.
+ghost use mathlib.Core.Path.{_≡_};
+ghost use mathlib.Core.Bool.{_&&_};
+ghost use Prim.Native.Nat.{_<_, _≤_};
+ghost use lib.Dec.{leb};
+ghost use lib.ListN.{length};
+ghost use mir.Syntax.{w64};
+ghost use mir.Val.{ofZ};
+ghost use Rattle.octets.specs.Buffers.{filled};
+ghost use Rattle.x690.specs.Integer.{integerOf, minimal, fewestOf, eightOf};
+ghost use Rattle.simple.specs.Integers.{integerIn, lastOctets};
+ghost use Rattle.x690.specs.Integer.{digit as Integer·digit, spare as Integer·spare};
+
+fn wide(x: u8) -> u64
+    ensures { λ r. ⌜ (r ≡ x) × (r < 256) ⌝ }
+{
+    x as u64
+}
+
+// The integer whose bits are those of u.
+fn signed(u: u64) -> i64
+    ensures { λ r. ⌜ ofZ w64 r ≡ u ⌝ }
+{
+    if u < 9223372036854775808 {
+        return u as i64;
+    }
+    !(!u as i64)
+}
+
+// The bits of z.
+fn bits(z: i64) -> u64
+    ensures { λ r. ⌜ r ≡ ofZ w64 z ⌝ }
+{
+    if z < 0 { !(!z as u64) } else { z as u64 }
+}
+
+// An octet, or its complement.
+fn digit(neg: bool, b: u8) -> u64
+    ensures { λ r. ⌜ (r ≡ Integer·digit neg b) × (r < 256) ⌝ }
+{
+    let d = wide(b);
+    if neg { 255 - d } else { d }
+}
+
+// The integer of contents of at most eight octets; 0 for more.
+pub fn of(c: &[u8]) -> i64
+    ensures { λ r. ⌜ r ≡ integerIn (now (c .entry)) ⌝ }
+{
+    if c.len() == 0 {
+        return 0;
+    }
+    if 8 < c.len() {
+        return 0;
+    }
+    let neg = !(c[0] < 128);
+    let mut n: u64 = digit(neg, c[0]);
+    let mut i = 1;
+    while i < c.len() {
+        n = n * 256 + digit(neg, c[i]);
+        i += 1;
+    }
+    if neg { !(n as i64) } else { n as i64 }
+}
+
+// The integer of eight octets; 0 if they are not eight.
+pub fn of_eight(c: &[u8]) -> i64
+    ensures { λ r. ⌜ r ≡ integerOf (filled (Rattle.x690.specs.Integer.eight 0) (now (c .entry))) ⌝ }
+{
+    if c.len() != 8 {
+        return 0;
+    }
+    let high = wide(c[0]) * 16777216 + wide(c[1]) * 65536 + wide(c[2]) * 256 + wide(c[3]);
+    let low = wide(c[4]) * 16777216 + wide(c[5]) * 65536 + wide(c[6]) * 256 + wide(c[7]);
+    signed(high * 4294967296 + low)
+}
+
+// Whether a first octet could be left out, before a second.
+fn spare(a: u8, b: u8) -> bool
+    ensures { λ r. ⌜ r ≡ Integer·spare a b ⌝ }
+{
+    if a == 0 {
+        return b < 128;
+    }
+    if a == 255 {
+        return !(b < 128);
+    }
+    false
+}
+
+// Whether contents are an integer of at most eight octets in its fewest (8.3.2).
+pub fn is_integer(c: &[u8]) -> bool
+    ensures { λ r. ⌜ r ≡ (minimal (now (c .entry)) && leb (length (now (c .entry))) 8) ⌝ }
+{
+    if c.len() == 0 {
+        return false;
+    }
+    if c.len() == 1 {
+        return true;
+    }
+    if 8 < c.len() {
+        return false;
+    }
+    !spare(c[0], c[1])
+}
+
+// How many contents octets z has.
+pub fn size(z: i64) -> usize
+    ensures { λ r. ⌜ (r ≡ length (fewestOf z)) × (1 ≤ r) × (r ≤ 8) ⌝ }
+{
+    let n = if z < 0 { !z } else { z };
+    if n < 128 {
+        return 1;
+    }
+    if n < 32768 {
+        return 2;
+    }
+    if n < 8388608 {
+        return 3;
+    }
+    if n < 2147483648 {
+        return 4;
+    }
+    if n < 549755813888 {
+        return 5;
+    }
+    if n < 140737488355328 {
+        return 6;
+    }
+    if n < 36028797018963968 {
+        return 7;
+    }
+    8
+}
+
+// Fills a part with as many of the last octets of z, the last first; behind eight of them 0.
+pub fn put(z: i64, part: &mut [u8])
+    ensures { λ _. ⌜ now (part .exit) ≡ lastOctets (length (now (part .entry))) (ofZ w64 z) ⌝ }
+{
+    let mut u = bits(z);
+    let mut left = part.len();
+    while 0 < left {
+        left -= 1;
+        part[left] = (u % 256) as u8;
+        u = u / 256;
+    }
+}
+
+// Puts all eight octets of z over a part of eight; another stays.
+pub fn put_eight(z: i64, part: &mut [u8])
+    ensures { λ _. ⌜ now (part .exit) ≡ filled (now (part .entry)) (eightOf z) ⌝ }
+{
+    if part.len() != 8 {
+        return;
+    }
+    let u = bits(z);
+    part[0] = (u / 72057594037927936) as u8;
+    part[1] = (u / 281474976710656 % 256) as u8;
+    part[2] = (u / 1099511627776 % 256) as u8;
+    part[3] = (u / 4294967296 % 256) as u8;
+    part[4] = (u / 16777216 % 256) as u8;
+    part[5] = (u / 65536 % 256) as u8;
+    part[6] = (u / 256 % 256) as u8;
+    part[7] = (u % 256) as u8;
+}
