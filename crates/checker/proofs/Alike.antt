@@ -19,14 +19,15 @@ use Rattle.ber.specs.Codes.{code}
 use Rattle.table.specs.Syntax.{Tag, Record, Table, constructed}
 use Rattle.table.specs.Octets.{recordShaped}
 use Rattle.table.specs.Rules.{tagsBelow}
-use Rattle.table.specs.Reading.{tagsAt}
+use Rattle.table.specs.Reading.{tagsAt, tableIn}
 use Rattle.table.specs.Decide.{sameTag, begins}
-use Rattle.table.specs.Walk.{sameOutermost, like, tagOf, likeIn}
-use Rattle.table.specs.Entries.{unpacked, untagged, more, outermostCode, Entered, tableIn, Filled}
-use Rattle.table.specs.declared.entry.Entry.{Entry}
+use Rattle.table.specs.Walk.{sameOutermost, like}
 use Rattle.table.proofs.Loops.{lowest-same}
 use Rattle.table.proofs.Nodes.{like-untagged}
 use Rattle.table.proofs.Reading.{limits}
+use Rattle.records.specs.Entries.{unpacked, untagged, more, outermostCode, Entered, Filled}
+use Rattle.records.specs.declared.entry.Entry.{Entry}
+use Rattle.checker.specs.Gathering.{tagOf, likeIn}
 
 -- a code by its number
 code-short : (c : ℕ) (k : Bool) (n : ℕ) → n < 31 → code c k n ≡ c * 64 + bit k * 32 + n

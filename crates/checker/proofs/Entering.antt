@@ -13,8 +13,8 @@ use Rattle.octets.specs.Numbers.{Octets}
 use Rattle.octets.proofs.Tests.{test}
 use Rattle.table.specs.Octets.{recordShaped}
 use Rattle.table.specs.Reading.{recordAt, recordEnd, scanFrom, scan, look}
-use Rattle.table.specs.Entries.{unpacked, Entered, Filled}
 use Rattle.table.proofs.Reading.{record-back}
+use Rattle.records.specs.Entries.{unpacked, Entered, Filled}
 
 -- what a number of the index says of the record at o
 pub record Said (b : List ℕ) (w o : ℕ) : Type 0 where

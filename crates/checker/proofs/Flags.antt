@@ -12,8 +12,9 @@ use borrow.Author.Tests.{ltb-true, ltb-false, eqb-true, eqb-false}
 use Rattle.octets.proofs.Tests.{test}
 use Rattle.table.specs.Syntax.{Table}
 use Rattle.table.specs.Rules.{below}
-use Rattle.table.specs.Walk.{like, Walks, done, seen, down, Met}
+use Rattle.table.specs.Walk.{like, Walks, done, seen, down}
 use Rattle.table.proofs.Nodes.{like-low}
+use Rattle.checker.specs.Gathering.{Met}
 
 -- no walk over records below n, at most 128, looks behind their marks
 module _ {T : Table} {n : ℕ} (few : n ≤ 128) (there : (t a : ℕ) → t < n → In a (below T t) → a < n) where

@@ -13,13 +13,14 @@ use Rattle.octets.proofs.Tests.{test}
 use Rattle.octets.specs.Numbers.{Octets}
 use Rattle.table.specs.Syntax.{Table}
 use Rattle.table.specs.Rules.{below}
-use Rattle.table.specs.Reading.{everyAt}
-use Rattle.table.specs.Walk.{like, free, at, under, Walks, done, seen, down, Met, Gathered, GatheredUnder, Gathers, StandIns, Named}
-use Rattle.table.specs.Entries.{unpacked, untagged, counted, tableIn, countIn, Near, Filled}
-use Rattle.table.specs.declared.entry.Entry.{Entry}
-use Rattle.table.specs.declared.entry.Span.{Span}
+use Rattle.table.specs.Reading.{everyAt, tableIn, countIn}
+use Rattle.table.specs.Walk.{like, free, at, under, Walks, done, seen, down, Named}
 use Rattle.table.proofs.Loops.{every-step}
 use Rattle.table.proofs.Nodes.{like-low}
+use Rattle.records.specs.Entries.{unpacked, untagged, counted, Near, Filled}
+use Rattle.records.specs.declared.entry.Entry.{Entry}
+use Rattle.records.specs.declared.entry.Span.{Span}
+use Rattle.checker.specs.Gathering.{Met, Gathered, GatheredUnder, Gathers, StandIns}
 use Rattle.checker.proofs.Rules.{near-counted, entered-below, entry-at}
 use Rattle.checker.proofs.Alike.{code-none}
 use Rattle.table.proofs.Walk.{walks-append, Kept, kept, newly, keeps, stays, one-fewer}

@@ -11,9 +11,10 @@ use Rattle.octets.proofs.Search.{before-lowest}
 use Rattle.table.specs.Syntax.{Table, absent}
 use Rattle.table.specs.Octets.{recordShaped}
 use Rattle.table.specs.Decide.{dangling, mistagged, circular}
-use Rattle.table.specs.Walk.{like, StandIns, Named, Straight}
+use Rattle.table.specs.Walk.{like, Named, Straight}
 use Rattle.table.proofs.Decided.{dangling-complete, mistagged-complete, circular-complete}
 use Rattle.table.proofs.Straight.{below-there, ends}
+use Rattle.checker.specs.Gathering.{StandIns}
 
 -- no number below n passes, and so none below n has what the test stands for
 pub none-has : (P : ℕ → Type 0) (f : ℕ → Bool) (n p : ℕ) → ((t : ℕ) → t < n → P t → f t ≡ true) → p ≡ lowest f n → n ≤ p → (t : ℕ) → t < n → P t → ⊥

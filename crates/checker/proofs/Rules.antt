@@ -14,15 +14,15 @@ use Rattle.octets.specs.Numbers.{Octets, two}
 use Rattle.octets.proofs.Tests.{test}
 use Rattle.table.specs.Syntax.{Tag, Body, Plain, Sequence, Set, SequenceOf, SetOf, Choice, Record, absent, references, isChoice, universal, constructed}
 use Rattle.table.specs.Rules.{Mistagged, missing, bodyBelow, tagsBelow}
-use Rattle.table.specs.Reading.{membersAt, everyAt, tagsAt, scan}
+use Rattle.table.specs.Reading.{membersAt, everyAt, tagsAt, scan, tableIn}
 use Rattle.table.specs.Decide.{wrongTags, finiteBody}
 use Rattle.table.specs.Fields.{universalOf}
-use Rattle.table.specs.Entries.{unpacked, allButLast, explicitCount, tagPlace, hasMembers, counted, spanOf, Entered, Near, tableIn, Filled}
-use Rattle.table.specs.declared.entry.Entry.{Entry}
-use Rattle.table.specs.declared.entry.Span.{Span}
 use Rattle.table.proofs.Fields.{universal-of}
 use Rattle.table.proofs.Scan.{look-beyond}
-use Rattle.table.proofs.Entries.{kind-choice, kind-members, entered-members, entered-span, entered-choice, entered-tags}
+use Rattle.records.specs.Entries.{unpacked, allButLast, explicitCount, tagPlace, hasMembers, counted, spanOf, Entered, Near, Filled}
+use Rattle.records.specs.declared.entry.Entry.{Entry}
+use Rattle.records.specs.declared.entry.Span.{Span}
+use Rattle.records.proofs.Entries.{kind-choice, kind-members, entered-members, entered-span, entered-choice, entered-tags}
 
 -- what a count stands before lies near, and so does the span of any kind
 pub near-counted : (b : List ℕ) (p step : ℕ) → Octets b → p < 65536 → step < 3 → Near (counted b p step)

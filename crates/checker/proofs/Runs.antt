@@ -16,13 +16,13 @@ use Rattle.octets.proofs.Search.{lowest-most, lowest-passes, before-lowest}
 use Rattle.table.specs.Syntax.{Member, Body, Plain, Sequence, Set, SequenceOf, SetOf, Choice, Record, Table, references}
 use Rattle.table.specs.Octets.{kind}
 use Rattle.table.specs.Rules.{siblings, runsOn, Clash}
-use Rattle.table.specs.Reading.{membersAt, everyAt}
-use Rattle.table.specs.Walk.{Compares, optionalIn}
-use Rattle.table.specs.Entries.{hasMembers, spanOf, tableIn, countIn, Entered, WithMembers}
-use Rattle.table.specs.declared.entry.Entry.{Entry}
-use Rattle.table.specs.declared.entry.Span.{Span}
+use Rattle.table.specs.Reading.{membersAt, everyAt, tableIn, countIn}
 use Rattle.table.proofs.Pieces.{length-every, types-every}
-use Rattle.table.proofs.Entries.{entered-kind, kind-members, entered-members, entered-span}
+use Rattle.records.specs.Entries.{hasMembers, spanOf, Entered, WithMembers}
+use Rattle.records.specs.declared.entry.Entry.{Entry}
+use Rattle.records.specs.declared.entry.Span.{Span}
+use Rattle.records.proofs.Entries.{entered-kind, kind-members, entered-members, entered-span}
+use Rattle.checker.specs.Gathering.{Compares, optionalIn}
 
 -- one question, asked of the table's octets and of the record
 pub asked : {A B : Type 0} {r : Bool} → A ↔ B → (r ≡ true → A) × (r ≡ false → A → ⊥) → (r ≡ true → B) × (r ≡ false → B → ⊥)

@@ -19,14 +19,15 @@ use Rattle.octets.proofs.Members.{place-in}
 use Rattle.table.specs.Syntax.{Tag, Table, Body, Plain, Sequence, Set, SequenceOf, SetOf, Choice, Record, references, constructed}
 use Rattle.table.specs.Octets.{recordShaped, bodyShaped}
 use Rattle.table.specs.Rules.{below, tagsBelow, siblings, Circular, Clash, Sharing}
-use Rattle.table.specs.Reading.{everyAt}
+use Rattle.table.specs.Reading.{everyAt, tableIn, countIn}
 use Rattle.table.specs.Decide.{circular, pair, sharing}
-use Rattle.table.specs.Walk.{like, Hits, Walks, Met, GatheredUnder, StandIns, Straight, Compares, optionalIn}
-use Rattle.table.specs.Entries.{unpacked, spanOf, tableIn, countIn, Filled}
-use Rattle.table.specs.declared.entry.Entry.{Entry}
-use Rattle.table.specs.declared.entry.Span.{Span}
+use Rattle.table.specs.Walk.{like, Hits, Walks, Straight}
 use Rattle.table.proofs.Nodes.{hits-reaches, reaches-hits, first-record, first-hits}
 use Rattle.table.proofs.Walk.{Kept, kept, newly, keeps, complete}
+use Rattle.records.specs.Entries.{unpacked, spanOf, Filled}
+use Rattle.records.specs.declared.entry.Entry.{Entry}
+use Rattle.records.specs.declared.entry.Span.{Span}
+use Rattle.checker.specs.Gathering.{Met, GatheredUnder, StandIns, Compares, optionalIn}
 use Rattle.checker.proofs.Rules.{entry-at, span-near, span-named}
 use Rattle.checker.proofs.Runs.{asked, other-clash, sequence-step, sequence-clash}
 use Rattle.checker.proofs.Flags.{walked-low, met-low}

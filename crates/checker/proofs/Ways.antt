@@ -8,11 +8,11 @@ use native.Mathlib.Omega.{arith}
 use borrow.Author.Tests.{lt-ltb, le-ltb}
 use lib.ListN.{length}
 use Rattle.octets.specs.declared.cause.Cause.the-variants.{TableShape}
-use Rattle.table.specs.Reading.{scan}
+use Rattle.table.specs.Reading.{scan, tableIn, countIn}
 use Rattle.table.specs.Verdict.{judge, verdict}
-use Rattle.table.specs.Entries.{tableIn, countIn, Filled}
 use Rattle.table.specs.declared.Verdict.{Verdict}
 use Rattle.table.specs.declared.Verdict.the-variants.{Refused}
+use Rattle.records.specs.Entries.{Filled}
 
 module _ (b : List ℕ) where
   verdict-long : 8192 < length b → Refused TableShape 0 ≡ verdict b

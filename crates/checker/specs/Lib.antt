@@ -1,3 +1,4 @@
--- What the contracts of the check cite beside the definitions of `table`.
+-- What the contracts of the check cite beside the definitions of `table` and `records`.
 -- Assumes nothing.
 pub mod Marks
+pub mod Gathering

@@ -5,19 +5,19 @@ ghost use Prim.Native.Nat.{_≤_, _<_};
 ghost use lib.ListN.{length};
 ghost use Rattle.octets.specs.Lists.{any, all, lowest};
 ghost use Rattle.table.specs.Syntax.{Record};
-ghost use Rattle.table.specs.Reading.{membersAt, everyAt};
+ghost use Rattle.table.specs.Reading.{membersAt, everyAt, tableIn};
 ghost use Rattle.table.specs.Decide.{finiteBody, infinite};
 ghost use Rattle.checker.specs.Marks.{isFlagged, Looked};
-ghost use Rattle.table.specs.Entries.{Near, tableIn, Entered, Filled};
+ghost use Rattle.records.specs.Entries.{Near, Entered, Filled};
 use octets::octet;
-use table::entry::Entry;
-use table::entry::Span;
-use table::entry::alternatives;
-use table::entry::optional;
-use table::entry::parts;
-use table::entry::unpack;
-use table::kind::CHOICE;
-use table::kind::has_members;
+use records::entry::Entry;
+use records::entry::Span;
+use records::entry::alternatives;
+use records::entry::optional;
+use records::entry::parts;
+use records::entry::unpack;
+use records::kind::CHOICE;
+use records::kind::has_members;
 
 // Whether record t is flagged; a number that is not there is not.
 fn flagged(flags: &[u8; 128], t: usize) -> bool

@@ -5,20 +5,20 @@ ghost use Prim.Native.Nat.{ℕ, suc, _+_, _-_, _*_, _≤_, _<_};
 ghost use lib.ListN.{length, getD, replicate};
 ghost use Rattle.octets.specs.Lists.{lowest};
 ghost use Rattle.table.specs.Rules.{Circular, Clash, Sharing};
-ghost use Rattle.table.specs.Reading.{everyAt};
+ghost use Rattle.table.specs.Reading.{everyAt, tableIn, countIn};
 ghost use Rattle.table.specs.Decide.{circular, sharing};
-ghost use Rattle.table.specs.Walk.{like, likeIn, tagOf, StandIns, Named, Straight, Gathers, Gathered, GatheredUnder, Compares};
-ghost use Rattle.table.specs.Walk.{optionalIn};
-ghost use Rattle.table.specs.Entries.{unpacked, untagged, tableIn, countIn, Filled};
+ghost use Rattle.table.specs.Walk.{like, Named, Straight};
+ghost use Rattle.records.specs.Entries.{unpacked, untagged, Filled};
+ghost use Rattle.checker.specs.Gathering.{likeIn, tagOf, StandIns, Gathers, Gathered, GatheredUnder, Compares, optionalIn};
 use octets::octet;
-use table::entry::Span;
-use table::entry::UNTAGGED;
-use table::entry::alternatives;
-use table::entry::first;
-use table::entry::optional;
-use table::entry::parts;
-use table::entry::unpack;
-use table::kind::SEQUENCE;
+use records::entry::Span;
+use records::entry::UNTAGGED;
+use records::entry::alternatives;
+use records::entry::first;
+use records::entry::optional;
+use records::entry::parts;
+use records::entry::unpack;
+use records::kind::SEQUENCE;
 
 // The first tag of an entry: its code but for the bit that says constructed.
 fn first_tag(w: u64) -> u32

@@ -5,15 +5,15 @@ ghost use mathlib.Core.Path.{_≡_};
 ghost use lib.Dec.{eqb};
 ghost use Rattle.octets.specs.Tests.{if};
 ghost use Rattle.table.specs.Reading.{recordEnd, recordAt, scan};
-ghost use Rattle.table.specs.Entries.{unpacked, outermostIn, allButLast, Entered, Filled};
+ghost use Rattle.records.specs.Entries.{unpacked, outermostIn, allButLast, Entered, Filled};
 use crate::shape::record_end;
 use ber::identifier::code_of;
 use octets::octet;
 use octets::two;
-use table::entry::LACKING;
-use table::entry::UNTAGGED;
-use table::kind::CHOICE;
-use table::kind::constructed;
+use records::entry::LACKING;
+use records::entry::UNTAGGED;
+use records::kind::CHOICE;
+use records::kind::constructed;
 
 // How many records were indexed. Whole if nothing is left behind them.
 pub struct Count {

@@ -11,7 +11,8 @@ ghost use Prim.Native.Nat.{_≤_, _<_};
 ghost use lib.ListN.{length};
 ghost use Rattle.table.specs.Verdict.{judgeChoices, judge, verdict};
 ghost use Rattle.table.specs.Walk.{Named};
-ghost use Rattle.table.specs.Entries.{tableIn, Filled};
+ghost use Rattle.table.specs.Reading.{tableIn};
+ghost use Rattle.records.specs.Entries.{Filled};
 use octets::cause::Cause;
 use table::Verdict;
 

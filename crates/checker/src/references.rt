@@ -3,15 +3,15 @@ ghost use mathlib.Core.Path.{_≡_};
 ghost use Prim.Native.Nat.{_<_};
 ghost use lib.Dec.{leb};
 ghost use Rattle.octets.specs.Lists.{any, lowest};
-ghost use Rattle.table.specs.Reading.{everyAt};
+ghost use Rattle.table.specs.Reading.{everyAt, tableIn};
 ghost use Rattle.table.specs.Decide.{dangling};
 ghost use Rattle.table.specs.Syntax.{Record, references};
-ghost use Rattle.table.specs.Entries.{Near, Entered, tableIn, Filled};
+ghost use Rattle.records.specs.Entries.{Near, Entered, Filled};
 use octets::octet;
-use table::entry::Entry;
-use table::entry::Span;
-use table::entry::parts;
-use table::entry::unpack;
+use records::entry::Entry;
+use records::entry::Span;
+use records::entry::parts;
+use records::entry::unpack;
 
 // Whether one of the parts has a number that is not below n.
 fn dangling(table: &[u8], s: Span, n: usize) -> bool

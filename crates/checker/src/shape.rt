@@ -7,13 +7,15 @@ ghost use Rattle.table.specs.Octets.{rising};
 ghost use Rattle.table.specs.Reading.{everyAt, numbersAt, countedEnd, enumeratedEnd, membersEnd, referenceEnd, ownEnd, recordEnd};
 use octets::octet;
 use octets::two;
-use table::kind::CHOICE;
-use table::kind::ENUMERATED;
-use table::kind::NULL;
-use table::kind::SEQUENCE;
-use table::kind::SEQUENCE_OF;
-use table::kind::SET;
-use table::kind::SET_OF;
+use records::kind::CHOICE;
+use records::kind::ENUMERATED;
+use records::kind::GENERALIZED_TIME;
+use records::kind::NULL;
+use records::kind::SEQUENCE;
+use records::kind::SEQUENCE_OF;
+use records::kind::SET;
+use records::kind::SET_OF;
+use records::kind::UTC_TIME;
 
 // Whether each of n octets is at most `most`; the first is at p, each `step` behind the one before.
 fn each_at_most(table: &[u8], most: usize, step: usize, p: usize, n: usize) -> bool
@@ -113,7 +115,7 @@ fn reference_end(table: &[u8], p: usize) -> usize
     p + 1
 }
 
-// The end of the own part at p of a kind. The kinds up to NULL have none.
+// The end of the own part at p of a kind. The kinds up to NULL and the times have none.
 fn own_end(table: &[u8], kind: u8, p: usize) -> usize
     requires { ⌜ p < 90000 ⌝ }
     ensures { λ r. ⌜ r ≡ ownEnd (now (table .entry)) kind p ⌝ }
@@ -126,6 +128,12 @@ fn own_end(table: &[u8], kind: u8, p: usize) -> usize
     }
     if kind == ENUMERATED {
         return enumerated_end(table, p);
+    }
+    if kind == UTC_TIME {
+        return p;
+    }
+    if kind == GENERALIZED_TIME {
+        return p;
     }
     if kind == SEQUENCE {
         return members_end(table, p);

@@ -7,18 +7,18 @@ ghost use lib.ListN.{getD};
 ghost use Rattle.octets.specs.Numbers.{two};
 ghost use Rattle.octets.specs.Lists.{any, lowest};
 ghost use Rattle.table.specs.Syntax.{Record};
-ghost use Rattle.table.specs.Reading.{everyAt};
+ghost use Rattle.table.specs.Reading.{everyAt, tableIn};
 ghost use Rattle.table.specs.Fields.{universalOf};
 ghost use Rattle.table.specs.Decide.{wrongTags, mistagged};
-ghost use Rattle.table.specs.Entries.{tagPlace, tableIn, Entered, Filled};
+ghost use Rattle.records.specs.Entries.{tagPlace, Entered, Filled};
 use octets::octet;
 use octets::two;
-use table::entry::Entry;
-use table::entry::LACKING;
-use table::entry::tag_place;
-use table::entry::unpack;
-use table::kind::CHOICE;
-use table::kind::universal;
+use records::entry::Entry;
+use records::entry::LACKING;
+use records::entry::tag_place;
+use records::entry::unpack;
+use records::kind::CHOICE;
+use records::kind::universal;
 
 // Whether one of the n tags from p on is UNIVERSAL.
 fn any_universal(table: &[u8], p: usize, n: usize) -> bool

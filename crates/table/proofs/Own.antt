@@ -13,7 +13,8 @@ use Rattle.octets.proofs.Tests.{test, at}
 use Rattle.octets.specs.Lists.{all, joined}
 use Rattle.octets.specs.Numbers.{Octets, octetsOf}
 use Rattle.octets.proofs.Lists.{both, behind, length-behind, at-first, drop-one}
-use Rattle.table.specs.Syntax.{Member, Boolean, Integer, BitString, OctetString, Null, Enumerated, Body, Plain, Sequence, Set, SequenceOf, SetOf, Choice}
+use Rattle.dates.specs.declared.TimeKind.the-variants.{Utc, Generalized}
+use Rattle.table.specs.Syntax.{Member, Boolean, Integer, BitString, OctetString, Null, Enumerated, Time, Body, Plain, Sequence, Set, SequenceOf, SetOf, Choice}
 use Rattle.table.specs.Octets.{kind, memberOctets, ownOctets, rising, bodyShaped}
 use Rattle.table.specs.Reading.{numbersAt, membersAt, everyAt, bodyAt, countedEnd, enumeratedEnd, membersEnd, ownEnd}
 use Rattle.table.proofs.Pieces.{length-numbers, length-members, length-every, numbers-back, members-back, every-back}
@@ -110,12 +111,14 @@ own-back b o p l k =
     at k 4 (OwnAt b p) (λ h. plain-own b (Plain OctetString) 4 p l refl refl refl) λ e₄.
     at k 5 (OwnAt b p) (λ h. plain-own b (Plain Null) 5 p l refl refl refl) λ e₅.
     at k 10 (OwnAt b p) (enumerated-back b o p) λ e₁₀.
+    at k 23 (OwnAt b p) (λ h. plain-own b (Plain (Time Utc)) 23 p l refl refl refl) λ e₂₃.
+    at k 24 (OwnAt b p) (λ h. plain-own b (Plain (Time Generalized)) 24 p l refl refl refl) λ e₂₄.
     at k 16 (OwnAt b p) (members-own b (λ ms. Sequence ms) 16 p (λ ms. refl) (λ ms. refl) (λ ms. refl)) λ e₁₆.
     at k 17 (OwnAt b p) (members-own b (λ ms. Set ms) 17 p (λ ms. refl) (λ ms. refl) (λ ms. refl)) λ e₁₇.
     at k 48 (OwnAt b p) (one-own b (SequenceOf (getD b p 0)) 48 p refl refl refl) λ e₄₈.
     at k 49 (OwnAt b p) (one-own b (SetOf (getD b p 0)) 49 p refl refl refl) λ e₄₉.
     at k 50 (OwnAt b p) (choice-back b p) λ e₅₀.
-    λ h. absurd (h (test (eqb k 0) (λ z. rw z) λ z. rw (z, above-five k z e₁ e₂ e₃ e₄ e₅, e₁₀, e₁₆, e₁₇, e₄₈, e₄₉, e₅₀)))
+    λ h. absurd (h (test (eqb k 0) (λ z. rw z) λ z. rw (z, above-five k z e₁ e₂ e₃ e₄ e₅, e₁₀, e₂₃, e₂₄, e₁₆, e₁₇, e₄₈, e₄₉, e₅₀)))
 
 record Found (size least most : ℕ) (b : List ℕ) (p n : ℕ) : Type 0 where
   count : getD b p 0 ≡ n
@@ -177,6 +180,8 @@ own-only b p (Plain BitString) u l e s = record { body = refl; end = omega arith
 own-only b p (Plain OctetString) u l e s = record { body = refl; end = omega arith }
 own-only b p (Plain Null) u l e s = record { body = refl; end = omega arith }
 own-only b p (Plain (Enumerated ns)) u l e s = let r = enumerated-read b p ns u l e s in record { body = ap (λ l. Plain (Enumerated l)) (r .0); end = r .1 }
+own-only b p (Plain (Time Utc)) u l e s = record { body = refl; end = omega arith }
+own-only b p (Plain (Time Generalized)) u l e s = record { body = refl; end = omega arith }
 own-only b p (Sequence ms) u l e s = let r = members-read b p ms u l e s in record { body = ap (λ l. Sequence l) (r .0); end = r .1 }
 own-only b p (Set ms) u l e s = let r = members-read b p ms u l e s in record { body = ap (λ l. Set l) (r .0); end = r .1 }
 own-only b p (SequenceOf t) u l e s =

@@ -9,5 +9,4 @@ pub mod Verdict
 pub mod Cause
 pub mod Passes
 pub mod Fields
-pub mod Entries
 pub mod Walk

@@ -8,7 +8,8 @@ use lib.Dec.{leb}
 use lib.ListN.{length}
 use Rattle.octets.specs.Lists.{all, joined}
 use Rattle.octets.specs.Numbers.{octetsOf}
-use Rattle.table.specs.Syntax.{Tag, Member, Boolean, Integer, BitString, OctetString, Null, Enumerated, Body, Plain, Sequence, Set, SequenceOf, SetOf, Choice, Record}
+use Rattle.dates.specs.declared.TimeKind.the-variants.{Utc, Generalized}
+use Rattle.table.specs.Syntax.{Tag, Member, Boolean, Integer, BitString, OctetString, Null, Enumerated, Time, Body, Plain, Sequence, Set, SequenceOf, SetOf, Choice, Record}
 
 -- the octet of a kind (FORMATS, "Tables")
 unfoldable pub kind : Body → ℕ
@@ -18,6 +19,8 @@ kind (Plain BitString) = 3
 kind (Plain OctetString) = 4
 kind (Plain Null) = 5
 kind (Plain (Enumerated ns)) = 10
+kind (Plain (Time Utc)) = 23
+kind (Plain (Time Generalized)) = 24
 kind (Sequence ms) = 16
 kind (Set ms) = 17
 kind (SequenceOf t) = 48
@@ -44,6 +47,7 @@ ownOctets (Plain BitString) = []
 ownOctets (Plain OctetString) = []
 ownOctets (Plain Null) = []
 ownOctets (Plain (Enumerated ns)) = length ns ∷ joined (map octetsOf ns)
+ownOctets (Plain (Time k)) = []
 ownOctets (Sequence ms) = length ms ∷ joined (map memberOctets ms)
 ownOctets (Set ms) = length ms ∷ joined (map memberOctets ms)
 ownOctets (SequenceOf t) = t ∷ []
@@ -68,6 +72,7 @@ bodyShaped (Plain BitString) = true
 bodyShaped (Plain OctetString) = true
 bodyShaped (Plain Null) = true
 bodyShaped (Plain (Enumerated ns)) = leb 1 (length ns) && leb (length ns) 32 && rising 0 ns
+bodyShaped (Plain (Time k)) = true
 bodyShaped (Sequence ms) = leb (length ms) 16
 bodyShaped (Set ms) = leb (length ms) 16
 bodyShaped (SequenceOf t) = true

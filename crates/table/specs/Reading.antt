@@ -9,7 +9,8 @@ use lib.ListN.{length, getD}
 use Rattle.octets.specs.Tests.{if}
 use Rattle.octets.specs.Lists.{all}
 use Rattle.octets.specs.Numbers.{two}
-use Rattle.table.specs.Syntax.{Tag, Member, Boolean, Integer, BitString, OctetString, Null, Enumerated, Body, Plain, Sequence, Set, SequenceOf, SetOf, Choice, Record, Table}
+use Rattle.dates.specs.declared.TimeKind.the-variants.{Utc, Generalized}
+use Rattle.table.specs.Syntax.{Tag, Member, Boolean, Integer, BitString, OctetString, Null, Enumerated, Time, Body, Plain, Sequence, Set, SequenceOf, SetOf, Choice, Record, Table}
 use Rattle.table.specs.Octets.{rising}
 
 -- n tags from p on
@@ -41,6 +42,8 @@ bodyAt b k p =
     if (eqb k 4) (Plain OctetString) λ _.
     if (eqb k 5) (Plain Null) λ _.
     if (eqb k 10) (Plain (Enumerated (numbersAt b (p + 1) (getD b p 0)))) λ _.
+    if (eqb k 23) (Plain (Time Utc)) λ _.
+    if (eqb k 24) (Plain (Time Generalized)) λ _.
     if (eqb k 16) (Sequence (membersAt b (p + 1) (getD b p 0))) λ _.
     if (eqb k 17) (Set (membersAt b (p + 1) (getD b p 0))) λ _.
     if (eqb k 48) (SequenceOf (getD b p 0)) λ _.
@@ -88,6 +91,8 @@ ownEnd b k p =
     if (eqb k 0) 0 λ _.
     if (leb k 5) p λ _.
     if (eqb k 10) (enumeratedEnd b p) λ _.
+    if (eqb k 23) p λ _.
+    if (eqb k 24) p λ _.
     if (eqb k 16) (membersEnd b p) λ _.
     if (eqb k 17) (membersEnd b p) λ _.
     if (eqb k 48) (referenceEnd b p) λ _.
@@ -125,3 +130,10 @@ scan b = scanFrom b 128 [] 0
 -- The table whose records begin at these places. A number without a place has its record behind all octets, where it is absent.
 unfoldable pub look : List ℕ → List ℕ → Table
 look b os t = recordAt b (getD os t 65535)
+
+-- the records that octets stand for, by their numbers, and how many there are
+abbrev pub tableIn : List ℕ → Table
+tableIn b = look b (scan b .offsets)
+
+abbrev pub countIn : List ℕ → ℕ
+countIn b = length (scan b .offsets)

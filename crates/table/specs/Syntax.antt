@@ -3,6 +3,8 @@
 use mathlib.Core.Bool.{Bool, true, false}
 use mathlib.Core.List.{List, [], _∷_, map}
 use Prim.Native.Nat.{ℕ, zero, suc}
+use Rattle.dates.specs.declared.TimeKind.{TimeKind}
+use Rattle.dates.specs.declared.TimeKind.the-variants.{Utc, Generalized}
 
 -- the class is 0 UNIVERSAL, 1 APPLICATION, 2 context-specific, 3 PRIVATE (FORMATS, "Tables")
 pub record Tag : Type 0 where
@@ -14,7 +16,7 @@ pub record Member : Type 0 where
   pub type : ℕ
   pub optional : Bool
 
--- the kinds that name no other record; ENUMERATED with its numbers
+-- the kinds that name no other record; ENUMERATED with its numbers; UTCTime and GeneralizedTime
 pub data Simple : Type 0 where
   Boolean : Simple
   Integer : Simple
@@ -22,6 +24,7 @@ pub data Simple : Type 0 where
   OctetString : Simple
   Null : Simple
   Enumerated : List ℕ → Simple
+  Time : TimeKind → Simple
 
 -- a kind with its own part
 pub data Body : Type 0 where
@@ -75,6 +78,8 @@ universal (Plain BitString) = 3
 universal (Plain OctetString) = 4
 universal (Plain Null) = 5
 universal (Plain (Enumerated ns)) = 10
+universal (Plain (Time Utc)) = 23
+universal (Plain (Time Generalized)) = 24
 universal (Sequence ms) = 16
 universal (Set ms) = 17
 universal (SequenceOf t) = 16

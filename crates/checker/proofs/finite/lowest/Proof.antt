@@ -3,7 +3,7 @@
 use mathlib.Core.Path.{_≡_, refl, sym, _∙_}
 use lib.ListN.{length, replicate}
 use borrow.Author.Tests.{not-true, not-false}
-use Rattle.table.specs.Entries.{tableIn}
+use Rattle.table.specs.Reading.{tableIn}
 use Rattle.table.specs.Walk.{free}
 use Rattle.checker.specs.Marks.{Raised, same}
 use Rattle.checker.proofs.Rules.{filled-beyond}

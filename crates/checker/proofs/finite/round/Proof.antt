@@ -6,7 +6,7 @@ use native.Mathlib.Omega.{arith}
 use lib.ListN.{length, length-set}
 use borrow.Author.Needs.{needs}
 use Rattle.checker.specs.Marks.{Looked}
-use Rattle.table.specs.Entries.{tableIn}
+use Rattle.table.specs.Reading.{tableIn}
 use Rattle.checker.proofs.Rules.{entry-at}
 use Rattle.checker.proofs.Marks.{From, looked-none, looked-all, looked-flagged, looked-idle, looked-more}
 use Rattle.checker.proofs.finite.round.Statement.{statement}

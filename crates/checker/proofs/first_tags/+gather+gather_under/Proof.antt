@@ -6,8 +6,7 @@ use mathlib.Core.Path.{_≡_, sym, _∙_}
 use native.Mathlib.Omega.{arith}
 use lib.ListN.{length, getD}
 use Rattle.table.specs.Rules.{below}
-use Rattle.table.specs.Reading.{everyAt}
-use Rattle.table.specs.Entries.{tableIn}
+use Rattle.table.specs.Reading.{everyAt, tableIn}
 use Rattle.table.specs.Walk.{free}
 use Rattle.table.proofs.Walk.{same-size}
 use Rattle.checker.proofs.Alike.{below-none}
@@ -23,9 +22,9 @@ use Rattle.checker.proofs.first_tags.gather_under.Reads as gather-under
 use Rattle.checker.proofs.first_tags.gather_under.Kinds as gather-under-kinds
 use Rattle.checker.proofs.first_tags.+gather+gather_under.Lts-gather_under as gather-under-lts
 use Rattle.octets.proofs.octet.Reads as octet-reads
-use Rattle.table.proofs.entry.alternatives.Reads as alternatives-reads
-use Rattle.table.proofs.entry.first.Reads as first-reads
-use Rattle.table.proofs.entry.unpack.Reads as unpack-reads
+use Rattle.records.proofs.entry.alternatives.Reads as alternatives-reads
+use Rattle.records.proofs.entry.first.Reads as first-reads
+use Rattle.records.proofs.entry.unpack.Reads as unpack-reads
 use Rattle.checker.proofs.first_tags.+gather+gather_under.{statement}
 use Rattle.checker.proofs.first_tags.+gather+gather_under.Tie.{close}
 

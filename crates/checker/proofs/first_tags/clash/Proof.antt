@@ -6,8 +6,7 @@ use mathlib.Core.Bool.{true≢false, false≢true}
 use mathlib.Core.Path.{_≡_, refl, _∙_}
 use native.Mathlib.Omega.{arith}
 use lib.ListN.{length, take, length-set}
-use Rattle.table.specs.Reading.{everyAt}
-use Rattle.table.specs.Entries.{tableIn}
+use Rattle.table.specs.Reading.{everyAt, tableIn}
 use Rattle.table.proofs.Walk.{same-size}
 use Rattle.table.proofs.Straight.{zeros}
 use Rattle.checker.proofs.Flags.{walked-one, met-low}

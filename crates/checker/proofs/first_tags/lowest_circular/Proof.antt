@@ -7,7 +7,7 @@ use mathlib.Core.Path.{refl, sym, _∙_}
 use native.Mathlib.Omega.{arith}
 use Rattle.octets.proofs.Search.{Rest, rest-first, rest-here, rest-next, rest-none}
 use Rattle.table.specs.Decide.{circular}
-use Rattle.table.specs.Entries.{tableIn}
+use Rattle.table.specs.Reading.{tableIn}
 use Rattle.table.proofs.Decided.{circular-is}
 use Rattle.checker.proofs.Rules.{filled-beyond}
 use Rattle.checker.proofs.Alike.{below-none}

@@ -7,8 +7,8 @@ use lib.ListN.{getD}
 use borrow.Author.Needs.{needs}
 use borrow.Author.Tests.{eq-eqb, ne-eqb}
 use Rattle.octets.proofs.Search.{Rest, rest-first, rest-here, rest-next, rest-none}
-use Rattle.table.specs.Entries.{unpacked}
-use Rattle.table.specs.Walk.{tagOf}
+use Rattle.records.specs.Entries.{unpacked}
+use Rattle.checker.specs.Gathering.{tagOf}
 use Rattle.checker.proofs.Alike.{like-none, like-some}
 use Rattle.checker.proofs.first_tags.lowest_like.Statement.{statement}
 use Rattle.checker.proofs.first_tags.lowest_like.Tie as tie

@@ -8,7 +8,7 @@ use mathlib.Core.Path.{sym, _∙_}
 use native.Mathlib.Omega.{arith}
 use Rattle.octets.proofs.Search.{Rest, rest-first, rest-here, rest-next, rest-none}
 use Rattle.table.specs.Decide.{sharing}
-use Rattle.table.specs.Entries.{tableIn}
+use Rattle.table.specs.Reading.{tableIn}
 use Rattle.table.proofs.Decided.{sharing-is}
 use Rattle.checker.proofs.Rules.{filled-beyond, entry-at}
 use Rattle.checker.proofs.Shared.{no-sharing}

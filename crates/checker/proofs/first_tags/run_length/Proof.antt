@@ -6,7 +6,7 @@ use mathlib.Core.Bool.{not}
 use mathlib.Core.Path.{sym, ap, _∙_}
 use native.Mathlib.Omega.{arith}
 use Rattle.octets.proofs.Search.{Rest, rest-first, rest-here, rest-next, rest-none}
-use Rattle.table.specs.Walk.{optionalIn}
+use Rattle.checker.specs.Gathering.{optionalIn}
 use Rattle.checker.proofs.first_tags.run_length.Statement.{statement}
 use Rattle.checker.proofs.first_tags.run_length.Tie as tie
 

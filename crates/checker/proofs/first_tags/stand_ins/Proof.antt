@@ -7,7 +7,7 @@ use mathlib.Core.Path.{_≡_, _∙_}
 use native.Mathlib.Omega.{arith}
 use lib.ListN.{length, getD, length-set}
 use lib.Seq.{getD-set-same, getD-set-other}
-use Rattle.table.specs.Entries.{tableIn}
+use Rattle.table.specs.Reading.{tableIn}
 use Rattle.table.specs.Walk.{like}
 use Rattle.checker.proofs.Alike.{like-in, like-in-low}
 use Rattle.checker.proofs.first_tags.stand_ins.Statement.{statement}

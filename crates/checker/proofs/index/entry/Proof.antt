@@ -4,7 +4,7 @@ use Prim.Native.Nat.{_+_}
 use native.Mathlib.Omega.{arith}
 use lib.ListN.{getD}
 use borrow.Author.Needs.{needs}
-use Rattle.table.proofs.Entries.{heads, explicit-small, entering}
+use Rattle.records.proofs.Entries.{heads, explicit-small, entering}
 use Rattle.checker.proofs.index.entry.Statement.{statement}
 use Rattle.checker.proofs.index.entry.Tie as tie
 

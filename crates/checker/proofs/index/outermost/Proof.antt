@@ -2,7 +2,7 @@
 -- Assumes nothing.
 use borrow.Author.Needs.{needs}
 use borrow.Author.Tests.{eq-eqb, ne-eqb, lt-ltb, le-ltb}
-use Rattle.table.specs.Entries.{outermostIn}
+use Rattle.records.specs.Entries.{outermostIn}
 use Rattle.checker.proofs.index.outermost.Statement.{statement}
 use Rattle.checker.proofs.index.outermost.Tie as tie
 

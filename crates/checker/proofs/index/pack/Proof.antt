@@ -5,7 +5,7 @@ use mathlib.Core.Path.{_≡_, _∙_}
 use Prim.Native.Nat.{_<_}
 use native.Mathlib.Omega.{arith}
 use borrow.Author.Needs.{needs}
-use Rattle.table.proofs.Packing.{highOctet, high-octet-below, unpacks}
+use Rattle.records.proofs.Packing.{highOctet, high-octet-below, unpacks}
 use Rattle.checker.proofs.index.pack.Statement.{statement}
 use Rattle.checker.proofs.index.pack.Tie as tie
 use Rattle.checker.proofs.index.pack.Reads as reads

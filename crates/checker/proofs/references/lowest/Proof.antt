@@ -6,7 +6,7 @@ use native.Mathlib.Omega.{arith}
 use borrow.Author.Needs.{needs}
 use Rattle.octets.proofs.Search.{Rest, rest-first, rest-here, rest-next, rest-none}
 use Rattle.table.specs.Decide.{dangling}
-use Rattle.table.specs.Entries.{tableIn}
+use Rattle.table.specs.Reading.{tableIn}
 use Rattle.checker.proofs.Rules.{entry-at}
 use Rattle.checker.proofs.references.lowest.Statement.{statement}
 use Rattle.checker.proofs.references.lowest.Tie as tie

@@ -5,7 +5,7 @@ use native.Mathlib.Omega.{arith}
 use borrow.Author.Needs.{needs}
 use Rattle.octets.specs.Lists.{any}
 use Rattle.checker.proofs.Rules.{near-span, none-named}
-use Rattle.table.proofs.Entries.{entered-span}
+use Rattle.records.proofs.Entries.{entered-span}
 use Rattle.checker.proofs.references.names_beyond.Statement.{statement}
 use Rattle.checker.proofs.references.names_beyond.Tie as tie
 

@@ -16,6 +16,8 @@ own-end-spec =
     (λ c. search tests)  -- returns-2
     (λ c κs. search needs)  -- enumerated-end-requires
     (λ c. rw (c .enumerated-end .ensures) (search tests))  -- returns-3
+    (λ c. search tests)  -- returns-4
+    (λ c. search tests)  -- returns-5
     (λ c κs. search needs)  -- members-end-requires
     (λ c. rw (c .members-end .ensures) (search tests))  -- returns-4
     (λ c κs. search needs)  -- members-end-requires-2

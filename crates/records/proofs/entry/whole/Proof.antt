@@ -1,0 +1,23 @@
+-- `records::entry::whole` meets its contract: its number is that of an entry with 0 for all but the place and the kind.
+-- Assumes nothing.
+use mathlib.Core.Bool.{false}
+use mathlib.Core.Path.{ap, _∙_}
+use Prim.Native.Nat.{ℕ}
+use native.Mathlib.Omega.{arith}
+use borrow.Author.Needs.{needs}
+use Rattle.records.specs.Entries.{unpacked}
+use Rattle.records.proofs.Packing.{unpacks}
+use Rattle.records.proofs.entry.whole.Statement.{statement}
+use Rattle.records.proofs.entry.whole.Tie as tie
+
+pub whole-spec : {M : Type 1} → statement M
+whole-spec =
+    tie.close
+    (tie.spec
+    (λ c. search needs)  -- cast-result
+    (λ c. search needs)  -- mul-result
+    (λ c. search needs)  -- add-result
+    (λ c. search needs)  -- mul-result-2
+    (λ c.
+    let a = c .args in
+    ap (λ (w : ℕ). unpacked w) (omega arith) ∙ unpacks false 0 51 (a .t) 0 (omega arith) (omega arith) (omega arith) (omega arith)))  -- returns
