@@ -7,7 +7,7 @@ use lib.ListN.{length}
 use Rattle.octets.specs.declared.cause.Cause.{Cause}
 use Rattle.octets.specs.Numbers.{Octets}
 use Rattle.table.specs.Syntax.{Table}
-use Rattle.table.specs.Entries.{tableIn, Filled}
+use Rattle.table.specs.Reading.{tableIn, countIn}
 use Rattle.table.specs.Passes.{Passes}
 use Rattle.table.specs.Verdict.{verdict}
 use Rattle.table.specs.declared.Verdict.{Verdict}
@@ -28,19 +28,19 @@ module _ (b : List ℕ) (x : Verdict) (is : x ≡ verdict b) where
   unfolding afterCheck
   out-table buf f k p e = let q : verdict b ≡ Refused k p = sym is ∙ e in (rw q, rw q)
 
-  -- or passes: its index is filled, and what follows is by its records
+  -- or passes: what the check fills counts its records, and what follows is by these
   module _ (e : x ≡ Passed) where
     passed : verdict b ≡ Passed
     passed = sym is ∙ e
 
-    module _ (index : List ℕ) (n : ℕ) (fill : length b ≤ 8192 → Filled b index n) where
-      filled : Filled b index n
+    module _ {Filled : Type 0} (n : ℕ) (fill : length b ≤ 8192 → Filled) (count : Filled → n ≡ countIn b) where
+      filled : Filled
       filled = fill (passed-short b passed)
 
-      pub table-ready : Octets b → Filled b index n × Passes b (tableIn b) n
-      table-ready o = (filled, rw (filled .count) (passes b o passed))
+      pub table-ready : Octets b → Filled × Passes b (tableIn b) n
+      table-ready o = (filled, rw (count filled) (passes b o passed))
 
       pub out-passed : (buf : List ℕ) (f : Table → ℕ → Outcome) (r : Told) (w : List ℕ) → Says (f (tableIn b) n) r w
           → Says (afterCheck b buf f (verdict b)) r w
       unfolding afterCheck
-      out-passed buf f r w s = let q = passed in let y = rw (filled .count) at s in (rw q (y .0), rw q (y .1))
+      out-passed buf f r w s = let q = passed in let y = rw (count filled) at s in (rw q (y .0), rw q (y .1))

@@ -3,7 +3,7 @@
 use borrow.Author.Tests.{leb-true, le-leb, ne-eqb, not-false}
 use mathlib.Core.Bool.{true, false, true≢false, false≢true}
 use mathlib.Core.List.{List, [], _∷_}
-use mathlib.Core.Path.{_≡_, refl, _∙_}
+use mathlib.Core.Path.{_≡_, refl, sym, subst, _∙_}
 use native.Mathlib.Omega.{arith}
 use Prim.Native.Nat.{ℕ, suc}
 use lib.Dec.{leb}
@@ -18,10 +18,12 @@ use Rattle.x690.specs.Integer.{negative, pile, integerOf, minimal, fewestOf}
 use Rattle.x690.specs.BitString.{unused}
 use Rattle.x690.proofs.Integers.{fewest-written, integer-fits}
 use Rattle.x690.proofs.BitString.{masked-masked, masked-unused, masked-octets}
-use Rattle.table.specs.Syntax.{Simple, Boolean, Integer, BitString, OctetString, Null, Enumerated}
-use Rattle.coding.specs.Value.{Leaf, enumerated}
-use Rattle.coding.specs.Content.{listed, Content, c-boolean, c-integer, c-bits, c-string, c-null, c-enumerated}
-use Rattle.coding.specs.Typed.{TypedLeaf, l-boolean, l-integer, l-bits, l-string, l-null, l-enumerated}
+use Rattle.x690.specs.Time.{timeOf, isTime}
+use Rattle.x690.proofs.Times.{time-read-back, time-complete, time-sound}
+use Rattle.table.specs.Syntax.{Simple, Boolean, Integer, BitString, OctetString, Null, Enumerated, Time}
+use Rattle.coding.specs.Value.{Leaf, enumerated, time}
+use Rattle.coding.specs.Content.{listed, Content, c-boolean, c-integer, c-bits, c-string, c-null, c-enumerated, c-time}
+use Rattle.coding.specs.Typed.{TypedLeaf, l-boolean, l-integer, l-bits, l-string, l-null, l-enumerated, l-time}
 use Rattle.coding.specs.Form.{encode}
 use Rattle.coding.specs.Reading.{isListed, natural, decode}
 
@@ -42,6 +44,7 @@ content-complete l s (c-bits {n = n} {c = c} e) = simp (run, e)
 content-complete l s c-string = refl
 content-complete l s c-null = simp run
 content-complete l s (c-enumerated {ns = ns} {c = c} {k = k} e h z g) = rw z (simp (run, e, le-leb (length c) 8 h, g))
+content-complete l s (c-time {k = k} {t = t} e) = simp (run, time-complete k t, e, time-read-back k t)
 
 is-listed : (ns : List ℕ) (z : ℤ) → isListed ns z ≡ true → (z ≡ pos (natural z)) × (listed ns (natural z) ≡ true)
 unfolding isListed
@@ -71,6 +74,10 @@ content-sound (Enumerated ns) l c s =
     if-holds _ (λ g. refuses) λ g _.
     let q = is-listed ns (integerOf c) (not-false (isListed ns (integerOf c)) g) in
     yields (refl, c-enumerated (not-false (minimal c) e) (leb-true (length c) 8 (not-false (leb (length c) 8) h)) (q .0) (q .1))
+content-sound (Time k) l c s =
+    if-holds _ (λ e. refuses) λ e _.
+    let (r, q) = time-sound k c (not-false (isTime k c) e) in
+    yields (refl, subst (λ (d : List ℕ). Content (Time k) (time k (timeOf k c)) d) (sym q) (c-time r))
 
 pub content-typed : {k : Simple} {x : Leaf} {c : List ℕ} → AllOctets c → Content k x c → TypedLeaf k x
 content-typed o c-boolean = l-boolean
@@ -79,6 +86,7 @@ content-typed (every-cons h o) (c-bits {n = n} {c = c} e) = l-bits (masked-octet
 content-typed o c-string = l-string o
 content-typed o c-null = l-null
 content-typed o (c-enumerated {c = c} {k = k} e h z g) = l-enumerated (rw z at (integer-fits c o h)) g
+content-typed o (c-time e) = l-time e
 
 pub encode-content : {k : Simple} {x : Leaf} → TypedLeaf k x → Content k x (encode x)
 unfolding encode
@@ -93,3 +101,4 @@ encode-content l-null = c-null
 encode-content (l-enumerated {k = k} f g) =
     let w = fewest-written (pos k) f in
     c-enumerated {c = fewestOf (pos k)} (w .is-minimal) (w .few) (w .back) g
+encode-content (l-time e) = c-time e

@@ -1,5 +1,5 @@
 -- Document 01's examples in one table that one fact covers: what the definitions answer to octets, and what the lent buffer then holds.
--- The rows that the paper marks come first, then a row or more for each refusal, then strings in segments. Quoted words are sections of docs/FORMATS.md.
+-- The rows that the paper marks come first, then a row or more for each refusal, then strings in segments, then times; reckonings with times have a table of their own. Quoted words are sections of docs/FORMATS.md.
 -- Assumes nothing.
 use mathlib.Core.Bool.{Bool, true, false}
 use mathlib.Core.List.{List, [], _∷_, _++_}
@@ -8,11 +8,15 @@ use Prim.Native.Nat.{ℕ, suc, _/_}
 use lib.ListN.{length, drop, replicate}
 use Rattle.octets.specs.Answer.{if, then, behind, none-left}
 use Rattle.octets.specs.Lists.{any, all, joined, tabulate, lowestFrom, same}
+use Rattle.dates.specs.Calendar.{leap, february, monthDays, years, isDate, isTimeOfDay, inRange}
+use Rattle.dates.specs.Seconds.{sum, yearDays, dayNumber, secondsOf, elapsed, ordered, fields, order}
+use Rattle.dates.specs.Own.{timeOctets, timeAt}
 use Rattle.x690.specs.Identifier.{leading, following, identifier}
 use Rattle.x690.specs.Length.{unsigned, digits, lengthOctets}
 use Rattle.x690.specs.Item.{item}
 use Rattle.x690.specs.Integer.{negative, pile, integerOf, spare, minimal, eight, fewest}
 use Rattle.x690.specs.BitString.{unused, masked}
+use Rattle.x690.specs.Time.{twoDigits, yearDigits, laterDigits, timeDigits, spelled, timeOf, isTime}
 use Rattle.x690.specs.Reading.{readFollowing, readIdentifier, fit, readLong, readLength, atEnd, readHeader, inside, readConstructed, contents, readPrimitive}
 use Rattle.x690.specs.Segments.{segmentTag, inParts, empty, join, inForm, whole, readJoined, readSegment, readCarried}
 use Rattle.table.specs.Syntax.{references, isChoice, universal, constructed}
@@ -27,14 +31,19 @@ use Rattle.coding.specs.Content.{listed, segmented}
 use Rattle.coding.specs.Tags.{identifierOf, last, before, explicitTags, ownTag, explicit}
 use Rattle.coding.specs.Encodes.{allowed}
 use Rattle.coding.specs.Form.{encode, element, alternatives, formMembers, formElements, formBody, wrap, formAt}
-use Rattle.coding.specs.Judging.{need, flags, ownMembers, ownCount, ownBoolean, ownInteger, ownString, ownBits, ownEnumerated, ownChoice}
+use Rattle.coding.specs.Judging.{need, flags, ownMembers, ownCount, ownBoolean, ownInteger, ownString, ownBits, ownEnumerated, ownTime, ownChoice}
 use Rattle.coding.specs.Judging.{readOwn, readNode, leafKind, nodeKind, numbers, leafAgrees, agreeing, counts, agrees, judgeMembers}
 use Rattle.coding.specs.Judging.{judgeElements, judgeBelow, judgeValue, judgeWhole}
 use Rattle.coding.specs.Awaited.{beginsBody, beginsItem, beginsIn, begins}
 use Rattle.coding.specs.Reading.{isListed, decode, passes, begun, notAwaited, nothing, full, unwanted, readWrapped, readSequence, placeMember}
 use Rattle.coding.specs.Reading.{readSet, readMany, choose, readBody, readKind, readValue, readMessage}
 use Rattle.coding.specs.Calls.{afterReading, readOutcome, afterJudging, writeOutcome, afterCheck, wholeWrite, wholeRead, checkAnswer}
-use Rattle.coding.specs.Outcome.{Outcome, Told, done, refusal, numberOf, placeOf}
+use Rattle.coding.specs.Reckoning.{childless, isWhole, isLone, given, reckonedBy, wholeOrder, wholeSeconds}
+use Rattle.coding.specs.declared.Reckoned.{Reckoned}
+use Rattle.coding.specs.declared.Reckoned.the-variants.{Is, Refused}
+use Rattle.octets.specs.declared.cause.Cause.the-variants.{ValueShape, IllTyped}
+use lib.IntN.{pos, negsuc}
+use Rattle.coding.specs.Outcome.{of-value, Outcome, Told, done, refusal, numberOf, placeOf}
 
 -- at most 64 octets as one hexadecimal number; the first is not 00
 abbrev hex : ℕ → List ℕ
@@ -61,6 +70,13 @@ T = hex 0x54_59_03_01_00_00_03
 
 abbrev O : List ℕ
 O = hex 0x54_59_04_01_00_00_04
+
+-- a UTCTime and a GeneralizedTime
+abbrev U : List ℕ
+U = hex 0x54_59_17_01_00_00_17
+
+abbrev G : List ℕ
+G = hex 0x54_59_18_01_00_00_18
 
 -- a list of a CHOICE without tags of this list and an OCTET STRING
 abbrev tree : List ℕ
@@ -260,18 +276,81 @@ examples =
     -- the other kinds have none
     ∷ reads B 0 (hex 0x21_03_04_01_FF) (no 24 0)
     ∷ reads (hex 0x54_59_05_01_00_00_05) 0 (hex 0x25_00) (no 24 0)
+    -- "Times": each kind both ways; the last second of 99, and 29 February of 00 and of 2000
+    ∷ reads U 0 (hex 0x17_0D_39_39_31_32_33_31_32_33_35_39_35_39_5A) (ok (hex 0x56_41_17_00_63_0C_1F_17_3B_3B))
+    ∷ writes U 0 (hex 0x56_41_17_00_63_0C_1F_17_3B_3B) (ok (hex 0x17_0D_39_39_31_32_33_31_32_33_35_39_35_39_5A))
+    ∷ reads U 0 (hex 0x17_0D_30_30_30_32_32_39_30_30_30_30_30_30_5A) (ok (hex 0x56_41_17_00_00_02_1D_00_00_00))
+    ∷ reads G 0 (hex 0x18_0F_32_30_30_30_30_32_32_39_30_30_30_30_30_30_5A) (ok (hex 0x56_41_18_07_D0_02_1D_00_00_00))
+    ∷ writes G 0 (hex 0x56_41_18_07_D0_02_1D_00_00_00) (ok (hex 0x18_0F_32_30_30_30_30_32_32_39_30_30_30_30_30_30_5A))
+    -- 25: 29 February of 1900; second 60, hour 24, month 0; a lower-case z, no Z, a year of five digits
+    ∷ reads G 0 (hex 0x18_0F_31_39_30_30_30_32_32_39_30_30_30_30_30_30_5A) (no 25 0)
+    ∷ reads U 0 (hex 0x17_0D_39_39_30_31_30_31_30_30_30_30_36_30_5A) (no 25 0)
+    ∷ reads U 0 (hex 0x17_0D_39_39_30_31_30_31_32_34_30_30_30_30_5A) (no 25 0)
+    ∷ reads U 0 (hex 0x17_0D_39_39_30_30_30_31_30_30_30_30_30_30_5A) (no 25 0)
+    ∷ reads U 0 (hex 0x17_0D_39_39_31_32_33_31_32_33_35_39_35_39_7A) (no 25 0)
+    ∷ reads U 0 (hex 0x17_0C_39_39_31_32_33_31_32_33_35_39_35_39) (no 25 0)
+    ∷ reads G 0 (hex 0x18_10_31_30_30_30_30_30_31_30_31_30_30_30_30_30_30_5A) (no 25 0)
+    -- 24: the constructed form
+    ∷ reads U 0 (hex 0x37_0D_39_39_31_32_33_31_32_33_35_39_35_39_5A) (no 24 0)
+    ∷ reads G 0 (hex 0x38_80) (no 24 0)
+    -- 11 out of range, whatever kind is due, and then 12
+    ∷ writes I 0 (hex 0x56_41_17_00_64_01_01_00_00_00) (no 11 0)
+    ∷ writes I 0 (hex 0x56_41_17_00_63_01_01_00_00_00) (no 12 0)
+    ∷ writes U 0 (hex 0x56_41_18_07_D0_01_01_00_00_00) (no 12 0)
+    ∷ writes G 0 (hex 0x56_41_18_27_10_01_01_00_00_00) (no 11 0)
+    ∷ writes G 0 (hex 0x56_41_18_07_D0_01_01_00_00) (no 11 0)
+    -- 3: the UNIVERSAL number of the other
+    ∷ checks (hex 0x54_59_17_01_00_00_18) (no 3 0)
     ∷ []
 
 -- every row comes out as it is said
 pub examples-right : wrong 0 examples ≡ []
 unfolding if then behind none-left any all joined tabulate lowestFrom same leading following identifier unsigned digits lengthOctets item negative pile
-    integerOf spare minimal eight fewest unused masked readFollowing readIdentifier fit readLong readLength atEnd readHeader inside readConstructed
+    integerOf spare minimal eight fewest unused masked twoDigits yearDigits laterDigits timeDigits spelled timeOf isTime leap february monthDays years isDate isTimeOfDay inRange timeOctets timeAt readFollowing readIdentifier fit readLong readLength atEnd readHeader inside readConstructed
     contents readPrimitive segmentTag inParts empty join inForm whole readJoined readSegment readCarried references isChoice universal constructed kind rising bodyBelow tagsBelow siblings runsOn members tagsAt numbersAt membersAt everyAt
     bodyAt recordAt countedEnd enumeratedEnd membersEnd ownEnd recordEnd scanFrom scan look round rounds found dangling wrongTags reachStep circular
     sameTag tagBegins firstStep firstOfBoth share reached pair sharing finiteBody finiteStep infinite judgeChoices judge verdict slots bag leafOctets count
     presence octets listed segmented identifierOf last before explicitTags ownTag explicit allowed encode element alternatives formMembers formElements formBody
-    wrap formAt need flags ownMembers ownCount ownBoolean ownInteger ownString ownBits ownEnumerated ownChoice readOwn readNode leafKind nodeKind
+    wrap formAt need flags ownMembers ownCount ownBoolean ownInteger ownString ownBits ownEnumerated ownTime ownChoice readOwn readNode leafKind nodeKind
     numbers leafAgrees agreeing counts agrees judgeMembers judgeElements judgeBelow judgeValue judgeWhole beginsBody beginsItem beginsIn begins
     isListed decode passes begun notAwaited nothing full unwanted readWrapped readSequence placeMember readSet readMany choose readBody readKind readValue
     readMessage afterReading readOutcome afterJudging writeOutcome afterCheck wholeWrite wholeRead checkAnswer
 examples-right = refl
+
+-- "Times": midnight of 1 January and of 1 March of the year 0, as GeneralizedTimes; the first as a UTCTime
+abbrev january : List ℕ
+january = hex 0x56_41_18_00_00_01_01_00_00_00
+
+abbrev march : List ℕ
+march = hex 0x56_41_18_00_00_03_01_00_00_00
+
+abbrev utc : List ℕ
+utc = hex 0x56_41_17_00_00_01_01_00_00_00
+
+abbrev eleven : Reckoned
+eleven = Refused (of-value ValueShape 0)
+
+abbrev twelve : Reckoned
+twelve = Refused (of-value IllTyped 0)
+
+-- the order of two, and the seconds from the first to the second; 11 before 12, and the first before the second
+pub reckonings-right :
+    (wholeOrder january march ≡ Is (negsuc 0))
+    × (wholeOrder january january ≡ Is (pos 0))
+    × (wholeOrder march january ≡ Is (pos 1))
+    × (wholeSeconds january march ≡ Is (pos 5184000))
+    × (wholeSeconds march january ≡ Is (negsuc 5183999))
+    × (wholeSeconds utc [] ≡ twelve)
+    × (wholeSeconds [] utc ≡ eleven)
+    × (wholeSeconds january utc ≡ twelve)
+    × (wholeSeconds january (march ++ (0 ∷ [])) ≡ eleven)
+    -- an empty list and a SEQUENCE with no member present are nodes of another kind
+    × (wholeOrder (hex 0x56_41_30_00_00) march ≡ twelve)
+    × (wholeOrder (hex 0x56_41_10_02_00_00) march ≡ twelve)
+    × (wholeOrder (hex 0x56_41_30_00_01) march ≡ eleven)
+    × (wholeOrder (hex 0x56_41_10_02_00_01 ++ january) march ≡ eleven)
+    × (wholeOrder (hex 0x56_41_32_00 ++ january) march ≡ eleven)
+unfolding if then none-left any all same digits negative pile integerOf unused masked leap february monthDays years isDate isTimeOfDay inRange timeOctets timeAt
+    sum yearDays dayNumber secondsOf elapsed ordered fields order need flags ownMembers ownCount ownTime ownChoice readOwn readNode childless isWhole isLone
+    given reckonedBy
+reckonings-right = (refl, refl, refl, refl, refl, refl, refl, refl, refl, refl, refl, refl, refl, refl)

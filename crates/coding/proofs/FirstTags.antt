@@ -19,7 +19,8 @@ use Rattle.x690.proofs.Identifiers.{identifier-complete, identifier-tag, identi
 use Rattle.x690.specs.Segments.{Kind, inParts, inEither}
 use Rattle.x690.proofs.Items.{Readable}
 use Rattle.x690.proofs.Segments.{Heading, as-whole, as-parts, parts-identifier}
-use Rattle.table.specs.Syntax.{Tag, Member, Simple, Boolean, Integer, BitString, OctetString, Null, Enumerated, Body, Plain, Sequence, Set}
+use Rattle.dates.specs.declared.TimeKind.the-variants.{Utc, Generalized}
+use Rattle.table.specs.Syntax.{Tag, Member, Simple, Boolean, Integer, BitString, OctetString, Null, Enumerated, Time, Body, Plain, Sequence, Set}
 use Rattle.table.specs.Syntax.{SequenceOf, SetOf, Choice, Record, Table, absent, references, isChoice, universal, constructed}
 use Rattle.table.specs.Rules.{Mistagged, missing, not-last, not-its-number, on-choice, bodyBelow, tagsBelow, below, First, outermost, inside, siblings, runsOn, Sharing}
 use Rattle.table.specs.Passes.{Nested, Passes}
@@ -217,6 +218,8 @@ simple-some BitString e = omega arith
 simple-some OctetString e = omega arith
 simple-some Null e = omega arith
 simple-some (Enumerated ns) e = omega arith
+simple-some (Time Utc) e = omega arith
+simple-some (Time Generalized) e = omega arith
 
 universal-some : (b : Body) → isChoice b ≡ false → universal b ≡ 0 → ⊥
 unfolding universal isChoice

@@ -16,13 +16,14 @@ use Rattle.octets.specs.Permutations.{Every, every-nil, every-cons, AllOctets}
 use Rattle.octets.proofs.Answer.{run, Holds, yields, refuses, if-holds, then-holds, map-holds, none-there}
 use Rattle.octets.proofs.Permutations.{every-right}
 use Rattle.octets.proofs.Tests.{and-left, and-right}
-use Rattle.table.specs.Syntax.{Member, Simple, Boolean, Integer, BitString, OctetString, Null, Enumerated, Body, Plain, Sequence, Set, SequenceOf, SetOf, Choice, Table}
+use Rattle.dates.specs.declared.TimeKind.the-variants.{Utc, Generalized}
+use Rattle.table.specs.Syntax.{Member, Simple, Boolean, Integer, BitString, OctetString, Null, Enumerated, Time, Body, Plain, Sequence, Set, SequenceOf, SetOf, Choice, Table}
 use Rattle.table.specs.Octets.{kind}
 use Rattle.table.specs.Rules.{members}
-use Rattle.coding.specs.Value.{Leaf, boolean, integer, bits, string, null, enumerated, Value, leaf, sequence, set, sequenceOf, setOf, choice}
+use Rattle.coding.specs.Value.{Leaf, boolean, integer, bits, string, null, enumerated, time, Value, leaf, sequence, set, sequenceOf, setOf, choice}
 use Rattle.coding.specs.Value.{Slots, end, missing, present, slots, bag, leafOctets, count, presence, octets, slotOctets}
 use Rattle.coding.specs.Content.{listed}
-use Rattle.coding.specs.Typed.{TypedLeaf, l-boolean, l-integer, l-bits, l-string, l-null, l-enumerated, MembersTyped, f-done, f-left, f-sent, Typed}
+use Rattle.coding.specs.Typed.{TypedLeaf, l-boolean, l-integer, l-bits, l-string, l-null, l-enumerated, l-time, MembersTyped, f-done, f-left, f-sent, Typed}
 use Rattle.coding.specs.Typed.{t-plain, t-sequence, t-set, t-sequence-of, t-set-of, t-choice, WellTypedAt}
 use Rattle.coding.specs.Encodes.{allowed, At, first, later}
 use Rattle.coding.specs.Form.{element, alternatives}
@@ -45,11 +46,13 @@ Is k b =
     (choose (eqb k 4) (b ≡ Plain OctetString)
     (choose (eqb k 5) (b ≡ Plain Null)
     (choose (eqb k 10) ((x : List ℕ) × (b ≡ Plain (Enumerated x)))
+    (choose (eqb k 23) (b ≡ Plain (Time Utc))
+    (choose (eqb k 24) (b ≡ Plain (Time Generalized))
     (choose (eqb k 16) ((x : List Member) × (b ≡ Sequence x))
     (choose (eqb k 17) ((x : List Member) × (b ≡ Set x))
     (choose (eqb k 48) ((x : ℕ) × (b ≡ SequenceOf x))
     (choose (eqb k 49) ((x : ℕ) × (b ≡ SetOf x))
-    ((x : List ℕ) × (b ≡ Choice x)))))))))))
+    ((x : List ℕ) × (b ≡ Choice x)))))))))))))
 
 is : (b : Body) → Is (kind b) b
 unfolding kind
@@ -59,6 +62,8 @@ is (Plain BitString) = refl
 is (Plain OctetString) = refl
 is (Plain Null) = refl
 is (Plain (Enumerated x)) = (x, refl)
+is (Plain (Time Utc)) = refl
+is (Plain (Time Generalized)) = refl
 is (Sequence x) = (x, refl)
 is (Set x) = (x, refl)
 is (SequenceOf x) = (x, refl)
@@ -68,7 +73,7 @@ is (Choice x) = (x, refl)
 of-kind : (b : Body) (k : ℕ) → eqb k (kind b) ≡ true → Is k b
 of-kind b k e = subst (λ (j : ℕ). Is j b) (sym (eqb-true k (kind b) e)) (is b)
 
-leaf-octets : (x : Leaf) → leafOctets x ≡ nodeOctets (a-leaf x)
+pub leaf-octets : (x : Leaf) → leafOctets x ≡ nodeOctets (a-leaf x)
 unfolding leafOctets nodeKind leafKind nodeOwn leafOwn
 leaf-octets (boolean b) = refl
 leaf-octets (integer z) = refl
@@ -76,6 +81,7 @@ leaf-octets (bits n c) = refl
 leaf-octets (string c) = refl
 leaf-octets null = refl
 leaf-octets (enumerated k) = refl
+leaf-octets (time k t) = refl
 
 at-place : (ts : List ℕ) (i : ℕ) → i < length ts → At (getD ts i 0) ts i
 at-place [] i h = absurd (omega arith)
@@ -96,6 +102,8 @@ leaf-typed b null e a h = (Null, of-kind b 5 e, l-null)
 leaf-typed b (enumerated k) e a h =
     let (ns, q) = of-kind b 10 e in
     (Enumerated ns, q, l-enumerated {k = k} (record { sfits = omega arith }) (listed-in b ns k q a))
+leaf-typed b (time Utc t) e a h = (Time Utc, of-kind b 23 e, l-time h)
+leaf-typed b (time Generalized t) e a h = (Time Generalized, of-kind b 24 e, l-time h)
 
 -- what is judged stood there
 
@@ -325,6 +333,8 @@ leaf-agrees (l-bits o u m) = refl
 leaf-agrees (l-string o) = refl
 leaf-agrees l-null = refl
 leaf-agrees (l-enumerated f g) = g
+leaf-agrees (l-time {k = Utc} e) = refl
+leaf-agrees (l-time {k = Generalized} e) = refl
 
 sequence-octets : (k : ℕ) (p : Slots) (s : List ℕ)
     → (0x56 ∷ 0x41 ∷ k ∷ count p ∷ (presence p ++ slotOctets p)) ++ s ≡ (0x56 ∷ 0x41 ∷ k ∷ length (presentOf p) ∷ flagsOf (presentOf p)) ++ (slotOctets p ++ s)

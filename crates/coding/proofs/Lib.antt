@@ -20,3 +20,4 @@ pub mod Judging
 pub mod Shape
 pub mod Shaped
 pub mod Awaited
+pub mod Reckoning

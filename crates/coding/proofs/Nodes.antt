@@ -8,7 +8,7 @@ use native.Mathlib.Nat.{div-add-mod'}
 use native.Mathlib.Omega.{arith}
 use Prim.Native.Nat.{ℕ, zero, suc, _+_, _-_, _*_, _/_, _%_, _≤_, _<_}
 use lib.Dec.{ltb, leb, eqb}
-use lib.ListN.{length, take, drop, length-append, take-append-drop}
+use lib.ListN.{length, getD, take, drop, length-append, take-append-drop}
 use lib.Seq.{length-take-le, take-append-seam, drop-append-seam}
 use Rattle.octets.specs.Answer.{Answer, got, if}
 use Rattle.octets.specs.Lists.{all, same}
@@ -16,14 +16,20 @@ use Rattle.octets.specs.Numbers.{two, octetsOf}
 use Rattle.octets.specs.Permutations.{every-cons, AllOctets}
 use Rattle.octets.proofs.Answer.{run, Holds, yields, refuses, if-holds, map-holds}
 use Rattle.octets.proofs.Permutations.{every-left}
-use Rattle.octets.proofs.Lists.{same-refl, same-true}
+use Rattle.octets.proofs.Lists.{same-refl, same-true, drop-one, drop-two}
 use Rattle.octets.proofs.Tests.{and-left, and-right}
 use Rattle.x690.specs.Integer.{integerOf, eight, eightOf}
 use Rattle.x690.specs.BitString.{unused, masked}
 use Rattle.x690.proofs.Integers.{eight-back, eight-same, integer-fits}
-use Rattle.coding.specs.Value.{Leaf, boolean, integer, bits, string, null, enumerated, flag, bitCount}
+use Rattle.dates.specs.declared.TimeKind.{TimeKind}
+use Rattle.dates.specs.declared.TimeKind.the-variants.{Utc, Generalized}
+use Rattle.dates.specs.declared.DateTime.{DateTime}
+use Rattle.dates.specs.Calendar.{inRange}
+use Rattle.dates.specs.Own.{timeOctets, timeAt}
+use Rattle.dates.proofs.TimeOctets.{time-back}
+use Rattle.coding.specs.Value.{Leaf, boolean, integer, bits, string, null, enumerated, time, flag, bitCount, timeNumber}
 use Rattle.coding.specs.Judging.{Node, a-leaf, a-sequence, a-set, a-sequence-of, a-set-of, a-choice, need, flags, ownMembers, ownCount}
-use Rattle.coding.specs.Judging.{ownBoolean, ownInteger, ownString, ownBits, ownEnumerated, ownChoice, readOwn, readNode, leafKind, nodeKind}
+use Rattle.coding.specs.Judging.{ownBoolean, ownInteger, ownString, ownBits, ownEnumerated, ownTime, ownChoice, readOwn, readNode, leafKind, nodeKind}
 use Rattle.coding.specs.Shaped.{LeafShaped}
 
 -- the own octets of a node, behind the mark and the kind
@@ -38,6 +44,7 @@ leafOwn (bits n c) = octetsOf (bitCount n c) ++ c
 leafOwn (string c) = octetsOf (length c) ++ c
 leafOwn null = []
 leafOwn (enumerated k) = octetsOf k
+leafOwn (time k t) = timeOctets t
 
 unfoldable pub nodeOwn : Node → List ℕ
 nodeOwn (a-leaf x) = leafOwn x
@@ -158,6 +165,10 @@ read-enumerated : (l k : ℕ) (r : List ℕ) → ownEnumerated l (octetsOf k ++ 
 unfolding ownEnumerated
 read-enumerated l k r = need-yes l 2 (octetsOf k ++ r) _ (omega arith) ∙ ap (λ (n : ℕ). got (a-leaf (enumerated n)) r) (two-back k r)
 
+read-time : (l : ℕ) (k : TimeKind) (t : DateTime) (r : List ℕ) → inRange k t ≡ true → ownTime k l (timeOctets t ++ r) ≡ got (a-leaf (time k t)) r
+unfolding ownTime timeOctets
+read-time l k t r e = need-yes l 7 (timeOctets t ++ r) _ (omega arith) ∙ simp (run, time-back t r, e)
+
 read-choice : (l i : ℕ) (r : List ℕ) → ownChoice l (i ∷ r) ≡ got (a-choice i) r
 unfolding ownChoice
 read-choice l i r = need-yes l 1 (i ∷ r) _ (omega arith)
@@ -170,6 +181,8 @@ own-leaf l (bits n c) r h = read-bits l n c r (h .1) (h .2)
 own-leaf l (string c) r h = read-string l c r
 own-leaf l null r h = refl
 own-leaf l (enumerated k) r h = read-enumerated l k r
+own-leaf l (time Utc t) r h = read-time l Utc t r h
+own-leaf l (time Generalized t) r h = read-time l Generalized t r h
 
 own-node : (l : ℕ) (x : Node) (r : List ℕ) → NodeShaped x → readOwn l (nodeKind x) (nodeOwn x ++ r) ≡ got x r
 unfolding readOwn nodeKind nodeOwn NodeShaped if
@@ -324,6 +337,21 @@ enumerated-owned l (a ∷ b ∷ s) o =
     let y = head-octet (tail-octets o) in
     yields (record { cut = sym (ap (λ (l : List ℕ). l ++ s) (octets-back a b y)); kind = refl; shaped = omega arith })
 
+seven : (s : List ℕ) → 7 ≤ length s
+    → s ≡ getD s 0 0 ∷ getD s 1 0 ∷ getD s 2 0 ∷ getD s 3 0 ∷ getD s 4 0 ∷ getD s 5 0 ∷ getD s 6 0 ∷ drop 7 s
+seven s h = drop-two s 0 (omega arith) ∙ rw (drop-two s 2 (omega arith), drop-two s 4 (omega arith), drop-one s 6 (omega arith))
+
+time-owned : (k : TimeKind) (l : ℕ) (s : List ℕ) → AllOctets s → Holds (Owned (timeNumber k) s) (ownTime k l s)
+unfolding ownTime nodeOwn leafOwn nodeKind leafKind NodeShaped LeafShaped timeAt timeOctets
+time-owned k l [] o = need-holds l 7 [] (λ h. absurd (omega arith))
+time-owned k l (a ∷ []) o = need-holds l 7 (a ∷ []) (λ h. absurd (omega arith))
+time-owned k l (a ∷ b ∷ s) o =
+    need-holds l 7 (a ∷ b ∷ s) λ h _.
+    if-holds _ (λ e. refuses) λ e _.
+    let q = octets-back a b (head-octet (tail-octets o)) in
+    let u = getD s 0 0 ∷ getD s 1 0 ∷ getD s 2 0 ∷ getD s 3 0 ∷ getD s 4 0 ∷ drop 5 s in
+    yields (record { cut = seven (a ∷ b ∷ s) h ∙ sym (ap (λ (x : List ℕ). x ++ u) q); kind = refl; shaped = not-false _ e })
+
 choice-owned : (l : ℕ) (s : List ℕ) → AllOctets s → Holds (Owned 50 s) (ownChoice l s)
 unfolding ownChoice nodeOwn nodeKind NodeShaped
 choice-owned l [] o = need-holds l 1 [] (λ h. absurd (omega arith))
@@ -345,6 +373,8 @@ own-sound l k s o =
     if-holds _ (λ e. of-kind e (string-owned l s o)) λ _ _.
     if-holds _ (λ e. of-kind e (null-owned s)) λ _ _.
     if-holds _ (λ e. of-kind e (enumerated-owned l s o)) λ _ _.
+    if-holds _ (λ e. of-kind e (time-owned Utc l s o)) λ _ _.
+    if-holds _ (λ e. of-kind e (time-owned Generalized l s o)) λ _ _.
     if-holds _ (λ e. of-kind e (members-owned 16 l a-sequence (λ bs. refl) (λ bs. refl) (λ bs h. h) s o)) λ _ _.
     if-holds _ (λ e. of-kind e (members-owned 17 l a-set (λ bs. refl) (λ bs. refl) (λ bs h. h) s o)) λ _ _.
     if-holds _ (λ e. of-kind e (count-owned 48 l a-sequence-of (λ n. refl) (λ n. refl) (λ n h. h) s o)) λ _ _.

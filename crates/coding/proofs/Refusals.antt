@@ -23,14 +23,14 @@ use Rattle.x690.proofs.Identifiers.{identifier-sound}
 use Rattle.x690.proofs.Lengths.{Shape, is-definite, is-indefinite}
 use Rattle.x690.proofs.Items.{Ends, no-more, mark, atEnd-holds, header-sound, primitive-sound}
 use Rattle.x690.proofs.Segments.{segment-shorter}
-use Rattle.table.specs.Syntax.{Member, Simple, Boolean, Integer, BitString, OctetString, Null, Enumerated, Body, Plain, Sequence, Set, SequenceOf, SetOf, Choice, Table}
+use Rattle.table.specs.Syntax.{Member, Simple, Boolean, Integer, BitString, OctetString, Null, Enumerated, Time, Body, Plain, Sequence, Set, SequenceOf, SetOf, Choice, Table}
 use Rattle.coding.specs.Value.{Value, octets}
 use Rattle.coding.specs.Reading.{decode, notAwaited, unwanted, nothing, readWrapped, readSequence, placeMember, readSet, readMany, choose, readBody, readKind, readValue, readMessage}
 use Rattle.coding.specs.Content.{segmented}
 use Rattle.coding.specs.Tags.{ownTag, explicit}
 use Rattle.coding.specs.Encodes.{Coding, Codes, is-plain, is-sequence, is-set, is-sequence-of, is-set-of, is-choice, Wrapped, bare, tagged, EncodesAt}
 use Rattle.coding.specs.Judging.{Node, a-leaf, a-sequence, a-set, a-sequence-of, a-set-of, a-choice, need, ownMembers, ownCount, ownBoolean}
-use Rattle.coding.specs.Judging.{ownInteger, ownString, ownBits, ownEnumerated, ownChoice, readOwn, readNode, judgeMembers, judgeElements}
+use Rattle.coding.specs.Judging.{ownInteger, ownString, ownBits, ownEnumerated, ownTime, ownChoice, readOwn, readNode, judgeMembers, judgeElements}
 use Rattle.coding.specs.Judging.{judgeBelow, judgeValue, judgeWhole}
 use Rattle.coding.proofs.Sound.{wrapped-sound, kind-sound, value-sound, not-awaited}
 use Rattle.coding.proofs.Nodes.{nodeOctets, node-sound}
@@ -227,6 +227,7 @@ decode-says n OctetString l c s h = answers
 decode-says n Null l c s h = if-speaks _ (λ e. names is-25 h) λ e _. answers
 decode-says n (Enumerated ns) l c s h =
     if-speaks _ (λ e. names is-25 h) λ e _. if-speaks _ (λ e. names is-25 h) λ e _. if-speaks _ (λ e. names is-25 h) λ e _. answers
+decode-says n (Time k) l c s h = if-speaks _ (λ e. names is-25 h) λ e _. answers
 
 ends-shorter : {mode : Mode} {t r : List ℕ} → Ends mode t r → length r ≤ length t
 ends-shorter no-more = omega arith
@@ -419,7 +420,7 @@ unfolding need
 need-says n l k s h f = if-speaks _ (λ e. names is-11 h) λ e. f
 
 own-says : (n l k : ℕ) (s : List ℕ) → l ≤ n → Speaks OfValue n (readOwn l k s)
-unfolding readOwn ownBoolean ownInteger ownBits ownString ownEnumerated ownMembers ownCount ownChoice
+unfolding readOwn ownBoolean ownInteger ownBits ownString ownEnumerated ownTime ownMembers ownCount ownChoice
 own-says n l k s h =
     if-speaks _ (λ e. need-says n l _ _ h λ _. if-speaks _ (λ f. names is-11 h) λ f _. answers) λ _ _.
     if-speaks _ (λ e. need-says n l _ _ h λ _. answers) λ _ _.
@@ -427,6 +428,8 @@ own-says n l k s h =
     if-speaks _ (λ e. need-says n l _ _ h λ _. need-says n l _ _ h λ _. answers) λ _ _.
     if-speaks _ (λ e. answers) λ _ _.
     if-speaks _ (λ e. need-says n l _ _ h λ _. answers) λ _ _.
+    if-speaks _ (λ e. need-says n l _ _ h λ _. if-speaks _ (λ f. names is-11 h) λ f _. answers) λ _ _.
+    if-speaks _ (λ e. need-says n l _ _ h λ _. if-speaks _ (λ f. names is-11 h) λ f _. answers) λ _ _.
     if-speaks _ (λ e. need-says n l _ _ h λ _. need-says n l _ _ h λ _. if-speaks _ (λ f. names is-11 h) λ f _. answers) λ _ _.
     if-speaks _ (λ e. need-says n l _ _ h λ _. need-says n l _ _ h λ _. if-speaks _ (λ f. names is-11 h) λ f _. answers) λ _ _.
     if-speaks _ (λ e. need-says n l _ _ h λ _. answers) λ _ _.

@@ -16,13 +16,14 @@ use Rattle.octets.specs.Lists.{any}
 use Rattle.octets.specs.Permutations.{Every, every-nil, every-cons, AllOctets}
 use Rattle.octets.proofs.Answer.{none-there, run, Holds, yields, refuses, if-holds, then-holds, map-holds, got-holds, got-value}
 use Rattle.octets.proofs.Permutations.{every-right, all-octets}
-use Rattle.table.specs.Syntax.{Member, Simple, Boolean, Integer, BitString, OctetString, Null, Enumerated, Body, Plain, Sequence, Set, SequenceOf, SetOf, Choice}
+use Rattle.dates.specs.declared.TimeKind.the-variants.{Utc, Generalized}
+use Rattle.table.specs.Syntax.{Member, Simple, Boolean, Integer, BitString, OctetString, Null, Enumerated, Time, Body, Plain, Sequence, Set, SequenceOf, SetOf, Choice}
 use Rattle.table.specs.Octets.{kind}
 use Rattle.table.specs.Rules.{members}
-use Rattle.coding.specs.Value.{Leaf, boolean, integer, bits, string, null, enumerated, Value, leaf, sequence, set, sequenceOf, setOf, choice}
+use Rattle.coding.specs.Value.{Leaf, boolean, integer, bits, string, null, enumerated, time, Value, leaf, sequence, set, sequenceOf, setOf, choice}
 use Rattle.coding.specs.Value.{Slots, end, missing, present, slots, bag, leafOctets, presence, octets, slotOctets, depth, depths}
 use Rattle.coding.specs.Content.{listed}
-use Rattle.coding.specs.Typed.{TypedLeaf, l-boolean, l-integer, l-bits, l-string, l-null, l-enumerated, MembersTyped, f-done, f-left, f-sent, Typed}
+use Rattle.coding.specs.Typed.{TypedLeaf, l-boolean, l-integer, l-bits, l-string, l-null, l-enumerated, l-time, MembersTyped, f-done, f-left, f-sent, Typed}
 use Rattle.coding.specs.Typed.{t-plain, t-sequence, t-set, t-sequence-of, t-set-of, t-choice}
 use Rattle.coding.specs.Encodes.{allowed, At, first, later}
 use Rattle.coding.specs.Form.{alternatives}
@@ -44,6 +45,7 @@ anySimple (bits n c) = BitString
 anySimple (string c) = OctetString
 anySimple null = Null
 anySimple (enumerated k) = Enumerated (k ∷ [])
+anySimple (time k t) = Time k
 
 unfoldable pub zeros : ℕ → List ℕ
 zeros zero = 0 ∷ []
@@ -92,6 +94,8 @@ any-leaf (bits n c) = refl
 any-leaf (string c) = refl
 any-leaf null = refl
 any-leaf (enumerated k) = simp (eq-eqb k k refl)
+any-leaf (time Utc t) = refl
+any-leaf (time Generalized t) = refl
 
 any-agrees : (x : Node) → agrees (anyBody x) x ≡ true
 unfolding anyBody agrees nodeKind kind counts members alternatives
@@ -118,6 +122,7 @@ leaf-any (bits n c) h = l-bits (h .0) (h .1) (h .2)
 leaf-any (string c) h = l-string (h .0)
 leaf-any null h = l-null
 leaf-any (enumerated k) h = l-enumerated {ns = k ∷ []} {k = k} (record { sfits = omega arith }) (simp (eq-eqb k k refl))
+leaf-any (time k t) h = l-time h
 
 abbrev Low : ℕ → ℕ → Value → Type 0
 Low n t v = depth v ≤ n
@@ -175,6 +180,7 @@ leaf-some (bits n c) = omega arith
 leaf-some (string c) = omega arith
 leaf-some null = omega arith
 leaf-some (enumerated k) = omega arith
+leaf-some (time k t) = omega arith
 
 -- a tree has no more levels than octets
 mutual

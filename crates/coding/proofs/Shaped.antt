@@ -19,12 +19,12 @@ use Rattle.x690.proofs.Integers.{integer-fits}
 use Rattle.x690.proofs.BitString.{masked-masked, masked-unused, masked-octets}
 use Rattle.x690.proofs.Items.{constructed-octets, constructed-fits}
 use Rattle.x690.proofs.Segments.{carried-octets, carried-fits}
-use Rattle.table.specs.Syntax.{Member, Simple, Boolean, Integer, BitString, OctetString, Null, Enumerated, Body, Plain, Sequence, Set, SequenceOf, SetOf, Choice, Record, Table, absent}
+use Rattle.table.specs.Syntax.{Member, Simple, Boolean, Integer, BitString, OctetString, Null, Enumerated, Time, Body, Plain, Sequence, Set, SequenceOf, SetOf, Choice, Record, Table, absent}
 use Rattle.table.specs.Octets.{bodyShaped, recordShaped}
 use Rattle.table.specs.Passes.{Passes}
 use Rattle.table.proofs.Promises.{shaped-body}
 use Rattle.coding.specs.Value.{Leaf, Value, slots, bag, count}
-use Rattle.coding.specs.Content.{listed, Content, c-boolean, c-integer, c-bits, c-string, c-null, c-enumerated}
+use Rattle.coding.specs.Content.{listed, Content, c-boolean, c-integer, c-bits, c-string, c-null, c-enumerated, c-time}
 use Rattle.coding.specs.Encodes.{Coding, Pieces, done, left, sent, At, first, later, Codes, is-plain, is-sequence, is-set, is-sequence-of, is-set-of, is-choice, Wrapped, bare, tagged, EncodesAt}
 use Rattle.coding.specs.Equivalent.{Slot, Alike, same-leaf, same-sequence, same-set, same-sequence-of, same-set-of, same-choice, EquivalentAt}
 use Rattle.coding.specs.Shaped.{LeafShaped, Whole, Shaped, AllShaped}
@@ -115,6 +115,7 @@ Limited (Plain BitString) = Unit {0}
 Limited (Plain OctetString) = Unit {0}
 Limited (Plain Null) = Unit {0}
 Limited (Plain (Enumerated ns)) = (k : ℕ) → listed ns k ≡ true → k < 65536
+Limited (Plain (Time k)) = Unit {0}
 Limited (Sequence ms) = length ms < 256
 Limited (Set ms) = length ms < 256
 Limited (SequenceOf t) = Unit {0}
@@ -136,6 +137,7 @@ content-shaped l (every-cons g o) h (c-bits {n = n} {c = c} e) =
 content-shaped l o h c-string = (o, omega arith)
 content-shaped l o h c-null = tt
 content-shaped l o h (c-enumerated {k = k} e g z q) = l k q
+content-shaped l o h (c-time e) = e
 
 module _ {E : Coding} (n : ℕ) (some-octet : (t : ℕ) (v : Value) (m : List ℕ) → E t v m → 0 < length m) (f : (t : ℕ) (v : Value) (m : List ℕ) → AllOctets m → length m ≤ n → E t v m → Shaped v) where
   pieces-shaped : {ms : List Member} {os : List (Option Value)} {ps : List (List ℕ)} → Every (λ p. AllOctets p) ps → Every (λ p. length p ≤ n) ps → Pieces E ms os ps → AllShaped (slots os)
@@ -222,6 +224,7 @@ shaped-limited (Plain BitString) e f = tt
 shaped-limited (Plain OctetString) e f = tt
 shaped-limited (Plain Null) e f = tt
 shaped-limited (Plain (Enumerated ns)) e f = f ns refl
+shaped-limited (Plain (Time k)) e f = tt
 shaped-limited (Sequence ms) e f = let h = leb-true (length ms) 16 e in omega arith
 shaped-limited (Set ms) e f = let h = leb-true (length ms) 16 e in omega arith
 shaped-limited (SequenceOf t) e f = tt

@@ -8,9 +8,10 @@ use lib.IntN.{pos}
 use Rattle.octets.specs.Lists.{joined}
 use Rattle.x690.specs.Item.{item}
 use Rattle.x690.specs.Integer.{fewestOf}
+use Rattle.x690.specs.Time.{timeDigits}
 use Rattle.table.specs.Syntax.{Member, Body, Plain, Sequence, Set, SequenceOf, SetOf, Choice, Table}
 use Rattle.table.specs.Rules.{members}
-use Rattle.coding.specs.Value.{Value, leaf, sequence, set, sequenceOf, setOf, choice, Slots, end, missing, present, Leaf, boolean, integer, bits, string, null, enumerated}
+use Rattle.coding.specs.Value.{Value, leaf, sequence, set, sequenceOf, setOf, choice, Slots, end, missing, present, Leaf, boolean, integer, bits, string, null, enumerated, time}
 use Rattle.coding.specs.Tags.{ownTag, explicit}
 
 -- true is FF, unused bits are 0
@@ -25,6 +26,7 @@ encode (bits n c) = n ∷ c
 encode (string c) = c
 encode null = []
 encode (enumerated k) = fewestOf (pos k)
+encode (time k t) = timeDigits k t
 
 -- the type of the elements
 unfoldable pub element : Body → ℕ

@@ -13,10 +13,14 @@ use Rattle.octets.specs.Numbers.{two}
 use Rattle.octets.specs.Lists.{all, same}
 use Rattle.x690.specs.Integer.{integerOf}
 use Rattle.x690.specs.BitString.{masked}
-use Rattle.table.specs.Syntax.{Member, Boolean, Integer, BitString, OctetString, Null, Enumerated, Body, Plain, Sequence, Set, SequenceOf, SetOf, Choice, Table}
+use Rattle.dates.specs.declared.TimeKind.{TimeKind}
+use Rattle.dates.specs.declared.TimeKind.the-variants.{Utc, Generalized}
+use Rattle.dates.specs.Calendar.{inRange}
+use Rattle.dates.specs.Own.{timeAt}
+use Rattle.table.specs.Syntax.{Member, Boolean, Integer, BitString, OctetString, Null, Enumerated, Time, Body, Plain, Sequence, Set, SequenceOf, SetOf, Choice, Table}
 use Rattle.table.specs.Octets.{kind}
 use Rattle.table.specs.Rules.{members}
-use Rattle.coding.specs.Value.{Leaf, boolean, integer, bits, string, null, enumerated, Value, leaf, sequence, set, sequenceOf, setOf, choice, slots, bag}
+use Rattle.coding.specs.Value.{Leaf, boolean, integer, bits, string, null, enumerated, time, timeNumber, Value, leaf, sequence, set, sequenceOf, setOf, choice, slots, bag}
 use Rattle.coding.specs.Content.{listed}
 use Rattle.coding.specs.Form.{element, alternatives}
 
@@ -81,6 +85,13 @@ ownBits l s =
 unfoldable pub ownEnumerated : ℕ → List ℕ → Answer Node
 ownEnumerated l s = need l 2 s λ _. got (a-leaf (enumerated (two s 0))) (drop 2 s)
 
+-- seven octets of a time in range
+unfoldable pub ownTime : TimeKind → ℕ → List ℕ → Answer Node
+ownTime k l s =
+    need l 7 s λ _.
+    if (not (inRange k (timeAt s 0))) (refused ValueShape l) λ _.
+    got (a-leaf (time k (timeAt s 0))) (drop 7 s)
+
 unfoldable pub ownChoice : ℕ → List ℕ → Answer Node
 ownChoice l s = need l 1 s λ _. got (a-choice (getD s 0 0)) (drop 1 s)
 
@@ -93,6 +104,8 @@ readOwn l k s =
     if (eqb k 4) (ownString l s) λ _.
     if (eqb k 5) (got (a-leaf null) s) λ _.
     if (eqb k 10) (ownEnumerated l s) λ _.
+    if (eqb k 23) (ownTime Utc l s) λ _.
+    if (eqb k 24) (ownTime Generalized l s) λ _.
     if (eqb k 16) (ownMembers a-sequence l s) λ _.
     if (eqb k 17) (ownMembers a-set l s) λ _.
     if (eqb k 48) (ownCount a-sequence-of l s) λ _.
@@ -115,6 +128,7 @@ leafKind (bits n c) = 3
 leafKind (string c) = 4
 leafKind null = 5
 leafKind (enumerated k) = 10
+leafKind (time k t) = timeNumber k
 
 unfoldable pub nodeKind : Node → ℕ
 nodeKind (a-leaf x) = leafKind x
@@ -132,6 +146,7 @@ numbers (Plain BitString) = []
 numbers (Plain OctetString) = []
 numbers (Plain Null) = []
 numbers (Plain (Enumerated ns)) = ns
+numbers (Plain (Time k)) = []
 numbers (Sequence ms) = []
 numbers (Set ms) = []
 numbers (SequenceOf t) = []
@@ -145,6 +160,7 @@ leafAgrees b (bits n c) = true
 leafAgrees b (string c) = true
 leafAgrees b null = true
 leafAgrees b (enumerated k) = listed (numbers b) k
+leafAgrees b (time k t) = true
 
 -- as many as members, and the mandatory ones are present
 unfoldable pub agreeing : List Member → List Bool → Bool

@@ -15,5 +15,6 @@ pub mod Awaited
 pub mod Reading
 pub mod Outcome
 pub mod Calls
+pub mod Reckoning
 -- What the demands say.
 pub mod Demands

@@ -16,8 +16,9 @@ pub use Rattle.x690.specs.Reading.{never}
 use Rattle.x690.specs.Segments.{readCarried}
 use Rattle.x690.specs.Integer.{integerOf, minimal}
 use Rattle.x690.specs.BitString.{unused, masked}
-use Rattle.table.specs.Syntax.{Member, Body, Plain, Sequence, Set, SequenceOf, SetOf, Choice, Table, Simple, Boolean, Integer, BitString, OctetString, Null, Enumerated}
-use Rattle.coding.specs.Value.{Value, leaf, sequence, set, sequenceOf, setOf, choice, slots, bag, Leaf, boolean, integer, bits, string, null, enumerated}
+use Rattle.x690.specs.Time.{timeOf, isTime}
+use Rattle.table.specs.Syntax.{Member, Body, Plain, Sequence, Set, SequenceOf, SetOf, Choice, Table, Simple, Boolean, Integer, BitString, OctetString, Null, Enumerated, Time}
+use Rattle.coding.specs.Value.{Value, leaf, sequence, set, sequenceOf, setOf, choice, slots, bag, Leaf, boolean, integer, bits, string, null, enumerated, time}
 use Rattle.coding.specs.Content.{listed, segmented}
 use Rattle.coding.specs.Encodes.{allowed}
 use Rattle.coding.specs.Tags.{ownTag, explicit}
@@ -49,6 +50,7 @@ decode (Enumerated ns) l c s =
     if (not (leb (length c) 8)) (refused Contents l) λ _.
     if (not (isListed ns (integerOf c))) (refused Contents l) λ _.
     got (enumerated (natural (integerOf c))) s
+decode (Time k) l c s = if (not (isTime k c)) (refused Contents l) λ _. got (time k (timeOf k c)) s
 
 -- the next item begins a value of the type
 unfoldable pub begun : Table → ℕ → List ℕ → Bool

@@ -1,4 +1,4 @@
--- The trees that have octets: integers of 64 bits, spare bits 0, and counts that fit their fields (FORMATS, "Values").
+-- The trees that have octets: integers of 64 bits, spare bits 0, times in range, and counts that fit their fields (FORMATS, "Values").
 -- Assumes nothing.
 use mathlib.Core.Bool.{true}
 use mathlib.Core.Path.{_≡_}
@@ -8,7 +8,8 @@ use mir.Syntax.{w64}
 use mir.Val.{SFits}
 use Rattle.octets.specs.Permutations.{AllOctets}
 use Rattle.x690.specs.BitString.{unused, masked}
-use Rattle.coding.specs.Value.{Leaf, boolean, integer, bits, string, null, enumerated, Value, leaf, sequence, set, sequenceOf, setOf, choice, Slots, end, missing, present, count, bitCount}
+use Rattle.dates.specs.Calendar.{inRange}
+use Rattle.coding.specs.Value.{Leaf, boolean, integer, bits, string, null, enumerated, time, Value, leaf, sequence, set, sequenceOf, setOf, choice, Slots, end, missing, present, count, bitCount}
 
 -- an ENUMERATED number, a count of octets and a count of bits have two octets each
 unfoldable pub LeafShaped : Leaf → Type 0
@@ -18,6 +19,7 @@ LeafShaped (bits n c) = AllOctets c × (unused n c ≡ true) × (masked n c ≡ 
 LeafShaped (string c) = AllOctets c × (length c < 65536)
 LeafShaped null = Unit {0}
 LeafShaped (enumerated k) = k < 65536
+LeafShaped (time k t) = inRange k t ≡ true
 
 -- the elements of a list are all there
 unfoldable pub Whole : Slots → Type 0

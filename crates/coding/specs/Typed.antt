@@ -10,12 +10,15 @@ use mir.Syntax.{w64}
 use mir.Val.{SFits}
 use Rattle.octets.specs.Permutations.{Every, AllOctets}
 use Rattle.x690.specs.BitString.{unused, masked}
-use Rattle.table.specs.Syntax.{Member, Simple, Body, Plain, Sequence, Set, SequenceOf, SetOf, Choice, Table, Boolean, Integer, BitString, OctetString, Null, Enumerated}
-use Rattle.coding.specs.Value.{Leaf, Value, leaf, sequence, set, sequenceOf, setOf, choice, slots, bag, boolean, integer, bits, string, null, enumerated}
+use Rattle.dates.specs.declared.TimeKind.{TimeKind}
+use Rattle.dates.specs.declared.DateTime.{DateTime}
+use Rattle.dates.specs.Calendar.{inRange}
+use Rattle.table.specs.Syntax.{Member, Simple, Body, Plain, Sequence, Set, SequenceOf, SetOf, Choice, Table, Boolean, Integer, BitString, OctetString, Null, Enumerated, Time}
+use Rattle.coding.specs.Value.{Leaf, Value, leaf, sequence, set, sequenceOf, setOf, choice, slots, bag, boolean, integer, bits, string, null, enumerated, time}
 use Rattle.coding.specs.Content.{listed}
 use Rattle.coding.specs.Encodes.{allowed, At}
 
--- the leaves of a kind: an INTEGER of 64 bits, spare bits 0, an ENUMERATED number that is listed (a table's numbers are far below 2 ^ 63)
+-- the leaves of a kind: an INTEGER of 64 bits, spare bits 0, an ENUMERATED number that is listed (a table's numbers are far below 2 ^ 63), a time in range
 pub data TypedLeaf : Simple → Leaf → Type 0 where
   l-boolean : {b : Bool} → TypedLeaf Boolean (boolean b)
   l-integer : {z : ℤ} → SFits w64 z → TypedLeaf Integer (integer z)
@@ -23,6 +26,7 @@ pub data TypedLeaf : Simple → Leaf → Type 0 where
   l-string : {c : List ℕ} → AllOctets c → TypedLeaf OctetString (string c)
   l-null : TypedLeaf Null null
   l-enumerated : {ns : List ℕ} {k : ℕ} → SFits w64 (pos k) → listed ns k ≡ true → TypedLeaf (Enumerated ns) (enumerated k)
+  l-time : {k : TimeKind} {t : DateTime} → inRange k t ≡ true → TypedLeaf (Time k) (time k t)
 
 -- the members that are there have their types
 pub data MembersTyped (W : ℕ → Value → Type 0) : List Member → List (Option Value) → Type 0 where

@@ -8,6 +8,10 @@ use lib.IntN.{ℤ}
 use lib.ListN.{length}
 use Rattle.octets.specs.Numbers.{octetsOf}
 use Rattle.x690.specs.Integer.{eightOf}
+use Rattle.dates.specs.declared.TimeKind.{TimeKind}
+use Rattle.dates.specs.declared.DateTime.{DateTime}
+use Rattle.dates.specs.declared.TimeKind.the-variants.{Utc, Generalized}
+use Rattle.dates.specs.Own.{timeOctets}
 
 -- values with no value below; bits are the number of unused ones and the octets that hold them
 pub data Leaf : Type 0 where
@@ -17,6 +21,7 @@ pub data Leaf : Type 0 where
   string : List ℕ → Leaf
   null : Leaf
   enumerated : ℕ → Leaf
+  time : TimeKind → DateTime → Leaf
 
 mutual
   pub data Value : Type 0 where
@@ -46,12 +51,17 @@ abbrev pub flag : Bool → ℕ
 flag true = 1
 flag false = 0
 
+-- the kind of a time
+abbrev pub timeNumber : TimeKind → ℕ
+timeNumber Utc = 23
+timeNumber Generalized = 24
+
 -- how many bits
 abbrev pub bitCount : ℕ → List ℕ → ℕ
 bitCount n c = 8 * length c - n
 
 -- the node of a leaf: the mark 56 41, the kind, and what the kind has: 00 or 01, eight octets, a count of bits or octets and then these, nothing,
--- a number of two octets
+-- a number of two octets, the year in two octets and five octets behind it
 unfoldable pub leafOctets : Leaf → List ℕ
 leafOctets (boolean b) = 0x56 ∷ 0x41 ∷ 1 ∷ flag b ∷ []
 leafOctets (integer z) = 0x56 ∷ 0x41 ∷ 2 ∷ eightOf z
@@ -59,6 +69,7 @@ leafOctets (bits n c) = 0x56 ∷ 0x41 ∷ 3 ∷ (octetsOf (bitCount n c) ++ c)
 leafOctets (string c) = 0x56 ∷ 0x41 ∷ 4 ∷ (octetsOf (length c) ++ c)
 leafOctets null = 0x56 ∷ 0x41 ∷ 5 ∷ []
 leafOctets (enumerated k) = 0x56 ∷ 0x41 ∷ 10 ∷ octetsOf k
+leafOctets (time k t) = 0x56 ∷ 0x41 ∷ timeNumber k ∷ timeOctets t
 
 -- how many there are, and which of them are present
 unfoldable pub count : Slots → ℕ

@@ -1,4 +1,5 @@
-// What check, write and read answer (FORMATS, "Refusals"), and the limits of a value and of a message ("Limits").
+// What check, write, read and the reckonings with times answer (FORMATS, "Refusals" and "Times"), and the limits of a value and of a message ("Limits").
+use dates::DateTime;
 use octets::cause::Cause;
 
 // Octets of a value, octets of a message, levels.
@@ -18,5 +19,17 @@ pub enum Refusal {
 // Done, with the length written; or refused.
 pub enum Answer {
     Done(usize),
+    Refused(Refusal),
+}
+
+// A GeneralizedTime that was handed in; or why it is none.
+pub enum Given {
+    Time(DateTime),
+    Refused(Cause),
+}
+
+// What a reckoning with two of them answers: a number; or refused.
+pub enum Reckoned {
+    Is(i64),
     Refused(Refusal),
 }

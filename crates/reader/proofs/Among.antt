@@ -14,10 +14,10 @@ use Rattle.octets.proofs.Tests.{test}
 use Rattle.table.specs.Syntax.{Record, Table, references}
 use Rattle.table.specs.Passes.{Nested}
 use Rattle.table.specs.Rules.{siblings}
-use Rattle.table.specs.Reading.{everyAt}
-use Rattle.table.specs.Entries.{unpacked, counted, tableIn, countIn}
-use Rattle.table.specs.declared.entry.Span.{Span}
-use Rattle.table.proofs.Promises.{entered-choice}
+use Rattle.table.specs.Reading.{everyAt, tableIn, countIn}
+use Rattle.records.specs.Entries.{unpacked, counted}
+use Rattle.records.specs.declared.entry.Span.{Span}
+use Rattle.records.proofs.Promises.{entered-choice}
 use Rattle.reader.specs.Codes.{firstOf, untagged, startsWith}
 use Rattle.reader.specs.Ways.{here}
 use Rattle.reader.specs.Records.{Ready, Begins, Finds}

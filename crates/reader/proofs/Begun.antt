@@ -20,8 +20,8 @@ use Rattle.ber.proofs.Codes.{bit-small, code-short, code-long, read-code-small,
 use Rattle.table.specs.Syntax.{Tag, Body, Plain, Sequence, Set, SequenceOf, SetOf, Choice, Record, Table, isChoice, constructed}
 use Rattle.table.specs.Rules.{tagsBelow, bodyBelow, below, siblings, missing}
 use Rattle.table.specs.Passes.{Nested, Passes}
-use Rattle.table.specs.Entries.{more, outermostCode}
 use Rattle.table.proofs.Promises.{shaped-classes}
+use Rattle.records.specs.Entries.{more, outermostCode}
 use Rattle.coding.specs.Content.{segmented}
 use Rattle.coding.specs.Tags.{identifierOf, last, before, explicitTags, ownTag, explicit}
 use Rattle.coding.specs.Awaited.{beginsBody, beginsItem, beginsIn, begins}

@@ -15,10 +15,10 @@ use Rattle.table.specs.Syntax.{Simple, Body, Plain, Sequence, Set}
 use Rattle.table.specs.Syntax.{SequenceOf, SetOf, Choice, Record, Table, isChoice, constructed}
 use Rattle.table.specs.Octets.{kind}
 use Rattle.table.specs.Rules.{members}
-use Rattle.table.specs.Reading.{bodyAt}
-use Rattle.table.specs.Entries.{unpacked, tableIn, countIn}
-use Rattle.table.specs.declared.entry.Entry.{Entry}
-use Rattle.table.proofs.Promises.{kind-choice, entered-kind, entered-members}
+use Rattle.table.specs.Reading.{bodyAt, tableIn, countIn}
+use Rattle.records.specs.Entries.{unpacked}
+use Rattle.records.specs.declared.entry.Entry.{Entry}
+use Rattle.records.proofs.Promises.{kind-choice, entered-kind, entered-members}
 use Rattle.coding.specs.Tags.{ownTag}
 use Rattle.coding.specs.Value.{Value}
 use Rattle.coding.specs.Reading.{readValue}

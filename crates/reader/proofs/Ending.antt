@@ -16,8 +16,8 @@ use Rattle.ber.specs.declared.ending.End.{End}
 use Rattle.ber.specs.declared.ending.End.the-variants.{More, Over as EndsAt, Broken}
 use Rattle.table.specs.Syntax.{Plain, Sequence, Set, SequenceOf, SetOf, Choice}
 use Rattle.table.specs.Octets.{kind}
-use Rattle.table.specs.Entries.{unpacked}
-use Rattle.table.specs.declared.entry.Entry.{Entry}
+use Rattle.records.specs.Entries.{unpacked}
+use Rattle.records.specs.declared.entry.Entry.{Entry}
 use Rattle.reader.specs.Items.{Holder, inside, message, manner, isSingle, partsOf, optionals, pending, lacks}
 use Rattle.reader.specs.Sought.{held, Sound}
 use Rattle.reader.specs.Standing.{atEnding, standing}

@@ -21,9 +21,10 @@ use Rattle.ber.specs.declared.identifier.Identifier.the-variants.{Read, Refused
 use Rattle.ber.proofs.Codes.{read-code-small}
 use Rattle.ber.proofs.Told.{identifier-read, identifier-refused}
 use Rattle.table.specs.Syntax.{Member, Table}
-use Rattle.table.specs.Entries.{unpacked, tableIn, countIn}
-use Rattle.table.specs.declared.entry.Entry.{Entry}
-use Rattle.table.specs.declared.entry.Span.{Span}
+use Rattle.table.specs.Reading.{tableIn, countIn}
+use Rattle.records.specs.Entries.{unpacked}
+use Rattle.records.specs.declared.entry.Entry.{Entry}
+use Rattle.records.specs.declared.entry.Span.{Span}
 use Rattle.coding.specs.Reading.{passes, begun, notAwaited}
 use Rattle.coding.proofs.FirstTags.{good}
 use Rattle.reader.specs.Codes.{untagged, startsWith, peeked}

@@ -12,10 +12,11 @@ use Rattle.octets.specs.Answer.{if}
 use Rattle.octets.proofs.Tests.{test}
 use Rattle.table.specs.Syntax.{Body, Plain, Sequence, Set, SequenceOf, SetOf, Choice, constructed}
 use Rattle.table.specs.Octets.{kind}
-use Rattle.table.specs.Entries.{unpacked, spanOf, tableIn}
-use Rattle.table.specs.declared.entry.Entry.{Entry}
-use Rattle.table.specs.declared.entry.Span.{Span}
-use Rattle.table.proofs.Promises.{entered-kind}
+use Rattle.table.specs.Reading.{tableIn}
+use Rattle.records.specs.Entries.{unpacked, spanOf}
+use Rattle.records.specs.declared.entry.Entry.{Entry}
+use Rattle.records.specs.declared.entry.Span.{Span}
+use Rattle.records.proofs.Promises.{entered-kind}
 use Rattle.reader.specs.Items.{Holder, inside, message, manner, partsOf, isSingle, nodeSize}
 use Rattle.reader.specs.Placing.{kindOf, hasMembers, isList, holdsOne, onward, nodeOf, openingOf, said}
 use Rattle.reader.specs.Records.{Ready, Known, of-record, of-message, holderIn}

@@ -20,10 +20,11 @@ use Rattle.ber.proofs.Codes.{code-short, code-long, read-code-small}
 use Rattle.ber.proofs.Places.{some-at, part-to-end}
 use Rattle.table.specs.Syntax.{Tag, Member, Body, Record, Table, constructed}
 use Rattle.table.specs.Octets.{kind}
-use Rattle.table.specs.Entries.{unpacked, untagged, more, outermostCode, tableIn, countIn}
-use Rattle.table.specs.declared.entry.Entry.{Entry}
-use Rattle.table.specs.declared.entry.Span.{Span}
+use Rattle.table.specs.Reading.{tableIn, countIn}
 use Rattle.table.specs.Passes.{Nested}
+use Rattle.records.specs.Entries.{unpacked, untagged, more, outermostCode}
+use Rattle.records.specs.declared.entry.Entry.{Entry}
+use Rattle.records.specs.declared.entry.Span.{Span}
 use Rattle.coding.specs.Reading.{begun, readValue}
 use Rattle.reader.specs.Codes.{firstOf, either, startsWith, peeked, hit}
 use Rattle.reader.specs.Items.{Holder, Manner, in-turn, each-once, repeated, single, manner, partsOf, Placed}

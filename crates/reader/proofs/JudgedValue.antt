@@ -20,12 +20,12 @@ use Rattle.ber.specs.Told.{toldLength}
 use Rattle.ber.specs.declared.length.Length.{Length}
 use Rattle.ber.specs.declared.length.Length.the-variants.{Refused as NoLength}
 use Rattle.ber.proofs.Told.{length-refused}
-use Rattle.table.specs.Syntax.{Simple, Boolean, Integer, BitString, OctetString, Null, Enumerated, Body, Plain}
+use Rattle.table.specs.Syntax.{Simple, Boolean, Integer, BitString, OctetString, Null, Enumerated, Time, Body, Plain}
 use Rattle.table.specs.Syntax.{Record, Table}
 use Rattle.table.specs.Octets.{kind}
-use Rattle.table.specs.Reading.{bodyAt}
-use Rattle.table.specs.Entries.{unpacked, tableIn, countIn, Entered}
-use Rattle.table.specs.declared.entry.Entry.{Entry}
+use Rattle.table.specs.Reading.{bodyAt, tableIn, countIn}
+use Rattle.records.specs.Entries.{unpacked, Entered}
+use Rattle.records.specs.declared.entry.Entry.{Entry}
 use Rattle.coding.specs.Content.{segmented}
 use Rattle.coding.specs.Tags.{explicit}
 use Rattle.coding.specs.Value.{Value, leaf, Leaf, octets}
@@ -81,6 +81,7 @@ string-kind BitString e h = inl h
 string-kind OctetString e h = inr h
 string-kind Null e h = absurd (false≢true e)
 string-kind (Enumerated ns) e h = absurd (false≢true e)
+string-kind (Time q) e h = absurd (false≢true e)
 
 -- tags that were not opened
 pub value-unopened : {b index : List ℕ} (R : Ready b index) {w : ℕ} (I : IsRecord b index w) (m : List ℕ) (first : ℕ) (ns : List ℕ) (y : Opened)

@@ -36,8 +36,8 @@ use Rattle.segments.proofs.SegmentCode.{Came, all-came, all-refused}
 use Rattle.ber.proofs.Told.{shape-some}
 use Rattle.table.specs.Syntax.{Simple, BitString, OctetString, Plain, Record, constructed}
 use Rattle.table.specs.Reading.{bodyAt}
-use Rattle.table.specs.Entries.{Entered}
-use Rattle.table.specs.declared.entry.Entry.{Entry}
+use Rattle.records.specs.Entries.{Entered}
+use Rattle.records.specs.declared.entry.Entry.{Entry}
 use Rattle.coding.specs.Content.{segmented}
 use Rattle.coding.specs.Value.{Leaf, bits, string, leafOctets}
 use Rattle.coding.specs.Reading.{decode}

@@ -17,7 +17,7 @@ use Rattle.x690.specs.Reading.{Mode, closed, open-ended, Size, definite, indefi
 use Rattle.x690.specs.Segments.{Kind, Gathered, inParts, inEither, heads, deepest, readAll, readSegment}
 use Rattle.x690.proofs.Segments.{all-rest, all-closed}
 use Rattle.ber.specs.Told.{mode}
-use Rattle.table.specs.Syntax.{Simple, Boolean, Integer, BitString, OctetString, Null, Enumerated, Body, Plain, Record, Table, isChoice}
+use Rattle.table.specs.Syntax.{Simple, Boolean, Integer, BitString, OctetString, Null, Enumerated, Time, Body, Plain, Record, Table, isChoice}
 use Rattle.coding.specs.Content.{segmented}
 use Rattle.coding.specs.Tags.{ownTag}
 use Rattle.coding.specs.Value.{Value, leaf, Leaf}
@@ -45,6 +45,7 @@ decode-only Null l c s = if-cases (Only l) _ _ _ (λ e. (refl, refl)) (λ e. tt)
 decode-only (Enumerated ns) l c s =
     if-cases (Only l) _ _ _ (λ e. (refl, refl)) (λ e. if-cases (Only l) _ _ _ (λ f. (refl, refl))
     (λ f. if-cases (Only l) _ _ _ (λ g. (refl, refl)) (λ g. tt)))
+decode-only (Time q) l c s = if-cases (Only l) _ _ _ (λ e. (refl, refl)) (λ e. tt)
 
 pub decode-moves : (k : Simple) (l : ℕ) (c s : List ℕ) (l₂ : ℕ) (s₂ : List ℕ) (x : Leaf) (w : List ℕ) → decode k l c s ≡ got x w
     → decode k l₂ c s₂ ≡ got x s₂

@@ -13,7 +13,7 @@ use Rattle.octets.specs.Answer.{if}
 use Rattle.octets.specs.Numbers.{octetsOf}
 use Rattle.octets.specs.Buffers.{filled}
 use Rattle.x690.specs.Integer.{integerOf}
-use Rattle.ber.specs.Told.{integerIn}
+use Rattle.simple.specs.Integers.{integerIn}
 use Rattle.reader.proofs.Stores.{sets-append}
 
 pub from-is : (a : ℕ) (m : List ℕ) → take (length m - a) (drop a m) ≡ drop a m

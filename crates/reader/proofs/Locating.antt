@@ -13,7 +13,8 @@ use Rattle.octets.specs.Answer.{none-left}
 use Rattle.octets.proofs.Tests.{test}
 use Rattle.ber.specs.Skipping.{Skips}
 use Rattle.table.specs.Syntax.{Member, Plain, Sequence, Set, SequenceOf, SetOf, Choice, Table}
-use Rattle.table.specs.Entries.{unpacked, tableIn, countIn}
+use Rattle.table.specs.Reading.{tableIn, countIn}
+use Rattle.records.specs.Entries.{unpacked}
 use Rattle.coding.specs.Reading.{readValue}
 use Rattle.coding.proofs.FirstTags.{good}
 use Rattle.reader.specs.Items.{Holder, inside, message, Manner, in-turn, each-once, repeated, single, manner, partsOf, since, next, blank}

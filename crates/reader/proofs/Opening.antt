@@ -27,7 +27,8 @@ use Rattle.ber.specs.declared.length.Length.the-variants.{Read as ReadLength, R
 use Rattle.ber.specs.declared.length.Extent.{Extent}
 use Rattle.ber.proofs.Told.{length-definite, length-indefinite, length-refused}
 use Rattle.table.specs.Syntax.{Tag, Body, Plain, Sequence, Set, SequenceOf, SetOf, Choice, Record, Table, isChoice}
-use Rattle.table.specs.Entries.{allButLast, unpacked, tableIn, firstCode, explicitCount}
+use Rattle.table.specs.Reading.{tableIn}
+use Rattle.records.specs.Entries.{allButLast, unpacked, firstCode, explicitCount}
 use Rattle.coding.specs.Content.{segmented}
 use Rattle.coding.specs.Tags.{identifierOf, before, explicitTags, ownTag, explicit}
 use Rattle.coding.specs.Value.{Value}

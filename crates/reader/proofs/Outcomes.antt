@@ -17,8 +17,9 @@ use Rattle.octets.proofs.Answer.{run, refused≢got}
 use Rattle.octets.proofs.Tests.{test}
 use Rattle.ber.specs.Told.{mode}
 use Rattle.table.specs.Syntax.{Table}
-use Rattle.table.specs.Entries.{tableIn, Filled}
+use Rattle.table.specs.Reading.{tableIn}
 use Rattle.table.specs.Passes.{Passes}
+use Rattle.records.specs.Entries.{Filled}
 use Rattle.coding.specs.Value.{Value, octets}
 use Rattle.coding.specs.Reading.{readValue, readMessage}
 use Rattle.coding.specs.Calls.{afterReading, readOutcome}

@@ -17,9 +17,10 @@ use Rattle.octets.proofs.Tests.{test}
 use Rattle.ber.specs.Told.{mode}
 use Rattle.table.specs.Syntax.{Member, Plain, Sequence, Set, SequenceOf, SetOf, Choice, Table}
 use Rattle.table.specs.Octets.{kind}
-use Rattle.table.specs.Entries.{unpacked, spanOf, tableIn, countIn}
-use Rattle.table.specs.declared.entry.Entry.{Entry}
-use Rattle.table.specs.declared.entry.Span.{Span}
+use Rattle.table.specs.Reading.{tableIn, countIn}
+use Rattle.records.specs.Entries.{unpacked, spanOf}
+use Rattle.records.specs.declared.entry.Entry.{Entry}
+use Rattle.records.specs.declared.entry.Span.{Span}
 use Rattle.coding.specs.Value.{Value, octets}
 use Rattle.coding.specs.Value as Value-of
 use Rattle.coding.specs.Reading.{nothing, readValue}

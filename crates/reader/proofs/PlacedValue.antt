@@ -22,26 +22,28 @@ use Rattle.octets.proofs.Tests.{test}
 use Rattle.x690.specs.Integer.{minimal}
 use Rattle.x690.specs.Reading.{Mode, Size, readLength}
 use Rattle.x690.specs.Segments.{Kind, bit-string, octet-string, universal, deepest, readAll, readSegment}
+use Rattle.x690.proofs.Times.{time-read-back, time-complete}
 use Rattle.ber.specs.Told.{toldLength, Again, mode}
 use Rattle.ber.specs.declared.length.Length.the-variants.{Read as ReadLength}
 use Rattle.ber.specs.declared.length.Extent.{Extent}
 use Rattle.ber.proofs.Told.{again-told}
-use Rattle.table.specs.Syntax.{Simple, Boolean, Integer, BitString, OctetString, Null, Enumerated}
+use Rattle.dates.specs.declared.TimeKind.the-variants.{Utc, Generalized}
+use Rattle.table.specs.Syntax.{Simple, Boolean, Integer, BitString, OctetString, Null, Enumerated, Time}
 use Rattle.table.specs.Syntax.{Plain, Record, isChoice}
-use Rattle.table.specs.Reading.{numbersAt}
+use Rattle.table.specs.Reading.{numbersAt, tableIn, countIn}
 use Rattle.table.specs.Octets.{kind}
-use Rattle.table.specs.Entries.{unpacked, tableIn, countIn, Entered, outermostCode, explicitCount}
-use Rattle.table.specs.declared.entry.Entry.{Entry}
-use Rattle.table.proofs.Promises.{entered-kind, entered-enumerated}
-use Rattle.coding.specs.Content.{listed, segmented, Content, c-boolean, c-integer, c-bits, c-string, c-null, c-enumerated}
+use Rattle.records.specs.Entries.{unpacked, Entered, outermostCode, explicitCount}
+use Rattle.records.specs.declared.entry.Entry.{Entry}
+use Rattle.records.proofs.Promises.{entered-kind, entered-enumerated}
+use Rattle.coding.specs.Content.{listed, segmented, Content, c-boolean, c-integer, c-bits, c-string, c-null, c-enumerated, c-time}
 use Rattle.coding.specs.Tags.{explicit}
-use Rattle.coding.specs.Value.{Leaf, Value, leaf, leafOctets, octets}
+use Rattle.coding.specs.Value.{Leaf, time, Value, leaf, leafOctets, octets}
 use Rattle.coding.specs.Reading.{readValue}
 use Rattle.coding.proofs.Content.{content-sound}
 use Rattle.coding.proofs.Sound.{value-sound}
 use Rattle.reader.specs.Answers.{told}
 use Rattle.reader.specs.Items.{Holder, message, next}
-use Rattle.reader.specs.Leaves.{leafOf, Lawful, one-octet, one-to-eight, some-unused, any-octets, no-octet, small-number}
+use Rattle.reader.specs.Leaves.{leafOf, Lawful, one-octet, one-to-eight, some-unused, any-octets, no-octet, small-number, a-time}
 use Rattle.reader.specs.Leaves.{inSegments, readSegments, readLeaf, Carried, by-itself, by-segments, ToPlaceLeaf, LeafPlaced}
 use Rattle.reader.specs.Placed.{Fits, Final, IsPlaced, heldIn, valueIn, ToPlace, ToPlaceValue}
 use Rattle.reader.specs.Records.{Ready, of-record, of-message, holderIn, IsRecord, readRecord}
@@ -78,6 +80,9 @@ content-leaf (c-bits e) h = (some-unused refl (omega arith) e, refl)
 content-leaf c-string h = (any-octets refl, refl)
 content-leaf c-null h = (no-octet refl refl, refl)
 content-leaf (c-enumerated {ns = ns} {c = c} {k = k} e l z g) h = (small-number refl (minimal-some c e) l k z (h ns k refl g), rw z refl)
+content-leaf (c-time {k = Utc} {t = t} e) h = (a-time Utc refl (time-complete Utc t ∙ e), ap (time Utc) (sym (time-read-back Utc t)))
+content-leaf (c-time {k = Generalized} {t = t} e) h =
+    (a-time Generalized refl (time-complete Generalized t ∙ e), ap (time Generalized) (sym (time-read-back Generalized t)))
 
 -- a number that is listed in a table
 listed-small : (b : List ℕ) → Octets b → (p n k : ℕ) → listed (numbersAt b p n) k ≡ true → k < 65536
@@ -117,6 +122,7 @@ kind-of BitString j e = sym (ap number e)
 kind-of OctetString j e = sym (ap number e)
 kind-of Null j e = absurd (some-number j (ap number e))
 kind-of (Enumerated ns) j e = absurd (some-number j (ap number e))
+kind-of (Time q) j e = absurd (some-number j (ap number e))
 
 -- the contents by which a leaf was accepted
 behind-through : {A : Type 0} (n : ℕ) (x : Answer A) {a : A} {u : List ℕ} → behind n x ≡ got a u → x ≡ got a u

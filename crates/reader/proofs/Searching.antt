@@ -16,9 +16,10 @@ use Rattle.octets.specs.Answer.{if}
 use Rattle.octets.specs.Lists.{any}
 use Rattle.octets.proofs.Tests.{test}
 use Rattle.table.specs.Syntax.{Member, Body, Plain, Sequence, Set, SequenceOf, SetOf, Choice, references}
-use Rattle.table.specs.Entries.{unpacked, spanOf, tableIn, countIn}
-use Rattle.table.specs.declared.entry.Entry.{Entry}
-use Rattle.table.specs.declared.entry.Span.{Span}
+use Rattle.table.specs.Reading.{tableIn, countIn}
+use Rattle.records.specs.Entries.{unpacked, spanOf}
+use Rattle.records.specs.declared.entry.Entry.{Entry}
+use Rattle.records.specs.declared.entry.Span.{Span}
 use Rattle.coding.specs.Awaited.{types}
 use Rattle.reader.specs.Codes.{startsWith, searchIn, hit}
 use Rattle.reader.specs.Items.{Holder, inside, message, Manner, in-turn, each-once, repeated, single, manner, partsOf, optionals, Placed, left}

@@ -14,14 +14,15 @@ use Prim.Native.Nat.{ℕ, zero, suc, _+_, _*_, _≤_, _<_}
 use Rattle.octets.specs.Answer.{if}
 use Rattle.octets.specs.Lists.{any}
 use Rattle.octets.proofs.Tests.{or-by}
-use Rattle.table.specs.Syntax.{Member, Simple, Boolean, Integer, BitString, OctetString, Null, Enumerated, Body, Plain, Sequence, Set, SequenceOf}
+use Rattle.dates.specs.declared.TimeKind.the-variants.{Utc, Generalized}
+use Rattle.table.specs.Syntax.{Member, Simple, Boolean, Integer, BitString, OctetString, Null, Enumerated, Time, Body, Plain, Sequence, Set, SequenceOf}
 use Rattle.table.specs.Syntax.{SetOf, Choice, Record}
 use Rattle.table.specs.Octets.{kind}
-use Rattle.table.specs.Reading.{membersAt, everyAt}
-use Rattle.table.specs.Entries.{unpacked, spanOf, Entered, tableIn, countIn}
-use Rattle.table.specs.declared.entry.Entry.{Entry}
-use Rattle.table.specs.declared.entry.Span.{Span}
-use Rattle.table.proofs.Promises.{entered-kind, entered-members, entered-choice, entered-list}
+use Rattle.table.specs.Reading.{membersAt, everyAt, tableIn, countIn}
+use Rattle.records.specs.Entries.{unpacked, spanOf, Entered}
+use Rattle.records.specs.declared.entry.Entry.{Entry}
+use Rattle.records.specs.declared.entry.Span.{Span}
+use Rattle.records.proofs.Promises.{entered-kind, entered-members, entered-choice, entered-list}
 use Rattle.reader.specs.Items.{Holder, inside, message, Manner, in-turn, each-once, repeated, single, manner, partsOf, optionals, Placed}
 use Rattle.reader.specs.Items.{pending, upToMandatory, within, left, awaits, first}
 use Rattle.reader.specs.Records.{Ready, holderIn, Known, of-record, of-message}
@@ -68,6 +69,8 @@ kind-known (Plain BitString) z = omega arith
 kind-known (Plain OctetString) z = omega arith
 kind-known (Plain Null) z = omega arith
 kind-known (Plain (Enumerated ns)) z = omega arith
+kind-known (Plain (Time Utc)) z = omega arith
+kind-known (Plain (Time Generalized)) z = omega arith
 kind-known (Sequence ms) z = omega arith
 kind-known (Set ms) z = omega arith
 kind-known (SequenceOf t) z = omega arith
@@ -86,6 +89,8 @@ module _ {b : List ℕ} {e : Entry} {r : Record} (x : Entered b e r) (short : le
   plain-span OctetString h = rw (entered-kind x ∙ ap kind h) refl
   plain-span Null h = rw (entered-kind x ∙ ap kind h) refl
   plain-span (Enumerated ns) h = rw (entered-kind x ∙ ap kind h) refl
+  plain-span (Time Utc) h = rw (entered-kind x ∙ ap kind h) refl
+  plain-span (Time Generalized) h = rw (entered-kind x ∙ ap kind h) refl
 
   members-spanned : (ms : List Member) (h : Holder) → (r .body ≡ Sequence ms) ⊎ (r .body ≡ Set ms) → partsOf h ≡ ms → tabledCount h ≡ length ms
       → Spanned b h (e .kind) S
@@ -183,6 +188,8 @@ turn-kind (Plain BitString) = refl
 turn-kind (Plain OctetString) = refl
 turn-kind (Plain Null) = refl
 turn-kind (Plain (Enumerated ns)) = refl
+turn-kind (Plain (Time Utc)) = refl
+turn-kind (Plain (Time Generalized)) = refl
 turn-kind (Sequence ms) = refl
 turn-kind (Set ms) = refl
 turn-kind (SequenceOf t) = refl
@@ -213,6 +220,8 @@ member-kind (Plain BitString) = refl
 member-kind (Plain OctetString) = refl
 member-kind (Plain Null) = refl
 member-kind (Plain (Enumerated ns)) = refl
+member-kind (Plain (Time Utc)) = refl
+member-kind (Plain (Time Generalized)) = refl
 member-kind (Sequence ms) = refl
 member-kind (Set ms) = refl
 member-kind (SequenceOf t) = refl

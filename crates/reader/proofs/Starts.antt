@@ -11,12 +11,13 @@ use Prim.Native.Nat.{ℕ, _+_, _-_, _≤_}
 use Rattle.octets.specs.Answer.{if}
 use Rattle.octets.proofs.Tests.{test, or-by, and-left, and-right}
 use Rattle.x690.specs.Segments.{inEither}
+use Rattle.dates.specs.declared.TimeKind.the-variants.{Utc, Generalized}
 use Rattle.table.specs.Syntax.{Tag, Body, Plain, Sequence, Set, SequenceOf, SetOf, Choice, Record, isChoice}
-use Rattle.table.specs.Syntax.{Boolean, Integer, BitString, OctetString, Null, Enumerated}
+use Rattle.table.specs.Syntax.{Boolean, Integer, BitString, OctetString, Null, Enumerated, Time}
 use Rattle.table.specs.Octets.{kind}
-use Rattle.table.specs.Entries.{unpacked, allButLast, explicitCount, Entered}
-use Rattle.table.specs.declared.entry.Entry.{Entry}
-use Rattle.table.proofs.Promises.{entered-kind}
+use Rattle.records.specs.Entries.{unpacked, allButLast, explicitCount, Entered}
+use Rattle.records.specs.declared.entry.Entry.{Entry}
+use Rattle.records.proofs.Promises.{entered-kind}
 use Rattle.coding.specs.Content.{segmented}
 use Rattle.reader.specs.Codes.{firstOf, ownEither, eitherAt, either, coded}
 use Rattle.reader.specs.Records.{Begins}
@@ -107,6 +108,8 @@ string-kind (Plain BitString) = refl
 string-kind (Plain OctetString) = refl
 string-kind (Plain Null) = refl
 string-kind (Plain (Enumerated ns)) = refl
+string-kind (Plain (Time Utc)) = refl
+string-kind (Plain (Time Generalized)) = refl
 string-kind (Sequence ms) = refl
 string-kind (Set ms) = refl
 string-kind (SequenceOf t) = refl

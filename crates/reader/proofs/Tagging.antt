@@ -27,9 +27,10 @@ use Rattle.ber.proofs.Codes.{code-of-identifier, code-awaited}
 use Rattle.ber.proofs.Ends.{end-more, end-over, end-broken}
 use Rattle.ber.proofs.Told.{identifier-read, identifier-refused}
 use Rattle.table.specs.Syntax.{Tag, Body, Plain, Sequence, Set, SequenceOf, SetOf, Choice, Record, isChoice, constructed}
-use Rattle.table.specs.Entries.{unpacked, tagCount, tagPlace, allButLast, tableIn, countIn, Entered, firstCode, outermostCode, explicitCount}
-use Rattle.table.specs.declared.entry.Entry.{Entry}
-use Rattle.table.proofs.Promises.{entered-tags, entered-tag, entered-bit}
+use Rattle.table.specs.Reading.{tableIn, countIn}
+use Rattle.records.specs.Entries.{unpacked, tagCount, tagPlace, allButLast, Entered, firstCode, outermostCode, explicitCount}
+use Rattle.records.specs.declared.entry.Entry.{Entry}
+use Rattle.records.proofs.Promises.{entered-tags, entered-tag, entered-bit}
 use Rattle.coding.specs.Tags.{identifierOf, last, before, explicitTags, ownTag, explicit}
 use Rattle.reader.specs.Codes.{ownEither, eitherAt, coded}
 use Rattle.reader.specs.Records.{Ready, recordIn, IsRecord}

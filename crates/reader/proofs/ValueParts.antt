@@ -26,8 +26,9 @@ use Rattle.ber.specs.declared.length.Extent.{Extent}
 use Rattle.ber.proofs.Told.{length-definite, length-indefinite}
 use Rattle.table.specs.Syntax.{Simple, Body, Plain}
 use Rattle.table.specs.Syntax.{Record, isChoice, constructed}
-use Rattle.table.specs.Entries.{unpacked, tableIn}
-use Rattle.table.specs.declared.entry.Entry.{Entry}
+use Rattle.table.specs.Reading.{tableIn}
+use Rattle.records.specs.Entries.{unpacked}
+use Rattle.records.specs.declared.entry.Entry.{Entry}
 use Rattle.coding.specs.Tags.{ownTag, explicit}
 use Rattle.coding.specs.Content.{segmented}
 use Rattle.coding.specs.Value.{Value}

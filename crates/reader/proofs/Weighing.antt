@@ -1,6 +1,6 @@
 -- The size of simple contents, by the number of the kind.
 -- Assumes nothing.
-use borrow.Author.Tests.{eq-eqb, ne-eqb}
+use borrow.Author.Tests.{eq-eqb, ne-eqb, eqb-true, eqb-false, not-true}
 use lib.Dec.{leb, eqb}
 use lib.IntN.{ℤ, pos, negsuc}
 use lib.ListN.{length, getD, drop, length-drop}
@@ -8,19 +8,25 @@ use mathlib.Core.Bool.{Bool, true, false, not, _&&_, _||_}
 use mathlib.Core.List.{List, [], _∷_}
 use mathlib.Core.Path.{_≡_, refl, sym, ap, _∙_}
 use native.Mathlib.Omega.{arith}
-use Prim.Native.Nat.{ℕ, suc, _+_, _*_, _-_}
+use Prim.Native.Nat.{ℕ, suc, _+_, _*_, _-_, _≤_}
 use Rattle.octets.specs.Answer.{if, none-left}
 use Rattle.octets.proofs.Tests.{test}
 use Rattle.octets.proofs.Lists.{both}
 use Rattle.x690.specs.Integer.{integerOf, minimal, eight}
 use Rattle.x690.specs.BitString.{unused, masked}
-use Rattle.ber.specs.Told.{integerIn}
-use Rattle.table.specs.Syntax.{Record, Body, Plain, Enumerated}
+use Rattle.x690.specs.Time.{isTime}
+use Rattle.x690.proofs.BitString.{length-masked}
+use Rattle.simple.specs.Integers.{integerIn}
+use Rattle.dates.specs.Own.{timeOctets}
+use Rattle.dates.specs.declared.TimeKind.{TimeKind}
+use Rattle.dates.specs.declared.TimeKind.the-variants.{Utc, Generalized}
+use Rattle.table.specs.Syntax.{Record, Body, Plain, Enumerated, Time}
+use Rattle.table.specs.Fields.{timeKind}
 use Rattle.table.specs.Reading.{numbersAt, bodyAt}
-use Rattle.table.specs.Entries.{Entered, listsNumber}
-use Rattle.table.specs.declared.entry.Entry.{Entry}
-use Rattle.table.proofs.Promises.{entered-kind, entered-enumerated}
-use Rattle.coding.specs.Value.{leafOctets}
+use Rattle.records.specs.Entries.{Entered, listsNumber}
+use Rattle.records.specs.declared.entry.Entry.{Entry}
+use Rattle.records.proofs.Promises.{entered-kind, entered-enumerated}
+use Rattle.coding.specs.Value.{timeNumber, leafOctets}
 use Rattle.coding.specs.Content.{listed}
 use Rattle.coding.specs.Reading.{isListed, decode}
 use Rattle.reader.specs.Codes.{ownEither}
@@ -29,25 +35,25 @@ use Rattle.reader.specs.Weights.{weight, leafWeight, sizeBy}
 use Rattle.reader.proofs.Starts.{string-kind, and-false}
 use Rattle.reader.proofs.Tails.{not-none, some-left}
 
-length-masked : (n : ℕ) (c : List ℕ) → length (masked n c) ≡ length c
-unfolding masked
-length-masked n [] = refl
-length-masked n (x ∷ []) = refl
-length-masked n (x ∷ y ∷ c) = ap suc (length-masked n (y ∷ c))
-
 none-yes : (s : List ℕ) → length s ≡ 0 → none-left s ≡ true
 unfolding none-left
 none-yes [] h = refl
 none-yes (b ∷ s) h = absurd (omega arith)
 
-not-is : (t : Bool) → not t ≡ true → t ≡ false
-not-is true e = sym e
-not-is false e = refl
-
 listed-is : (ns : List ℕ) (z : ℤ) → listsNumber ns z ≡ isListed ns z
 unfolding isListed listed
 listed-is ns (pos k) = refl
 listed-is ns (negsuc k) = refl
+
+-- times
+module _ (q : TimeKind) (c : List ℕ) where
+  pub time-size : isTime q c ≡ true → 10 ≡ weight (decode (Time q) 0 c [])
+  unfolding weight decode if leafOctets timeOctets
+  time-size e = rw e
+
+  pub time-wrong : isTime q c ≡ false → 0 ≡ weight (decode (Time q) 0 c [])
+  unfolding weight decode if
+  time-wrong e = rw e
 
 -- sizes by kinds
 module _ (b : List ℕ) (k p : ℕ) (c : List ℕ) where
@@ -73,7 +79,7 @@ module _ (b : List ℕ) (k p : ℕ) (c : List ℕ) where
     unfolding leafWeight bodyAt weight decode if leafOctets
     bits-size g =
         let t = both (not (none-left c)) (unused (getD c 0 0) (drop 1 c)) (sym f ∙ g) in
-        let y = not-is (none-left c) (t .0) in
+        let y = not-true (none-left c) (t .0) in
         let o = some-left c y in
         let q : length c + 4 ≡ suc (suc (suc (suc (suc (length (masked (getD c 0 0) (drop 1 c)))))))
         = omega (arith, length-masked (getD c 0 0) (drop 1 c), length-drop 1 c) in
@@ -115,16 +121,27 @@ module _ (b : List ℕ) (k p : ℕ) (c : List ℕ) where
     unfolding leafWeight bodyAt weight decode if
     number-unlisted y = let t = both (minimal c) (leb (length c) 8) (sym f ∙ g) in rw (e, t .0, t .1, ← integer-is, ← l, y)
 
+  pub of-time : (q : TimeKind) → k ≡ timeNumber q → {n : ℕ} → n ≡ weight (decode (Time q) 0 c []) → n ≡ leafWeight (bodyAt b k p) c
+  unfolding leafWeight bodyAt if
+  of-time Utc e h = h ∙ rw e refl
+  of-time Generalized e h = h ∙ rw e refl
+
   -- no simple kind
-  pub other-wrong : (k ≡ 1 → ⊥) → (k ≡ 2 → ⊥) → (k ≡ 3 → ⊥) → (k ≡ 4 → ⊥) → (k ≡ 5 → ⊥) → (k ≡ 10 → ⊥) → 0 ≡ leafWeight (bodyAt b k p) c
+  pub other-wrong : (k ≡ 1 → ⊥) → (k ≡ 2 → ⊥) → (k ≡ 3 → ⊥) → (k ≡ 4 → ⊥) → (k ≡ 5 → ⊥) → (k ≡ 10 → ⊥) → (k ≡ 23 → ⊥) → (k ≡ 24 → ⊥)
+      → 0 ≡ leafWeight (bodyAt b k p) c
   unfolding leafWeight bodyAt
-  other-wrong h₁ h₂ h₃ h₄ h₅ h₁₀ =
-      rw (ne-eqb k 1 h₁, ne-eqb k 2 h₂, ne-eqb k 3 h₃, ne-eqb k 4 h₄, ne-eqb k 5 h₅, ne-eqb k 10 h₁₀) (
+  other-wrong h₁ h₂ h₃ h₄ h₅ h₁₀ h₂₃ h₂₄ =
+      rw (ne-eqb k 1 h₁, ne-eqb k 2 h₂, ne-eqb k 3 h₃, ne-eqb k 4 h₄, ne-eqb k 5 h₅, ne-eqb k 10 h₁₀, ne-eqb k 23 h₂₃, ne-eqb k 24 h₂₄) (
       test (eqb k 16) (λ e. rw e) λ e₁.
       test (eqb k 17) (λ e. rw (e₁, e)) λ e₂.
       test (eqb k 48) (λ e. rw (e₁, e₂, e)) λ e₃.
       test (eqb k 49) (λ e. rw (e₁, e₂, e₃, e)) λ e₄.
       rw (e₁, e₂, e₃, e₄))
+
+-- which time a kind is
+pub time-number : (k : ℕ) → 23 ≤ k → k ≤ 24 → {q : TimeKind} → q ≡ timeKind k → k ≡ timeNumber q
+unfolding timeKind
+time-number k l h e = rw e (test (eqb k 23) (λ f. rw f (eqb-true k 23 f)) λ f. rw f (omega (arith, eqb-false k 23 f)))
 
 -- the numbers of an ENUMERATED are all there
 pub lists-all : {b : List ℕ} {e : Entry} {r : Record} → Entered b e r → e .kind ≡ 10 → (z : ℤ) (s : Bool)

@@ -9,7 +9,7 @@ use Rattle.ber.specs.Codes.{codeOf}
 use Rattle.x690.specs.Segments.{inEither}
 use Rattle.table.specs.Syntax.{Body, Plain, Sequence, Set, SequenceOf, SetOf, Choice, Record, Table}
 use Rattle.table.specs.Rules.{siblings}
-use Rattle.table.specs.Entries.{untagged as noTag, firstCode, explicitCount}
+use Rattle.records.specs.Entries.{untagged as noTag, firstCode, explicitCount}
 use Rattle.coding.specs.Content.{segmented}
 use Rattle.reader.specs.declared.search.Under.{Under}
 use Rattle.reader.specs.declared.search.Under.the-variants.{Nothing, At}

@@ -5,7 +5,7 @@ use mathlib.Core.List.{List}
 use mathlib.Core.Path.{_≡_}
 use Prim.Native.Nat.{ℕ, _≤_, _<_}
 use lib.ListN.{length}
-use Rattle.table.specs.Entries.{unpacked}
+use Rattle.records.specs.Entries.{unpacked}
 use Rattle.reader.specs.Codes.{either}
 use Rattle.reader.specs.Items.{manner, isSingle}
 use Rattle.reader.specs.Records.{Ready, Known, recordIn, IsRecord}

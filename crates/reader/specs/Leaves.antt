@@ -1,4 +1,4 @@
--- The leaf that simple contents carry, by the number of the kind (FORMATS, "Values"; X.690, 8.2 to 8.8).
+-- The leaf that simple contents carry, by the number of the kind (FORMATS, "Values" and "Times"; X.690, 8.2 to 8.8).
 -- Assumes nothing.
 use mathlib.Core.Bool.{Bool, true, false, not}
 use mathlib.Core.List.{List, []}
@@ -13,11 +13,14 @@ use Rattle.octets.specs.declared.cause.Cause.the-variants.{Forbidden}
 use Rattle.octets.specs.Answer.{Answer, got, refused, then, if, behind}
 use Rattle.x690.specs.Integer.{integerOf}
 use Rattle.x690.specs.BitString.{unused, masked}
+use Rattle.x690.specs.Time.{timeOf, isTime}
 use Rattle.x690.specs.Reading.{Mode, never}
 use Rattle.x690.specs.Segments.{Kind, universal, deepest, readAll, readSegment}
 use Rattle.ber.specs.Told.{mode}
+use Rattle.dates.specs.declared.TimeKind.{TimeKind}
+use Rattle.dates.specs.declared.TimeKind.the-variants.{Utc, Generalized}
 use Rattle.table.specs.Syntax.{Simple, Body, Plain, Sequence, Set, SequenceOf, SetOf, Choice}
-use Rattle.coding.specs.Value.{Leaf, boolean, integer, bits, string, null, enumerated, leafOctets}
+use Rattle.coding.specs.Value.{Leaf, boolean, integer, bits, string, null, enumerated, time, timeNumber, leafOctets}
 use Rattle.coding.specs.Content.{segmented}
 use Rattle.coding.specs.Reading.{natural, decode}
 use Rattle.reader.specs.declared.node.Placed.{Placed}
@@ -29,6 +32,8 @@ leafOf k c =
     if (eqb k 3) (bits (getD c 0 0) (masked (getD c 0 0) (drop 1 c))) λ _.
     if (eqb k 4) (string c) λ _.
     if (eqb k 5) null λ _.
+    if (eqb k 23) (time Utc (timeOf Utc c)) λ _.
+    if (eqb k 24) (time Generalized (timeOf Generalized c)) λ _.
     enumerated (natural (integerOf c))
 
 -- the leading octet of a constructed item: bit 6 is 1
@@ -71,6 +76,7 @@ pub data Lawful (k : ℕ) (c : List ℕ) : Type 0 where
   any-octets : k ≡ 4 → Lawful k c
   no-octet : k ≡ 5 → length c ≡ 0 → Lawful k c
   small-number : k ≡ 10 → 1 ≤ length c → length c ≤ 8 → (n : ℕ) → integerOf c ≡ pos n → n < 65536 → Lawful k c
+  a-time : (q : TimeKind) → k ≡ timeNumber q → isTime q c ≡ true → Lawful k c
 
 -- what placing them requires: they are right, and the value has room
 pub record ToPlaceLeaf (kind : ℕ) (c : List ℕ) (parts : Bool) (room to : ℕ) : Type 0 where

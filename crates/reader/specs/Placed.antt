@@ -9,7 +9,8 @@ use lib.ListN.{length, getD, drop}
 use lib.Seq.{sets}
 use Rattle.octets.specs.Answer.{Answer, got}
 use Rattle.ber.specs.Told.{mode}
-use Rattle.table.specs.Entries.{unpacked, tableIn, countIn}
+use Rattle.table.specs.Reading.{tableIn, countIn}
+use Rattle.records.specs.Entries.{unpacked}
 use Rattle.coding.specs.Value.{Value, octets}
 use Rattle.coding.specs.Reading.{readValue}
 use Rattle.reader.specs.Codes.{firstOf, untagged, either}

@@ -8,10 +8,10 @@ use lib.Dec.{eqb}
 use lib.ListN.{getD}
 use Rattle.octets.specs.Answer.{Answer, if}
 use Rattle.table.specs.Syntax.{Record, Table}
-use Rattle.table.specs.Reading.{tagsAt, bodyAt}
+use Rattle.table.specs.Reading.{tagsAt, bodyAt, tableIn, countIn}
 use Rattle.table.specs.Passes.{Passes}
-use Rattle.table.specs.Entries.{unpacked, tagCount, tagPlace, tableIn, countIn, Entered, Filled}
-use Rattle.table.specs.declared.entry.Entry.{Entry}
+use Rattle.records.specs.Entries.{unpacked, tagCount, tagPlace, Entered, Filled}
+use Rattle.records.specs.declared.entry.Entry.{Entry}
 use Rattle.coding.specs.Value.{Value}
 use Rattle.coding.specs.Tags.{ownTag, explicit}
 use Rattle.coding.specs.Reading.{readWrapped, readKind, readValue}

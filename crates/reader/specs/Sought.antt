@@ -12,7 +12,8 @@ use Rattle.octets.specs.Answer.{Answer, got, refused, if}
 use Rattle.ber.specs.Codes.{codeOf}
 use Rattle.x690.specs.Reading.{readIdentifier}
 use Rattle.table.specs.Syntax.{Member}
-use Rattle.table.specs.Entries.{unpacked, tableIn}
+use Rattle.table.specs.Reading.{tableIn}
+use Rattle.records.specs.Entries.{unpacked}
 use Rattle.coding.specs.Reading.{notAwaited}
 use Rattle.reader.specs.Codes.{startsWith, searchIn, hit}
 use Rattle.reader.specs.Items.{Holder, inside, message, each-once, manner, partsOf, Placed, awaits, remains, isSingle, first, next}

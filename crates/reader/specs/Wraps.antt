@@ -16,7 +16,7 @@ use Rattle.ber.specs.Told.{mode}
 use Rattle.x690.specs.Reading.{readIdentifier, Mode, closed, open-ended, atEnd}
 use Rattle.x690.specs.Segments.{inParts}
 use Rattle.table.specs.Syntax.{Record, isChoice}
-use Rattle.table.specs.Entries.{tableIn}
+use Rattle.table.specs.Reading.{tableIn}
 use Rattle.coding.specs.Tags.{ownTag, explicit}
 use Rattle.coding.specs.Value.{Value}
 use Rattle.coding.specs.Reading.{readKind, readValue}

@@ -5,12 +5,12 @@ ghost use mathlib.Core.List.{List};
 ghost use Prim.Native.Nat.{ℕ};
 ghost use Rattle.octets.specs.Lists.{any as Lists·any};
 ghost use lib.Dec.{eqb};
-ghost use Rattle.table.specs.Entries.{unpacked};
+ghost use Rattle.records.specs.Entries.{unpacked};
 ghost use Rattle.reader.specs.Items.{left};
 ghost use Rattle.reader.specs.Sought.{held, Sound};
-use table::entry::optional;
-use table::entry::parts;
-use table::entry::unpack;
+use records::entry::optional;
+use records::entry::parts;
+use records::entry::unpack;
 
 // Whether one of the members from the i-th on that have not come is mandatory, or there is one at all if `any`.
 pub fn lacks(table: &[u8], w: u64, i: usize, came: &[u16; 16], any: bool) -> bool

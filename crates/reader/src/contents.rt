@@ -1,11 +1,11 @@
-// Contents octets of the simple kinds, judged and placed (X.690, 8.2 to 8.4, 8.6 to 8.8).
+// Contents octets of the simple kinds, judged and placed (X.690, 8.2 to 8.4, 8.6 to 8.8; FORMATS, "Times").
 ghost use mathlib.Core.Path.{_≡_};
 ghost use Prim.Native.Nat.{_<_, _≤_, _+_, _-_, _*_};
 ghost use lib.ListN.{length, getD, drop};
 ghost use Rattle.table.specs.Syntax.{Record};
 ghost use Rattle.table.specs.Reading.{bodyAt};
-ghost use Rattle.table.specs.Entries.{Entered};
-ghost use Rattle.reader.specs.Weights.{sizeBy};
+ghost use Rattle.records.specs.Entries.{Entered};
+ghost use Rattle.reader.specs.Weights.{weight, sizeBy};
 ghost use mathlib.Core.Bool.{true, false, not};
 ghost use mathlib.Core.List.{[], _∷_, _++_};
 ghost use lib.Dec.{eqb};
@@ -14,8 +14,11 @@ ghost use lib.Seq.{sets};
 ghost use Rattle.octets.specs.Numbers.{octetsOf};
 ghost use Rattle.x690.specs.Integer.{integerOf, eightOf};
 ghost use Rattle.x690.specs.BitString.{masked};
+ghost use Rattle.x690.specs.Time.{timeOf, isTime};
+ghost use Rattle.dates.specs.Own.{timeOctets};
+ghost use Rattle.table.specs.Syntax.{Time};
 ghost use Rattle.coding.specs.Value.{leafOctets, flag};
-ghost use Rattle.coding.specs.Reading.{natural};
+ghost use Rattle.coding.specs.Reading.{natural, decode};
 ghost use mathlib.Core.Logic.{_⊎_};
 ghost use Rattle.reader.specs.Answers.{told};
 ghost use Rattle.reader.specs.Leaves.{leafOf, Lawful, inSegments, readLeafIn, leafSize, ToPlaceLeaf, LeafPlaced};
@@ -23,19 +26,25 @@ use crate::answer::Judged;
 use crate::node::Placed;
 use crate::node::begin_node;
 use crate::node::put_number;
-use ber::bit_string;
-use ber::integer;
+use dates::TimeKind;
+use dates::own;
 use octets::cause::Cause;
 use octets::copy;
+use records::entry::Entry;
+use records::entry::lists;
+use records::kind::BIT_STRING;
+use records::kind::BOOLEAN;
+use records::kind::ENUMERATED;
+use records::kind::GENERALIZED_TIME;
+use records::kind::INTEGER;
+use records::kind::NULL;
+use records::kind::OCTET_STRING;
+use records::kind::UTC_TIME;
+use records::kind::time_kind;
 use segments::Segments;
-use table::entry::Entry;
-use table::entry::lists;
-use table::kind::BIT_STRING;
-use table::kind::BOOLEAN;
-use table::kind::ENUMERATED;
-use table::kind::INTEGER;
-use table::kind::NULL;
-use table::kind::OCTET_STRING;
+use simple::bit_string;
+use simple::integer;
+use simple::time;
 
 // How many octets the value of contents of a simple record has, in an item that begins with the octet `lead`; 0 if they are wrong for it, or
 // come in segments.
@@ -78,15 +87,31 @@ pub fn contents_size(table: &[u8], e: Entry, lead: u8, c: &[u8]) -> usize
         }
         return 3;
     }
-    if k != ENUMERATED {
+    if k == ENUMERATED {
+        if !integer::is_integer(c) {
+            return 0;
+        }
+        let z = integer::of(c);
+        if lists(table, e, z) {
+            return 5;
+        }
         return 0;
     }
-    if !integer::is_integer(c) {
+    if k < UTC_TIME {
         return 0;
     }
-    let z = integer::of(c);
-    if lists(table, e, z) {
-        return 5;
+    if GENERALIZED_TIME < k {
+        return 0;
+    }
+    time_size(time_kind(k), c)
+}
+
+// How many octets the value of a time's contents has; 0 if they are wrong for it.
+fn time_size(kind: TimeKind, c: &[u8]) -> usize
+    ensures { λ r. ⌜ (r ≡ weight (decode (Time kind) 0 (now (c .entry)) [])) × (r < 16386) ⌝ }
+{
+    if time::is_time(kind, c) {
+        return 10;
     }
     0
 }
@@ -220,6 +245,16 @@ fn put_enumerated(c: &[u8], buf: &mut [u8], to: usize) -> usize
     to + 2
 }
 
+fn put_time(kind: TimeKind, c: &[u8], buf: &mut [u8], to: usize) -> usize
+    requires { ⌜ (isTime kind (now c) ≡ true) × (to + 7 ≤ length (now buf)) ⌝ }
+    ensures { λ r. ⌜ (r ≡ to + 7) × (now (buf .exit) ≡ sets (now (buf .entry)) to (timeOctets (timeOf kind (now (c .entry))))) ⌝ }
+{
+    let end = to + 7;
+    let part = &mut buf[to..end];
+    own::put(time::of(kind, c), part);
+    end
+}
+
 // Places the value of contents of a simple kind; where it ends.
 pub fn place_contents(kind: u8, c: &[u8], buf: &mut [u8], to: usize) -> usize
     requires { ⌜ Lawful kind (now c) × (length (now c) ≤ 8192) × (to + length (leafOctets (leafOf kind (now c))) ≤ length (now buf)) ⌝ }
@@ -242,7 +277,13 @@ pub fn place_contents(kind: u8, c: &[u8], buf: &mut [u8], to: usize) -> usize
     if kind == NULL {
         return next;
     }
-    put_enumerated(c, buf, next)
+    if kind == ENUMERATED {
+        return put_enumerated(c, buf, next);
+    }
+    if kind == UTC_TIME {
+        return put_time(TimeKind::Utc, c, buf, next);
+    }
+    put_time(TimeKind::Generalized, c, buf, next)
 }
 
 // Places the value of a string whose segments stand in c; where they end, and the value.

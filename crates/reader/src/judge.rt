@@ -7,7 +7,8 @@ ghost use mathlib.Core.List.{List};
 ghost use Prim.Native.Nat.{ℕ, _<_, _≤_};
 ghost use lib.ListN.{length, drop};
 ghost use Rattle.ber.specs.Told.{endOf, mode};
-ghost use Rattle.table.specs.Entries.{unpacked, tableIn, countIn};
+ghost use Rattle.table.specs.Reading.{tableIn, countIn};
+ghost use Rattle.records.specs.Entries.{unpacked};
 ghost use Rattle.coding.specs.Reading.{readValue, readMessage};
 ghost use Rattle.reader.specs.Answers.{told, size};
 ghost use Rattle.reader.specs.Items.{manner, since, readHeld};
@@ -34,15 +35,15 @@ use ber::length;
 use ber::length::Length;
 use coding::LEVELS;
 use octets::cause::Cause;
-use table::entry::first;
-use table::entry::parts;
-use table::entry::unpack;
-use table::entry::whole;
-use table::kind::CHOICE;
-use table::kind::SEQUENCE;
-use table::kind::SET;
-use table::kind::has_members;
-use table::kind::holds_one;
+use records::entry::first;
+use records::entry::parts;
+use records::entry::unpack;
+use records::entry::whole;
+use records::kind::CHOICE;
+use records::kind::SEQUENCE;
+use records::kind::SET;
+use records::kind::has_members;
+use records::kind::holds_one;
 
 // An item, or the end of contents, behind which other octets begin at `end`.
 pub enum Standing {

@@ -10,8 +10,9 @@ mod set;
 mod tags;
 
 ghost use mathlib.Core.Path.{_≡_};
-ghost use Rattle.table.specs.Entries.{tableIn, Filled};
+ghost use Rattle.table.specs.Reading.{tableIn};
 ghost use Rattle.table.specs.Passes.{Passes};
+ghost use Rattle.records.specs.Entries.{Filled};
 ghost use Rattle.coding.specs.Calls.{readOutcome, wholeRead};
 use answer::Judged;
 use coding::Answer;

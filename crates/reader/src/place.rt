@@ -8,7 +8,7 @@ ghost use Prim.Native.Nat.{ℕ, _<_, _≤_};
 ghost use lib.ListN.{length, drop};
 ghost use lib.Seq.{sets};
 ghost use Rattle.octets.specs.Answer.{got};
-ghost use Rattle.table.specs.Entries.{countIn};
+ghost use Rattle.table.specs.Reading.{countIn};
 ghost use Rattle.coding.specs.Value.{Value, octets};
 ghost use Rattle.reader.specs.Items.{message};
 ghost use Rattle.reader.specs.Records.{Ready};
@@ -35,14 +35,14 @@ use crate::tags::close;
 use crate::tags::open;
 use ber::ending;
 use ber::length;
-use table::entry::first;
-use table::entry::parts;
-use table::entry::unpack;
-use table::entry::whole;
-use table::kind::CHOICE;
-use table::kind::SET;
-use table::kind::has_members;
-use table::kind::holds_one;
+use records::entry::first;
+use records::entry::parts;
+use records::entry::unpack;
+use records::entry::whole;
+use records::kind::CHOICE;
+use records::kind::SET;
+use records::kind::has_members;
+use records::kind::holds_one;
 
 // The value of w at a place of m: explicit tags, length, and contents, simple ones or items. Its first identifier ends at `from`.
 fn place_value(

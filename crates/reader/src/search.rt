@@ -4,7 +4,8 @@ ghost use mathlib.Core.Path.{_≡_};
 ghost use mathlib.Core.List.{List};
 ghost use Prim.Native.Nat.{ℕ, _≤_, _<_, _+_, _*_};
 ghost use lib.ListN.{length, getD};
-ghost use Rattle.table.specs.Entries.{unpacked, tableIn, countIn};
+ghost use Rattle.table.specs.Reading.{tableIn, countIn};
+ghost use Rattle.records.specs.Entries.{unpacked};
 ghost use Rattle.reader.specs.Codes.{untagged, firstOf};
 ghost use Rattle.reader.specs.Records.{Ready, Begins, Finds};
 ghost use Rattle.reader.specs.Sought.{held, Sound, direct as Sought·direct, unfitCause, Indirect, Sought};
@@ -15,17 +16,17 @@ use ber::identifier;
 use ber::identifier::Identifier;
 use octets::cause::Cause;
 use octets::octet;
-use table::entry::Span;
-use table::entry::UNTAGGED;
-use table::entry::alternatives;
-use table::entry::first;
-use table::entry::optional;
-use table::entry::parts;
-use table::entry::unpack;
-use table::kind::MESSAGE;
-use table::kind::SEQUENCE;
-use table::kind::has_members;
-use table::kind::is_string;
+use records::entry::Span;
+use records::entry::UNTAGGED;
+use records::entry::alternatives;
+use records::entry::first;
+use records::entry::optional;
+use records::entry::parts;
+use records::entry::unpack;
+use records::kind::MESSAGE;
+use records::kind::SEQUENCE;
+use records::kind::has_members;
+use records::kind::is_string;
 
 // The record of the j-th part of a span that lies in the table.
 pub fn part(table: &[u8], s: Span, j: usize) -> usize

@@ -4,7 +4,7 @@ ghost use mathlib.Core.List.{List};
 ghost use Prim.Native.Nat.{ℕ, _<_, _≤_};
 ghost use lib.ListN.{length, take, drop};
 ghost use Rattle.octets.specs.Answer.{got};
-ghost use Rattle.table.specs.Entries.{unpacked};
+ghost use Rattle.records.specs.Entries.{unpacked};
 ghost use Rattle.reader.specs.Answers.{told};
 ghost use Rattle.reader.specs.Codes.{either};
 ghost use Rattle.reader.specs.Records.{Ready, recordIn, IsRecord};
@@ -17,10 +17,10 @@ use ber::identifier::Identifier;
 use ber::length;
 use ber::length::Length;
 use octets::cause::Cause;
-use table::entry::tag_code;
-use table::entry::tag_count;
-use table::entry::unpack;
-use table::kind::is_string;
+use records::entry::tag_code;
+use records::entry::tag_count;
+use records::entry::unpack;
+use records::kind::is_string;
 
 // The item under all tags: where it begins, where its identifier ends, and where what it stands in ends.
 pub struct Inner {

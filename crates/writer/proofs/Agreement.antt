@@ -15,11 +15,11 @@ use Rattle.table.specs.Syntax.{Enumerated, Plain}
 use Rattle.table.specs.Octets.{kind}
 use Rattle.table.specs.Rules.{members}
 use Rattle.table.specs.Reading.{numbersAt, membersAt, everyAt, bodyAt}
-use Rattle.table.specs.Entries.{spanOf, counted, listsNumber}
-use Rattle.table.specs.declared.entry.Entry.{Entry}
-use Rattle.table.specs.declared.entry.Span.{Span}
 use Rattle.table.specs.Fields.{constructedOf}
-use Rattle.table.proofs.Promises.{entered-kind, entered-enumerated}
+use Rattle.records.specs.Entries.{spanOf, counted, listsNumber}
+use Rattle.records.specs.declared.entry.Entry.{Entry}
+use Rattle.records.specs.declared.entry.Span.{Span}
+use Rattle.records.proofs.Promises.{entered-kind, entered-enumerated}
 use Rattle.coding.specs.Form.{alternatives}
 use Rattle.coding.specs.Content.{listed}
 use Rattle.coding.specs.Judging.{flags, leafKind, nodeKind, numbers, leafAgrees, agreeing, counts, agrees}
@@ -54,7 +54,7 @@ module _ (b : List ℕ) (p n : ℕ) (v : List ℕ) (q : ℕ) (w : Bool) (e : agr
     complete-optional g = rw (more h, ne-eqb (getD v q 0) 1 f, sym et ∙ g) at e
 
 -- a node and a body of one kind k, whose own parts are at p and at own
-and-false : (a : Bool) → (a && false) ≡ false
+pub and-false : (a : Bool) → (a && false) ≡ false
 and-false true = refl
 and-false false = refl
 
@@ -97,8 +97,8 @@ module _ (b v : List ℕ) (own p : ℕ) where
   with-rest k =
       at k 48 WithRest (λ g _ _ _ _. refl) λ e₄₈.
       at k 49 WithRest (λ g _ _ _ _. refl) λ e₄₉ g e₁₆ e₁₇ e₅₀ h.
-      let (e₁, e₂, e₃, e₄, e₅, e₁₀) = not-simple k g in
-      absurd (none (rw (e₁, e₂, e₃, e₄, e₅, e₁₀, e₁₆, e₁₇, e₄₈, e₄₉, e₅₀) at h))
+      let (e₁, e₂, e₃, e₄, e₅, e₁₀, e₂₃, e₂₄) = not-simple k g in
+      absurd (none (rw (e₁, e₂, e₃, e₄, e₅, e₁₀, e₂₃, e₂₄, e₁₆, e₁₇, e₄₈, e₄₉, e₅₀) at h))
     where
       none : 0 < 0 → ⊥
       none h = omega arith
@@ -178,9 +178,11 @@ leaf-rest b v own p k =
     at k 2 (LeafRest b v own p) (λ _ _ _. refl) λ e₂.
     at k 3 (LeafRest b v own p) (λ _ _ _. refl) λ e₃.
     at k 4 (LeafRest b v own p) (λ _ _ _. refl) λ e₄.
-    at k 5 (LeafRest b v own p) (λ _ _ _. refl) λ e₅ g e₁₀ h.
+    at k 5 (LeafRest b v own p) (λ _ _ _. refl) λ e₅.
+    at k 23 (LeafRest b v own p) (λ _ _ _. refl) λ e₂₃.
+    at k 24 (LeafRest b v own p) (λ _ _ _. refl) λ e₂₄ g e₁₀ h.
     let (e₁₆, e₁₇, e₄₈, e₄₉, e₅₀) = no-built k g in
-    absurd (omega (arith, rw (e₁, e₂, e₃, e₄, e₅, e₁₀, e₁₆, e₁₇, e₄₈, e₄₉, e₅₀) at h))
+    absurd (omega (arith, rw (e₁, e₂, e₃, e₄, e₅, e₁₀, e₂₃, e₂₄, e₁₆, e₁₇, e₄₈, e₄₉, e₅₀) at h))
 
 module _ (b : List ℕ) (e : Entry) (K : Known b e) (v : List ℕ) (k p : ℕ) (ek : k ≡ e .kind) where
   pub leaf-agrees : constructedOf k ≡ false → (k ≡ 10 → ⊥) → 0 < ownEnd k v p → true ≡ agrees (recordIn b e .body) (nodeOf k v p)

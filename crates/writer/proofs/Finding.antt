@@ -13,13 +13,13 @@ use Rattle.octets.proofs.Tests.{test, at, or-by, or-false}
 use Rattle.octets.specs.Numbers.{Octets, two}
 use Rattle.table.specs.Syntax.{Record, references}
 use Rattle.table.specs.Rules.{members}
-use Rattle.table.specs.Reading.{membersAt, everyAt, bodyAt}
-use Rattle.table.specs.Entries.{spanOf, counted, tableIn, countIn}
+use Rattle.table.specs.Reading.{membersAt, everyAt, bodyAt, tableIn, countIn}
 use Rattle.table.specs.Passes.{Passes}
-use Rattle.table.specs.declared.entry.Entry.{Entry}
-use Rattle.table.specs.declared.entry.Span.{Span}
 use Rattle.table.specs.Fields.{constructedOf}
-use Rattle.table.proofs.Promises.{entered-kind, entered-span, part-inside}
+use Rattle.records.specs.Entries.{spanOf, counted}
+use Rattle.records.specs.declared.entry.Entry.{Entry}
+use Rattle.records.specs.declared.entry.Span.{Span}
+use Rattle.records.proofs.Promises.{entered-kind, entered-span, part-inside}
 use Rattle.coding.specs.Form.{element, alternatives}
 use Rattle.coding.specs.Judging.{flags, agrees}
 use Rattle.writer.specs.Nodes.{ownEnd, endAt, nodeOf, nodeAt}
@@ -183,9 +183,9 @@ module _ (b : List ℕ) (o : Octets b) (e : Entry) (v : List ℕ) (p : ℕ) (sha
   forms k =
       at k 48 Forms (λ g s a f. refl) λ e₄₈.
       at k 49 Forms (λ g s a f. refl) λ e₄₉ g s a f.
-      let (e₁, e₂, e₃, e₄, e₅, e₁₀) = not-simple k g in
+      let (e₁, e₂, e₃, e₄, e₅, e₁₀, e₂₃, e₂₄) = not-simple k g in
       let z = or-false (eqb k 16) (eqb k 17) a in
-      absurd (omega (arith, rw (e₁, e₂, e₃, e₄, e₅, e₁₀, z .0, z .1, e₄₈, e₄₉, ne-eqb k 50 f) at s))
+      absurd (omega (arith, rw (e₁, e₂, e₃, e₄, e₅, e₁₀, e₂₃, e₂₄, z .0, z .1, e₄₈, e₄₉, ne-eqb k 50 f) at s))
 
   found : constructedOf (e .kind) ≡ true → Found
   found g =

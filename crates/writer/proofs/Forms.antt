@@ -12,11 +12,12 @@ use Rattle.octets.specs.Answer.{Answer, got, refused, then}
 use Rattle.octets.proofs.Answer.{Holds, yields, refuses, then-holds, map-holds, if-holds}
 use Rattle.octets.specs.Lists.{joined}
 use Rattle.octets.proofs.Lists.{both}
-use Rattle.table.specs.Syntax.{Boolean, Integer, BitString, OctetString, Null, Enumerated, Body, Plain, Sequence, Set, SequenceOf, SetOf, Choice, Table}
+use Rattle.dates.specs.declared.TimeKind.the-variants.{Utc, Generalized}
+use Rattle.table.specs.Syntax.{Boolean, Integer, BitString, OctetString, Null, Enumerated, Time, Body, Plain, Sequence, Set, SequenceOf, SetOf, Choice, Table}
 use Rattle.table.specs.Syntax.{isChoice, constructed}
 use Rattle.table.specs.Octets.{kind}
 use Rattle.table.specs.Rules.{members}
-use Rattle.coding.specs.Value.{Value, leaf, sequence, set, sequenceOf, setOf, choice, slots, bag, boolean, integer, bits, string, null, enumerated}
+use Rattle.coding.specs.Value.{Value, leaf, sequence, set, sequenceOf, setOf, choice, slots, bag, boolean, integer, bits, string, null, enumerated, time}
 use Rattle.coding.specs.Form.{encode, element, alternatives, formMembers, formElements, formBody, wrap, formAt}
 use Rattle.coding.specs.Tags.{ownTag, explicit}
 use Rattle.coding.specs.Judging.{Node, a-leaf, a-sequence, a-set, a-sequence-of, a-set-of, a-choice, leafKind, nodeKind, counts, agrees, readNode, judgeMembers}
@@ -63,6 +64,8 @@ choice-kind (Plain BitString) = refl
 choice-kind (Plain OctetString) = refl
 choice-kind (Plain Null) = refl
 choice-kind (Plain (Enumerated ns)) = refl
+choice-kind (Plain (Time Utc)) = refl
+choice-kind (Plain (Time Generalized)) = refl
 choice-kind (Sequence ms) = refl
 choice-kind (Set ms) = refl
 choice-kind (SequenceOf t) = refl
@@ -77,6 +80,8 @@ chosen-kind (a-leaf (bits n c)) = refl
 chosen-kind (a-leaf (string c)) = refl
 chosen-kind (a-leaf null) = refl
 chosen-kind (a-leaf (enumerated k)) = refl
+chosen-kind (a-leaf (time Utc t)) = refl
+chosen-kind (a-leaf (time Generalized t)) = refl
 chosen-kind (a-sequence bs) = refl
 chosen-kind (a-set bs) = refl
 chosen-kind (a-sequence-of n) = refl

@@ -10,12 +10,12 @@ use lib.ListN.{getD}
 use Rattle.octets.proofs.Tests.{test}
 use Rattle.table.specs.Syntax.{Record, Table, isChoice}
 use Rattle.table.specs.Octets.{recordShaped}
-use Rattle.table.specs.Reading.{tagsAt}
+use Rattle.table.specs.Reading.{tagsAt, tableIn, countIn}
 use Rattle.table.specs.Rules.{missing}
 use Rattle.table.specs.Passes.{Passes}
-use Rattle.table.specs.Entries.{unpacked, tagCount, Entered, tableIn, countIn, Filled}
-use Rattle.table.specs.declared.entry.Entry.{Entry}
-use Rattle.table.proofs.Promises.{entered-tags}
+use Rattle.records.specs.Entries.{unpacked, tagCount, Entered, Filled}
+use Rattle.records.specs.declared.entry.Entry.{Entry}
+use Rattle.records.proofs.Promises.{entered-tags}
 use Rattle.writer.specs.Known.{recordIn, Known}
 use Rattle.writer.specs.Ready.{Ready}
 use Rattle.writer.proofs.Frames.{Tagged}

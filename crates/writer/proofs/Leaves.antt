@@ -10,20 +10,29 @@ use borrow.Author.Tests.{lt-ltb, le-ltb, le-leb, lt-leb, eq-eqb, ne-eqb, eqb-tru
 use lib.Dec.{ltb, leb, eqb}
 use lib.IntN.{ℤ, pos}
 use lib.ListN.{length, getD, take, drop, set, length-drop}
-use lib.Seq.{sets, length-take-le}
+use lib.Seq.{sets, length-take-le, getD-take}
 use Rattle.octets.proofs.Tests.{test, at}
 use Rattle.octets.specs.Numbers.{two}
 use Rattle.octets.specs.Buffers.{filled}
 use Rattle.x690.specs.Integer.{integerOf, fewestOf, eight}
+use Rattle.x690.specs.Time.{timeDigits, timeSize}
+use Rattle.x690.proofs.Times.{length-time}
+use Rattle.dates.specs.declared.DateTime.{DateTime}
+use Rattle.dates.specs.declared.TimeKind.{TimeKind}
+use Rattle.dates.specs.declared.TimeKind.the-variants.{Utc, Generalized}
+use Rattle.dates.specs.Calendar.{inRange}
+use Rattle.dates.specs.Own.{timeAt}
 use Rattle.table.specs.Syntax.{constructed}
 use Rattle.table.specs.Reading.{bodyAt}
-use Rattle.table.specs.Fields.{constructedOf}
+use Rattle.table.specs.Fields.{constructedOf, timeKind}
+use Rattle.coding.specs.Value.{time, timeNumber}
 use Rattle.coding.specs.Form.{encode, truth}
 use Rattle.coding.specs.Judging.{octetsFor, spareIn}
-use Rattle.writer.specs.Nodes.{fixedEnd, booleanEnd, stringEnd, bitsEnd, clearAt, ownEnd, leafOf}
+use Rattle.writer.specs.Nodes.{fixedEnd, booleanEnd, stringEnd, bitsEnd, timeEnd, clearAt, ownEnd, leafOf}
 use Rattle.writer.specs.Leaves.{Measures}
 use Rattle.writer.specs.declared.contents.Extent.{Extent}
 use Rattle.writer.proofs.Nodes.{fixed-is, no-built}
+use Rattle.writer.proofs.Reading.{time-at}
 
 none : {X : Type 0} → 0 < 0 → X
 none h = absurd (omega arith)
@@ -58,6 +67,28 @@ module _ (v : List ℕ) (p n : ℕ) where
     where
       ne-mod : 0 < n % 8
       ne-mod = test (ltb 0 (n % 8)) (λ t. ltb-true 0 (n % 8) t) λ t. absurd (h (let k : n % 8 ≤ 0 = ltb-false 0 (n % 8) t in omega arith))
+
+-- a time by its kind's octet
+own-time : (k : TimeKind) (v : List ℕ) (p : ℕ) → ownEnd (timeNumber k) v p ≡ timeEnd k v p
+unfolding ownEnd
+own-time Utc v p = refl
+own-time Generalized v p = refl
+
+leaf-time : (k : TimeKind) (v : List ℕ) (p : ℕ) → leafOf (timeNumber k) v p ≡ time k (timeAt v p)
+unfolding leafOf
+leaf-time Utc v p = refl
+leaf-time Generalized v p = refl
+
+time-few : (k : TimeKind) → timeSize k < 65536
+unfolding timeSize
+time-few Utc = omega arith
+time-few Generalized = omega arith
+
+time-in : (k : TimeKind) (v : List ℕ) (p : ℕ) → 0 < timeEnd k v p → (timeEnd k v p ≡ p + 7) × (p + 7 ≤ length v) × (inRange k (timeAt v p) ≡ true)
+unfolding timeEnd
+time-in k v p h =
+    test (ltb (length v) (p + 7)) (λ t. none (rw t at h)) λ t.
+    test (inRange k (timeAt v p)) (λ s. (rw (t, s) refl, ltb-false _ _ t, s)) λ s. none (rw (t, s) at h)
 
 -- what is measured: `none` is told where the own part is not shaped
 abbrev Nothing : Extent → Type 0
@@ -160,24 +191,49 @@ module _ (v : List ℕ) (p : ℕ) (r : Extent) where
   unfolding ownEnd leafOf encode
   number-measured h n s en es g e f = record { ends = e ∙ sym (fixed-long (p + 2) h); sized = λ _. f ∙ es ∙ rw en refl; small = omega arith }
 
--- the last simple kind, if it is none of the others
+  -- a time of a kind
+  module _ (k : TimeKind) where
+    pub time-short : length v < p + 7 → Nothing r → Measures (timeNumber k) v p r
+    unfolding timeEnd
+    time-short h z = none-measured (timeNumber k) (own-time k v p ∙ rw (lt-ltb (length v) (p + 7) h) refl) z
+
+    module _ (h : p + 7 ≤ length v) (t : DateTime) (et : t ≡ timeAt v p) (w : Bool) (ew : w ≡ inRange k t) where
+      in-range : (b : Bool) → w ≡ b → inRange k (timeAt v p) ≡ b
+      in-range b f = rw (← et) (sym ew ∙ f)
+
+      pub time-outside : w ≡ false → Nothing r → Measures (timeNumber k) v p r
+      unfolding timeEnd
+      time-outside f z = none-measured (timeNumber k) (own-time k v p ∙ rw (le-ltb (length v) (p + 7) h, in-range false f) refl) z
+
+      pub time-measured : w ≡ true → r .size ≡ timeSize k → r .end ≡ p + 7 → Measures (timeNumber k) v p r
+      unfolding timeEnd encode
+      time-measured f s e =
+          record {
+            ends = e ∙ sym (own-time k v p ∙ rw (le-ltb (length v) (p + 7) h, in-range true f) refl);
+            sized = λ _. s ∙ sym (rw (leaf-time k v p) (length-time k (timeAt v p)));
+            small = rw s (time-few k);
+          }
+
+-- the last simple kinds, those of times, if it is none of the others
 abbrev LastLeaf : ℕ → Type 0
-LastLeaf k = constructedOf k ≡ false → eqb k 1 ≡ false → eqb k 2 ≡ false → eqb k 3 ≡ false → eqb k 4 ≡ false → eqb k 5 ≡ false → k ≡ 10
+LastLeaf k = constructedOf k ≡ false → eqb k 1 ≡ false → eqb k 2 ≡ false → eqb k 3 ≡ false → eqb k 4 ≡ false → eqb k 5 ≡ false → eqb k 10 ≡ false
+    → k ≡ timeNumber (timeKind k)
 
 last-leaf : (k : ℕ) → LastLeaf k
-unfolding bodyAt constructed
+unfolding bodyAt constructed timeKind
 last-leaf k =
-    at k 10 LastLeaf (λ h _ _ _ _ _. refl) λ e₁₀ h e₁ e₂ e₃ e₄ e₅.
+    at k 23 LastLeaf (λ _ _ _ _ _ _ _. refl) λ e₂₃.
+    at k 24 LastLeaf (λ _ _ _ _ _ _ _. refl) λ e₂₄ h e₁ e₂ e₃ e₄ e₅ e₁₀.
     let (e₁₆, e₁₇, e₄₈, e₄₉, e₅₀) = no-built k h in
-    absurd (true≢false (rw (e₁, e₂, e₃, e₄, e₅, e₁₀, e₁₆, e₁₇, e₄₈, e₄₉) at h))
+    absurd (true≢false (rw (e₁, e₂, e₃, e₄, e₅, e₁₀, e₂₃, e₂₄, e₁₆, e₁₇, e₄₈, e₄₉) at h))
 
-module _ (k : ℕ) (v : List ℕ) (p : ℕ) where
-  pub same-kind : (i : ℕ) (r : Extent) → k ≡ i → Measures i v p r → Measures k v p r
-  same-kind i r e m = rw e m
+pub time-left : (k : ℕ) → constructedOf k ≡ false → (k ≡ 1 → ⊥) → (k ≡ 2 → ⊥) → (k ≡ 3 → ⊥) → (k ≡ 4 → ⊥) → (k ≡ 5 → ⊥) → (k ≡ 10 → ⊥)
+    → (i : TimeKind) → i ≡ timeKind k → k ≡ timeNumber i
+time-left k g e₁ e₂ e₃ e₄ e₅ e₁₀ i ei =
+    rw ei (last-leaf k g (ne-eqb k 1 e₁) (ne-eqb k 2 e₂) (ne-eqb k 3 e₃) (ne-eqb k 4 e₄) (ne-eqb k 5 e₅) (ne-eqb k 10 e₁₀))
 
-  pub no-kind : (r : Extent) → constructedOf k ≡ false → (k ≡ 1 → ⊥) → (k ≡ 2 → ⊥) → (k ≡ 3 → ⊥) → (k ≡ 4 → ⊥) → (k ≡ 5 → ⊥) → (k ≡ 10 → ⊥)
-      → Measures k v p r
-  no-kind r h e₁ e₂ e₃ e₄ e₅ e₁₀ = absurd (e₁₀ (last-leaf k h (ne-eqb k 1 e₁) (ne-eqb k 2 e₂) (ne-eqb k 3 e₃) (ne-eqb k 4 e₄) (ne-eqb k 5 e₅)))
+pub same-kind : (k : ℕ) (v : List ℕ) (p i : ℕ) (r : Extent) → k ≡ i → Measures i v p r → Measures k v p r
+same-kind k v p i r e m = rw e m
 
 -- a leaf that is shaped, by its kind: where it ends, and its contents octets
 module _ (k : ℕ) (v : List ℕ) (p : ℕ) (h : 0 < ownEnd k v p) where
@@ -318,13 +374,10 @@ module _ (k : ℕ) (v : List ℕ) (p : ℕ) (h : 0 < ownEnd k v p) where
     pub null-put : (to : ℕ) (first : List ℕ) → first ≡ sets first to (encode (leafOf k v p))
     null-put to first = rw encode-null refl
 
-  module _ (g : constructedOf k ≡ false) (e₁ : k ≡ 1 → ⊥) (e₂ : k ≡ 2 → ⊥) (e₃ : k ≡ 3 → ⊥) (e₄ : k ≡ 4 → ⊥) (e₅ : k ≡ 5 → ⊥) where
-    last-kind : k ≡ 10
-    last-kind = last-leaf k g (ne-eqb k 1 e₁) (ne-eqb k 2 e₂) (ne-eqb k 3 e₃) (ne-eqb k 4 e₄) (ne-eqb k 5 e₅)
-
+  module _ (e : k ≡ 10) where
     own-number : ownEnd k v p ≡ fixedEnd v (p + 2)
     unfolding ownEnd
-    own-number = rw last-kind refl
+    own-number = rw e refl
 
     pub number-there : p + 2 ≤ length v
     number-there = fixed-is v (p + 2) (rw own-number at h) .1
@@ -334,7 +387,27 @@ module _ (k : ℕ) (v : List ℕ) (p : ℕ) (h : 0 < ownEnd k v p) where
 
     pub encode-number : (n : ℕ) → n ≡ two v p → fewestOf (pos n) ≡ encode (leafOf k v p)
     unfolding encode leafOf
-    encode-number n en = rw (last-kind, en) refl
+    encode-number n en = rw (e, en) refl
+
+  module _ (i : TimeKind) (ei : k ≡ timeNumber i) where
+    time-shaped : 0 < timeEnd i v p
+    time-shaped = rw (ei, own-time i v p) at h
+
+    pub time-there : p + 7 ≤ length v
+    time-there = time-in i v p time-shaped .1
+
+    pub time-ranged : inRange i (timeAt v p) ≡ true
+    time-ranged = time-in i v p time-shaped .2
+
+    pub time-end : p + 7 ≡ ownEnd k v p
+    time-end = sym (time-in i v p time-shaped .0) ∙ sym (rw ei (own-time i v p))
+
+    pub encode-time : timeDigits i (timeAt v p) ≡ encode (leafOf k v p)
+    unfolding encode
+    encode-time = rw (ei, leaf-time i v p) refl
+
+    pub time-size : (n : ℕ) → n ≡ timeSize i → (n ≡ length (encode (leafOf k v p))) × (n < 65536)
+    time-size n en = (en ∙ sym (length-time i (timeAt v p)) ∙ ap length encode-time, rw en (time-few i))
 
 -- eight octets that are all there
 pub eight-is : (v : List ℕ) (p : ℕ) → p + 8 ≤ length v → (z : ℤ) → z ≡ integerOf (filled (eight 0) (take (p + 8 - p) (drop p v)))
@@ -344,3 +417,31 @@ eight-is v p h z e =
     let q : p + 8 - p ≡ 8 = omega arith in
     let l : eqb (length (take 8 (drop p v))) 8 ≡ true = eq-eqb _ _ (part-length v p 8 h) in
     e ∙ rw (q, l) refl
+
+-- the time of seven octets
+time-taken : (o : List ℕ) → timeAt (take 7 o) 0 ≡ timeAt o 0
+unfolding timeAt
+time-taken o =
+    let f : (i : ℕ) → i < 7 → getD (take 7 o) i 0 ≡ getD o i 0 = λ i h. getD-take 7 o i 0 h in
+    rw (f 0 (omega arith), f 1 (omega arith), f 2 (omega arith), f 3 (omega arith), f 4 (omega arith), f 5 (omega arith), f 6 (omega arith)) refl
+
+pub seven-is : (v : List ℕ) (p : ℕ) (t : DateTime) → t ≡ timeAt (take (p + 7 - p) (drop p v)) 0 → t ≡ timeAt v p
+seven-is v p t e = let q : p + 7 - p ≡ 7 = omega arith in e ∙ rw q (time-taken (drop p v)) ∙ time-at v p
+
+-- where a leaf ends, by its kind
+module _ (k : ℕ) (v : List ℕ) (p : ℕ) where
+  pub end-measured : (i : ℕ) (r : Extent) → k ≡ i → Measures i v p r → r .end ≡ ownEnd k v p
+  end-measured i r e m = same-kind k v p i r e m .ends
+
+  module _ {r : ℕ} where
+    pub end-integer : k ≡ 2 → r ≡ fixedEnd v (p + 8) → r ≡ ownEnd k v p
+    unfolding ownEnd
+    end-integer e h = rw e h
+
+    pub end-enumerated : k ≡ 10 → r ≡ fixedEnd v (p + 2) → r ≡ ownEnd k v p
+    unfolding ownEnd
+    end-enumerated e h = rw e h
+
+  pub end-null : k ≡ 5 → p ≡ ownEnd k v p
+  unfolding ownEnd
+  end-null e = rw e refl

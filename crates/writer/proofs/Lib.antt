@@ -9,6 +9,7 @@ pub mod Tags
 pub mod Forms
 pub mod Nodes
 pub mod Leaves
+pub mod Alone
 pub mod Standing
 pub mod Agreement
 pub mod Known

@@ -11,8 +11,9 @@ use Rattle.octets.specs.declared.cause.Cause.{Cause}
 use Rattle.octets.specs.declared.cause.Cause.the-variants.{ValueShape}
 use Rattle.table.specs.Syntax.{Record, Table}
 use Rattle.table.specs.Fields.{constructedOf}
-use Rattle.table.specs.Entries.{unpacked, tableIn, countIn}
-use Rattle.table.specs.declared.entry.Entry.{Entry}
+use Rattle.table.specs.Reading.{tableIn, countIn}
+use Rattle.records.specs.Entries.{unpacked}
+use Rattle.records.specs.declared.entry.Entry.{Entry}
 use Rattle.coding.specs.Judging.{judgeValue}
 use Rattle.writer.specs.Nodes.{IsMarked, Marked}
 use Rattle.writer.specs.Frames.{cap, framed}

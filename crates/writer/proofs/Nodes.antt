@@ -11,7 +11,8 @@ use lib.ListN.{length, getD}
 use Rattle.octets.proofs.Tests.{test, at, or-by, or-false}
 use Rattle.octets.proofs.Lists.{both}
 use Rattle.octets.specs.Lists.{all}
-use Rattle.table.specs.Syntax.{Boolean, Integer, BitString, OctetString, Null, Enumerated, Body, Plain, Sequence, Set, SequenceOf, SetOf, Choice, constructed}
+use Rattle.dates.specs.declared.TimeKind.the-variants.{Utc, Generalized}
+use Rattle.table.specs.Syntax.{Boolean, Integer, BitString, OctetString, Null, Enumerated, Time, Body, Plain, Sequence, Set, SequenceOf, SetOf, Choice, constructed}
 use Rattle.table.specs.Octets.{kind}
 use Rattle.table.specs.Reading.{everyAt, bodyAt}
 use Rattle.table.specs.Fields.{constructedOf}
@@ -45,12 +46,14 @@ node-kind k v p =
     at k 4 (NodeKindAt v p) (λ h. refl) λ e₄.
     at k 5 (NodeKindAt v p) (λ h. refl) λ e₅.
     at k 10 (NodeKindAt v p) (λ h. refl) λ e₁₀.
+    at k 23 (NodeKindAt v p) (λ h. refl) λ e₂₃.
+    at k 24 (NodeKindAt v p) (λ h. refl) λ e₂₄.
     at k 16 (NodeKindAt v p) (λ h. refl) λ e₁₆.
     at k 17 (NodeKindAt v p) (λ h. refl) λ e₁₇.
     at k 48 (NodeKindAt v p) (λ h. refl) λ e₄₈.
     at k 49 (NodeKindAt v p) (λ h. refl) λ e₄₉.
     at k 50 (NodeKindAt v p) (λ h. refl) λ e₅₀ h.
-    none (rw (e₁, e₂, e₃, e₄, e₅, e₁₀, e₁₆, e₁₇, e₄₈, e₄₉, e₅₀) at h)
+    none (rw (e₁, e₂, e₃, e₄, e₅, e₁₀, e₂₃, e₂₄, e₁₆, e₁₇, e₄₈, e₄₉, e₅₀) at h)
 
 -- a simple kind is none that is constructed
 other-kind : (k j : ℕ) → constructedOf k ≡ false → constructedOf j ≡ true → eqb k j ≡ false
@@ -62,7 +65,7 @@ no-built k h = (other-kind k 16 h refl, other-kind k 17 h refl, other-kind k 48 
 
 -- a constructed kind is none of the simple ones
 abbrev SimpleNot : ℕ → Type 0
-SimpleNot k = constructedOf k ≡ true → (eqb k 1 ≡ false) × (eqb k 2 ≡ false) × (eqb k 3 ≡ false) × (eqb k 4 ≡ false) × (eqb k 5 ≡ false) × (eqb k 10 ≡ false)
+SimpleNot k = constructedOf k ≡ true → (eqb k 1 ≡ false) × (eqb k 2 ≡ false) × (eqb k 3 ≡ false) × (eqb k 4 ≡ false) × (eqb k 5 ≡ false) × (eqb k 10 ≡ false) × (eqb k 23 ≡ false) × (eqb k 24 ≡ false)
 
 pub not-simple : (k : ℕ) → SimpleNot k
 unfolding bodyAt constructed
@@ -72,7 +75,9 @@ not-simple k =
     at k 3 SimpleNot (λ h. absurd (false≢true h)) λ e₃.
     at k 4 SimpleNot (λ h. absurd (false≢true h)) λ e₄.
     at k 5 SimpleNot (λ h. absurd (false≢true h)) λ e₅.
-    at k 10 SimpleNot (λ h. absurd (false≢true h)) λ e₁₀ h. (e₁, e₂, e₃, e₄, e₅, e₁₀)
+    at k 10 SimpleNot (λ h. absurd (false≢true h)) λ e₁₀.
+    at k 23 SimpleNot (λ h. absurd (false≢true h)) λ e₂₃.
+    at k 24 SimpleNot (λ h. absurd (false≢true h)) λ e₂₄ h. (e₁, e₂, e₃, e₄, e₅, e₁₀, e₂₃, e₂₄)
 
 -- the node of a simple kind is a leaf
 pub leaf-node : (k : ℕ) (v : List ℕ) (p : ℕ) → constructedOf k ≡ false → nodeOf k v p ≡ a-leaf (leafOf k v p)
@@ -88,6 +93,8 @@ constructed-kind (Plain BitString) = refl
 constructed-kind (Plain OctetString) = refl
 constructed-kind (Plain Null) = refl
 constructed-kind (Plain (Enumerated ns)) = refl
+constructed-kind (Plain (Time Utc)) = refl
+constructed-kind (Plain (Time Generalized)) = refl
 constructed-kind (Sequence ms) = refl
 constructed-kind (Set ms) = refl
 constructed-kind (SequenceOf t) = refl
@@ -131,8 +138,8 @@ long-end v p k =
     at k 48 (LongEnd v p) (λ g h. let w = fixed-is v (p + 2) h .0 in omega arith) λ e₄₈.
     at k 49 (LongEnd v p) (λ g h. let w = fixed-is v (p + 2) h .0 in omega arith) λ e₄₉.
     at k 50 (LongEnd v p) (λ g h. let w = fixed-is v (p + 1) h .0 in omega arith) λ e₅₀ g h.
-    let (e₁, e₂, e₃, e₄, e₅, e₁₀) = not-simple k g in
-    none (rw (e₁, e₂, e₃, e₄, e₅, e₁₀, e₁₆, e₁₇, e₄₈, e₄₉, e₅₀) at h)
+    let (e₁, e₂, e₃, e₄, e₅, e₁₀, e₂₃, e₂₄) = not-simple k g in
+    none (rw (e₁, e₂, e₃, e₄, e₅, e₁₀, e₂₃, e₂₄, e₁₆, e₁₇, e₄₈, e₄₉, e₅₀) at h)
 
 pub built-long : (v : List ℕ) (p : ℕ) → 0 < endAt v p → constructedOf (getD v (p + 2) 0) ≡ true → p + 4 ≤ endAt v p
 built-long v p h g = let w = long-end v (p + 3) (getD v (p + 2) 0) g (own-shaped v p h) in rw (own-end-is v p h) (omega arith)
@@ -180,8 +187,8 @@ module _ (v : List ℕ) (k p : ℕ) (c : constructedOf k ≡ true) where
     pub end-members : t ≡ true → membersEnd v p ≡ ownEnd k v p
     unfolding ownEnd
     end-members h =
-        let (e₁, e₂, e₃, e₄, e₅, e₁₀) = not-simple k c in
-        rw (e₁, e₂, e₃, e₄, e₅, e₁₀) (or-by (eqb k 16) (eqb k 17) (sym et ∙ h) (λ a. rw a refl) λ a. test (eqb k 16) (λ d. rw d refl) λ d. rw (d, a) refl)
+        let (e₁, e₂, e₃, e₄, e₅, e₁₀, e₂₃, e₂₄) = not-simple k c in
+        rw (e₁, e₂, e₃, e₄, e₅, e₁₀, e₂₃, e₂₄) (or-by (eqb k 16) (eqb k 17) (sym et ∙ h) (λ a. rw a refl) λ a. test (eqb k 16) (λ d. rw d refl) λ d. rw (d, a) refl)
 
     module _ (h : t ≡ false) (s : Bool) (es : s ≡ (eqb k 48 || eqb k 49)) where
       none-of : (eqb k 16 ≡ false) × (eqb k 17 ≡ false)
@@ -190,8 +197,8 @@ module _ (v : List ℕ) (k p : ℕ) (c : constructedOf k ≡ true) where
       pub end-list : s ≡ true → fixedEnd v (p + 2) ≡ ownEnd k v p
       unfolding ownEnd
       end-list g =
-          let (e₁, e₂, e₃, e₄, e₅, e₁₀) = not-simple k c in
-          rw (e₁, e₂, e₃, e₄, e₅, e₁₀, none-of .0, none-of .1) (or-by (eqb k 48) (eqb k 49) (sym es
+          let (e₁, e₂, e₃, e₄, e₅, e₁₀, e₂₃, e₂₄) = not-simple k c in
+          rw (e₁, e₂, e₃, e₄, e₅, e₁₀, e₂₃, e₂₄, none-of .0, none-of .1) (or-by (eqb k 48) (eqb k 49) (sym es
           ∙ g) (λ a. rw a refl) λ a. test (eqb k 48) (λ d. rw d refl) λ d. rw (d, a) refl)
 
       module _ (g : s ≡ false) where
@@ -205,5 +212,5 @@ module _ (v : List ℕ) (k p : ℕ) (c : constructedOf k ≡ true) where
         pub end-none : (k ≡ 50 → ⊥) → 0 ≡ ownEnd k v p
         unfolding ownEnd
         end-none f =
-            let (e₁, e₂, e₃, e₄, e₅, e₁₀) = not-simple k c in
-            rw (e₁, e₂, e₃, e₄, e₅, e₁₀, none-of .0, none-of .1, no-list .0, no-list .1, ne-eqb k 50 f) refl
+            let (e₁, e₂, e₃, e₄, e₅, e₁₀, e₂₃, e₂₄) = not-simple k c in
+            rw (e₁, e₂, e₃, e₄, e₅, e₁₀, e₂₃, e₂₄, none-of .0, none-of .1, no-list .0, no-list .1, ne-eqb k 50 f) refl

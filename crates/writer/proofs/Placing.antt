@@ -10,9 +10,10 @@ use lib.ListN.{length, getD}
 use lib.Seq.{sets}
 use Rattle.octets.specs.Numbers.{Octets}
 use Rattle.table.specs.Syntax.{Record, Table, constructed}
-use Rattle.table.specs.Entries.{unpacked, tableIn, countIn}
-use Rattle.table.specs.declared.entry.Entry.{Entry}
+use Rattle.table.specs.Reading.{tableIn, countIn}
 use Rattle.table.specs.Fields.{constructedOf}
+use Rattle.records.specs.Entries.{unpacked}
+use Rattle.records.specs.declared.entry.Entry.{Entry}
 use Rattle.coding.specs.Form.{encode}
 use Rattle.writer.specs.Nodes.{ownEnd, endAt, leafOf}
 use Rattle.writer.specs.Frames.{heads}

@@ -18,11 +18,15 @@ use Rattle.octets.specs.Lists.{all, same}
 use Rattle.octets.specs.Numbers.{two}
 use Rattle.x690.specs.BitString.{masked}
 use Rattle.x690.specs.Integer.{integerOf}
+use Rattle.dates.specs.declared.TimeKind.{TimeKind}
+use Rattle.dates.specs.declared.TimeKind.the-variants.{Utc, Generalized}
+use Rattle.dates.specs.Calendar.{inRange}
+use Rattle.dates.specs.Own.{timeAt}
 use Rattle.table.specs.Reading.{everyAt}
-use Rattle.coding.specs.Value.{boolean, integer, bits, string, enumerated}
+use Rattle.coding.specs.Value.{boolean, integer, bits, string, enumerated, time}
 use Rattle.coding.specs.Judging.{Node, a-leaf, a-sequence, a-set, a-sequence-of, a-set-of, a-choice, need, flags, ownMembers, ownCount, ownBoolean, ownInteger}
-use Rattle.coding.specs.Judging.{ownString, octetsFor, spareIn, ownBits, ownEnumerated, ownChoice, readOwn, readNode}
-use Rattle.writer.specs.Nodes.{fixedEnd, booleanEnd, stringEnd, clearAt, bitsEnd, membersEnd, ownEnd, endAt, leafOf, nodeOf, nodeAt}
+use Rattle.coding.specs.Judging.{ownString, octetsFor, spareIn, ownBits, ownEnumerated, ownTime, ownChoice, readOwn, readNode}
+use Rattle.writer.specs.Nodes.{fixedEnd, booleanEnd, stringEnd, clearAt, bitsEnd, timeEnd, membersEnd, ownEnd, endAt, leafOf, nodeOf, nodeAt}
 
 -- e is the end of the own part at p of the node x, where a is read; 0 if it is refused; l octets are left where the node begins
 pub data Reads (v : List ℕ) (l p : ℕ) (x : Node) : ℕ → Answer Node → Type 0 where
@@ -43,6 +47,10 @@ first-at v p = getD-drop p v 0 0 ∙ ap (λ (i : ℕ). getD v i 0) (add-zero p)
 
 two-at : (v : List ℕ) (p : ℕ) → two (drop p v) 0 ≡ two v p
 two-at v p = rw (first-at, getD-drop p v 1 0) refl
+
+pub time-at : (v : List ℕ) (p : ℕ) → timeAt (drop p v) 0 ≡ timeAt v p
+unfolding timeAt
+time-at v p = rw (two-at, getD-drop p v 2 0, getD-drop p v 3 0, getD-drop p v 4 0, getD-drop p v 5 0, getD-drop p v 6 0) refl
 
 every-take : (v : List ℕ) (p n : ℕ) → p + n ≤ length v → take n (drop p v) ≡ everyAt 1 v p n
 unfolding everyAt
@@ -96,7 +104,7 @@ module _ (v : List ℕ) (l p : ℕ) (h : p ≤ length v) where
             v,
       ) (good (p + 2 + two v p) (omega arith) w))))
 
-and-true : (b : Bool) → (b && true) ≡ b
+pub and-true : (b : Bool) → (b && true) ≡ b
 and-true true = refl
 and-true false = refl
 
@@ -167,6 +175,17 @@ module _ (v : List ℕ) (l p : ℕ) (h : p ≤ length v) where
   unfolding ownEnumerated
   enumerated-reads = fixed-reads v l p h 2 _ (a-leaf (enumerated (two v p))) (rw two-at refl)
 
+  time-reads : (k : TimeKind) → Reads v l p (a-leaf (time k (timeAt v p))) (timeEnd k v p) (ownTime k l (drop p v))
+  unfolding timeEnd ownTime
+  time-reads k =
+      let m = length-drop p v in
+      test (ltb (length v) (p + 7))
+      (λ t. let s : length v < p + 7 = ltb-true _ _ t in rw (t, need-no l 7 (drop p v) _ (omega arith)) bad)
+      (λ t.
+      let s : p + 7 ≤ length v = ltb-false _ _ t in
+      rw (t, need-yes l 7 (drop p v) _ (omega arith), time-at, drop-drop)
+      (test (inRange k (timeAt v p)) (λ u. rw u (simp run (good (p + 7) (omega arith) s))) λ u. rw u (simp run bad)))
+
   choice-reads : Reads v l p (a-choice (getD v p 0)) (fixedEnd v (p + 1)) (ownChoice l (drop p v))
   unfolding ownChoice
   choice-reads = fixed-reads v l p h 1 _ (a-choice (getD v p 0)) (rw first-at refl)
@@ -183,12 +202,14 @@ module _ (v : List ℕ) (l p : ℕ) (h : p ≤ length v) where
       at k 4 OwnReads (string-reads v l p h) λ e₄.
       at k 5 OwnReads (good p (omega arith) h) λ e₅.
       at k 10 OwnReads enumerated-reads λ e₁₀.
+      at k 23 OwnReads (time-reads Utc) λ e₂₃.
+      at k 24 OwnReads (time-reads Generalized) λ e₂₄.
       at k 16 OwnReads (members-reads a-sequence) λ e₁₆.
       at k 17 OwnReads (members-reads a-set) λ e₁₇.
       at k 48 OwnReads (count-reads a-sequence-of) λ e₄₈.
       at k 49 OwnReads (count-reads a-set-of) λ e₄₉.
       at k 50 OwnReads choice-reads λ e₅₀.
-      rw (e₁, e₂, e₃, e₄, e₅, e₁₀, e₁₆, e₁₇, e₄₈, e₄₉, e₅₀) bad
+      rw (e₁, e₂, e₃, e₄, e₅, e₁₀, e₂₃, e₂₄, e₁₆, e₁₇, e₄₈, e₄₉, e₅₀) bad
 
 -- the node at a place, with its mark
 pub node-reads : (v : List ℕ) (p : ℕ) → p ≤ length v → Reads v (length (drop p v)) (p + 3) (nodeAt v p) (endAt v p) (readNode (drop p v))

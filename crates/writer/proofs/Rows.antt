@@ -4,7 +4,7 @@ use mathlib.Core.Bool.{Bool, true, false, false≢true}
 use mathlib.Core.List.{List, [], _∷_, _++_, append-nil}
 use mathlib.Core.Option.{Option, some, none}
 use mathlib.Core.Path.{_≡_, refl, sym, ap, _∙_}
-use Prim.Native.Nat.{ℕ, zero, suc, _-_, _≤_, _<_}
+use Prim.Native.Nat.{ℕ, zero, suc, _-_, _≤_}
 use native.Mathlib.Omega.{arith}
 use lib.ListN.{length, getD, drop, replicate}
 use lib.Seq.{append-snoc}
@@ -16,7 +16,8 @@ use Rattle.table.specs.Syntax.{Member, Body, Table, constructed}
 use Rattle.table.specs.Reading.{bodyAt}
 use Rattle.table.specs.Rules.{members}
 use Rattle.table.specs.Fields.{constructedOf}
-use Rattle.coding.specs.Value.{Leaf, boolean, integer, bits, string, null, enumerated, Value, sequence, set, sequenceOf, setOf, choice, slots, bag}
+use Rattle.dates.specs.declared.TimeKind.the-variants.{Utc, Generalized}
+use Rattle.coding.specs.Value.{Leaf, boolean, integer, bits, string, null, enumerated, time, Value, sequence, set, sequenceOf, setOf, choice, slots, bag}
 use Rattle.coding.specs.Form.{element, alternatives, formMembers, formElements, formAt}
 use Rattle.coding.specs.Judging.{Node, a-leaf, a-sequence, a-set, a-sequence-of, a-set-of, a-choice, leafKind, nodeKind, judgeMembers, judgeElements}
 use Rattle.coding.specs.Judging.{judgeBelow, judgeValue}
@@ -153,6 +154,8 @@ module _ (T : Table) (n : ℕ) where
   leaf-simple (string c) = refl
   leaf-simple null = refl
   leaf-simple (enumerated m) = refl
+  leaf-simple (time Utc t) = refl
+  leaf-simple (time Generalized t) = refl
 
   -- one value is a row of one
   pub one-row : (t : ℕ) (s : List ℕ) → Alike (formAt T n t) (rowForm T n (t ∷ [])) (judgeValue T n t s) (judgeRow T n (t ∷ []) s)

@@ -9,8 +9,8 @@ use lib.ListN.{length, getD, drop}
 use Rattle.octets.specs.declared.cause.Cause.the-variants.{ValueShape, IllTyped, ValueLevel}
 use Rattle.table.specs.Syntax.{Table}
 use Rattle.table.specs.Fields.{constructedOf}
-use Rattle.table.specs.declared.entry.Entry.{Entry}
 use Rattle.table.proofs.Promises.{constructed-of}
+use Rattle.records.specs.declared.entry.Entry.{Entry}
 use Rattle.coding.specs.Form.{encode}
 use Rattle.coding.specs.Judging.{agrees, judgeValue}
 use Rattle.writer.specs.Nodes.{endAt, leafOf, nodeOf, IsMarked}

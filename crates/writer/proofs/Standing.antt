@@ -10,7 +10,7 @@ use lib.Dec.{eqb}
 use lib.ListN.{getD}
 use Rattle.octets.proofs.Tests.{test, or-by, or-false}
 use Rattle.octets.specs.Numbers.{two}
-use Rattle.table.specs.declared.entry.Entry.{Entry}
+use Rattle.records.specs.declared.entry.Entry.{Entry}
 use Rattle.writer.specs.Standing.{startAt, countAt, partsOf, placeOf, partOf, belowAt, rowFrom}
 
 module _ (e : Entry) (v : List ℕ) (p : ℕ) where

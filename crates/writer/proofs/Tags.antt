@@ -22,9 +22,10 @@ use Rattle.ber.proofs.Codes.{code-octets, octets-one}
 use Rattle.ber.proofs.Headers.{length-one, length-two, length-three, sets-append}
 use Rattle.table.specs.Syntax.{Tag, constructed}
 use Rattle.table.specs.Reading.{tagsAt}
-use Rattle.table.specs.Entries.{outermostCode, tagCount, tagPlace}
-use Rattle.table.specs.declared.entry.Entry.{Entry}
-use Rattle.table.proofs.Promises.{shaped-classes, entered-tags, entered-bit}
+use Rattle.table.proofs.Promises.{shaped-classes}
+use Rattle.records.specs.Entries.{outermostCode, tagCount, tagPlace}
+use Rattle.records.specs.declared.entry.Entry.{Entry}
+use Rattle.records.proofs.Promises.{entered-tags, entered-bit}
 use Rattle.writer.specs.Frames.{cap, identifierSize, lengthSize, framed, some, heads}
 use Rattle.writer.specs.Known.{tagsFrom, recordIn, Known, Short}
 use Rattle.writer.proofs.Headers.{identifier-length, identifier-small}

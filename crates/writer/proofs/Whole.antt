@@ -5,8 +5,8 @@ use mathlib.Core.Path.{_≡_, sym, _∙_}
 use Prim.Native.Nat.{ℕ, _<_}
 use native.Mathlib.Omega.{arith}
 use lib.ListN.{length, drop}
-use Rattle.table.specs.Entries.{tableIn, countIn}
-use Rattle.table.specs.declared.entry.Entry.{Entry}
+use Rattle.table.specs.Reading.{tableIn, countIn}
+use Rattle.records.specs.declared.entry.Entry.{Entry}
 use Rattle.coding.specs.Form.{formAt}
 use Rattle.coding.specs.Judging.{judgeValue}
 use Rattle.writer.specs.Standing.{startAt, rowIn, Standing}

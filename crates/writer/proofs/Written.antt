@@ -16,8 +16,9 @@ use Rattle.octets.proofs.Tests.{test}
 use Rattle.octets.specs.Answer.{Answer, got, refused, then, if, none-left}
 use Rattle.octets.proofs.Answer.{run, refused≢got, then-refused}
 use Rattle.table.specs.Syntax.{Table}
-use Rattle.table.specs.Entries.{tableIn, Filled}
+use Rattle.table.specs.Reading.{tableIn}
 use Rattle.table.specs.Passes.{Passes}
+use Rattle.records.specs.Entries.{Filled}
 use Rattle.coding.specs.Value.{Value}
 use Rattle.coding.specs.Form.{formAt}
 use Rattle.coding.specs.Judging.{need, readNode, judgeValue, judgeWhole}

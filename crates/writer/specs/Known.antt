@@ -7,8 +7,8 @@ use Prim.Native.Nat.{ℕ, _-_, _*_, _<_}
 use Rattle.table.specs.Syntax.{Tag, Record}
 use Rattle.table.specs.Octets.{recordShaped}
 use Rattle.table.specs.Reading.{tagsAt, bodyAt}
-use Rattle.table.specs.Entries.{tagCount, tagPlace, Entered}
-use Rattle.table.specs.declared.entry.Entry.{Entry}
+use Rattle.records.specs.Entries.{tagCount, tagPlace, Entered}
+use Rattle.records.specs.declared.entry.Entry.{Entry}
 
 -- its tags from the j-th on
 abbrev pub tagsFrom : List ℕ → Entry → ℕ → List Tag

@@ -10,8 +10,12 @@ use Rattle.octets.specs.Tests.{if}
 use Rattle.octets.specs.Lists.{all}
 use Rattle.octets.specs.Numbers.{two}
 use Rattle.x690.specs.Integer.{integerOf}
+use Rattle.dates.specs.declared.TimeKind.{TimeKind}
+use Rattle.dates.specs.declared.TimeKind.the-variants.{Utc, Generalized}
+use Rattle.dates.specs.Calendar.{inRange}
+use Rattle.dates.specs.Own.{timeAt}
 use Rattle.table.specs.Reading.{everyAt}
-use Rattle.coding.specs.Value.{Leaf, boolean, integer, bits, string, null, enumerated}
+use Rattle.coding.specs.Value.{Leaf, boolean, integer, bits, string, null, enumerated, time}
 use Rattle.coding.specs.Judging.{Node, a-leaf, a-sequence, a-set, a-sequence-of, a-set-of, a-choice, flags, octetsFor, spareIn}
 
 -- e, if there are so many octets; else 0
@@ -43,6 +47,13 @@ bitsEnd v p =
     if (not (clearAt v (p + 2) (two v p))) 0 λ _.
     p + 2 + octetsFor (two v p)
 
+-- seven octets of a time in range
+unfoldable pub timeEnd : TimeKind → List ℕ → ℕ → ℕ
+timeEnd k v p =
+    if (ltb (length v) (p + 7)) 0 λ _.
+    if (not (inRange k (timeAt v p))) 0 λ _.
+    p + 7
+
 unfoldable pub membersEnd : List ℕ → ℕ → ℕ
 membersEnd v p =
     if (ltb (length v) (p + 1)) 0 λ _.
@@ -59,6 +70,8 @@ ownEnd k v p =
     if (eqb k 4) (stringEnd v p) λ _.
     if (eqb k 5) p λ _.
     if (eqb k 10) (fixedEnd v (p + 2)) λ _.
+    if (eqb k 23) (timeEnd Utc v p) λ _.
+    if (eqb k 24) (timeEnd Generalized v p) λ _.
     if (eqb k 16) (membersEnd v p) λ _.
     if (eqb k 17) (membersEnd v p) λ _.
     if (eqb k 48) (fixedEnd v (p + 2)) λ _.
@@ -82,6 +95,8 @@ leafOf k v p =
     if (eqb k 3) (bits (spareIn (two v p)) (take (octetsFor (two v p)) (drop (p + 2) v))) λ _.
     if (eqb k 4) (string (take (two v p) (drop (p + 2) v))) λ _.
     if (eqb k 5) null λ _.
+    if (eqb k 23) (time Utc (timeAt v p)) λ _.
+    if (eqb k 24) (time Generalized (timeAt v p)) λ _.
     enumerated (two v p)
 
 -- the node of kind k whose own part is at p

@@ -6,8 +6,8 @@ use Prim.Native.Nat.{ℕ, _+_, _≤_}
 use lib.ListN.{length, drop}
 use lib.Seq.{sets}
 use Rattle.octets.specs.Answer.{Answer}
-use Rattle.table.specs.Entries.{tableIn}
-use Rattle.table.specs.declared.entry.Entry.{Entry}
+use Rattle.table.specs.Reading.{tableIn}
+use Rattle.records.specs.declared.entry.Entry.{Entry}
 use Rattle.writer.specs.Standing.{startAt, rowIn, Standing}
 use Rattle.writer.specs.Ready.{Ready}
 use Rattle.writer.specs.Rows.{judgeRow, rowForm}

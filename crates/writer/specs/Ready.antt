@@ -3,8 +3,9 @@
 use mathlib.Core.List.{List}
 use Prim.Native.Nat.{ℕ, _≤_}
 use lib.ListN.{length}
-use Rattle.table.specs.Entries.{tableIn, countIn, Filled}
+use Rattle.table.specs.Reading.{tableIn, countIn}
 use Rattle.table.specs.Passes.{Passes}
+use Rattle.records.specs.Entries.{Filled}
 
 -- the index of the table b, which passes, and a value that is not over-long
 pub record Ready (b index v : List ℕ) : Type 0 where

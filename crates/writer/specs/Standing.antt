@@ -9,9 +9,10 @@ use lib.Dec.{ltb, eqb}
 use lib.ListN.{length, getD}
 use Rattle.octets.specs.Tests.{if}
 use Rattle.octets.specs.Numbers.{two}
-use Rattle.table.specs.Entries.{spanOf, countIn}
-use Rattle.table.specs.declared.entry.Entry.{Entry}
-use Rattle.table.specs.declared.entry.Span.{Span}
+use Rattle.table.specs.Reading.{countIn}
+use Rattle.records.specs.Entries.{spanOf}
+use Rattle.records.specs.declared.entry.Entry.{Entry}
+use Rattle.records.specs.declared.entry.Span.{Span}
 
 -- where the first value begins
 unfoldable pub startAt : Entry → List ℕ → ℕ → ℕ

@@ -1,25 +1,36 @@
-// The contents octets of the simple kinds (X.690, 8.2 to 8.4, 8.6 to 8.8). A leaf's own part is at p.
+// The contents octets of the simple kinds (X.690, 8.2 to 8.4, 8.6 to 8.8; FORMATS, "Times"). A leaf's own part is at p.
 ghost use mathlib.Core.Path.{_≡_};
-ghost use mathlib.Core.Bool.{false};
+ghost use mathlib.Core.Bool.{true, false};
 ghost use Prim.Native.Nat.{_<_, _≤_, _+_, _/_};
 ghost use lib.ListN.{length, take, drop};
 ghost use lib.Seq.{sets};
 ghost use lib.IntN.{pos};
 ghost use Rattle.octets.specs.Numbers.{two};
 ghost use Rattle.x690.specs.Integer.{integerOf, fewestOf};
+ghost use Rattle.x690.specs.Time.{timeDigits};
+ghost use Rattle.dates.specs.Calendar.{inRange};
+ghost use Rattle.dates.specs.Own.{timeAt};
 ghost use Rattle.table.specs.Fields.{constructedOf};
+ghost use Rattle.coding.specs.Value.{timeNumber};
 ghost use Rattle.coding.specs.Form.{encode};
 ghost use Rattle.writer.specs.Nodes.{ownEnd, leafOf, clearAt};
 ghost use Rattle.writer.specs.Leaves.{Measures};
-use ber::bit_string;
-use ber::integer;
+use crate::node::fixed_end;
+use dates::DateTime;
+use dates::TimeKind;
+use dates::calendar;
+use dates::own;
 use octets::copy;
-use table::kind::BIT_STRING;
-use table::kind::BOOLEAN;
-use table::kind::ENUMERATED;
-use table::kind::INTEGER;
-use table::kind::NULL;
-use table::kind::OCTET_STRING;
+use records::kind::BIT_STRING;
+use records::kind::BOOLEAN;
+use records::kind::ENUMERATED;
+use records::kind::INTEGER;
+use records::kind::NULL;
+use records::kind::OCTET_STRING;
+use records::kind::time_kind;
+use simple::bit_string;
+use simple::integer;
+use simple::time;
 
 // The number that two octets at p stand for.
 pub fn two(v: &[u8], p: usize) -> usize
@@ -67,6 +78,15 @@ fn number_size(n: usize) -> usize
         ⌝ }
 {
     integer::size(n as i64)
+}
+
+// The time of the seven octets at p.
+fn seven(v: &[u8], p: usize) -> DateTime
+    requires { ⌜ p + 7 ≤ length (now v) ⌝ }
+    ensures { λ r. ⌜ r ≡ timeAt (now (v .entry)) p ⌝ }
+{
+    let end = p + 7;
+    own::of(&v[p..end])
 }
 
 // Whether n bits from p on have 0 behind them to the end of their last octet, the one before e.
@@ -166,6 +186,21 @@ fn enumerated(v: &[u8], p: usize) -> Extent
     Extent { end, size }
 }
 
+fn time(v: &[u8], p: usize, kind: TimeKind) -> Extent
+    requires { ⌜ p < 20000 ⌝ }
+    ensures { λ r. ⌜ Measures (timeNumber kind) (now (v .entry)) p r ⌝ }
+{
+    let end = p + 7;
+    if v.len() < end {
+        return none();
+    }
+    if !calendar::in_range(kind, seven(v, p)) {
+        return none();
+    }
+    let size = time::size(kind);
+    Extent { end, size }
+}
+
 // The leaf of a kind.
 pub fn measure(kind: u8, v: &[u8], p: usize) -> Extent
     requires { ⌜
@@ -192,7 +227,36 @@ pub fn measure(kind: u8, v: &[u8], p: usize) -> Extent
     if kind == ENUMERATED {
         return enumerated(v, p);
     }
-    none()
+    time(v, p, time_kind(kind))
+}
+
+// Where the own part of the leaf of a kind ends; 0 if it is not shaped.
+pub fn end(kind: u8, v: &[u8], p: usize) -> usize
+    requires { ⌜
+        (p < 20000)
+        × (constructedOf kind ≡ false)
+        ⌝ }
+    ensures { λ r. ⌜ r ≡ ownEnd kind (now (v .entry)) p ⌝ }
+{
+    if kind == BOOLEAN {
+        return boolean(v, p).end;
+    }
+    if kind == INTEGER {
+        return fixed_end(v, p + 8);
+    }
+    if kind == BIT_STRING {
+        return bits(v, p).end;
+    }
+    if kind == OCTET_STRING {
+        return string(v, p).end;
+    }
+    if kind == NULL {
+        return p;
+    }
+    if kind == ENUMERATED {
+        return fixed_end(v, p + 2);
+    }
+    time(v, p, time_kind(kind)).end
 }
 
 // How many contents octets the shaped leaf of a kind has.
@@ -222,7 +286,10 @@ pub fn size(kind: u8, v: &[u8], p: usize) -> usize
     if kind == NULL {
         return 0;
     }
-    number_size(two(v, p))
+    if kind == ENUMERATED {
+        return number_size(two(v, p));
+    }
+    time::size(time_kind(kind))
 }
 
 // Copies n octets of v from p on into the buffer.
@@ -249,6 +316,21 @@ fn put_integer(z: i64, size: usize, buf: &mut [u8], to: usize)
 {
     let last = to + size;
     integer::put(z, &mut buf[to..last]);
+}
+
+// Puts the `size` contents octets of the time at p.
+fn put_time(kind: TimeKind, size: usize, v: &[u8], p: usize, buf: &mut [u8], to: usize)
+    requires { ⌜
+        (p + 7 ≤ length (now v))
+        × (inRange kind (timeAt (now v) p) ≡ true)
+        × (size ≡ length (timeDigits kind (timeAt (now v) p)))
+        × (to + size ≤ length (now buf))
+        ⌝ }
+    ensures { λ _. ⌜ now (buf .exit) ≡ sets (now (buf .entry)) to (timeDigits kind (timeAt (now (v .entry)) p)) ⌝ }
+{
+    let t = seven(v, p);
+    let last = to + size;
+    time::put(kind, t, &mut buf[to..last]);
 }
 
 // Puts the contents octets, `size` of them, of the shaped leaf of a kind; where its own part ends.
@@ -290,6 +372,10 @@ pub fn put(kind: u8, size: usize, v: &[u8], p: usize, buf: &mut [u8], to: usize)
     if kind == NULL {
         return p;
     }
-    put_integer(two(v, p) as i64, size, buf, to);
-    p + 2
+    if kind == ENUMERATED {
+        put_integer(two(v, p) as i64, size, buf, to);
+        return p + 2;
+    }
+    put_time(time_kind(kind), size, v, p, buf, to);
+    p + 7
 }

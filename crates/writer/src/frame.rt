@@ -5,14 +5,14 @@ ghost use Prim.Native.Nat.{_<_, _≤_, _+_};
 ghost use lib.ListN.{length};
 ghost use lib.Seq.{sets};
 ghost use Rattle.table.specs.Syntax.{constructed};
-ghost use Rattle.table.specs.Entries.{unpacked};
+ghost use Rattle.records.specs.Entries.{unpacked};
 ghost use Rattle.writer.specs.Frames.{cap, framed, heads};
 ghost use Rattle.writer.specs.Known.{tagsFrom, recordIn, Known, Short};
 use ber::item;
-use table::entry::first;
-use table::entry::tag_code;
-use table::entry::tag_count;
-use table::entry::unpack;
+use records::entry::first;
+use records::entry::tag_code;
+use records::entry::tag_count;
+use records::entry::unpack;
 
 // Stands for every length above that of the longest message.
 const OVER: usize = 8193;

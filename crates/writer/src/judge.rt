@@ -7,7 +7,8 @@ ghost use lib.ListN.{length, getD, drop};
 ghost use mathlib.Core.List.{[], _∷_};
 ghost use Rattle.table.specs.Syntax.{Table};
 ghost use Rattle.table.specs.Fields.{constructedOf};
-ghost use Rattle.table.specs.Entries.{unpacked, tableIn, countIn};
+ghost use Rattle.table.specs.Reading.{tableIn, countIn};
+ghost use Rattle.records.specs.Entries.{unpacked};
 ghost use Rattle.coding.specs.Form.{formAt};
 ghost use Rattle.coding.specs.Judging.{agrees, judgeValue};
 ghost use Rattle.writer.specs.Nodes.{ownEnd, nodeOf, IsMarked};
@@ -23,13 +24,13 @@ use crate::frame;
 use crate::node;
 use coding::LEVELS;
 use octets::cause::Cause;
-use table::entry::Entry;
-use table::entry::lists;
-use table::entry::parts;
-use table::entry::unpack;
-use table::entry::whole;
-use table::kind::ENUMERATED;
-use table::kind::constructed;
+use records::entry::Entry;
+use records::entry::lists;
+use records::entry::parts;
+use records::entry::unpack;
+use records::entry::whole;
+use records::kind::ENUMERATED;
+use records::kind::constructed;
 
 // Where a part of the value ends, and how many octets are written of it, to 8,193; or why it is refused.
 pub enum Judged {

@@ -1,15 +1,18 @@
-// Writes values as messages: the octets of a value are judged against a table and a type, and its form is put into a lent buffer.
+// Writes values as messages: the octets of a value are judged against a table and a type, and its form is put into a lent buffer. `lone` judges
+// octets with no table: whether they are one node.
 mod contents;
 mod frame;
 mod judge;
+pub mod lone;
 mod node;
 mod put;
 
 ghost use mathlib.Core.Path.{_≡_};
 ghost use Prim.Native.Nat.{_≤_};
 ghost use lib.ListN.{length};
-ghost use Rattle.table.specs.Entries.{tableIn, Filled};
+ghost use Rattle.table.specs.Reading.{tableIn};
 ghost use Rattle.table.specs.Passes.{Passes};
+ghost use Rattle.records.specs.Entries.{Filled};
 ghost use Rattle.coding.specs.Calls.{writeOutcome, wholeWrite};
 use coding::Answer;
 use coding::LONGEST_MESSAGE;

@@ -13,15 +13,15 @@ ghost use Rattle.writer.specs.Nodes.{membersEnd, fixedEnd, ownEnd, nodeO
 ghost use Rattle.writer.specs.Known.{recordIn, Known};
 ghost use Rattle.writer.specs.Standing.{startAt, countAt, partsOf, placeOf, belowAt, Standing};
 use octets::octet;
-use table::entry::Entry;
-use table::entry::Span;
-use table::entry::optional;
-use table::entry::parts;
-use table::kind::CHOICE;
-use table::kind::MESSAGE;
-use table::kind::has_members;
-use table::kind::holds_one;
-use table::kind::is_list;
+use records::entry::Entry;
+use records::entry::Span;
+use records::entry::optional;
+use records::entry::parts;
+use records::kind::CHOICE;
+use records::kind::MESSAGE;
+use records::kind::has_members;
+use records::kind::holds_one;
+use records::kind::is_list;
 
 // Whether the octets of a node with its mark are there, to its kind.
 pub fn marked(v: &[u8], at: usize) -> bool
@@ -74,7 +74,7 @@ fn members_end(v: &[u8], p: usize) -> usize
 }
 
 // e, if so many octets are there; else 0.
-fn fixed_end(v: &[u8], e: usize) -> usize
+pub fn fixed_end(v: &[u8], e: usize) -> usize
     ensures { λ r. ⌜ r ≡ fixedEnd (now (v .entry)) e ⌝ }
 {
     if v.len() < e {

@@ -3,7 +3,8 @@ ghost use mathlib.Core.Path.{_≡_};
 ghost use mathlib.Core.List.{[], _∷_};
 ghost use Prim.Native.Nat.{_<_};
 ghost use lib.ListN.{length};
-ghost use Rattle.table.specs.Entries.{unpacked, tableIn, countIn};
+ghost use Rattle.table.specs.Reading.{tableIn, countIn};
+ghost use Rattle.records.specs.Entries.{unpacked};
 ghost use Rattle.coding.specs.Form.{formAt};
 ghost use Rattle.coding.specs.Judging.{judgeValue};
 ghost use Rattle.writer.specs.Ready.{Ready};
@@ -12,9 +13,9 @@ ghost use Rattle.writer.specs.Putting.{Fits, IsPut, Puts, PutBy};
 use crate::contents;
 use crate::frame;
 use crate::node;
-use table::entry::parts;
-use table::entry::unpack;
-use table::entry::whole;
+use records::entry::parts;
+use records::entry::unpack;
+use records::entry::whole;
 
 // Where values end, and where what was put of them ends in the buffer.
 pub struct Placed {

@@ -20,7 +20,7 @@ read-spec =
     let c4 = c .before .before .before .before in
     let c8 = c4 .before .before .before .before in
     let b = now (c8 .before .args .table) in
-    table-ready b _ (c4 .check-into .ensures .0) (c .before .before .enum-told .given .1) _ _ (c4 .check-into .ensures .1)
+    table-ready b _ (c4 .check-into .ensures .0) (c .before .before .enum-told .given .1) _ (c4 .check-into .ensures .1) (λ f. f .count)
     (λ k. omega (arith, c8 .shared-slice-known .given k)))  -- read-passed-requires
     (λ c.
     let c3 = c .before .before .before in
@@ -35,5 +35,5 @@ read-spec =
     let a = c7 .before .before .before .before .before .args in
     let b = now (a .table) in
     let v = now (a .buf) in
-    out-passed b _ (c7 .check-into .ensures .0) (c5 .enum-told .given .1) _ _ (c7 .check-into .ensures .1) v (λ T n. readOutcome T n _
+    out-passed b _ (c7 .check-into .ensures .0) (c5 .enum-told .given .1) _ (c7 .check-into .ensures .1) (λ f. f .count) v (λ T n. readOutcome T n _
     _ v) _ _ (c .before .before .read-passed .ensures)))  -- returns-2

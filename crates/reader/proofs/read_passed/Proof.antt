@@ -3,7 +3,7 @@
 use mathlib.Core.Path.{refl}
 use native.Mathlib.Omega.{arith}
 use denote.Ref.{now}
-use Rattle.table.specs.Entries.{tableIn}
+use Rattle.table.specs.Reading.{tableIn}
 use Rattle.reader.proofs.Outcomes.{ready, out-type, out-long, refused-within, out-refused, out-over, out-room, fits, out-done}
 use borrow.Author.Needs.{needs}
 use Rattle.reader.proofs.read_passed.Statement.{statement}

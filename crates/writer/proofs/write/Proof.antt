@@ -25,8 +25,8 @@ write-spec =
     let a = c .before .before .before .before .before .before .before .before .before .before .args in
     let b = now (a .table) in
     let w = now (a .buf) in
-    let x = table-ready b _ (c .before .before .before .before .before .check-into .ensures .0) (c .before .before .before .enum-told .given .1) _ _
-    (c .before .before .before .before .before .check-into .ensures .1) (λ k. omega (
+    let x = table-ready b _ (c .before .before .before .before .before .check-into .ensures .0) (c .before .before .before .enum-told .given .1) _
+    (c .before .before .before .before .before .check-into .ensures .1) (λ f. f .count) (λ k. omega (
       arith,
       c .before .before .before .before .before .before .before
           .before .before .shared-slice-known .given k,
@@ -38,15 +38,15 @@ write-spec =
     let b = now (a .table) in
     let w = now (a .buf) in
     out-passed b _ (c .before .before .before .before .before .before .before .before .check-into .ensures .0) (c .before .before .before .before
-    .before .before .enum-told .given .1) _ _ (c .before .before .before .before .before .before .before .before .check-into .ensures .1) w (λ T n.
+    .before .before .enum-told .given .1) _ (c .before .before .before .before .before .before .before .before .check-into .ensures .1) (λ f. f .count) w (λ T n.
     writeOutcome T n (a .t) (now (a .value)) w) _ _ (out-front w (c .before .before .before .before .before .if1 .taken) _ _ _ _ _ _ (c .before
     .before .write-passed .ensures)))  -- returns
     (λ c κs.
     let a = c .before .before .before .before .before .before .before .before .before .before .args in
     let b = now (a .table) in
     let w = now (a .buf) in
-    let x = table-ready b _ (c .before .before .before .before .before .check-into .ensures .0) (c .before .before .before .enum-told .given .1) _ _
-    (c .before .before .before .before .before .check-into .ensures .1) (λ k. omega (
+    let x = table-ready b _ (c .before .before .before .before .before .check-into .ensures .0) (c .before .before .before .enum-told .given .1) _
+    (c .before .before .before .before .before .check-into .ensures .1) (λ f. f .count) (λ k. omega (
       arith,
       c .before .before .before .before .before .before .before
           .before .before .shared-slice-known .given k,
@@ -64,5 +64,5 @@ write-spec =
     let b = now (a .table) in
     let w = now (a .buf) in
     out-passed b _ (c .before .before .before .before .before .before .before .before .check-into .ensures .0) (c .before .before .before .before
-    .before .before .enum-told .given .1) _ _ (c .before .before .before .before .before .before .before .before .check-into .ensures .1) w (λ T n.
+    .before .before .enum-told .given .1) _ (c .before .before .before .before .before .before .before .before .check-into .ensures .1) (λ f. f .count) w (λ T n.
     writeOutcome T n (a .t) (now (a .value)) w) _ _ (c .before .before .write-passed2 .ensures)))  -- returns-3

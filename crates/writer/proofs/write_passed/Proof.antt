@@ -5,7 +5,7 @@ use native.Mathlib.Omega.{arith}
 use Prim.Native.Nat.{ℕ}
 use denote.Ref.{now}
 use lib.ListN.{length-replicate}
-use Rattle.table.specs.Entries.{tableIn}
+use Rattle.table.specs.Reading.{tableIn}
 use Rattle.writer.proofs.Written.{ready, out-type, out-long, out-refused, out-left, out-room, fits, out-done}
 use borrow.Author.Needs.{needs}
 use Rattle.writer.proofs.write_passed.Statement.{statement}

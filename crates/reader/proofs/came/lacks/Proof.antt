@@ -8,8 +8,8 @@ use native.Mathlib.Omega.{arith}
 use Prim.Native.Nat.{_-_}
 use Rattle.octets.specs.Lists.{any as Lists·any}
 use denote.Ref.{now}
-use Rattle.table.specs.Entries.{unpacked, spanOf}
-use Rattle.table.specs.declared.entry.Entry.{Entry}
+use Rattle.records.specs.Entries.{unpacked, spanOf}
+use Rattle.records.specs.declared.entry.Entry.{Entry}
 use Rattle.reader.specs.Items.{left}
 use Rattle.reader.specs.Sought.{held}
 use Rattle.reader.proofs.Spans.{span-few, span-near, lacks-any, lacks-come, lacks-must, lacks-skip, lacks-end}

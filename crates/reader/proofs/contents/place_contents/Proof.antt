@@ -6,16 +6,18 @@ use denote.Ref.{now}
 use lib.ListN.{getD, drop}
 use Rattle.x690.specs.Integer.{eight}
 use Rattle.x690.proofs.BitString.{length-masked}
+use Rattle.dates.specs.Own.{timeOctets}
 use Rattle.reader.specs.Leaves.{leafOf}
-use Rattle.reader.proofs.LeafKinds.{boolean-octets, integer-octets, bits-octets, string-octets, null-octets, enumerated-octets, leaf-three}
-use Rattle.reader.proofs.LeafKinds.{lawful-boolean, lawful-integer, lawful-bits, lawful-enumerated, leaf-room, leaf-placed}
+use Rattle.dates.specs.declared.TimeKind.the-variants.{Utc, Generalized}
+use Rattle.reader.proofs.LeafKinds.{boolean-octets, integer-octets, bits-octets, string-octets, null-octets, enumerated-octets, time-octets, leaf-three}
+use Rattle.reader.proofs.LeafKinds.{lawful-boolean, lawful-integer, lawful-bits, lawful-enumerated, lawful-time, utc-kind, generalized-kind, leaf-room, leaf-placed}
 use Prim.Native.Nat.{_+_}
 use borrow.Author.Needs.{needs}
 use Rattle.reader.proofs.contents.place_contents.Statement.{statement}
 use Rattle.reader.proofs.contents.place_contents.Tie as tie
 
 pub place-contents-spec : {M : Type 1} → statement M
-unfolding eight
+unfolding eight timeOctets
 place-contents-spec =
     tie.close
     (tie.spec
@@ -115,22 +117,44 @@ place-contents-spec =
     leaf-placed (null-octets _ _ (c .if5 .taken)) _ (c7 .begin-node .last .0) (c7 .begin-node .last .0) _
     (c7 .before .before .before .before .args .to + 3) (c7 .begin-node .ensures) (omega arith) refl)  -- returns-5
     (λ c κs.
+    let c9 = c .before .before .before .before .before .before .before .before .before in
+    let c13 = c9 .before .before .before .before in
+    let a = c13 .args in
+    let q = c13 .pre in
+    let h = lawful-enumerated (q .0) (c .before .if6 .taken) in (
+      h .some-octet,
+      h .eight-octets,
+      omega (
+        arith,
+        leaf-room (enumerated-octets _ (now (a .c)) (c .before .if6 .taken)) (now (a .buf)) _ (q .2),
+        c9 .begin-node .kept .0,
+      ),
+      h .is,
+      h .small,
+    ))  -- put-enumerated-requires
+    (λ c. search needs)  -- same-length-6
+    (λ c.
+    let c2 = c .before .before in
+    let c4 = c2 .before .before in
+    let c12 = c4 .before .before .before .before .before .before .before .before in
+    leaf-placed (enumerated-octets _ _ (c4 .if6 .taken)) _ (c12 .begin-node .last .0) (c2 .put-enumerated .last .1 .0) _ _
+    (c12 .begin-node .ensures) (c2 .put-enumerated .ensures .0) (c2 .put-enumerated .ensures .1))  -- returns-6
+    (λ c κs.
     let c3 = c .before .before .before in
     let c4 = c3 .before in
     let c5 = c4 .before in
-    let c8 = c5 .before .before .before in
-    let c12 = c8 .before .before .before .before in
-    let a = c12 .args in
-    let q = c12 .pre in
-    let e = lawful-enumerated (q .0) (c5 .if1 .left) (c4 .if2 .left) (c3 .if3 .left) (c .before .before .if4 .left)
-    (c .before .if5 .left) in (
-      e .some-octet,
-      e .eight-octets,
-      omega (arith, leaf-room (enumerated-octets _ (now (a .c)) (e .kind)) (now (a .buf)) _ (q .2), c8 .begin-node .kept .0),
-      e .is,
-      e .small,
-    ))  -- put-enumerated-requires
-    (λ c. search needs)  -- same-length-6
+    let c6 = c5 .before in
+    let c7 = c6 .before in
+    let c10 = c7 .before .before .before in
+    let c14 = c10 .before .before .before .before in
+    let a = c14 .args in
+    let q = c14 .pre in
+    let (e, t) = lawful-time (q .0) (c7 .if1 .left) (c6 .if2 .left) (c5 .if3 .left) (c4 .if4 .left) (c3 .if5 .left) (c .before .before .if6 .left)
+    Utc (utc-kind _ (c .before .if7 .taken)) in (
+      t,
+      omega (arith, leaf-room (time-octets _ (now (a .c)) Utc e) (now (a .buf)) _ (q .2), c10 .begin-node .kept .0),
+    ))  -- put-time-requires
+    (λ c. search needs)  -- same-length-7
     (λ c.
     let c2 = c .before .before in
     let c4 = c2 .before .before in
@@ -138,8 +162,40 @@ place-contents-spec =
     let c6 = c5 .before in
     let c7 = c6 .before in
     let c8 = c7 .before in
-    let c11 = c8 .before .before .before in
-    let e = lawful-enumerated (c11 .before .before .before .before .pre .0) (c8 .if1 .left) (c7 .if2 .left) (c6 .if3 .left)
-    (c5 .if4 .left) (c4 .if5 .left) in
-    leaf-placed (enumerated-octets _ _ (e .kind)) _ (c11 .begin-node .last .0) (c2 .put-enumerated .last .1 .0) _ _
-    (c11 .begin-node .ensures) (c2 .put-enumerated .ensures .0) (c2 .put-enumerated .ensures .1)))  -- returns-6
+    let c9 = c8 .before in
+    let c10 = c9 .before in
+    let c13 = c10 .before .before .before in
+    let (e, t) = lawful-time (c13 .before .before .before .before .pre .0) (c10 .if1 .left) (c9 .if2 .left) (c8 .if3 .left) (c7 .if4 .left)
+    (c6 .if5 .left) (c5 .if6 .left) Utc (utc-kind _ (c4 .if7 .taken)) in
+    leaf-placed (time-octets _ _ Utc e) _ (c13 .begin-node .last .0) (c2 .put-time .last .1 .1 .0) _ _
+    (c13 .begin-node .ensures) (c2 .put-time .ensures .0) (c2 .put-time .ensures .1))  -- returns-7
+    (λ c κs.
+    let c3 = c .before .before .before in
+    let c4 = c3 .before in
+    let c5 = c4 .before in
+    let c6 = c5 .before in
+    let c7 = c6 .before in
+    let c10 = c7 .before .before .before in
+    let c14 = c10 .before .before .before .before in
+    let a = c14 .args in
+    let q = c14 .pre in
+    let (e, t) = lawful-time (q .0) (c7 .if1 .left) (c6 .if2 .left) (c5 .if3 .left) (c4 .if4 .left) (c3 .if5 .left) (c .before .before .if6 .left)
+    Generalized (generalized-kind _ (c .before .if7 .left)) in (
+      t,
+      omega (arith, leaf-room (time-octets _ (now (a .c)) Generalized e) (now (a .buf)) _ (q .2), c10 .begin-node .kept .0),
+    ))  -- put-time-requires-2
+    (λ c. search needs)  -- same-length-8
+    (λ c.
+    let c2 = c .before .before in
+    let c4 = c2 .before .before in
+    let c5 = c4 .before in
+    let c6 = c5 .before in
+    let c7 = c6 .before in
+    let c8 = c7 .before in
+    let c9 = c8 .before in
+    let c10 = c9 .before in
+    let c13 = c10 .before .before .before in
+    let (e, t) = lawful-time (c13 .before .before .before .before .pre .0) (c10 .if1 .left) (c9 .if2 .left) (c8 .if3 .left) (c7 .if4 .left)
+    (c6 .if5 .left) (c5 .if6 .left) Generalized (generalized-kind _ (c4 .if7 .left)) in
+    leaf-placed (time-octets _ _ Generalized e) _ (c13 .begin-node .last .0) (c2 .put-time2 .last .1 .1 .0) _ _
+    (c13 .begin-node .ensures) (c2 .put-time2 .ensures .0) (c2 .put-time2 .ensures .1)))  -- returns-8

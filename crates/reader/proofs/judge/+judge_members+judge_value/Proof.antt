@@ -35,13 +35,14 @@ use Rattle.reader.proofs.node.node_size.Reads as node-size-reads
 use Rattle.reader.proofs.search.search.Reads as search-reads
 use Rattle.reader.proofs.tags.close.Reads as close-reads
 use Rattle.reader.proofs.tags.open.Reads as open-reads
-use Rattle.table.proofs.entry.first.Reads as first-reads
-use Rattle.table.proofs.entry.parts.Reads as parts-reads
-use Rattle.table.proofs.entry.unpack.Reads as unpack-reads
-use Rattle.table.proofs.kind.holds_one.Reads as holds-one-reads
+use Rattle.records.proofs.entry.first.Reads as first-reads
+use Rattle.records.proofs.entry.parts.Reads as parts-reads
+use Rattle.records.proofs.entry.unpack.Reads as unpack-reads
+use Rattle.records.proofs.kind.holds_one.Reads as holds-one-reads
 use Rattle.reader.proofs.judge.+judge_members+judge_value.{statement}
 use Rattle.reader.proofs.judge.+judge_members+judge_value.Tie.{close}
-use Rattle.table.specs.Entries.{unpacked, tableIn}
+use Rattle.table.specs.Reading.{tableIn}
+use Rattle.records.specs.Entries.{unpacked}
 use Rattle.reader.proofs.Bodies.{recordOf}
 use Rattle.reader.proofs.JudgedValue.{Over, Ended, over-leaf, over-sized, over-items, items-low, items-high, item-tags, item-closes}
 use Rattle.reader.proofs.JudgedValue.{leaf-kind, leaf-high}

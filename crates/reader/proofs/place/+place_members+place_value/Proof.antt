@@ -16,8 +16,9 @@ use lib.ListN.{length, getD, drop}
 use Rattle.octets.specs.Numbers.{Octets}
 use Rattle.octets.specs.Answer.{if}
 use Rattle.table.specs.Syntax.{Member, Set}
-use Rattle.table.specs.declared.entry.Entry.{Entry}
-use Rattle.table.specs.Entries.{unpacked, tableIn}
+use Rattle.table.specs.Reading.{tableIn}
+use Rattle.records.specs.declared.entry.Entry.{Entry}
+use Rattle.records.specs.Entries.{unpacked}
 use Rattle.reader.specs.Items.{inside, manner, since, blank}
 use Rattle.reader.specs.Sought.{held, Sought}
 use Rattle.reader.specs.Placing.{Spotted}
@@ -52,11 +53,11 @@ use Rattle.reader.proofs.set.following.Reads as following-reads
 use Rattle.reader.proofs.set.locate.Reads as locate-reads
 use Rattle.reader.proofs.tags.close.Reads as close-reads
 use Rattle.reader.proofs.tags.open.Reads as open-reads
-use Rattle.table.proofs.entry.first.Reads as first-reads
-use Rattle.table.proofs.entry.parts.Reads as parts-reads
-use Rattle.table.proofs.entry.unpack.Reads as unpack-reads
-use Rattle.table.proofs.kind.has_members.Reads as has-members-reads
-use Rattle.table.proofs.kind.holds_one.Reads as holds-one-reads
+use Rattle.records.proofs.entry.first.Reads as first-reads
+use Rattle.records.proofs.entry.parts.Reads as parts-reads
+use Rattle.records.proofs.entry.unpack.Reads as unpack-reads
+use Rattle.records.proofs.kind.has_members.Reads as has-members-reads
+use Rattle.records.proofs.kind.holds_one.Reads as holds-one-reads
 use Rattle.reader.proofs.place.+place_members+place_value.{statement}
 use Rattle.reader.proofs.place.+place_members+place_value.Tie.{close}
 use lib.Seq.{length-take-le}

@@ -6,8 +6,9 @@ use native.Mathlib.Omega.{arith}
 use Prim.Native.Nat.{_<_, _≤_}
 use denote.Ref.{now}
 use lib.ListN.{length, length-set}
-use Rattle.table.specs.Entries.{tableIn, countIn, counted}
-use Rattle.table.specs.declared.entry.Entry.{Entry}
+use Rattle.table.specs.Reading.{tableIn, countIn}
+use Rattle.records.specs.Entries.{counted}
+use Rattle.records.specs.declared.entry.Entry.{Entry}
 use Rattle.reader.proofs.ItemsWay.{turnsLeft}
 use Rattle.reader.proofs.Among.{code-most, Amid, amid-first, Turn, its, Next, next, among-found, among-down, among-next, among-none, among-back}
 use Rattle.reader.proofs.Among.{fewer-under, fewer-beside, fewer-above, among-small}

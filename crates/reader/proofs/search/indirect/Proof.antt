@@ -8,7 +8,7 @@ use mathlib.Core.Path.{_≡_, refl, ap, _∙_}
 use native.Mathlib.Omega.{arith}
 use denote.Ref.{now}
 use Prim.Native.Nat.{_-_}
-use Rattle.table.specs.Entries.{tableIn}
+use Rattle.table.specs.Reading.{tableIn}
 use Rattle.reader.specs.Codes.{searchIn, hit}
 use Rattle.reader.specs.Items.{awaits, first}
 use Rattle.reader.specs.Sought.{held}

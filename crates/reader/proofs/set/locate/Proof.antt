@@ -9,7 +9,7 @@ use Prim.Native.Nat.{_≤_, _-_}
 use denote.Ref.{now}
 use lib.ListN.{length, drop, length-drop, length-set}
 use Rattle.table.specs.Syntax.{Member, Set}
-use Rattle.table.specs.Entries.{tableIn}
+use Rattle.table.specs.Reading.{tableIn}
 use Rattle.reader.specs.Items.{inside}
 use Rattle.reader.specs.Sought.{held}
 use Rattle.reader.proofs.LeafStores.{from-is}

@@ -8,8 +8,8 @@ use mathlib.Core.Path.{_≡_, sym, ap}
 use native.Mathlib.Omega.{arith}
 use mathlib.Core.Bool.{true}
 use Prim.Native.Nat.{_-_, _<_, _≤_}
-use Rattle.table.specs.Entries.{unpacked}
-use Rattle.table.specs.declared.entry.Entry.{Entry}
+use Rattle.records.specs.Entries.{unpacked}
+use Rattle.records.specs.declared.entry.Entry.{Entry}
 use Rattle.coding.specs.Tags.{explicit}
 use Rattle.reader.specs.Records.{recordIn}
 use Rattle.reader.proofs.Tagging.{its-fit}

@@ -2,7 +2,7 @@
 -- Assumes nothing.
 use mathlib.Core.Path.{refl}
 use denote.Ref.{now}
-use Rattle.writer.proofs.Leaves.{same-kind, null-measured, no-kind}
+use Rattle.writer.proofs.Leaves.{same-kind, time-left, null-measured}
 use borrow.Author.Needs.{needs}
 use Rattle.writer.proofs.contents.measure.Statement.{statement}
 use Rattle.writer.proofs.contents.measure.Tie as tie
@@ -32,9 +32,8 @@ measure-spec =
     (λ c.
     let a = c .before .before .before .before .before .before .before .before .args in
     same-kind (a .kind) (now (a .v)) (a .p) 10 _ (c .before .if6 .taken) (c .enumerated .ensures))  -- returns-6
-    (λ c κs. search needs)  -- none-requires
+    (λ c κs. search needs)  -- time-kind-requires
+    (λ c κs. search needs)  -- time-requires
     (λ c.
-    let a = c .before .before .before .before .before .before .before .before .args in
-    no-kind (a .kind) (now (a .v)) (a .p) _ (c .before .before .before .before .before .before .before .before .pre .1) (c .before .before .before
-    .before .before .before .if1 .left) (c .before .before .before .before .before .if2 .left) (c .before .before .before .before .if3 .left) (c .before
-    .before .before .if4 .left) (c .before .before .if5 .left) (c .before .if6 .left)))  -- returns-7
+    let a = c .before .before .before .before .before .before .before .before .before .args in
+    same-kind (a .kind) (now (a .v)) (a .p) _ _ (time-left (a .kind) (c .before .before .before .before .before .before .before .before .before .pre .1) (c .before .before .before .before .before .before .before .if1 .left) (c .before .before .before .before .before .before .if2 .left) (c .before .before .before .before .before .if3 .left) (c .before .before .before .before .if4 .left) (c .before .before .before .if5 .left) (c .before .before .if6 .left) _ (c .before .time-kind .ensures)) (c .time .ensures)))  -- returns-7

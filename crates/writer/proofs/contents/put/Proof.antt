@@ -10,7 +10,7 @@ use mir.ValLaws.{toZ-ofZ, toZ-pos}
 use Rattle.x690.specs.Integer.{fewestOf}
 use Rattle.writer.proofs.Leaves.{boolean-there, boolean-size, boolean-end, encode-true, encode-false, integer-there, integer-end, encode-integer}
 use Rattle.writer.proofs.Leaves.{bits-there, bits-one, bits-within, bits-end, bits-put, string-within, string-end, string-put, null-end, null-put}
-use Rattle.writer.proofs.Leaves.{number-there, number-end, encode-number}
+use Rattle.writer.proofs.Leaves.{number-there, number-end, encode-number, time-left, time-there, time-ranged, time-end, encode-time}
 use borrow.Author.Needs.{needs}
 use Rattle.writer.proofs.contents.put.Statement.{statement}
 use Rattle.writer.proofs.contents.put.Tie as tie
@@ -134,41 +134,41 @@ put-spec =
       null-put (a .kind) (now (a .v)) (a .p) (s .pre .2) (c .if6 .taken) (a .to) (now
           (a .buf)),
     ))  -- returns-5
-    (λ c κs.
-    let s = c .before .before .before .before .before .before .before in
-    let a = s .args in
-    number-there (a .kind) (now (a .v)) (a .p) (s .pre .2) (s .pre .1) (c .before .before .before .before .if1 .left) (c .before .before .before .if3
-    .left) (c .before .before .if4 .left) (c .before .if5 .left) (c .if6 .left))  -- two-requires-2
+    (λ c κs. let a = c .before .before .before .before .before .before .before .before .args in number-there (a .kind) (now (a .v)) (a .p) (c .before .before .before .before .before .before .before .before .pre .2) (c .if7 .taken))  -- two-requires-2
     (λ c. search needs)  -- cast-put-integer
     (λ c κs.
-    let s = c .before .before .before .before .before .before .before .before .before in
+    let s = c .before .before .before .before .before .before .before .before .before .before in
     let a = s .args in (
-      s .pre .3 ∙ sym (ap length (ap fewestOf (toZ-pos w64 (c .before .two2 .result) (omega (arith, c .before .two2 .ensures .1))) ∙ encode-number
-          (a .kind) (now (a .v)) (a .p) (s .pre .2) (s .pre .1) (c .before .before .before .before .before .before .if1 .left) (c .before .before .before
-          .before .before .if3 .left) (c .before .before .before .before .if4 .left) (c .before .before .before .if5 .left) (c .before .before .if6 .left) _ (c
-          .before .two2 .ensures .0))),
+      s .pre .3 ∙ sym (ap length (ap fewestOf (toZ-pos w64 (c .before .two2 .result) (omega (arith, c .before .two2 .ensures .1))) ∙ encode-number (a .kind) (now (a .v)) (a .p) (s .pre .2) (c .before .before .if7 .taken) _ (c .before .two2 .ensures .0))),
       s .pre .4,
     ))  -- put-integer-requires-2
     (λ c. search needs)  -- add-result-5
     (λ c. search needs)  -- same-length-5
     (λ c.
-    let s = c .before .before .before .before .before .before .before .before .before .before .before .before in
+    let s = c .before .before .before .before .before .before .before .before .before .before .before .before .before in
     let a = s .args in (
-      number-end (a .kind) (now (a .v)) (a .p) (s .pre .2) (s .pre .1) (c .before .before .before .before .before .before .before .before .before .if1
-          .left) (c .before .before .before .before .before .before .before .before .if3 .left) (c .before .before .before .before .before .before .before .if4
-          .left) (c .before .before .before .before .before .before .if5 .left) (c .before .before .before .before .before .if6 .left),
-      c .before .before
-          .put-integer2 .ensures ∙ rw (
-            toZ-pos w64 (c .before .before .before .before .two2 .result) (omega (
-              arith,
-              c .before .before .before .before
-                  .two2 .ensures .1,
-            )),
-            encode-number (a .kind) (now (a .v)) (a .p) (s .pre .2) (s .pre .1)
-                (c .before .before .before .before .before .before .before .before .before .if1 .left)
-                (c .before .before .before .before .before .before .before .before .if3 .left)
-                (c .before .before .before .before .before .before .before .if4 .left)
-                (c .before .before .before .before .before .before .if5 .left)
-                (c .before .before .before .before .before .if6 .left) _ (c .before .before .before .before .two2 .ensures .0),
-          ) refl,
-    )))  -- returns-6
+      number-end (a .kind) (now (a .v)) (a .p) (s .pre .2) (c .before .before .before .before .before .if7 .taken),
+      c .before .before .put-integer2 .ensures ∙ rw (
+        toZ-pos w64 (c .before .before .before .before .two2 .result) (omega (arith, c .before .before .before .before .two2 .ensures .1)),
+        encode-number (a .kind) (now (a .v)) (a .p) (s .pre .2) (c .before .before .before .before .before .if7 .taken) _ (c .before .before .before .before .two2 .ensures .0),
+      ) refl,
+    ))  -- returns-6
+    (λ c κs. search needs)  -- time-kind-requires
+    (λ c κs.
+    let s = c .before .before .before .before .before .before .before .before .before .before in
+    let a = s .args in
+    let k = time-left (a .kind) (s .pre .1) (c .before .before .before .before .before .before .before .if1 .left) (c .before .before .before .before .before .before .if3 .left) (c .before .before .before .before .before .if4 .left) (c .before .before .before .before .if5 .left) (c .before .before .before .if6 .left) (c .before .before .if7 .left) _ (c .before .time-kind .ensures) in (
+      time-there (a .kind) (now (a .v)) (a .p) (s .pre .2) (c .before .time-kind .result) k,
+      time-ranged (a .kind) (now (a .v)) (a .p) (s .pre .2) (c .before .time-kind .result) k,
+      s .pre .3 ∙ sym (ap length (encode-time (a .kind) (now (a .v)) (a .p) (s .pre .2) (c .before .time-kind .result) k)),
+      s .pre .4,
+    ))  -- put-time-requires
+    (λ c. search needs)  -- add-result-6
+    (λ c. search needs)  -- same-length-6
+    (λ c.
+    let s = c .before .before .before .before .before .before .before .before .before .before .before .before .before in
+    let a = s .args in
+    let k = time-left (a .kind) (s .pre .1) (c .before .before .before .before .before .before .before .before .before .before .if1 .left) (c .before .before .before .before .before .before .before .before .before .if3 .left) (c .before .before .before .before .before .before .before .before .if4 .left) (c .before .before .before .before .before .before .before .if5 .left) (c .before .before .before .before .before .before .if6 .left) (c .before .before .before .before .before .if7 .left) _ (c .before .before .before .before .time-kind .ensures) in (
+      time-end (a .kind) (now (a .v)) (a .p) (s .pre .2) (c .before .before .before .before .time-kind .result) k,
+      c .before .before .put-time .ensures ∙ rw (encode-time (a .kind) (now (a .v)) (a .p) (s .pre .2) (c .before .before .before .before .time-kind .result) k) refl,
+    )))  -- returns-7

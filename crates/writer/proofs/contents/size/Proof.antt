@@ -7,7 +7,7 @@ use lib.ListN.{length}
 use mir.Syntax.{w64}
 use mir.ValLaws.{toZ-ofZ}
 use Rattle.writer.proofs.Leaves.{boolean-size, integer-there, encode-integer, bits-there, bits-size, string-there, string-size, null-size, number-there}
-use Rattle.writer.proofs.Leaves.{encode-number}
+use Rattle.writer.proofs.Leaves.{encode-number, time-left, time-size}
 use borrow.Author.Needs.{needs}
 use Rattle.writer.proofs.contents.size.Statement.{statement}
 use Rattle.writer.proofs.contents.size.Tie as tie
@@ -50,17 +50,15 @@ size-spec =
     (λ c.
     let a = c .before .before .before .before .before .before .args in
     (null-size (a .kind) (now (a .v)) (a .p) (c .before .before .before .before .before .before .pre .2) (c .if5 .taken), omega arith))  -- returns-5
-    (λ c κs.
-    let a = c .before .before .before .before .before .before .args in
-    number-there (a .kind) (now (a .v)) (a .p) (c .before .before .before .before .before .before .pre .2) (c .before .before .before .before .before
-    .before .pre .1) (c .before .before .before .before .if1 .left) (c .before .before .before .if2 .left) (c .before .before .if3 .left) (c .before .if4
-    .left) (c .if5 .left))  -- two-requires-3
+    (λ c κs. let a = c .before .before .before .before .before .before .before .args in number-there (a .kind) (now (a .v)) (a .p) (c .before .before .before .before .before .before .before .pre .2) (c .if6 .taken))  -- two-requires-3
     (λ c κs. search needs)  -- number-size-requires
     (λ c.
-    let a = c .before .before .before .before .before .before .before .before .args in (
-      c .number-size .ensures .0 ∙ ap length (encode-number (a .kind) (now (a .v)) (a .p) (c .before .before .before .before .before .before .before
-          .before .pre .2) (c .before .before .before .before .before .before .before .before .pre .1) (c .before .before .before .before .before .before .if1
-          .left) (c .before .before .before .before .before .if2 .left) (c .before .before .before .before .if3 .left) (c .before .before .before .if4 .left)
-          (c .before .before .if5 .left) _ (c .before .two3 .ensures .0)),
+    let a = c .before .before .before .before .before .before .before .before .before .args in (
+      c .number-size .ensures .0 ∙ ap length (encode-number (a .kind) (now (a .v)) (a .p) (c .before .before .before .before .before .before .before .before .before .pre .2) (c .before .before .if6 .taken) _ (c .before .two3 .ensures .0)),
       omega (arith, c .number-size .ensures .1),
-    )))  -- returns-6
+    ))  -- returns-6
+    (λ c κs. search needs)  -- time-kind-requires
+    (λ c κs. search needs)  -- size-requires-2
+    (λ c.
+    let a = c .before .before .before .before .before .before .before .before .before .args in
+    time-size (a .kind) (now (a .v)) (a .p) (c .before .before .before .before .before .before .before .before .before .pre .2) _ (time-left (a .kind) (c .before .before .before .before .before .before .before .before .before .pre .1) (c .before .before .before .before .before .before .before .if1 .left) (c .before .before .before .before .before .before .if2 .left) (c .before .before .before .before .before .if3 .left) (c .before .before .before .before .if4 .left) (c .before .before .before .if5 .left) (c .before .before .if6 .left) _ (c .before .time-kind .ensures)) _ (c .size2 .ensures)))  -- returns-7

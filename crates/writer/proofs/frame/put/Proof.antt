@@ -5,7 +5,7 @@ use native.Mathlib.Numerals.{add-one}
 use native.Mathlib.Omega.{arith}
 use denote.Ref.{now}
 use lib.ListN.{length, length-set}
-use Rattle.table.specs.Entries.{unpacked}
+use Rattle.records.specs.Entries.{unpacked}
 use Rattle.writer.proofs.Tags.{short-heads}
 use borrow.Author.Needs.{needs}
 use Rattle.writer.proofs.frame.put.Statement.{statement}

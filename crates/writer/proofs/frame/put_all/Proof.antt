@@ -5,7 +5,7 @@ use native.Mathlib.Omega.{arith}
 use Prim.Native.Nat.{_-_, _≤_}
 use denote.Ref.{now}
 use lib.ListN.{length}
-use Rattle.table.specs.Entries.{unpacked, tagCount}
+use Rattle.records.specs.Entries.{unpacked, tagCount}
 use Rattle.writer.proofs.Tags.{Heads, heads-none, heads-turn, heads-end}
 use borrow.Author.Needs.{needs}
 use Rattle.writer.proofs.frame.put_all.Statement.{statement}

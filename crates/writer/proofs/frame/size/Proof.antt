@@ -3,7 +3,7 @@
 use mathlib.Core.Path.{_∙_}
 use native.Mathlib.Omega.{arith}
 use denote.Ref.{now}
-use Rattle.table.specs.Entries.{unpacked}
+use Rattle.records.specs.Entries.{unpacked}
 use Rattle.writer.proofs.Tags.{short-size, all-framed}
 use borrow.Author.Needs.{needs}
 use Rattle.writer.proofs.frame.size.Statement.{statement}

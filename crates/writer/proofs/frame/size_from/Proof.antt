@@ -5,7 +5,7 @@ use native.Mathlib.Omega.{arith}
 use Prim.Native.Nat.{_-_, _≤_, _<_}
 use denote.Ref.{now}
 use Rattle.table.specs.Reading.{tagsAt}
-use Rattle.table.specs.Entries.{unpacked, tagCount, tagPlace}
+use Rattle.records.specs.Entries.{unpacked, tagCount, tagPlace}
 use Rattle.writer.specs.Frames.{framed}
 use Rattle.writer.specs.Known.{tagsFrom}
 use Rattle.writer.proofs.Tags.{header-small, framed-turn, framed-end}

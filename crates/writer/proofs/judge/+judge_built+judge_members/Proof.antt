@@ -8,7 +8,7 @@ use borrow.Author.Needs.{needs}
 use borrow.Author.Tests.{not-true, not-false}
 use denote.Ref.{now}
 use lib.ListN.{getD}
-use Rattle.table.specs.Entries.{unpacked}
+use Rattle.records.specs.Entries.{unpacked}
 use Rattle.writer.specs.Standing.{countAt}
 use Rattle.writer.proofs.Judging.{told-small}
 use Rattle.writer.proofs.Built.{Node, own-there, built-shape, built-level, built-known, built-ill, built-stands, built-refused, built-done}
@@ -23,8 +23,8 @@ use Rattle.writer.proofs.judge.+judge_built+judge_members.Lts-judge_bui
 use Rattle.writer.proofs.judge.judge_members.Reads as judge-members
 use Rattle.writer.proofs.judge.judge_members.Kinds as judge-members-kinds
 use Rattle.writer.proofs.judge.+judge_built+judge_members.Lts-judge_members as judge-members-lts
-use Rattle.table.proofs.entry.parts.Reads as parts-reads
-use Rattle.table.proofs.entry.unpack.Reads as unpack-reads
+use Rattle.records.proofs.entry.parts.Reads as parts-reads
+use Rattle.records.proofs.entry.unpack.Reads as unpack-reads
 use Rattle.writer.proofs.frame.grow.Reads as grow-reads
 use Rattle.writer.proofs.frame.size.Reads as size-reads
 use Rattle.writer.proofs.judge.is_simple.Reads as is-simple-reads

@@ -10,7 +10,7 @@ use Prim.Native.Nat.{ℕ, _-_, _≤_, _<_}
 use borrow.Author.Needs.{needs}
 use denote.Ref.{now}
 use lib.ListN.{length}
-use Rattle.table.specs.Entries.{unpacked}
+use Rattle.records.specs.Entries.{unpacked}
 use Rattle.writer.specs.Standing.{countAt}
 use Rattle.writer.specs.Putting.{Puts}
 use Rattle.writer.proofs.Standing.{start-past}
@@ -22,8 +22,8 @@ use borrow.Fn.PlainCycle.{Measures, is, falls, and}
 use Rattle.writer.proofs.put.put_members.Reads as put-members
 use Rattle.writer.proofs.put.put_members.Kinds as put-members-kinds
 use Rattle.writer.proofs.put.+put_members.Lts-put_members as put-members-lts
-use Rattle.table.proofs.entry.parts.Reads as parts-reads
-use Rattle.table.proofs.entry.unpack.Reads as unpack-reads
+use Rattle.records.proofs.entry.parts.Reads as parts-reads
+use Rattle.records.proofs.entry.unpack.Reads as unpack-reads
 use Rattle.writer.proofs.contents.put.Reads as contents-put-reads
 use Rattle.writer.proofs.contents.size.Reads as size-reads
 use Rattle.writer.proofs.frame.put.Reads as frame-put-reads

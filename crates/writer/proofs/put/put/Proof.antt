@@ -2,8 +2,8 @@
 -- Assumes nothing.
 use mathlib.Core.Path.{ap}
 use denote.Ref.{now}
-use Rattle.table.specs.Entries.{unpacked}
-use Rattle.table.specs.declared.entry.Entry.{Entry}
+use Rattle.records.specs.Entries.{unpacked}
+use Rattle.records.specs.declared.entry.Entry.{Entry}
 use Rattle.writer.proofs.Whole.{whole-puts, whole-put}
 use borrow.Author.Needs.{needs}
 use Rattle.writer.proofs.put.put.Statement.{statement}

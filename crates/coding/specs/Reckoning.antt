@@ -1,0 +1,77 @@
+-- The order of two GeneralizedTimes and the seconds from the first to the second, on octets, with 11 and 12 (FORMATS, "Times").
+-- Assumes nothing.
+use mathlib.Core.Bool.{Bool, true, false, not, _&&_}
+use mathlib.Core.List.{List}
+use mathlib.Core.Path.{_≡_}
+use Prim.Native.Nat.{ℕ}
+use lib.Dec.{leb, eqb}
+use lib.IntN.{ℤ}
+use lib.ListN.{length, getD}
+use Rattle.octets.specs.declared.cause.Cause.the-variants.{ValueShape, IllTyped}
+use Rattle.octets.specs.Answer.{Answer, got, refused, none-left}
+use Rattle.octets.specs.Tests.{if}
+use Rattle.octets.specs.Lists.{any}
+use Rattle.dates.specs.declared.DateTime.{DateTime}
+use Rattle.dates.specs.declared.TimeKind.the-variants.{Generalized}
+use Rattle.dates.specs.Calendar.{inRange}
+use Rattle.dates.specs.Own.{timeAt}
+use Rattle.dates.specs.Seconds.{order, elapsed}
+use Rattle.coding.specs.Value.{time, leafOctets}
+use Rattle.coding.specs.Judging.{Node, a-leaf, a-sequence, a-set, a-sequence-of, a-set-of, a-choice, readNode}
+use Rattle.coding.specs.Outcome.{longestValue, of-value}
+use Rattle.coding.specs.declared.Given.{Given}
+use Rattle.coding.specs.declared.Given.the-variants.{Time, Refused as Wrong}
+use Rattle.coding.specs.declared.Reckoned.{Reckoned}
+use Rattle.coding.specs.declared.Reckoned.the-variants.{Is, Refused}
+
+-- no node stands below a node: no member is present, there is no element; below a CHOICE there always is one
+unfoldable pub childless : Node → Bool
+childless (a-leaf x) = true
+childless (a-sequence bs) = not (any (λ b. b) bs)
+childless (a-set bs) = not (any (λ b. b) bs)
+childless (a-sequence-of n) = eqb n 0
+childless (a-set-of n) = eqb n 0
+childless (a-choice i) = false
+
+unfoldable pub isWhole : Answer Node → Bool
+isWhole (got x r) = none-left r && childless x
+isWhole (refused c l) = false
+
+-- the octets are those of one shaped node alone, without children, and not over-long
+unfoldable pub isLone : List ℕ → Bool
+isLone s = leb (length s) longestValue && isWhole (readNode s)
+
+-- the GeneralizedTime that the octets are: they are a lone node (11), of that kind (12)
+unfoldable pub given : List ℕ → Given
+given s =
+    if (not (isLone s)) (Wrong ValueShape) λ _.
+    if (not (eqb (getD s 2 0) 24)) (Wrong IllTyped) λ _.
+    Time (timeAt s 3)
+
+-- f of two of them; the first is judged wholly before the second, and the place is 0
+unfoldable pub reckonedBy : (DateTime → DateTime → ℤ) → Given → Given → Reckoned
+reckonedBy f (Wrong c) y = Refused (of-value c 0)
+reckonedBy f (Time a) (Wrong c) = Refused (of-value c 0)
+reckonedBy f (Time a) (Time b) = Is (f a b)
+
+abbrev pub wholeOrder : List ℕ → List ℕ → Reckoned
+wholeOrder s t = reckonedBy order (given s) (given t)
+
+abbrev pub wholeSeconds : List ℕ → List ℕ → Reckoned
+wholeSeconds s t = reckonedBy elapsed (given s) (given t)
+
+-- Octets that are those of a GeneralizedTime in range, and nothing else.
+abbrev pub timeNode : DateTime → List ℕ
+timeNode t = leafOctets (time Generalized t)
+
+pub record Stands (s : List ℕ) (t : DateTime) : Type 0 where
+  pub octets : s ≡ timeNode t
+  pub in-range : inRange Generalized t ≡ true
+
+-- a reckoning is done with two of them, and with z
+pub record Reckons (f : DateTime → DateTime → ℤ) (s t : List ℕ) (z : ℤ) : Type 0 where
+  pub first : DateTime
+  pub second : DateTime
+  pub a-time : Stands s first
+  pub another : Stands t second
+  pub is : f first second ≡ z
