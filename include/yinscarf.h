@@ -1,15 +1,21 @@
-/* The link engine for call control: check a type table, write a value as a message, read a message into a value.
+/* The link engine for call control: check a type table, write a value as a message, read a message into a value; order two
+ * times, and count the seconds between them.
  *
- * Each function answers one number, number * 65,536 + rest:
+ * Check, write and read answer one number, number * 65,536 + rest:
  *   number 0    done; rest is the length written to buf (of a check: 0)
  *   otherwise   refused; number is the cause below, rest its place
  * YINSCARF_NUMBER and YINSCARF_REST take an answer apart.
  *
- * Places: for 1 to 6 the number of a record of the table (1 may say 128: too many records); for 11 to 13, 22 to 26 and 28
- * an offset into the value or message; 0 for 7, 14, 21 and 27.
+ * Order and seconds answer one number with a sign:
+ *   below 2^40 = 1,099,511,627,776    done; it is the result itself, which may be negative
+ *   otherwise                         refused; number * 2^40, where number is 11 or 12
+ * YINSCARF_TIME_NUMBER is the number of such an answer, 0 if it is done.
  *
- * Lent memory: a pointer and the length after it lend that many octets, for the time of the call. table, value and message
- * are only read, and may overlap each other; buf must not overlap them. A null pointer with the length 0 is allowed; a null
+ * Places: for 1 to 6 the number of a record of the table (1 may say 128: too many records); for 11 to 13, 22 to 26 and 28
+ * an offset into the value or message; 0 for 7, 14, 21 and 27, and for 11 and 12 of order and seconds.
+ *
+ * Lent memory: a pointer and the length after it lend that many octets, for the time of the call. All but buf are only read,
+ * and may overlap each other; buf must not overlap them. A null pointer with the length 0 is allowed; a null
  * pointer with another length is not, nor is a length of more octets than there are. A refusal leaves all of buf as it was;
  * what is done writes the first octets of buf, as many as the answer says, and leaves the rest as it was. Nothing is kept
  * between calls and no memory is allocated, so calls may run at the same time on different buffers.
@@ -29,6 +35,8 @@ extern "C" {
 
 #define YINSCARF_NUMBER(answer) ((unsigned)((answer) >> 16))
 #define YINSCARF_REST(answer) ((unsigned)((answer) & 0xFFFF))
+/* results lie between -2^39 and 2^39 */
+#define YINSCARF_TIME_NUMBER(answer) ((unsigned)(((answer) + (INT64_C(1) << 39)) >> 40))
 
 enum yinscarf_number {
     YINSCARF_DONE = 0,                  /* done; rest is the length written */
@@ -41,8 +49,8 @@ enum yinscarf_number {
     YINSCARF_TABLE_NO_VALUE = 6,        /* a record has no finite value */
     YINSCARF_TABLE_NO_TYPE = 7,         /* the type is not in the table */
     /* the value */
-    YINSCARF_VALUE_SHAPE = 11,          /* value not shaped as nodes, empty, too long, or octets left */
-    YINSCARF_VALUE_TYPE = 12,           /* value not of the type */
+    YINSCARF_VALUE_SHAPE = 11,          /* value not shaped as nodes, a time that there is not, empty, too long, or octets left */
+    YINSCARF_VALUE_TYPE = 12,           /* value not of the type; of order and seconds: no GeneralizedTime */
     YINSCARF_VALUE_LEVEL = 13,          /* a node at level 25 */
     YINSCARF_VALUE_ROOM = 14,           /* message longer than buf or 8,192 octets */
     /* the message */
@@ -66,6 +74,15 @@ uint64_t yinscarf_write(const uint8_t *table, size_t table_len, size_t type, con
 /* Reads a message of a type into a value: 0 and the value's length, or a refusal 1 to 7 or 21 to 28. */
 uint64_t yinscarf_read(const uint8_t *table, size_t table_len, size_t type, const uint8_t *message, size_t message_len, uint8_t *buf,
                        size_t buf_len);
+
+/* Orders two times, each a value that is one node of GeneralizedTime: -1 if the first is before the second, 0 if they are the same,
+ * 1 if it is after it; or a refusal: 11 if a value is not one shaped node alone, without children, 12 if it is another kind's, the first
+ * value judged before the second. */
+int64_t yinscarf_order(const uint8_t *first, size_t first_len, const uint8_t *second, size_t second_len);
+
+/* Counts the whole seconds from the first of two such times to the second, between -2^39 and 2^39, negative if the first is after it;
+ * every day has 86,400. The refusals are those of order. */
+int64_t yinscarf_seconds(const uint8_t *first, size_t first_len, const uint8_t *second, size_t second_len);
 
 #ifdef __cplusplus
 }

@@ -3,7 +3,6 @@
 use mathlib.Core.Path.{_≡_, sym, ap, _∙_}
 use Prim.Native.Nat.{ℕ, _<_}
 use native.Mathlib.Omega.{arith}
-use Rattle.octets.specs.Causes.{causeNumber}
 use Rattle.octets.proofs.Causes.{same-cause, never-0}
 use Rattle.coding.specs.Outcome.{numberOf, placeOf, OfStage}
 use Rattle.coding.specs.declared.Refusal.{Refusal}
@@ -16,7 +15,7 @@ pub packed-tells : (a : Answer) → lowPart a < 65536 → Staged a → Tells (pa
 packed-tells a h s = record { high = omega arith; low = omega arith; staged = s }
 
 -- no two refusals of their stages share a number and a place
-same-refusal : (r s : Refusal) → OfStage r → OfStage s → numberOf r ≡ numberOf s → placeOf r ≡ placeOf s → r ≡ s
+pub same-refusal : (r s : Refusal) → OfStage r → OfStage s → numberOf r ≡ numberOf s → placeOf r ≡ placeOf s → r ≡ s
 same-refusal (Table c p) (Table d q) x y e f = let s = same-cause c d e in rw (s, f)
 same-refusal (Table c p) (Value d q) x y e f = absurd (omega arith)
 same-refusal (Table c p) (Message d q) x y e f = absurd (omega arith)

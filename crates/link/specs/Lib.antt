@@ -1,3 +1,3 @@
--- An answer as one number for C.
+-- Answers as one number for C.
 -- Assumes nothing.
 pub mod Pack

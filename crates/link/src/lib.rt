@@ -1,10 +1,12 @@
-// The engine for call control in C: octets and numbers in, one packed number out.
+// The engine for call control in C: octets and numbers in, one packed number out (FORMATS, "Answers for C").
 ghost use mathlib.Core.Path.{_≡_};
 ghost use Prim.Native.Nat.{_+_, _*_, _<_};
 ghost use Rattle.table.specs.Verdict.{verdict};
 ghost use Rattle.coding.specs.Calls.{checkAnswer, wholeWrite, wholeRead};
-ghost use Rattle.link.specs.Pack.{lowPart, packed};
+ghost use Rattle.coding.specs.Reckoning.{wholeOrder, wholeSeconds};
+ghost use Rattle.link.specs.Pack.{lowPart, packed, packedReckoning};
 use coding::Answer;
+use coding::Reckoned;
 
 fn join(high: u64, low: usize) -> u64
     requires { ⌜ (high < 29) × (low < 65536) ⌝ }
@@ -54,4 +56,31 @@ pub extern "C" fn yinscarf_read(table: &[u8], t: usize, message: &[u8], buf: &mu
         ⌝ }
 {
     pack(engine::read(table, t, message, buf))
+}
+
+// The result itself, or the number of the refusal times 2^40.
+fn pack_reckoning(a: Reckoned) -> i64
+    ensures { λ r. ⌜ r ≡ packedReckoning a ⌝ }
+{
+    match a {
+        Reckoned::Is(z) => z,
+        Reckoned::Refused(r) => {
+            let p = engine::refusal::report_of(r);
+            (p.number * 1099511627776) as i64
+        }
+    }
+}
+
+#[no_mangle]
+pub extern "C" fn yinscarf_order(first: &[u8], second: &[u8]) -> i64
+    ensures { λ r. ⌜ r ≡ packedReckoning (wholeOrder (now (first .entry)) (now (second .entry))) ⌝ }
+{
+    pack_reckoning(engine::times::order(first, second))
+}
+
+#[no_mangle]
+pub extern "C" fn yinscarf_seconds(first: &[u8], second: &[u8]) -> i64
+    ensures { λ r. ⌜ r ≡ packedReckoning (wholeSeconds (now (first .entry)) (now (second .entry))) ⌝ }
+{
+    pack_reckoning(engine::times::elapsed(first, second))
 }

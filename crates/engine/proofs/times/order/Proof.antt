@@ -1,0 +1,34 @@
+-- `engine::times::order` meets its contract: the first input is judged before the second.
+-- Assumes nothing.
+use mathlib.Core.Path.{_∙_}
+use mir.Syntax.{w64}
+use mir.ValLaws.{toZ-ofZ}
+use borrow.Author.Needs.{needs}
+use denote.Ref.{now}
+use Rattle.dates.specs.Seconds.{order}
+use Rattle.coding.proofs.Reckoning.{first-refused, second-refused, both-given}
+use Rattle.engine.proofs.times.order.Statement.{statement}
+use Rattle.engine.proofs.times.order.Tie as tie
+
+pub order-spec : {M : Type 1} → statement M
+order-spec =
+    tie.close
+    (tie.spec
+    (λ c κs. search needs)  -- given-requires
+    (λ c. search needs)  -- enum-known-cause
+    (λ c κs. search needs)  -- refuse-requires
+    (λ c. search needs)  -- enum-known-a
+    (λ c κs. search needs)  -- given-requires-2
+    (λ c. search needs)  -- enum-known-cause-2
+    (λ c κs. search needs)  -- refuse-requires-2
+    (λ c. search needs)  -- enum-known-b
+    (λ c κs. search needs)  -- order-requires
+    (λ c. let a = c .before .before .before .before .before .before .before .args in first-refused order (now (a .first)) (now (a .second)) (c .before .before .before .before .given .ensures) (c .before .before .cause .given .1) (c .refuse .ensures))  -- returns
+    (λ c.
+    let x = c .before .before .before .before .before .before .before .before .given .ensures in
+    let a = c .before .before .before .before .before .before .before .before .before .before .before .args in
+    second-refused order (now (a .first)) (now (a .second)) x (c .before .before .before .before .before .before .a .given .1) (c .before .before .before .before .given2 .ensures) (c .before .before .cause2 .given .1) (c .refuse2 .ensures))  -- returns-2
+    (λ c.
+    let x = c .before .before .before .before .before .before .before .before .given .ensures in
+    let a = c .before .before .before .before .before .before .before .before .before .before .before .args in
+    both-given order (now (a .first)) (now (a .second)) x (c .before .before .before .before .before .before .a .given .1) (c .before .before .before .before .given2 .ensures) (c .before .before .b .given .1) (toZ-ofZ w64 _ (record { sfits = c .order .ok }) ∙ c .order .ensures)))  -- returns-3

@@ -1,0 +1,59 @@
+// Reckonings with two GeneralizedTimes, each handed in as the octets of one node (FORMATS, "Times"): their order, and the seconds from the first
+// to the second.
+ghost use mathlib.Core.Path.{_≡_};
+ghost use Rattle.coding.specs.declared.Refusal.the-variants.{Value};
+ghost use Rattle.coding.specs.declared.Reckoned.the-variants.{Refused};
+ghost use Rattle.coding.specs.Reckoning.{given as Reckoning·given, wholeOrder, wholeSeconds};
+use coding::Given;
+use coding::Reckoned;
+use coding::Refusal;
+use dates::own;
+use dates::seconds;
+use octets::cause::Cause;
+use records::kind::GENERALIZED_TIME;
+use writer::lone::is_lone;
+
+// The time that octets are: one node alone, and a GeneralizedTime.
+fn given(s: &[u8]) -> Given
+    ensures { λ r. ⌜ r ≡ Reckoning·given (now (s .entry)) ⌝ }
+{
+    if !is_lone(s) {
+        return Given::Refused(Cause::ValueShape);
+    }
+    if s[2] != GENERALIZED_TIME {
+        return Given::Refused(Cause::IllTyped);
+    }
+    Given::Time(own::of(&s[3..]))
+}
+
+fn refuse(cause: Cause) -> Reckoned
+    ensures { λ r. ⌜ r ≡ Refused (Value cause 0) ⌝ }
+{
+    Reckoned::Refused(Refusal::Value { cause, place: 0 })
+}
+
+// -1 if the first is before the second, 0 if they are the same, 1 if it is after it.
+pub fn order(first: &[u8], second: &[u8]) -> Reckoned
+    ensures { λ r. ⌜ r ≡ wholeOrder (now (first .entry)) (now (second .entry)) ⌝ }
+{
+    match given(first) {
+        Given::Refused(cause) => refuse(cause),
+        Given::Time(a) => match given(second) {
+            Given::Refused(cause) => refuse(cause),
+            Given::Time(b) => Reckoned::Is(seconds::order(a, b)),
+        },
+    }
+}
+
+// The whole seconds from the first to the second; negative if that is before it.
+pub fn elapsed(first: &[u8], second: &[u8]) -> Reckoned
+    ensures { λ r. ⌜ r ≡ wholeSeconds (now (first .entry)) (now (second .entry)) ⌝ }
+{
+    match given(first) {
+        Given::Refused(cause) => refuse(cause),
+        Given::Time(a) => match given(second) {
+            Given::Refused(cause) => refuse(cause),
+            Given::Time(b) => Reckoned::Is(seconds::elapsed(a, b)),
+        },
+    }
+}
