@@ -15,7 +15,8 @@
 #include "peers.h"
 #include "yinscarf.h"
 
-enum { CHECK, WRITE, READ };
+/* Order and seconds have the first time in place of the table, the second in that of the data. */
+enum { CHECK, WRITE, READ, ORDER = 16, SECONDS };
 enum { ROOM = 16384, MOST = 200, ROUNDS = 61, CALLS = 40, STACK = 1 << 20, PAINT = 0xA5 };
 
 struct input {
@@ -72,6 +73,10 @@ static uint64_t engine(const struct input *x)
 {
     if (x->op == CHECK)
         return yinscarf_check(x->table, x->table_len);
+    if (x->op == ORDER || x->op == SECONDS) {
+        int64_t a = (x->op == ORDER ? yinscarf_order : yinscarf_seconds)(x->table, x->table_len, x->data, x->data_len);
+        return (uint64_t)YINSCARF_TIME_NUMBER(a) << 16;
+    }
     return (x->op == WRITE ? yinscarf_write : yinscarf_read)(x->table, x->table_len, x->type, x->data, x->data_len, buf, ROOM);
 }
 
@@ -238,8 +243,8 @@ static void count_all(const struct input *definite, const struct input *indefini
         COUNT(name, p->write(v, out, ROOM));
     }
     for (size_t i = 0; i < count; i++)
-        if (strcmp(inputs[i].group, "growth") == 0) {
-            snprintf(name, sizeof name, "growth/%s", inputs[i].name);
+        if (strcmp(inputs[i].group, "growth") == 0 || strcmp(inputs[i].group, "pairs") == 0) {
+            snprintf(name, sizeof name, "%.15s/%.31s", inputs[i].group, inputs[i].name);
             COUNT(name, engine(&inputs[i]));
         }
 }

@@ -1,9 +1,9 @@
 #!/usr/bin/env python3
-"""Makes what the benchmark runs on: the batch of call records with its table, batches of other lengths, strings in segments of half and of
-the whole length, and the dearest tables, messages and values that were found.
+"""Makes what the benchmark runs on: the batch of call records with its table, batches of other lengths, strings in segments and lists of times
+of half and of the whole length, the dearest tables, messages and values that were found, and pairs for order and seconds.
 
   inputs.py FOLDER     each input is a file in the form of document 01's cases; FOLDER/list names them, a line each:
-                       group, file, words for people"""
+                       group, file, words for people. Of a pair, the first stands in place of the table, the second in that of the data"""
 import os
 import sys
 
@@ -12,11 +12,13 @@ sys.path.insert(0, os.path.join(HERE, '..', 'tests', 'outside'))
 import make
 import model
 import ours
-from model import (BIT_STRING, BOOLEAN, CHOICE, DEEPEST, ENUMERATED, INTEGER, MESSAGE, NULL, OCTET_STRING, RECORDS, SEQUENCE, SEQUENCE_OF, SET,
-                   VALUE)
+from model import (BIT_STRING, BOOLEAN, CHOICE, DEEPEST, ENUMERATED, GENERALIZED_TIME, INTEGER, MESSAGE, NULL, OCTET_STRING, RECORDS, SEQUENCE,
+                   SEQUENCE_OF, SET, UTC_TIME, VALUE)
 
 UNIVERSAL, APPLICATION, CONTEXT, PRIVATE = 0, 1, 2, 3
 STATES = [0, 1, 2, 5]
+# the operations of pairs, by bench.c's numbers
+ORDER, SECONDS = 16, 17
 
 
 def plain(kind, own=None):
@@ -161,6 +163,36 @@ def strings():
         yield kind, empty[:1] + (b'\1\x55' if kind == OCTET_STRING else b'\2\0\x55'), 0, name + ' of segments of one octet'
 
 
+# ---- times ----
+def times(kind, most):
+    """A list of as many times as fit so many octets, each of another day."""
+    n = (most - 4) // (2 + len(model.digits(kind, (0, 1, 1, 0, 0, 0))))
+    some = [(kind, (i % 100, 1 + i % 12, 1 + i % 28, i % 24, i % 60, 59 - i % 60)) for i in range(n)]
+    return [plain(SEQUENCE_OF, [1]), plain(kind)], (SEQUENCE_OF, some)
+
+
+def pairs():
+    """Inputs for order and seconds: words, first, second."""
+    def time(*fields):
+        return model.octets((GENERALIZED_TIME, fields))
+    now, last = time(1999, 12, 31, 22, 0, 0), time(9999, 12, 31, 23, 59, 59)
+    yield '31 December 1999 and 1 January 2000', now, time(2000, 1, 1, 6, 30, 0)
+    yield 'the first second of year 0 and the last of 9999', time(0, 1, 1, 0, 0, 0), last
+    yield 'the last second of 9999 twice', last, last
+    yield '29 February 2000 and 1 March 1900', time(2000, 2, 29, 12, 0, 0), time(1900, 3, 1, 12, 0, 0)
+    yield 'a time and a SEQUENCE, 255 members missing', last, model.octets((SEQUENCE, [None] * 255))
+    yield 'a time and a SEQUENCE, the last of 255 members there', last, model.octets((SEQUENCE, [None] * 254 + [(NULL, None)]))
+    yield 'a time and a SET, 255 members missing', last, model.octets((SET, [None] * 255))
+    yield 'a time and an OCTET STRING of 16,379 octets', last, model.octets((OCTET_STRING, bytes(VALUE - 5)))
+    yield 'a time and a BIT STRING of 65,535 bits', last, model.octets((BIT_STRING, (1, bytes(8192))))
+    yield 'a time and one of second 60', last, last[:-1] + b'\x3c'
+    yield 'a time and 29 February 1900', last, time(1900, 2, 29, 12, 0, 0)
+    yield 'a time and a UTCTime', last, model.octets((UTC_TIME, (96, 2, 29, 23, 59, 59)))
+    yield 'a time and an INTEGER', last, model.octets((INTEGER, -1))
+    yield 'a time and 16,385 octets', last, last + bytes(VALUE + 1 - len(last))
+    yield 'a SEQUENCE, 255 members missing, and a time', model.octets((SEQUENCE, [None] * 255)), last
+
+
 def within(sets):
     return ', in %d SETs, indefinite' % sets if sets else ''
 
@@ -196,6 +228,7 @@ def messages():
     yield 'NULLs with lengths of 126 octets in a list, in 22 SETs, indefinite', listed(22, [null], b'\5\xfe' + bytes(126), 3)
     yield 'one OCTET STRING of 8,188 octets', ([plain(OCTET_STRING)], b'\4' + model.length(8188) + bytes(8188))
     yield 'OCTET STRINGs of no segments in a list, in 22 SETs, indefinite', listed(22, [plain(OCTET_STRING)], b'\x24\x80\0\0', 5)
+    yield 'UTCTimes in a list, in 22 SETs, indefinite', listed(22, [plain(UTC_TIME)], b'\x17\x0d960229235959Z', 10)
 
 
 def deep():
@@ -220,10 +253,13 @@ def main():
     os.makedirs(folder, exist_ok=True)
     names = open(os.path.join(folder, 'list'), 'w')
 
-    def put(group, name, words, op, records, data):
+    def keep(group, name, words, op, table, data):
         with open(os.path.join(folder, name), 'wb') as f:
-            f.write(ours.case(op, 0, make.rendered(records), data))
+            f.write(ours.case(op, 0, table, data))
         names.write('%s\t%s\t%s\n' % (group, name, words))
+
+    def put(group, name, words, op, records, data):
+        keep(group, name, words, op, make.rendered(records), data)
 
     tree = batch(20)
     m = model.form(BATCH, 0, tree)
@@ -239,6 +275,14 @@ def main():
     for i, (kind, segment, sets, words) in enumerate(strings()):
         for half in (2, 1):
             put('growth', 'segments-%d-%d' % (i, half), words, ours.READ, *string(kind, segment, sets, MESSAGE // half))
+    for kind, words in ((UTC_TIME, 'UTCTimes'), (GENERALIZED_TIME, 'GeneralizedTimes')):
+        for half in (2, 1):
+            records, tree = times(kind, MESSAGE // half)
+            put('growth', 'times-read-%d-%d' % (kind, half), '%d %s' % (len(tree[1]), words), ours.READ, records, model.form(records, 0, tree))
+            put('growth', 'times-write-%d-%d' % (kind, half), '%d %s' % (len(tree[1]), words), ours.WRITE, records, model.octets(tree))
+    for i, (words, first, second) in enumerate(pairs()):
+        keep('pairs', 'order-%d' % i, words, ORDER, first, second)
+        keep('pairs', 'seconds-%d' % i, words, SECONDS, first, second)
     for i, (words, records) in enumerate(tables()):
         put('worst', 'table-%d' % i, words, ours.CHECK, records, b'')
     for group, some in (('worst', messages()), ('deep', deep())):

@@ -7,8 +7,8 @@ import sys
 # The goals: instructions of a call, shares of asn1c's time, nanoseconds of the worst read, octets of stack and of text.
 INSTRUCTIONS = {'check': 5500, 'read': 42000, 'indefinite': 42000, 'write': 41000}
 SHARE = {'read': .65, 'indefinite': .65, 'write': .25}
-WORST, STACK, TEXT = 6e6, 20 * 1024, 40 * 1024
-OPERATIONS = 'check', 'write', 'read'
+WORST, STACK, TEXT, PAIR = 6e6, 20 * 1024, 40 * 1024, 1000
+OPERATIONS = {0: 'check', 1: 'write', 2: 'read', 16: 'order', 17: 'seconds'}
 
 
 def rows(folder, name):
@@ -117,12 +117,44 @@ def segments(f):
     return shares
 
 
+def times(f):
+    """Prints what lists of times and pairs of them cost, and answers the instructions of the dearest pair."""
+    print('\n### Times\n')
+    print('Lists of times. "Each": instructions for each time more than in the line above, if it is of the same kind.\n')
+    some, before = [], {}
+    for name in f.alone:
+        if not name.startswith('times-read-'):
+            continue
+        kind = name.split('-')[2]
+        n, row = int(f.words[name].split()[0]), [f.words[name], count(f.alone[name]['data'])]
+        for o in ('read', 'write'):
+            x, c = f.alone[name.replace('read', o)], f.counts['growth/' + name.replace('read', o)]
+            m, d = before.get((kind, o), (0, 0))
+            row += ['%s (%s)' % (micro(x['least']), micro(x['median'])), count(c), '%.0f' % ((c - d) / (n - m)) if m else '-']
+            before[kind, o] = n, c
+        some.append(row)
+    show(['List', 'octets', 'read, µs', 'instructions', 'each', 'write, µs', 'instructions', 'each'], some)
+    print('\nOrder and seconds. Nanoseconds: least (median) of single calls, with some 20 to 40 for the clock. The octets are those of both.\n')
+    some, most = [], 0
+    for name in f.alone:
+        if not name.startswith('order-'):
+            continue
+        x, y = f.alone[name], f.alone[name.replace('order', 'seconds')]
+        pair = [f.counts['pairs/' + name.replace('order', o)] for o in ('order', 'seconds')]
+        most = max(most, *pair)
+        some.append([f.words[name], count(x['table'] + x['data']), 'no %d' % x['number'] if x['number'] else 'done'] +
+                    [z for w, c in zip((x, y), pair) for z in ('%d (%d)' % (w['least'], w['median']), count(c))] +
+                    [count(max(f.stack[name], f.stack[name.replace('order', 'seconds')]))])
+    show(['Pair', 'octets', 'answer', 'order, ns', 'instructions', 'seconds, ns', 'instructions', 'stack'], some)
+    return most
+
+
 def dearest(f):
     print('\n### The dearest inputs found\n')
     print('Microseconds: least (median). Stack: octets that the call touches. The value is what the message is read to.\n')
     by_words = {}
     for name, x in f.alone.items():
-        if x['group'] != 'growth':
+        if x['group'] in ('worst', 'deep'):
             by_words.setdefault(f.words[name], {})[x['op']] = x, f.stack[name]
 
     def cells(entry):
@@ -139,7 +171,7 @@ def dearest(f):
          [[words, count(d['read'][0]['table'])] + cells(d['read']) + cells(d.get('write')) for words, d in some if 'read' in d])
 
 
-def goals(f, steps, shares):
+def goals(f, steps, shares, pair):
     print('\n### Goals\n')
     some = []
 
@@ -158,6 +190,7 @@ def goals(f, steps, shares):
              max(each) <= 1.2 * min(each))
     goal('strings in segments are read linearly', 'an octet costs the same as in half the length within a tenth',
          '%.2f to %.2f times' % (min(shares), max(shares)), max(shares) <= 1.1)
+    goal('order and seconds, instructions', 'under ' + count(PAIR), count(pair), pair < PAIR)
     slow = max(x['least'] for x in f.alone.values() if x['op'] == 'read')
     goal('the worst read', 'under %.0f ms' % (WORST / 1e6), '%.1f ms' % (slow / 1e6), slow < WORST)
     most = max(f.stack, key=f.stack.get)
@@ -171,8 +204,9 @@ def main():
     batch(f)
     steps = growth(f)
     shares = segments(f)
+    pair = times(f)
     dearest(f)
-    goals(f, steps, shares)
+    goals(f, steps, shares, pair)
 
 
 main()

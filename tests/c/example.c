@@ -1,4 +1,5 @@
-/* Call control in small: checks a table, writes a value and reads it back. */
+/* Call control in small: checks a table, writes a value and reads it back, and asks how long it is to a wake-up call. */
+#include <inttypes.h>
 #include <stdio.h>
 #include <string.h>
 
@@ -9,6 +10,9 @@ static const uint8_t table[] = {0x54, 0x59, 0x02, 0x01, 0x02, 0x00, 0x00, 0x54, 
                                 0x54, 0x59, 0x11, 0x01, 0x00, 0x00, 0x11, 0x02, 0x00, 0x00, 0x01, 0x01};
 /* 5 and true */
 static const uint8_t value[] = {0x56, 0x41, 0x11, 0x02, 0x01, 0x01, 0x56, 0x41, 0x02, 0, 0, 0, 0, 0, 0, 0, 5, 0x56, 0x41, 0x01, 0x01};
+
+/* 31 December 1999 at 22:00, and the day after at 6:30 */
+static const uint8_t evening[] = {0x56, 0x41, 0x18, 0x07, 0xCF, 12, 31, 22, 0, 0}, morning[] = {0x56, 0x41, 0x18, 0x07, 0xD0, 1, 1, 6, 30, 0};
 
 static void show(const char *what, uint64_t answer, const uint8_t *buf)
 {
@@ -23,6 +27,14 @@ static void show(const char *what, uint64_t answer, const uint8_t *buf)
     printf("\n");
 }
 
+static void show_time(const char *what, int64_t answer)
+{
+    if (YINSCARF_TIME_NUMBER(answer) != YINSCARF_DONE)
+        printf("%s: refused, %u\n", what, YINSCARF_TIME_NUMBER(answer));
+    else
+        printf("%s: %" PRId64 "\n", what, answer);
+}
+
 int main(void)
 {
     uint8_t message[64], back[64];
@@ -35,6 +47,15 @@ int main(void)
     /* a member of the SET is missing */
     uint64_t no = yinscarf_read(table, sizeof table, 2, (const uint8_t *)"\x31\x00", 2, back, sizeof back);
     show("read", no, back);
+    int64_t o = yinscarf_order(evening, sizeof evening, morning, sizeof morning);
+    show_time("order", o);
+    int64_t s = yinscarf_seconds(evening, sizeof evening, morning, sizeof morning);
+    show_time("seconds", s);
+    /* a SET is no time */
+    int64_t other = yinscarf_seconds(evening, sizeof evening, (const uint8_t *)"\x56\x41\x11\x00", 4);
+    show_time("seconds", other);
+    if (o != -1 || s != 30600 || YINSCARF_TIME_NUMBER(other) != YINSCARF_VALUE_TYPE)
+        return 1;
     if (a != 0 || w != 8 || memcmp(message, "\x31\x06\x80\x01\x05\x01\x01\xff", 8) != 0)
         return 1;
     if (r != sizeof value || memcmp(back, value, sizeof value) != 0)

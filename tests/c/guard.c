@@ -3,23 +3,14 @@
  * buffer length from 0 to a little over what is needed, null pointers with length 0, and random and damaged cases.
  *   guard STDIN STDOUT [RANDOM CASES] [SEED] */
 #define _GNU_SOURCE
-#include <stdio.h>
-#include <stdlib.h>
 #include <string.h>
-#include <sys/mman.h>
 #include <time.h>
-#include <unistd.h>
 
+#include "fence.h"
 #include "yinscarf.h"
 
 enum { CHECK, WRITE, READ };
 enum { ROOM = 16384, LONGEST = 16385, OVER = 9, CASES = 20000, SECONDS = 300 };
-
-/* Memory between two pages that may not be touched. */
-struct fenced {
-    uint8_t *base;
-    size_t size;
-};
 
 struct one {
     unsigned op, type;
@@ -36,8 +27,6 @@ static struct one *cases;
 static size_t count;
 static unsigned long calls, checks_done, sizes_done;
 static double slowest;
-static size_t page;
-static uint64_t seed = 1;
 
 static void fail(const char *what, const struct one *c)
 {
@@ -49,42 +38,6 @@ static void fail(const char *what, const struct one *c)
         printf(" %02x", c->data[i]);
     printf("\n");
     exit(1);
-}
-
-static struct fenced fence(size_t size)
-{
-    struct fenced f;
-    size_t p = page;
-    f.size = (size + p - 1) / p * p;
-    uint8_t *m = mmap(NULL, f.size + 2 * p, PROT_NONE, MAP_PRIVATE | MAP_ANONYMOUS, -1, 0);
-    if (m == MAP_FAILED || mprotect(m + p, f.size, PROT_READ | PROT_WRITE) != 0) {
-        perror("mmap");
-        exit(1);
-    }
-    f.base = m + p;
-    return f;
-}
-
-/* The place of n octets at the end or at the start of fenced memory; of none, the very edge. */
-static uint8_t *place(struct fenced f, size_t n, int at_end)
-{
-    return at_end ? f.base + f.size - n : f.base;
-}
-
-static void protect(struct fenced f, int how)
-{
-    if (mprotect(f.base, f.size, how) != 0) {
-        perror("mprotect");
-        exit(1);
-    }
-}
-
-static uint64_t next(void)
-{
-    seed ^= seed << 13;
-    seed ^= seed >> 7;
-    seed ^= seed << 17;
-    return seed;
 }
 
 static double now(void)
@@ -271,7 +224,8 @@ static void edges(void)
 /* Octets with small faults: some changed, some cut, some more. */
 static size_t damaged(const uint8_t *from, size_t n, uint8_t *to, size_t most)
 {
-    static const uint8_t likely[] = {0x00, 0x01, 0x02, 0x30, 0x31, 0x7F, 0x80, 0x81, 0x9F, 0xA0, 0xFF, 0x54, 0x56};
+    static const uint8_t likely[] = {0x00, 0x01, 0x02, 0x30, 0x31, 0x7F, 0x80, 0x81, 0x9F, 0xA0, 0xFF, 0x54, 0x56,
+                                     0x17, 0x18, 0x37, 0x39, 0x3A, 0x5A};
     memmove(to, from, n);
     for (unsigned k = (unsigned)(next() % 3) + 1; k; k--) {
         size_t at = n ? next() % n : 0;
@@ -368,7 +322,6 @@ int main(int argc, char **argv)
     if (argc > 4)
         seed = strtoull(argv[4], NULL, 10) | 1;
     setvbuf(stdout, NULL, _IOLBF, 0);
-    page = (size_t)sysconf(_SC_PAGESIZE);
     alarm(SECONDS);
     for (size_t i = 0; i < sizeof pattern; i++)
         pattern[i] = (uint8_t)(i * 7 + i / 256 + 1);

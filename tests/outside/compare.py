@@ -1,5 +1,5 @@
-"""Compares the program of cases with Erlang/OTP's asn1 and with pyasn1, both ways, on random tables, values and messages; and its reading
-of strings in segments, sound and damaged, with the model.
+"""Compares the program of cases with Erlang/OTP's asn1 and with pyasn1, both ways, on random tables, values and messages; its reading
+of strings in segments and of times, sound and damaged, with the model; and the archive's order of times with Python's datetime.
 
 Each disagreement is either one of EXPLAINED, where the outside coder departs from X.690 or from document 01's limits, or it is
 printed with its octets and the run fails."""
@@ -12,6 +12,7 @@ import struct
 import sys
 import tempfile
 
+import dates
 import erlang
 import make
 import model
@@ -32,6 +33,8 @@ LAX = {
                      '(X.690, 8.6.4 and 8.7.3)',
         'no members': 'nothing inside a SEQUENCE or SET without members is looked at, nor its form bit, nor what follows it under an explicit tag',
         'unused bits': 'a BIT STRING with more than 7 unused bits is read (X.690, 8.6.2.2)',
+        'any characters': 'a time is read whatever its characters are (document 02: 25)',
+        'time in segments': 'a time is read in segments too, joined as a string is (X.690, 8.25; document 02: 24)',
     },
     'pyasn1': {
         'spare octets': 'INTEGER or ENUMERATED contents with more octets than needed are read (X.690, 8.3.2)',
@@ -41,11 +44,14 @@ LAX = {
         'raw parts': 'in a string in segments the contents of a constructed one are taken for octets of the string, but read if they are of '
                      'an OCTET STRING and indefinite; any tag that is not UNIVERSAL passes for that; each may have unused bits; a BIT STRING '
                      'of no segments is refused if it is definite (X.690, 8.6.4 and 8.7.3)',
-        'indefinite primitive': 'a primitive string with an indefinite length is read (X.690, 8.1.3.2 a)',
+        'indefinite primitive': 'a primitive string or time with an indefinite length is read (X.690, 8.1.3.2 a)',
         'form bit': 'the tag of a CHOICE without the constructed bit is read (X.690, 8.14.2)',
         'repeated member': 'a SET member that comes twice is read, the later one counts (X.690, 8.11)',
         'wide boolean': 'BOOLEAN contents of any number of octets are read (X.690, 8.2.1)',
         'unlisted number': 'an ENUMERATED number that is not listed is read (document 01: 25)',
+        'any ASCII': 'a time is read whatever its characters are, up to 7F (document 02: 25)',
+        'time in segments': 'a time is read in segments too, which have its own number, not 4 as those that the encoder writes (X.690, 8.25; '
+                            'document 02: 24)',
         **({'octets behind': 'what stands behind the item in an explicit tag of definite length is not looked at (X.690, 8.14.2)'}
            if python_asn1.OLD else
            {'several items': 'an explicit tag of indefinite length may hold several items, or none',
@@ -59,6 +65,9 @@ LAX = {
 INTEGERS = '54 59 02 01 00 00 02'
 STRINGS = '54 59 04 01 00 00 04'
 BITS = '54 59 03 01 00 00 03'
+UTC = '54 59 17 01 00 00 17'
+GENERALIZED = '54 59 18 01 00 00 18'
+NEW_YEAR = '56 41 17 00 63 01 01 00 00 00'
 TAGGED = '54 59 01 02 02 00 00 00 00 01'
 ENUM = '54 59 0A 01 00 00 0A 03 00 00 00 01 00 02'
 NESTED = '54 59 30 01 00 00 10 00'
@@ -85,6 +94,15 @@ PINS = [
     ('pyasn1', 'raw parts', STRINGS, 0, '24 80 04 80 00 00 00 00', ('no', 23, 2), True),
     ('pyasn1', 'raw parts', BITS, 0, '23 00', ('ok', b'\x56\x41\x03\0\0'), False),
     ('pyasn1', 'raw parts', BITS, 0, '23 80 23 80 03 02 00 AA 00 00 00 00', ('ok', b'\x56\x41\x03\0\x08\xAA'), False),
+    ('both', 'any characters, any ASCII', UTC, 0, '17 0D 39 39 30 32 32 39 30 30 30 30 30 30 5A', ('no', 25, 0), True),
+    ('both', 'any characters, any ASCII', UTC, 0, '17 00', ('no', 25, 0), True),
+    ('both', 'any characters, any ASCII', GENERALIZED, 0, '18 0F ' + '32 ' * 14 + '7A', ('no', 25, 0), True),
+    ('erlang', 'any characters', GENERALIZED, 0, '18 01 FF', ('no', 25, 0), True),
+    ('pyasn1', 'any ASCII', GENERALIZED, 0, '18 01 FF', ('no', 25, 0), False),
+    ('erlang', 'time in segments', UTC, 0, '37 11 04 06 39 39 30 31 30 31 04 07 30 30 30 30 30 30 5A', ('no', 24, 0), NEW_YEAR),
+    ('pyasn1', 'time in segments', UTC, 0, '37 11 04 06 39 39 30 31 30 31 04 07 30 30 30 30 30 30 5A', ('no', 24, 0), False),
+    ('both', 'time in segments', UTC, 0, '37 11 17 06 39 39 30 31 30 31 17 07 30 30 30 30 30 30 5A', ('no', 24, 0), NEW_YEAR),
+    ('pyasn1', 'indefinite primitive', UTC, 0, '17 80 17 0D 39 39 30 31 30 31 30 30 30 30 30 30 5A 00 00', ('no', 23, 0), NEW_YEAR),
     ('erlang', 'level', NESTED, 0, '30 80 ' * 25 + '00 00 ' * 25, ('no', 28, 48), True),
     ('erlang', 'unused bits', BITS, 0, '03 02 08 FF', ('no', 25, 0), True),
     ('erlang', 'no members', EMPTY, 0, '30 02 00 00', ('no', 26, 2), True),
@@ -145,6 +163,20 @@ def lax_reading(coder, table, t, m, tree):
     except model.No:
         mine = None
     return used if mine == tree else None
+
+
+def time_in_segments(table, t, m, tree):
+    """Whether a message has times in segments, as X.690 has them, and is otherwise that tree, but for spare octets of an INTEGER."""
+    used = set()
+    try:
+        return model.read_tree(model.check(table), t, m, {'time in segments', 'spare octets'}, used) == tree and 'time in segments' in used
+    except model.No:
+        return False
+
+
+def unsegmented(coder, t, tree):
+    """What pyasn1 reads of what it writes for a tree without segments: it may send an absent optional member."""
+    return coder.decode(t, coder.encode(t, tree, True)[1])[1]
 
 
 def lacking(records, t, tree):
@@ -225,6 +257,15 @@ def verdicts(args, R, tally):
 def in_segments(args, R, tally):
     """Compares our reading of strings in segments with the model's, with the place of each refusal."""
     segments.compare(args.ours, R, args.messages, tally.add, lambda what, table, m, we, they: tally.fault(what, table, 0, m, we, they))
+
+
+def times(args, R, tally):
+    """Compares our reading and writing of times with the model's, and order and seconds, if there is an archive, with datetime and the model."""
+    dates.compare(args.ours, R, args.messages // 3, tally.add, lambda what, table, m, we, they: tally.fault(what, table, 0, m, we, they))
+    if os.path.exists(dates.ARCHIVE):
+        dates.compare_pairs(dates.built(dates.ARCHIVE), R, 100000, tally.add, lambda what, a, b, we, they: tally.fault(what, a, 0, b, we, they))
+    else:
+        print('order and seconds are left out: no archive')
 
 
 def with_erlang(args, R, tally):
@@ -365,6 +406,8 @@ def with_pyasn1(args, R, tally):
             judged('pyasn1', tally, table, t, m, we, they, kind == 'bad')
         elif we == ('ok', model.octets(tree)):
             tally.add(how + ', we read: same value')
+        elif kind == 'segments' and we[0] == 'no' and time_in_segments(table, t, m, unsegmented(they, t, tree)):
+            tally.add(how + ', we refuse: explained: a time in segments (X.690, 8.25; document 02: 24)')
         elif lax_reading('pyasn1', table, t, m, tree) == {'spare octets'}:
             tally.add(how + ', we refuse: explained: spare octets of a negative INTEGER')
         else:
@@ -411,7 +454,8 @@ def main():
     p.add_argument('--seed', type=int, default=1)
     p.add_argument('--tables', type=int, default=200, help='tables for each coder')
     p.add_argument('--values', type=int, default=2, help='values of each type')
-    p.add_argument('--messages', type=int, default=300, help='messages with strings in segments, each damaged at every octet')
+    p.add_argument('--messages', type=int, default=300, help='messages with strings in segments, and a third as many with times, each damaged '
+                                                              'at every octet')
     p.add_argument('--keep', help='a folder for the ASN.1 modules and the requests')
     p.add_argument('--record', help='a file for cases with Erlang\'s answers; pyasn1 and the model are then left out')
     args = p.parse_args()
@@ -426,6 +470,7 @@ def main():
     else:
         versions = [version, with_pyasn1(args, R, tally)]
         in_segments(args, random.Random(args.seed), tally)
+        times(args, random.Random(args.seed), tally)
     for what, n in sorted(tally.counts.items()):
         print('%7d %s' % (n, what))
     print('%s; ours: %s; seed %d' % ('; '.join(versions), os.path.basename(args.ours), args.seed))

@@ -4,11 +4,12 @@ import re
 import subprocess
 
 from make import circular
-from model import (BIT_STRING, BOOLEAN, CHOICE, CONSTRUCTED, ENUMERATED, INTEGER, LISTS, MEMBERS, NULL, OCTET_STRING, SEQUENCE,
-                   SEQUENCE_OF, SET, SET_OF, named)
+from model import (BIT_STRING, BOOLEAN, CHOICE, CONSTRUCTED, ENUMERATED, GENERALIZED_TIME, INTEGER, LISTS, MEMBERS, NULL, OCTET_STRING,
+                   SEQUENCE, SEQUENCE_OF, SET, SET_OF, TIMES, UTC_TIME, digits, named, time_of)
 
 NAME = {BOOLEAN: 'BOOLEAN', INTEGER: 'INTEGER', BIT_STRING: 'BIT STRING', OCTET_STRING: 'OCTET STRING', NULL: 'NULL',
-        ENUMERATED: 'ENUMERATED', SEQUENCE: 'SEQUENCE', SET: 'SET', SEQUENCE_OF: 'SEQUENCE OF', SET_OF: 'SET OF', CHOICE: 'CHOICE'}
+        ENUMERATED: 'ENUMERATED', UTC_TIME: 'UTCTime', GENERALIZED_TIME: 'GeneralizedTime', SEQUENCE: 'SEQUENCE', SET: 'SET',
+        SEQUENCE_OF: 'SEQUENCE OF', SET_OF: 'SET OF', CHOICE: 'CHOICE'}
 CLASS = ['UNIVERSAL ', 'APPLICATION ', '', 'PRIVATE ']
 
 
@@ -68,6 +69,8 @@ def term(tree):
         return "'NULL'"
     if kind == ENUMERATED:
         return 'n%d' % own
+    if kind in TIMES:
+        return '"%s"' % digits(kind, own).decode()
     if kind in MEMBERS:
         return '#{%s}' % ','.join('m%d=>%s' % (j, term(x)) for j, x in enumerate(own) if x is not None)
     if kind in LISTS:
@@ -104,6 +107,14 @@ def tree(records, t, words):
                 c.append(int(w))
             w = next(words)
         return kind, (spare, bytes(c)) if kind == BIT_STRING else bytes(c)
+    if kind in TIMES:
+        assert w == '[', w
+        c, w = [], next(words)
+        while w != ']':
+            if w != ',':
+                c.append(int(w))
+            w = next(words)
+        return kind, time_of(kind, bytes(c)) or bytes(c)
     if kind in MEMBERS:
         assert w == '#{', w
         kids = [None] * len(own)

@@ -2,10 +2,10 @@
 import struct
 
 import model
-from model import (BIT_STRING, BOOLEAN, CHOICE, CONSTRUCTED, DEEPEST, ENUMERATED, INTEGER, LISTS, MEMBERS, NULL, OCTET_STRING, OWN_NUMBER,
-                   SEQUENCE, SEQUENCE_OF, SET, SET_OF, STRINGS)
+from model import (BIT_STRING, BOOLEAN, CHOICE, CONSTRUCTED, DAYS, DEEPEST, ENUMERATED, GENERALIZED_TIME, INTEGER, LISTS, MEMBERS, NULL,
+                   OCTET_STRING, OWN_NUMBER, SEQUENCE, SEQUENCE_OF, SET, SET_OF, STRINGS, TIMES, UTC_TIME)
 
-SIMPLE = (BOOLEAN, INTEGER, BIT_STRING, OCTET_STRING, NULL, ENUMERATED)
+SIMPLE = (BOOLEAN, INTEGER, BIT_STRING, OCTET_STRING, NULL, ENUMERATED, UTC_TIME, GENERALIZED_TIME)
 
 
 def rendered(records):
@@ -74,7 +74,7 @@ def wide_table(R):
 
 def repeating_table(R):
     """A SEQUENCE whose members are of few types, so that most first tags stand in several runs; one type may be a CHOICE without tags."""
-    kinds = R.sample(SIMPLE[:-1], 3)
+    kinds = R.sample([k for k in SIMPLE if k != ENUMERATED], 3)
     types = [(k, [(0, OWN_NUMBER[k])], None) for k in kinds] + [(NULL, [(2, 0)], None), (CHOICE, [], R.sample(range(1, 5), R.choice([1, 2, 3])))]
     firsts = [{i + 1} for i in range(4)] + [set(types[4][2])]
     own, run, n = [], set(), R.choice([2, 3, 5, 8, 16])
@@ -93,7 +93,7 @@ def small_table(R):
     n = R.randrange(2, 8)
     records = []
     for _ in range(n):
-        kind = R.choice((BOOLEAN, INTEGER, NULL, SEQUENCE, SEQUENCE, SEQUENCE, SET, CHOICE, CHOICE, SEQUENCE_OF))
+        kind = R.choice((BOOLEAN, INTEGER, NULL, UTC_TIME, GENERALIZED_TIME, SEQUENCE, SEQUENCE, SEQUENCE, SET, CHOICE, CHOICE, SEQUENCE_OF))
         tags = [(2, R.randrange(3))]
         if R.random() < .7:
             tags = [] if kind == CHOICE else [(0, OWN_NUMBER[kind])]
@@ -137,6 +137,19 @@ def circular(records):
 NUMBERS = [0, 1, -1, 127, 128, -128, -129, 255, 256, 32767, -32768, -32769, 2**31, -2**31, 2**55, -2**55, 2**63 - 1, -2**63]
 
 
+YEARS = {UTC_TIME: [0, 1, 3, 4, 49, 50, 69, 70, 96, 99], GENERALIZED_TIME: [0, 1, 4, 99, 100, 400, 1582, 1900, 1970, 1999, 2000, 2100, 9999]}
+
+
+def time(R, kind):
+    """A time that there is, often at the edge of a day, a month or the years."""
+    year = R.choice(YEARS[kind]) if R.random() < .5 else R.randrange(max(YEARS[kind]) + 1)
+    month = R.choice([1, 2, 2, 12, R.randrange(1, 13)])
+    last = DAYS[month - 1] + (1 if month == 2 and model.leap(kind, year) else 0)
+    day = R.choice([1, last, last, R.randrange(1, last + 1)])
+    clock = R.choice([(0, 0, 0), (23, 59, 59), (R.randrange(24), R.randrange(60), R.randrange(60))])
+    return (year, month, day) + clock
+
+
 def value(R, records, t, levels, h):
     """A random tree of a type within so many levels."""
     kind, _, own = records[t]
@@ -157,6 +170,8 @@ def value(R, records, t, levels, h):
         return kind, None
     if kind == ENUMERATED:
         return kind, R.choice(own)
+    if kind in TIMES:
+        return kind, time(R, kind)
     if kind in MEMBERS:
         return kind, [value(R, records, a, levels - 1, h) if not optional or (h[a] < levels and R.random() < .6) else None
                       for a, optional in own]
@@ -305,6 +320,16 @@ def joined(some):
     return out
 
 
+def other_time(R, c):
+    """Contents of a time in another form, or with other digits; they may be good ones by chance."""
+    at = R.randrange(0, len(c) - 1, 2)
+    return R.choice([
+        c[:at] + b'%02d' % R.choice([0, 12, 13, 23, 24, 28, 29, 30, 31, 32, 59, 60, 99]) + c[at + 2:],
+        c[:at] + bytes([R.choice(b'/:0129 -+.,Zz\0\xb0')]) + c[at + 1:],
+        c[:-1], c[:-1] + b'z', c[:-3] + b'Z', c[:-1] + b'.5Z', c[:-1] + b'+0000', c[:-1] + b'-0130', c[:-5] + b'Z', c[2:], b'19' + c,
+        b'20' + c, c + c])
+
+
 def faulty(R, m):
     """What a sender with one wrong rule makes of a definite message: each rule of X.690 or of the table broken somewhere."""
     top = items(m)
@@ -318,7 +343,11 @@ def faulty(R, m):
     row, k = R.choice(places)
     i, c = row[k]
     plain = joined(c) if isinstance(c, list) else c
-    way = R.randrange(16)
+    time = not isinstance(c, list) and len(c) in (13, 15) and c[-1:] == b'Z'
+    if time and R.random() < .6:
+        row[k][1] = other_time(R, c)
+        return joined(top)
+    way = 12 if time and R.random() < .3 else R.randrange(16)
     if way == 0 and i[0] & 31 != 31:
         row[k][0] = bytes([i[0] | 31, i[0] & 31])
     elif way == 1 and i[0] & 31 == 31:

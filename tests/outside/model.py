@@ -1,20 +1,23 @@
-"""Document 01 in Python, and of document 02 what has landed: check, write and read, with every refusal and its place.
+"""Document 01 in Python, and of document 02 what has landed: check, write and read, order and seconds, with every refusal and its place.
 
 It was written from the documents alone, without the proved definitions, and serves two ends: it stands in for the program
 of cases where that is not built yet, and it gives the outside coders' answers a shape to be compared with.
 
 A table is octets; a record is (kind, tags, own); a value is a tree (kind, own), where own is
   BOOLEAN 0 or 1, INTEGER a number, BIT STRING (spare bits, octets), OCTET STRING octets, NULL None, ENUMERATED a number,
+  UTCTime and GeneralizedTime (year, month, day, hour, minute, second),
   SEQUENCE and SET a list with None for a missing member, SEQUENCE OF and SET OF a list, CHOICE (alternative, tree).
 """
 import struct
 
 BOOLEAN, INTEGER, BIT_STRING, OCTET_STRING, NULL, ENUMERATED = 1, 2, 3, 4, 5, 10
+UTC_TIME, GENERALIZED_TIME = 23, 24
 SEQUENCE, SET, SEQUENCE_OF, SET_OF, CHOICE = 16, 17, 48, 49, 50
-OWN_NUMBER = {1: 1, 2: 2, 3: 3, 4: 4, 5: 5, 10: 10, 16: 16, 17: 17, 48: 16, 49: 17, 50: None}
+OWN_NUMBER = {1: 1, 2: 2, 3: 3, 4: 4, 5: 5, 10: 10, 16: 16, 17: 17, 23: 23, 24: 24, 48: 16, 49: 17, 50: None}
 MEMBERS, LISTS = (SEQUENCE, SET), (SEQUENCE_OF, SET_OF)
 CONSTRUCTED = MEMBERS + LISTS
 STRINGS = (BIT_STRING, OCTET_STRING)
+TIMES = (UTC_TIME, GENERALIZED_TIME)
 LEVELS, MESSAGE, VALUE, TABLE, RECORDS = 24, 8192, 16384, 8192, 128
 DEEPEST = 4
 
@@ -24,6 +27,47 @@ class No(Exception):
 
     def __init__(self, number, place):
         self.number, self.place = number, place
+
+
+# ---- the calendar ----
+# Digits of the year, by kind.
+YEAR = {UTC_TIME: 2, GENERALIZED_TIME: 4}
+DAYS = (31, 28, 31, 30, 31, 30, 31, 31, 30, 31, 30, 31)
+
+
+def leap(kind, year):
+    return year % 4 == 0 and (kind == UTC_TIME or year % 100 != 0 or year % 400 == 0)
+
+
+def exists(kind, time):
+    """Whether a kind of time has such a date and time of day."""
+    year, month, day, hour, minute, second = time
+    if year >= 10 ** YEAR[kind] or not 1 <= month <= 12 or hour > 23 or minute > 59 or second > 59:
+        return False
+    return 1 <= day <= DAYS[month - 1] + (1 if month == 2 and leap(kind, year) else 0)
+
+
+def digits(kind, time):
+    """The contents octets of a time."""
+    year, *rest = time
+    return ('%0*d' % (YEAR[kind], year) + '%02d' * 5 % tuple(rest) + 'Z').encode()
+
+
+def time_of(kind, c):
+    """The time of contents octets; None if they are of another form or there is no such time."""
+    n = YEAR[kind]
+    if len(c) != n + 11 or c[-1] != 0x5A or not all(0x30 <= b <= 0x39 for b in c[:-1]):
+        return None
+    time = tuple(int(c[a:b]) for a, b in zip([0] + list(range(n, n + 10, 2)), range(n, n + 12, 2)))
+    return time if exists(kind, time) else None
+
+
+def second_number(time):
+    """The seconds from the beginning of the year 0 to a GeneralizedTime."""
+    year, month, day, hour, minute, second = time
+    days = 365 * year + (year + 3) // 4 - (year + 99) // 100 + (year + 399) // 400
+    days += sum(DAYS[:month - 1]) + (1 if month > 2 and leap(GENERALIZED_TIME, year) else 0) + day - 1
+    return ((24 * days + hour) * 60 + minute) * 60 + second
 
 
 # ---- tables ----
@@ -187,6 +231,11 @@ def node(v, at):
     if kind == OCTET_STRING:
         n = int.from_bytes(need(p, 2), 'big')
         return kind, bytes(need(p + 2, n)), p + 2 + n
+    if kind in TIMES:
+        time = struct.unpack('>H5B', need(p, 7))
+        if not exists(kind, time):
+            raise No(11, at)
+        return kind, time, p + 7
     if kind == BIT_STRING:
         n = int.from_bytes(need(p, 2), 'big')
         c = bytes(need(p + 2, (n + 7) // 8))
@@ -245,6 +294,8 @@ def octets(tree):
         return head
     if kind == ENUMERATED:
         return head + struct.pack('>H', own)
+    if kind in TIMES:
+        return head + struct.pack('>H5B', *own)
     if kind in MEMBERS:
         return head + bytes([len(own)] + [x is not None for x in own]) + b''.join(octets(x) for x in own if x is not None)
     if kind in LISTS:
@@ -294,6 +345,8 @@ def contents(kind, own):
         return integer(own)
     if kind == BIT_STRING:
         return bytes([own[0]]) + own[1]
+    if kind in TIMES:
+        return digits(kind, own)
     return own or b''
 
 
@@ -374,12 +427,15 @@ class Reader:
                 s = {mine}
             else:
                 s = set().union(*[self.first(a) for a in self.records[t][2]])
-            if mine and not explicit and (self.records[t][0] in STRINGS or self.no_members(t)):
+            if mine and not explicit and (self.either_form(self.records[t][0]) or self.no_members(t)):
                 s = s | {(mine[0] ^ 0x20, mine[1])}
             if explicit and self.records[t][0] == CHOICE and 'form bit' in self.lax:
                 s = s | {(explicit[0][0] ^ 0x20, explicit[0][1])}
             self.memo[t] = s
         return self.memo[t]
+
+    def either_form(self, kind):
+        return kind in STRINGS or kind in TIMES and 'time in segments' in self.lax
 
     def no_members(self, t):
         return 'no members' in self.lax and self.records[t][0] in MEMBERS and not self.records[t][2]
@@ -490,7 +546,7 @@ class Reader:
                 return (kind, ANY), q
             if over:
                 raise No(24, p)
-            if not explicit[1:] and kind in STRINGS and 'any parts' in self.lax:
+            if not explicit[1:] and kind in STRINGS + TIMES and 'any parts' in self.lax:
                 items, q = self.items(p, e, n is None)
                 if len(items) > 1:
                     self.used.add('any parts')
@@ -521,7 +577,9 @@ class Reader:
             return (kind, ANY), self.passed(p, end, True) if n is None else p + n
         if kind in STRINGS and i == (mine[0] | 0x20, mine[1]):
             return self.string(kind, at, p, end)
-        if kind in STRINGS and self.m[p:p + 1] == b'\x80' and self.may('indefinite primitive'):
+        if kind in TIMES and i == (mine[0] | 0x20, mine[1]) and self.may('time in segments'):
+            return self.time(kind, at, p, end)
+        if kind in STRINGS + TIMES and self.m[p:p + 1] == b'\x80' and self.may('indefinite primitive'):
             return self.pieces(kind, p + 1, end, True, at)
         if i != mine:
             raise No(24, at)
@@ -558,6 +616,18 @@ class Reader:
         if they[0] == 'no':
             raise No(*they[1:])
         return they[1]
+
+    def time(self, kind, at, p, end):
+        """A time in segments, as an outside coder reads it: as X.690 has it for an OCTET STRING, or in that coder's way."""
+        n, p = self.length(at, p, end, False)
+        e = end if n is None else p + n
+        if 'any parts' in self.lax:
+            return self.parts(kind, p, e, n is None)
+        if 'raw parts' in self.lax:
+            return self.pieces(kind, p, e, n is None, at)
+        found = []
+        q = self.segments(OCTET_STRING, p, e, n is None, 1, found)
+        return (kind, self.simple(kind, None, self.whole(OCTET_STRING, found)[1], at)), q
 
     def segments(self, kind, p, e, indefinite, depth, found):
         """Reads segments that begin at p into `found`, the place and the contents of each primitive one; where they end."""
@@ -606,7 +676,8 @@ class Reader:
         return self.together(kind, items), q
 
     def together(self, kind, items):
-        """Erlang's joining of items: of an OCTET STRING whatever their tags and depth, and not of none; of a BIT STRING one level deep."""
+        """Erlang's joining of items: of an OCTET STRING or a time whatever their tags and depth, and not of none; of a BIT STRING one level
+        deep."""
         def bits(items):
             if any(t != (0, BIT_STRING) or isinstance(c, list) or not c for t, c in items):
                 raise No(24, 0)
@@ -632,9 +703,10 @@ class Reader:
             raise No(25, 0)
         return kind, self.simple(kind, None, c, 0)
 
-    def pieces(self, kind, p, e, indefinite, at):
+    def pieces(self, kind, p, e, indefinite, at, inner=False):
         """pyasn1's joining of segments: the contents of a constructed one are taken for octets of the string, but those of one of an
-        OCTET STRING of indefinite length are read; unused bits may be in each; a definite BIT STRING of none is refused."""
+        OCTET STRING of indefinite length are read; unused bits may be in each; a definite BIT STRING of none is refused. A time is read like
+        an OCTET STRING, but its segments have its own number."""
         if kind == BIT_STRING and not indefinite and p == e:
             raise No(25, at)
         value = '' if kind == BIT_STRING else b''
@@ -648,13 +720,13 @@ class Reader:
             if not own and not (i[0] & 0x20 and i[0] & 0xC0):
                 raise No(24, p)
             n, q = self.length(p, q, e, False)
-            if n is None and own and kind == OCTET_STRING:
-                (_, c), p = self.pieces(kind, q, e, True, p)
+            if n is None and own and kind != BIT_STRING:
+                c, p = self.pieces(kind, q, e, True, p, True)
             else:
                 if n is None and (q == e or e != len(self.m)):
                     raise No(22, p)
                 c, p = (self.m[q:], e) if n is None else (self.m[q:q + n], q + n)
-            if kind == OCTET_STRING:
+            if kind != BIT_STRING:
                 value += c
                 continue
             if not c or c[0] > 7 or c[0] > 8 * (len(c) - 1):
@@ -664,7 +736,10 @@ class Reader:
             unused = -len(value) % 8
             value += '0' * unused
             value = unused, bytes(int(value[j:j + 8], 2) for j in range(0, len(value), 8))
-        return (kind, value), p + 2 if indefinite else p
+        p += 2 if indefinite else 0
+        if inner:
+            return value, p
+        return (kind, self.simple(kind, None, value, at) if kind in TIMES else value), p
 
     def members(self, kind, rules, p, e, indefinite, level):
         kids, next_ = [None] * len(rules), 0
@@ -739,6 +814,11 @@ class Reader:
             if c:
                 raise bad
             return None
+        if kind in TIMES:
+            time = time_of(kind, c)
+            if time is None and not self.may('any characters') and not (all(b < 128 for b in c) and self.may('any ASCII')):
+                raise bad
+            return bytes(c) if time is None else time
         return bytes(c)
 
 
@@ -762,18 +842,19 @@ def checked(table):
 
 
 def write(table, t, v, room=VALUE):
-    def work():
-        records = start(table, t)
-        if len(v) > VALUE:
-            raise No(11, 0)
-        tree, p = judge(records, t, v, 0, 1)
-        if p != len(v):
-            raise No(11, p)
-        m = form(records, t, tree)
-        if len(m) > min(room, MESSAGE):
-            raise No(14, 0)
-        return m
-    return answer(work)
+    return answer(lambda: written(start(table, t), t, v, room))
+
+
+def written(records, t, v, room=VALUE):
+    if len(v) > VALUE:
+        raise No(11, 0)
+    tree, p = judge(records, t, v, 0, 1)
+    if p != len(v):
+        raise No(11, p)
+    m = form(records, t, tree)
+    if len(m) > min(room, MESSAGE):
+        raise No(14, 0)
+    return m
 
 
 def read(table, t, m, room=VALUE):
@@ -796,6 +877,36 @@ def read_tree(records, t, m, lax=(), used=None):
     if p != len(m) and not r.may('tail'):
         raise No(26, p)
     return tree
+
+
+# ---- times ----
+def lone_time(v):
+    """The time of octets that are one node of GeneralizedTime alone."""
+    if len(v) > VALUE:
+        raise No(11, 0)
+    kind, own, p = node(v, 0)
+    if p != len(v) or kind == CHOICE or kind in MEMBERS and any(own) or kind in LISTS and own:
+        raise No(11, 0)
+    if kind != GENERALIZED_TIME:
+        raise No(12, 0)
+    return own
+
+
+def seconds(first, second):
+    """('ok', whole seconds from the first time to the second) or ('no', number, 0)."""
+    def work():
+        a = lone_time(first)
+        return second_number(lone_time(second)) - second_number(a)
+    return answer(work)
+
+
+def order(first, second):
+    """('ok', -1, 0 or 1 as the first time is before, at or after the second) or ('no', number, 0)."""
+    def work():
+        a = lone_time(first)
+        b = lone_time(second)
+        return (a > b) - (a < b)
+    return answer(work)
 
 
 def line(number, a):

@@ -1,16 +1,17 @@
 """pyasn1 (BER) as an outside coder: types built from a table at run time; a table must not be circular."""
 import pyasn1
 from pyasn1.codec.ber import decoder, encoder
-from pyasn1.type import namedtype, namedval, tag, univ
+from pyasn1.type import namedtype, namedval, tag, univ, useful
 
-from model import (BIT_STRING, BOOLEAN, CHOICE, CONSTRUCTED, ENUMERATED, INTEGER, LISTS, MEMBERS, NULL, OCTET_STRING, OWN_NUMBER,
-                   SEQUENCE, SEQUENCE_OF)
+from model import (BIT_STRING, BOOLEAN, CHOICE, CONSTRUCTED, ENUMERATED, GENERALIZED_TIME, INTEGER, LISTS, MEMBERS, NULL, OCTET_STRING,
+                   OWN_NUMBER, SEQUENCE, SEQUENCE_OF, TIMES, UTC_TIME, digits, time_of)
 
 VERSION = pyasn1.__version__
 # Debian's 0.4.8 departs in other ways than the decoder that came with 0.5.
 OLD = tuple(int(x) for x in VERSION.split('.')[:2]) < (0, 5)
 CLASS = [tag.tagClassUniversal, tag.tagClassApplication, tag.tagClassContext, tag.tagClassPrivate]
-PLAIN = {BOOLEAN: univ.Boolean, INTEGER: univ.Integer, BIT_STRING: univ.BitString, OCTET_STRING: univ.OctetString, NULL: univ.Null}
+PLAIN = {BOOLEAN: univ.Boolean, INTEGER: univ.Integer, BIT_STRING: univ.BitString, OCTET_STRING: univ.OctetString, NULL: univ.Null,
+         UTC_TIME: useful.UTCTime, GENERALIZED_TIME: useful.GeneralizedTime}
 
 
 class Coder:
@@ -28,7 +29,9 @@ class Coder:
                                                  tag.tagFormatSimple, tags[-1][1])]
         for c, n in reversed(tags if kind == CHOICE else tags[:-1]):
             ids.append(tag.Tag(CLASS[c], tag.tagFormatConstructed, n))
-        s = tag.TagSet(() if kind == CHOICE else tag.Tag(CLASS[0], ids[0].tagFormat, OWN_NUMBER[kind]), *ids)
+        # a time is for pyasn1 an OCTET STRING with another tag
+        base = OWN_NUMBER[OCTET_STRING if kind in TIMES else kind]
+        s = tag.TagSet(() if kind == CHOICE else tag.Tag(CLASS[0], ids[0].tagFormat, base), *ids)
         if kind in PLAIN:
             return PLAIN[kind](tagSet=s)
         if kind == ENUMERATED:
@@ -53,6 +56,8 @@ class Coder:
             return kind, (spare, (int(v.asInteger()) << spare).to_bytes((n + spare) // 8, 'big'))
         if kind == OCTET_STRING:
             return kind, bytes(v)
+        if kind in TIMES:
+            return kind, time_of(kind, bytes(v)) or bytes(v)
         if kind == NULL:
             return kind, None
         if kind in MEMBERS:
@@ -77,6 +82,8 @@ class Coder:
             return x.clone(binValue=''.join(format(b, '08b') for b in own[1])[:8 * len(own[1]) - own[0]])
         if kind == NULL:
             return x.clone('')
+        if kind in TIMES:
+            return x.clone(digits(kind, own).decode())
         y = x.clone()
         if kind in MEMBERS:
             y.clear()
