@@ -1,5 +1,6 @@
 """Compares the program of cases with Erlang/OTP's asn1 and with pyasn1, both ways, on random tables, values and messages; its reading
-of strings in segments and of times, sound and damaged, with the model; and the archive's order of times with Python's datetime.
+of strings in segments and of times, sound and damaged, with the model; its reading of integers with Python's; and the archive's order of
+times with Python's datetime.
 
 Each disagreement is either one of EXPLAINED, where the outside coder departs from X.690 or from document 01's limits, or it is
 printed with its octets and the run fails."""
@@ -14,6 +15,7 @@ import tempfile
 
 import dates
 import erlang
+import integers
 import make
 import model
 import ours
@@ -268,6 +270,11 @@ def times(args, R, tally):
         print('order and seconds are left out: no archive')
 
 
+def signs(args, R, tally):
+    """Compares our reading of integers with Python's, with every first octet."""
+    integers.compare(args.ours, R, tally.add, lambda what, table, m, we, they: tally.fault(what, table, 0, m, we, they))
+
+
 def with_erlang(args, R, tally):
     folder = args.keep or tempfile.mkdtemp()
     made, work = plan(R, args.tables, erlang.takes, True, args.values, 'erlang')
@@ -471,6 +478,7 @@ def main():
         versions = [version, with_pyasn1(args, R, tally)]
         in_segments(args, random.Random(args.seed), tally)
         times(args, random.Random(args.seed), tally)
+        signs(args, random.Random(args.seed), tally)
     for what, n in sorted(tally.counts.items()):
         print('%7d %s' % (n, what))
     print('%s; ours: %s; seed %d' % ('; '.join(versions), os.path.basename(args.ours), args.seed))

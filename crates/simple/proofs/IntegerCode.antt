@@ -8,24 +8,26 @@ use native.Mathlib.Nat.{zero-add, pow-le-pow-right}
 use native.Mathlib.Numerals.{add-one}
 use native.Mathlib.Omega.{arith}
 use Prim.Native.Nat.{ℕ, zero, suc, _+_, _-_, _*_, _/_, _%_, _^_, _≤_, _<_}
-use lib.Dec.{ltb, leb, eqb}
-use lib.IntN.{ℤ, pos, negsuc}
+use lib.Bits.{bitAnd, bitOr, or-shifted, and-mask}
+use lib.Dec.{T, ltb, leb, eqb}
+use lib.IntN.{ℤ, pos, negsuc, natAbs}
 use lib.ListN.{length, drop, getD, set, length-set, drop-of-length-le}
 use lib.Seq.{sets, drop-cons, drop-length, drop-set-lt, getD-set-same}
-use lib.Signed.{mag, ltZ}
+use lib.Signed.{mag, ltZ, nonNeg, shrZ}
 use mir.Syntax.{w64}
-use mir.Val.{SFits, toZ, ofZ}
+use mir.Val.{Fits, SFits, toZ, ofZ}
 use mir.Facts.{fits-ofZ}
 use mir.ValLaws.{toZ-pos, toZ-neg, toZ-ofZ}
 use Rattle.octets.specs.Buffers.{filled}
+use Rattle.octets.specs.Tests.{if}
 use Rattle.octets.specs.Numbers.{Octets}
 use Rattle.octets.proofs.Answer.{run}
 use Rattle.octets.proofs.Buffers.{copy-end}
 use Rattle.octets.proofs.Permutations.{all-octets}
 use Rattle.octets.proofs.Tests.{test}
-use Rattle.x690.specs.Integer.{negative, digit, pile, integerOf, spare, minimal, eight}
+use Rattle.x690.specs.Integer.{negative, digit, pile, signed, integerOf, spare, minimal, eight}
 use Rattle.simple.specs.Integers.{integerIn, lastBefore}
-use Rattle.x690.proofs.Integers.{eight-length, spelt, eight-same, integer-fits}
+use Rattle.x690.proofs.Integers.{grow, head-small, within, eight-length, spelt, eight-same, integer-fits}
 
 -- z by its bits: what `z < 0` says, and the two ways to the bits
 pub bits-neg : (z : ℤ) → SFits w64 z → ltZ (toZ w64 (ofZ w64 z)) (pos 0) ≡ true
@@ -43,30 +45,106 @@ pub bits-pos : (z : ℤ) → SFits w64 z → ltZ (toZ w64 (ofZ w64 z)) (pos 0) �
 bits-pos (pos n) f h = (toZ-ofZ w64 (pos n) f, refl)
 bits-pos (negsuc n) f h = absurd (true≢false (sym (ap (λ (y : ℤ). ltZ y (pos 0)) (toZ-ofZ w64 (negsuc n) f)) ∙ h))
 
--- a loop that reads octets: room for one more; then what is left to be read, at the start, one octet on, and at the end
-pub room : (k acc : ℕ) → k ≤ 6 → acc < 128 * 256 ^ k → acc < 36028797018963968
+-- 64 bits as the top one and the others: put together, and taken apart
+pub top-and-others : (u : ℕ) → u < 18446744073709551616
+    → bitOr (u / 9223372036854775808 * 2 ^ 63 % 18446744073709551616) (u % 9223372036854775808) ≡ u
+top-and-others u h =
+    let e : u / 9223372036854775808 * 9223372036854775808 % 18446744073709551616 ≡ u / 9223372036854775808 * 9223372036854775808 = omega arith in
+    let f : u / 9223372036854775808 * 9223372036854775808 + u % 9223372036854775808 ≡ u = omega arith in
+    rw e (or-shifted (u / 9223372036854775808) 63 (u % 9223372036854775808) (omega arith) ∙ f)
+
+-- u, read as an integer that is not negative, goes into 64 bits as n
+abbrev pub Cast : ℕ → ℕ → Type 0
+Cast u n = T (nonNeg (toZ w64 u)) × Fits w64 (natAbs (toZ w64 u)) × (natAbs (toZ w64 u) ≡ n)
+
+cast : (u n : ℕ) → u ≡ n → n < 9223372036854775808 → Cast u n
+cast u n e h = rw (e, toZ-pos w64 n h) (tt, record { fits = omega arith }, refl)
+
+pub top-cast : (z : ℤ) → SFits w64 z → Cast (bitAnd (ofZ w64 (shrZ (toZ w64 (ofZ w64 z)) (2 ^ 63))) 1) (ofZ w64 z / 9223372036854775808)
+top-cast z f = rw (toZ-ofZ w64 z f) (side z (f .sfits))
+  where
+    side : (z : ℤ) → mag z < 9223372036854775808 → Cast (bitAnd (ofZ w64 (shrZ z (2 ^ 63))) 1) (ofZ w64 z / 9223372036854775808)
+    side (pos n) h = let e : n / 9223372036854775808 ≡ 0 = omega arith in rw e (cast 0 0 refl (omega arith))
+    side (negsuc n) h =
+        let e : n / 9223372036854775808 ≡ 0 = omega arith in
+        let g : (18446744073709551616 - suc n) / 9223372036854775808 ≡ 1 = omega arith in
+        rw (e, g) (cast 1 1 refl (omega arith))
+
+pub others-cast : (u : ℕ) → Cast (bitAnd u 9223372036854775807) (u % 9223372036854775808)
+others-cast u = cast (bitAnd u 9223372036854775807) (u % 9223372036854775808) (and-mask u 63) (omega arith)
+
+-- 64 bits of a number that is not negative, and their complement in one that is: as `digit` of an octet
+abbrev magnitude : Bool → ℕ → ℕ
+magnitude false u = u
+magnitude true u = 18446744073709551615 - u
+
+-- a loop that reads octets: u are eight, the fill and then the first i of s
+abbrev pub Extended : List ℕ → ℕ → ℕ → Type 0
+Extended s i u =
+    let neg = negative s in
+    (u < 18446744073709551616) × (magnitude neg u < 128 * 256 ^ (i - 1)) × (pile neg (magnitude neg u) (drop i s) ≡ pile neg 0 s)
+
+-- at the start: the fill seven times, and the first octet
+filled-first : (t : Bool) (b : ℕ) → b < 256 → magnitude (not t) ((if t 0 λ _. 255) * 72340172838076672 + b) ≡ digit (not t) b
+filled-first true b h = omega arith
+filled-first false b h = omega arith
+
+pub extended-first : (s : List ℕ) → 0 < length s → getD s 0 0 < 256
+    → Extended s 1 ((if (ltb (getD s 0 0) 128) 0 λ _. 255) * 72340172838076672 + getD s 0 0)
+unfolding negative pile
+extended-first [] h o = absurd (omega arith)
+extended-first (b ∷ s) h o =
+    let e = filled-first (ltb b 128) b o in (
+      if-small (ltb b 128) b o,
+      rw e (head-small b (not (ltb b 128)) refl),
+      rw (e, zero-add),
+    )
+  where
+    if-small : (t : Bool) (b : ℕ) → b < 256 → (if t 0 λ _. 255) * 72340172838076672 + b < 18446744073709551616
+    if-small true b h = omega arith
+    if-small false b h = omega arith
+
+-- one octet on: it pushes one fill out
+pushed : (neg : Bool) (u b : ℕ) → u < 18446744073709551616 → b < 256 → magnitude neg u < 36028797018963968
+    → magnitude neg (u % 72057594037927936 * 256 + b) ≡ magnitude neg u * 256 + digit neg b
+pushed false u b h k small = omega arith
+pushed true u b h k small = omega arith
+
+room : (k acc : ℕ) → k ≤ 6 → acc < 128 * 256 ^ k → acc < 36028797018963968
 room k acc le h = omega (arith, pow-le-pow-right {n = 256} (omega arith) {i = k} {j = 6} le)
 
-pub pile-begun : (neg : Bool) (s : List ℕ) → 0 < length s → pile neg (digit neg (getD s 0 0)) (drop 1 s) ≡ pile neg 0 s
+still-small : (neg : Bool) (k acc b : ℕ) → acc < 128 * 256 ^ k → b < 256 → acc * 256 + digit neg b < 128 * 256 ^ suc k
+still-small false k acc b h o = grow k acc b h o
+still-small true k acc b h o = grow k acc (255 - b) h (omega arith)
+
+pub extended-next : (s : List ℕ) (i u : ℕ) → 1 ≤ i → i < length s → length s ≤ 8 → getD s i 0 < 256
+    → Extended s i u → Extended s (i + 1) (u % 72057594037927936 * 256 + getD s i 0)
 unfolding pile
-pile-begun neg [] h = absurd (omega arith)
-pile-begun neg (b ∷ s) h = rw zero-add
+extended-next s i u one more few o (h, small, is) =
+    let neg = negative s in
+    let d = getD s i 0 in
+    let e = pushed neg u d h o (room (i - 1) (magnitude neg u) (omega arith) small) in
+    let k : i + 1 - 1 ≡ suc (i - 1) = omega arith in (
+      omega arith,
+      rw (e, k) (still-small neg (i - 1) (magnitude neg u) d small o),
+      rw (e, add-one) (rw (drop-cons s i 0 more) at is),
+    )
 
-pub pile-next : (neg : Bool) (acc i : ℕ) (s : List ℕ) → i < length s
-    → pile neg (acc * 256 + digit neg (getD s i 0)) (drop (i + 1) s) ≡ pile neg acc (drop i s)
-unfolding pile
-pile-next neg acc i s h = rw (add-one, drop-cons s i 0 h)
+-- at the end: the integer of what was read
+by-sign : (neg : Bool) (u : ℕ) → u < 18446744073709551616 → magnitude neg u < 9223372036854775808 → toZ w64 u ≡ signed neg (magnitude neg u)
+by-sign false u h small = toZ-pos w64 u small
+by-sign true u h small =
+    let e : u ≡ 18446744073709551616 - suc (18446744073709551615 - u) = omega arith in
+    ap (toZ w64) e ∙ toZ-neg w64 (18446744073709551615 - u) small
 
-pub pile-ended : (neg : Bool) (acc i : ℕ) (s : List ℕ) → length s ≤ i → pile neg acc (drop i s) ≡ acc
-unfolding pile
-pile-ended neg acc i s h = rw (drop-of-length-le s h)
+pub extended-last : (s : List ℕ) (i u : ℕ) → 1 ≤ i → i ≤ length s → length s ≤ i → length s ≤ 8 → Extended s i u → toZ w64 u ≡ integerIn s
+unfolding integerOf pile
+extended-last s i u one le ge few (h, small, is) =
+    let neg = negative s in
+    let n : magnitude neg u ≡ pile neg 0 s = rw (drop-of-length-le s ge) at is in
+    by-sign neg u h (within (i - 1) (magnitude neg u) (omega arith) small) ∙ simp (run, le-leb (length s) 8 few, n)
 
-pub of-head : (s : List ℕ) → 0 < length s → not (ltb (getD s 0 0) 128) ≡ negative s
-unfolding negative
-of-head [] h = absurd (omega arith)
-of-head (b ∷ s) h = refl
-
--- the integer of what was read
+-- no octet, or too many
 pub integer-none : (s : List ℕ) → length s ≡ 0 → pos 0 ≡ integerIn s
 unfolding integerOf negative pile
 integer-none [] h = simp run
@@ -74,23 +152,6 @@ integer-none (b ∷ s) h = absurd (omega arith)
 
 pub integer-long : (s : List ℕ) → 8 < length s → pos 0 ≡ integerIn s
 integer-long s h = simp (run, lt-leb (length s) 8 h)
-
-module _ (s : List ℕ) (n : ℕ) (some : 0 < length s) (few : length s ≤ 8) (small : n < 9223372036854775808)
-    (is : n ≡ pile (not (ltb (getD s 0 0) 128)) 0 s) where
-  pub integer-neg : not (ltb (getD s 0 0) 128) ≡ true → toZ w64 (18446744073709551615 - n) ≡ integerIn s
-  unfolding integerOf
-  integer-neg t =
-      let g : negative s ≡ true = sym (of-head s some) ∙ t in
-      let p : pile true 0 s ≡ n = sym (rw t at is) in
-      let w : 18446744073709551615 - n ≡ 18446744073709551616 - suc n = omega arith in
-      ap (toZ w64) w ∙ toZ-neg w64 n small ∙ simp (run, le-leb (length s) 8 few, g, p)
-
-  pub integer-pos : not (ltb (getD s 0 0) 128) ≡ false → toZ w64 n ≡ integerIn s
-  unfolding integerOf
-  integer-pos t =
-      let g : negative s ≡ false = sym (of-head s some) ∙ t in
-      let p : pile false 0 s ≡ n = sym (rw t at is) in
-      toZ-pos w64 n small ∙ simp (run, le-leb (length s) 8 few, g, p)
 
 -- contents in the fewest octets, by how many there are
 pub minimal-none : (s : List ℕ) → length s ≡ 0 → minimal s ≡ false

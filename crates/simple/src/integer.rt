@@ -2,14 +2,15 @@
 ghost use mathlib.Core.Path.{_≡_};
 ghost use mathlib.Core.Bool.{_&&_};
 ghost use Prim.Native.Nat.{_<_, _≤_};
-ghost use lib.Dec.{leb};
+ghost use lib.Dec.{ltb, leb};
 ghost use lib.ListN.{length};
 ghost use mir.Syntax.{w64};
 ghost use mir.Val.{ofZ};
+ghost use Rattle.octets.specs.Tests.{if};
 ghost use Rattle.octets.specs.Buffers.{filled};
 ghost use Rattle.x690.specs.Integer.{integerOf, minimal, fewestOf, eightOf};
 ghost use Rattle.simple.specs.Integers.{integerIn, lastOctets};
-ghost use Rattle.x690.specs.Integer.{digit as Integer·digit, spare as Integer·spare};
+ghost use Rattle.x690.specs.Integer.{spare as Integer·spare};
 
 fn wide(x: u8) -> u64
     ensures { λ r. ⌜ (r ≡ x) × (r < 256) ⌝ }
@@ -17,32 +18,28 @@ fn wide(x: u8) -> u64
     x as u64
 }
 
-// The integer whose bits are those of u.
+// The integer whose bits are those of u: the top bit, and the others.
 fn signed(u: u64) -> i64
     ensures { λ r. ⌜ ofZ w64 r ≡ u ⌝ }
 {
-    if u < 9223372036854775808 {
-        return u as i64;
-    }
-    !(!u as i64)
+    ((u / 9223372036854775808) as i64) << 63 | (u % 9223372036854775808) as i64
 }
 
-// The bits of z.
+// The bits of z: the top one, and the others.
 fn bits(z: i64) -> u64
     ensures { λ r. ⌜ r ≡ ofZ w64 z ⌝ }
 {
-    if z < 0 { !(!z as u64) } else { z as u64 }
+    (z >> 63 & 1) as u64 * 9223372036854775808 + (z & 9223372036854775807) as u64
 }
 
-// An octet, or its complement.
-fn digit(neg: bool, b: u8) -> u64
-    ensures { λ r. ⌜ (r ≡ Integer·digit neg b) × (r < 256) ⌝ }
+// The octet that fills eight before contents with this first octet: its sign in every bit (8.3.3). No test chooses it.
+pub fn fill(first: u8) -> u8
+    ensures { λ r. ⌜ r ≡ (if (ltb first 0x80) 0x00 λ _. 0xFF) ⌝ }
 {
-    let d = wide(b);
-    if neg { 255 - d } else { d }
+    first / 128 * 255
 }
 
-// The integer of contents of at most eight octets; 0 for more.
+// The integer of contents of at most eight octets; 0 for more. Its bits are eight octets: the fill, and then the contents.
 pub fn of(c: &[u8]) -> i64
     ensures { λ r. ⌜ r ≡ integerIn (now (c .entry)) ⌝ }
 {
@@ -52,14 +49,13 @@ pub fn of(c: &[u8]) -> i64
     if 8 < c.len() {
         return 0;
     }
-    let neg = !(c[0] < 128);
-    let mut n: u64 = digit(neg, c[0]);
+    let mut u = wide(fill(c[0])) * 0x0101010101010100 + wide(c[0]);
     let mut i = 1;
     while i < c.len() {
-        n = n * 256 + digit(neg, c[i]);
+        u = u % 0x0100000000000000 * 256 + wide(c[i]);
         i += 1;
     }
-    if neg { !(n as i64) } else { n as i64 }
+    signed(u)
 }
 
 // The integer of eight octets; 0 if they are not eight.
