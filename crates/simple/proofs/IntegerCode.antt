@@ -12,7 +12,7 @@ use lib.Bits.{bitAnd, bitOr, or-shifted, and-mask}
 use lib.Dec.{T, ltb, leb, eqb}
 use lib.IntN.{ℤ, pos, negsuc, natAbs}
 use lib.ListN.{length, drop, getD, set, length-set, drop-of-length-le}
-use lib.Seq.{sets, drop-cons, drop-length, drop-set-lt, getD-set-same}
+use lib.Seq.{drop-cons, drop-set-lt, getD-set-same}
 use lib.Signed.{mag, ltZ, nonNeg, shrZ}
 use mir.Syntax.{w64}
 use mir.Val.{Fits, SFits, toZ, ofZ}
@@ -22,27 +22,25 @@ use Rattle.octets.specs.Buffers.{filled}
 use Rattle.octets.specs.Tests.{if}
 use Rattle.octets.specs.Numbers.{Octets}
 use Rattle.octets.proofs.Answer.{run}
-use Rattle.octets.proofs.Buffers.{copy-end}
 use Rattle.octets.proofs.Permutations.{all-octets}
 use Rattle.octets.proofs.Tests.{test}
 use Rattle.x690.specs.Integer.{negative, digit, pile, signed, integerOf, spare, minimal, eight}
-use Rattle.simple.specs.Integers.{integerIn, lastBefore}
+use Rattle.simple.specs.Integers.{integerIn, lastBefore, lastOctets}
+use Rattle.simple.proofs.LastOctets.{last-eight}
 use Rattle.x690.proofs.Integers.{grow, head-small, within, eight-length, spelt, eight-same, integer-fits}
 
--- z by its bits: what `z < 0` says, and the two ways to the bits
-pub bits-neg : (z : ℤ) → SFits w64 z → ltZ (toZ w64 (ofZ w64 z)) (pos 0) ≡ true
-    → (toZ w64 (18446744073709551615 - ofZ w64 z) ≡ pos (mag z)) × (18446744073709551615 - mag z ≡ ofZ w64 z)
+-- z, or its complement, by what `z < 0` says
+pub bits-neg : (z : ℤ) → SFits w64 z → ltZ (toZ w64 (ofZ w64 z)) (pos 0) ≡ true → toZ w64 (18446744073709551615 - ofZ w64 z) ≡ pos (mag z)
 bits-neg (pos n) f h =
     let e : ltb n 0 ≡ true = sym (ap (λ (y : ℤ). ltZ y (pos 0)) (toZ-ofZ w64 (pos n) f)) ∙ h in
     absurd (omega (arith, ltb-true n 0 e))
 bits-neg (negsuc n) f h =
     let b = f .sfits in
     let e : 18446744073709551615 - (18446744073709551616 - suc n) ≡ n = omega arith in
-    (ap (toZ w64) e ∙ toZ-pos w64 n b, omega arith)
+    ap (toZ w64) e ∙ toZ-pos w64 n b
 
-pub bits-pos : (z : ℤ) → SFits w64 z → ltZ (toZ w64 (ofZ w64 z)) (pos 0) ≡ false
-    → (toZ w64 (ofZ w64 z) ≡ pos (mag z)) × (mag z ≡ ofZ w64 z)
-bits-pos (pos n) f h = (toZ-ofZ w64 (pos n) f, refl)
+pub bits-pos : (z : ℤ) → SFits w64 z → ltZ (toZ w64 (ofZ w64 z)) (pos 0) ≡ false → toZ w64 (ofZ w64 z) ≡ pos (mag z)
+bits-pos (pos n) f h = toZ-ofZ w64 (pos n) f
 bits-pos (negsuc n) f h = absurd (true≢false (sym (ap (λ (y : ℤ). ltZ y (pos 0)) (toZ-ofZ w64 (negsuc n) f)) ∙ h))
 
 -- 64 bits as the top one and the others: put together, and taken apart
@@ -85,24 +83,17 @@ Extended s i u =
     (u < 18446744073709551616) × (magnitude neg u < 128 * 256 ^ (i - 1)) × (pile neg (magnitude neg u) (drop i s) ≡ pile neg 0 s)
 
 -- at the start: the fill seven times, and the first octet
-filled-first : (t : Bool) (b : ℕ) → b < 256 → magnitude (not t) ((if t 0 λ _. 255) * 72340172838076672 + b) ≡ digit (not t) b
-filled-first true b h = omega arith
-filled-first false b h = omega arith
+filled-first : (t : Bool) (b : ℕ) → b < 256
+    → let u = (if t 0 λ _. 255) * 72340172838076672 + b in (u < 18446744073709551616) × (magnitude (not t) u ≡ digit (not t) b)
+filled-first true b h = (omega arith, omega arith)
+filled-first false b h = (omega arith, omega arith)
 
 pub extended-first : (s : List ℕ) → 0 < length s → getD s 0 0 < 256
     → Extended s 1 ((if (ltb (getD s 0 0) 128) 0 λ _. 255) * 72340172838076672 + getD s 0 0)
 unfolding negative pile
 extended-first [] h o = absurd (omega arith)
 extended-first (b ∷ s) h o =
-    let e = filled-first (ltb b 128) b o in (
-      if-small (ltb b 128) b o,
-      rw e (head-small b (not (ltb b 128)) refl),
-      rw (e, zero-add),
-    )
-  where
-    if-small : (t : Bool) (b : ℕ) → b < 256 → (if t 0 λ _. 255) * 72340172838076672 + b < 18446744073709551616
-    if-small true b h = omega arith
-    if-small false b h = omega arith
+    let (small, e) = filled-first (ltb b 128) b o in (small, rw e (head-small b (not (ltb b 128)) refl), rw (e, zero-add))
 
 -- one octet on: it pushes one fill out
 pushed : (neg : Bool) (u b : ℕ) → u < 18446744073709551616 → b < 256 → magnitude neg u < 36028797018963968
@@ -182,10 +173,8 @@ minimal-short s h = rw (le-leb (length s) 8 h) (test (minimal s) (λ e. rw e) λ
 pub eight-stays : (u : ℕ) (p : List ℕ) → (length p ≡ 8 → ⊥) → p ≡ filled p (eight u)
 eight-stays u p h = rw (eight-length, ne-eqb 8 (length p) (λ e. h (sym e))) refl
 
-pub eight-filled : (u v : ℕ) (p : List ℕ) → length p ≡ 8 → u ≡ v → sets p 0 (eight u) ≡ filled p (eight v)
-eight-filled u v p h e =
-    let l : length p ≡ length (eight u) = h ∙ sym (eight-length u) in
-    rw (← e, eq-eqb (length (eight u)) (length p) (sym l)) (copy-end (eight u) p (sets p 0 (eight u)) (length (eight u)) l (omega arith) (rw drop-length refl))
+pub eight-filled : (u : ℕ) (p : List ℕ) → length p ≡ 8 → u < 18446744073709551616 → lastOctets (length p) u ≡ filled p (eight u)
+eight-filled u p h k = rw (eight-length, h) (sym (last-eight u k))
 
 -- eight octets as two numbers of four
 abbrev pub halves : List ℕ → ℕ

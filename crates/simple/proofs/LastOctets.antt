@@ -22,7 +22,7 @@ last-behind zero u l = refl
 last-behind (suc n) u l = last-behind n (u / 256) (u % 256 ∷ l)
 
 -- eight of them are all that 64 bits have
-last-eight : (u : ℕ) → u < 18446744073709551616 → eight u ≡ lastOctets 8 u
+pub last-eight : (u : ℕ) → u < 18446744073709551616 → eight u ≡ lastOctets 8 u
 unfolding eight lastBefore
 last-eight u h =
     let d2 : u / 256 / 256 ≡ u / 65536 = omega arith in

@@ -32,7 +32,7 @@ fn bits(z: i64) -> u64
     (z >> 63 & 1) as u64 * 9223372036854775808 + (z & 9223372036854775807) as u64
 }
 
-// The octet that fills eight before contents with this first octet: its sign in every bit (8.3.3). No test chooses it.
+// The octet that stands before contents with this first octet when they are read into eight: the sign in every bit (8.3.3). No test chooses it.
 pub fn fill(first: u8) -> u8
     ensures { λ r. ⌜ r ≡ (if (ltb first 0x80) 0x00 λ _. 0xFF) ⌝ }
 {
@@ -49,6 +49,7 @@ pub fn of(c: &[u8]) -> i64
     if 8 < c.len() {
         return 0;
     }
+    // seven fills, and the first octet; each octet behind it pushes one fill out
     let mut u = wide(fill(c[0])) * 0x0101010101010100 + wide(c[0]);
     let mut i = 1;
     while i < c.len() {
@@ -148,13 +149,5 @@ pub fn put_eight(z: i64, part: &mut [u8])
     if part.len() != 8 {
         return;
     }
-    let u = bits(z);
-    part[0] = (u / 72057594037927936) as u8;
-    part[1] = (u / 281474976710656 % 256) as u8;
-    part[2] = (u / 1099511627776 % 256) as u8;
-    part[3] = (u / 4294967296 % 256) as u8;
-    part[4] = (u / 16777216 % 256) as u8;
-    part[5] = (u / 65536 % 256) as u8;
-    part[6] = (u / 256 % 256) as u8;
-    part[7] = (u % 256) as u8;
+    put(z, part);
 }

@@ -16,8 +16,8 @@ use Rattle.simple.proofs.integer.size.Lts as lts
 -- n is z, or its complement
 number : (c : lts.Joined1 reads.Pre reads.Post) → toZ w64 (c .if1 .n) ≡ pos (mag (c .before .args .z))
 number c =
-    ⊎-elim (λ w. ap (toZ w64) (w .1) ∙ bits-neg (c .before .args .z) (c .before .fits .z) (w .0 .taken) .0)
-    (λ w. ap (toZ w64) (w .1) ∙ bits-pos (c .before .args .z) (c .before .fits .z) (w .0 .left) .0) (c .if1 .came)
+    ⊎-elim (λ w. ap (toZ w64) (w .1) ∙ bits-neg (c .before .args .z) (c .before .fits .z) (w .0 .taken))
+    (λ w. ap (toZ w64) (w .1) ∙ bits-pos (c .before .args .z) (c .before .fits .z) (w .0 .left)) (c .if1 .came)
 
 pub size-spec : {M : Type 1} → statement M
 size-spec =
