@@ -15,8 +15,9 @@
 #include "peers.h"
 #include "yinscarf.h"
 
-/* Order and seconds have the first time in place of the table, the second in that of the data. */
-enum { CHECK, WRITE, READ, ORDER = 16, SECONDS };
+/* Order and seconds have the first time in place of the table, the second in that of the data. Conversions have the link version in place of
+ * the type, the time in that of the data. */
+enum { CHECK, WRITE, READ, ORDER = 16, SECONDS, TO_GENERALIZED, TO_UTC };
 enum { ROOM = 16384, MOST = 200, ROUNDS = 61, CALLS = 40, STACK = 1 << 20, PAINT = 0xA5 };
 
 struct input {
@@ -77,6 +78,8 @@ static uint64_t engine(const struct input *x)
         int64_t a = (x->op == ORDER ? yinscarf_order : yinscarf_seconds)(x->table, x->table_len, x->data, x->data_len);
         return (uint64_t)YINSCARF_TIME_NUMBER(a) << 16;
     }
+    if (x->op == TO_GENERALIZED || x->op == TO_UTC)
+        return (x->op == TO_UTC ? yinscarf_to_utc : yinscarf_to_generalized)(x->type, x->data, x->data_len, buf, ROOM);
     return (x->op == WRITE ? yinscarf_write : yinscarf_read)(x->table, x->table_len, x->type, x->data, x->data_len, buf, ROOM);
 }
 
@@ -243,7 +246,7 @@ static void count_all(const struct input *definite, const struct input *indefini
         COUNT(name, p->write(v, out, ROOM));
     }
     for (size_t i = 0; i < count; i++)
-        if (strcmp(inputs[i].group, "growth") == 0 || strcmp(inputs[i].group, "pairs") == 0) {
+        if (strcmp(inputs[i].group, "growth") == 0 || strcmp(inputs[i].group, "pairs") == 0 || strcmp(inputs[i].group, "centuries") == 0) {
             snprintf(name, sizeof name, "%.15s/%.31s", inputs[i].group, inputs[i].name);
             COUNT(name, engine(&inputs[i]));
         }

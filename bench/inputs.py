@@ -1,6 +1,6 @@
 #!/usr/bin/env python3
 """Makes what the benchmark runs on: the batch of call records with its table, batches of other lengths, strings in segments and lists of times
-of half and of the whole length, the dearest tables, messages and values that were found, and pairs for order and seconds.
+of half and of the whole length, the dearest tables, messages and values that were found, pairs for order and seconds, and times for conversions.
 
   inputs.py FOLDER     each input is a file in the form of document 01's cases; FOLDER/list names them, a line each:
                        group, file, words for people. Of a pair, the first stands in place of the table, the second in that of the data"""
@@ -17,8 +17,8 @@ from model import (BIT_STRING, BOOLEAN, CHOICE, DEEPEST, ENUMERATED, GENERALIZED
 
 UNIVERSAL, APPLICATION, CONTEXT, PRIVATE = 0, 1, 2, 3
 STATES = [0, 1, 2, 5]
-# the operations of pairs, by bench.c's numbers
-ORDER, SECONDS = 16, 17
+# the operations on times alone, by bench.c's numbers
+ORDER, SECONDS, TO_GENERALIZED, TO_UTC = 16, 17, 18, 19
 
 
 def plain(kind, own=None):
@@ -193,6 +193,19 @@ def pairs():
     yield 'a SEQUENCE, 255 members missing, and a time', model.octets((SEQUENCE, [None] * 255)), last
 
 
+def centuries():
+    """Inputs for conversions: operation, link version, words, time."""
+    def time(kind, year):
+        return model.octets((kind, (year, 2, 29, 23, 59, 59)))
+    yield TO_GENERALIZED, 1, '29 February 96 by version 1', time(UTC_TIME, 96)
+    yield TO_GENERALIZED, 2, '29 February 00 by version 2', time(UTC_TIME, 0)
+    yield TO_GENERALIZED, 1, 'a SEQUENCE, 255 members missing', model.octets((SEQUENCE, [None] * 255))
+    yield TO_UTC, 1, '29 February 1996 by version 1', time(GENERALIZED_TIME, 1996)
+    yield TO_UTC, 2, '29 February 2000 by version 2', time(GENERALIZED_TIME, 2000)
+    yield TO_UTC, 2, '29 February 2052 by version 2', time(GENERALIZED_TIME, 2052)
+    yield TO_UTC, 3, '29 February 2000 by version 3', time(GENERALIZED_TIME, 2000)
+
+
 def within(sets):
     return ', in %d SETs, indefinite' % sets if sets else ''
 
@@ -253,9 +266,9 @@ def main():
     os.makedirs(folder, exist_ok=True)
     names = open(os.path.join(folder, 'list'), 'w')
 
-    def keep(group, name, words, op, table, data):
+    def keep(group, name, words, op, table, data, t=0):
         with open(os.path.join(folder, name), 'wb') as f:
-            f.write(ours.case(op, 0, table, data))
+            f.write(ours.case(op, t, table, data))
         names.write('%s\t%s\t%s\n' % (group, name, words))
 
     def put(group, name, words, op, records, data):
@@ -283,6 +296,8 @@ def main():
     for i, (words, first, second) in enumerate(pairs()):
         keep('pairs', 'order-%d' % i, words, ORDER, first, second)
         keep('pairs', 'seconds-%d' % i, words, SECONDS, first, second)
+    for i, (op, version, words, time) in enumerate(centuries()):
+        keep('centuries', 'century-%d' % i, words, op, b'', time, version)
     for i, (words, records) in enumerate(tables()):
         put('worst', 'table-%d' % i, words, ours.CHECK, records, b'')
     for group, some in (('worst', messages()), ('deep', deep())):

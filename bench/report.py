@@ -8,7 +8,7 @@ import sys
 INSTRUCTIONS = {'check': 5500, 'read': 42000, 'indefinite': 42000, 'write': 41000}
 SHARE = {'read': .65, 'indefinite': .65, 'write': .25}
 WORST, STACK, TEXT, PAIR = 6e6, 20 * 1024, 40 * 1024, 1000
-OPERATIONS = {0: 'check', 1: 'write', 2: 'read', 16: 'order', 17: 'seconds'}
+OPERATIONS = {0: 'check', 1: 'write', 2: 'read', 16: 'order', 17: 'seconds', 18: 'to GeneralizedTime', 19: 'to UTCTime'}
 
 
 def rows(folder, name):
@@ -118,7 +118,7 @@ def segments(f):
 
 
 def times(f):
-    """Prints what lists of times and pairs of them cost, and answers the instructions of the dearest pair."""
+    """Prints what lists of times, pairs of them and conversions cost, and answers the instructions of the dearest call on times alone."""
     print('\n### Times\n')
     print('Lists of times. "Each": instructions for each time more than in the line above, if it is of the same kind.\n')
     some, before = [], {}
@@ -146,6 +146,15 @@ def times(f):
                     [z for w, c in zip((x, y), pair) for z in ('%d (%d)' % (w['least'], w['median']), count(c))] +
                     [count(max(f.stack[name], f.stack[name.replace('order', 'seconds')]))])
     show(['Pair', 'octets', 'answer', 'order, ns', 'instructions', 'seconds, ns', 'instructions', 'stack'], some)
+    print('\nConversions, in the same way.\n')
+    some = []
+    for name, x in f.alone.items():
+        if x['group'] == 'centuries':
+            n = f.counts['centuries/' + name]
+            most = max(most, n)
+            some.append([x['op'], f.words[name], count(x['data']), 'no %d' % x['number'] if x['number'] else 'done',
+                         '%d (%d)' % (x['least'], x['median']), count(n), count(f.stack[name])])
+    show(['Operation', 'Time', 'octets', 'answer', 'ns', 'instructions', 'stack'], some)
     return most
 
 
@@ -190,7 +199,7 @@ def goals(f, steps, shares, pair):
              max(each) <= 1.2 * min(each))
     goal('strings in segments are read linearly', 'an octet costs the same as in half the length within a tenth',
          '%.2f to %.2f times' % (min(shares), max(shares)), max(shares) <= 1.1)
-    goal('order and seconds, instructions', 'under ' + count(PAIR), count(pair), pair < PAIR)
+    goal('a call on times alone, instructions', 'under ' + count(PAIR), count(pair), pair < PAIR)
     slow = max(x['least'] for x in f.alone.values() if x['op'] == 'read')
     goal('the worst read', 'under %.0f ms' % (WORST / 1e6), '%.1f ms' % (slow / 1e6), slow < WORST)
     most = max(f.stack, key=f.stack.get)

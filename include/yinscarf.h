@@ -1,7 +1,7 @@
 /* The link engine for call control: check a type table, write a value as a message, read a message into a value; order two
- * times, and count the seconds between them.
+ * times, count the seconds between them, and take a UTCTime for a GeneralizedTime and back.
  *
- * Check, write and read answer one number, number * 65,536 + rest:
+ * Check, write, read, to_generalized and to_utc answer one number, number * 65,536 + rest:
  *   number 0    done; rest is the length written to buf (of a check: 0)
  *   otherwise   refused; number is the cause below, rest its place
  * YINSCARF_NUMBER and YINSCARF_REST take an answer apart.
@@ -12,7 +12,7 @@
  * YINSCARF_TIME_NUMBER is the number of such an answer, 0 if it is done.
  *
  * Places: for 1 to 6 the number of a record of the table (1 may say 128: too many records); for 11 to 13, 22 to 26 and 28
- * an offset into the value or message; 0 for 7, 14, 21 and 27, and for 11 and 12 of order and seconds.
+ * an offset into the value or message; 0 for 7, 14, 21 and 27, and for 11 and 12 of the calls on times.
  *
  * Lent memory: a pointer and the length after it lend that many octets, for the time of the call. All but buf are only read,
  * and may overlap each other; buf must not overlap them. A null pointer with the length 0 is allowed; a null
@@ -47,10 +47,10 @@ enum yinscarf_number {
     YINSCARF_TABLE_CHOICE_LOOP = 4,     /* a CHOICE without tags reaches itself through such CHOICEs alone */
     YINSCARF_TABLE_SHARED_TAG = 5,      /* two members in one run (of a SET any two) or two alternatives share a first tag */
     YINSCARF_TABLE_NO_VALUE = 6,        /* a record has no finite value */
-    YINSCARF_TABLE_NO_TYPE = 7,         /* the type is not in the table */
+    YINSCARF_TABLE_NO_TYPE = 7,         /* the type is not in the table; of to_generalized and to_utc: no such link version */
     /* the value */
     YINSCARF_VALUE_SHAPE = 11,          /* value not shaped as nodes, a time that there is not, empty, too long, or octets left */
-    YINSCARF_VALUE_TYPE = 12,           /* value not of the type; of order and seconds: no GeneralizedTime */
+    YINSCARF_VALUE_TYPE = 12,           /* value not of the type; of the calls on times: no time of the kind, or outside the window */
     YINSCARF_VALUE_LEVEL = 13,          /* a node at level 25 */
     YINSCARF_VALUE_ROOM = 14,           /* message longer than buf or 8,192 octets */
     /* the message */
@@ -60,7 +60,7 @@ enum yinscarf_number {
     YINSCARF_MESSAGE_NOT_AWAITED = 24,  /* an identifier not awaited or no segment's, or an awaited item missing */
     YINSCARF_MESSAGE_CONTENTS = 25,     /* contents wrong for the kind; unused bits before a further segment */
     YINSCARF_MESSAGE_TRAILING = 26,     /* octets where nothing is awaited */
-    YINSCARF_MESSAGE_ROOM = 27,         /* value longer than buf or 16,384 octets */
+    YINSCARF_MESSAGE_ROOM = 27,         /* value longer than buf or 16,384 octets; buf under the ten octets of a time */
     YINSCARF_MESSAGE_LEVEL = 28         /* a value at level 25, or a segment of a string at depth 5 */
 };
 
@@ -83,6 +83,16 @@ int64_t yinscarf_order(const uint8_t *first, size_t first_len, const uint8_t *se
 /* Counts the whole seconds from the first of two such times to the second, between -2^39 and 2^39, negative if the first is after it;
  * every day has 86,400. The refusals are those of order. */
 int64_t yinscarf_seconds(const uint8_t *first, size_t first_len, const uint8_t *second, size_t second_len);
+
+/* Takes a value that is one node of UTCTime for a GeneralizedTime, in the year that ends with its two digits and is inside the window of a link
+ * version: of version 1 the years 1970 to 2069, of version 2 1950 to 2049. 0 and the length ten, with the node of GeneralizedTime in buf; or a
+ * refusal, the first of: 7 if the version is not 1 or 2, 11 if the value is not one shaped node alone, without children, 12 if it is another
+ * kind's, 27 if buf has less than ten octets. */
+uint64_t yinscarf_to_generalized(size_t version, const uint8_t *time, size_t time_len, uint8_t *buf, size_t buf_len);
+
+/* The way back: takes a value that is one node of GeneralizedTime for a UTCTime, if its year is inside the window of the link version; 12 if it is
+ * outside. Otherwise as to_generalized. */
+uint64_t yinscarf_to_utc(size_t version, const uint8_t *time, size_t time_len, uint8_t *buf, size_t buf_len);
 
 #ifdef __cplusplus
 }

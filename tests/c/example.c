@@ -1,4 +1,5 @@
-/* Call control in small: checks a table, writes a value and reads it back, and asks how long it is to a wake-up call. */
+/* Call control in small: checks a table, writes a value and reads it back, asks how long it is to a wake-up call, and which century a time
+ * is in. */
 #include <inttypes.h>
 #include <stdio.h>
 #include <string.h>
@@ -13,6 +14,9 @@ static const uint8_t value[] = {0x56, 0x41, 0x11, 0x02, 0x01, 0x01, 0x56, 0x41, 
 
 /* 31 December 1999 at 22:00, and the day after at 6:30 */
 static const uint8_t evening[] = {0x56, 0x41, 0x18, 0x07, 0xCF, 12, 31, 22, 0, 0}, morning[] = {0x56, 0x41, 0x18, 0x07, 0xD0, 1, 1, 6, 30, 0};
+
+/* the year 60 as a UTCTime: of link version 1 2060, of version 2 1960 */
+static const uint8_t sixty[] = {0x56, 0x41, 0x17, 0, 60, 2, 29, 6, 30, 0};
 
 static void show(const char *what, uint64_t answer, const uint8_t *buf)
 {
@@ -54,6 +58,18 @@ int main(void)
     /* a SET is no time */
     int64_t other = yinscarf_seconds(evening, sizeof evening, (const uint8_t *)"\x56\x41\x11\x00", 4);
     show_time("seconds", other);
+    uint8_t first[10], second[10], again[10];
+    uint64_t v1 = yinscarf_to_generalized(1, sixty, sizeof sixty, first, sizeof first);
+    show("to GeneralizedTime by version 1", v1, first);
+    uint64_t v2 = yinscarf_to_generalized(2, sixty, sizeof sixty, second, sizeof second);
+    show("to GeneralizedTime by version 2", v2, second);
+    uint64_t u = yinscarf_to_utc(2, second, sizeof second, again, sizeof again);
+    show("to UTCTime by version 2", u, again);
+    /* 2060 is outside the window of version 2 */
+    uint64_t outside = yinscarf_to_utc(2, first, sizeof first, again, sizeof again);
+    show("to UTCTime by version 2", outside, again);
+    if (v1 != 10 || v2 != 10 || u != 10 || memcmp(again, sixty, sizeof sixty) != 0 || outside != (uint64_t)YINSCARF_VALUE_TYPE * 65536)
+        return 1;
     if (o != -1 || s != 30600 || YINSCARF_TIME_NUMBER(other) != YINSCARF_VALUE_TYPE)
         return 1;
     if (a != 0 || w != 8 || memcmp(message, "\x31\x06\x80\x01\x05\x01\x01\xff", 8) != 0)

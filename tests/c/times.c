@@ -4,18 +4,12 @@
  *   times --pairs    answers pairs on standard input, of each input a two-octet length and its octets: order and seconds, packed, in a line */
 #define _GNU_SOURCE
 #include <inttypes.h>
-#include <string.h>
 #include <time.h>
 
-#include "fence.h"
+#include "nodes.h"
 #include "yinscarf.h"
 
-enum { LONGEST = 16384, OVER = 2, SHORT = 40, DAMAGED = 20000, NODE = 10 };
-
-struct input {
-    const uint8_t *octets;
-    size_t n;
-};
+enum { OVER = 2, SHORT = 40, DAMAGED = 20000 };
 
 static struct fenced firsts, seconds;
 static unsigned long calls;
@@ -34,68 +28,6 @@ static void fail(const char *what, struct input a, struct input b, int64_t got, 
     exit(1);
 }
 
-/* ---- the rules of document 02 ---- */
-
-static unsigned two(const uint8_t *p)
-{
-    return (unsigned)p[0] << 8 | p[1];
-}
-
-static int sound(const uint8_t *p, unsigned years, int gregorian)
-{
-    static const unsigned days[] = {31, 28, 31, 30, 31, 30, 31, 31, 30, 31, 30, 31};
-    unsigned year = two(p), month = p[2], day = p[3];
-    if (year >= years || month < 1 || month > 12 || p[4] > 23 || p[5] > 59 || p[6] > 59)
-        return 0;
-    int leap = year % 4 == 0 && (!gregorian || year % 100 != 0 || year % 400 == 0);
-    return day >= 1 && day <= days[month - 1] + (month == 2 && leap);
-}
-
-/* Whether the own part of a node is that of a kind other than GeneralizedTime, whole, without children and with nothing behind it. */
-static int lone(unsigned kind, const uint8_t *p, size_t n)
-{
-    unsigned bits;
-    switch (kind) {
-    case 1:
-        return n == 1 && p[0] < 2;
-    case 2:
-        return n == 8;
-    case 3:
-        bits = n < 2 ? 0 : two(p);
-        return n >= 2 && n - 2 == (bits + 7) / 8 && (bits % 8 == 0 || (p[n - 1] & (0xFF >> bits % 8)) == 0);
-    case 4:
-        return n >= 2 && n - 2 == two(p);
-    case 5:
-        return n == 0;
-    case 10:
-        return n == 2;
-    case 16:
-    case 17:
-        for (size_t i = 1; i < n; i++)
-            if (p[i])
-                return 0;
-        return n >= 1 && n - 1 == p[0];
-    case 23:
-        return n == 7 && sound(p, 100, 0);
-    case 48:
-    case 49:
-        return n == 2 && two(p) == 0;
-    default:
-        return 0;
-    }
-}
-
-/* 0 for a GeneralizedTime alone, or the number of its refusal. */
-static unsigned judged(struct input x)
-{
-    const uint8_t *p = x.octets;
-    if (x.n < 3 || x.n > LONGEST || p[0] != 0x56 || p[1] != 0x41)
-        return 11;
-    if (p[2] == 24)
-        return x.n == NODE && sound(p + 3, 10000, 1) ? 0 : 11;
-    return lone(p[2], p + 3, x.n - 3) ? 12 : 11;
-}
-
 static int64_t since_1970(struct input x)
 {
     const uint8_t *p = x.octets + 3;
@@ -104,15 +36,6 @@ static int64_t since_1970(struct input x)
 }
 
 /* ---- calls ---- */
-
-static const uint8_t *lent(struct fenced f, struct input x, int at_end)
-{
-    uint8_t *p = place(f, x.n, at_end);
-    if (x.n)
-        memcpy(p, x.octets, x.n);
-    protect(f, PROT_READ);
-    return p;
-}
 
 /* Both operations, with the pages that may not be touched right before each input, then right behind it; the answers must be these. */
 static void expect(struct input a, struct input b, int64_t order, int64_t elapsed)
@@ -140,7 +63,7 @@ static void expect_refused(struct input a, struct input b, unsigned number)
 /* A call whose answer is that of the rules above. */
 static void expect_by_rule(struct input a, struct input b)
 {
-    unsigned number = judged(a) ? judged(a) : judged(b);
+    unsigned number = judged(a, GENERALIZED) ? judged(a, GENERALIZED) : judged(b, GENERALIZED);
     if (number) {
         expect_refused(a, b, number);
         return;
@@ -150,14 +73,6 @@ static void expect_by_rule(struct input a, struct input b)
 }
 
 /* ---- what is tried ---- */
-
-static struct input node(uint8_t *to, unsigned year, unsigned month, unsigned day, unsigned hour, unsigned minute, unsigned second)
-{
-    const unsigned octets[NODE] = {0x56, 0x41, 24, year >> 8, year & 255, month, day, hour, minute, second};
-    for (size_t i = 0; i < NODE; i++)
-        to[i] = (uint8_t)octets[i];
-    return (struct input){to, NODE};
-}
 
 struct pair {
     unsigned from[6], to[6];
@@ -201,7 +116,7 @@ static void stored_pairs(void)
     for (size_t i = 0; i < sizeof pairs / sizeof *pairs; i++) {
         const unsigned *f = pairs[i].from, *t = pairs[i].to;
         int64_t s = pairs[i].seconds;
-        struct input a = node(x, f[0], f[1], f[2], f[3], f[4], f[5]), b = node(y, t[0], t[1], t[2], t[3], t[4], t[5]);
+        struct input a = node(x, GENERALIZED, f[0], f[1], f[2], f[3], f[4], f[5]), b = node(y, GENERALIZED, t[0], t[1], t[2], t[3], t[4], t[5]);
         expect(a, b, s ? -1 : 0, s);
         expect(b, a, s ? 1 : 0, -s);
         expect_by_rule(a, b);
@@ -212,12 +127,12 @@ static void stored_pairs(void)
 static void every_day(unsigned year)
 {
     uint8_t x[NODE], y[NODE];
-    struct input a = node(x, year, 1, 1, 0, 0, 0);
+    struct input a = node(x, GENERALIZED, year, 1, 1, 0, 0, 0);
     unsigned days = 0;
     for (unsigned month = 1; month <= 12; month++)
         for (unsigned day = 1; day <= 31; day++) {
-            struct input b = node(y, year, month, day, 0, 0, 0);
-            if (judged(b) != 0) {
+            struct input b = node(y, GENERALIZED, year, month, day, 0, 0, 0);
+            if (judged(b, GENERALIZED) != 0) {
                 expect_refused(a, b, 11);
                 continue;
             }
@@ -225,83 +140,17 @@ static void every_day(unsigned year)
                 expect(a, b, -1, 86400);
                 expect(b, a, 1, -86400);
             }
-            a = node(x, year, month, day, 0, 0, 0);
+            a = node(x, GENERALIZED, year, month, day, 0, 0, 0);
         }
     if (year < 9999)
-        expect(a, node(y, year + 1, 1, 1, 0, 0, 0), -1, 86400);
+        expect(a, node(y, GENERALIZED, year + 1, 1, 1, 0, 0, 0), -1, 86400);
 }
 
-/* Inputs that are refused. */
-static const struct {
-    unsigned number;
-    size_t n;
-    uint8_t octets[24];
-} refused[] = {
-    /* nodes alone, of other kinds */
-    {12, 4, {0x56, 0x41, 1, 1}},
-    {12, 11, {0x56, 0x41, 2, 0, 0, 0, 0, 0, 0, 0, 5}},
-    {12, 6, {0x56, 0x41, 3, 0, 3, 0xA0}},
-    {12, 6, {0x56, 0x41, 4, 0, 1, 0xAA}},
-    {12, 5, {0x56, 0x41, 4, 0, 0}},
-    {12, 3, {0x56, 0x41, 5}},
-    {12, 5, {0x56, 0x41, 10, 0xFF, 0xFF}},
-    {12, 4, {0x56, 0x41, 16, 0}},
-    {12, 6, {0x56, 0x41, 16, 2, 0, 0}},
-    {12, 6, {0x56, 0x41, 17, 2, 0, 0}},
-    {12, 5, {0x56, 0x41, 48, 0, 0}},
-    {12, 5, {0x56, 0x41, 49, 0, 0}},
-    {12, 10, {0x56, 0x41, 23, 0, 99, 1, 1, 0, 0, 0}},
-    {12, 10, {0x56, 0x41, 23, 0, 0, 2, 29, 23, 59, 59}},
-    /* with children, or where some should be */
-    {11, 7, {0x56, 0x41, 50, 0, 0x56, 0x41, 5}},
-    {11, 4, {0x56, 0x41, 50, 0}},
-    {11, 14, {0x56, 0x41, 50, 0, 0x56, 0x41, 24, 0x07, 0xD0, 1, 1, 0, 0, 0}},
-    {11, 8, {0x56, 0x41, 16, 1, 1, 0x56, 0x41, 5}},
-    {11, 9, {0x56, 0x41, 16, 2, 0, 1, 0x56, 0x41, 5}},
-    {11, 5, {0x56, 0x41, 16, 1, 1}},
-    {11, 15, {0x56, 0x41, 17, 1, 1, 0x56, 0x41, 24, 0x07, 0xD0, 1, 1, 0, 0, 0}},
-    {11, 8, {0x56, 0x41, 48, 0, 1, 0x56, 0x41, 5}},
-    {11, 5, {0x56, 0x41, 48, 0, 1}},
-    {11, 8, {0x56, 0x41, 49, 0, 1, 0x56, 0x41, 5}},
-    /* not shaped: empty, marks, kinds, contents, cut, octets behind */
-    {11, 0, {0}},
-    {11, 1, {0x56}},
-    {11, 2, {0x56, 0x41}},
-    {11, 10, {0x56, 0x42, 24, 0x07, 0xD0, 1, 1, 0, 0, 0}},
-    {11, 10, {0x54, 0x41, 24, 0x07, 0xD0, 1, 1, 0, 0, 0}},
-    {11, 10, {0x56, 0x41, 22, 0x07, 0xD0, 1, 1, 0, 0, 0}},
-    {11, 10, {0x56, 0x41, 25, 0x07, 0xD0, 1, 1, 0, 0, 0}},
-    {11, 4, {0x56, 0x41, 1, 2}},
-    {11, 6, {0x56, 0x41, 3, 0, 3, 0xA1}},
-    {11, 5, {0x56, 0x41, 16, 1, 2}},
-    {11, 9, {0x56, 0x41, 24, 0x07, 0xD0, 1, 1, 0, 0}},
-    {11, 11, {0x56, 0x41, 24, 0x07, 0xD0, 1, 1, 0, 0, 0, 0}},
-    {11, 20, {0x56, 0x41, 24, 0x07, 0xD0, 1, 1, 0, 0, 0, 0x56, 0x41, 24, 0x07, 0xD0, 1, 1, 0, 0, 0}},
-    {11, 4, {0x56, 0x41, 5, 0}},
-    {11, 6, {0x56, 0x41, 48, 0, 0, 0}},
-    /* out of range */
-    {11, 10, {0x56, 0x41, 24, 0x27, 0x10, 1, 1, 0, 0, 0}},
-    {11, 10, {0x56, 0x41, 24, 0xFF, 0xFF, 1, 1, 0, 0, 0}},
-    {11, 10, {0x56, 0x41, 24, 0x07, 0xD0, 0, 1, 0, 0, 0}},
-    {11, 10, {0x56, 0x41, 24, 0x07, 0xD0, 13, 1, 0, 0, 0}},
-    {11, 10, {0x56, 0x41, 24, 0x07, 0xD0, 1, 0, 0, 0, 0}},
-    {11, 10, {0x56, 0x41, 24, 0x07, 0xD0, 1, 32, 0, 0, 0}},
-    {11, 10, {0x56, 0x41, 24, 0x07, 0xD0, 2, 30, 0, 0, 0}},
-    {11, 10, {0x56, 0x41, 24, 0x07, 0x6C, 2, 29, 0, 0, 0}},
-    {11, 10, {0x56, 0x41, 24, 0x08, 0x34, 2, 29, 0, 0, 0}},
-    {11, 10, {0x56, 0x41, 24, 0x07, 0xD0, 1, 1, 24, 0, 0}},
-    {11, 10, {0x56, 0x41, 24, 0x07, 0xD0, 1, 1, 0, 60, 0}},
-    {11, 10, {0x56, 0x41, 24, 0x07, 0xD0, 1, 1, 0, 0, 60}},
-    {11, 10, {0x56, 0x41, 23, 0, 100, 1, 1, 0, 0, 0}},
-    {11, 10, {0x56, 0x41, 23, 0, 99, 2, 29, 0, 0, 0}},
-};
-enum { REFUSED = sizeof refused / sizeof *refused };
-
-/* Each with a time before it and behind it, and any two of them: the first is judged wholly before the second. */
+/* Each refused input with a time before it and behind it, and any two of them: the first is judged wholly before the second. */
 static void stored_refusals(void)
 {
     uint8_t x[NODE];
-    struct input time = node(x, 2000, 1, 1, 0, 0, 0);
+    struct input time = node(x, GENERALIZED, 2000, 1, 1, 0, 0, 0);
     for (size_t i = 0; i < REFUSED; i++) {
         struct input a = {refused[i].octets, refused[i].n};
         expect_refused(a, time, refused[i].number);
@@ -314,7 +163,7 @@ static void stored_refusals(void)
 static void no_memory(void)
 {
     uint8_t x[NODE];
-    struct input time = node(x, 2000, 1, 1, 0, 0, 0), none = {NULL, 0};
+    struct input time = node(x, GENERALIZED, 2000, 1, 1, 0, 0, 0), none = {NULL, 0};
     int64_t no = INT64_C(11) << 40;
     if (yinscarf_order(NULL, 0, NULL, 0) != no || yinscarf_order(x, NODE, NULL, 0) != no || yinscarf_order(NULL, 0, x, NODE) != no ||
         yinscarf_seconds(NULL, 0, NULL, 0) != no || yinscarf_seconds(x, NODE, NULL, 0) != no || yinscarf_seconds(NULL, 0, x, NODE) != no)
@@ -328,7 +177,7 @@ static void every_length(void)
 {
     static uint8_t big[LONGEST + OVER];
     uint8_t x[NODE];
-    struct input time = node(x, 2000, 1, 1, 0, 0, 0);
+    struct input time = node(x, GENERALIZED, 2000, 1, 1, 0, 0, 0);
     for (unsigned kind = 0; kind <= 51; kind++)
         for (size_t n = 0; n <= LONGEST + OVER; n = n == SHORT ? LONGEST - OVER : n + 1)
             for (int own = 0; own < 2; own++) {
@@ -357,36 +206,12 @@ static void every_length(void)
     }
 }
 
-/* Times and refused inputs with small faults: octets changed, left out, put in, cut. */
-static size_t damage(uint8_t *v, size_t n)
-{
-    static const uint8_t likely[] = {0, 1, 2, 12, 13, 23, 24, 28, 29, 30, 31, 32, 59, 60, 99, 100, 0x27, 0x10, 0x0F, 0xFF, 48, 50};
-    for (unsigned k = (unsigned)(next() % 4); k; k--) {
-        size_t at = n ? next() % n : 0;
-        uint8_t x = next() & 1 ? likely[next() % sizeof likely] : (uint8_t)next();
-        unsigned way = (unsigned)(next() % 8);
-        if (way == 0) {
-            n = at;
-        } else if (way == 1) {
-            memmove(v + at + 1, v + at, n - at);
-            v[at] = x;
-            n++;
-        } else if (way == 2 && n) {
-            memmove(v + at, v + at + 1, n - at - 1);
-            n--;
-        } else if (n) {
-            v[at] = x;
-        }
-    }
-    return n;
-}
-
 static struct input any(uint8_t *to)
 {
     size_t n = NODE;
     if (next() % 8) {
         unsigned day = (unsigned)(next() % (10000 * 12 * 31)), clock = (unsigned)(next() % 86400);
-        node(to, day / (12 * 31), day / 31 % 12 + 1, day % 31 + 1, clock / 3600, clock / 60 % 60, clock % 60);
+        node(to, GENERALIZED, day / (12 * 31), day / 31 % 12 + 1, day % 31 + 1, clock / 3600, clock / 60 % 60, clock % 60);
     } else {
         size_t i = next() % REFUSED;
         n = refused[i].n;
@@ -402,23 +227,12 @@ static void damaged(void)
     for (unsigned i = 0; i < DAMAGED; i++) {
         struct input a = any(x), b = any(y);
         expect_by_rule(a, b);
-        done += judged(a) == 0 && judged(b) == 0;
+        done += judged(a, GENERALIZED) == 0 && judged(b, GENERALIZED) == 0;
     }
     printf("%u random and damaged pairs, %lu of them of two times\n", DAMAGED, done);
 }
 
 /* ---- pairs from standard input ---- */
-
-static size_t taken(uint8_t *to)
-{
-    int high = getchar(), low = getchar();
-    if (high == EOF)
-        return SIZE_MAX;
-    size_t n = (size_t)high << 8 | (size_t)low;
-    if (low == EOF || fread(to, 1, n, stdin) != n)
-        exit(2);
-    return n;
-}
 
 static int answer_pairs(void)
 {

@@ -13,6 +13,7 @@ import struct
 import sys
 import tempfile
 
+import centuries
 import dates
 import erlang
 import integers
@@ -262,12 +263,14 @@ def in_segments(args, R, tally):
 
 
 def times(args, R, tally):
-    """Compares our reading and writing of times with the model's, and order and seconds, if there is an archive, with datetime and the model."""
+    """Compares our reading and writing of times with the model's, and order, seconds and centuries, if there is an archive, with datetime, OpenSSL and the model."""
     dates.compare(args.ours, R, args.messages // 3, tally.add, lambda what, table, m, we, they: tally.fault(what, table, 0, m, we, they))
     if os.path.exists(dates.ARCHIVE):
         dates.compare_pairs(dates.built(dates.ARCHIVE), R, 100000, tally.add, lambda what, a, b, we, they: tally.fault(what, a, 0, b, we, they))
+        centuries.compare(centuries.built(dates.ARCHIVE), R, 100000, tally.add,
+                          lambda what, v, version, room, we, they: tally.fault('%s, version %d, room %d' % (what, version, room), b'', 0, v, we, they))
     else:
-        print('order and seconds are left out: no archive')
+        print('order, seconds and centuries are left out: no archive')
 
 
 def signs(args, R, tally):

@@ -880,14 +880,14 @@ def read_tree(records, t, m, lax=(), used=None):
 
 
 # ---- times ----
-def lone_time(v):
-    """The time of octets that are one node of GeneralizedTime alone."""
+def lone_time(v, of=GENERALIZED_TIME):
+    """The time of octets that are one node of that kind alone."""
     if len(v) > VALUE:
         raise No(11, 0)
     kind, own, p = node(v, 0)
     if p != len(v) or kind == CHOICE or kind in MEMBERS and any(own) or kind in LISTS and own:
         raise No(11, 0)
-    if kind != GENERALIZED_TIME:
+    if kind != of:
         raise No(12, 0)
     return own
 
@@ -906,6 +906,36 @@ def order(first, second):
         a = lone_time(first)
         b = lone_time(second)
         return (a > b) - (a < b)
+    return answer(work)
+
+
+CENTURIES = {1: range(1970, 2070), 2: range(1950, 2050)}
+
+
+def to_generalized(version, v, room):
+    """('ok', octets of the GeneralizedTime) or ('no', number, 0), by a link version, the octets of a UTCTime and the length of a buffer."""
+    def work():
+        if version not in CENTURIES:
+            raise No(7, 0)
+        year, *rest = lone_time(v, UTC_TIME)
+        time = [y for y in CENTURIES[version] if y % 100 == year] + rest
+        if room < 10:
+            raise No(27, 0)
+        return octets((GENERALIZED_TIME, tuple(time)))
+    return answer(work)
+
+
+def to_utc(version, v, room):
+    """The way back."""
+    def work():
+        if version not in CENTURIES:
+            raise No(7, 0)
+        year, *rest = lone_time(v)
+        if year not in CENTURIES[version]:
+            raise No(12, 0)
+        if room < 10:
+            raise No(27, 0)
+        return octets((UTC_TIME, (year % 100, *rest)))
     return answer(work)
 
 

@@ -21,3 +21,4 @@ pub mod Shape
 pub mod Shaped
 pub mod Awaited
 pub mod Reckoning
+pub mod Conversion

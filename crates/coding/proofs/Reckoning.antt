@@ -4,13 +4,13 @@ use mathlib.Core.Bool.{Bool, true, false, false≢true}
 use mathlib.Core.List.{List, [], _++_, append-nil}
 use mathlib.Core.Logic.{_↔_, _⊎_, inl, inr}
 use mathlib.Core.Path.{_≡_, refl, sym, ap, subst, _∙_}
-use Prim.Native.Nat.{ℕ, _≤_}
+use Prim.Native.Nat.{ℕ, _≤_, _<_}
 use native.Mathlib.Omega.{arith}
 use lib.Dec.{leb, eqb}
 use lib.IntN.{ℤ}
 use lib.ListN.{length, getD, drop}
 use lib.Seq.{getD-drop}
-use borrow.Author.Tests.{leb-true, eqb-true}
+use borrow.Author.Tests.{leb-true, eqb-true, eq-eqb}
 use Rattle.octets.specs.declared.cause.Cause.{Cause}
 use Rattle.octets.specs.declared.cause.Cause.the-variants.{ValueShape, IllTyped}
 use Rattle.octets.specs.Answer.{Answer, got, refused, if, none-left}
@@ -19,13 +19,14 @@ use Rattle.octets.proofs.Tests.{test}
 use Rattle.octets.proofs.Lists.{both}
 use Rattle.octets.proofs.Answer.{got-holds, none-there}
 use Rattle.dates.specs.declared.DateTime.{DateTime}
+use Rattle.dates.specs.declared.TimeKind.{TimeKind}
 use Rattle.dates.specs.declared.TimeKind.the-variants.{Utc, Generalized}
 use Rattle.dates.specs.Calendar.{inRange}
 use Rattle.dates.specs.Own.{timeOctets, timeAt}
 use Rattle.dates.proofs.TimeOctets.{time-back}
 use Rattle.coding.specs.declared.Given.{Given}
 use Rattle.coding.specs.declared.Given.the-variants.{Time, Refused as Wrong}
-use Rattle.coding.specs.Value.{boolean, integer, bits, string, null, enumerated, time, leafOctets}
+use Rattle.coding.specs.Value.{timeNumber, boolean, integer, bits, string, null, enumerated, time, leafOctets}
 use Rattle.coding.specs.Judging.{Node, a-leaf, a-sequence, a-set, a-sequence-of, a-set-of, a-choice, need, readNode, leafKind, nodeKind}
 use Rattle.coding.specs.Outcome.{longestValue, Refusal, of-value}
 use Rattle.coding.specs.Shaped.{LeafShaped}
@@ -35,35 +36,44 @@ use Rattle.coding.specs.Reckoning.{childless, isWhole, isLone, given, re
 use Rattle.coding.proofs.Nodes.{nodeOctets, NodeShaped, node-sound, node-complete}
 use Rattle.coding.proofs.Judging.{leaf-octets}
 
--- of all nodes only a GeneralizedTime has the kind 24
-only-24 : (x : Node) → nodeKind x ≡ 24 → NodeShaped x → (t : DateTime) × (x ≡ a-leaf (time Generalized t)) × (inRange Generalized t ≡ true)
+time-number : (k : TimeKind) → (22 < timeNumber k) × (timeNumber k < 25)
+time-number Utc = (omega arith, omega arith)
+time-number Generalized = (omega arith, omega arith)
+
+same-number : (j k : TimeKind) → timeNumber j ≡ timeNumber k → j ≡ k
+same-number Utc Utc e = refl
+same-number Utc Generalized e = absurd (omega arith)
+same-number Generalized Utc e = absurd (omega arith)
+same-number Generalized Generalized e = refl
+
+-- of all nodes only a time has the number of its kind
+only-time : (k : TimeKind) (x : Node) → nodeKind x ≡ timeNumber k → NodeShaped x → (t : DateTime) × (x ≡ a-leaf (time k t)) × (inRange k t ≡ true)
 unfolding nodeKind leafKind NodeShaped LeafShaped
-only-24 (a-leaf (boolean b)) e h = absurd (omega arith)
-only-24 (a-leaf (integer z)) e h = absurd (omega arith)
-only-24 (a-leaf (bits n c)) e h = absurd (omega arith)
-only-24 (a-leaf (string c)) e h = absurd (omega arith)
-only-24 (a-leaf null) e h = absurd (omega arith)
-only-24 (a-leaf (enumerated k)) e h = absurd (omega arith)
-only-24 (a-leaf (time Utc t)) e h = absurd (omega arith)
-only-24 (a-leaf (time Generalized t)) e h = (t, refl, h)
-only-24 (a-sequence bs) e h = absurd (omega arith)
-only-24 (a-set bs) e h = absurd (omega arith)
-only-24 (a-sequence-of n) e h = absurd (omega arith)
-only-24 (a-set-of n) e h = absurd (omega arith)
-only-24 (a-choice i) e h = absurd (omega arith)
+only-time k (a-leaf (boolean b)) e h = absurd (omega (arith, e, time-number k .0))
+only-time k (a-leaf (integer z)) e h = absurd (omega (arith, e, time-number k .0))
+only-time k (a-leaf (bits n c)) e h = absurd (omega (arith, e, time-number k .0))
+only-time k (a-leaf (string c)) e h = absurd (omega (arith, e, time-number k .0))
+only-time k (a-leaf null) e h = absurd (omega (arith, e, time-number k .0))
+only-time k (a-leaf (enumerated n)) e h = absurd (omega (arith, e, time-number k .0))
+only-time k (a-leaf (time j t)) e h = let q = same-number j k e in (t, ap (λ (x : TimeKind). a-leaf (time x t)) q, rw (← q) h)
+only-time k (a-sequence bs) e h = absurd (omega (arith, e, time-number k .0))
+only-time k (a-set bs) e h = absurd (omega (arith, e, time-number k .0))
+only-time k (a-sequence-of n) e h = absurd (omega (arith, e, time-number k .1))
+only-time k (a-set-of n) e h = absurd (omega (arith, e, time-number k .1))
+only-time k (a-choice i) e h = absurd (omega (arith, e, time-number k .1))
 
-shaped-time : (t : DateTime) → inRange Generalized t ≡ true → NodeShaped (a-leaf (time Generalized t))
+shaped-time : (k : TimeKind) (t : DateTime) → inRange k t ≡ true → NodeShaped (a-leaf (time k t))
 unfolding NodeShaped LeafShaped
-shaped-time t h = h
+shaped-time k t h = h
 
-kind-time : (t : DateTime) → nodeKind (a-leaf (time Generalized t)) ≡ 24
+kind-time : (k : TimeKind) (t : DateTime) → nodeKind (a-leaf (time k t)) ≡ timeNumber k
 unfolding nodeKind leafKind
-kind-time t = refl
+kind-time k t = refl
 
--- behind the mark and the kind, the octets of a GeneralizedTime are its own
-node-time : (t : DateTime) → timeAt (timeNode t) 3 ≡ t
+-- behind the mark and the kind, the octets of a time are its own
+node-time : (k : TimeKind) (t : DateTime) → timeAt (timeNode k t) 3 ≡ t
 unfolding leafOctets timeAt timeOctets
-node-time t = time-back t []
+node-time k t = time-back t []
 
 -- a node whose octets these are
 record Alone (s : List ℕ) : Type 0 where
@@ -83,63 +93,63 @@ alone : (s : List ℕ) → AllOctets s → isLone s ≡ true → Alone s
 unfolding isLone
 alone s o e = alone-read s o (readNode s) refl (both (leb (length s) longestValue) (isWhole (readNode s)) e .1)
 
-abbrev accepted : Given → Bool
+abbrev pub accepted : Given → Bool
 accepted (Time t) = true
 accepted (Wrong c) = false
 
-lone-time : (s : List ℕ) → AllOctets s → isLone s ≡ true → eqb (getD s 2 0) 24 ≡ true → Stands s (timeAt s 3)
-lone-time s o l k =
+lone-time : (k : TimeKind) (s : List ℕ) → AllOctets s → isLone s ≡ true → eqb (getD s 2 0) (timeNumber k) ≡ true → Stands k s (timeAt s 3)
+lone-time k s o l n =
     let w = alone s o l in
-    let (u, q, r) = only-24 (w .node) (sym (ap (λ (x : List ℕ). getD x 2 0) (w .is)) ∙ eqb-true _ _ k) (w .shaped) in
-    let i : s ≡ timeNode u = w .is ∙ ap nodeOctets q ∙ sym (leaf-octets (time Generalized u)) in
-    let t : timeAt s 3 ≡ u = ap (λ (x : List ℕ). timeAt x 3) i ∙ node-time u in
-    record { octets = i ∙ ap timeNode (sym t); in-range = ap (inRange Generalized) t ∙ r }
+    let (u, q, r) = only-time k (w .node) (sym (ap (λ (x : List ℕ). getD x 2 0) (w .is)) ∙ eqb-true _ _ n) (w .shaped) in
+    let i : s ≡ timeNode k u = w .is ∙ ap nodeOctets q ∙ sym (leaf-octets (time k u)) in
+    let t : timeAt s 3 ≡ u = ap (λ (x : List ℕ). timeAt x 3) i ∙ node-time k u in
+    record { octets = i ∙ ap (timeNode k) (sym t); in-range = ap (inRange k) t ∙ r }
 
 abbrev counted : Reckoned → Bool
 counted (Is z) = true
 counted (Refused r) = false
 
--- what is given is a GeneralizedTime in range, whole and alone
-pub given-stands : (s : List ℕ) → AllOctets s → (t : DateTime) → given s ≡ Time t → Stands s t
+-- what is given is a time of its kind in range, whole and alone
+pub given-stands : (k : TimeKind) (s : List ℕ) → AllOctets s → (t : DateTime) → given k s ≡ Time t → Stands k s t
 unfolding given
-given-stands s o t e =
+given-stands k s o t e =
     test (isLone s) (λ l.
-    test (eqb (getD s 2 0) 24) (λ k.
-    let q : timeAt s 3 ≡ t = let i : Time (timeAt s 3) ≡ Time t = rw (l, k) at e in cc in
-    subst (Stands s) q (lone-time s o l k))
-    λ k. absurd (false≢true (ap accepted (rw (l, k) at e))))
+    test (eqb (getD s 2 0) (timeNumber k)) (λ n.
+    let q : timeAt s 3 ≡ t = let i : Time (timeAt s 3) ≡ Time t = rw (l, n) at e in cc in
+    subst (Stands k s) q (lone-time k s o l n))
+    λ n. absurd (false≢true (ap accepted (rw (l, n) at e))))
     λ l. absurd (false≢true (ap accepted (rw l at e)))
 
-time-short : (t : DateTime) → length (timeNode t) ≡ 10
+pub time-short : (k : TimeKind) (t : DateTime) → length (timeNode k t) ≡ 10
 unfolding leafOctets timeOctets
-time-short t = refl
+time-short k t = refl
 
 -- and every such is given
-pub stands-given : (s : List ℕ) (t : DateTime) → Stands s t → given s ≡ Time t
+pub stands-given : (k : TimeKind) (s : List ℕ) (t : DateTime) → Stands k s t → given k s ≡ Time t
 unfolding given isLone isWhole childless none-left
-stands-given s t h =
-    let i : s ≡ nodeOctets (a-leaf (time Generalized t)) = h .octets ∙ leaf-octets (time Generalized t) in
-    let r : readNode s ≡ got (a-leaf (time Generalized t)) [] =
-    ap readNode (i ∙ sym (append-nil _)) ∙ node-complete (a-leaf (time Generalized t)) [] (shaped-time t (h .in-range)) in
-    let n : length s ≡ 10 = ap length (h .octets) ∙ time-short t in
-    let k : getD s 2 0 ≡ 24 = ap (λ (x : List ℕ). getD x 2 0) i ∙ kind-time t in
-    let u : timeAt s 3 ≡ t = ap (λ (x : List ℕ). timeAt x 3) (h .octets) ∙ node-time t in
-    rw (n, r, k, u) refl
+stands-given k s t h =
+    let i : s ≡ nodeOctets (a-leaf (time k t)) = h .octets ∙ leaf-octets (time k t) in
+    let r : readNode s ≡ got (a-leaf (time k t)) [] =
+    ap readNode (i ∙ sym (append-nil _)) ∙ node-complete (a-leaf (time k t)) [] (shaped-time k t (h .in-range)) in
+    let n : length s ≡ 10 = ap length (h .octets) ∙ time-short k t in
+    let m : getD s 2 0 ≡ timeNumber k = ap (λ (x : List ℕ). getD x 2 0) i ∙ kind-time k t in
+    let u : timeAt s 3 ≡ t = ap (λ (x : List ℕ). timeAt x 3) (h .octets) ∙ node-time k t in
+    rw (n, r, m, eq-eqb (timeNumber k) (timeNumber k) refl, u) refl
 
 -- Done exactly with two GeneralizedTimes in range, and with what f says of them.
 pub reckons-exactly : (f : DateTime → DateTime → ℤ) (s t : List ℕ) → AllOctets s → AllOctets t → (z : ℤ)
-    → (reckonedBy f (given s) (given t) ≡ Is z) ↔ Reckons f s t z
+    → (reckonedBy f (given Generalized s) (given Generalized t) ≡ Is z) ↔ Reckons f s t z
 unfolding reckonedBy
-reckons-exactly f s t o p z = (there (given s) (given t) refl refl, back)
+reckons-exactly f s t o p z = (there (given Generalized s) (given Generalized t) refl refl, back)
   where
-    there : (x y : Given) → given s ≡ x → given t ≡ y → reckonedBy f x y ≡ Is z → Reckons f s t z
+    there : (x y : Given) → given Generalized s ≡ x → given Generalized t ≡ y → reckonedBy f x y ≡ Is z → Reckons f s t z
     there (Time a) (Time b) d e h =
-        record { first = a; second = b; a-time = given-stands s o a d; another = given-stands t p b e; is = let i : Is (f a b) ≡ Is z = h in cc }
+        record { first = a; second = b; a-time = given-stands Generalized s o a d; another = given-stands Generalized t p b e; is = let i : Is (f a b) ≡ Is z = h in cc }
     there (Time a) (Wrong c) d e h = absurd (false≢true (ap counted h))
     there (Wrong c) y d e h = absurd (false≢true (ap counted h))
 
-    back : Reckons f s t z → reckonedBy f (given s) (given t) ≡ Is z
-    back r = rw (stands-given s (r .first) (r .a-time), stands-given t (r .second) (r .another)) (ap Is (r .is))
+    back : Reckons f s t z → reckonedBy f (given Generalized s) (given Generalized t) ≡ Is z
+    back r = rw (stands-given Generalized s (r .first) (r .a-time), stands-given Generalized t (r .second) (r .another)) (ap Is (r .is))
 
 -- the steps by which the code finds what is given
 
@@ -151,55 +161,55 @@ pub lone-some : (s : List ℕ) → isLone s ≡ true → 3 ≤ length s
 unfolding isLone
 lone-some s e = read-some s (both (leb (length s) longestValue) (isWhole (readNode s)) e .1)
 
-pub given-shape : (s : List ℕ) → isLone s ≡ false → Wrong ValueShape ≡ given s
+pub given-shape : (k : TimeKind) (s : List ℕ) → isLone s ≡ false → Wrong ValueShape ≡ given k s
 unfolding given
-given-shape s l = rw l
+given-shape k s l = rw l
 
-pub given-type : (s : List ℕ) → isLone s ≡ true → eqb (getD s 2 0) 24 ≡ false → Wrong IllTyped ≡ given s
+pub given-type : (k : TimeKind) (s : List ℕ) → isLone s ≡ true → eqb (getD s 2 0) (timeNumber k) ≡ false → Wrong IllTyped ≡ given k s
 unfolding given
-given-type s l k = rw (l, k)
+given-type k s l n = rw (l, n)
 
-pub given-time : (s : List ℕ) → isLone s ≡ true → eqb (getD s 2 0) 24 ≡ true → Time (timeAt (drop 3 s) 0) ≡ given s
+pub given-time : (k : TimeKind) (s : List ℕ) → isLone s ≡ true → eqb (getD s 2 0) (timeNumber k) ≡ true → Time (timeAt (drop 3 s) 0) ≡ given k s
 unfolding given timeAt
-given-time s l k = rw (l, k) (simp getD-drop)
+given-time k s l n = rw (l, n) (simp getD-drop)
 
 -- the steps by which it answers
-module _ (f : DateTime → DateTime → ℤ) (s t : List ℕ) {x : Given} (e : x ≡ given s) where
-  pub first-refused : {c : Cause} → x ≡ Wrong c → {r : Reckoned} → r ≡ Refused (of-value c 0) → r ≡ reckonedBy f (given s) (given t)
+module _ (f : DateTime → DateTime → ℤ) (s t : List ℕ) {x : Given} (e : x ≡ given Generalized s) where
+  pub first-refused : {c : Cause} → x ≡ Wrong c → {r : Reckoned} → r ≡ Refused (of-value c 0) → r ≡ reckonedBy f (given Generalized s) (given Generalized t)
   unfolding reckonedBy
   first-refused q h = rw (← e, q) h
 
-  module _ {a : DateTime} (q : x ≡ Time a) {y : Given} (g : y ≡ given t) where
-    pub second-refused : {c : Cause} → y ≡ Wrong c → {r : Reckoned} → r ≡ Refused (of-value c 0) → r ≡ reckonedBy f (given s) (given t)
+  module _ {a : DateTime} (q : x ≡ Time a) {y : Given} (g : y ≡ given Generalized t) where
+    pub second-refused : {c : Cause} → y ≡ Wrong c → {r : Reckoned} → r ≡ Refused (of-value c 0) → r ≡ reckonedBy f (given Generalized s) (given Generalized t)
     unfolding reckonedBy
     second-refused k h = rw (← e, q, ← g, k) h
 
-    pub both-given : {b : DateTime} → y ≡ Time b → {z : ℤ} → z ≡ f a b → Is z ≡ reckonedBy f (given s) (given t)
+    pub both-given : {b : DateTime} → y ≡ Time b → {z : ℤ} → z ≡ f a b → Is z ≡ reckonedBy f (given Generalized s) (given Generalized t)
     unfolding reckonedBy
     both-given k h = rw (← e, q, ← g, k) (ap Is h)
 
 -- what is not given is 11 or 12
-data Fault : Given → Type 0 where
-  none-wrong : {t : DateTime} → Fault (Time t)
-  shape : Fault (Wrong ValueShape)
-  type : Fault (Wrong IllTyped)
+pub data Fault (s : List ℕ) : Given → Type 0 where
+  none-wrong : {t : DateTime} → isLone s ≡ true → Fault s (Time t)
+  shape : isLone s ≡ false → Fault s (Wrong ValueShape)
+  type : isLone s ≡ true → Fault s (Wrong IllTyped)
 
-given-fault : (s : List ℕ) → Fault (given s)
+pub given-fault : (k : TimeKind) (s : List ℕ) → Fault s (given k s)
 unfolding given
-given-fault s =
+given-fault k s =
     test (isLone s) (λ l.
-    test (eqb (getD s 2 0) 24) (λ k. rw (l, k) none-wrong) λ k. rw (l, k) type)
-    λ l. rw l shape
+    test (eqb (getD s 2 0) (timeNumber k)) (λ n. rw (l, n) (none-wrong l)) λ n. rw (l, n) (type l))
+    λ l. rw l (shape l)
 
 -- A refusal is 11 or 12, and its place is 0.
-pub reckoning-refuses : (f : DateTime → DateTime → ℤ) (s t : List ℕ) (r : Refusal) → reckonedBy f (given s) (given t) ≡ Refused r
+pub reckoning-refuses : (f : DateTime → DateTime → ℤ) (s t : List ℕ) (r : Refusal) → reckonedBy f (given Generalized s) (given Generalized t) ≡ Refused r
     → (r ≡ of-value ValueShape 0) ⊎ (r ≡ of-value IllTyped 0)
 unfolding reckonedBy
-reckoning-refuses f s t r = told (given-fault s) (given-fault t)
+reckoning-refuses f s t r = told (given-fault Generalized s) (given-fault Generalized t)
   where
-    told : {x y : Given} → Fault x → Fault y → reckonedBy f x y ≡ Refused r → (r ≡ of-value ValueShape 0) ⊎ (r ≡ of-value IllTyped 0)
-    told none-wrong none-wrong h = absurd (false≢true (sym (ap counted h)))
-    told none-wrong shape h = inl (let i : Refused (of-value ValueShape 0) ≡ Refused r = h in cc)
-    told none-wrong type h = inr (let i : Refused (of-value IllTyped 0) ≡ Refused r = h in cc)
-    told shape y h = inl (let i : Refused (of-value ValueShape 0) ≡ Refused r = h in cc)
-    told type y h = inr (let i : Refused (of-value IllTyped 0) ≡ Refused r = h in cc)
+    told : {x y : Given} → Fault s x → Fault t y → reckonedBy f x y ≡ Refused r → (r ≡ of-value ValueShape 0) ⊎ (r ≡ of-value IllTyped 0)
+    told (none-wrong l) (none-wrong m) h = absurd (false≢true (sym (ap counted h)))
+    told (none-wrong l) (shape m) h = inl (let i : Refused (of-value ValueShape 0) ≡ Refused r = h in cc)
+    told (none-wrong l) (type m) h = inr (let i : Refused (of-value IllTyped 0) ≡ Refused r = h in cc)
+    told (shape l) y h = inl (let i : Refused (of-value ValueShape 0) ≡ Refused r = h in cc)
+    told (type l) y h = inr (let i : Refused (of-value IllTyped 0) ≡ Refused r = h in cc)

@@ -16,5 +16,6 @@ pub mod Reading
 pub mod Outcome
 pub mod Calls
 pub mod Reckoning
+pub mod Conversion
 -- What the demands say.
 pub mod Demands

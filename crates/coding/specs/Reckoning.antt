@@ -12,11 +12,12 @@ use Rattle.octets.specs.Answer.{Answer, got, refused, none-left}
 use Rattle.octets.specs.Tests.{if}
 use Rattle.octets.specs.Lists.{any}
 use Rattle.dates.specs.declared.DateTime.{DateTime}
+use Rattle.dates.specs.declared.TimeKind.{TimeKind}
 use Rattle.dates.specs.declared.TimeKind.the-variants.{Generalized}
 use Rattle.dates.specs.Calendar.{inRange}
 use Rattle.dates.specs.Own.{timeAt}
 use Rattle.dates.specs.Seconds.{order, elapsed}
-use Rattle.coding.specs.Value.{time, leafOctets}
+use Rattle.coding.specs.Value.{timeNumber, time, leafOctets}
 use Rattle.coding.specs.Judging.{Node, a-leaf, a-sequence, a-set, a-sequence-of, a-set-of, a-choice, readNode}
 use Rattle.coding.specs.Outcome.{longestValue, of-value}
 use Rattle.coding.specs.declared.Given.{Given}
@@ -41,11 +42,11 @@ isWhole (refused c l) = false
 unfoldable pub isLone : List ℕ → Bool
 isLone s = leb (length s) longestValue && isWhole (readNode s)
 
--- the GeneralizedTime that the octets are: they are a lone node (11), of that kind (12)
-unfoldable pub given : List ℕ → Given
-given s =
+-- the time of kind k that the octets are: they are a lone node (11), of that kind (12)
+unfoldable pub given : TimeKind → List ℕ → Given
+given k s =
     if (not (isLone s)) (Wrong ValueShape) λ _.
-    if (not (eqb (getD s 2 0) 24)) (Wrong IllTyped) λ _.
+    if (not (eqb (getD s 2 0) (timeNumber k))) (Wrong IllTyped) λ _.
     Time (timeAt s 3)
 
 -- f of two of them; the first is judged wholly before the second, and the place is 0
@@ -55,23 +56,23 @@ reckonedBy f (Time a) (Wrong c) = Refused (of-value c 0)
 reckonedBy f (Time a) (Time b) = Is (f a b)
 
 abbrev pub wholeOrder : List ℕ → List ℕ → Reckoned
-wholeOrder s t = reckonedBy order (given s) (given t)
+wholeOrder s t = reckonedBy order (given Generalized s) (given Generalized t)
 
 abbrev pub wholeSeconds : List ℕ → List ℕ → Reckoned
-wholeSeconds s t = reckonedBy elapsed (given s) (given t)
+wholeSeconds s t = reckonedBy elapsed (given Generalized s) (given Generalized t)
 
--- Octets that are those of a GeneralizedTime in range, and nothing else.
-abbrev pub timeNode : DateTime → List ℕ
-timeNode t = leafOctets (time Generalized t)
+-- Octets that are those of a time in range, and nothing else.
+abbrev pub timeNode : TimeKind → DateTime → List ℕ
+timeNode k t = leafOctets (time k t)
 
-pub record Stands (s : List ℕ) (t : DateTime) : Type 0 where
-  pub octets : s ≡ timeNode t
-  pub in-range : inRange Generalized t ≡ true
+pub record Stands (k : TimeKind) (s : List ℕ) (t : DateTime) : Type 0 where
+  pub octets : s ≡ timeNode k t
+  pub in-range : inRange k t ≡ true
 
--- a reckoning is done with two of them, and with z
+-- a reckoning is done with two GeneralizedTimes, and with z
 pub record Reckons (f : DateTime → DateTime → ℤ) (s t : List ℕ) (z : ℤ) : Type 0 where
   pub first : DateTime
   pub second : DateTime
-  pub a-time : Stands s first
-  pub another : Stands t second
+  pub a-time : Stands Generalized s first
+  pub another : Stands Generalized t second
   pub is : f first second ≡ z

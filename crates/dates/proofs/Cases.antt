@@ -9,6 +9,7 @@ use Rattle.dates.specs.declared.DateTime.{DateTime}
 use Rattle.dates.specs.declared.TimeKind.the-variants.{Utc, Generalized}
 use Rattle.dates.specs.Calendar.{leap, february, monthDays, years, isDate, isTimeOfDay, inRange}
 use Rattle.dates.specs.Seconds.{sum, yearDays, dayNumber, secondsOf, elapsed, ordered, fields, order, tomorrow}
+use Rattle.dates.specs.Century.{isVersion, firstYear, inWindow, inYear, toUtc, windowYear, toGeneralized}
 use Rattle.dates.specs.Own.{timeOctets, timeAt}
 
 abbrev pub time : ℕ → ℕ → ℕ → ℕ → ℕ → ℕ → DateTime
@@ -66,3 +67,26 @@ pub octet-cases :
     × (timeAt (0x56 ∷ 0x07 ∷ 0xEA ∷ 11 ∷ 16 ∷ 17 ∷ 50 ∷ 3 ∷ []) 1 ≡ time 2026 11 16 17 50 3)
 unfolding timeOctets timeAt
 octet-cases = (refl, refl)
+
+-- link versions, their windows, and times of both kinds by them
+pub century-cases :
+    (isVersion 0 ≡ false)
+    × (isVersion 1 ≡ true)
+    × (isVersion 2 ≡ true)
+    × (isVersion 3 ≡ false)
+    × (inWindow (firstYear 1) 1969 ≡ false)
+    × (inWindow (firstYear 1) 1970 ≡ true)
+    × (inWindow (firstYear 1) 2069 ≡ true)
+    × (inWindow (firstYear 1) 2070 ≡ false)
+    × (inWindow (firstYear 2) 1949 ≡ false)
+    × (inWindow (firstYear 2) 1950 ≡ true)
+    × (inWindow (firstYear 2) 2049 ≡ true)
+    × (inWindow (firstYear 2) 2050 ≡ false)
+    × (toGeneralized (firstYear 1) (time 69 12 31 23 59 58) ≡ time 2069 12 31 23 59 58)
+    × (toGeneralized (firstYear 1) (time 70 1 2 3 4 5) ≡ time 1970 1 2 3 4 5)
+    × (toGeneralized (firstYear 2) (time 49 1 2 3 4 5) ≡ time 2049 1 2 3 4 5)
+    × (toGeneralized (firstYear 2) (time 50 1 2 3 4 5) ≡ time 1950 1 2 3 4 5)
+    × (toGeneralized (firstYear 2) (time 0 2 29 3 4 5) ≡ time 2000 2 29 3 4 5)
+    × (toUtc (time 1996 2 29 3 4 5) ≡ time 96 2 29 3 4 5)
+unfolding isVersion firstYear inWindow inYear toUtc windowYear toGeneralized
+century-cases = (refl, refl, refl, refl, refl, refl, refl, refl, refl, refl, refl, refl, refl, refl, refl, refl, refl, refl)

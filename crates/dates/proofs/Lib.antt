@@ -9,3 +9,4 @@ pub mod Tomorrow
 pub mod Differences
 pub mod TimeOctets
 pub mod Theorems
+pub mod Centuries

@@ -1,5 +1,6 @@
 // Times: a date and a time of day by Gregory's calendar, with no table and no encoding in them (FORMATS, "Times").
 pub mod calendar;
+pub mod century;
 pub mod own;
 pub mod seconds;
 

@@ -1,6 +1,5 @@
 // The link engine: check a type table, write a value as a message, read a message into a value.
 pub mod refusal;
-pub mod times;
 
 ghost use mathlib.Core.Path.{_≡_};
 ghost use Rattle.table.specs.Verdict.{verdict};

@@ -1,5 +1,5 @@
 -- What call control in C is told: the packed answer of an exported function, taken apart, is the outcome of which the demands speak
--- (`coding/proofs/Demands`). r is what the function returns, `after` what the lent buffer then holds; the premises are the functions' contracts.
+-- (`coding/proofs/Demands`), or that of a conversion (`coding/proofs/Conversion`). r is what the function returns, `after` what the lent buffer then holds; the premises are the functions' contracts.
 -- Assumes nothing.
 use mathlib.Core.List.{List}
 use mathlib.Core.Logic.{_↔_}
@@ -7,6 +7,7 @@ use mathlib.Core.Path.{_≡_, refl, sym, ap, subst}
 use Prim.Native.Nat.{ℕ, _≤_, _<_}
 use lib.ListN.{length}
 use Rattle.octets.specs.Numbers.{Octets}
+use Rattle.dates.specs.declared.TimeKind.{TimeKind}
 use Rattle.table.specs.Verdict.{verdict}
 use Rattle.table.specs.Syntax.{Record, table}
 use Rattle.coding.specs.Value.{Value, octets, depth}
@@ -19,10 +20,11 @@ use Rattle.coding.specs.declared.Refusal.{Refusal}
 use Rattle.coding.specs.declared.Answer.{Answer as Told}
 use Rattle.coding.specs.declared.Answer.the-variants.{Done, Refused}
 use Rattle.coding.specs.Calls.{checkAnswer, wholeRead, wholeWrite}
+use Rattle.coding.specs.Conversion.{wholeConversion}
 use Rattle.coding.proofs.Demands.{check-stages, read-stages, write-stages, what-was-sent-arrives, what-is-sent-is-permitted}
 use Rattle.link.specs.Pack.{lowPart, packed, Staged, Tells}
 use Rattle.link.proofs.Back.{packed-tells, tells-one}
-use Rattle.link.proofs.Small.{check-within, read-small, write-small}
+use Rattle.link.proofs.Small.{check-within, read-small, write-small, conversion-small, conversion-staged}
 
 staged : (a : Told) → ((r : Refusal) → a ≡ Refused r → OfStage r) → Staged a
 staged (Done n) h = tt
@@ -52,6 +54,11 @@ module _ (b : List ℕ) (t : ℕ) (m buf : List ℕ) (o : Octets m) (r : ℕ) (a
   pub link-writes : (r ≡ packed (wholeWrite b t m buf .answer)) × (after ≡ wholeWrite b t m buf .buffer)
       → (a : Told) → Tells r a ↔ (record { answer = a; buffer = after } ≡ wholeWrite b t m buf)
   link-writes (e, f) = outcome-tells e f (write-small b t m buf o) (staged (wholeWrite b t m buf .answer) (write-stages b t m buf o))
+
+module _ (k : TimeKind) (v : ℕ) (s buf : List ℕ) (o : Octets s) (r : ℕ) (after : List ℕ) where
+  pub link-converts : (r ≡ packed (wholeConversion k v s buf .answer)) × (after ≡ wholeConversion k v s buf .buffer)
+      → (a : Told) → Tells r a ↔ (record { answer = a; buffer = after } ≡ wholeConversion k v s buf)
+  link-converts (e, f) = outcome-tells e f (conversion-small k v s buf o) (conversion-staged k v s buf o)
 
 -- Demand 3 in C, for a table that is not refused and a type in it; the other theorems of the page carry over in the same way.
 module _ (b : List ℕ) (o : Octets b) (rs : List Record) (ok : Accepted b rs) (t : ℕ) (lt : t < length rs) (v : Value) (buf : List ℕ)

@@ -51,15 +51,15 @@ refusal-told r (inr e) = rw e (a-refusal {n = 13194139533312} {r = Value IllType
 
 module _ (f : DateTime → DateTime → ℤ) (small : (a b : DateTime) → inRange Generalized a ≡ true → inRange Generalized b ≡ true → Below (f a b))
     (s t : List ℕ) (o : Octets s) (p : Octets t) where
-  told : (a : Reckoned) → reckonedBy f (given s) (given t) ≡ a → TellsReckoning (packedReckoning a) a
+  told : (a : Reckoned) → reckonedBy f (given Generalized s) (given Generalized t) ≡ a → TellsReckoning (packedReckoning a) a
   told (Is z) e =
       let r = reckons-exactly f s t (all-octets s o) (all-octets t p) z .0 e in
       a-result (subst Below (r .is) (small (r .first) (r .second) (r .a-time .in-range) (r .another .in-range)))
   told (Refused r) e = refusal-told r (reckoning-refuses f s t r e)
 
-  tells-exactly : (r : ℤ) → r ≡ packedReckoning (reckonedBy f (given s) (given t)) → (a : Reckoned) → TellsReckoning r a ↔ (a ≡ reckonedBy f (given s) (given t))
+  tells-exactly : (r : ℤ) → r ≡ packedReckoning (reckonedBy f (given Generalized s) (given Generalized t)) → (a : Reckoned) → TellsReckoning r a ↔ (a ≡ reckonedBy f (given Generalized s) (given Generalized t))
   tells-exactly r e a =
-      let y : TellsReckoning r (reckonedBy f (given s) (given t)) = rw e (told (reckonedBy f (given s) (given t)) refl) in
+      let y : TellsReckoning r (reckonedBy f (given Generalized s) (given Generalized t)) = rw e (told (reckonedBy f (given Generalized s) (given Generalized t)) refl) in
       (λ z. tells-one-reckoning z y, λ q. rw q y)
 
 times-below : (a b : DateTime) → Below (order a b)

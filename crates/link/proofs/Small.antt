@@ -15,14 +15,21 @@ use Rattle.table.specs.declared.Verdict.the-variants.{Passed, Refused}
 use Rattle.table.proofs.Promises.{place-small}
 use Rattle.octets.specs.declared.cause.Cause.{Cause}
 use Rattle.octets.specs.Numbers.{Octets}
+use Rattle.octets.proofs.Permutations.{all-octets}
+use Rattle.dates.specs.declared.TimeKind.{TimeKind}
 use Rattle.coding.specs.declared.Answer.{Answer as Told}
-use Rattle.coding.specs.Outcome.{Outcome}
+use Rattle.coding.specs.declared.Answer.the-variants.{Done, Refused as Not}
+use Rattle.coding.specs.declared.Refusal.{Refusal}
+use Rattle.coding.specs.Outcome.{Outcome, placeOf, OfStage}
+use Rattle.coding.specs.Conversion.{otherKind, wholeConversion, Refuses, no-version, no-node, no-time, no-room}
+use Rattle.coding.proofs.Conversion.{converts-exactly, refuses-exactly}
+use Rattle.coding.proofs.Reckoning.{time-short}
 use Rattle.coding.specs.Calls.{readOutcome, writeOutcome, afterCheck, wholeRead, wholeWrite, checkAnswer}
 use Rattle.coding.specs.Demands.{ValueRefused, over-long, as-judged}
 use Rattle.coding.proofs.Outcomes.{reading, ReadStage, too-long, is-read, read-stage, writing, WriteStage, is-written, write-stage}
 use Rattle.coding.proofs.Stages.{step}
 use Rattle.octets.proofs.Answer.{if-cases}
-use Rattle.link.specs.Pack.{lowPart}
+use Rattle.link.specs.Pack.{lowPart, Staged}
 
 pub check-within : (b : List ℕ) → lowPart (checkAnswer (verdict b)) < 65536
 unfolding checkAnswer
@@ -68,3 +75,23 @@ read-small b t m buf o = after-check b t buf (λ T. reading T t m buf) (λ T. re
 pub write-small : (b : List ℕ) (t : ℕ) (v buf : List ℕ) → Octets v → lowPart (wholeWrite b t v buf .answer) < 65536
 unfolding wholeWrite writeOutcome
 write-small b t v buf o = after-check b t buf (λ T. writing T t v buf) (λ T. write-place T t v buf (write-stage T t v buf o)) (verdict b) refl
+
+-- conversions of times
+module _ (k : TimeKind) (v : ℕ) (s buf : List ℕ) (o : Octets s) where
+  refused-small : {r : Refusal} → Refuses k v s buf r → (placeOf r < 65536) × OfStage r
+  refused-small (no-version i) = (omega arith, omega arith)
+  refused-small (no-node i l) = (omega arith, (omega arith, omega arith))
+  refused-small (no-time i l n) = (omega arith, (omega arith, omega arith))
+  refused-small (no-room i c l) = (omega arith, omega arith)
+
+  answered : (a : Told) (after : List ℕ) → wholeConversion k v s buf ≡ record { answer = a; buffer = after } → (lowPart a < 65536) × Staged a
+  answered (Done n) after e =
+      let c = converts-exactly k v s buf (all-octets s o) n after .0 e in
+      (placed (ap (λ (x : Outcome). x .answer) (c .is)) (omega (arith, time-short (otherKind k) (c .to))), tt)
+  answered (Not r) after e = refused-small (refuses-exactly k v s buf (all-octets s o) r after .0 e .0)
+
+  pub conversion-small : lowPart (wholeConversion k v s buf .answer) < 65536
+  conversion-small = answered (wholeConversion k v s buf .answer) (wholeConversion k v s buf .buffer) refl .0
+
+  pub conversion-staged : Staged (wholeConversion k v s buf .answer)
+  conversion-staged = answered (wholeConversion k v s buf .answer) (wholeConversion k v s buf .buffer) refl .1

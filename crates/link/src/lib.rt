@@ -4,6 +4,7 @@ ghost use Prim.Native.Nat.{_+_, _*_, _<_};
 ghost use Rattle.table.specs.Verdict.{verdict};
 ghost use Rattle.coding.specs.Calls.{checkAnswer, wholeWrite, wholeRead};
 ghost use Rattle.coding.specs.Reckoning.{wholeOrder, wholeSeconds};
+ghost use Rattle.coding.specs.Conversion.{wholeToGeneralized, wholeToUtc};
 ghost use Rattle.link.specs.Pack.{lowPart, packed, packedReckoning};
 use coding::Answer;
 use coding::Reckoned;
@@ -75,12 +76,34 @@ fn pack_reckoning(a: Reckoned) -> i64
 pub extern "C" fn yinscarf_order(first: &[u8], second: &[u8]) -> i64
     ensures { λ r. ⌜ r ≡ packedReckoning (wholeOrder (now (first .entry)) (now (second .entry))) ⌝ }
 {
-    pack_reckoning(engine::times::order(first, second))
+    pack_reckoning(times::reckoning::order(first, second))
 }
 
 #[no_mangle]
 pub extern "C" fn yinscarf_seconds(first: &[u8], second: &[u8]) -> i64
     ensures { λ r. ⌜ r ≡ packedReckoning (wholeSeconds (now (first .entry)) (now (second .entry))) ⌝ }
 {
-    pack_reckoning(engine::times::elapsed(first, second))
+    pack_reckoning(times::reckoning::elapsed(first, second))
+}
+
+#[no_mangle]
+pub extern "C" fn yinscarf_to_generalized(version: usize, time: &[u8], buf: &mut [u8]) -> u64
+    ensures { λ r. ⌜
+        (let x = wholeToGeneralized version (now (time .entry)) (now (buf .entry)) in
+        (r ≡ packed (x .answer))
+        × (now (buf .exit) ≡ x .buffer))
+        ⌝ }
+{
+    pack(times::conversion::to_generalized(version, time, buf))
+}
+
+#[no_mangle]
+pub extern "C" fn yinscarf_to_utc(version: usize, time: &[u8], buf: &mut [u8]) -> u64
+    ensures { λ r. ⌜
+        (let x = wholeToUtc version (now (time .entry)) (now (buf .entry)) in
+        (r ≡ packed (x .answer))
+        × (now (buf .exit) ≡ x .buffer))
+        ⌝ }
+{
+    pack(times::conversion::to_utc(version, time, buf))
 }

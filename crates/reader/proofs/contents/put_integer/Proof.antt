@@ -6,7 +6,8 @@ use mir.Syntax.{w64}
 use mir.Facts.{toZ-ofZ}
 use Rattle.x690.specs.Integer.{eightOf, integerOf}
 use Rattle.x690.proofs.Integers.{eight-length}
-use Rattle.reader.proofs.LeafStores.{part-filled, integer-is}
+use Rattle.octets.proofs.Buffers.{part-filled}
+use Rattle.reader.proofs.LeafStores.{integer-is}
 use borrow.Author.Needs.{needs}
 use Rattle.reader.proofs.contents.put_integer.Statement.{statement}
 use Rattle.reader.proofs.contents.put_integer.Tie as tie

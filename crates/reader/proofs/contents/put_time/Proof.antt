@@ -4,7 +4,7 @@ use mathlib.Core.Path.{refl}
 use denote.Ref.{now}
 use Rattle.dates.specs.Own.{timeOctets}
 use Rattle.x690.specs.Time.{timeOf}
-use Rattle.reader.proofs.LeafStores.{part-filled}
+use Rattle.octets.proofs.Buffers.{part-filled}
 use borrow.Author.Needs.{needs}
 use Rattle.reader.proofs.contents.put_time.Statement.{statement}
 use Rattle.reader.proofs.contents.put_time.Tie as tie

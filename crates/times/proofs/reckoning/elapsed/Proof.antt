@@ -1,4 +1,4 @@
--- `engine::times::elapsed` meets its contract: the first input is judged before the second.
+-- `times::reckoning::elapsed` meets its contract: the first input is judged before the second.
 -- Assumes nothing.
 use mathlib.Core.Path.{_∙_}
 use mir.Syntax.{w64}
@@ -7,8 +7,8 @@ use borrow.Author.Needs.{needs}
 use denote.Ref.{now}
 use Rattle.dates.specs.Seconds.{elapsed}
 use Rattle.coding.proofs.Reckoning.{first-refused, second-refused, both-given}
-use Rattle.engine.proofs.times.elapsed.Statement.{statement}
-use Rattle.engine.proofs.times.elapsed.Tie as tie
+use Rattle.times.proofs.reckoning.elapsed.Statement.{statement}
+use Rattle.times.proofs.reckoning.elapsed.Tie as tie
 
 pub elapsed-spec : {M : Type 1} → statement M
 elapsed-spec =

@@ -3,28 +3,14 @@
 ghost use mathlib.Core.Path.{_≡_};
 ghost use Rattle.coding.specs.declared.Refusal.the-variants.{Value};
 ghost use Rattle.coding.specs.declared.Reckoned.the-variants.{Refused};
-ghost use Rattle.coding.specs.Reckoning.{given as Reckoning·given, wholeOrder, wholeSeconds};
+ghost use Rattle.coding.specs.Reckoning.{wholeOrder, wholeSeconds};
+use crate::node::given;
 use coding::Given;
 use coding::Reckoned;
 use coding::Refusal;
-use dates::own;
+use dates::TimeKind;
 use dates::seconds;
 use octets::cause::Cause;
-use records::kind::GENERALIZED_TIME;
-use writer::lone::is_lone;
-
-// The time that octets are: one node alone, and a GeneralizedTime.
-fn given(s: &[u8]) -> Given
-    ensures { λ r. ⌜ r ≡ Reckoning·given (now (s .entry)) ⌝ }
-{
-    if !is_lone(s) {
-        return Given::Refused(Cause::ValueShape);
-    }
-    if s[2] != GENERALIZED_TIME {
-        return Given::Refused(Cause::IllTyped);
-    }
-    Given::Time(own::of(&s[3..]))
-}
 
 fn refuse(cause: Cause) -> Reckoned
     ensures { λ r. ⌜ r ≡ Refused (Value cause 0) ⌝ }
@@ -36,9 +22,9 @@ fn refuse(cause: Cause) -> Reckoned
 pub fn order(first: &[u8], second: &[u8]) -> Reckoned
     ensures { λ r. ⌜ r ≡ wholeOrder (now (first .entry)) (now (second .entry)) ⌝ }
 {
-    match given(first) {
+    match given(TimeKind::Generalized, first) {
         Given::Refused(cause) => refuse(cause),
-        Given::Time(a) => match given(second) {
+        Given::Time(a) => match given(TimeKind::Generalized, second) {
             Given::Refused(cause) => refuse(cause),
             Given::Time(b) => Reckoned::Is(seconds::order(a, b)),
         },
@@ -49,9 +35,9 @@ pub fn order(first: &[u8], second: &[u8]) -> Reckoned
 pub fn elapsed(first: &[u8], second: &[u8]) -> Reckoned
     ensures { λ r. ⌜ r ≡ wholeSeconds (now (first .entry)) (now (second .entry)) ⌝ }
 {
-    match given(first) {
+    match given(TimeKind::Generalized, first) {
         Given::Refused(cause) => refuse(cause),
-        Given::Time(a) => match given(second) {
+        Given::Time(a) => match given(TimeKind::Generalized, second) {
             Given::Refused(cause) => refuse(cause),
             Given::Time(b) => Reckoned::Is(seconds::elapsed(a, b)),
         },

@@ -1,4 +1,4 @@
--- `engine::times::order` meets its contract: the first input is judged before the second.
+-- `times::reckoning::order` meets its contract: the first input is judged before the second.
 -- Assumes nothing.
 use mathlib.Core.Path.{_∙_}
 use mir.Syntax.{w64}
@@ -7,8 +7,8 @@ use borrow.Author.Needs.{needs}
 use denote.Ref.{now}
 use Rattle.dates.specs.Seconds.{order}
 use Rattle.coding.proofs.Reckoning.{first-refused, second-refused, both-given}
-use Rattle.engine.proofs.times.order.Statement.{statement}
-use Rattle.engine.proofs.times.order.Tie as tie
+use Rattle.times.proofs.reckoning.order.Statement.{statement}
+use Rattle.times.proofs.reckoning.order.Tie as tie
 
 pub order-spec : {M : Type 1} → statement M
 order-spec =

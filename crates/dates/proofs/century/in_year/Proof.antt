@@ -1,0 +1,10 @@
+-- `dates::century::in_year` meets its contract.
+-- Assumes nothing.
+use mathlib.Core.Path.{refl}
+use Rattle.dates.specs.Century.{inYear}
+use Rattle.dates.proofs.century.in_year.Statement.{statement}
+use Rattle.dates.proofs.century.in_year.Tie as tie
+
+pub in-year-spec : {M : Type 1} → statement M
+unfolding inYear
+in-year-spec = tie.close (tie.spec (λ c. refl))
