@@ -16,6 +16,6 @@ yinscarf-to-utc-spec =
     (λ c κs.
     let t = c .before .before in
     let a = t .before .before .before .before .args in
-    rw (t .to-utc .ensures .0) (conversion-small Generalized (a .version) (a .time .now) (a .buf .now) (λ i. t .before .before .before .shared-slice-known .given i .fits)))  -- pack-requires
+    rw (t .to-utc .ensures .0) (conversion-small Generalized _ (a .time .now) (a .buf .now) (λ i. t .before .before .before .shared-slice-known .given i .fits)))  -- pack-requires
     (λ c. search needs)  -- same-length
     (λ c. let t = c .before .before .before in (c .pack .ensures ∙ ap packed (t .to-utc .ensures .0), t .to-utc .ensures .1)))  -- returns

@@ -1,15 +1,16 @@
 -- `times::node::given` meets its contract: alone, of its kind, and then what its octets say.
 -- Assumes nothing.
-use mathlib.Core.Path.{sym, ap, _∙_}
+use mathlib.Core.Path.{refl, sym, ap, _∙_}
 use mathlib.Core.List.{List}
 use Prim.Native.Nat.{ℕ, _-_}
-use lib.ListN.{length, drop, length-drop}
+use lib.ListN.{length, getD, drop, length-drop}
 use lib.Seq.{take-all}
 use native.Mathlib.Omega.{arith}
 use borrow.Author.Needs.{needs}
 use borrow.Author.Tests.{not-true, not-false, eq-eqb, ne-eqb}
 use denote.Ref.{now}
 use Rattle.dates.specs.Own.{timeAt}
+use Rattle.coding.specs.Value.{timeNumber}
 use Rattle.coding.specs.declared.Given.the-variants.{Time}
 use Rattle.coding.proofs.Reckoning.{lone-some, given-shape, given-type, given-time}
 use Rattle.times.proofs.node.given.Statement.{statement}
@@ -27,7 +28,7 @@ given-spec =
     let n = c .before in
     let s = n .before .before .before in
     let a = s .before .before .args in
-    given-type (a .kind) (now (a .s)) (sym (s .is-lone .ensures) ∙ not-false _ (n .before .before .if1 .left)) (ne-eqb _ _ λ e. c .if2 .taken (e ∙ sym (n .number .ensures))))  -- returns-2
+    given-type (a .kind) (now (a .s)) (sym (s .is-lone .ensures) ∙ not-false _ (n .before .before .if1 .left)) (ne-eqb (getD (now (a .s)) 2 0) (timeNumber (a .kind)) λ e. c .if2 .taken (rw (e, n .number .ensures) refl)))  -- returns-2
     (λ c. let s = c .before .before .before .before in omega (arith, lone-some (now (s .before .before .args .s)) (sym (s .is-lone .ensures) ∙ not-false _ (c .before .before .before .if1 .left))))  -- sub-of
     (λ c. let s = c .before .before .before .before in omega (arith, lone-some (now (s .before .before .args .s)) (sym (s .is-lone .ensures) ∙ not-false _ (c .before .before .before .if1 .left))))  -- part-of-start
     (λ c. search needs)  -- part-of-end

@@ -18,7 +18,7 @@ unfolding leafOctets timeOctets
 put-spec =
     tie.close
     (tie.spec
-    (λ c. let a = c .before .before .args in outcome-is (put-refused (a .kind) (a .t) (now (a .buf)) (c .if1 .taken)) refl refl)  -- returns
+    (λ c. let a = c .before .before .args in outcome-is (put-refused (a .kind) (a .t) (now (a .buf)) (omega (arith, c .if1 .taken))) refl refl)  -- returns
     (λ c. search needs)  -- slice-write-buf
     (λ c. simp length-set (omega arith))  -- slice-write-buf-2
     (λ c κs. search needs)  -- number-requires
