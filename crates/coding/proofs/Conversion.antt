@@ -137,7 +137,6 @@ module _ (k : TimeKind) (v : ℕ) (s buf : List ℕ) where
         from = t;
         to = u;
         counterparts = c;
-        in-range = same-in-range first (windows v) k t u (c .stands .in-range) (c .same);
         room = leb-true 10 (length buf) l;
         is = refl;
       }) refl))
@@ -169,6 +168,10 @@ taken-back : (w buf : List ℕ) {n : ℕ} {after : List ℕ} → record { answer
 taken-back w buf e =
     rw (one-length (ap (λ (x : Outcome). x .answer) e), ap (λ (x : Outcome). x .buffer) e) (take-append-seam w (drop (length w) buf))
 
+-- What is written is the node of a time in range.
+pub counterpart-in-range : (k : TimeKind) (v : ℕ) (s : List ℕ) (t u : DateTime) → Counterparts k v s t u → inRange (otherKind k) u ≡ true
+counterpart-in-range k v s t u c = same-in-range (firstYear v) (windows v) k t u (c .stands .in-range) (c .same)
+
 -- What a conversion wrote, handed in again under the same version, is converted to what it was: forth and back, back and forth.
 pub there-and-back : (k : TimeKind) (v : ℕ) (s buf : List ℕ) → AllOctets s → (n : ℕ) (after : List ℕ)
     → wholeConversion k v s buf ≡ record { answer = done n; buffer = after }
@@ -182,8 +185,10 @@ there-and-back k v s buf o n after e b h =
       version = c .version;
       from = c .to;
       to = c .from;
-      counterparts = record { stands = record { octets = wrote; in-range = c .in-range }; same = turned (firstYear v) k (c .from) (c .to) (p .same) };
-      in-range = rw (twice k) (p .stands .in-range);
+      counterparts = record {
+        stands = record { octets = wrote; in-range = counterpart-in-range k v s (c .from) (c .to) p };
+        same = turned (firstYear v) k (c .from) (c .to) (p .same);
+      };
       room = h;
       is = ap (λ (w : List ℕ). write-at-start w b) (p .stands .octets ∙ ap (λ (j : TimeKind). timeNode j (c .from)) (sym (twice k)));
     })

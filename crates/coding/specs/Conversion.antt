@@ -11,7 +11,6 @@ use Rattle.octets.specs.Tests.{if}
 use Rattle.dates.specs.declared.DateTime.{DateTime}
 use Rattle.dates.specs.declared.TimeKind.{TimeKind}
 use Rattle.dates.specs.declared.TimeKind.the-variants.{Utc, Generalized}
-use Rattle.dates.specs.Calendar.{inRange}
 use Rattle.dates.specs.Century.{isVersion, firstYear, inWindow, toUtc, toGeneralized, Shortens}
 use Rattle.coding.specs.Outcome.{Refusal, of-table, of-value, of-message, Outcome, refuse, write-at-start}
 use Rattle.coding.specs.Reckoning.{isLone, given, timeNode, Stands}
@@ -66,7 +65,6 @@ pub record Converts (k : TimeKind) (v : ℕ) (s buf : List ℕ) (x : Outcome) : 
   pub from : DateTime
   pub to : DateTime
   pub counterparts : Counterparts k v s from to
-  pub in-range : inRange (otherKind k) to ≡ true
   pub room : 10 ≤ length buf
   pub is : x ≡ write-at-start (timeNode (otherKind k) to) buf
 

@@ -77,11 +77,12 @@ module _ (f : ℕ) (w : Around2000 f) where
       let by-four : y % 100 % 4 ≡ y % 4 = omega arith in
       two-digit-leap (y % 100) (omega arith) ∙ ap (λ (n : ℕ). eqb n 0) by-four ∙ sym (leap-inside y e)
 
-  same-date : (g : DateTime) → inWindow f (g .year) ≡ true → isDate (toUtc g) ≡ isDate g
+  -- So there is a date inside the window exactly if there is one of its UTCTime: 29 February survives both ways.
+  pub same-date : (g : DateTime) → inWindow f (g .year) ≡ true → isDate (toUtc g) ≡ isDate g
   unfolding february monthDays isDate inYear toUtc
   same-date g e = rw (same-leap (g .year) e) refl
 
-  -- So a GeneralizedTime inside the window is in range exactly if its UTCTime is: 29 February survives both ways.
+  -- A GeneralizedTime inside the window is in range exactly if its UTCTime is.
   pub same-range : (g : DateTime) → inWindow f (g .year) ≡ true → inRange Utc (toUtc g) ≡ inRange Generalized g
   unfolding years isTimeOfDay inRange inYear toUtc
   same-range g e =

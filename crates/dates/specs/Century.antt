@@ -11,7 +11,7 @@ use Rattle.dates.specs.declared.DateTime.{DateTime}
 unfoldable pub isVersion : ℕ → Bool
 isVersion v = eqb v 1 || eqb v 2
 
--- the first year of a version's window
+-- the first year of the window, of version 1 and of version 2
 unfoldable pub firstYear : ℕ → ℕ
 firstYear v = if (eqb v 1) 1970 λ _. 1950
 
@@ -31,11 +31,11 @@ inYear y t =
       second = t .second;
     }
 
--- the UTCTime of a GeneralizedTime has the last two digits of its year
+-- a UTCTime has the last two digits of the year
 unfoldable pub toUtc : DateTime → DateTime
 toUtc g = inYear (g .year % 100) g
 
--- by its window, u is the UTCTime of g: g is inside
+-- by the window from f on, u is the UTCTime of the GeneralizedTime g
 pub record Shortens (f : ℕ) (u g : DateTime) : Type 0 where
   pub inside : inWindow f (g .year) ≡ true
   pub digits : u ≡ toUtc g
@@ -44,6 +44,6 @@ pub record Shortens (f : ℕ) (u g : DateTime) : Type 0 where
 unfoldable pub windowYear : ℕ → ℕ → ℕ
 windowYear f y = f + (y + 100 - f % 100) % 100
 
--- the GeneralizedTime of a UTCTime is inside
+-- a UTCTime as a GeneralizedTime
 unfoldable pub toGeneralized : ℕ → DateTime → DateTime
 toGeneralized f u = inYear (windowYear f (u .year)) u
