@@ -144,7 +144,7 @@ static void borders(void)
     }
 }
 
-/* Every set of faults at once, in each way: the first of 7, 11, 12, 27 is the answer. */
+/* Every version, node and buffer with every other, in each way, by the rules. */
 static void faults(void)
 {
     static const uint64_t versions[] = {1, 2, 0, 3};
@@ -159,16 +159,40 @@ static void faults(void)
             for (size_t j = 0; j < sizeof versions / sizeof *versions; j++)
                 for (size_t k = 0; k < sizeof rooms / sizeof *rooms; k++)
                     expect_by_rule(way, versions[j], some[i], rooms[k]);
-    /* by hand */
-    expect(TO_GENERALIZED, 3, (struct input){NULL, 0}, 0, 7, NULL);
-    expect(TO_UTC, 0, some[1], 0, 7, NULL);
-    expect(TO_GENERALIZED, 1, (struct input){NULL, 0}, 0, 11, NULL);
-    expect(TO_UTC, 1, some[3], 0, 11, NULL);
-    expect(TO_UTC, 1, some[2], 0, 12, NULL);
-    expect(TO_GENERALIZED, 2, some[1], 9, 12, NULL);
-    expect(TO_UTC, 2, some[0], 9, 12, NULL);
-    expect(TO_GENERALIZED, 2, some[0], 9, 27, NULL);
-    expect(TO_UTC, 2, some[1], 9, 27, NULL);
+}
+
+/* Each pair of faults by hand: the number of the first in the order 7, 11, 12, 27. */
+static void two_faults(void)
+{
+    uint8_t u[NODE], g[NODE], late[NODE], no_u[NODE], no_g[NODE];
+    struct input none = {NULL, 0}, utc = node(u, UTC, 99, 1, 1, 0, 0, 0), generalized = node(g, GENERALIZED, 2000, 1, 1, 0, 0, 0);
+    struct input outside = node(late, GENERALIZED, 2050, 1, 1, 0, 0, 0);
+    struct input no_utc = node(no_u, UTC, 99, 2, 29, 0, 0, 0), no_generalized = node(no_g, GENERALIZED, 1900, 2, 29, 0, 0, 0);
+    /* the version, and one more */
+    expect(TO_GENERALIZED, 3, none, NODE, 7, NULL);
+    expect(TO_UTC, 0, no_generalized, NODE, 7, NULL);
+    expect(TO_GENERALIZED, 0, generalized, NODE, 7, NULL);
+    expect(TO_UTC, 3, outside, NODE, 7, NULL);
+    expect(TO_GENERALIZED, 3, utc, NODE - 1, 7, NULL);
+    expect(TO_UTC, 0, generalized, NODE - 1, 7, NULL);
+    expect(TO_GENERALIZED, 3, none, 0, 7, NULL);
+    /* the node, and its kind, its year or the buffer */
+    expect(TO_GENERALIZED, 1, no_generalized, NODE, 11, NULL);
+    expect(TO_UTC, 1, no_utc, NODE, 11, NULL);
+    expect(TO_UTC, 1, no_generalized, NODE, 11, NULL);
+    expect(TO_GENERALIZED, 1, no_utc, 0, 11, NULL);
+    expect(TO_UTC, 2, no_generalized, NODE - 1, 11, NULL);
+    expect(TO_GENERALIZED, 1, none, 0, 11, NULL);
+    /* the kind or the year, and the buffer */
+    expect(TO_GENERALIZED, 1, generalized, 0, 12, NULL);
+    expect(TO_UTC, 2, utc, NODE - 1, 12, NULL);
+    expect(TO_UTC, 2, outside, NODE - 1, 12, NULL);
+    /* one alone */
+    expect(TO_GENERALIZED, 1, generalized, NODE, 12, NULL);
+    expect(TO_UTC, 2, utc, NODE, 12, NULL);
+    expect(TO_UTC, 2, outside, NODE, 12, NULL);
+    expect(TO_GENERALIZED, 1, utc, NODE - 1, 27, NULL);
+    expect(TO_UTC, 2, generalized, NODE - 1, 27, NULL);
 }
 
 /* Versions near those in service, and those that look like them in fewer bits; every short buffer, and a long one. */
@@ -253,6 +277,7 @@ int main(int argc, char **argv)
     every_year(2, 50);
     borders();
     faults();
+    two_faults();
     versions_and_rooms();
     damaged();
     printf("%lu calls of to_generalized and to_utc, %lu of them done\n", calls, done);

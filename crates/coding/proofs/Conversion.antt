@@ -1,31 +1,71 @@
 -- Conversions of times: what is done and what is refused, exactly; and what was converted is converted back to what it was.
 -- Assumes nothing.
 use mathlib.Core.Bool.{Bool, true, false, false≢true}
-use mathlib.Core.List.{List, _++_}
+use mathlib.Core.List.{List, [], _∷_, _++_}
 use mathlib.Core.Logic.{_↔_}
 use mathlib.Core.Path.{_≡_, refl, sym, ap, subst, _∙_}
-use Prim.Native.Nat.{ℕ, _≤_, _<_}
+use Prim.Native.Nat.{ℕ, _/_, _%_, _≤_, _<_}
 use native.Mathlib.Omega.{arith}
 use lib.Dec.{leb}
-use lib.ListN.{length, take, drop}
+use lib.ListN.{length, take, drop, replicate}
 use lib.Seq.{take-append-seam}
 use borrow.Author.Tests.{leb-true, leb-false, le-leb, lt-leb}
 use Rattle.octets.specs.declared.cause.Cause.{Cause}
 use Rattle.octets.specs.declared.cause.Cause.the-variants.{NoType, ValueShape, IllTyped, ValueRoom}
+use Rattle.octets.specs.Answer.{if, then, none-left}
 use Rattle.octets.specs.Permutations.{AllOctets}
 use Rattle.octets.proofs.Tests.{test}
 use Rattle.dates.specs.declared.DateTime.{DateTime}
 use Rattle.dates.specs.declared.TimeKind.{TimeKind}
 use Rattle.dates.specs.declared.TimeKind.the-variants.{Utc, Generalized}
-use Rattle.dates.specs.Calendar.{inRange}
-use Rattle.dates.specs.Century.{isVersion, firstYear, inWindow, toUtc, toGeneralized, Shortens}
+use Rattle.dates.specs.Calendar.{leap, february, monthDays, years, isDate, isTimeOfDay, inRange}
+use Rattle.dates.specs.Own.{timeOctets, timeAt}
+use Rattle.dates.specs.Century.{isVersion, firstYear, inWindow, inYear, toUtc, windowYear, toGeneralized, Shortens}
 use Rattle.dates.proofs.Centuries.{Around2000, windows, same-range, forth-and-back, shortens-one}
 use Rattle.coding.specs.declared.Given.{Given}
 use Rattle.coding.specs.declared.Given.the-variants.{Time, Refused as Wrong}
 use Rattle.coding.specs.Outcome.{Refusal, of-table, of-value, of-message, Told, done, refusal, Outcome, refuse, write-at-start}
-use Rattle.coding.specs.Reckoning.{isLone, given, timeNode, Stands}
-use Rattle.coding.specs.Conversion.{otherKind, counterpart, converted, placed, wholeConversion, Same, Counterparts, Converts, Refuses, no-version, no-node, no-time, no-room}
+use Rattle.coding.specs.Value.{leafOctets}
+use Rattle.coding.specs.Judging.{need, ownTime, readOwn, readNode}
+use Rattle.coding.specs.Reckoning.{childless, isWhole, isLone, given, timeNode, Stands}
+use Rattle.coding.specs.Conversion.{otherKind, counterpart, converted, placed, wholeConversion, wholeToGeneralized, wholeToUtc, Same, Counterparts, Converts, Refuses, no-version, no-node, no-time, no-room}
 use Rattle.coding.proofs.Reckoning.{accepted, given-stands, stands-given, given-shape, time-short, Fault, none-wrong, shape, type, given-fault}
+
+-- Some of them on octets: 29 February of a year, as a UTCTime and as a GeneralizedTime, into eleven octets and into nine.
+abbrev utc : ℕ → List ℕ
+utc y = 0x56 ∷ 0x41 ∷ 23 ∷ 0 ∷ y ∷ 2 ∷ 29 ∷ 6 ∷ 30 ∷ 59 ∷ []
+
+abbrev generalized : ℕ → List ℕ
+generalized y = 0x56 ∷ 0x41 ∷ 24 ∷ y / 256 ∷ y % 256 ∷ 2 ∷ 29 ∷ 6 ∷ 30 ∷ 59 ∷ []
+
+abbrev eleven : List ℕ
+eleven = replicate 11 0xAA
+
+abbrev nine : List ℕ
+nine = replicate 9 0xAA
+
+abbrev wrote : List ℕ → Outcome
+wrote w = record { answer = done 10; buffer = w ++ (0xAA ∷ []) }
+
+-- forth and back by each version; 7 before 11 before 12 before 27
+pub conversions-right :
+    (wholeToGeneralized 1 (utc 60) eleven ≡ wrote (generalized 2060))
+    × (wholeToGeneralized 2 (utc 60) eleven ≡ wrote (generalized 1960))
+    × (wholeToUtc 1 (generalized 2060) eleven ≡ wrote (utc 60))
+    × (wholeToUtc 2 (generalized 1960) eleven ≡ wrote (utc 60))
+    × (wholeToUtc 2 (generalized 2060) eleven ≡ refuse (of-value IllTyped 0) eleven)
+    × (wholeToUtc 1 (generalized 1968) nine ≡ refuse (of-value IllTyped 0) nine)
+    × (wholeToUtc 1 (generalized 1900) nine ≡ refuse (of-value ValueShape 0) nine)
+    × (wholeToGeneralized 1 (utc 61) nine ≡ refuse (of-value ValueShape 0) nine)
+    × (wholeToGeneralized 1 (generalized 1900) eleven ≡ refuse (of-value ValueShape 0) eleven)
+    × (wholeToGeneralized 1 (generalized 2060) nine ≡ refuse (of-value IllTyped 0) nine)
+    × (wholeToGeneralized 1 (utc 60) nine ≡ refuse (of-message ValueRoom 0) nine)
+    × (wholeToUtc 2 (generalized 1960) nine ≡ refuse (of-message ValueRoom 0) nine)
+    × (wholeToGeneralized 0 (utc 60) eleven ≡ refuse (of-table NoType 0) eleven)
+    × (wholeToUtc 3 [] nine ≡ refuse (of-table NoType 0) nine)
+unfolding if then none-left leap february monthDays years isDate isTimeOfDay inRange timeOctets timeAt isVersion firstYear inWindow inYear toUtc windowYear toGeneralized
+    need ownTime leafOctets readOwn readNode childless isWhole isLone given counterpart converted placed wholeConversion
+conversions-right = (refl, refl, refl, refl, refl, refl, refl, refl, refl, refl, refl, refl, refl, refl)
 
 -- a time that is given is one
 one-time : {t u : DateTime} → Time t ≡ Time u → t ≡ u

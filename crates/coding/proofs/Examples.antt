@@ -1,16 +1,14 @@
 -- Document 01's examples in one table that one fact covers: what the definitions answer to octets, and what the lent buffer then holds.
--- The rows that the paper marks come first, then a row or more for each refusal, then strings in segments, then times; reckonings with times and conversions of times have a table each of their own. Quoted words are sections of docs/FORMATS.md.
+-- The rows that the paper marks come first, then a row or more for each refusal, then strings in segments, then times; reckonings with times and conversions of them have tables of their own (`Reckoning`, `Conversion`). Quoted words are sections of docs/FORMATS.md.
 -- Assumes nothing.
 use mathlib.Core.Bool.{Bool, true, false}
 use mathlib.Core.List.{List, [], _∷_, _++_}
 use mathlib.Core.Path.{_≡_, refl}
-use Prim.Native.Nat.{ℕ, suc, _/_, _%_}
+use Prim.Native.Nat.{ℕ, suc, _/_}
 use lib.ListN.{length, drop, replicate}
 use Rattle.octets.specs.Answer.{if, then, behind, none-left}
 use Rattle.octets.specs.Lists.{any, all, joined, tabulate, lowestFrom, same}
 use Rattle.dates.specs.Calendar.{leap, february, monthDays, years, isDate, isTimeOfDay, inRange}
-use Rattle.dates.specs.Seconds.{sum, yearDays, dayNumber, secondsOf, elapsed, ordered, fields, order}
-use Rattle.dates.specs.Century.{isVersion, firstYear, inWindow, inYear, toUtc, windowYear, toGeneralized}
 use Rattle.dates.specs.Own.{timeOctets, timeAt}
 use Rattle.x690.specs.Identifier.{leading, following, identifier}
 use Rattle.x690.specs.Length.{unsigned, digits, lengthOctets}
@@ -39,13 +37,7 @@ use Rattle.coding.specs.Awaited.{beginsBody, beginsItem, beginsIn, begin
 use Rattle.coding.specs.Reading.{isListed, decode, passes, begun, notAwaited, nothing, full, unwanted, readWrapped, readSequence, placeMember}
 use Rattle.coding.specs.Reading.{readSet, readMany, choose, readBody, readKind, readValue, readMessage}
 use Rattle.coding.specs.Calls.{afterReading, readOutcome, afterJudging, writeOutcome, afterCheck, wholeWrite, wholeRead, checkAnswer}
-use Rattle.coding.specs.Reckoning.{childless, isWhole, isLone, given, reckonedBy, wholeOrder, wholeSeconds}
-use Rattle.coding.specs.Conversion.{counterpart, converted, placed, wholeConversion, wholeToGeneralized, wholeToUtc}
-use Rattle.coding.specs.declared.Reckoned.{Reckoned}
-use Rattle.coding.specs.declared.Reckoned.the-variants.{Is, Refused}
-use Rattle.octets.specs.declared.cause.Cause.the-variants.{NoType, ValueShape, IllTyped, ValueRoom}
-use lib.IntN.{pos, negsuc}
-use Rattle.coding.specs.Outcome.{of-table, of-value, of-message, Outcome, Told, done, refusal, numberOf, placeOf, Refusal, refuse}
+use Rattle.coding.specs.Outcome.{Outcome, Told, done, refusal, numberOf, placeOf}
 
 -- at most 64 octets as one hexadecimal number; the first is not 00
 abbrev hex : ℕ → List ℕ
@@ -318,78 +310,3 @@ unfolding if then behind none-left any all joined tabulate lowestFrom same leadi
     isListed decode passes begun notAwaited nothing full unwanted readWrapped readSequence placeMember readSet readMany choose readBody readKind readValue
     readMessage afterReading readOutcome afterJudging writeOutcome afterCheck wholeWrite wholeRead checkAnswer
 examples-right = refl
-
--- "Times": midnight of 1 January and of 1 March of the year 0, as GeneralizedTimes; the first as a UTCTime
-abbrev january : List ℕ
-january = hex 0x56_41_18_00_00_01_01_00_00_00
-
-abbrev march : List ℕ
-march = hex 0x56_41_18_00_00_03_01_00_00_00
-
-abbrev utc : List ℕ
-utc = hex 0x56_41_17_00_00_01_01_00_00_00
-
-abbrev eleven : Reckoned
-eleven = Refused (of-value ValueShape 0)
-
-abbrev twelve : Reckoned
-twelve = Refused (of-value IllTyped 0)
-
--- the order of two, and the seconds from the first to the second; 11 before 12, and the first before the second
-pub reckonings-right :
-    (wholeOrder january march ≡ Is (negsuc 0))
-    × (wholeOrder january january ≡ Is (pos 0))
-    × (wholeOrder march january ≡ Is (pos 1))
-    × (wholeSeconds january march ≡ Is (pos 5184000))
-    × (wholeSeconds march january ≡ Is (negsuc 5183999))
-    × (wholeSeconds utc [] ≡ twelve)
-    × (wholeSeconds [] utc ≡ eleven)
-    × (wholeSeconds january utc ≡ twelve)
-    × (wholeSeconds january (march ++ (0 ∷ [])) ≡ eleven)
-    -- an empty list and a SEQUENCE with no member present are nodes of another kind
-    × (wholeOrder (hex 0x56_41_30_00_00) march ≡ twelve)
-    × (wholeOrder (hex 0x56_41_10_02_00_00) march ≡ twelve)
-    × (wholeOrder (hex 0x56_41_30_00_01) march ≡ eleven)
-    × (wholeOrder (hex 0x56_41_10_02_00_01 ++ january) march ≡ eleven)
-    × (wholeOrder (hex 0x56_41_32_00 ++ january) march ≡ eleven)
-unfolding if then none-left any all same digits negative pile integerOf unused masked leap february monthDays years isDate isTimeOfDay inRange timeOctets timeAt
-    sum yearDays dayNumber secondsOf elapsed ordered fields order need flags ownMembers ownCount ownTime ownChoice readOwn readNode childless isWhole isLone
-    given reckonedBy
-reckonings-right = (refl, refl, refl, refl, refl, refl, refl, refl, refl, refl, refl, refl, refl, refl)
-
--- conversions of times into eleven octets and into nine
-
-abbrev eleven-octets : List ℕ
-eleven-octets = replicate 11 0xAA
-
-abbrev nine : List ℕ
-nine = replicate 9 0xAA
-
-abbrev wrote : List ℕ → Outcome
-wrote w = record { answer = done 10; buffer = w ++ (0xAA ∷ []) }
-
--- a UTCTime on 29 February of a year of two digits, and a GeneralizedTime on that day
-abbrev u : ℕ → List ℕ
-u y = 0x56 ∷ 0x41 ∷ 23 ∷ 0 ∷ y ∷ 2 ∷ 29 ∷ 6 ∷ 30 ∷ 59 ∷ []
-
-abbrev g : ℕ → List ℕ
-g y = 0x56 ∷ 0x41 ∷ 24 ∷ y / 256 ∷ y % 256 ∷ 2 ∷ 29 ∷ 6 ∷ 30 ∷ 59 ∷ []
-
--- forth and back by each version; 7 before 11 before 12 before 27
-pub conversions-right :
-    (wholeToGeneralized 1 (u 60) eleven-octets ≡ wrote (g 2060))
-    × (wholeToGeneralized 2 (u 60) eleven-octets ≡ wrote (g 1960))
-    × (wholeToUtc 1 (g 2060) eleven-octets ≡ wrote (u 60))
-    × (wholeToUtc 2 (g 1960) eleven-octets ≡ wrote (u 60))
-    × (wholeToUtc 2 (g 2060) eleven-octets ≡ refuse (of-value IllTyped 0) eleven-octets)
-    × (wholeToUtc 1 (g 1968) nine ≡ refuse (of-value IllTyped 0) nine)
-    × (wholeToUtc 1 (g 1900) nine ≡ refuse (of-value ValueShape 0) nine)
-    × (wholeToGeneralized 1 (u 61) nine ≡ refuse (of-value ValueShape 0) nine)
-    × (wholeToGeneralized 1 (g 2060) nine ≡ refuse (of-value IllTyped 0) nine)
-    × (wholeToGeneralized 1 (u 60) nine ≡ refuse (of-message ValueRoom 0) nine)
-    × (wholeToUtc 2 (g 1960) nine ≡ refuse (of-message ValueRoom 0) nine)
-    × (wholeToGeneralized 0 (u 60) eleven-octets ≡ refuse (of-table NoType 0) eleven-octets)
-    × (wholeToUtc 3 [] nine ≡ refuse (of-table NoType 0) nine)
-unfolding if then none-left any all same leap february monthDays years isDate isTimeOfDay inRange timeOctets timeAt isVersion firstYear inWindow inYear toUtc windowYear toGeneralized
-    need flags ownMembers ownCount ownTime ownChoice leafOctets readOwn readNode childless isWhole isLone given counterpart converted placed wholeConversion
-conversions-right = (refl, refl, refl, refl, refl, refl, refl, refl, refl, refl, refl, refl, refl)

@@ -1,19 +1,20 @@
 -- Reckonings with times: they are done exactly with two GeneralizedTimes, and refused by 11 or 12.
 -- Assumes nothing.
 use mathlib.Core.Bool.{Bool, true, false, false≢true}
-use mathlib.Core.List.{List, [], _++_, append-nil}
+use mathlib.Core.List.{List, [], _∷_, _++_, append-nil}
 use mathlib.Core.Logic.{_↔_, _⊎_, inl, inr}
 use mathlib.Core.Path.{_≡_, refl, sym, ap, subst, _∙_}
 use Prim.Native.Nat.{ℕ, _≤_, _<_}
 use native.Mathlib.Omega.{arith}
 use lib.Dec.{leb, eqb}
-use lib.IntN.{ℤ}
+use lib.IntN.{ℤ, pos, negsuc}
 use lib.ListN.{length, getD, drop}
 use lib.Seq.{getD-drop}
 use borrow.Author.Tests.{leb-true, eqb-true, eq-eqb}
 use Rattle.octets.specs.declared.cause.Cause.{Cause}
 use Rattle.octets.specs.declared.cause.Cause.the-variants.{ValueShape, IllTyped}
-use Rattle.octets.specs.Answer.{Answer, got, refused, if, none-left}
+use Rattle.octets.specs.Answer.{Answer, got, refused, if, then, none-left}
+use Rattle.octets.specs.Lists.{any, all}
 use Rattle.octets.specs.Permutations.{AllOctets}
 use Rattle.octets.proofs.Tests.{test}
 use Rattle.octets.proofs.Lists.{both}
@@ -21,20 +22,59 @@ use Rattle.octets.proofs.Answer.{got-holds, none-there}
 use Rattle.dates.specs.declared.DateTime.{DateTime}
 use Rattle.dates.specs.declared.TimeKind.{TimeKind}
 use Rattle.dates.specs.declared.TimeKind.the-variants.{Utc, Generalized}
-use Rattle.dates.specs.Calendar.{inRange}
+use Rattle.dates.specs.Calendar.{leap, february, monthDays, years, isDate, isTimeOfDay, inRange}
+use Rattle.dates.specs.Seconds.{sum, yearDays, dayNumber, secondsOf, elapsed, ordered, fields, order}
 use Rattle.dates.specs.Own.{timeOctets, timeAt}
 use Rattle.dates.proofs.TimeOctets.{time-back}
 use Rattle.coding.specs.declared.Given.{Given}
 use Rattle.coding.specs.declared.Given.the-variants.{Time, Refused as Wrong}
 use Rattle.coding.specs.Value.{timeNumber, boolean, integer, bits, string, null, enumerated, time, leafOctets}
-use Rattle.coding.specs.Judging.{Node, a-leaf, a-sequence, a-set, a-sequence-of, a-set-of, a-choice, need, readNode, leafKind, nodeKind}
+use Rattle.coding.specs.Judging.{Node, a-leaf, a-sequence, a-set, a-sequence-of, a-set-of, a-choice, need, readOwn, readNode, leafKind, nodeKind}
+use Rattle.coding.specs.Judging.{flags, ownMembers, ownCount, ownTime, ownChoice}
 use Rattle.coding.specs.Outcome.{longestValue, Refusal, of-value}
 use Rattle.coding.specs.Shaped.{LeafShaped}
 use Rattle.coding.specs.declared.Reckoned.{Reckoned}
 use Rattle.coding.specs.declared.Reckoned.the-variants.{Is, Refused}
-use Rattle.coding.specs.Reckoning.{childless, isWhole, isLone, given, reckonedBy, timeNode, Stands, Reckons}
+use Rattle.coding.specs.Reckoning.{childless, isWhole, isLone, given, reckonedBy, wholeOrder, wholeSeconds, timeNode, Stands, Reckons}
 use Rattle.coding.proofs.Nodes.{nodeOctets, NodeShaped, node-sound, node-complete}
 use Rattle.coding.proofs.Judging.{leaf-octets}
+
+-- Some of them on octets: midnight of 1 January and of 1 March of the year 0 as GeneralizedTimes, and the first as a UTCTime.
+abbrev january : List ℕ
+january = 0x56 ∷ 0x41 ∷ 24 ∷ 0 ∷ 0 ∷ 1 ∷ 1 ∷ 0 ∷ 0 ∷ 0 ∷ []
+
+abbrev march : List ℕ
+march = 0x56 ∷ 0x41 ∷ 24 ∷ 0 ∷ 0 ∷ 3 ∷ 1 ∷ 0 ∷ 0 ∷ 0 ∷ []
+
+abbrev utc : List ℕ
+utc = 0x56 ∷ 0x41 ∷ 23 ∷ 0 ∷ 0 ∷ 1 ∷ 1 ∷ 0 ∷ 0 ∷ 0 ∷ []
+
+abbrev eleven : Reckoned
+eleven = Refused (of-value ValueShape 0)
+
+abbrev twelve : Reckoned
+twelve = Refused (of-value IllTyped 0)
+
+-- the order of two, and the seconds from the first to the second; 11 before 12, and the first before the second
+pub reckonings-right :
+    (wholeOrder january march ≡ Is (negsuc 0))
+    × (wholeOrder january january ≡ Is (pos 0))
+    × (wholeOrder march january ≡ Is (pos 1))
+    × (wholeSeconds january march ≡ Is (pos 5184000))
+    × (wholeSeconds march january ≡ Is (negsuc 5183999))
+    × (wholeSeconds utc [] ≡ twelve)
+    × (wholeSeconds [] utc ≡ eleven)
+    × (wholeSeconds january utc ≡ twelve)
+    × (wholeSeconds january (march ++ (0 ∷ [])) ≡ eleven)
+    -- an empty list and a SEQUENCE with no member present are nodes of another kind
+    × (wholeOrder (0x56 ∷ 0x41 ∷ 48 ∷ 0 ∷ 0 ∷ []) march ≡ twelve)
+    × (wholeOrder (0x56 ∷ 0x41 ∷ 16 ∷ 2 ∷ 0 ∷ 0 ∷ []) march ≡ twelve)
+    × (wholeOrder (0x56 ∷ 0x41 ∷ 48 ∷ 0 ∷ 1 ∷ []) march ≡ eleven)
+    × (wholeOrder (0x56 ∷ 0x41 ∷ 16 ∷ 2 ∷ 0 ∷ 1 ∷ january) march ≡ eleven)
+    × (wholeOrder (0x56 ∷ 0x41 ∷ 50 ∷ 0 ∷ january) march ≡ eleven)
+unfolding if then none-left any all leap february monthDays years isDate isTimeOfDay inRange timeAt sum yearDays dayNumber secondsOf elapsed ordered fields order
+    need flags ownMembers ownCount ownTime ownChoice readOwn readNode childless isWhole isLone given reckonedBy
+reckonings-right = (refl, refl, refl, refl, refl, refl, refl, refl, refl, refl, refl, refl, refl, refl)
 
 time-number : (k : TimeKind) → (22 < timeNumber k) × (timeNumber k < 25)
 time-number Utc = (omega arith, omega arith)

@@ -1,4 +1,4 @@
--- The outcomes of check, write and read: the answer, and what the lent buffer then holds (FORMATS, "Refusals" and "Limits").
+-- The outcomes of check, write, read and conversions of times: the answer, and what the lent buffer then holds (FORMATS, "Refusals" and "Limits").
 -- Assumes nothing.
 use mathlib.Core.List.{List, _++_}
 use Prim.Native.Nat.{ℕ, _≤_}

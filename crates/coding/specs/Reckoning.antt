@@ -49,7 +49,7 @@ given k s =
     if (not (eqb (getD s 2 0) (timeNumber k))) (Wrong IllTyped) λ _.
     Time (timeAt s 3)
 
--- f of two of them; the first is judged wholly before the second, and the place is 0
+-- f of two that are given; the first is judged wholly before the second, and the place is 0
 unfoldable pub reckonedBy : (DateTime → DateTime → ℤ) → Given → Given → Reckoned
 reckonedBy f (Wrong c) y = Refused (of-value c 0)
 reckonedBy f (Time a) (Wrong c) = Refused (of-value c 0)

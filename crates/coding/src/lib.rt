@@ -1,4 +1,4 @@
-// What check, write, read and the reckonings with times answer (FORMATS, "Refusals" and "Times"), and the limits of a value and of a message ("Limits").
+// What check, write, read and the operations on times answer (FORMATS, "Refusals", "Times" and "Centuries"), and the limits of a value and of a message ("Limits").
 use dates::DateTime;
 use octets::cause::Cause;
 
@@ -22,13 +22,13 @@ pub enum Answer {
     Refused(Refusal),
 }
 
-// A GeneralizedTime that was handed in; or why it is none.
+// A time that was handed in, or what it is converted to; or why there is none.
 pub enum Given {
     Time(DateTime),
     Refused(Cause),
 }
 
-// What a reckoning with two of them answers: a number; or refused.
+// What a reckoning with two GeneralizedTimes answers: a number; or refused.
 pub enum Reckoned {
     Is(i64),
     Refused(Refusal),
