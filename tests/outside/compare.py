@@ -1,6 +1,6 @@
 """Compares the program of cases with Erlang/OTP's asn1 and with pyasn1, both ways, on random tables, values and messages; its reading
 of strings in segments and of times, sound and damaged, with the model; its reading of integers with Python's; and the archive's order of
-times with Python's datetime.
+times with Python's datetime, its centuries with OpenSSL's.
 
 Each disagreement is either one of EXPLAINED, where the outside coder departs from X.690 or from document 01's limits, or it is
 printed with its octets and the run fails."""
