@@ -238,7 +238,7 @@ def messages():
     for c, n in reversed(LONG_TAGS[:3]):
         element = item(model.identifier(c, True, n), element)
     yield 'NULLs with four long tags in a list, in 22 SETs, indefinite', listed(22, [(NULL, LONG_TAGS, None)], element, 3)
-    yield 'NULLs with lengths of 126 octets in a list, in 22 SETs, indefinite', listed(22, [null], b'\5\xfe' + bytes(126), 3)
+    yield 'NULLs with lengths of four octets in a list, in 22 SETs, indefinite', listed(22, [null], b'\5\x84' + bytes(4), 3)
     yield 'one OCTET STRING of 8,188 octets', ([plain(OCTET_STRING)], b'\4' + model.length(8188) + bytes(8188))
     yield 'OCTET STRINGs of no segments in a list, in 22 SETs, indefinite', listed(22, [plain(OCTET_STRING)], b'\x24\x80\0\0', 5)
     yield 'UTCTimes in a list, in 22 SETs, indefinite', listed(22, [plain(UTC_TIME)], b'\x17\x0d960229235959Z', 10)

@@ -11,8 +11,8 @@
  *   otherwise                         refused; number * 2^40, where number is 11 or 12
  * YINSCARF_TIME_NUMBER is the number of such an answer, 0 if it is done.
  *
- * Places: for 1 to 6 the number of a record of the table (1 may say 128: too many records); for 11 to 13, 22 to 26 and 28
- * an offset into the value or message; 0 for 7, 14, 21 and 27, and for 11 and 12 of the calls on times.
+ * Places: for 1 to 6 the number of a record of the table (1 may say 128: too many records); for 11 to 13, 22 to 26, 28
+ * and 29 an offset into the value or message; 0 for 7, 14, 21 and 27, and for 11 and 12 of the calls on times.
  *
  * Lent memory: a pointer and the length after it lend that many octets, for the time of the call. All but buf are only read,
  * and may overlap each other; buf must not overlap them. A null pointer with the length 0 is allowed; a null
@@ -61,7 +61,8 @@ enum yinscarf_number {
     YINSCARF_MESSAGE_CONTENTS = 25,     /* contents wrong for the kind; unused bits before a further segment */
     YINSCARF_MESSAGE_TRAILING = 26,     /* octets where nothing is awaited */
     YINSCARF_MESSAGE_ROOM = 27,         /* value longer than buf or 16,384 octets; buf under the ten octets of a time */
-    YINSCARF_MESSAGE_LEVEL = 28         /* a value at level 25, or a segment of a string at depth 5 */
+    YINSCARF_MESSAGE_LEVEL = 28,        /* a value at level 25, or a segment of a string at depth 5 */
+    YINSCARF_MESSAGE_LENGTH_FIELD = 29  /* a first length octet from 85 to FE: more than four octets are to follow it */
 };
 
 /* Whether a type table passes: 0, or a refusal 1 to 6. */
@@ -71,7 +72,7 @@ uint64_t yinscarf_check(const uint8_t *table, size_t table_len);
 uint64_t yinscarf_write(const uint8_t *table, size_t table_len, size_t type, const uint8_t *value, size_t value_len, uint8_t *buf,
                         size_t buf_len);
 
-/* Reads a message of a type into a value: 0 and the value's length, or a refusal 1 to 7 or 21 to 28. */
+/* Reads a message of a type into a value: 0 and the value's length, or a refusal 1 to 7 or 21 to 29. */
 uint64_t yinscarf_read(const uint8_t *table, size_t table_len, size_t type, const uint8_t *message, size_t message_len, uint8_t *buf,
                        size_t buf_len);
 

@@ -10,7 +10,7 @@
 #include "yinscarf.h"
 
 enum { CHECK, WRITE, READ };
-enum { ROOM = 16384, LONGEST = 16385, OVER = 9, CASES = 20000, SECONDS = 300 };
+enum { ROOM = 16384, LONGEST = 16385, OVER = 9, CASES = 20000, SECONDS = 300, LAST = YINSCARF_MESSAGE_LENGTH_FIELD };
 
 struct one {
     unsigned op, type;
@@ -71,7 +71,7 @@ static uint64_t call_at(const struct one *c, size_t room, int at_end, uint8_t *o
     if (t > slowest)
         slowest = t;
     unsigned number = YINSCARF_NUMBER(a), rest = YINSCARF_REST(a);
-    if (a >> 16 > 28 || (number > 7 && number < 11) || (number > 14 && number < 21))
+    if (a >> 16 > LAST || (number > 7 && number < 11) || (number > 14 && number < 21))
         fail("no such number", c);
     if ((c->op == CHECK && number > 6) || (c->op == WRITE && number > 14) || (c->op == READ && number > 7 && number < 21))
         fail("a number of another stage", c);
@@ -260,7 +260,7 @@ static size_t damaged(const uint8_t *from, size_t n, uint8_t *to, size_t most)
 static void random_ones(unsigned long n)
 {
     static uint8_t table[LONGEST + 8], data[LONGEST + 8], result[ROOM], second[ROOM], third[ROOM];
-    unsigned long numbers[29] = {0};
+    unsigned long numbers[LAST + 1] = {0};
     for (unsigned long i = 0; i < n; i++) {
         const struct one *from = &cases[next() % count];
         struct one c = *from;
@@ -308,7 +308,7 @@ static void random_ones(unsigned long n)
             fail("another value read than written", &c);
     }
     printf("answers by number:");
-    for (unsigned k = 0; k < 29; k++)
+    for (unsigned k = 0; k <= LAST; k++)
         if (numbers[k])
             printf(" %u:%lu", k, numbers[k]);
     printf("\n");

@@ -38,6 +38,7 @@ LAX = {
         'unused bits': 'a BIT STRING with more than 7 unused bits is read (X.690, 8.6.2.2)',
         'any characters': 'a time is read whatever its characters are (document 02: 25)',
         'time in segments': 'a time is read in segments too, joined as a string is (X.690, 8.25; document 02: 24)',
+        'long field': 'a length with more than four octets behind the first is read (document 02: 29)',
     },
     'pyasn1': {
         'spare octets': 'INTEGER or ENUMERATED contents with more octets than needed are read (X.690, 8.3.2)',
@@ -53,6 +54,7 @@ LAX = {
         'wide boolean': 'BOOLEAN contents of any number of octets are read (X.690, 8.2.1)',
         'unlisted number': 'an ENUMERATED number that is not listed is read (document 01: 25)',
         'any ASCII': 'a time is read whatever its characters are, up to 7F (document 02: 25)',
+        'long field': 'a length with more than four octets behind the first is read (document 02: 29); from 0.5 on not with more than eight',
         'time in segments': 'a time is read in segments too, which have its own number, not 4 as those that the encoder writes (X.690, 8.25; '
                             'document 02: 24)',
         **({'octets behind': 'what stands behind the item in an explicit tag of definite length is not looked at (X.690, 8.14.2)'}
@@ -120,7 +122,10 @@ PINS = [
     ('pyasn1 from 0.5', 'no item', EMPTY, 0, 'A5 80 00 00', ('no', 24, 0), True),
     ('pyasn1 before 0.5', 'octets behind', TAGGED, 0, 'A0 06 01 01 00 01 01 FF', ('no', 26, 5), True),
     ('pyasn1', 'repeated member', '54 59 11 01 00 00 11 01 01 00 54 59 05 01 00 00 05', 0, '31 04 05 00 05 00', ('no', 26, 4), True),
-    ('pyasn1 from 0.5', 'more than 8 length octets', STRINGS, 0, '04 89 00 00 00 00 00 00 00 00 01 55', ('ok',), False),
+    ('both', 'long field', STRINGS, 0, '04 85 00 00 00 00 01 55', ('no', 29, 0), True),
+    ('both', 'long field', STRINGS, 0, '24 80 04 88 00 00 00 00 00 00 00 01 55 00 00', ('no', 29, 2), True),
+    ('erlang', 'long field', STRINGS, 0, '04 FE ' + '00 ' * 125 + '01 55', ('no', 29, 0), True),
+    ('pyasn1 from 0.5', 'long field: more than 8 length octets', STRINGS, 0, '04 89 00 00 00 00 00 00 00 00 01 55', ('no', 29, 0), False),
     ('pyasn1 from 0.5', 'an empty item of indefinite length in a CHOICE', '54 59 32 00 01 01 ' + EMPTY, 0, '30 80 00 00', ('ok',), False),
     ('pyasn1 from 0.5', 'a mandatory CHOICE that is left out', '54 59 10 01 00 00 10 01 01 00 54 59 32 00 01 02 54 59 01 01 00 00 01', 0,
      '30 04 01 80 00 00', ('no', 23, 2), True),
@@ -214,8 +219,23 @@ def judged(coder, tally, table, t, m, we, they, damaged):
                 table, t, m, we, they)
 
 
+# So many octets each coder reads behind a first length octet.
+WIDEST = {'erlang': 126, 'pyasn1': 8}
+
+
+def over_field(coder, tally, table, t, m, we, they, tree):
+    """Compares readings of a message with longer length fields than document 02 allows: the coder reads it, and we refuse it where the model does."""
+    what = coder + ' reads longer length fields: '
+    if they != ('ok', tree):
+        tally.fault(what + 'refused', table, t, m, we, they)
+    elif we != model.read(table, t, m):
+        tally.fault(what + 'we and the model', table, t, m, we, model.read(table, t, m))
+    else:
+        tally.add(what + ('same value, none is over four octets' if we[0] == 'ok' else 'we refuse, no %d, same place as the model' % we[1]))
+
+
 def plan(R, tables, takes, recursive, values, coder):
-    """Tables, and for each value (table index, type, tree) its permitted encodings and damaged messages."""
+    """Tables, and for each value (table index, type, tree) its permitted encodings, one with longer length fields, and damaged messages."""
     made, work = [], []
     while len(made) < tables:
         b, records = make.table(R, recursive)
@@ -232,15 +252,15 @@ def plan(R, tables, takes, recursive, values, coder):
                 sent = [make.encoding(R, records, t, tree, coder) for _ in range(3)]
                 bad = [make.damaged(R, R.choice(sent)[0]) for _ in range(2)]
                 bad += [make.faulty(R, model.form(records, t, tree)) for _ in range(4)]
-                work.append((len(made), t, tree, sent, bad))
+                work.append((len(made), t, tree, sent, make.over_field(R, records, t, tree, coder, WIDEST[coder]), bad))
         made.append((b, records))
     return made, work
 
 
 def write_all(command, made, work, tally):
     """What we write for each value; the model is asked too, and a refusal is a fault."""
-    answers = ours.run(command, [(ours.WRITE, t, made[i][0], model.octets(tree)) for i, t, tree, _, _ in work])
-    for (i, t, tree, _, _), a in zip(work, answers):
+    answers = ours.run(command, [(ours.WRITE, t, made[i][0], model.octets(tree)) for i, t, tree, _, _, _ in work])
+    for (i, t, tree, _, _, _), a in zip(work, answers):
         if a[0] != 'ok':
             tally.fault('we refuse to write a value', made[i][0], t, model.octets(tree), a, ('ok', tree))
     return answers
@@ -283,7 +303,7 @@ def with_erlang(args, R, tally):
     made, work = plan(R, args.tables, erlang.takes, True, args.values, 'erlang')
     written = write_all(args.ours, made, work, tally)
     requests, marks = [], []
-    for (i, t, tree, sent, bad), w in zip(work, written):
+    for (i, t, tree, sent, wide, bad), w in zip(work, written):
         name = 'M%d' % i
         requests.append(('enc', name, t, erlang.term(tree)))
         marks.append(('enc', i, t, tree, None))
@@ -293,6 +313,8 @@ def with_erlang(args, R, tally):
         for m, arrived in sent:
             requests.append(('dec', name, t, m.hex()))
             marks.append(('sent', i, t, arrived, m))
+        requests.append(('dec', name, t, wide[0].hex()))
+        marks.append(('wide', i, t, wide[1], wide[0]))
         for m in bad:
             requests.append(('dec', name, t, m.hex()))
             marks.append(('bad', i, t, None, m))
@@ -335,7 +357,10 @@ def with_erlang(args, R, tally):
         reads.append((ours.READ, t, table, m))
         compared.append((kind, tree, they))
     for (op, t, table, m), (kind, tree, they), we in zip(reads, compared, ours.run(args.ours, reads)):
-        if kind in ('sent', 'bad'):
+        if kind == 'wide':
+            over_field('erlang', tally, table, t, m, we, they, tree)
+            stored.append(('read', t, table, m, we))
+        elif kind in ('sent', 'bad'):
             if kind == 'sent' and they != ('ok', tree):
                 tally.fault('erlang reads a permitted encoding', table, t, m, ('ok', tree), they)
             judged('erlang', tally, table, t, m, we, they, kind == 'bad')
@@ -353,13 +378,13 @@ def with_erlang(args, R, tally):
 
 
 def record(R, path, version, stored, seed):
-    """Stores cases with the outside coder's answers: most writes and accepted messages, and some that both refuse.
+    """Stores cases with the outside coder's answers: most writes and messages that it reads, and some that both refuse.
 
-    The number and the place of a refusal are document 01's, since no outside coder gives them."""
+    The number and the place of a refusal are the documents', since no outside coder gives them; 29 is of messages that it reads."""
     seen, table, out = set(), None, []
     for op, t, b, data, a in sorted(stored, key=lambda s: s[2]):
         small = len(b) <= 200 and len(data) <= 200
-        if (op, t, b, data) in seen or not (small or R.random() < .05) or R.random() < (.2 if a[0] == 'ok' else .8):
+        if (op, t, b, data) in seen or not (small or R.random() < .05) or R.random() < (.2 if a[0] == 'ok' or a[1] == 29 else .8):
             continue
         seen.add((op, t, b, data))
         if b != table:
@@ -368,7 +393,8 @@ def record(R, path, version, stored, seed):
         out.append('%s %d %s %s' % (op, t, data.hex() or '-', 'ok ' + a[1].hex() if a[0] == 'ok' else 'no %d %d' % a[1:]))
     with open(path, 'w') as f:
         f.write('# Recorded from Erlang/OTP\'s asn1, BER: %s; seed %d. After each table: operation, type, data, answer.\n' % (version, seed))
-        f.write('# Octets that are answered are what that coder wrote or read; a refusal is one that it refuses too, with document 01\'s number.\n')
+        f.write('# Octets that are answered are what that coder wrote or read; a refusal is one that it refuses too, with the documents\' number; but it '
+                'reads what is refused by 29.\n')
         f.write('\n'.join(out) + '\n')
 
 
@@ -377,7 +403,7 @@ def with_pyasn1(args, R, tally):
     coders = [python_asn1.Coder(records) for _, records in made]
     written = write_all(args.ours, made, work, tally)
     reads, compared = [], []
-    for (i, t, tree, sent, bad), w in zip(work, written):
+    for (i, t, tree, sent, wide, bad), w in zip(work, written):
         coder, (table, records) = coders[i], made[i]
         if w[0] == 'ok':
             they = coder.decode(t, w[1])
@@ -405,12 +431,16 @@ def with_pyasn1(args, R, tally):
         for m, arrived in sent:
             reads.append((ours.READ, t, table, m))
             compared.append(('sent', arrived, coder.decode(t, m)))
+        reads.append((ours.READ, t, table, wide[0]))
+        compared.append(('wide', wide[1], coder.decode(t, wide[0])))
         for m in bad:
             reads.append((ours.READ, t, table, m))
             compared.append(('bad', None, coder.decode(t, m)))
     for (op, t, table, m), (kind, tree, they), we in zip(reads, compared, ours.run(args.ours, reads)):
         how = 'pyasn1 writes strings in segments' if kind == 'segments' else 'pyasn1 writes'
-        if kind in ('sent', 'bad'):
+        if kind == 'wide':
+            over_field('pyasn1', tally, table, t, m, we, they, tree)
+        elif kind in ('sent', 'bad'):
             if kind == 'sent' and they != ('ok', tree):
                 tally.fault('pyasn1 reads a permitted encoding', table, t, m, ('ok', tree), they)
             judged('pyasn1', tally, table, t, m, we, they, kind == 'bad')

@@ -183,7 +183,7 @@ def value(R, records, t, levels, h):
 
 
 def length(R, n, most):
-    """Any permitted definite length: short, or long with 1 to `most` octets and leading zeros."""
+    """Any definite length: short, or long with 1 to `most` octets behind the first and leading zeros."""
     if n < 128 and R.random() < .5:
         return bytes([n])
     b = n.to_bytes((n.bit_length() + 7) // 8, 'big') or b'\0'
@@ -202,10 +202,9 @@ def cut(R, c, parts, last):
     return [c[a:b] for a, b in zip([0] + cuts, cuts + [len(c)])]
 
 
-def segments(R, kind, unused, c, depth, coder):
+def segments(R, kind, unused, c, depth, coder, most):
     """Segments of a string, the first of them at a depth: any that join to the octets c, of which the last has so many unused bits."""
     number = bytes([OWN_NUMBER[kind]])
-    most = 8 if coder == 'pyasn1' else 126
     least = 1 if c or depth == 1 and coder and not (coder == 'pyasn1' and kind == OCTET_STRING) else 0
     deeper = depth < DEEPEST and not (coder and kind == BIT_STRING)
     parts = cut(R, c, R.choice([least, 1, 1, 2, 2, 3, 4]), unused > 0)
@@ -213,7 +212,7 @@ def segments(R, kind, unused, c, depth, coder):
     for j, part in enumerate(parts):
         bits = unused if j + 1 == len(parts) else 0
         if deeper and R.random() < (.3 if coder else .6):
-            inner = segments(R, kind, bits, part, depth + 1, coder)
+            inner = segments(R, kind, bits, part, depth + 1, coder, most)
             out += constructed(R, bytes([number[0] | 0x20]), inner, most, 1 if coder == 'pyasn1' else .4)
             continue
         if kind == BIT_STRING:
@@ -224,21 +223,21 @@ def segments(R, kind, unused, c, depth, coder):
     return out
 
 
-def encoding(R, records, t, tree, coder=None):
-    """A permitted encoding of a tree, and the tree with the elements of each SET OF in the order in which they are sent.
+def encoding(R, records, t, tree, coder=None, most=model.FIELD):
+    """An encoding of a tree, and the tree with the elements of each SET OF in the order in which they are sent. It is a permitted one if no more
+    octets than document 02 allows, `most`, may stand behind a first length octet.
 
-    One for a coder keeps to what that coder reads. For pyasn1: at most 8 length octets; no SET and nothing empty of indefinite length; in a
-    segment others only if its length is indefinite. For both: not without segments, and in a segment of a BIT STRING no other."""
+    One for a coder keeps to what that coder reads. For pyasn1: no SET and nothing empty of indefinite length; in a segment others only if its
+    length is indefinite. For both: not without segments, and in a segment of a BIT STRING no other."""
     tame = coder == 'pyasn1'
-    most = 8 if tame else 126
     kind, own = tree
     explicit, mine = model.identifiers(records[t])
     rules = records[t][2]
     if kind == CHOICE:
-        m, kid = encoding(R, records, rules[own[0]], own[1], coder)
+        m, kid = encoding(R, records, rules[own[0]], own[1], coder, most)
         sent = own[0], kid
     elif kind in MEMBERS:
-        parts = [(j,) + encoding(R, records, a, x, coder) for j, ((a, _), x) in enumerate(zip(rules, own)) if x is not None]
+        parts = [(j,) + encoding(R, records, a, x, coder, most) for j, ((a, _), x) in enumerate(zip(rules, own)) if x is not None]
         sent = [None] * len(own)
         for j, _, kid in parts:
             sent[j] = kid
@@ -246,14 +245,14 @@ def encoding(R, records, t, tree, coder=None):
             R.shuffle(parts)
         m = constructed(R, mine, b''.join(p for _, p, _ in parts), most, 0 if tame and (kind == SET or not parts) else .4)
     elif kind in LISTS:
-        parts = [encoding(R, records, rules[0], x, coder) for x in own]
+        parts = [encoding(R, records, rules[0], x, coder, most) for x in own]
         if kind == SET_OF:
             R.shuffle(parts)
         sent = [kid for _, kid in parts]
         m = constructed(R, mine, b''.join(p for p, _ in parts), most, 0 if tame and not parts else .4)
     elif kind in STRINGS and R.random() < .4:
         unused, c = own if kind == BIT_STRING else (0, own)
-        c, sent = segments(R, kind, unused, c, 1, coder), own
+        c, sent = segments(R, kind, unused, c, 1, coder, most), own
         m = constructed(R, bytes([mine[0] | 0x20]) + mine[1:], c, most, 0 if tame and not c else .4)
     else:
         c, sent = model.contents(kind, own), own
@@ -265,6 +264,15 @@ def encoding(R, records, t, tree, coder=None):
     for i in reversed(explicit):
         m = constructed(R, i, m, most)
     return m, (kind, sent)
+
+
+def over_field(R, records, t, tree, coder, most):
+    """An encoding with a length in more octets than is permitted, if any of a dozen has one."""
+    for _ in range(12):
+        m, sent = encoding(R, records, t, tree, coder, most)
+        if model.answer(lambda: model.read_tree(records, t, m))[:2] == ('no', 29):
+            break
+    return m, sent
 
 
 def items(m):
@@ -285,7 +293,7 @@ def items(m):
     return out
 
 
-def relengthened(R, m, most=126):
+def relengthened(R, m, most=model.FIELD):
     """A definite message with other permitted lengths."""
     def spelled(some):
         return b''.join(constructed(R, i, spelled(c), most) if isinstance(c, list) else i + length(R, len(c), most) + c for i, c in some)

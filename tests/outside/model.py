@@ -19,7 +19,7 @@ CONSTRUCTED = MEMBERS + LISTS
 STRINGS = (BIT_STRING, OCTET_STRING)
 TIMES = (UTC_TIME, GENERALIZED_TIME)
 LEVELS, MESSAGE, VALUE, TABLE, RECORDS = 24, 8192, 16384, 8192, 128
-DEEPEST = 4
+DEEPEST, FIELD = 4, 4
 
 
 class No(Exception):
@@ -484,6 +484,8 @@ class Reader:
         b, p = m[p], p + 1
         if b == 255 or (b == 128 and primitive):
             raise No(23, item)
+        if b > 128 + FIELD and not self.may('long field'):
+            raise No(29, item)
         if b == 128:
             return None, p
         n = b

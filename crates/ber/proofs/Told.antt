@@ -2,20 +2,23 @@
 -- Assumes nothing.
 use borrow.Author.Tests.{lt-ltb, le-ltb, le-leb, lt-leb, eq-eqb, ne-eqb}
 use lib.Dec.{ltb, leb, eqb}
-use lib.ListN.{length, getD, take, drop, length-append, length-drop, length-take, drop-of-length-le}
+use lib.ListN.{length, getD, take, drop, length-append, length-drop, length-take, drop-of-length-le, take-append-drop}
 use lib.Seq.{append-snoc, drop-cons, drop-append-seam, getD-drop, getD-take}
 use mathlib.Core.Bool.{true, false, true≢false, false≢true}
 use mathlib.Core.List.{List, [], _∷_, _++_}
 use mathlib.Core.Path.{_≡_, refl, sym, ap, _∙_}
 use native.Mathlib.Omega.{arith}
-use Prim.Native.Nat.{ℕ, suc, _+_, _-_, _*_, _/_, _%_, _≤_, _<_, min}
+use Prim.Native.Nat.{ℕ, suc, _+_, _-_, _*_, _%_, _≤_, _<_, min}
 use Rattle.octets.specs.declared.cause.Cause.{Cause}
-use Rattle.octets.specs.declared.cause.Cause.the-variants.{Cut, Forbidden}
+use Rattle.octets.specs.declared.cause.Cause.the-variants.{Cut, Forbidden, LengthField}
 use Rattle.octets.specs.Answer.{Answer, got, refused, then, if}
+use Rattle.octets.specs.Permutations.{AllOctets}
 use Rattle.octets.proofs.Answer.{got-holds, if-cases}
+use Rattle.octets.proofs.Tests.{test}
+use Rattle.octets.proofs.Permutations.{every-left, every-right}
 use Rattle.octets.proofs.Lists.{behind, length-behind}
 use Rattle.ber.specs.Codes.{spelled, codeOf}
-use Rattle.x690.specs.Length.{unsigned, Length as Octets, short, long}
+use Rattle.x690.specs.Length.{unsigned, longestField, Length as Octets, short, long}
 use Rattle.x690.specs.Reading.{readFollowing, readIdentifier, Size, definite, indefinite, readLength, readLong, fit}
 use Rattle.ber.specs.Told.{toldIdentifier, toldLength, Again}
 use Rattle.ber.specs.declared.identifier.Identifier.{Identifier}
@@ -24,7 +27,7 @@ use Rattle.ber.specs.declared.length.Length.{Length}
 use Rattle.ber.specs.declared.length.Length.the-variants.{Read as ReadLength, Refused as NoLength}
 use Rattle.ber.specs.declared.length.Extent.{Extent}
 use Rattle.x690.proofs.Identifiers.{identifier-sound, identifier-some}
-use Rattle.x690.proofs.Lengths.{length-sound, Shape, is-definite, is-indefinite}
+use Rattle.x690.proofs.Lengths.{counts, field, length-sound, Shape, is-definite, is-indefinite}
 use Rattle.ber.proofs.Places.{left-at, none-at, some-at, from-before}
 
 -- m is an identifier, as the code answers
@@ -123,11 +126,6 @@ unfolding unsigned
 unsigned-least n [] = omega arith
 unsigned-least n (d ∷ l) = let h = unsigned-least (n * 256 + d) l in omega arith
 
-unsigned-more : (n : ℕ) (l : List ℕ) → 0 < length l → n * 256 ≤ unsigned n l
-unfolding unsigned
-unsigned-more n [] h = absurd (omega arith)
-unsigned-more n (d ∷ l) h = let k = unsigned-least (n * 256 + d) l in omega arith
-
 -- length octets are at a place of m, as the code answers
 abbrev Here : List ℕ → ℕ → Length → Type 0
 Here m at r = (l : ℕ) → r ≡ toldLength (length m) (readLength l (drop at m))
@@ -154,17 +152,36 @@ module _ (m : List ℕ) (at : ℕ) where
 abbrev pub Digits : List ℕ → ℕ → ℕ → ℕ → ℕ → Type 0
 Digits m at k n i = unsigned 0 (take k (drop at m)) ≡ unsigned n (drop i (take k (drop at m)))
 
+-- what is in hand is no more than the length, and that is below 2^32
+pub digits-small : (m : List ℕ) (at k n i : ℕ) → k ≤ longestField → AllOctets m → Digits m at k n i → n < 4294967296
+digits-small m at k n i few o d =
+    let ds = take k (drop at m) in
+    let p : AllOctets ds = every-left ds (drop k (drop at m)) (rw (take-append-drop k (drop at m)) (every-right (take at m) (rw (take-append-drop at m) o))) in
+    let t : length ds ≤ longestField = simp length-take (omega arith) in
+    omega (arith, unsigned-least n (drop i ds), counts ds t p)
+
 -- behind a first octet of another form
 module _ (m : List ℕ) (at : ℕ) (some : 0 < at) (there : at ≤ length m) where
   pub length-open : getD m (at - 1) 0 ≡ 128 → Here m (at - 1) (ReadLength (record { start = at; end = length m; indefinite = true }))
   unfolding toldLength readLength if
   length-open e p = rw (from-before m at some there, e, left-at m at there)
 
-  pub length-reserved : getD m (at - 1) 0 ≡ 255 → Here m (at - 1) (NoLength Forbidden)
-  unfolding toldLength readLength if
-  length-reserved e p = rw (from-before m at some there, e)
+  module _ (over : longestField < getD m (at - 1) 0 - 128) where
+    over-field : (l : ℕ) → readLength l (drop (at - 1) m) ≡ if (ltb (getD m (at - 1) 0) 255) (refused LengthField l) λ _. refused Forbidden l
+    unfolding readLength if
+    over-field l =
+        let b = getD m (at - 1) 0 in
+        rw (from-before m at some there, le-ltb b 128 (omega arith), ne-eqb b 128 (λ e. omega arith), lt-leb (b - 128) longestField over)
 
-  module _ (k : ℕ) (k-some : 0 < k) (k-few : k < 127) (says : getD m (at - 1) 0 ≡ 128 + k) where
+    pub length-over : getD m (at - 1) 0 < 255 → Here m (at - 1) (NoLength LengthField)
+    unfolding toldLength if
+    length-over h l = rw (over-field l, lt-ltb (getD m (at - 1) 0) 255 h)
+
+    pub length-reserved : 255 ≤ getD m (at - 1) 0 → Here m (at - 1) (NoLength Forbidden)
+    unfolding toldLength if
+    length-reserved h l = rw (over-field l, le-ltb (getD m (at - 1) 0) 255 h)
+
+  module _ (k : ℕ) (k-some : 0 < k) (k-few : k ≤ longestField) (says : getD m (at - 1) 0 ≡ 128 + k) where
     long-form : (l : ℕ) → readLength l (drop (at - 1) m) ≡ readLong l k (drop at m)
     unfolding readLength if
     long-form l =
@@ -174,8 +191,8 @@ module _ (m : List ℕ) (at : ℕ) (some : 0 < at) (there : at ≤ length m) whe
           says,
           le-ltb (128 + k) 128 (omega arith),
           ne-eqb (128 + k) 128 (λ e. omega arith),
-          lt-ltb (128 + k) 255 (omega arith),
           z,
+          le-leb k longestField k-few,
         )
 
     pub length-few : length m - at < k → Here m (at - 1) (NoLength Cut)
@@ -209,13 +226,6 @@ module _ (m : List ℕ) (at : ℕ) (some : 0 < at) (there : at ≤ length m) whe
 
       pub length-long-no : (n i : ℕ) → Digits m at k n i → length m - at - k < n → Here m (at - 1) (NoLength Cut)
       length-long-no n i d g = let b = unsigned-least n (drop i (take k (drop at m))) in long-no (omega arith)
-
-      -- an octet more makes it too large
-      pub length-long-over : (n i : ℕ) → Digits m at k n i → i < k → (length m - at) / 256 < n → Here m (at - 1) (NoLength Cut)
-      length-long-over n i d j g =
-          let t : 0 < length (drop i (take k (drop at m))) = simp (length-drop, length-take) (omega arith) in
-          let b = unsigned-more n (drop i (take k (drop at m))) t in
-          long-no (omega arith)
 
       pub one-digit : (n i : ℕ) → i < k → Digits m at k n i → Digits m at k (n * 256 + getD m (at + i) 0) (i + 1)
       unfolding unsigned
@@ -265,7 +275,8 @@ length-faulty l [] = refl
 length-faulty l (b ∷ s) =
     if-cases (Faulty l) (ltb b 128) _ _ (λ e. fit-faulty l b s) λ e.
     if-cases (Faulty l) (eqb b 128) _ _ (λ e. tt) λ e.
-    if-cases (Faulty l) (ltb b 255) _ _ (λ e. long-faulty l (b - 128) s) λ e. refl
+    if-cases (Faulty l) (leb (b - 128) longestField) _ _ (λ e. long-faulty l (b - 128) s) λ e.
+    if-cases (Faulty l) (ltb b 255) _ _ (λ e. refl) λ e. refl
 
 pub the-refusal : {A : Type 0} {c : Cause} {l k : ℕ} (x : Answer A) → Faulty l x → x ≡ refused c k → x ≡ refused c l
 the-refusal {A} {c} {l} {k} x h e = let q : Faulty {A = A} l (refused c k) = rw e at h in e ∙ rw q
@@ -373,6 +384,22 @@ module _ (m : List ℕ) (at l : ℕ) where
           let es : e .start ≡ p = omega arith in
           let ew : w ≡ drop (e .start) m = y ∙ ap (λ (j : ℕ). drop j m) (sym es) in
           (x ∙ rw ew, omega arith, omega arith, t)
+
+      -- Document 02, [6]: the contents begin at most four octets behind the first length octet, and a definite length is below 2^32.
+      pub extent-field : AllOctets m → (e .start ≤ at + 5) × (e .indefinite ≡ false → e .end - e .start < 4294967296)
+      extent-field o = test (e .indefinite) (λ t. (few (length-indefinite t .0) (length-indefinite t .2), λ f. absurd (true≢false (sym t ∙ f))))
+          λ t. let (x, low, mid, high) = length-definite t in (few x (omega arith), λ _. small x)
+        where
+          rest : AllOctets (drop at m)
+          rest = every-right (take at m) (rw (take-append-drop at m) o)
+
+          few : {z : Size} → readLength l (drop at m) ≡ got z (drop (e .start) m) → e .start ≤ length m → e .start ≤ at + 5
+          few x h =
+              let (p, q, k, c) = got-holds (field l (drop at m) rest) x in
+              omega (arith, k, length-drop at m, length-drop (e .start) m, rw length-append at (ap length q))
+
+          small : {n : ℕ} → readLength l (drop at m) ≡ got (definite n) (drop (e .start) m) → n < 4294967296
+          small x = let (p, q, k, c) = got-holds (field l (drop at m) rest) x in c
 
     pub length-refused : (f : Cause) → r ≡ NoLength f → readLength l (drop at m) ≡ refused f l
     length-refused f d =

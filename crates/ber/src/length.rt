@@ -1,14 +1,18 @@
-// Length octets (X.690, 8.1.3). They are read in all forms, and put in the shortest definite one.
+// Length octets (X.690, 8.1.3). They are read in all forms that have at most four octets behind the first (document 02, [6]), and put in the
+// shortest definite one.
 ghost use mathlib.Core.Path.{_≡_};
 ghost use Prim.Native.Nat.{ℕ, _<_, _≤_, _+_, _-_};
 ghost use lib.ListN.{length, getD, drop};
 ghost use Rattle.octets.specs.Answer.{Answer};
 ghost use Rattle.octets.specs.Buffers.{put, putEnd};
-ghost use Rattle.x690.specs.Length.{lengthOctets};
+ghost use Rattle.x690.specs.Length.{longestField, lengthOctets};
 ghost use Rattle.x690.specs.Reading.{readLength};
 ghost use Rattle.ber.specs.Told.{toldLength, Again};
 use octets::cause::Cause;
 use octets::holds;
+
+// At most so many octets stand behind the first one.
+const LONGEST_FIELD: usize = 4;
 
 // Where the contents begin and end, and whether 00 00 closes them; then their end is that of m.
 pub struct Extent {
@@ -22,9 +26,9 @@ pub enum Length {
     Refused { cause: Cause },
 }
 
-// The long form with k octets from `at` on. The number never grows beyond what is left.
+// The long form with k octets from `at` on, which count less than 2^32.
 fn read_long(m: &[u8], at: usize, k: usize) -> Length
-    requires { ⌜ (0 < at) × (at ≤ length (now m)) × (0 < k) × (k < 127) × (getD (now m) (at - 1) 0 ≡ 128 + k) ⌝ }
+    requires { ⌜ (0 < at) × (at ≤ length (now m)) × (0 < k) × (k ≤ longestField) × (getD (now m) (at - 1) 0 ≡ 128 + k) ⌝ }
     ensures { λ r. ⌜ ((l : ℕ) → r ≡ toldLength (length (now (m .entry))) (readLength l (drop (at - 1) (now (m .entry))))) ⌝ }
 {
     let left = m.len() - at;
@@ -34,11 +38,9 @@ fn read_long(m: &[u8], at: usize, k: usize) -> Length
     let mut n: usize = 0;
     let mut i: usize = 0;
     while i < k {
-        if left / 256 < n {
-            return Length::Refused { cause: Cause::Cut };
-        }
         let p = at + i;
-        n = n * 256 + m[p] as usize;
+        let d = m[p] as usize;
+        n = n * 256 + d;
         i += 1;
     }
     if left - k < n {
@@ -65,12 +67,18 @@ fn read_other(m: &[u8], at: usize, first: usize) -> Length
             indefinite: true,
         });
     }
-    if first == 255 {
+    let k = first - 128;
+    if k <= LONGEST_FIELD {
+        return read_long(m, at, k);
+    }
+    if first < 255 {
         return Length::Refused {
-            cause: Cause::Forbidden,
+            cause: Cause::LengthField,
         };
     }
-    read_long(m, at, first - 128)
+    Length::Refused {
+        cause: Cause::Forbidden,
+    }
 }
 
 // The length octets at a place of m.

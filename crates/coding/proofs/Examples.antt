@@ -244,6 +244,12 @@ examples =
     ∷ reads L 0 (times 25 (hex 0x30_80)) (no 28 48)
     ∷ reads (hex 0x54_59_30_01_00_00_10_01_54_59_32_00_02_00_02_54_59_05_01_00_00_05) 0 (times 12 (hex 0x30_80) ++ hex 0x05) (no 28 24)
     ∷ reads L 0 (times 24 (hex 0x30_80) ++ replicate 48 0) (ok (nested 23))
+    -- "Messages", 29: a length of five octets, before any of them is looked for; after 24 and 28; of a segment; one of four octets is read
+    ∷ reads B 0 (hex 0x01_85) (no 29 0)
+    ∷ reads B 0 (hex 0x02_85) (no 24 0)
+    ∷ reads L 0 (times 24 (hex 0x30_80) ++ hex 0x30_85) (no 28 48)
+    ∷ reads O 0 (hex 0x24_80_04_85) (no 29 2)
+    ∷ reads B 0 (hex 0x01_84_00_00_00_01_FF) (ok yea)
     -- "Messages", strings in segments: four deep, and no fifth; cut, and of no segment; joined in order, the unused bits of the last one cleared
     ∷ reads O 0 (times 4 (hex 0x24_80) ++ hex 0x04_01_AA ++ replicate 8 0) (ok (hex 0x56_41_04_00_01_AA))
     ∷ reads O 0 (times 5 (hex 0x24_80) ++ hex 0x04_01_AA ++ replicate 10 0) (no 28 10)

@@ -34,7 +34,7 @@ use Rattle.coding.proofs.Form.{form-encodes}
 use Rattle.coding.proofs.Judging.{judge-whole, judge-octets}
 use Rattle.coding.proofs.Shaped.{Limited, encodes-shaped}
 use Rattle.coding.proofs.Equivalence.{equivalent-length}
-use Rattle.coding.proofs.Refusals.{OfMessage, is-22, is-23, is-24, is-25, is-26, is-28, OfValue, is-11, is-12, is-13, Says, Speaks, names, message-says, whole-says}
+use Rattle.coding.proofs.Refusals.{OfMessage, late, OfValue, is-11, is-12, is-13, Says, Speaks, names, message-says, whole-says}
 use Rattle.coding.proofs.Messages.{sound, message-complete, accepts-as-given}
 
 -- a value of four octets, of a message of three, in a buffer of four and of three
@@ -110,15 +110,7 @@ same-buffer e = ap (λ (o : Outcome). o .buffer) e
 -- none of these is 21 or 27, none of those 14
 
 message-other : {c d : Cause} → OfMessage c → c ≡ d → (causeNumber d ≡ 21 → ⊥) × (causeNumber d ≡ 27 → ⊥)
-message-other {d = d} i e = by i (ap causeNumber e)
-  where
-    by : {c : Cause} → OfMessage c → causeNumber c ≡ causeNumber d → (causeNumber d ≡ 21 → ⊥) × (causeNumber d ≡ 27 → ⊥)
-    by is-22 e = (λ f. omega arith, λ f. omega arith)
-    by is-23 e = (λ f. omega arith, λ f. omega arith)
-    by is-24 e = (λ f. omega arith, λ f. omega arith)
-    by is-25 e = (λ f. omega arith, λ f. omega arith)
-    by is-26 e = (λ f. omega arith, λ f. omega arith)
-    by is-28 e = (λ f. omega arith, λ f. omega arith)
+message-other i e = let h = late (subst OfMessage e i) in (λ f. omega (arith, h .0), h .1)
 
 value-other : {c d : Cause} → OfValue c → c ≡ d → causeNumber d ≡ 14 → ⊥
 value-other {d = d} i e f = by i (ap causeNumber e)
@@ -172,17 +164,9 @@ module _ (T : Table) (t : ℕ) (m buf : List ℕ) where
   pub read-staged : Octets m → Staged (reading T t m buf)
   read-staged o = by (read-stage o)
     where
-      late : {c : Cause} → OfMessage c → 21 ≤ causeNumber c
-      late is-22 = omega arith
-      late is-23 = omega arith
-      late is-24 = omega arith
-      late is-25 = omega arith
-      late is-26 = omega arith
-      late is-28 = omega arith
-
       by : {x : Outcome} → ReadStage T t m buf x → Staged x
       by (too-long h z) = staged-by (of-message MessageLength 0) (omega arith) z
-      by (refused-at c p i x z) = staged-by (of-message c p) (late i) z
+      by (refused-at c p i x z) = staged-by (of-message c p) (omega (arith, late i .0)) z
       by (no-room x z) = staged-by (of-message ValueRoom 0) (omega arith) z
       by (is-read k after x z) = λ r e. done≢refusal (sym (answers z) ∙ e)
 

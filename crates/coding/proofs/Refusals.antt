@@ -8,8 +8,9 @@ use native.Mathlib.Omega.{arith}
 use Prim.Native.Nat.{ℕ, zero, suc, _+_, _-_, _≤_, _<_}
 use lib.ListN.{length, take, drop, length-append, length-drop}
 use lib.Seq.{length-take-le}
+use Rattle.octets.specs.Causes.{causeNumber}
 use Rattle.octets.specs.declared.cause.Cause.{Cause}
-use Rattle.octets.specs.declared.cause.Cause.the-variants.{ValueShape, IllTyped, ValueLevel, Cut, Forbidden, NotAwaited, Contents, Trailing, MessageLevel}
+use Rattle.octets.specs.declared.cause.Cause.the-variants.{ValueShape, IllTyped, ValueLevel, Cut, Forbidden, NotAwaited, Contents, Trailing, MessageLevel, LengthField}
 use Rattle.octets.specs.Answer.{Answer, got, refused, then, if, behind}
 use Rattle.octets.specs.Permutations.{AllOctets, Order, as-given}
 use Rattle.octets.proofs.Answer.{Holds, yields, refuses, if-holds, then-holds, map-holds, behind-holds, got-holds, Taken}
@@ -50,6 +51,17 @@ pub data OfMessage : Cause → Type 0 where
   is-25 : OfMessage Contents
   is-26 : OfMessage Trailing
   is-28 : OfMessage MessageLevel
+  is-29 : OfMessage LengthField
+
+-- 21 and 27 are given outside the reading
+pub late : {c : Cause} → OfMessage c → (21 < causeNumber c) × (causeNumber c ≡ 27 → ⊥)
+late is-22 = (omega arith, λ e. omega arith)
+late is-23 = (omega arith, λ e. omega arith)
+late is-24 = (omega arith, λ e. omega arith)
+late is-25 = (omega arith, λ e. omega arith)
+late is-26 = (omega arith, λ e. omega arith)
+late is-28 = (omega arith, λ e. omega arith)
+late is-29 = (omega arith, λ e. omega arith)
 
 -- An answer that refuses names a cause that K allows, and a place where at most n octets are left.
 pub data Speaks {A : Type 0} (K : Cause → Type 0) (n : ℕ) : Answer A → Type 0 where
@@ -156,7 +168,8 @@ length-says n l [] h = names is-22 h
 length-says n l (b ∷ s) h =
     if-speaks _ (λ e. fit-says n l b s h) λ e _.
     if-speaks _ (λ e. answers) λ e _.
-    if-speaks _ (λ e. if-speaks _ (λ f. fit-says n l _ _ h) λ f _. names is-22 h) λ e _. names is-23 h
+    if-speaks _ (λ e. if-speaks _ (λ f. fit-says n l _ _ h) λ f _. names is-22 h) λ e _.
+    if-speaks _ (λ e. names is-29 h) λ e _. names is-23 h
 
 header-says : (i s : List ℕ) → Says (length s) (readHeader i s)
 unfolding readHeader

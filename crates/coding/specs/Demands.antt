@@ -39,7 +39,7 @@ pub record OfType (b : List ℕ) (t : ℕ) (P : Table → Type 0) : Type 0 where
   pub there : t < length records
   pub holds : P (table records)
 
--- 22 to 26, 28: the message is not over-long, and the reading of it refuses for this cause, so many octets before its end.
+-- 22 to 26, 28, 29: the message is not over-long, and the reading of it refuses for this cause, so many octets before its end.
 pub record MessageRefused (T : Table) (t : ℕ) (m : List ℕ) (c : Cause) (p : ℕ) : Type 0 where
   pub within : length m ≤ longestMessage
   pub left : ℕ

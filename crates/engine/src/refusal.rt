@@ -14,7 +14,7 @@ pub fn report_of(r: Refusal) -> Report
     ensures { λ p. ⌜
         (p .number ≡ numberOf r)
         × (p .place ≡ placeOf r)
-        × (p .number < 29)
+        × (p .number < 256)
         ⌝ }
 {
     match r {

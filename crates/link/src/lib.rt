@@ -10,7 +10,7 @@ use coding::Answer;
 use coding::Reckoned;
 
 fn join(high: u64, low: usize) -> u64
-    requires { ⌜ (high < 29) × (low < 65536) ⌝ }
+    requires { ⌜ (high < 256) × (low < 65536) ⌝ }
     ensures { λ r. ⌜ r ≡ high * 65536 + low ⌝ }
 {
     high * 65536 + low as u64

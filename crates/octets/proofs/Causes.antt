@@ -7,7 +7,7 @@ use lib.Dec.{eqb}
 use Rattle.octets.specs.Answer.{if}
 use Rattle.octets.specs.Causes.{Cause, causeNumber}
 use Rattle.octets.specs.Causes.{TableShape, NoRecord, WrongTag, ChoiceLoop, SharedTag, NoValue, NoType, ValueShape, IllTyped, ValueLevel, MessageRoom}
-use Rattle.octets.specs.Causes.{MessageLength, Cut, Forbidden, NotAwaited, Contents, Trailing, ValueRoom, MessageLevel}
+use Rattle.octets.specs.Causes.{MessageLength, Cut, Forbidden, NotAwaited, Contents, Trailing, ValueRoom, MessageLevel, LengthField}
 
 -- the cause with a number
 unfoldable numbered : ℕ → Cause
@@ -30,7 +30,8 @@ numbered n =
     if (eqb n 25) Contents λ _.
     if (eqb n 26) Trailing λ _.
     if (eqb n 27) ValueRoom λ _.
-    MessageLevel
+    if (eqb n 28) MessageLevel λ _.
+    LengthField
 
 numbered-back : (c : Cause) → numbered (causeNumber c) ≡ c
 unfolding numbered if
@@ -53,6 +54,7 @@ numbered-back Contents = refl
 numbered-back Trailing = refl
 numbered-back ValueRoom = refl
 numbered-back MessageLevel = refl
+numbered-back LengthField = refl
 
 pub same-cause : (c d : Cause) → causeNumber c ≡ causeNumber d → c ≡ d
 same-cause c d e = sym (numbered-back c) ∙ ap numbered e ∙ numbered-back d
@@ -61,6 +63,6 @@ same-cause c d e = sym (numbered-back c) ∙ ap numbered e ∙ numbered-back d
 pub never-0 : (c : Cause) → causeNumber c ≡ 0 → ⊥
 unfolding numbered if
 never-0 c e =
-    let s : MessageLevel ≡ c = sym (ap numbered e) ∙ numbered-back c in
-    let h : 28 ≡ causeNumber c = ap causeNumber s in
+    let s : LengthField ≡ c = sym (ap numbered e) ∙ numbered-back c in
+    let h : 29 ≡ causeNumber c = ap causeNumber s in
     omega arith

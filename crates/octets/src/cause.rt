@@ -12,6 +12,7 @@ pub enum Cause {
     Contents,
     Trailing,
     MessageLevel,
+    LengthField,
     MessageLength,
     ValueRoom,
     ValueShape,
@@ -29,7 +30,7 @@ pub enum Cause {
 
 // The number of a cause.
 pub fn cause_number(cause: Cause) -> u64
-    ensures { λ r. ⌜ (r ≡ causeNumber cause) × (r < 29) ⌝ }
+    ensures { λ r. ⌜ (r ≡ causeNumber cause) × (r < 256) ⌝ }
 {
     match cause {
         Cause::TableShape => 1,
@@ -51,5 +52,6 @@ pub fn cause_number(cause: Cause) -> u64
         Cause::Trailing => 26,
         Cause::ValueRoom => 27,
         Cause::MessageLevel => 28,
+        Cause::LengthField => 29,
     }
 }

@@ -8,6 +8,7 @@ use Prim.Native.Nat.{ℕ, zero, suc, _+_, _-_, _^_, _≤_, _<_}
 use lib.ListN.{length, take, drop, length-append, take-append-drop}
 use lib.Seq.{length-take-le, take-append-seam, drop-append-seam}
 use Rattle.octets.specs.declared.cause.Cause.{Cause}
+use Rattle.octets.specs.declared.cause.Cause.the-variants.{NotAwaited, LengthField}
 use Rattle.octets.specs.Answer.{Answer, got, refused, if, then, behind, none-left}
 use Rattle.octets.specs.Permutations.{AllOctets}
 use Rattle.octets.specs.Lists.{same}
@@ -15,10 +16,19 @@ use Rattle.octets.proofs.Answer.{Holds, yields, refuses, if-holds, then-holds, 
 use Rattle.octets.proofs.Permutations.{every-left, every-right}
 use Rattle.octets.proofs.Lists.{same-refl, same-true}
 use Rattle.x690.specs.Reading.{readIdentifier, Size, definite, indefinite, readLength, Mode, closed, open-ended, atEnd, readHeader, inside, readConstructed, contents, readPrimitive}
-use Rattle.x690.specs.Length.{Length, short, long, lengthOctets}
+use Rattle.x690.specs.Length.{longestField, Length, short, long, lengthOctets}
 use Rattle.x690.specs.Item.{Definite, sized, Constructed, in-size, in-marks, item}
 use Rattle.x690.proofs.Identifiers.{identifier-sound, Begun}
-use Rattle.x690.proofs.Lengths.{length-complete, length-sound, length-octets, Shape, is-definite, is-indefinite}
+use Rattle.x690.proofs.Lengths.{length-complete, length-sound, length-octets, Shape, is-definite, is-indefinite, Counted, field}
+
+-- an identifier that is not awaited, before a length of five octets; the same behind one that is
+header-24 : readHeader (0x01 ∷ []) (0x02 ∷ 0x85 ∷ []) ≡ refused NotAwaited 2
+unfolding if then same readIdentifier readHeader
+header-24 = refl
+
+header-29 : readHeader (0x01 ∷ []) (0x01 ∷ 0x85 ∷ []) ≡ refused LengthField 2
+unfolding if then same readIdentifier readLength readHeader
+header-29 = refl
 
 -- behind contents stands `tail`: the contents end there, and r follows
 pub data Ends : Mode → List ℕ → List ℕ → Type 0 where
@@ -140,6 +150,14 @@ header-sound i s =
     if-holds _ (λ f. refuses) λ f _.
     map-holds (length-sound _ u) (λ z r h. (u, rw (same-true i j (not-false (same i j) f)) e, h))
 
+-- Document 02, [6]: of a header that is accepted at most four octets stand behind the first length octet, and the length is below 2^32.
+pub header-field : (i s : List ℕ) → AllOctets s → Holds (λ z r. (m : List ℕ) × (s ≡ i ++ (m ++ r)) × (length m ≤ 5) × Counted z) (readHeader i s)
+unfolding readHeader
+header-field i s o =
+    then-holds (identifier-sound s) λ j u e.
+    if-holds _ (λ f. refuses) λ f _.
+    map-holds (field _ u (every-right j (rw e at o))) λ z r (m, q, few, small). (m, e ∙ rw (same-true i j (not-false (same i j) f), q), few, small)
+
 -- s is an item and then r, and its contents have C
 pub record Item (F : List ℕ → List ℕ → List ℕ → Type 0) (i : List ℕ) (C : List ℕ → Type 0) (s r : List ℕ) : Type 0 where
   pub item : List ℕ
@@ -201,9 +219,9 @@ module _ {A : Type 0} (C : A → List ℕ → Type 0) (body : Mode → List ℕ 
   unfolding readConstructed
   constructed-sound i s = then-holds (header-sound i s) (λ z w (u, e, h). inside-sound i s u z w e h)
 
--- in octets that a length of eight octets can count
+-- in octets that a length can count
 abbrev pub Short : List ℕ → Type 0
-Short m = length m < 256 ^ 8
+Short m = length m < 256 ^ longestField
 
 pub item-content : (i c : List ℕ) → Short (item i c) → Short c
 unfolding item

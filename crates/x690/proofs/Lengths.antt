@@ -1,24 +1,25 @@
--- Laws of length octets: what may be sent is read, what is read may be sent, what is written may be sent and is the shortest form.
+-- Laws of length octets: what may be sent is read, what is read may be sent, what is written may be sent and is the shortest form; of those that
+-- are read at most four stand behind the first, and the length is below 2^32.
 -- Assumes nothing.
-use borrow.Author.Tests.{ltb-true, ltb-false, leb-true, eqb-true, eqb-false, lt-ltb, le-ltb, le-leb, eq-eqb, ne-eqb}
-use mathlib.Core.Bool.{false}
+use borrow.Author.Tests.{ltb-true, ltb-false, leb-true, eqb-true, eqb-false, lt-ltb, le-ltb, le-leb, lt-leb, eq-eqb, ne-eqb}
+use mathlib.Core.Bool.{true, false}
 use mathlib.Core.List.{List, [], _∷_, _++_}
 use mathlib.Core.Path.{_≡_, refl, sym, ap, _∙_}
-use native.Mathlib.Nat.{pow-suc, div-add-mod', div-lt-iff-lt-mul}
+use native.Mathlib.Nat.{pow-suc, div-add-mod', div-lt-iff-lt-mul, lt-of-lt-of-le, pow-le-pow-right}
 use native.Mathlib.Omega.{arith}
 use Prim.Native.Nat.{ℕ, zero, suc, _+_, _-_, _*_, _/_, _%_, _^_, _≤_, _<_}
-use lib.Dec.{ltb, eqb}
+use lib.Dec.{ltb, leb, eqb}
 use lib.ListN.{length, take, length-append, take-append-drop}
 use lib.Seq.{length-take-le, take-append-seam, drop-append-seam}
-use Rattle.octets.specs.declared.cause.Cause.the-variants.{Cut, Forbidden}
+use Rattle.octets.specs.declared.cause.Cause.the-variants.{Cut, Forbidden, LengthField}
 use Rattle.octets.specs.Answer.{got, refused, if}
 use Rattle.octets.specs.Permutations.{AllOctets, every-cons}
-use Rattle.octets.proofs.Answer.{Holds, yields, refuses, if-holds, if-cases, run}
-use Rattle.octets.proofs.Permutations.{every-right}
-use Rattle.x690.specs.Length.{unsigned, Length, short, long, digits, lengthOctets}
+use Rattle.octets.proofs.Answer.{Holds, yields, refuses, if-holds, map-holds, if-cases, run}
+use Rattle.octets.proofs.Permutations.{every-left, every-right}
+use Rattle.x690.specs.Length.{unsigned, longestField, Length, short, long, digits, lengthOctets}
 use Rattle.x690.specs.Reading.{Size, definite, indefinite, fit, readLong, readLength}
 
--- 8.1.3: a length that fits, in both forms, and one that does not; the indefinite form; FF
+-- 8.1.3: a length that fits, in both forms, and one that does not; the indefinite form; 84 and 85 with all that they say, and cut; FE, FF
 length-fits : readLength 3 (0x01 ∷ 7 ∷ []) ≡ got (definite 1) (7 ∷ [])
 unfolding if fit readLength
 length-fits = refl
@@ -35,6 +36,26 @@ length-80 : readLength 2 (0x80 ∷ []) ≡ got indefinite []
 unfolding if readLength
 length-80 = refl
 
+length-84 : readLength 7 (0x84 ∷ 0 ∷ 0 ∷ 0 ∷ 1 ∷ 7 ∷ []) ≡ got (definite 1) (7 ∷ [])
+unfolding if unsigned fit readLong readLength
+length-84 = refl
+
+length-84-cut : readLength 5 (0x84 ∷ 0 ∷ 0 ∷ 0 ∷ []) ≡ refused Cut 5
+unfolding if readLong readLength
+length-84-cut = refl
+
+length-85 : readLength 8 (0x85 ∷ 0 ∷ 0 ∷ 0 ∷ 0 ∷ 1 ∷ 7 ∷ []) ≡ refused LengthField 8
+unfolding if unsigned fit readLong readLength
+length-85 = refl
+
+length-85-cut : readLength 2 (0x85 ∷ []) ≡ refused LengthField 2
+unfolding if readLong readLength
+length-85-cut = refl
+
+length-fe : readLength 2 (0xFE ∷ []) ≡ refused LengthField 2
+unfolding if readLong readLength
+length-fe = refl
+
 length-ff : readLength 2 (0xFF ∷ []) ≡ refused Forbidden 2
 unfolding if readLong readLength
 length-ff = refl
@@ -48,7 +69,7 @@ fit-sound : {s : List ℕ} (p n : ℕ) (m r : List ℕ) → s ≡ m ++ r → Len
 unfolding fit
 fit-sound p n m r e l = if-holds _ (λ t. yields (is-definite m e l (leb-true n (length r) t))) (λ t _. refuses)
 
-long-sound : (p b : ℕ) (s : List ℕ) → 128 < b → b < 255 → Holds (Shape (b ∷ s)) (readLong p (b - 128) s)
+long-sound : (p b : ℕ) (s : List ℕ) → 128 < b → b - 128 ≤ longestField → Holds (Shape (b ∷ s)) (readLong p (b - 128) s)
 unfolding readLong
 long-sound p b s h k =
     if-holds _
@@ -64,7 +85,8 @@ length-sound p [] = refuses
 length-sound p (b ∷ s) =
     if-holds _ (λ e. fit-sound p b (b ∷ []) s refl (short (ltb-true b 128 e) refl))
     λ n128 _. if-holds _ (λ e. yields (is-indefinite {r = s} (rw (eqb-true b 128 e) refl)))
-    λ e128 _. if-holds _ (λ e. long-sound p b s (above e128 (ltb-false b 128 n128)) (ltb-true b 255 e))
+    λ e128 _. if-holds _ (λ e. long-sound p b s (above e128 (ltb-false b 128 n128)) (leb-true (b - 128) longestField e))
+    λ few _. if-holds _ (λ e. refuses)
     λ e255 _. refuses
   where
     above : eqb b 128 ≡ false → 128 ≤ b → 128 < b
@@ -83,9 +105,8 @@ length-complete {n} l s (long ds h k v e) f =
       run,
       le-ltb b 128 (omega arith),
       ne-eqb b 128 (λ z. omega arith),
-      lt-ltb b 255
-          (omega arith),
       d,
+      le-leb (length ds) longestField k,
       readLong,
       le-leb _ _ i,
       take-append-seam ds s,
@@ -110,13 +131,36 @@ digits-few (suc k) (suc j) n l h =
     if-cases (λ x. length x ≤ suc j + length l) _ l (λ _. digits k (n / 256) (n % 256 ∷ l)) (λ e. omega arith)
     (λ e. let f = digits-few k j (n / 256) (n % 256 ∷ l) (div-lt-iff-lt-mul (omega arith) .1 (rw pow-suc at h)) in omega arith)
 
-unsigned-below : (i n : ℕ) (ds : List ℕ) → n < 256 ^ i → AllOctets ds → unsigned n ds < 256 ^ (i + length ds)
+pub unsigned-below : (i n : ℕ) (ds : List ℕ) → n < 256 ^ i → AllOctets ds → unsigned n ds < 256 ^ (i + length ds)
 unfolding unsigned
 unsigned-below i n [] h o = let e : i + 0 ≡ i = omega arith in rw e h
 unsigned-below i n (d ∷ ds) h (every-cons b o) =
     let f : n * 256 + d < 256 ^ suc i = rw pow-suc (omega arith) in
     let e : suc i + length ds ≡ i + suc (length ds) = omega arith in
     rw e at (unsigned-below (suc i) (n * 256 + d) ds f o)
+
+-- four octets count to 2^32
+pub counts : (ds : List ℕ) → length ds ≤ longestField → AllOctets ds → unsigned 0 ds < 4294967296
+counts ds k o =
+    let z : 0 + length ds ≡ length ds = omega arith in
+    lt-of-lt-of-le (rw z at (unsigned-below 0 0 ds (omega arith) o)) (pow-le-pow-right (omega arith) k)
+
+length-field : {n : ℕ} {m : List ℕ} → Length n m → AllOctets m → (length m ≤ 5) × (n < 4294967296)
+length-field (short h e) o = rw e (omega arith, omega arith)
+length-field (long ds h k v e) o = rw (e, ← v) (omega arith, counts ds k (every-right ((128 + length ds) ∷ []) (rw e at o)))
+
+-- a definite length is below 2^32
+abbrev pub Counted : Size → Type 0
+Counted (definite n) = n < 4294967296
+Counted indefinite = Unit {0}
+
+-- The promise of document 02, [6]: of length octets that are read at most four stand behind the first, and the length is below 2^32.
+pub field : (l : ℕ) (s : List ℕ) → AllOctets s → Holds (λ z r. (m : List ℕ) × (s ≡ m ++ r) × (length m ≤ 5) × Counted z) (readLength l s)
+field l s o = map-holds (length-sound l s) λ z r h. of-shape h
+  where
+    of-shape : {z : Size} {r : List ℕ} → Shape s z r → (m : List ℕ) × (s ≡ m ++ r) × (length m ≤ 5) × Counted z
+    of-shape {r = r} (is-definite m e l t) = let (few, small) = length-field l (every-left m r (rw e at o)) in (m, e, few, small)
+    of-shape (is-indefinite e) = (128 ∷ [], e, omega arith, tt)
 
 -- what is written is the shortest form that may be sent
 pub length-shortest : (n : ℕ) (m : List ℕ) → Length n m → AllOctets m → length (lengthOctets n) ≤ length m
@@ -127,11 +171,6 @@ length-shortest n m (long ds h k v e) o =
     let b : n < 256 ^ length ds = rw (v, z) at (unsigned-below 0 0 ds (omega arith) (every-right ((128 + length ds) ∷ []) (rw e at o))) in
     let f = digits-few 8 (length ds) n [] b in
     rw e (if-cases (λ (x : List ℕ). length x ≤ suc (length ds)) (ltb n 128) _ _ (λ t. omega arith) (λ t. omega arith))
-
-digits-most : (k n : ℕ) (l : List ℕ) → length (digits k n l) ≤ k + length l
-unfolding digits
-digits-most zero n l = omega arith
-digits-most (suc k) n l = if-cases (λ x. length x ≤ suc k + length l) _ l (λ _. digits k (n / 256) (n % 256 ∷ l)) (λ e. omega arith) (λ e. let h = digits-most k (n / 256) (n % 256 ∷ l) in omega arith)
 
 digits-least : (k n : ℕ) (l : List ℕ) → length l ≤ length (digits k n l)
 unfolding digits
@@ -144,8 +183,8 @@ some-digit n l = if-cases (λ (x : List ℕ). 1 ≤ length x) (eqb n 0) [] (λ _
     (λ e. let z = eqb-true n 0 e in absurd (omega arith)) (λ e. digits-least 7 (n / 256) (n % 256 ∷ []))
 
 -- what is written may be sent
-pub length-octets : (n : ℕ) → n < 256 ^ 8 → Length n (lengthOctets n)
+pub length-octets : (n : ℕ) → n < 256 ^ longestField → Length n (lengthOctets n)
 unfolding lengthOctets unsigned
 length-octets n h =
     if-cases (λ m. Length n m) _ _ _ (λ e. short (ltb-true n 128 e) refl)
-    (λ e. long (digits 8 n []) (some-digit n (ltb-false n 128 e)) (let k = digits-most 8 n [] in omega arith) (digits-unsigned 8 n [] h) refl)
+    (λ e. long (digits 8 n []) (some-digit n (ltb-false n 128 e)) (let k = digits-few 8 longestField n [] h in omega arith) (digits-unsigned 8 n [] (omega arith)) refl)

@@ -6,7 +6,7 @@ use mathlib.Core.List.{List, [], _∷_}
 use mathlib.Core.Option.{some}
 use mathlib.Core.Path.{_≡_, refl}
 use Prim.Native.Nat.{ℕ}
-use Rattle.octets.specs.declared.cause.Cause.the-variants.{Cut, Forbidden, NotAwaited, Contents, MessageLevel}
+use Rattle.octets.specs.declared.cause.Cause.the-variants.{Cut, Forbidden, NotAwaited, Contents, MessageLevel, LengthField}
 use Rattle.octets.specs.Answer.{Answer, got, refused, if, then, behind, none-left}
 use Rattle.octets.specs.Lists.{same}
 use Rattle.x690.specs.BitString.{unused}
@@ -47,6 +47,9 @@ pub cases-read :
     -- a primitive segment has contents of its kind, and no indefinite length
     × (bits (0x23 ∷ 0x02 ∷ 0x03 ∷ 0x00 ∷ []) ≡ refused Contents 2)
     × (octets (0x24 ∷ 0x80 ∷ 0x04 ∷ 0x80 ∷ []) ≡ refused Forbidden 2)
+    -- nor a length of five octets, primitive or not
+    × (octets (0x24 ∷ 0x80 ∷ 0x04 ∷ 0x85 ∷ []) ≡ refused LengthField 2)
+    × (octets (0x24 ∷ 0x80 ∷ 0x24 ∷ 0x85 ∷ []) ≡ refused LengthField 2)
     -- no segment at all
     × (octets (0x24 ∷ 0x00 ∷ []) ≡ got [] [])
     × (bits (0x23 ∷ 0x80 ∷ 0x00 ∷ 0x00 ∷ []) ≡ got (0x00 ∷ []) [])
@@ -54,7 +57,7 @@ pub cases-read :
     × (octets (0x24 ∷ 0x02 ∷ 0x00 ∷ 0x00 ∷ []) ≡ refused NotAwaited 2)
 unfolding if then behind none-left same unused leading identifier segmentTag inParts empty join inForm whole readFollowing readIdentifier passes fit
     readLength atEnd readHeader inside readConstructed contents readPrimitive readJoined readSegment readCarried
-cases-read = (refl, refl, refl, refl, refl, refl, refl, refl, refl, refl, refl, refl, refl, refl, refl, refl, refl, refl)
+cases-read = (refl, refl, refl, refl, refl, refl, refl, refl, refl, refl, refl, refl, refl, refl, refl, refl, refl, refl, refl, refl)
 
 -- the tests by which segments are told, on their own tags and on no segment
 pub awaits : (k : Kind) (t : Bool) → (same (segmentTag k false) (segmentTag k t) || same (segmentTag k true) (segmentTag k t)) ≡ true

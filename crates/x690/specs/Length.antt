@@ -12,10 +12,14 @@ unfoldable pub unsigned : ℕ → List ℕ → ℕ
 unsigned n [] = n
 unsigned n (d ∷ ds) = unsigned (n * 256 + d) ds
 
--- 8.1.3.4, 8.1.3.5: m is a definite form of the length n; the long form has 1 to 126 octets behind the first, zeros in front included
+-- document 02, [6]: at most four octets stand behind the first one
+abbrev pub longestField : ℕ
+longestField = 4
+
+-- 8.1.3.4, 8.1.3.5: m is a definite form of the length n; in the long form zeros may stand in front
 pub data Length (n : ℕ) (m : List ℕ) : Type 0 where
   short : n < 128 → m ≡ n ∷ [] → Length n m
-  long : (ds : List ℕ) → 1 ≤ length ds → length ds ≤ 126 → unsigned 0 ds ≡ n → m ≡ (128 + length ds) ∷ ds → Length n m
+  long : (ds : List ℕ) → 1 ≤ length ds → length ds ≤ longestField → unsigned 0 ds ≡ n → m ≡ (128 + length ds) ∷ ds → Length n m
 
 -- the digits of n to the base 256, at most k, before those in hand
 unfoldable pub digits : ℕ → ℕ → List ℕ → List ℕ

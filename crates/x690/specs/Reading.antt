@@ -1,4 +1,4 @@
--- The reading of items: identifier octets, length octets, contents and their end, with the refusals 22, 23 and 24 and their places
+-- The reading of items: identifier octets, length octets, contents and their end, with the refusals 22, 23, 24 and 29 and their places
 -- (X.690, 8.1; FORMATS, "Order of refusals").
 -- Assumes nothing.
 use mathlib.Core.List.{List, [], _∷_, _++_}
@@ -6,9 +6,9 @@ use mathlib.Core.Bool.{Bool, false, not}
 use Prim.Native.Nat.{ℕ, suc, _+_, _%_, _-_}
 use lib.Dec.{ltb, eqb, leb}
 use lib.ListN.{length, getD, take, drop}
-use Rattle.octets.specs.declared.cause.Cause.the-variants.{TableShape, Cut, Forbidden, NotAwaited}
+use Rattle.octets.specs.declared.cause.Cause.the-variants.{TableShape, Cut, Forbidden, NotAwaited, LengthField}
 use Rattle.octets.specs.Answer.{Answer, got, refused, then, if, behind, none-left}
-use Rattle.x690.specs.Length.{unsigned}
+use Rattle.x690.specs.Length.{unsigned, longestField}
 use Rattle.octets.specs.Lists.{same}
 
 -- the octets up to and with the first below 128, after those in hand; l octets are left where the item begins
@@ -46,13 +46,14 @@ fit l n s = if (leb n (length s)) (got (definite n) s) λ _. refused Cut l
 unfoldable pub readLong : ℕ → ℕ → List ℕ → Answer Size
 readLong l k s = if (leb k (length s)) (fit l (unsigned 0 (take k s)) (drop k s)) λ _. refused Cut l
 
--- the length octets are there (22); a first octet FF is refused as soon as it is read (23)
+-- the length octets are there (22); a first octet FF (23), or one that says more octets than may follow (29), is refused as soon as it is read
 unfoldable pub readLength : ℕ → List ℕ → Answer Size
 readLength l [] = refused Cut l
 readLength l (b ∷ s) =
     if (ltb b 128) (fit l b s) λ _.
     if (eqb b 128) (got indefinite s) λ _.
-    if (ltb b 255) (readLong l (b - 128) s) λ _.
+    if (leb (b - 128) longestField) (readLong l (b - 128) s) λ _.
+    if (ltb b 255) (refused LengthField l) λ _.
     refused Forbidden l
 
 -- contents that end where their octets do, or contents that 00 00 closes
@@ -70,7 +71,7 @@ atEnd open-ended s f x =
     if (not (eqb (getD s 1 0) 0)) (refused Forbidden (length s)) λ _.
     f (drop 2 s)
 
--- the identifier octets (22, 23), awaited (24), the length octets (22, 23)
+-- the identifier octets (22, 23), awaited (24), the length octets (22, 23, 29)
 unfoldable pub readHeader : List ℕ → List ℕ → Answer Size
 readHeader i s =
     then (readIdentifier s) λ j s₁.

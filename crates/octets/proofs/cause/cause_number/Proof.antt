@@ -28,6 +28,7 @@ cause-number-spec =
     (λ c. search needs)  -- enum-told-17
     (λ c. search needs)  -- enum-told-18
     (λ c. search needs)  -- enum-told-19
+    (λ c. search needs)  -- enum-told-20
     (λ c. (rw (c .enum-told .given .1), omega arith))  -- returns
     (λ c. (rw (c .enum-told2 .given .1), omega arith))  -- returns-2
     (λ c. (rw (c .enum-told3 .given .1), omega arith))  -- returns-3
@@ -46,4 +47,5 @@ cause-number-spec =
     (λ c. (rw (c .enum-told16 .given .1), omega arith))  -- returns-16
     (λ c. (rw (c .enum-told17 .given .1), omega arith))  -- returns-17
     (λ c. (rw (c .enum-told18 .given .1), omega arith))  -- returns-18
-    (λ c. (rw (c .enum-told19 .given .1), omega arith)))  -- returns-19
+    (λ c. (rw (c .enum-told19 .given .1), omega arith))  -- returns-19
+    (λ c. (rw (c .enum-told20 .given .1), omega arith)))  -- returns-20
