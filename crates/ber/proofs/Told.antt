@@ -2,8 +2,8 @@
 -- Assumes nothing.
 use borrow.Author.Tests.{lt-ltb, le-ltb, le-leb, lt-leb, eq-eqb, ne-eqb}
 use lib.Dec.{ltb, leb, eqb}
-use lib.ListN.{length, getD, take, drop, length-append, length-drop, length-take, drop-of-length-le, take-append-drop}
-use lib.Seq.{append-snoc, drop-cons, drop-append-seam, getD-drop, getD-take}
+use lib.ListN.{length, getD, take, drop, length-append, length-drop, length-take, take-append-drop}
+use lib.Seq.{append-snoc, drop-append-seam, drop-drop}
 use mathlib.Core.Bool.{true, false, true≢false, false≢true}
 use mathlib.Core.List.{List, [], _∷_, _++_}
 use mathlib.Core.Path.{_≡_, refl, sym, ap, _∙_}
@@ -148,17 +148,29 @@ module _ (m : List ℕ) (at : ℕ) where
       let g : length (drop (at + 1) m) < getD m at 0 = rw length-drop (omega arith) in
       rw (some-at m at h, lt-ltb (getD m at 0) 128 l, lt-leb (getD m at 0) (length (drop (at + 1) m)) g)
 
--- the k octets of a number, of which i are read and spell n
+-- The k octets of a number that stand at a place: those before p are read, and spell n.
 abbrev pub Digits : List ℕ → ℕ → ℕ → ℕ → ℕ → Type 0
-Digits m at k n i = unsigned 0 (take k (drop at m)) ≡ unsigned n (drop i (take k (drop at m)))
+Digits m at k n p = unsigned 0 (take k (drop at m)) ≡ unsigned n (take (at + k - p) (drop p m))
 
--- what is in hand is no more than the length, and that is below 2^32
-pub digits-small : (m : List ℕ) (at k n i : ℕ) → k ≤ longestField → AllOctets m → Digits m at k n i → n < 4294967296
-digits-small m at k n i few o d =
-    let ds = take k (drop at m) in
-    let p : AllOctets ds = every-left ds (drop k (drop at m)) (rw (take-append-drop k (drop at m)) (every-right (take at m) (rw (take-append-drop at m) o))) in
-    let t : length ds ≤ longestField = simp length-take (omega arith) in
-    omega (arith, unsigned-least n (drop i ds), counts ds t p)
+module _ (m : List ℕ) (at k : ℕ) where
+  pub no-digit : Digits m at k 0 at
+  no-digit = let e : at + k - at ≡ k = omega arith in rw e refl
+
+  pub one-digit : (n p : ℕ) → p < at + k → p < length m → Digits m at k n p → Digits m at k (n * 256 + getD m p 0) (p + 1)
+  unfolding unsigned
+  one-digit n p h t d = let e : at + k - p ≡ suc (at + k - (p + 1)) = omega arith in d ∙ rw (e, some-at m p t) refl
+
+  pub all-digits : (n p : ℕ) → at + k ≤ p → Digits m at k n p → unsigned 0 (take k (drop at m)) ≡ n
+  unfolding unsigned
+  all-digits n p h d = let e : at + k - p ≡ 0 = omega arith in d ∙ rw e refl
+
+  -- what is in hand is no more than the length, and that is below 2^32
+  pub digits-small : (n p : ℕ) → k ≤ longestField → AllOctets m → Digits m at k n p → n < 4294967296
+  digits-small n p few o d =
+      let ds = take k (drop at m) in
+      let octets : AllOctets ds = every-left ds (drop k (drop at m)) (rw (take-append-drop k (drop at m)) (every-right (take at m) (rw (take-append-drop at m) o))) in
+      let t : length ds ≤ longestField = simp length-take (omega arith) in
+      omega (arith, unsigned-least n (take (at + k - p) (drop p m)), counts ds t octets)
 
 -- behind a first octet of another form
 module _ (m : List ℕ) (at : ℕ) (some : 0 < at) (there : at ≤ length m) where
@@ -195,45 +207,30 @@ module _ (m : List ℕ) (at : ℕ) (some : 0 < at) (there : at ≤ length m) whe
           le-leb k longestField k-few,
         )
 
-    pub length-few : length m - at < k → Here m (at - 1) (NoLength Cut)
+    pub length-few : length m < at + k → Here m (at - 1) (NoLength Cut)
     unfolding toldLength readLong if
     length-few f l =
-        let g : length (drop at m) < k = rw length-drop f in
+        let g : length (drop at m) < k = rw length-drop (omega arith) in
         rw (long-form l, lt-leb k (length (drop at m)) g)
 
-    module _ (f : k ≤ length m - at) where
-      whole-form : (l : ℕ) → readLength l (drop (at - 1) m) ≡ fit l (unsigned 0 (take k (drop at m))) (drop k (drop at m))
+    module _ (f : at + k ≤ length m) (n : ℕ) (spells : unsigned 0 (take k (drop at m)) ≡ n) where
+      whole-form : (l : ℕ) → readLength l (drop (at - 1) m) ≡ fit l n (drop (at + k) m)
       unfolding readLong if
       whole-form l =
-          let g : k ≤ length (drop at m) = rw length-drop f in
-          rw (long-form l, le-leb k (length (drop at m)) g)
+          let g : k ≤ length (drop at m) = rw length-drop (omega arith) in
+          rw (long-form l, le-leb k (length (drop at m)) g, spells, drop-drop k at m)
 
-      behind-long : length (drop k (drop at m)) ≡ length m - at - k
-      behind-long = length-drop k (drop at m) ∙ rw (length-drop at m)
-
-      pub length-long : (n i : ℕ) → Digits m at k n i → k ≤ i → n ≤ length m - at - k
-          → Here m (at - 1) (ReadLength (record { start = at + k; end = at + k + n; indefinite = false }))
-      unfolding toldLength fit if unsigned
-      length-long n i d e g l =
-          let t : length (take k (drop at m)) ≤ i = simp length-take (omega arith) in
-          let q : unsigned 0 (take k (drop at m)) ≡ n = d ∙ ap (unsigned n) (drop-of-length-le (take k (drop at m)) t) in
-          let w : length m - (length m - at - k) ≡ at + k = omega arith in
-          rw (whole-form l, q, behind-long, le-leb n (length m - at - k) g, behind-long, w)
-
-      long-no : length m - at - k < unsigned 0 (take k (drop at m)) → Here m (at - 1) (NoLength Cut)
+      pub length-long : at + k + n ≤ length m → Here m (at - 1) (ReadLength (record { start = at + k; end = at + k + n; indefinite = false }))
       unfolding toldLength fit if
-      long-no w l = rw (whole-form l, behind-long, lt-leb _ _ w)
+      length-long g l =
+          let h : n ≤ length (drop (at + k) m) = rw length-drop (omega arith) in
+          rw (whole-form l, le-leb n (length (drop (at + k) m)) h, left-at m (at + k) f)
 
-      pub length-long-no : (n i : ℕ) → Digits m at k n i → length m - at - k < n → Here m (at - 1) (NoLength Cut)
-      length-long-no n i d g = let b = unsigned-least n (drop i (take k (drop at m))) in long-no (omega arith)
-
-      pub one-digit : (n i : ℕ) → i < k → Digits m at k n i → Digits m at k (n * 256 + getD m (at + i) 0) (i + 1)
-      unfolding unsigned
-      one-digit n i j d =
-          let t : i < length (take k (drop at m)) = simp (length-take, length-drop) (omega arith) in
-          let e : getD (take k (drop at m)) i 0 ≡ getD m (at + i) 0 = getD-take k (drop at m) i 0 j ∙ getD-drop at m i 0 in
-          let q : i + 1 ≡ suc i = omega arith in
-          d ∙ ap (unsigned n) (drop-cons (take k (drop at m)) i 0 t) ∙ rw (e, q)
+      pub length-long-no : length m < at + k + n → Here m (at - 1) (NoLength Cut)
+      unfolding toldLength fit if
+      length-long-no g l =
+          let h : length (drop (at + k) m) < n = rw length-drop (omega arith) in
+          rw (whole-form l, lt-leb n (length (drop (at + k) m)) h)
 
 -- the place of a refusal is where l octets are left
 abbrev pub Faulty : {A : Type 0} → ℕ → Answer A → Type 0
@@ -385,7 +382,7 @@ module _ (m : List ℕ) (at l : ℕ) where
           let ew : w ≡ drop (e .start) m = y ∙ ap (λ (j : ℕ). drop j m) (sym es) in
           (x ∙ rw ew, omega arith, omega arith, t)
 
-      -- Document 02, [6]: the contents begin at most four octets behind the first length octet, and a definite length is below 2^32.
+      -- Document 02, [6]: at most four octets stand between the first length octet and the contents, and a definite length is below 2^32.
       pub extent-field : AllOctets m → (e .start ≤ at + 5) × (e .indefinite ≡ false → e .end - e .start < 4294967296)
       extent-field o = test (e .indefinite) (λ t. (few (length-indefinite t .0) (length-indefinite t .2), λ f. absurd (true≢false (sym t ∙ f))))
           λ t. let (x, low, mid, high) = length-definite t in (few x (omega arith), λ _. small x)

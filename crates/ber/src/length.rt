@@ -31,23 +31,21 @@ fn read_long(m: &[u8], at: usize, k: usize) -> Length
     requires { ⌜ (0 < at) × (at ≤ length (now m)) × (0 < k) × (k ≤ longestField) × (getD (now m) (at - 1) 0 ≡ 128 + k) ⌝ }
     ensures { λ r. ⌜ ((l : ℕ) → r ≡ toldLength (length (now (m .entry))) (readLength l (drop (at - 1) (now (m .entry))))) ⌝ }
 {
-    let left = m.len() - at;
-    if left < k {
+    let start = at + k;
+    if m.len() < start {
         return Length::Refused { cause: Cause::Cut };
     }
     let mut n: usize = 0;
-    let mut i: usize = 0;
-    while i < k {
-        let p = at + i;
+    let mut p = at;
+    while p < start {
         let d = m[p] as usize;
         n = n * 256 + d;
-        i += 1;
+        p += 1;
     }
-    if left - k < n {
+    let end = start + n;
+    if m.len() < end {
         return Length::Refused { cause: Cause::Cut };
     }
-    let start = at + k;
-    let end = start + n;
     Length::Read(Extent {
         start,
         end,

@@ -53,7 +53,7 @@ pub data OfMessage : Cause → Type 0 where
   is-28 : OfMessage MessageLevel
   is-29 : OfMessage LengthField
 
--- 21 and 27 are given outside the reading
+-- none of them is 21 or 27, which are given outside the reading
 pub late : {c : Cause} → OfMessage c → (21 < causeNumber c) × (causeNumber c ≡ 27 → ⊥)
 late is-22 = (omega arith, λ e. omega arith)
 late is-23 = (omega arith, λ e. omega arith)

@@ -23,7 +23,7 @@ use Rattle.x690.proofs.Lengths.{length-complete, length-sound, length-o
 
 -- an identifier that is not awaited, before a length of five octets; the same behind one that is
 header-24 : readHeader (0x01 ∷ []) (0x02 ∷ 0x85 ∷ []) ≡ refused NotAwaited 2
-unfolding if then same readIdentifier readHeader
+unfolding if then same readIdentifier readLength readHeader
 header-24 = refl
 
 header-29 : readHeader (0x01 ∷ []) (0x01 ∷ 0x85 ∷ []) ≡ refused LengthField 2
