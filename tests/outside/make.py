@@ -224,8 +224,8 @@ def segments(R, kind, unused, c, depth, coder, most):
 
 
 def encoding(R, records, t, tree, coder=None, most=model.FIELD):
-    """An encoding of a tree, and the tree with the elements of each SET OF in the order in which they are sent. It is a permitted one if no more
-    octets than document 02 allows, `most`, may stand behind a first length octet.
+    """An encoding of a tree, and the tree with the elements of each SET OF in the order in which they are sent. At most so many octets stand
+    behind a first length octet; by default as many as are permitted.
 
     One for a coder keeps to what that coder reads. For pyasn1: no SET and nothing empty of indefinite length; in a segment others only if its
     length is indefinite. For both: not without segments, and in a segment of a BIT STRING no other."""
