@@ -1,8 +1,4 @@
 // Times: a date and a time of day by Gregory's calendar, with no table and no encoding in them (FORMATS, "Times").
-pub mod calendar;
-pub mod century;
-pub mod own;
-pub mod seconds;
 
 // What a time is given as: the year of a UTCTime has two digits, that of a GeneralizedTime four.
 pub enum TimeKind {

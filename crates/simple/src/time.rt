@@ -8,9 +8,9 @@ ghost use Rattle.octets.specs.Buffers.{filled};
 ghost use Rattle.dates.specs.Calendar.{years, inRange};
 ghost use Rattle.x690.specs.Time.{twoDigits, yearDigits, laterDigits, timeDigits, timeSize, timeOf, isTime};
 ghost use Rattle.simple.specs.Times.{isDigit, pairAt, yearSize, yearIn, timeFrom, timeRead, lastDigits};
+use clock::calendar::in_range;
 use dates::DateTime;
 use dates::TimeKind;
-use dates::calendar::in_range;
 
 // How many octets a time of a kind has.
 pub fn size(kind: TimeKind) -> usize

@@ -5,12 +5,12 @@ ghost use Rattle.coding.specs.declared.Refusal.the-variants.{Value};
 ghost use Rattle.coding.specs.declared.Answer.the-variants.{Refused};
 ghost use Rattle.coding.specs.Conversion.{otherKind, counterpart as Conversion·counterpart, wholeConversion, wholeToGeneralized, wholeToUtc};
 use crate::node;
+use clock::century;
 use coding::Answer;
 use coding::Given;
 use coding::Refusal;
 use dates::DateTime;
 use dates::TimeKind;
-use dates::century;
 use octets::cause::Cause;
 
 fn other_kind(kind: TimeKind) -> TimeKind

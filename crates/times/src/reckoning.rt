@@ -5,11 +5,11 @@ ghost use Rattle.coding.specs.declared.Refusal.the-variants.{Value};
 ghost use Rattle.coding.specs.declared.Reckoned.the-variants.{Refused};
 ghost use Rattle.coding.specs.Reckoning.{wholeOrder, wholeSeconds};
 use crate::node::given;
+use clock::seconds;
 use coding::Given;
 use coding::Reckoned;
 use coding::Refusal;
 use dates::TimeKind;
-use dates::seconds;
 use octets::cause::Cause;
 
 fn refuse(cause: Cause) -> Reckoned
