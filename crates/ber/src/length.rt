@@ -3,7 +3,6 @@
 ghost use mathlib.Core.Path.{_≡_};
 ghost use Prim.Native.Nat.{ℕ, _<_, _≤_, _+_, _-_};
 ghost use lib.ListN.{length, getD, drop};
-ghost use Rattle.octets.specs.Answer.{Answer};
 ghost use Rattle.octets.specs.Buffers.{put, putEnd};
 ghost use Rattle.x690.specs.Length.{longestField, lengthOctets};
 ghost use Rattle.x690.specs.Reading.{readLength};

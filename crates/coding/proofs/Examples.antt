@@ -1,7 +1,7 @@
 -- Document 01's examples in one table that one fact covers: what the definitions answer to octets, and what the lent buffer then holds.
 -- The rows that the paper marks come first, then a row or more for each refusal, then strings in segments, then times; reckonings with times and conversions of them have tables of their own (`Reckoning`, `Conversion`). Quoted words are sections of docs/FORMATS.md.
 -- Assumes nothing.
-use mathlib.Core.Bool.{Bool, true, false}
+use mathlib.Core.Bool.{Bool}
 use mathlib.Core.List.{List, [], _∷_, _++_}
 use mathlib.Core.Path.{_≡_, refl}
 use Prim.Native.Nat.{ℕ, suc, _/_}

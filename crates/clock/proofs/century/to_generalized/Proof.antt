@@ -1,7 +1,6 @@
 -- `clock::century::to_generalized` meets its contract: by the formula of the window's years.
 -- Assumes nothing.
 use borrow.Author.Needs.{needs}
-use mathlib.Core.Path.{_∙_}
 use Rattle.dates.specs.Century.{windowYear, toGeneralized}
 use Rattle.clock.proofs.century.to_generalized.Statement.{statement}
 use Rattle.clock.proofs.century.to_generalized.Tie as tie
