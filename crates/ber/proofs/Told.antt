@@ -148,6 +148,9 @@ module _ (m : List ℕ) (at : ℕ) where
       let g : length (drop (at + 1) m) < getD m at 0 = rw length-drop (omega arith) in
       rw (some-at m at h, lt-ltb (getD m at 0) 128 l, lt-leb (getD m at 0) (length (drop (at + 1) m)) g)
 
+octets-from : (m : List ℕ) (at : ℕ) → AllOctets m → AllOctets (drop at m)
+octets-from m at o = every-right (take at m) (rw (take-append-drop at m) o)
+
 -- The k octets of a number that stand at a place: those before p are read, and spell n.
 abbrev pub Digits : List ℕ → ℕ → ℕ → ℕ → ℕ → Type 0
 Digits m at k n p = unsigned 0 (take k (drop at m)) ≡ unsigned n (take (at + k - p) (drop p m))
@@ -168,7 +171,7 @@ module _ (m : List ℕ) (at k : ℕ) where
   pub digits-small : (n p : ℕ) → k ≤ longestField → AllOctets m → Digits m at k n p → n < 4294967296
   digits-small n p few o d =
       let ds = take k (drop at m) in
-      let octets : AllOctets ds = every-left ds (drop k (drop at m)) (rw (take-append-drop k (drop at m)) (every-right (take at m) (rw (take-append-drop at m) o))) in
+      let octets : AllOctets ds = every-left ds (drop k (drop at m)) (rw (take-append-drop k (drop at m)) (octets-from m at o)) in
       let t : length ds ≤ longestField = simp length-take (omega arith) in
       omega (arith, unsigned-least n (take (at + k - p) (drop p m)), counts ds t octets)
 
@@ -387,16 +390,13 @@ module _ (m : List ℕ) (at l : ℕ) where
       extent-field o = test (e .indefinite) (λ t. (few (length-indefinite t .0) (length-indefinite t .2), λ f. absurd (true≢false (sym t ∙ f))))
           λ t. let (x, low, mid, high) = length-definite t in (few x (omega arith), λ _. small x)
         where
-          rest : AllOctets (drop at m)
-          rest = every-right (take at m) (rw (take-append-drop at m) o)
-
           few : {z : Size} → readLength l (drop at m) ≡ got z (drop (e .start) m) → e .start ≤ length m → e .start ≤ at + 5
           few x h =
-              let (p, q, k, c) = got-holds (field l (drop at m) rest) x in
+              let (p, q, k, c) = got-holds (field l (drop at m) (octets-from m at o)) x in
               omega (arith, k, length-drop at m, length-drop (e .start) m, rw length-append at (ap length q))
 
           small : {n : ℕ} → readLength l (drop at m) ≡ got (definite n) (drop (e .start) m) → n < 4294967296
-          small x = let (p, q, k, c) = got-holds (field l (drop at m) rest) x in c
+          small x = let (p, q, k, c) = got-holds (field l (drop at m) (octets-from m at o)) x in c
 
     pub length-refused : (f : Cause) → r ≡ NoLength f → readLength l (drop at m) ≡ refused f l
     length-refused f d =

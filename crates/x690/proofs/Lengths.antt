@@ -131,7 +131,7 @@ digits-few (suc k) (suc j) n l h =
     if-cases (λ x. length x ≤ suc j + length l) _ l (λ _. digits k (n / 256) (n % 256 ∷ l)) (λ e. omega arith)
     (λ e. let f = digits-few k j (n / 256) (n % 256 ∷ l) (div-lt-iff-lt-mul (omega arith) .1 (rw pow-suc at h)) in omega arith)
 
-pub unsigned-below : (i n : ℕ) (ds : List ℕ) → n < 256 ^ i → AllOctets ds → unsigned n ds < 256 ^ (i + length ds)
+unsigned-below : (i n : ℕ) (ds : List ℕ) → n < 256 ^ i → AllOctets ds → unsigned n ds < 256 ^ (i + length ds)
 unfolding unsigned
 unsigned-below i n [] h o = let e : i + 0 ≡ i = omega arith in rw e h
 unsigned-below i n (d ∷ ds) h (every-cons b o) =
@@ -139,11 +139,12 @@ unsigned-below i n (d ∷ ds) h (every-cons b o) =
     let e : suc i + length ds ≡ i + suc (length ds) = omega arith in
     rw e at (unsigned-below (suc i) (n * 256 + d) ds f o)
 
+all-below : (ds : List ℕ) → AllOctets ds → unsigned 0 ds < 256 ^ length ds
+all-below ds o = let z : 0 + length ds ≡ length ds = omega arith in rw z at (unsigned-below 0 0 ds (omega arith) o)
+
 -- four octets count to 2^32
 pub counts : (ds : List ℕ) → length ds ≤ longestField → AllOctets ds → unsigned 0 ds < 4294967296
-counts ds k o =
-    let z : 0 + length ds ≡ length ds = omega arith in
-    lt-of-lt-of-le (rw z at (unsigned-below 0 0 ds (omega arith) o)) (pow-le-pow-right (omega arith) k)
+counts ds k o = lt-of-lt-of-le (all-below ds o) (pow-le-pow-right (omega arith) k)
 
 length-field : {n : ℕ} {m : List ℕ} → Length n m → AllOctets m → (length m ≤ 5) × (n < 4294967296)
 length-field (short h e) o = rw e (omega arith, omega arith)
@@ -167,8 +168,7 @@ pub length-shortest : (n : ℕ) (m : List ℕ) → Length n m → AllOctets m �
 unfolding lengthOctets
 length-shortest n m (short h e) o = rw (e, lt-ltb n 128 h) (simp run (omega arith))
 length-shortest n m (long ds h k v e) o =
-    let z : 0 + length ds ≡ length ds = omega arith in
-    let b : n < 256 ^ length ds = rw (v, z) at (unsigned-below 0 0 ds (omega arith) (every-right ((128 + length ds) ∷ []) (rw e at o))) in
+    let b : n < 256 ^ length ds = rw v at (all-below ds (every-right ((128 + length ds) ∷ []) (rw e at o))) in
     let f = digits-few 8 (length ds) n [] b in
     rw e (if-cases (λ (x : List ℕ). length x ≤ suc (length ds)) (ltb n 128) _ _ (λ t. omega arith) (λ t. omega arith))
 
