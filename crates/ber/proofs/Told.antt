@@ -130,23 +130,35 @@ unsigned-least n (d ∷ l) = let h = unsigned-least (n * 256 + d) l in omega ari
 abbrev Here : List ℕ → ℕ → Length → Type 0
 Here m at r = (l : ℕ) → r ≡ toldLength (length m) (readLength l (drop at m))
 
+-- n octets of contents, from `start` on
+module _ (m : List ℕ) (start n l : ℕ) where
+  fits : start + n ≤ length m → ReadLength (record { start = start; end = start + n; indefinite = false }) ≡ toldLength (length m) (fit l n (drop start m))
+  unfolding toldLength fit if
+  fits h =
+      let g : n ≤ length (drop start m) = rw length-drop (omega arith) in
+      rw (le-leb n (length (drop start m)) g, left-at m start (omega arith))
+
+  fits-not : length m < start + n → start ≤ length m → NoLength Cut ≡ toldLength (length m) (fit l n (drop start m))
+  unfolding toldLength fit if
+  fits-not h k =
+      let g : length (drop start m) < n = rw length-drop (omega arith) in
+      rw (lt-leb n (length (drop start m)) g)
+
 module _ (m : List ℕ) (at : ℕ) where
   pub length-none : length m ≤ at → Here m at (NoLength Cut)
   unfolding toldLength readLength if
   length-none k l = rw (none-at m at k)
 
+  short-form : at < length m → getD m at 0 < 128 → (l : ℕ) → readLength l (drop at m) ≡ fit l (getD m at 0) (drop (at + 1) m)
+  unfolding readLength if
+  short-form h s l = rw (some-at m at h, lt-ltb (getD m at 0) 128 s)
+
   pub length-short : at < length m → getD m at 0 < 128 → at + 1 + getD m at 0 ≤ length m
       → Here m at (ReadLength (record { start = at + 1; end = at + 1 + getD m at 0; indefinite = false }))
-  unfolding toldLength readLength fit if
-  length-short h l f p =
-      let g : getD m at 0 ≤ length (drop (at + 1) m) = rw length-drop (omega arith) in
-      rw (some-at m at h, lt-ltb (getD m at 0) 128 l, le-leb (getD m at 0) (length (drop (at + 1) m)) g, left-at m (at + 1) (omega arith))
+  length-short h l f p = rw (short-form h l p) (fits m (at + 1) (getD m at 0) p f)
 
   pub length-short-no : at < length m → getD m at 0 < 128 → length m < at + 1 + getD m at 0 → Here m at (NoLength Cut)
-  unfolding toldLength readLength fit if
-  length-short-no h l f p =
-      let g : length (drop (at + 1) m) < getD m at 0 = rw length-drop (omega arith) in
-      rw (some-at m at h, lt-ltb (getD m at 0) 128 l, lt-leb (getD m at 0) (length (drop (at + 1) m)) g)
+  length-short-no h l f p = rw (short-form h l p) (fits-not m (at + 1) (getD m at 0) p f (omega arith))
 
 octets-from : (m : List ℕ) (at : ℕ) → AllOctets m → AllOctets (drop at m)
 octets-from m at o = every-right (take at m) (rw (take-append-drop at m) o)
@@ -224,16 +236,10 @@ module _ (m : List ℕ) (at : ℕ) (some : 0 < at) (there : at ≤ length m) whe
           rw (long-form l, le-leb k (length (drop at m)) g, spells, drop-drop k at m)
 
       pub length-long : at + k + n ≤ length m → Here m (at - 1) (ReadLength (record { start = at + k; end = at + k + n; indefinite = false }))
-      unfolding toldLength fit if
-      length-long g l =
-          let h : n ≤ length (drop (at + k) m) = rw length-drop (omega arith) in
-          rw (whole-form l, le-leb n (length (drop (at + k) m)) h, left-at m (at + k) f)
+      length-long g l = rw (whole-form l) (fits m (at + k) n l g)
 
       pub length-long-no : length m < at + k + n → Here m (at - 1) (NoLength Cut)
-      unfolding toldLength fit if
-      length-long-no g l =
-          let h : length (drop (at + k) m) < n = rw length-drop (omega arith) in
-          rw (whole-form l, lt-leb n (length (drop (at + k) m)) h)
+      length-long-no g l = rw (whole-form l) (fits-not m (at + k) n l g f)
 
 -- the place of a refusal is where l octets are left
 abbrev pub Faulty : {A : Type 0} → ℕ → Answer A → Type 0

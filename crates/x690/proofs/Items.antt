@@ -19,7 +19,7 @@ use Rattle.x690.specs.Reading.{readIdentifier, Size, definite, indefinit
 use Rattle.x690.specs.Length.{longestField, Length, short, long, lengthOctets}
 use Rattle.x690.specs.Item.{Definite, sized, Constructed, in-size, in-marks, item}
 use Rattle.x690.proofs.Identifiers.{identifier-sound, Begun}
-use Rattle.x690.proofs.Lengths.{length-complete, length-sound, length-octets, Shape, is-definite, is-indefinite, Counted, field}
+use Rattle.x690.proofs.Lengths.{length-complete, length-sound, length-octets, Shape, is-definite, is-indefinite, Counted, shape-field}
 
 -- an identifier that is not awaited, before a length of five octets; the same behind one that is
 header-24 : readHeader (0x01 ∷ []) (0x02 ∷ 0x85 ∷ []) ≡ refused NotAwaited 2
@@ -152,11 +152,9 @@ header-sound i s =
 
 -- Document 02, [6]: of a header that is accepted at most four octets stand behind the first length octet, and the length is below 2^32.
 pub header-field : (i s : List ℕ) → AllOctets s → Holds (λ z r. (m : List ℕ) × (s ≡ i ++ (m ++ r)) × (length m ≤ 5) × Counted z) (readHeader i s)
-unfolding readHeader
 header-field i s o =
-    then-holds (identifier-sound s) λ j u e.
-    if-holds _ (λ f. refuses) λ f _.
-    map-holds (field _ u (every-right j (rw e at o))) λ z r (m, q, few, small). (m, e ∙ rw (same-true i j (not-false (same i j) f), q), few, small)
+    map-holds (header-sound i s) λ z r (u, e, h).
+    let (m, q, few, small) = shape-field (every-right i (rw e at o)) h in (m, e ∙ ap (λ (x : List ℕ). i ++ x) q, few, small)
 
 -- s is an item and then r, and its contents have C
 pub record Item (F : List ℕ → List ℕ → List ℕ → Type 0) (i : List ℕ) (C : List ℕ → Type 0) (s r : List ℕ) : Type 0 where

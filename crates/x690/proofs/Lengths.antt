@@ -155,13 +155,13 @@ abbrev pub Counted : Size → Type 0
 Counted (definite n) = n < 4294967296
 Counted indefinite = Unit {0}
 
+pub shape-field : {s : List ℕ} {z : Size} {r : List ℕ} → AllOctets s → Shape s z r → (m : List ℕ) × (s ≡ m ++ r) × (length m ≤ 5) × Counted z
+shape-field {r = r} o (is-definite m e l t) = let (few, small) = length-field l (every-left m r (rw e at o)) in (m, e, few, small)
+shape-field o (is-indefinite e) = (128 ∷ [], e, omega arith, tt)
+
 -- The promise of document 02, [6]: of length octets that are read at most four stand behind the first, and the length is below 2^32.
 pub field : (l : ℕ) (s : List ℕ) → AllOctets s → Holds (λ z r. (m : List ℕ) × (s ≡ m ++ r) × (length m ≤ 5) × Counted z) (readLength l s)
-field l s o = map-holds (length-sound l s) λ z r h. of-shape h
-  where
-    of-shape : {z : Size} {r : List ℕ} → Shape s z r → (m : List ℕ) × (s ≡ m ++ r) × (length m ≤ 5) × Counted z
-    of-shape {r = r} (is-definite m e l t) = let (few, small) = length-field l (every-left m r (rw e at o)) in (m, e, few, small)
-    of-shape (is-indefinite e) = (128 ∷ [], e, omega arith, tt)
+field l s o = map-holds (length-sound l s) λ z r h. shape-field o h
 
 -- what is written is the shortest form that may be sent
 pub length-shortest : (n : ℕ) (m : List ℕ) → Length n m → AllOctets m → length (lengthOctets n) ≤ length m
