@@ -1,6 +1,7 @@
 /* Calls the engine with each input between pages that may not be touched, so that a read or a write outside what was lent stops the
  * test. Inputs are read-only during a call. Runs the stored cases (crates/cases/stdin and stdout) with their answers, every
- * buffer length from 0 to a little over what is needed, null pointers with length 0, and random and damaged cases.
+ * buffer length from 0 to a little over what is needed, messages one after another, null pointers with length 0, and random and damaged
+ * cases.
  *   guard STDIN STDOUT [RANDOM CASES] [SEED] */
 #define _GNU_SOURCE
 #include <string.h>
@@ -10,7 +11,7 @@
 #include "yinscarf.h"
 
 enum { CHECK, WRITE, READ };
-enum { ROOM = 16384, LONGEST = 16385, OVER = 9, CASES = 20000, SECONDS = 300, LAST = YINSCARF_MESSAGE_LENGTH_FIELD };
+enum { ROOM = 16384, LONGEST = 16385, MESSAGE = 8192, OVER = 9, SHORT = 100, CASES = 20000, SECONDS = 300, LAST = YINSCARF_MESSAGE_LENGTH_FIELD };
 
 struct one {
     unsigned op, type;
@@ -25,7 +26,7 @@ static struct fenced tables, datas, bufs;
 static uint8_t pattern[ROOM + OVER + 251];
 static struct one *cases;
 static size_t count;
-static unsigned long calls, checks_done, sizes_done;
+static unsigned long calls, checks_done, sizes_done, lines_done;
 static double slowest;
 
 static void fail(const char *what, const struct one *c)
@@ -196,6 +197,39 @@ static void stored(void)
     }
 }
 
+/* The next stored message of the same table and type that is read; else the same one. */
+static const struct one *follower(const struct one *c)
+{
+    for (const struct one *d = c + 1; d < cases + count; d++)
+        if (d->op == READ && d->result && d->type == c->type && d->table_len == c->table_len && memcmp(d->table, c->table, c->table_len) == 0)
+            return d;
+    return c;
+}
+
+/* Messages one after another: each stored one that is read, and another of its type behind it. Of what this line begins with, less than the message
+ * is 22, the message is done, and more is 26 where it ends. */
+static void lines(void)
+{
+    static uint8_t line[2 * LONGEST], got[ROOM];
+    for (const struct one *c = cases; c < cases + count; c++) {
+        if (c->op != READ || !c->result)
+            continue;
+        const struct one *d = follower(c);
+        struct one some = *c;
+        size_t n = c->data_len + d->data_len, step = c->data_len <= SHORT ? 1 : c->data_len / 8;
+        memcpy(line, c->data, c->data_len);
+        memcpy(line + c->data_len, d->data, d->data_len);
+        some.data = line;
+        for (size_t k = c->data_len % step; k <= n && k <= MESSAGE; k += step) {
+            some.data_len = k;
+            uint64_t a = call(&some, (size_t)c->answer, got);
+            if (k < c->data_len ? a >> 16 != YINSCARF_MESSAGE_CUT : a != (k > c->data_len ? (uint64_t)YINSCARF_MESSAGE_TRAILING << 16 | c->data_len : c->answer))
+                fail("a line cut elsewhere", &some);
+            lines_done++;
+        }
+    }
+}
+
 /* Document 01's two cases with a small buffer, and null pointers with length 0. */
 static void edges(void)
 {
@@ -333,8 +367,9 @@ int main(int argc, char **argv)
         return 2;
     edges();
     stored();
+    lines();
     random_ones(n);
-    printf("%lu stored cases, %lu buffer lengths, %lu random and damaged cases, %lu calls; the slowest took %.3f ms\n", checks_done,
-           sizes_done, n, calls, slowest * 1e3);
+    printf("%lu stored cases, %lu buffer lengths, %lu beginnings of lines, %lu random and damaged cases, %lu calls; the slowest took %.3f ms\n",
+           checks_done, sizes_done, lines_done, n, calls, slowest * 1e3);
     return 0;
 }

@@ -1,6 +1,6 @@
 """Compares the program of cases with Erlang/OTP's asn1 and with pyasn1, both ways, on random tables, values and messages; its reading
 of strings in segments and of times, sound and damaged, with the model; its reading of integers with Python's; and the archive's order of
-times with Python's datetime, its centuries with OpenSSL's.
+times with Python's datetime, its centuries with OpenSSL's. Messages one after another are cut where both coders cut them.
 
 Each disagreement is either one of EXPLAINED, where the outside coder departs from X.690 or from document 01's limits, or it is
 printed with its octets and the run fails."""
@@ -234,6 +234,24 @@ def over_field(coder, tally, table, t, m, we, they, tree):
         tally.add(what + ('same value, none is over four octets' if we[0] == 'ok' else 'we refuse, no %d, same place as the model' % we[1]))
 
 
+def lines(work):
+    """Messages of one type one after another: of each value, the next one of its type (or it again), and it; and these without the first."""
+    for at, (i, t, tree, sent, wide, bad) in enumerate(work):
+        after = work[at + 1][3] if at + 1 < len(work) and work[at + 1][:2] == (i, t) else sent
+        parts = [sent[0][0], after[1][0], sent[2][0]]
+        if sum(map(len, parts)) <= model.MESSAGE:
+            yield i, t, parts
+            yield i, t, parts[1:]
+
+
+def cut(coder, tally, table, t, parts, we, they):
+    """Compares where a line is cut: by us, who say 26 where the first message ends, and by the coder, which gives back what it leaves."""
+    if we == ('no', 26, len(parts[0])) and they == ('rest', b''.join(parts[1:])):
+        tally.add(coder + ' and we cut a line: same place')
+    else:
+        tally.fault(coder + ' and we cut a line: elsewhere', table, t, b''.join(parts), we, they)
+
+
 def plan(R, tables, takes, recursive, values, coder):
     """Tables, and for each value (table index, type, tree) its permitted encodings, one with longer length fields, and damaged messages."""
     made, work = [], []
@@ -318,6 +336,9 @@ def with_erlang(args, R, tally):
         for m in bad:
             requests.append(('dec', name, t, m.hex()))
             marks.append(('bad', i, t, None, m))
+    for i, t, parts in lines(work):
+        requests.append(('dec', 'M%d' % i, t, b''.join(parts).hex()))
+        marks.append(('line', i, t, parts, b''.join(parts)))
     answers, said = erlang.run(folder, [('M%d' % i, records) for i, (_, records) in enumerate(made)], requests)
     version = said.strip().split('\n')[-1]
     assert 'not compiled' not in said, said
@@ -345,7 +366,7 @@ def with_erlang(args, R, tally):
                     reads.append((ours.READ, t, table, m))
                     compared.append(('erlang writes, lengths are changed, we read: ', tree, None))
             continue
-        they = ('ok', erlang.parsed(records, t, rest)) if word == 'ok' else (word, rest)
+        they = ('ok', erlang.parsed(records, t, rest)) if word == 'ok' else (word, bytes.fromhex(rest))
         if kind == 'ours':
             if they == ('ok', tree):
                 tally.add('we write, erlang reads: same value')
@@ -357,7 +378,9 @@ def with_erlang(args, R, tally):
         reads.append((ours.READ, t, table, m))
         compared.append((kind, tree, they))
     for (op, t, table, m), (kind, tree, they), we in zip(reads, compared, ours.run(args.ours, reads)):
-        if kind == 'wide':
+        if kind == 'line':
+            cut('erlang', tally, table, t, tree, we, they)
+        elif kind == 'wide':
             over_field('erlang', tally, table, t, m, we, they, tree)
             stored.append(('read', t, table, m, we))
         elif kind in ('sent', 'bad'):
@@ -436,9 +459,14 @@ def with_pyasn1(args, R, tally):
         for m in bad:
             reads.append((ours.READ, t, table, m))
             compared.append(('bad', None, coder.decode(t, m)))
+    for i, t, parts in lines(work):
+        reads.append((ours.READ, t, made[i][0], b''.join(parts)))
+        compared.append(('line', parts, coders[i].decode(t, b''.join(parts))))
     for (op, t, table, m), (kind, tree, they), we in zip(reads, compared, ours.run(args.ours, reads)):
         how = 'pyasn1 writes strings in segments' if kind == 'segments' else 'pyasn1 writes'
-        if kind == 'wide':
+        if kind == 'line':
+            cut('pyasn1', tally, table, t, tree, we, they)
+        elif kind == 'wide':
             over_field('pyasn1', tally, table, t, m, we, they, tree)
         elif kind in ('sent', 'bad'):
             if kind == 'sent' and they != ('ok', tree):

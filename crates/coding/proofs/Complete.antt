@@ -358,8 +358,8 @@ value-complete o T good (suc n) t v m s e =
     record { value = x .value; answer = x .answer; alike = x .alike }
 
 -- what begins as a type does is not empty
-pub started-some : (T : Table) → Good T → (t : ℕ) (m : List ℕ) → Starts T t m → none-left m ≡ false
+pub started-some : (T : Table) → Good T → (t : ℕ) (m s : List ℕ) → Starts T t m → none-left (m ++ s) ≡ false
 unfolding none-left
-started-some T good t m x =
+started-some T good t m s x =
     let b = proper-begun (good t .first (x .ident) (x .begins)) in
     rw (x .is, b .is)

@@ -1,18 +1,19 @@
--- The three demands, for every table, type, value, message and buffer: the page to read of what is promised. What its words mean is in
--- `specs/Demands`. That the functions' answers are these outcomes is in their contracts (`engine`), and for C in `link/proofs/Boundary`.
+-- The three demands, for every table, type, value, message and buffer, and what holds of messages one after another: the page to read of what is
+-- promised. What its words mean is in `specs/Demands`. That the functions' answers are these outcomes is in their contracts (`engine`), and for C in `link/proofs/Boundary`.
 -- Assumes nothing.
-use mathlib.Core.List.{List, []}
+use mathlib.Core.List.{List, [], _++_, append-nil}
 use mathlib.Core.Logic.{_↔_}
 use mathlib.Core.Path.{_≡_, refl, sym, ap, subst, _∙_}
-use Prim.Native.Nat.{ℕ, _≤_, _<_}
+use Prim.Native.Nat.{ℕ, _+_, _≤_, _<_}
 use native.Mathlib.Omega.{arith}
-use lib.ListN.{length}
+use lib.ListN.{length, length-append}
 use Rattle.octets.specs.declared.cause.Cause.{Cause}
-use Rattle.octets.specs.declared.cause.Cause.the-variants.{NoType, MessageRoom, MessageLength, ValueRoom}
+use Rattle.octets.specs.declared.cause.Cause.the-variants.{NoType, MessageRoom, MessageLength, Trailing, ValueRoom}
 use Rattle.octets.specs.Causes.{causeNumber}
 use Rattle.octets.specs.Answer.{got}
+use Rattle.octets.specs.Lists.{joined}
 use Rattle.octets.specs.Numbers.{Octets}
-use Rattle.octets.specs.Permutations.{any-order}
+use Rattle.octets.specs.Permutations.{Each, any-order}
 use Rattle.octets.proofs.Permutations.{all-octets}
 use Rattle.table.specs.Syntax.{Record, Table, table}
 use Rattle.table.specs.Cause.{Breaks, FirstCause}
@@ -26,6 +27,7 @@ use Rattle.coding.specs.Value.{Leaf, Value, leaf, octets, depth}
 use Rattle.coding.specs.Encodes.{Encodes, Arrives}
 use Rattle.coding.specs.Typed.{WellTyped}
 use Rattle.coding.specs.Shaped.{Shaped}
+use Rattle.coding.specs.Equivalent.{Equivalent}
 use Rattle.coding.specs.Judging.{judgeWhole}
 use Rattle.coding.specs.Outcome.{levels, longestValue, longestMessage, Refusal, of-table, of-value, of-message, OfStage, done, refusal, Outcome, refuse}
 use Rattle.coding.specs.Calls.{readOutcome, writeOutcome, wholeRead, wholeWrite, checkAnswer}
@@ -33,9 +35,9 @@ use Rattle.coding.specs.Demands.{Accepted, NoSuchType, OfType, MessageRe
 use Rattle.coding.proofs.FirstTags.{Good, good}
 use Rattle.coding.proofs.Levels.{retype}
 use Rattle.coding.proofs.Judging.{judge-octets}
-use Rattle.coding.proofs.Messages.{accepts-as-given, accepts-a-leaf}
+use Rattle.coding.proofs.Messages.{accepts-as-given, accepts-a-leaf, refuses-behind, unique, cut-once}
 use Rattle.coding.proofs.Shaped.{Limited, limited, encodes-shaped}
-use Rattle.coding.proofs.Outcomes.{Beyond, reading, writing, long-exactly, refused-exactly, lacks-exactly, read-exactly, received, read-alike, read-beyond}
+use Rattle.coding.proofs.Outcomes.{Beyond, reading, writing, long-exactly, refused-exactly, lacks-exactly, read-exactly, received, read-alike, read-refuses, read-beyond}
 use Rattle.coding.proofs.Outcomes.{read-unchanged, read-stage, read-never-value, write-stage, write-never-message, judged-exactly}
 use Rattle.coding.proofs.Outcomes.{full-exactly, written-exactly, sent, write-beyond, write-unchanged, done≢refusal, message-beyond}
 use Rattle.coding.proofs.Outcomes.{value-beyond, done-beyond, staged-by, read-staged, write-staged}
@@ -252,3 +254,38 @@ module _ (b : List ℕ) (o : Octets b) (rs : List Record) (a : Accepted b rs) (t
       let w = x .typed in
       let h = encodes-shaped any-order (table rs) (limits-of o a) (e .level) t (x .value) m (all-octets m p) (x .within) (e .encodes) in
       (h, judge-octets (table rs) levels t (x .value) (retype (table rs) (w .level) levels t (x .value) (x .deep) (w .typed)) h)
+
+  -- Document 02, [7]: encodings of one type. What is encoded is well-typed; and no limit of levels or octets is needed to tell encodings apart, so
+  -- what is asked of those within the limits holds of all.
+
+  -- Values that share an encoding are equivalent.
+  pub what-shares-an-encoding-is-equivalent : (v w : Value) (m : List ℕ) → Encodes (table rs) t v m → Encodes (table rs) t w m → Equivalent v w
+  what-shares-an-encoding-is-equivalent v w m e f = unique (table rs) (good-of o a) t [] [] e f refl .2
+
+  -- No encoding is the beginning of a longer one.
+  pub no-encoding-begins-another : (v w : Value) (m x : List ℕ) → Encodes (table rs) t v m → Encodes (table rs) t w (m ++ x) → x ≡ []
+  no-encoding-begins-another v w m x e f = unique (table rs) (good-of o a) t x [] e f (sym (append-nil (m ++ x))) .1
+
+  -- A line of encodings is cut in one way: into the same ones, so into as many, of equivalent values.
+  pub a-line-is-cut-in-one-way : (vs ws : List Value) (ms ns : List (List ℕ)) → Each (Encodes (table rs) t) vs ms → Each (Encodes (table rs) t) ws ns → joined ms ≡ joined ns
+      → (ms ≡ ns) × Each Equivalent vs ws
+  a-line-is-cut-in-one-way vs ws ms ns es fs q = cut-once (table rs) (good-of o a) t es fs q
+
+  -- Reading from the front finds the cut: if anything stands behind the first message, 26 is said where that ends.
+  pub the-cut-is-found : (v : Value) (m x buf : List ℕ) → depth v ≤ levels → Encodes (table rs) t v m → 1 ≤ length x → length (m ++ x) ≤ longestMessage
+      → wholeRead b t (m ++ x) buf ≡ refuse (of-message Trailing (length m)) buf
+  the-cut-is-found v m x buf d e k h =
+      let h′ : length m + length x ≡ length (m ++ x) = sym (length-append m x) in
+      read-found (m ++ x) buf
+      ∙ read-refuses (table rs) t (m ++ x) buf Trailing (length m) (record {
+        within = h;
+        left = length x;
+        inside = omega arith;
+        reading = refuses-behind (table rs) (good-of o a) levels t v m x e d k;
+        place = omega arith;
+      })
+
+  -- And of all that the line begins with, the reader is done with the first message alone.
+  pub no-other-cut-is-found : (v : Value) (m x p y buf : List ℕ) → Encodes (table rs) t v m → p ++ y ≡ m ++ x → Octets p → (k : ℕ) (after : List ℕ)
+      → wholeRead b t p buf ≡ record { answer = done k; buffer = after } → p ≡ m
+  no-other-cut-is-found v m x p y buf e q h k after z = unique (table rs) (good-of o a) t y x (reads-exactly p buf h k after .0 z .encodes) e q .0

@@ -1,15 +1,18 @@
 -- The reading of a message accepts what may be sent, all of it and nothing else: sound, complete, unique.
 -- Assumes nothing.
 use borrow.Author.Tests.{not-false}
-use mathlib.Core.Bool.{true, false}
-use mathlib.Core.List.{List, [], _++_, append-nil}
-use mathlib.Core.Path.{_≡_, sym, _∙_}
+use mathlib.Core.Bool.{true, false, not, true≢false}
+use mathlib.Core.List.{List, [], _∷_, _++_, append-nil, append-cancel-right}
+use mathlib.Core.Path.{_≡_, refl, sym, ap, _∙_}
 use native.Mathlib.Omega.{arith}
 use Prim.Native.Nat.{ℕ, _≤_, max}
-use Rattle.octets.specs.Answer.{got, none-left}
+use lib.ListN.{length}
+use Rattle.octets.specs.declared.cause.Cause.the-variants.{Trailing}
+use Rattle.octets.specs.Answer.{got, refused, if, none-left}
+use Rattle.octets.specs.Lists.{joined}
 use Rattle.octets.specs.Numbers.{Octets}
-use Rattle.octets.specs.Permutations.{Order, any-order, as-given}
-use Rattle.octets.proofs.Answer.{run, Holds, yields, refuses, if-holds, then-holds, got-holds, got-value, got-rest, Reads, none-there}
+use Rattle.octets.specs.Permutations.{Order, any-order, as-given, Each, nil, cons}
+use Rattle.octets.proofs.Answer.{run, Holds, yields, refuses, if-holds, then-holds, got-holds, got-value, got-rest, Reads, none-nil, none-there}
 use Rattle.octets.proofs.Permutations.{all-octets}
 use Rattle.table.specs.Syntax.{Table}
 use Rattle.coding.specs.Value.{Leaf, Value, leaf, depth}
@@ -66,26 +69,29 @@ complete-as-given T good n t v m s e h =
     let x = value-complete as-given T good n t v m s (relevel as-given T (e .level) n t v m h (e .encodes)) in
     rw (equivalent-equal n v (x .value) (x .alike)) (x .answer)
 
-message-accepts : (o : Order) (T : Table) → Good T → (n t : ℕ) (v w : Value) (m : List ℕ) → EncodesAt o T n t v m → readValue T n t m ≡ got w [] → readMessage T n t m ≡ got w []
+-- what is encoded begins as its type does: after the value only the octets behind it are judged
+message-begun : (o : Order) (T : Table) → Good T → (n t : ℕ) (v w : Value) (m s : List ℕ) → EncodesAt o T n t v m → readValue T n t (m ++ s) ≡ got w s
+    → readMessage T n t (m ++ s) ≡ if (not (none-left s)) (refused Trailing (length s)) λ _. got w s
 unfolding readMessage
-message-accepts o T good n t v w m e a =
+message-begun o T good n t v w m s e a =
     let y = starts-at o T good n t v m e in
-    let some-octet : none-left m ≡ false = started-some T good t m y in
-    let b : begun T t m ≡ true = rw append-nil at (next-is T t {i = y .ident} {m = m} (y .rest) [] (proper-readable (good t .first (y .ident) (y .begins))) (y .is) ∙ y .begins) in
+    let some-octet : none-left (m ++ s) ≡ false = started-some T good t m s y in
+    let b : begun T t (m ++ s) ≡ true = next-is T t {i = y .ident} {m = m} (y .rest) s (proper-readable (good t .first (y .ident) (y .begins))) (y .is) ∙ y .begins in
     simp (run, some-octet, b, a)
+
+message-accepts : (o : Order) (T : Table) → Good T → (n t : ℕ) (v w : Value) (m : List ℕ) → EncodesAt o T n t v m → readValue T n t (m ++ []) ≡ got w [] → readMessage T n t m ≡ got w []
+message-accepts o T good n t v w m e a = rw append-nil at (message-begun o T good n t v w m [] e a) ∙ simp run
 
 -- A message that arrives as a value within the level is read to that very value.
 pub accepts-as-given : (T : Table) → Good T → (n t : ℕ) (v : Value) (m : List ℕ) → Arrives T t v m → depth v ≤ n → readMessage T n t m ≡ got v []
 accepts-as-given T good n t v m e h =
-    let a = relevel as-given T (e .level) n t v m h (e .encodes) in
-    message-accepts as-given T good n t v v m a (rw append-nil at (complete-as-given T good n t v m [] e h))
+    message-accepts as-given T good n t v v m (relevel as-given T (e .level) n t v m h (e .encodes)) (complete-as-given T good n t v m [] e h)
 
 -- A message that is a permitted encoding of a value within the level is accepted, and what is read is equivalent.
 pub message-complete : (o : Order) (T : Table) → Good T → (n t : ℕ) (v : Value) (m : List ℕ) → EncodesAt o T n t v m → Reads (EquivalentAt o n) (readMessage T n t) v m []
 message-complete o T good n t v m e =
     let x = value-complete o T good n t v m [] e in
-    let z : readValue T n t m ≡ got (x .value) [] = rw append-nil at (x .answer) in
-    record { value = x .value; answer = message-accepts o T good n t v (x .value) m e z; alike = x .alike }
+    record { value = x .value; answer = message-accepts o T good n t v (x .value) m e (x .answer); alike = x .alike }
 
 -- Every permitted encoding of a leaf, a string in segments too, is read to that very leaf.
 pub accepts-a-leaf : (T : Table) → Good T → (n t : ℕ) (x : Leaf) (m : List ℕ) → Encodes T t (leaf x) m → depth (leaf x) ≤ n → readMessage T n t m ≡ got (leaf x) []
@@ -93,12 +99,40 @@ accepts-a-leaf T good n t x m e h =
     let y = message-complete any-order T good n t (leaf x) m (relevel any-order T (e .level) n t (leaf x) m h (e .encodes)) in
     rw (← equivalent-leaf any-order n x (y .value) (y .alike)) (y .answer)
 
--- an encoding that begins with an encoding is that encoding, and of an equivalent value
-pub unique : (T : Table) → Good T → (t : ℕ) (v w : Value) (m x : List ℕ) → Encodes T t v m → Encodes T t w (m ++ x) → (x ≡ []) × Equivalent v w
-unique T good t v w m x e f =
-    let n = max (depth v) (depth w) in
-    let a = value-complete any-order T good n t v m x (relevel any-order T (e .level) n t v m (omega arith) (e .encodes)) in
-    let b = value-complete any-order T good n t w (m ++ x) [] (relevel any-order T (f .level) n t w (m ++ x) (omega arith) (f .encodes)) in
-    let z : got (a .value) x ≡ got (b .value) [] = sym (a .answer) ∙ rw append-nil at (b .answer) in
-    let q : EquivalentAt any-order n w (a .value) = rw (got-value z) (b .alike) in
-    (got-rest z, record { level = n; equivalent = equivalent-trans any-order n v (a .value) w (a .alike) (equivalent-sym any-order n w (a .value) q) })
+-- Octets behind an encoding within the level are refused, where they begin.
+pub refuses-behind : (T : Table) → Good T → (n t : ℕ) (v : Value) (m x : List ℕ) → Encodes T t v m → depth v ≤ n → 1 ≤ length x → readMessage T n t (m ++ x) ≡ refused Trailing (length x)
+refuses-behind T good n t v m [] e h k = absurd (omega arith)
+refuses-behind T good n t v m (b ∷ x) e h k =
+    let z = complete T good n t v m (b ∷ x) e h in
+    message-begun any-order T good n t v (z .value) m (b ∷ x) (relevel any-order T (e .level) n t v m h (e .encodes)) (z .answer) ∙ simp run
+
+-- Unique: two encodings that the same octets begin with are the same, so is what stands behind them, and their values are equivalent. One
+-- reading finds the end of both.
+pub unique : (T : Table) → Good T → (t : ℕ) {v w : Value} {m n : List ℕ} (r s : List ℕ) → Encodes T t v m → Encodes T t w n → m ++ r ≡ n ++ s → (m ≡ n) × (r ≡ s) × Equivalent v w
+unique T good t {v} {w} {m} {n} r s e f q =
+    let k = max (depth v) (depth w) in
+    let a = value-complete any-order T good k t v m r (relevel any-order T (e .level) k t v m (omega arith) (e .encodes)) in
+    let b = value-complete any-order T good k t w n s (relevel any-order T (f .level) k t w n (omega arith) (f .encodes)) in
+    let z : got (a .value) r ≡ got (b .value) s = sym (a .answer) ∙ ap (readValue T k t) q ∙ b .answer in
+    let i : EquivalentAt any-order k w (a .value) = rw (got-value z) (b .alike) in
+    let j : r ≡ s = got-rest z in (
+      append-cancel-right m n s (rw j at q),
+      j,
+      record { level = k; equivalent = equivalent-trans any-order k v (a .value) w (a .alike) (equivalent-sym any-order k w (a .value) i) },
+    )
+
+not-nothing : (T : Table) → Good T → (t : ℕ) (v : Value) (m s : List ℕ) → Encodes T t v m → m ++ s ≡ [] → ⊥
+not-nothing T good t v m s e q =
+    true≢false (sym none-nil ∙ rw q at (started-some T good t m s (starts-at any-order T good (e .level) t v m (e .encodes))))
+
+-- Encodings one after another are cut in one way: the same ones, as many, of equivalent values.
+pub cut-once : (T : Table) → Good T → (t : ℕ) {vs ws : List Value} {ms ns : List (List ℕ)} → Each (Encodes T t) vs ms → Each (Encodes T t) ws ns → joined ms ≡ joined ns
+    → (ms ≡ ns) × Each Equivalent vs ws
+unfolding joined
+cut-once T good t nil nil q = (refl, nil)
+cut-once T good t nil (cons {a = w} {b = n} {r = ns} f fs) q = absurd (not-nothing T good t w n (joined ns) f (sym q))
+cut-once T good t (cons {a = v} {b = m} {r = ms} e es) nil q = absurd (not-nothing T good t v m (joined ms) e q)
+cut-once T good t (cons {r = ms} e es) (cons {r = ns} f fs) q =
+    let (i, j, k) = unique T good t (joined ms) (joined ns) e f q in
+    let (x, y) = cut-once T good t es fs j in
+    (rw (i, x) refl, cons k y)

@@ -176,7 +176,7 @@ module _ (T : Table) (t : ℕ) (m buf : List ℕ) where
   read-long : longestMessage < length m → reading T t m buf ≡ refuse (of-message MessageLength 0) buf
   read-long h = simp (run, lt-leb (length m) longestMessage h)
 
-  read-refuses : (c : Cause) (p : ℕ) → MessageRefused T t m c p → reading T t m buf ≡ refuse (of-message c p) buf
+  pub read-refuses : (c : Cause) (p : ℕ) → MessageRefused T t m c p → reading T t m buf ≡ refuse (of-message c p) buf
   unfolding afterReading
   read-refuses c p x = read-within (x .within) (refused c (x .left)) (x .reading) ∙ ap (λ (j : ℕ). refuse (of-message c j) buf) (sym (x .place))
 

@@ -1,9 +1,10 @@
 -- One table, one value and one message carried through every theorem of `Demands`, so that no premise there is empty: table S of document 01,
--- its type 2 with 5 and true, and a permitted encoding of it in the indefinite form with the members in the other order; for strings one of an octet.
+-- its type 2 with 5 and true, and a permitted encoding of it in the indefinite form with the members in the other order; for strings one of an octet;
+-- for messages one after another the SETs OF 5 and of 5 and 7.
 -- Assumes nothing.
 use borrow.Author.Tests.{ltb-true}
 use mathlib.Core.Bool.{Bool, true, false}
-use mathlib.Core.List.{List, [], _∷_, _++_}
+use mathlib.Core.List.{List, [], _∷_, _++_, map}
 use mathlib.Core.Option.{some}
 use mathlib.Core.Path.{_≡_, refl, ap}
 use native.Mathlib.Omega.{arith}
@@ -14,17 +15,17 @@ use lib.ListN.{length, getD, replicate}
 use Rattle.octets.specs.Answer.{got, then, if, behind, none-left}
 use Rattle.octets.specs.Lists.{any, all, joined, tabulate, lowestFrom, same}
 use Rattle.octets.specs.Numbers.{Octets}
-use Rattle.octets.specs.Permutations.{here, there, none, next, Order, any-order, as-given}
+use Rattle.octets.specs.Permutations.{here, there, none, next, Each, nil, cons, Order, any-order, as-given, permuted}
 use Rattle.octets.proofs.Tests.{and-left, and-right}
 use Rattle.x690.specs.Identifier.{leading, following, identifier}
 use Rattle.x690.specs.Length.{short, unsigned, digits, lengthOctets}
-use Rattle.x690.specs.Item.{sized, in-marks, item}
+use Rattle.x690.specs.Item.{sized, in-size, in-marks, item}
 use Rattle.x690.specs.Integer.{negative, pile, integerOf, spare, minimal, eight, fewest}
 use Rattle.x690.specs.BitString.{unused, masked}
 use Rattle.x690.specs.Reading.{readFollowing, readIdentifier, fit, readLong, readLength, atEnd, readHeader, inside, readConstructed, contents, readPrimitive}
 use Rattle.x690.specs.Segments.{octet-string, segmentTag, inParts, inForm, last as last-segment, primitive, SegmentIn, in-whole, in-segments, readCarried}
-use Rattle.table.specs.Syntax.{Tag, Boolean, Integer, OctetString, Plain, Set, Record, table, references, isChoice, universal, constructed}
-use Rattle.table.specs.Octets.{kind, tagOctets, memberOctets, ownOctets, recordOctets, rising, bodyShaped, recordShaped}
+use Rattle.table.specs.Syntax.{Tag, Boolean, Integer, OctetString, Plain, Set, SetOf, Record, table, references, isChoice, universal, constructed}
+use Rattle.table.specs.Octets.{Spells, kind, tagOctets, memberOctets, ownOctets, recordOctets, rising, bodyShaped, recordShaped}
 use Rattle.table.specs.Rules.{bodyBelow, tagsBelow, siblings, runsOn, members}
 use Rattle.table.specs.Reading.{tagsAt, numbersAt, membersAt, everyAt, bodyAt, recordAt, countedEnd, enumeratedEnd, membersEnd, ownEnd, recordEnd, scanFrom, scan, look}
 use Rattle.table.specs.Decide.{round, rounds, found, dangling, wrongTags, reachStep, circular, sameTag, begins as firstBegins, firstStep, firstOfBoth}
@@ -33,15 +34,16 @@ use Rattle.table.specs.Cause.{Breaks, FirstCause}
 use Rattle.table.specs.Verdict.{judgeChoices, judge, verdict}
 use Rattle.octets.specs.Causes.{causeNumber}
 use Rattle.octets.specs.declared.cause.Cause.{Cause}
-use Rattle.octets.specs.declared.cause.Cause.the-variants.{TableShape, NoType, ValueShape, MessageRoom, MessageLength, Cut, ValueRoom}
+use Rattle.octets.specs.declared.cause.Cause.the-variants.{TableShape, NoType, ValueShape, MessageRoom, MessageLength, Cut, Trailing, ValueRoom}
 use Rattle.table.specs.declared.Verdict.the-variants.{Passed}
 use Rattle.table.proofs.Theorems.{passed-none}
-use Rattle.coding.specs.Value.{Value, leaf, integer, boolean, string, set, slots, bag, leafOctets, count, presence, octets, depth}
+use Rattle.coding.specs.Value.{Value, leaf, integer, boolean, string, set, setOf, slots, bag, leafOctets, count, presence, octets, depth}
 use Rattle.coding.specs.Tags.{identifierOf, last, before, explicitTags, ownTag, explicit}
 use Rattle.coding.specs.Content.{listed, segmented, c-boolean, c-integer, c-string}
-use Rattle.coding.specs.Encodes.{allowed, done, sent, is-plain, is-set, bare, EncodesAt, Encodes, Arrives}
+use Rattle.coding.specs.Encodes.{allowed, done, sent, is-plain, is-set, is-set-of, bare, EncodesAt, Encodes, Arrives}
 use Rattle.coding.specs.Typed.{l-boolean, l-integer, f-done, f-sent, t-plain, t-set, WellTypedAt, WellTyped}
 use Rattle.coding.specs.Shaped.{LeafShaped, Shaped}
+use Rattle.coding.specs.Equivalent.{Equivalent}
 use Rattle.coding.specs.Form.{encode, element, alternatives, formMembers, formElements, formBody, wrap, formAt}
 use Rattle.coding.specs.Judging.{need, flags, ownMembers, ownCount, ownBoolean, ownInteger, ownString, ownBits, ownEnumerated, ownChoice}
 use Rattle.coding.specs.Judging.{readOwn, readNode, leafKind, nodeKind, numbers, leafAgrees, agreeing, counts, agrees, judgeMembers}
@@ -52,6 +54,7 @@ use Rattle.coding.specs.Reading.{readSet, readMany, choose, readBody, re
 use Rattle.coding.specs.Outcome.{levels, longestMessage, done as done-with, refusal, of-table, of-value, of-message, OfStage, Outcome, refuse}
 use Rattle.coding.specs.Calls.{afterReading, readOutcome, afterJudging, writeOutcome, afterCheck, wholeRead, wholeWrite, checkAnswer}
 use Rattle.coding.specs.Demands.{Accepted, NoSuchType, OfType, MessageRefused, NoRoomForValue, Read, ValueRefused, NoRoomForMessage, Wrote, Received, Sent}
+use Rattle.coding.proofs.Equivalence.{equivalent-length}
 use Rattle.coding.proofs.Demands as page
 
 octets-by : (s : List ℕ) → all (λ x. ltb x 256) s ≡ true → Octets s
@@ -60,7 +63,7 @@ octets-by [] e i = omega arith
 octets-by (x ∷ s) e zero = ltb-true x 256 (and-left (ltb x 256) _ e)
 octets-by (x ∷ s) e (suc i) = octets-by s (and-right (ltb x 256) _ e) i
 
--- the table
+-- the tables: S; one OCTET STRING; an INTEGER and a SET OF it
 
 abbrev S : List ℕ
 S =
@@ -68,6 +71,12 @@ S =
     ∷ 0x54 ∷ 0x59 ∷ 1 ∷ 1 ∷ 0 ∷ 0 ∷ 1
     ∷ 0x54 ∷ 0x59 ∷ 0x11 ∷ 1 ∷ 0 ∷ 0 ∷ 0x11 ∷ 2 ∷ 0 ∷ 0 ∷ 1 ∷ 1
     ∷ []
+
+abbrev O : List ℕ
+O = 0x54 ∷ 0x59 ∷ 4 ∷ 1 ∷ 0 ∷ 0 ∷ 4 ∷ []
+
+abbrev N : List ℕ
+N = 0x54 ∷ 0x59 ∷ 2 ∷ 1 ∷ 0 ∷ 0 ∷ 2 ∷ 0x54 ∷ 0x59 ∷ 0x31 ∷ 1 ∷ 0 ∷ 0 ∷ 0x11 ∷ 0 ∷ []
 
 abbrev tag : ℕ → ℕ → Tag
 tag c n = record { class = c; number = n }
@@ -79,22 +88,46 @@ records =
     ∷ record { tags = tag 0 17 ∷ []; body = Set (record { type = 0; optional = false } ∷ record { type = 1; optional = true } ∷ []) }
     ∷ []
 
+abbrev one : List Record
+one = record { tags = tag 0 4 ∷ []; body = Plain OctetString } ∷ []
+
+abbrev two : List Record
+two = record { tags = tag 0 2 ∷ []; body = Plain Integer } ∷ record { tags = tag 0 17 ∷ []; body = SetOf 0 } ∷ []
+
 table-octets : Octets S
 unfolding all
 table-octets = octets-by S refl
 
-passed : verdict S ≡ Passed
+string-table : Octets O
+unfolding all
+string-table = octets-by O refl
+
+list-table : Octets N
+unfolding all
+list-table = octets-by N refl
+
+passed : (verdict S ≡ Passed) × (verdict O ≡ Passed) × (verdict N ≡ Passed)
 unfolding any all joined tabulate lowestFrom references isChoice universal rising bodyBelow tagsBelow siblings runsOn tagsAt numbersAt membersAt everyAt bodyAt
     recordAt countedEnd enumeratedEnd membersEnd ownEnd recordEnd scanFrom scan look round rounds found dangling wrongTags reachStep circular sameTag
     firstBegins firstStep firstOfBoth share reached pair sharing finiteBody finiteStep infinite judgeChoices judge verdict
-passed = refl
+passed = (refl, refl, refl)
+
+spelled : Spells S records × Spells O one × Spells N two
+unfolding all joined kind tagOctets memberOctets ownOctets recordOctets rising bodyShaped recordShaped
+spelled = (
+  record { is = refl; shaped = refl; some = omega arith; few = omega arith; short = omega arith },
+  record { is = refl; shaped = refl; some = omega arith; few = omega arith; short = omega arith },
+  record { is = refl; shaped = refl; some = omega arith; few = omega arith; short = omega arith },
+)
 
 accepted : Accepted S records
-unfolding all joined kind tagOctets memberOctets ownOctets recordOctets rising bodyShaped recordShaped
-accepted = record {
-  spells = record { is = refl; shaped = refl; some = omega arith; few = omega arith; short = omega arith };
-  no-cause = passed-none S table-octets passed;
-}
+accepted = record { spells = spelled .0; no-cause = passed-none S table-octets (passed .0) }
+
+string-accepted : Accepted O one
+string-accepted = record { spells = spelled .1; no-cause = passed-none O string-table (passed .1) }
+
+list-accepted : Accepted N two
+list-accepted = record { spells = spelled .2; no-cause = passed-none N list-table (passed .2) }
 
 -- the value and the message
 
@@ -137,6 +170,14 @@ shaped : Shaped value
 unfolding Shaped slots count LeafShaped
 shaped = (omega arith, (record { sfits = omega arith }, (tt, tt)))
 
+-- messages one after another: the SET OF 5, and that of 5 and 7
+
+abbrev of-one : List ℕ
+of-one = 0x31 ∷ 0x80 ∷ 2 ∷ 1 ∷ 5 ∷ 0 ∷ 0 ∷ []
+
+abbrev of-two : List ℕ
+of-two = 0x31 ∷ 6 ∷ 2 ∷ 1 ∷ 5 ∷ 2 ∷ 1 ∷ 7 ∷ []
+
 -- what the definitions compute: every stage of reading, of writing and of the check
 
 abbrev room : ℕ → List ℕ
@@ -150,6 +191,9 @@ form = 0x31 ∷ 6 ∷ 0x80 ∷ 1 ∷ 5 ∷ 1 ∷ 1 ∷ 0xFF ∷ []
 
 abbrev after-reading : Outcome
 after-reading = record { answer = done-with 21; buffer = valueOctets ++ room 3 }
+
+abbrev after-one : Outcome
+after-one = record { answer = done-with 16; buffer = 0x56 ∷ 0x41 ∷ 0x31 ∷ 0 ∷ 1 ∷ 0x56 ∷ 0x41 ∷ 2 ∷ 0 ∷ 0 ∷ 0 ∷ 0 ∷ 0 ∷ 0 ∷ 0 ∷ 5 ∷ [] }
 
 abbrev after-writing : Outcome
 after-writing = record { answer = done-with 8; buffer = form ++ room 1 }
@@ -167,6 +211,9 @@ outcomes :
     × (wholeWrite S 2 [] [] ≡ refuse (of-value ValueShape 0) [])
     × (wholeWrite S 2 valueOctets (room 7) ≡ refuse (of-value MessageRoom 0) (room 7))
     × (wholeWrite S 2 valueOctets (room 9) ≡ after-writing)
+    × (wholeRead N 1 (of-one ++ of-two) (room 16) ≡ refuse (of-message Trailing 7) (room 16))
+    × (wholeRead N 1 of-one (room 16) ≡ after-one)
+    × (wholeRead N 1 of-two (room 27) .answer ≡ done-with 27)
 unfolding if then behind none-left any all joined tabulate lowestFrom same references isChoice universal constructed kind members rising bodyBelow
     tagsBelow siblings runsOn tagsAt numbersAt membersAt everyAt bodyAt recordAt countedEnd enumeratedEnd membersEnd ownEnd recordEnd scanFrom scan look round
     rounds found dangling wrongTags reachStep circular sameTag firstBegins firstStep firstOfBoth share reached pair sharing finiteBody finiteStep infinite
@@ -177,7 +224,7 @@ unfolding if then behind none-left any all joined tabulate lowestFrom same refer
     nodeKind numbers leafAgrees agreeing counts agrees judgeMembers judgeElements judgeBelow judgeValue judgeWhole beginsBody beginsItem beginsIn
     begins isListed decode passes begun notAwaited nothing full unwanted readWrapped readSequence placeMember readSet readMany choose readBody readKind
     readValue readMessage afterReading readOutcome afterJudging writeOutcome afterCheck wholeRead wholeWrite checkAnswer
-outcomes = (refl, refl, refl, refl, refl, refl, refl, refl, refl, refl, refl, refl)
+outcomes = (refl, refl, refl, refl, refl, refl, refl, refl, refl, refl, refl, refl, refl, refl, refl)
 
 -- every theorem of the page, at these
 
@@ -298,29 +345,6 @@ in-order-arrives = record {
       bare (is-set (five ∷ truth ∷ []) (five ∷ truth ∷ []) (sent (five-permitted as-given) (sent (truth-permitted as-given) done)) refl (next here (next here none)) (in-marks refl));
 }
 
-abbrev O : List ℕ
-O = 0x54 ∷ 0x59 ∷ 4 ∷ 1 ∷ 0 ∷ 0 ∷ 4 ∷ []
-
-abbrev one : List Record
-one = record { tags = tag 0 4 ∷ []; body = Plain OctetString } ∷ []
-
-string-table : Octets O
-unfolding all
-string-table = octets-by O refl
-
-string-passed : verdict O ≡ Passed
-unfolding any all joined tabulate lowestFrom references isChoice universal rising bodyBelow tagsBelow siblings runsOn tagsAt numbersAt membersAt everyAt bodyAt
-    recordAt countedEnd enumeratedEnd membersEnd ownEnd recordEnd scanFrom scan look round rounds found dangling wrongTags reachStep circular sameTag
-    firstBegins firstStep firstOfBoth share reached pair sharing finiteBody finiteStep infinite judgeChoices judge verdict
-string-passed = refl
-
-string-accepted : Accepted O one
-unfolding all joined kind tagOctets memberOctets ownOctets recordOctets rising bodyShaped recordShaped
-string-accepted = record {
-  spells = record { is = refl; shaped = refl; some = omega arith; few = omega arith; short = omega arith };
-  no-cause = passed-none O string-table string-passed;
-}
-
 abbrev whole : List ℕ
 whole = 4 ∷ 1 ∷ 0xAA ∷ []
 
@@ -342,4 +366,73 @@ pub however-sent : (wholeRead S 2 message (room 24) ≡ wholeRead S 2 in-order (
 however-sent = (
   page.however-it-is-sent S table-octets records accepted 2 (omega arith) value message in-order (room 24) low message-arrives in-order-arrives (omega arith) (omega arith),
   page.however-a-string-is-sent O string-table one string-accepted 0 (omega arith) (string (0xAA ∷ [])) whole parted (room 9) whole-permitted parted-permitted (omega arith) (omega arith),
+)
+
+-- a line of two messages; two values share the second one
+
+abbrev set-of : List ℕ → Value
+set-of ns = setOf (bag (map (λ n. leaf (integer (pos n))) ns))
+
+abbrev item-of : ℕ → List ℕ
+item-of n = 2 ∷ 1 ∷ n ∷ []
+
+number-permitted : (n : ℕ) → EncodesAt any-order (table two) 1 0 (leaf (integer (integerOf (n ∷ [])))) (item-of n)
+unfolding EncodesAt table explicit explicitTags before ownTag identifierOf identifier leading last constructed if minimal
+number-permitted n = bare (is-plain {x = integer (integerOf (n ∷ []))} (n ∷ []) (c-integer {c = n ∷ []} refl (omega arith)) (in-whole (sized (1 ∷ []) (short (omega arith) refl) refl)))
+
+abbrev Permitted : List ℕ → List ℕ → Type 0
+Permitted ns m = Encodes (table two) 1 (set-of ns) m
+
+module _ where
+  one-permitted : Permitted (5 ∷ []) of-one
+  unfolding EncodesAt table explicit explicitTags before ownTag identifierOf identifier leading last constructed if joined integerOf negative pile
+  one-permitted = record { level = 2; encodes = bare (is-set-of (item-of 5 ∷ []) (item-of 5 ∷ []) (cons (number-permitted 5) nil) (permuted (next here none)) (in-marks refl)) }
+
+  two-permitted : Permitted (5 ∷ 7 ∷ []) of-two × Permitted (7 ∷ 5 ∷ []) of-two
+  unfolding EncodesAt table explicit explicitTags before ownTag identifierOf identifier leading last constructed if joined integerOf negative pile
+  two-permitted = (
+    record {
+      level = 2;
+      encodes =
+          bare (is-set-of (item-of 5 ∷ item-of 7 ∷ []) (item-of 5 ∷ item-of 7 ∷ []) (cons (number-permitted 5) (cons (number-permitted 7) nil)) (permuted (next here (next here none))) (in-size (sized (6 ∷ []) (short (omega arith) refl) refl)));
+    },
+    record {
+      level = 2;
+      encodes =
+          bare (is-set-of (item-of 7 ∷ item-of 5 ∷ []) (item-of 5 ∷ item-of 7 ∷ []) (cons (number-permitted 7) (cons (number-permitted 5) nil)) (permuted (next (there here) (next here none))) (in-size (sized (6 ∷ []) (short (omega arith) refl) refl)));
+    },
+  )
+
+-- the values of the two messages are not equivalent: they have octets of two lengths
+pub apart : Equivalent (set-of (5 ∷ [])) (set-of (5 ∷ 7 ∷ [])) → ⊥
+unfolding bag octets leafOctets count presence eight
+apart e = let h = equivalent-length any-order (e .level) (set-of (5 ∷ [])) (set-of (5 ∷ 7 ∷ [])) (e .equivalent) in omega arith
+
+pub shared : Equivalent (set-of (5 ∷ 7 ∷ [])) (set-of (7 ∷ 5 ∷ [])) × ((m : List ℕ) → Permitted (5 ∷ []) m → Permitted (5 ∷ 7 ∷ []) m → ⊥)
+shared =
+    let share = page.what-shares-an-encoding-is-equivalent N list-table two list-accepted 1 (omega arith) in
+    (share (set-of (5 ∷ 7 ∷ [])) (set-of (7 ∷ 5 ∷ [])) of-two (two-permitted .0) (two-permitted .1), λ m e f. apart (share (set-of (5 ∷ [])) (set-of (5 ∷ 7 ∷ [])) m e f))
+
+pub begins-none : (x : List ℕ) → Permitted (5 ∷ 7 ∷ []) (of-one ++ x) → x ≡ []
+begins-none x = page.no-encoding-begins-another N list-table two list-accepted 1 (omega arith) (set-of (5 ∷ [])) (set-of (5 ∷ 7 ∷ [])) of-one x one-permitted
+
+pub cut-one-way :
+    ((of-one ∷ of-two ∷ []) ≡ (of-one ∷ of-two ∷ []))
+    × Each Equivalent (set-of (5 ∷ []) ∷ set-of (5 ∷ 7 ∷ []) ∷ []) (set-of (5 ∷ []) ∷ set-of (7 ∷ 5 ∷ []) ∷ [])
+cut-one-way =
+    page.a-line-is-cut-in-one-way N list-table two list-accepted 1 (omega arith) (set-of (5 ∷ []) ∷ set-of (5 ∷ 7 ∷ []) ∷ []) (set-of (5 ∷ []) ∷ set-of (7 ∷ 5 ∷ []) ∷ [])
+    (of-one ∷ of-two ∷ []) (of-one ∷ of-two ∷ []) (cons one-permitted (cons (two-permitted .0) nil)) (cons one-permitted (cons (two-permitted .1) nil)) refl
+
+flat-set : depth (set-of (5 ∷ [])) ≤ levels
+unfolding bag depth
+flat-set = omega arith
+
+one-octets : Octets of-one
+unfolding all
+one-octets = octets-by of-one refl
+
+pub cut-found : (wholeRead N 1 (of-one ++ of-two) (room 16) ≡ refuse (of-message Trailing 7) (room 16)) × (of-one ≡ of-one)
+cut-found = (
+  page.the-cut-is-found N list-table two list-accepted 1 (omega arith) (set-of (5 ∷ [])) of-one of-two (room 16) flat-set one-permitted (omega arith) (omega arith),
+  page.no-other-cut-is-found N list-table two list-accepted 1 (omega arith) (set-of (5 ∷ [])) of-one of-two of-one of-two (room 16) one-permitted refl one-octets 16 (after-one .buffer) (outcomes .13),
 )

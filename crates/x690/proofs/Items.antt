@@ -30,6 +30,10 @@ header-29 : readHeader (0x01 ∷ []) (0x01 ∷ 0x85 ∷ []) ≡ refused LengthFi
 unfolding if then same readIdentifier readLength readHeader
 header-29 = refl
 
+-- 8.1.3.6: a NULL in an item of indefinite length, as it is sent
+marks-sent : Constructed (0x30 ∷ []) (0x05 ∷ 0 ∷ []) (0x30 ∷ 0x80 ∷ 0x05 ∷ 0 ∷ 0 ∷ 0 ∷ [])
+marks-sent = in-marks refl
+
 -- behind contents stands `tail`: the contents end there, and r follows
 pub data Ends : Mode → List ℕ → List ℕ → Type 0 where
   no-more : Ends closed [] []

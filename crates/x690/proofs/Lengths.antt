@@ -60,6 +60,30 @@ length-ff : readLength 2 (0xFF ∷ []) ≡ refused Forbidden 2
 unfolding if readLong readLength
 length-ff = refl
 
+-- what may be sent is read
+pub length-complete : {n : ℕ} {m : List ℕ} (l : ℕ) (s : List ℕ) → Length n m → n ≤ length s → readLength l (m ++ s) ≡ got (definite n) s
+unfolding readLength readLong fit
+length-complete {n} l s (short h e) f = rw e (simp (run, lt-ltb n 128 h, fit, le-leb n (length s) f))
+length-complete {n} l s (long ds h k v e) f =
+    let b = 128 + length ds in
+    let i : length ds ≤ length (ds ++ s) = simp length-append (omega arith) in
+    let d : b - 128 ≡ length ds = omega arith in
+    rw e
+    (simp (
+      run,
+      le-ltb b 128 (omega arith),
+      ne-eqb b 128 (λ z. omega arith),
+      d,
+      le-leb (length ds) longestField k,
+      readLong,
+      le-leb _ _ i,
+      take-append-seam ds s,
+      drop-append-seam ds s,
+      v,
+      fit,
+      le-leb n (length s) f,
+    ))
+
 -- what a reader of length octets took from s
 pub data Shape (s : List ℕ) : Size → List ℕ → Type 0 where
   is-definite : {n : ℕ} {r : List ℕ} (m : List ℕ) → s ≡ m ++ r → Length n m → n ≤ length r → Shape s (definite n) r
@@ -91,30 +115,6 @@ length-sound p (b ∷ s) =
   where
     above : eqb b 128 ≡ false → 128 ≤ b → 128 < b
     above e h = let n : (b ≡ 128 → ⊥) = eqb-false b 128 e in omega arith
-
--- what may be sent is read
-pub length-complete : {n : ℕ} {m : List ℕ} (l : ℕ) (s : List ℕ) → Length n m → n ≤ length s → readLength l (m ++ s) ≡ got (definite n) s
-unfolding readLength readLong fit
-length-complete {n} l s (short h e) f = rw e (simp (run, lt-ltb n 128 h, fit, le-leb n (length s) f))
-length-complete {n} l s (long ds h k v e) f =
-    let b = 128 + length ds in
-    let i : length ds ≤ length (ds ++ s) = simp length-append (omega arith) in
-    let d : b - 128 ≡ length ds = omega arith in
-    rw e
-    (simp (
-      run,
-      le-ltb b 128 (omega arith),
-      ne-eqb b 128 (λ z. omega arith),
-      d,
-      le-leb (length ds) longestField k,
-      readLong,
-      le-leb _ _ i,
-      take-append-seam ds s,
-      drop-append-seam ds s,
-      v,
-      fit,
-      le-leb n (length s) f,
-    ))
 
 digits-unsigned : (k n : ℕ) (l : List ℕ) → n < 256 ^ k → unsigned 0 (digits k n l) ≡ unsigned n l
 unfolding digits unsigned
