@@ -1,5 +1,5 @@
-/* Call control in small: checks a table, writes a value and reads it back, asks how long it is to a wake-up call, and which century a time
- * is in. */
+/* Call control in small: checks a table, writes a value and reads it back, cuts a line of messages, asks how long it is to a wake-up call, and
+ * which century a time is in. */
 #include <inttypes.h>
 #include <stdio.h>
 #include <string.h>
@@ -39,9 +39,24 @@ static void show_time(const char *what, int64_t answer)
         printf("%s: %" PRId64 "\n", what, answer);
 }
 
+/* Reads the first of the messages that stand one after another in what has come on a line, and says how many octets it has; 0 if it is not whole. */
+static size_t first_of(const uint8_t *line, size_t n, uint8_t *buf, size_t room)
+{
+    if (n > 8192)
+        n = 8192;
+    uint64_t a = yinscarf_read(table, sizeof table, 2, line, n, buf, room);
+    show("read from the line", a, buf);
+    if (YINSCARF_NUMBER(a) != YINSCARF_MESSAGE_TRAILING)
+        return YINSCARF_NUMBER(a) == YINSCARF_DONE ? n : 0;
+    n = YINSCARF_REST(a);
+    a = yinscarf_read(table, sizeof table, 2, line, n, buf, room);
+    show("read up to there", a, buf);
+    return YINSCARF_NUMBER(a) == YINSCARF_DONE ? n : 0;
+}
+
 int main(void)
 {
-    uint8_t message[64], back[64];
+    uint8_t message[64], back[64], line[20], copy[64];
     uint64_t a = yinscarf_check(table, sizeof table);
     show("check", a, message);
     uint64_t w = yinscarf_write(table, sizeof table, 2, value, sizeof value, message, sizeof message);
@@ -51,6 +66,13 @@ int main(void)
     /* a member of the SET is missing */
     uint64_t no = yinscarf_read(table, sizeof table, 2, (const uint8_t *)"\x31\x00", 2, back, sizeof back);
     show("read", no, back);
+    /* the message twice, and half of it */
+    memcpy(line, message, 8);
+    memcpy(line + 8, message, 8);
+    memcpy(line + 16, message, 4);
+    if (first_of(line, 20, copy, sizeof copy) != 8 || first_of(line + 8, 12, copy, sizeof copy) != 8 || first_of(line + 16, 4, copy, sizeof copy) != 0 ||
+        memcmp(copy, value, sizeof value) != 0)
+        return 1;
     int64_t o = yinscarf_order(evening, sizeof evening, morning, sizeof morning);
     show_time("order", o);
     int64_t s = yinscarf_seconds(evening, sizeof evening, morning, sizeof morning);

@@ -9,7 +9,6 @@ use native.Mathlib.Omega.{arith}
 use lib.ListN.{length, length-append}
 use Rattle.octets.specs.declared.cause.Cause.{Cause}
 use Rattle.octets.specs.declared.cause.Cause.the-variants.{NoType, MessageRoom, MessageLength, Trailing, ValueRoom}
-use Rattle.octets.specs.Causes.{causeNumber}
 use Rattle.octets.specs.Answer.{got}
 use Rattle.octets.specs.Lists.{joined}
 use Rattle.octets.specs.Numbers.{Octets}

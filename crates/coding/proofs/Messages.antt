@@ -57,10 +57,14 @@ sound T n t m v r o e =
       deep = deep T n t v w;
     }
 
+-- a permitted encoding has as many levels as its value
+pub at-level : {T : Table} {t : ℕ} {v : Value} {m : List ℕ} (n : ℕ) → Encodes T t v m → depth v ≤ n → EncodesAt any-order T n t v m
+at-level {T} {t} {v} {m} n e h = relevel any-order T (e .level) n t v m h (e .encodes)
+
 -- the reading of one value in front of anything: a permitted encoding within the level is read to its end
 pub complete : (T : Table) → Good T → (n t : ℕ) (v : Value) (m s : List ℕ) → Encodes T t v m → depth v ≤ n → Reads Equivalent (readValue T n t) v (m ++ s) s
 complete T good n t v m s e h =
-    let x = value-complete any-order T good n t v m s (relevel any-order T (e .level) n t v m h (e .encodes)) in
+    let x = value-complete any-order T good n t v m s (at-level n e h) in
     record { value = x .value; answer = x .answer; alike = record { level = n; equivalent = x .alike } }
 
 -- and with the elements of SET OF in the order of arrival it yields that very value
@@ -96,7 +100,7 @@ message-complete o T good n t v m e =
 -- Every permitted encoding of a leaf, a string in segments too, is read to that very leaf.
 pub accepts-a-leaf : (T : Table) → Good T → (n t : ℕ) (x : Leaf) (m : List ℕ) → Encodes T t (leaf x) m → depth (leaf x) ≤ n → readMessage T n t m ≡ got (leaf x) []
 accepts-a-leaf T good n t x m e h =
-    let y = message-complete any-order T good n t (leaf x) m (relevel any-order T (e .level) n t (leaf x) m h (e .encodes)) in
+    let y = message-complete any-order T good n t (leaf x) m (at-level n e h) in
     rw (← equivalent-leaf any-order n x (y .value) (y .alike)) (y .answer)
 
 -- Octets behind an encoding within the level are refused, where they begin.
@@ -104,15 +108,15 @@ pub refuses-behind : (T : Table) → Good T → (n t : ℕ) (v : Value) (m x : L
 refuses-behind T good n t v m [] e h k = absurd (omega arith)
 refuses-behind T good n t v m (b ∷ x) e h k =
     let z = complete T good n t v m (b ∷ x) e h in
-    message-begun any-order T good n t v (z .value) m (b ∷ x) (relevel any-order T (e .level) n t v m h (e .encodes)) (z .answer) ∙ simp run
+    message-begun any-order T good n t v (z .value) m (b ∷ x) (at-level n e h) (z .answer) ∙ simp run
 
 -- Unique: two encodings that the same octets begin with are the same, so is what stands behind them, and their values are equivalent. One
 -- reading finds the end of both.
 pub unique : (T : Table) → Good T → (t : ℕ) {v w : Value} {m n : List ℕ} (r s : List ℕ) → Encodes T t v m → Encodes T t w n → m ++ r ≡ n ++ s → (m ≡ n) × (r ≡ s) × Equivalent v w
 unique T good t {v} {w} {m} {n} r s e f q =
     let k = max (depth v) (depth w) in
-    let a = value-complete any-order T good k t v m r (relevel any-order T (e .level) k t v m (omega arith) (e .encodes)) in
-    let b = value-complete any-order T good k t w n s (relevel any-order T (f .level) k t w n (omega arith) (f .encodes)) in
+    let a = value-complete any-order T good k t v m r (at-level k e (omega arith)) in
+    let b = value-complete any-order T good k t w n s (at-level k f (omega arith)) in
     let z : got (a .value) r ≡ got (b .value) s = sym (a .answer) ∙ ap (readValue T k t) q ∙ b .answer in
     let i : EquivalentAt any-order k w (a .value) = rw (got-value z) (b .alike) in
     let j : r ≡ s = got-rest z in (

@@ -29,13 +29,13 @@ use Rattle.coding.specs.Calls.{afterReading, readOutcome, afterJudging}
 use Rattle.coding.specs.Outcome.{levels, longestValue, longestMessage, Refusal, of-table, of-value, of-message, OfStage, Told, done, refusal, Outcome, refuse, write-at-start}
 use Rattle.coding.specs.Demands.{MessageRefused, NoRoomForValue, Read, ValueRefused, over-long, as-judged, NoRoomForMessage, Wrote, Received, Sent}
 use Rattle.coding.proofs.FirstTags.{Good}
-use Rattle.coding.proofs.Levels.{relevel, retype, deep}
+use Rattle.coding.proofs.Levels.{retype, deep}
 use Rattle.coding.proofs.Form.{form-encodes}
 use Rattle.coding.proofs.Judging.{judge-whole, judge-octets}
 use Rattle.coding.proofs.Shaped.{Limited, encodes-shaped}
 use Rattle.coding.proofs.Equivalence.{equivalent-length}
 use Rattle.coding.proofs.Refusals.{OfMessage, late, OfValue, is-11, is-12, is-13, Says, Speaks, names, message-says, whole-says}
-use Rattle.coding.proofs.Messages.{sound, message-complete, accepts-as-given}
+use Rattle.coding.proofs.Messages.{sound, at-level, message-complete, accepts-as-given}
 
 -- a value of four octets, of a message of three, in a buffer of four and of three
 room-for-four : (m : List ℕ) → afterReading m (7 ∷ 7 ∷ 7 ∷ 7 ∷ []) (got (leaf (boolean true)) []) ≡ write-at-start (0x56 ∷ 0x41 ∷ 1 ∷ 1 ∷ []) (7 ∷ 7 ∷ 7 ∷ 7 ∷ [])
@@ -252,7 +252,7 @@ module _ (T : Table) (t : ℕ) (m buf : List ℕ) where
     pub received : ((u : ℕ) → Limited (T u .body)) → (v : Value) → depth v ≤ levels → length (octets v) ≤ longestValue → Encodes T t v m → length m ≤ longestMessage
         → length (octets v) ≤ length buf → Received T t v m buf (reading T t m buf)
     received few v d k e h l =
-        let x = message-complete any-order T good levels t v m (relevel any-order T (e .level) levels t v m d (e .encodes)) in
+        let x = message-complete any-order T good levels t v m (at-level levels e d) in
         let y = sound T levels t m (x .value) [] o (x .answer) in
         let q : length (octets v) ≡ length (octets (x .value)) = equivalent-length any-order levels v (x .value) (x .alike) in
         let r = read-fits (x .value) h (x .answer) (omega arith) (omega arith) in

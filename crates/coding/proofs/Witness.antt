@@ -3,7 +3,7 @@
 -- for messages one after another the SETs OF 5 and of 5 and 7.
 -- Assumes nothing.
 use borrow.Author.Tests.{ltb-true}
-use mathlib.Core.Bool.{Bool, true, false}
+use mathlib.Core.Bool.{true, false}
 use mathlib.Core.List.{List, [], _∷_, _++_, map}
 use mathlib.Core.Option.{some}
 use mathlib.Core.Path.{_≡_, refl, ap}
@@ -11,11 +11,11 @@ use native.Mathlib.Omega.{arith}
 use Prim.Native.Nat.{ℕ, zero, suc, _≤_, _<_}
 use lib.Dec.{ltb}
 use lib.IntN.{pos}
-use lib.ListN.{length, getD, replicate}
+use lib.ListN.{length, take, replicate}
 use Rattle.octets.specs.Answer.{got, then, if, behind, none-left}
 use Rattle.octets.specs.Lists.{any, all, joined, tabulate, lowestFrom, same}
 use Rattle.octets.specs.Numbers.{Octets}
-use Rattle.octets.specs.Permutations.{here, there, none, next, Each, nil, cons, Order, any-order, as-given, permuted}
+use Rattle.octets.specs.Permutations.{here, there, Perm, none, next, Each, nil, cons, Order, any-order, as-given, permuted}
 use Rattle.octets.proofs.Tests.{and-left, and-right}
 use Rattle.x690.specs.Identifier.{leading, following, identifier}
 use Rattle.x690.specs.Length.{short, unsigned, digits, lengthOctets}
@@ -30,10 +30,9 @@ use Rattle.table.specs.Rules.{bodyBelow, tagsBelow, siblings, runsOn, members}
 use Rattle.table.specs.Reading.{tagsAt, numbersAt, membersAt, everyAt, bodyAt, recordAt, countedEnd, enumeratedEnd, membersEnd, ownEnd, recordEnd, scanFrom, scan, look}
 use Rattle.table.specs.Decide.{round, rounds, found, dangling, wrongTags, reachStep, circular, sameTag, begins as firstBegins, firstStep, firstOfBoth}
 use Rattle.table.specs.Decide.{share, reached, pair, sharing, finiteBody, finiteStep, infinite}
-use Rattle.table.specs.Cause.{Breaks, FirstCause}
+use Rattle.table.specs.Cause.{FirstCause}
 use Rattle.table.specs.Verdict.{judgeChoices, judge, verdict}
 use Rattle.octets.specs.Causes.{causeNumber}
-use Rattle.octets.specs.declared.cause.Cause.{Cause}
 use Rattle.octets.specs.declared.cause.Cause.the-variants.{TableShape, NoType, ValueShape, MessageRoom, MessageLength, Cut, Trailing, ValueRoom}
 use Rattle.table.specs.declared.Verdict.the-variants.{Passed}
 use Rattle.table.proofs.Theorems.{passed-none}
@@ -368,10 +367,22 @@ however-sent = (
   page.however-a-string-is-sent O string-table one string-accepted 0 (omega arith) (string (0xAA ∷ [])) whole parted (room 9) whole-permitted parted-permitted (omega arith) (omega arith),
 )
 
--- a line of two messages; two values share the second one
+-- a line of two messages; the values of the first and the second are not equivalent, and another value shares the second one
 
-abbrev set-of : List ℕ → Value
-set-of ns = setOf (bag (map (λ n. leaf (integer (pos n))) ns))
+abbrev number : ℕ → Value
+number n = leaf (integer (pos n))
+
+abbrev numbers-of : List ℕ → Value
+numbers-of ns = setOf (bag (map number ns))
+
+abbrev alone : Value
+alone = numbers-of (5 ∷ [])
+
+abbrev both : Value
+both = numbers-of (5 ∷ 7 ∷ [])
+
+abbrev turned : Value
+turned = numbers-of (7 ∷ 5 ∷ [])
 
 abbrev item-of : ℕ → List ℕ
 item-of n = 2 ∷ 1 ∷ n ∷ []
@@ -380,59 +391,55 @@ number-permitted : (n : ℕ) → EncodesAt any-order (table two) 1 0 (leaf (inte
 unfolding EncodesAt table explicit explicitTags before ownTag identifierOf identifier leading last constructed if minimal
 number-permitted n = bare (is-plain {x = integer (integerOf (n ∷ []))} (n ∷ []) (c-integer {c = n ∷ []} refl (omega arith)) (in-whole (sized (1 ∷ []) (short (omega arith) refl) refl)))
 
-abbrev Permitted : List ℕ → List ℕ → Type 0
-Permitted ns m = Encodes (table two) 1 (set-of ns) m
-
 module _ where
-  one-permitted : Permitted (5 ∷ []) of-one
+  alone-permitted : Encodes (table two) 1 alone of-one
   unfolding EncodesAt table explicit explicitTags before ownTag identifierOf identifier leading last constructed if joined integerOf negative pile
-  one-permitted = record { level = 2; encodes = bare (is-set-of (item-of 5 ∷ []) (item-of 5 ∷ []) (cons (number-permitted 5) nil) (permuted (next here none)) (in-marks refl)) }
+  alone-permitted = record { level = 2; encodes = bare (is-set-of (item-of 5 ∷ []) (item-of 5 ∷ []) (cons (number-permitted 5) nil) (permuted (next here none)) (in-marks refl)) }
 
-  two-permitted : Permitted (5 ∷ 7 ∷ []) of-two × Permitted (7 ∷ 5 ∷ []) of-two
-  unfolding EncodesAt table explicit explicitTags before ownTag identifierOf identifier leading last constructed if joined integerOf negative pile
-  two-permitted = (
-    record {
-      level = 2;
-      encodes =
-          bare (is-set-of (item-of 5 ∷ item-of 7 ∷ []) (item-of 5 ∷ item-of 7 ∷ []) (cons (number-permitted 5) (cons (number-permitted 7) nil)) (permuted (next here (next here none))) (in-size (sized (6 ∷ []) (short (omega arith) refl) refl)));
-    },
-    record {
-      level = 2;
-      encodes =
-          bare (is-set-of (item-of 7 ∷ item-of 5 ∷ []) (item-of 5 ∷ item-of 7 ∷ []) (cons (number-permitted 7) (cons (number-permitted 5) nil)) (permuted (next (there here) (next here none))) (in-size (sized (6 ∷ []) (short (omega arith) refl) refl)));
-    },
-  )
+  two-permitted : {vs : List Value} (ps : List (List ℕ)) → Each (EncodesAt any-order (table two) 1 0) vs ps → Perm ps (item-of 5 ∷ item-of 7 ∷ []) → Encodes (table two) 1 (setOf (bag vs)) of-two
+  unfolding EncodesAt table explicit explicitTags before ownTag identifierOf identifier leading last constructed if joined
+  two-permitted ps es p = record { level = 2; encodes = bare (is-set-of ps (item-of 5 ∷ item-of 7 ∷ []) es (permuted p) (in-size (sized (6 ∷ []) (short (omega arith) refl) refl))) }
 
--- the values of the two messages are not equivalent: they have octets of two lengths
-pub apart : Equivalent (set-of (5 ∷ [])) (set-of (5 ∷ 7 ∷ [])) → ⊥
+  both-permitted : Encodes (table two) 1 both of-two
+  unfolding integerOf negative pile
+  both-permitted = two-permitted (item-of 5 ∷ item-of 7 ∷ []) (cons (number-permitted 5) (cons (number-permitted 7) nil)) (next here (next here none))
+
+  turned-permitted : Encodes (table two) 1 turned of-two
+  unfolding integerOf negative pile
+  turned-permitted = two-permitted (item-of 7 ∷ item-of 5 ∷ []) (cons (number-permitted 7) (cons (number-permitted 5) nil)) (next (there here) (next here none))
+
+-- they have octets of two lengths
+pub apart : Equivalent alone both → ⊥
 unfolding bag octets leafOctets count presence eight
-apart e = let h = equivalent-length any-order (e .level) (set-of (5 ∷ [])) (set-of (5 ∷ 7 ∷ [])) (e .equivalent) in omega arith
+apart e = let h = equivalent-length any-order (e .level) alone both (e .equivalent) in omega arith
 
-pub shared : Equivalent (set-of (5 ∷ 7 ∷ [])) (set-of (7 ∷ 5 ∷ [])) × ((m : List ℕ) → Permitted (5 ∷ []) m → Permitted (5 ∷ 7 ∷ []) m → ⊥)
+pub shared : Equivalent both turned × ((m : List ℕ) → Encodes (table two) 1 alone m → Encodes (table two) 1 both m → ⊥)
 shared =
     let share = page.what-shares-an-encoding-is-equivalent N list-table two list-accepted 1 (omega arith) in
-    (share (set-of (5 ∷ 7 ∷ [])) (set-of (7 ∷ 5 ∷ [])) of-two (two-permitted .0) (two-permitted .1), λ m e f. apart (share (set-of (5 ∷ [])) (set-of (5 ∷ 7 ∷ [])) m e f))
+    (share both turned of-two both-permitted turned-permitted, λ m e f. apart (share alone both m e f))
 
-pub begins-none : (x : List ℕ) → Permitted (5 ∷ 7 ∷ []) (of-one ++ x) → x ≡ []
-begins-none x = page.no-encoding-begins-another N list-table two list-accepted 1 (omega arith) (set-of (5 ∷ [])) (set-of (5 ∷ 7 ∷ [])) of-one x one-permitted
+pub begins-none : (x : List ℕ) → Encodes (table two) 1 both (of-one ++ x) → x ≡ []
+begins-none x = page.no-encoding-begins-another N list-table two list-accepted 1 (omega arith) alone both of-one x alone-permitted
 
-pub cut-one-way :
-    ((of-one ∷ of-two ∷ []) ≡ (of-one ∷ of-two ∷ []))
-    × Each Equivalent (set-of (5 ∷ []) ∷ set-of (5 ∷ 7 ∷ []) ∷ []) (set-of (5 ∷ []) ∷ set-of (7 ∷ 5 ∷ []) ∷ [])
-cut-one-way =
-    page.a-line-is-cut-in-one-way N list-table two list-accepted 1 (omega arith) (set-of (5 ∷ []) ∷ set-of (5 ∷ 7 ∷ []) ∷ []) (set-of (5 ∷ []) ∷ set-of (7 ∷ 5 ∷ []) ∷ [])
-    (of-one ∷ of-two ∷ []) (of-one ∷ of-two ∷ []) (cons one-permitted (cons (two-permitted .0) nil)) (cons one-permitted (cons (two-permitted .1) nil)) refl
+-- however their fifteen octets are cut
+pub cut-one-way : (ws : List Value) (ns : List (List ℕ)) → Each (Encodes (table two) 1) ws ns → joined (of-one ∷ of-two ∷ []) ≡ joined ns
+    → ((of-one ∷ of-two ∷ []) ≡ ns) × Each Equivalent (alone ∷ both ∷ []) ws
+cut-one-way ws ns =
+    page.a-line-is-cut-in-one-way N list-table two list-accepted 1 (omega arith) (alone ∷ both ∷ []) ws (of-one ∷ of-two ∷ []) ns (cons alone-permitted (cons both-permitted nil))
 
-flat-set : depth (set-of (5 ∷ [])) ≤ levels
+pub cut-alike : Each Equivalent (alone ∷ both ∷ []) (alone ∷ turned ∷ [])
+cut-alike = cut-one-way (alone ∷ turned ∷ []) (of-one ∷ of-two ∷ []) (cons alone-permitted (cons turned-permitted nil)) refl .1
+
+low-set : depth alone ≤ levels
 unfolding bag depth
-flat-set = omega arith
+low-set = omega arith
 
 one-octets : Octets of-one
 unfolding all
 one-octets = octets-by of-one refl
 
-pub cut-found : (wholeRead N 1 (of-one ++ of-two) (room 16) ≡ refuse (of-message Trailing 7) (room 16)) × (of-one ≡ of-one)
+pub cut-found : (wholeRead N 1 (of-one ++ of-two) (room 16) ≡ refuse (of-message Trailing 7) (room 16)) × (of-one ≡ take 7 (of-one ++ of-two))
 cut-found = (
-  page.the-cut-is-found N list-table two list-accepted 1 (omega arith) (set-of (5 ∷ [])) of-one of-two (room 16) flat-set one-permitted (omega arith) (omega arith),
-  page.no-other-cut-is-found N list-table two list-accepted 1 (omega arith) (set-of (5 ∷ [])) of-one of-two of-one of-two (room 16) one-permitted refl one-octets 16 (after-one .buffer) (outcomes .13),
+  page.the-cut-is-found N list-table two list-accepted 1 (omega arith) alone of-one of-two (room 16) low-set alone-permitted (omega arith) (omega arith),
+  page.no-other-cut-is-found N list-table two list-accepted 1 (omega arith) alone (take 7 (of-one ++ of-two)) of-two of-one of-two (room 16) alone-permitted refl one-octets 16 (after-one .buffer) (outcomes .13),
 )
