@@ -1,5 +1,6 @@
--- The three demands, for every table, type, value, message and buffer, and what holds of messages one after another: the page to read of what is
--- promised. What its words mean is in `specs/Demands`. That the functions' answers are these outcomes is in their contracts (`engine`), and for C in `link/proofs/Boundary`.
+-- The three demands, for every table, type, value, message and buffer, and that no message hides in another: the page to read of what is promised.
+-- What its words mean is in `specs/Demands`. That the functions' answers are these outcomes is in their contracts (`engine`), and for C in
+-- `link/proofs/Boundary`.
 -- Assumes nothing.
 use mathlib.Core.List.{List, [], _++_, append-nil}
 use mathlib.Core.Logic.{_↔_}
@@ -254,8 +255,8 @@ module _ (b : List ℕ) (o : Octets b) (rs : List Record) (a : Accepted b rs) (t
       let h = encodes-shaped any-order (table rs) (limits-of o a) (e .level) t (x .value) m (all-octets m p) (x .within) (e .encodes) in
       (h, judge-octets (table rs) levels t (x .value) (retype (table rs) (w .level) levels t (x .value) (x .deep) (w .typed)) h)
 
-  -- Document 02, [7]: encodings of one type. What is encoded is well-typed; and no limit of levels or octets is needed to tell encodings apart, so
-  -- what is asked of those within the limits holds of all.
+  -- Document 02, [7]: the permitted encodings of the type. What octets encode is well-typed (`well-typed` in `Levels`), and it takes no limit of
+  -- levels or octets to tell encodings apart: what is asked of those within the limits is said of all.
 
   -- Values that share an encoding are equivalent.
   pub what-shares-an-encoding-is-equivalent : (v w : Value) (m : List ℕ) → Encodes (table rs) t v m → Encodes (table rs) t w m → Equivalent v w

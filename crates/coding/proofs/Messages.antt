@@ -125,6 +125,7 @@ unique T good t {v} {w} {m} {n} r s e f q =
       record { level = k; equivalent = equivalent-trans any-order k v (a .value) w (a .alike) (equivalent-sym any-order k w (a .value) i) },
     )
 
+-- an encoding has an octet
 not-nothing : (T : Table) → Good T → (t : ℕ) (v : Value) (m s : List ℕ) → Encodes T t v m → m ++ s ≡ [] → ⊥
 not-nothing T good t v m s e q =
     true≢false (sym none-nil ∙ rw q at (started-some T good t m s (starts-at any-order T good (e .level) t v m (e .encodes))))
