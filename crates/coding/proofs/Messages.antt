@@ -1,14 +1,14 @@
 -- The reading of a message accepts what may be sent, all of it and nothing else: sound, complete, unique.
 -- Assumes nothing.
 use borrow.Author.Tests.{not-false}
-use mathlib.Core.Bool.{true, false, not, true≢false}
+use mathlib.Core.Bool.{true, false, true≢false}
 use mathlib.Core.List.{List, [], _∷_, _++_, append-nil, append-cancel-right}
 use mathlib.Core.Path.{_≡_, refl, sym, ap, _∙_}
 use native.Mathlib.Omega.{arith}
 use Prim.Native.Nat.{ℕ, _≤_, max}
 use lib.ListN.{length}
 use Rattle.octets.specs.declared.cause.Cause.the-variants.{Trailing}
-use Rattle.octets.specs.Answer.{got, refused, if, none-left}
+use Rattle.octets.specs.Answer.{got, refused, none-left}
 use Rattle.octets.specs.Lists.{joined}
 use Rattle.octets.specs.Numbers.{Octets}
 use Rattle.octets.specs.Permutations.{Order, any-order, as-given, Each, nil, cons}
@@ -19,10 +19,11 @@ use Rattle.coding.specs.Value.{Leaf, Value, leaf, depth}
 use Rattle.coding.specs.Encodes.{EncodesAt, Encodes, Arrives}
 use Rattle.coding.specs.Typed.{WellTyped}
 use Rattle.coding.specs.Equivalent.{EquivalentAt, Equivalent}
-use Rattle.coding.specs.Reading.{begun, readValue, readMessage}
+use Rattle.coding.specs.Reading.{begun, unwanted, readValue, readMessage}
 use Rattle.coding.proofs.Sound.{value-sound, not-awaited}
 use Rattle.coding.proofs.FirstTags.{Good, good, proper-readable}
 use Rattle.coding.proofs.Complete.{value-complete, starts-at, next-is, started-some}
+use Rattle.coding.proofs.Awaited.{message-trailing}
 use Rattle.coding.proofs.Levels.{relevel, well-typed, deep, in-some-order}
 use Rattle.coding.proofs.Equivalence.{equivalent-equal, equivalent-leaf, equivalent-sym, equivalent-trans}
 
@@ -73,18 +74,18 @@ complete-as-given T good n t v m s e h =
     let x = value-complete as-given T good n t v m s (relevel as-given T (e .level) n t v m h (e .encodes)) in
     rw (equivalent-equal n v (x .value) (x .alike)) (x .answer)
 
--- what is encoded begins as its type does: after the value only the octets behind it are judged
-message-begun : (o : Order) (T : Table) → Good T → (n t : ℕ) (v w : Value) (m s : List ℕ) → EncodesAt o T n t v m → readValue T n t (m ++ s) ≡ got w s
-    → readMessage T n t (m ++ s) ≡ if (not (none-left s)) (refused Trailing (length s)) λ _. got w s
-unfolding readMessage
-message-begun o T good n t v w m s e a =
+-- an encoding in front of anything is not empty, and begins as its type does
+encoding-begun : (o : Order) (T : Table) → Good T → (n t : ℕ) (v : Value) (m s : List ℕ) → EncodesAt o T n t v m → (none-left (m ++ s) ≡ false) × (begun T t (m ++ s) ≡ true)
+encoding-begun o T good n t v m s e =
     let y = starts-at o T good n t v m e in
-    let some-octet : none-left (m ++ s) ≡ false = started-some T good t m s y in
-    let b : begun T t (m ++ s) ≡ true = next-is T t {i = y .ident} {m = m} (y .rest) s (proper-readable (good t .first (y .ident) (y .begins))) (y .is) ∙ y .begins in
-    simp (run, some-octet, b, a)
+    (started-some T good t m s y, next-is T t {i = y .ident} {m = m} (y .rest) s (proper-readable (good t .first (y .ident) (y .begins))) (y .is) ∙ y .begins)
 
 message-accepts : (o : Order) (T : Table) → Good T → (n t : ℕ) (v w : Value) (m : List ℕ) → EncodesAt o T n t v m → readValue T n t (m ++ []) ≡ got w [] → readMessage T n t m ≡ got w []
-message-accepts o T good n t v w m e a = rw append-nil at (message-begun o T good n t v w m [] e a) ∙ simp run
+unfolding readMessage
+message-accepts o T good n t v w m e a =
+    let (q, b) = encoding-begun o T good n t v m [] e in
+    let z : readMessage T n t (m ++ []) ≡ got w [] = simp (run, q, b, a) in
+    rw append-nil at z
 
 -- A message that arrives as a value within the level is read to that very value.
 pub accepts-as-given : (T : Table) → Good T → (n t : ℕ) (v : Value) (m : List ℕ) → Arrives T t v m → depth v ≤ n → readMessage T n t m ≡ got v []
@@ -105,10 +106,12 @@ accepts-a-leaf T good n t x m e h =
 
 -- Octets behind an encoding within the level are refused, where they begin.
 pub refuses-behind : (T : Table) → Good T → (n t : ℕ) (v : Value) (m x : List ℕ) → Encodes T t v m → depth v ≤ n → 1 ≤ length x → readMessage T n t (m ++ x) ≡ refused Trailing (length x)
+unfolding unwanted
 refuses-behind T good n t v m [] e h k = absurd (omega arith)
 refuses-behind T good n t v m (b ∷ x) e h k =
     let z = complete T good n t v m (b ∷ x) e h in
-    message-begun any-order T good n t v (z .value) m (b ∷ x) (at-level n e h) (z .answer) ∙ simp run
+    let (q, s) = encoding-begun any-order T good n t v m (b ∷ x) (at-level n e h) in
+    message-trailing T n t (m ++ (b ∷ x)) (z .value) b x q s (z .answer)
 
 -- Unique: two encodings that the same octets begin with are the same, so is what stands behind them, and their values are equivalent. One
 -- reading finds the end of both.
@@ -125,10 +128,8 @@ unique T good t {v} {w} {m} {n} r s e f q =
       record { level = k; equivalent = equivalent-trans any-order k v (a .value) w (a .alike) (equivalent-sym any-order k w (a .value) i) },
     )
 
--- an encoding has an octet
 not-nothing : (T : Table) → Good T → (t : ℕ) (v : Value) (m s : List ℕ) → Encodes T t v m → m ++ s ≡ [] → ⊥
-not-nothing T good t v m s e q =
-    true≢false (sym none-nil ∙ rw q at (started-some T good t m s (starts-at any-order T good (e .level) t v m (e .encodes))))
+not-nothing T good t v m s e q = true≢false (sym none-nil ∙ rw q at (encoding-begun any-order T good (e .level) t v m s (e .encodes) .0))
 
 -- Encodings one after another are cut in one way: the same ones, as many, of equivalent values.
 pub cut-once : (T : Table) → Good T → (t : ℕ) {vs ws : List Value} {ms ns : List (List ℕ)} → Each (Encodes T t) vs ms → Each (Encodes T t) ws ns → joined ms ≡ joined ns
