@@ -1,5 +1,5 @@
 /* Takes UTCTimes for GeneralizedTimes and back, the input between pages that may not be touched and read-only during a call, the buffer between
- * such pages too. Each answer, and all of the buffer, is compared with the rules of document 02 as they stand here.
+ * such pages too. Each answer, and all of the buffer, is compared with the rules of docs/FORMATS.md as they stand here.
  *   centuries            every year both ways under each version, any two faults at once, buffers of every short length, versions that there are
  *                        not, null pointers, damaged inputs
  *   centuries --calls    answers calls on standard input, of each one octet 0 (to a GeneralizedTime) or 1 (to a UTCTime), the version in eight
@@ -17,7 +17,7 @@ static struct fenced inputs, small, large;
 static uint8_t filled[LONGEST];
 static unsigned long calls, done;
 
-/* ---- the rules of document 02 ---- */
+/* ---- the rules of docs/FORMATS.md ---- */
 
 /* The first year of a version's window, 0 if there is no such version. */
 static unsigned first_year(uint64_t version)

@@ -1,6 +1,6 @@
 /* Reads messages with every first length octet from 80 to FF and as many octets behind it as it says: the length, or, of more than may be, that and
  * any octets in turn. Each message is cut behind every octet, between pages that may not be touched. Each answer, and all of the buffer, is compared
- * with document 02's rule on length fields as it stands here. */
+ * with the rule of docs/FORMATS.md on length fields as it stands here. */
 #define _GNU_SOURCE
 #include <inttypes.h>
 #include <string.h>

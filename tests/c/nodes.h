@@ -1,4 +1,4 @@
-/* Inputs that are the octets of one node, and the rules of document 02 on a time that is handed in so. */
+/* Inputs that are the octets of one node, and the rules of docs/FORMATS.md on a time that is handed in so. */
 #ifndef NODES_H
 #define NODES_H
 

@@ -1,5 +1,5 @@
 /* Orders times and counts the seconds between them, each input between pages that may not be touched and read-only during a call. Each answer
- * is compared with the rules of document 02 as they stand here, and with the C library's calendar.
+ * is compared with the rules of docs/FORMATS.md as they stand here, and with the C library's calendar.
  *   times            the stored pairs and refusals, every day of some years, null pointers, every short length, the longest, damaged inputs
  *   times --pairs    answers pairs on standard input, of each input a two-octet length and its octets: order and seconds, packed, in a line */
 #define _GNU_SOURCE

@@ -36,9 +36,9 @@ LAX = {
                      '(X.690, 8.6.4 and 8.7.3)',
         'no members': 'nothing inside a SEQUENCE or SET without members is looked at, nor its form bit, nor what follows it under an explicit tag',
         'unused bits': 'a BIT STRING with more than 7 unused bits is read (X.690, 8.6.2.2)',
-        'any characters': 'a time is read whatever its characters are (document 02: 25)',
-        'time in segments': 'a time is read in segments too, joined as a string is (X.690, 8.25; document 02: 24)',
-        'long field': 'a length with more than four octets behind the first is read (document 02: 29)',
+        'any characters': 'a time is read whatever its characters are (FORMATS: 25)',
+        'time in segments': 'a time is read in segments too, joined as a string is (X.690, 8.25; FORMATS: 24)',
+        'long field': 'a length with more than four octets behind the first is read (FORMATS: 29)',
     },
     'pyasn1': {
         'spare octets': 'INTEGER or ENUMERATED contents with more octets than needed are read (X.690, 8.3.2)',
@@ -50,13 +50,15 @@ LAX = {
                      'of no segments is refused if it is definite (X.690, 8.6.4 and 8.7.3)',
         'indefinite primitive': 'a primitive string or time with an indefinite length is read (X.690, 8.1.3.2 a)',
         'form bit': 'the tag of a CHOICE without the constructed bit is read (X.690, 8.14.2)',
+        'untyped items': 'items inside a SEQUENCE or SET without members are read, whatever they are, and left out of the value (X.690, 8.9 and '
+                         '8.11)',
         'repeated member': 'a SET member that comes twice is read, the later one counts (X.690, 8.11)',
         'wide boolean': 'BOOLEAN contents of any number of octets are read (X.690, 8.2.1)',
         'unlisted number': 'an ENUMERATED number that is not listed is read (document 01: 25)',
-        'any ASCII': 'a time is read whatever its characters are, up to 7F (document 02: 25)',
-        'long field': 'a length with more than four octets behind the first is read (document 02: 29); from 0.5 on not with more than eight',
+        'any ASCII': 'a time is read whatever its characters are, up to 7F (FORMATS: 25)',
+        'long field': 'a length with more than four octets behind the first is read (FORMATS: 29); from 0.5 on not with more than eight',
         'time in segments': 'a time is read in segments too, which have its own number, not 4 as those that the encoder writes (X.690, 8.25; '
-                            'document 02: 24)',
+                            'FORMATS: 24)',
         **({'octets behind': 'what stands behind the item in an explicit tag of definite length is not looked at (X.690, 8.14.2)'}
            if python_asn1.OLD else
            {'several items': 'an explicit tag of indefinite length may hold several items, or none',
@@ -113,6 +115,9 @@ PINS = [
     ('erlang', 'no members', EMPTY, 0, '30 02 00 00', ('no', 26, 2), True),
     ('erlang', 'no members', EMPTY, 0, '10 00', ('no', 24, 0), True),
     ('erlang', 'numbers over 16,383', '54 59 05 01 02 40 00', 0, '9F 81 80 00 00', ('ok',), False),
+    ('pyasn1', 'untyped items', EMPTY, 0, '30 02 05 00', ('no', 26, 2), '56 41 10 00'),
+    ('pyasn1', 'untyped items', '54 59 10 01 02 00 80 00', 0, 'BF 81 00 02 14 00', ('no', 26, 4), '56 41 10 00'),
+    ('pyasn1', 'untyped items', EMPTY, 0, '30 80 02 01 05 00 00', ('no', 26, 2), '56 41 10 00'),
     ('pyasn1', 'unlisted number', ENUM, 0, '0A 01 03', ('no', 25, 0), True),
     ('pyasn1', 'wide boolean', '54 59 01 01 00 00 01', 0, '01 02 00 FF', ('no', 25, 0), True),
     ('pyasn1', 'indefinite primitive', STRINGS, 0, '04 80 00 00', ('no', 23, 0), True),
@@ -224,7 +229,7 @@ WIDEST = {'erlang': 126, 'pyasn1': 8}
 
 
 def over_field(coder, tally, table, t, m, we, they, tree):
-    """Compares readings of a message with longer length fields than document 02 allows: the coder reads it, and we refuse it where the model does."""
+    """Compares readings of a message with longer length fields than FORMATS allows: the coder reads it, and we refuse it where the model does."""
     what = coder + ' reads longer length fields: '
     if they != ('ok', tree):
         tally.fault(what + 'refused', table, t, m, we, they)
@@ -475,7 +480,7 @@ def with_pyasn1(args, R, tally):
         elif we == ('ok', model.octets(tree)):
             tally.add(how + ', we read: same value')
         elif kind == 'segments' and we[0] == 'no' and time_in_segments(table, t, m, unsegmented(they, t, tree)):
-            tally.add(how + ', we refuse: explained: a time in segments (X.690, 8.25; document 02: 24)')
+            tally.add(how + ', we refuse: explained: a time in segments (X.690, 8.25; FORMATS: 24)')
         elif lax_reading('pyasn1', table, t, m, tree) == {'spare octets'}:
             tally.add(how + ', we refuse: explained: spare octets of a negative INTEGER')
         else:

@@ -756,6 +756,8 @@ class Reader:
                         break
             again = list(range(len(rules))) if kind == SET and 'repeated member' in self.lax else []
             if not awaited and not again:
+                if not rules and p < e and not self.ended(p, e, indefinite)[0] and self.may('untyped items'):
+                    return (kind, kids), self.passed(p, e, indefinite)
                 if not indefinite:
                     if p == e:
                         return (kind, kids), p

@@ -8,8 +8,8 @@ use native.Mathlib.Omega.{arith}
 use Prim.Native.Nat.{ℕ, _+_, _-_, _≤_, _<_}
 use lib.Dec.{leb, eqb}
 use lib.ListN.{length, getD, drop, length-drop}
-use Rattle.octets.specs.declared.cause.Cause.{Cause}
-use Rattle.octets.specs.declared.cause.Cause.the-variants.{Cut, Forbidden}
+use Rattle.x690.specs.declared.ReadingCause.{ReadingCause}
+use Rattle.x690.specs.declared.ReadingCause.the-variants.{Cut, Forbidden}
 use Rattle.octets.specs.Answer.{Answer, refused, if, none-left}
 use Rattle.octets.proofs.Tests.{test}
 use Rattle.ber.proofs.Places.{none-at, some-at}
@@ -64,7 +64,7 @@ module _ (m : List ℕ) (at : ℕ) where
     over-octet h e = rw (some-at m at h, e)
 
 -- what an end says of reading on
-module _ {A : Type 0} (f : List ℕ → Answer A) (x : Unit {0} → Answer A) (m : List ℕ) (at : ℕ) where
+module _ {A : Type 0} (f : List ℕ → Answer ReadingCause A) (x : Unit {0} → Answer ReadingCause A) (m : List ℕ) (at : ℕ) where
   abbrev Tells : Bool → End → Type 0
   Tells k More = (atEnd (mode k) (drop at m) f x ≡ x tt) × (at < length m)
   Tells k (Over e) = (atEnd (mode k) (drop at m) f x ≡ f (drop e m)) × (at ≤ length m → at ≤ e) × (e ≤ length m)
@@ -110,6 +110,6 @@ module _ {A : Type 0} (f : List ℕ → Answer A) (x : Unit {0} → Answer A) (m
       → (atEnd (mode k) (drop at m) f x ≡ f (drop u m)) × (at ≤ u) × (u ≤ length m)
   end-over k r u h e d = let t : Tells k (Over u) = rw (← e, d) at (tells k) in (t .0, t .1 h, t .2)
 
-  pub end-broken : (k : Bool) (r : End) (c : Cause) → r ≡ endOf k (length m) (drop at m) → r ≡ Broken c
+  pub end-broken : (k : Bool) (r : End) (c : ReadingCause) → r ≡ endOf k (length m) (drop at m) → r ≡ Broken c
       → atEnd (mode k) (drop at m) f x ≡ refused c (length (drop at m))
   end-broken k r c e d = rw (← e, d) at (tells k)

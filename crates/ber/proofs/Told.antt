@@ -1,6 +1,6 @@
 -- Laws of the answers of the code that reads identifier and length octets: each answer, and what it says of the reading of items.
 -- Assumes nothing.
-use borrow.Author.Tests.{lt-ltb, le-ltb, le-leb, lt-leb, eq-eqb, ne-eqb}
+use borrow.Author.Tests.{ltb-true, ltb-false, leb-true, leb-false, lt-ltb, le-ltb, le-leb, lt-leb, eq-eqb, ne-eqb}
 use lib.Dec.{ltb, leb, eqb}
 use lib.ListN.{length, getD, take, drop, length-append, length-drop, length-take, take-append-drop}
 use lib.Seq.{append-snoc, drop-append-seam, drop-drop}
@@ -9,25 +9,25 @@ use mathlib.Core.List.{List, [], _∷_, _++_}
 use mathlib.Core.Path.{_≡_, refl, sym, ap, _∙_}
 use native.Mathlib.Omega.{arith}
 use Prim.Native.Nat.{ℕ, suc, _+_, _-_, _*_, _%_, _≤_, _<_, min}
-use Rattle.octets.specs.declared.cause.Cause.{Cause}
-use Rattle.octets.specs.declared.cause.Cause.the-variants.{Cut, Forbidden, LengthField}
+use Rattle.x690.specs.declared.ReadingCause.{ReadingCause}
+use Rattle.x690.specs.declared.ReadingCause.the-variants.{Cut, Forbidden, LengthField}
 use Rattle.octets.specs.Answer.{Answer, got, refused, then, if}
 use Rattle.octets.specs.Permutations.{AllOctets}
-use Rattle.octets.proofs.Answer.{got-holds, if-cases}
+use Rattle.octets.proofs.Answer.{got-holds, if-cases, refused≢got}
 use Rattle.octets.proofs.Tests.{test}
 use Rattle.octets.proofs.Permutations.{every-left, every-right}
 use Rattle.octets.proofs.Lists.{behind, length-behind}
 use Rattle.ber.specs.Codes.{spelled, codeOf}
 use Rattle.x690.specs.Length.{unsigned, longestField, Length as Octets, short, long}
 use Rattle.x690.specs.Reading.{readFollowing, readIdentifier, Size, definite, indefinite, readLength, readLong, fit}
-use Rattle.ber.specs.Told.{toldIdentifier, toldLength, Again}
+use Rattle.ber.specs.Told.{toldIdentifier, toldLength, noExtent, extentOf, againAt}
 use Rattle.ber.specs.declared.identifier.Identifier.{Identifier}
 use Rattle.ber.specs.declared.identifier.Identifier.the-variants.{Read, Refused as NoIdentifier}
 use Rattle.ber.specs.declared.length.Length.{Length}
 use Rattle.ber.specs.declared.length.Length.the-variants.{Read as ReadLength, Refused as NoLength}
 use Rattle.ber.specs.declared.length.Extent.{Extent}
 use Rattle.x690.proofs.Identifiers.{identifier-sound, identifier-some}
-use Rattle.x690.proofs.Lengths.{counts, field, length-sound, Shape, is-definite, is-indefinite}
+use Rattle.x690.proofs.Lengths.{counts, field, length-sound, length-complete, Shape, is-definite, is-indefinite}
 use Rattle.ber.proofs.Places.{left-at, none-at, some-at, from-before}
 
 -- m is an identifier, as the code answers
@@ -242,11 +242,11 @@ module _ (m : List ℕ) (at : ℕ) (some : 0 < at) (there : at ≤ length m) whe
       length-long-no g l = rw (whole-form l) (fits-not m (at + k) n l g f)
 
 -- the place of a refusal is where l octets are left
-abbrev pub Faulty : {A : Type 0} → ℕ → Answer A → Type 0
+abbrev pub Faulty : {A : Type 0} → ℕ → Answer ReadingCause A → Type 0
 Faulty l (got a s) = Unit {0}
 Faulty l (refused c k) = k ≡ l
 
-pub then-faulty : {A B : Type 0} (l : ℕ) (x : Answer A) (f : A → List ℕ → Answer B)
+pub then-faulty : {A B : Type 0} (l : ℕ) (x : Answer ReadingCause A) (f : A → List ℕ → Answer ReadingCause B)
     → Faulty l x → ((a : A) (s : List ℕ) → Faulty l (f a s)) → Faulty l (then x f)
 unfolding then
 then-faulty l (got a s) f h k = k a s
@@ -284,16 +284,16 @@ length-faulty l (b ∷ s) =
     if-cases (Faulty l) (leb (b - 128) longestField) _ _ (λ e. long-faulty l (b - 128) s) λ e.
     if-cases (Faulty l) (ltb b 255) _ _ (λ e. refl) λ e. refl
 
-pub the-refusal : {A : Type 0} {c : Cause} {l k : ℕ} (x : Answer A) → Faulty l x → x ≡ refused c k → x ≡ refused c l
+pub the-refusal : {A : Type 0} {c : ReadingCause} {l k : ℕ} (x : Answer ReadingCause A) → Faulty l x → x ≡ refused c k → x ≡ refused c l
 the-refusal {A} {c} {l} {k} x h e = let q : Faulty {A = A} l (refused c k) = rw e at h in e ∙ rw q
 
 -- what an answer says of an identifier
 module _ (n : ℕ) where
-  abbrev pub Says : Answer (List ℕ) → Identifier → Type 0
+  abbrev pub Says : Answer ReadingCause (List ℕ) → Identifier → Type 0
   Says x (Read c e) = (i : List ℕ) × (w : List ℕ) × (x ≡ got i w) × (codeOf i ≡ c) × (n - length w ≡ e)
   Says x (NoIdentifier c) = (l : ℕ) × (x ≡ refused c l)
 
-  pub says : (x : Answer (List ℕ)) → Says x (toldIdentifier n x)
+  pub says : (x : Answer ReadingCause (List ℕ)) → Says x (toldIdentifier n x)
   unfolding toldIdentifier
   says (got i w) = (i, w, refl, refl, refl)
   says (refused c l) = (l, refl)
@@ -312,14 +312,14 @@ module _ (m : List ℕ) (r : Identifier) (a : r ≡ toldIdentifier (length m) (r
       let b : drop (length i) m ≡ w = ap (drop (length i)) y ∙ drop-append-seam i w in
       (i, x ∙ rw (← b, z), k, omega arith, omega arith)
 
-  pub identifier-refused : (f : Cause) → r ≡ NoIdentifier f → readIdentifier m ≡ refused f (length m)
+  pub identifier-refused : (f : ReadingCause) → r ≡ NoIdentifier f → readIdentifier m ≡ refused f (length m)
   identifier-refused f d =
       let (l, x) : Says (length m) (readIdentifier m) (NoIdentifier f) = rw (← a, d) at (says (length m) (readIdentifier m)) in
       the-refusal (readIdentifier m) (identifier-faulty m) x
 
 -- what an answer says of a length
 module _ (n : ℕ) (e : Extent) where
-  says-definite : (x : Answer Size) → ReadLength e ≡ toldLength n x → e .indefinite ≡ false
+  says-definite : (x : Answer ReadingCause Size) → ReadLength e ≡ toldLength n x → e .indefinite ≡ false
       → (k : ℕ) × (w : List ℕ) × (x ≡ got (definite k) w) × (e .start ≡ n - length w) × (e .end ≡ n - length w + k)
   unfolding toldLength
   says-definite (got (definite k) w) p q =
@@ -330,7 +330,7 @@ module _ (n : ℕ) (e : Extent) where
       absurd (true≢false (sym (ap (λ (x : Extent). x .indefinite) h) ∙ q))
   says-definite (refused c l) p q = let z : _≡_ {A = ℕ} 0 1 = cc in absurd (omega arith)
 
-  says-open : (x : Answer Size) → ReadLength e ≡ toldLength n x → e .indefinite ≡ true
+  says-open : (x : Answer ReadingCause Size) → ReadLength e ≡ toldLength n x → e .indefinite ≡ true
       → (w : List ℕ) × (x ≡ got indefinite w) × (e .start ≡ n - length w) × (e .end ≡ n)
   unfolding toldLength
   says-open (got (definite k) w) p q =
@@ -341,7 +341,7 @@ module _ (n : ℕ) (e : Extent) where
       (w, refl, ap (λ (x : Extent). x .start) h, ap (λ (x : Extent). x .end) h)
   says-open (refused c l) p q = let z : _≡_ {A = ℕ} 0 1 = cc in absurd (omega arith)
 
-says-no : (n : ℕ) (x : Answer Size) (f : Cause) → NoLength f ≡ toldLength n x → (l : ℕ) × (x ≡ refused f l)
+says-no : (n : ℕ) (x : Answer ReadingCause Size) (f : ReadingCause) → NoLength f ≡ toldLength n x → (l : ℕ) × (x ≡ refused f l)
 unfolding toldLength
 says-no n (got (definite k) w) f e = let z : _≡_ {A = ℕ} 0 1 = cc in absurd (omega arith)
 says-no n (got indefinite w) f e = let z : _≡_ {A = ℕ} 0 1 = cc in absurd (omega arith)
@@ -361,7 +361,7 @@ shape-some (is-definite m e l h) = (m, e, octets-some l, h)
 shape-some (is-indefinite e) = (128 ∷ [], e, omega arith, tt)
 
 module _ (m : List ℕ) (at l : ℕ) where
-  length-rest : (z : Size) (w : List ℕ) → readLength l (drop at m) ≡ got z w → (p : ℕ) × (w ≡ drop p m) × (at < p) × (p ≤ length m) × Room z w
+  pub length-rest : (z : Size) (w : List ℕ) → readLength l (drop at m) ≡ got z w → (p : ℕ) × (w ≡ drop p m) × (at < p) × (p ≤ length m) × Room z w
   length-rest z w x =
       let (q, k, o, room) = shape-some (got-holds (length-sound l (drop at m)) x) in
       let h : at ≤ length m = omega (arith, length-drop at m, rw length-append at (ap length k)) in
@@ -391,7 +391,7 @@ module _ (m : List ℕ) (at l : ℕ) where
           let ew : w ≡ drop (e .start) m = y ∙ ap (λ (j : ℕ). drop j m) (sym es) in
           (x ∙ rw ew, omega arith, omega arith, t)
 
-      -- Document 02, [6]: at most four octets stand between the first length octet and the contents, and a definite length is below 2^32.
+      -- FORMATS, "Limits": at most four octets stand between the first length octet and the contents, and a definite length is below 2^32.
       pub extent-field : AllOctets m → (e .start ≤ at + 5) × (e .indefinite ≡ false → e .end - e .start < 4294967296)
       extent-field o = test (e .indefinite) (λ t. (few (length-indefinite t .0) (length-indefinite t .2), λ f. absurd (true≢false (sym t ∙ f))))
           λ t. let (x, low, mid, high) = length-definite t in (few x (omega arith), λ _. small x)
@@ -404,39 +404,66 @@ module _ (m : List ℕ) (at l : ℕ) where
           small : {n : ℕ} → readLength l (drop at m) ≡ got (definite n) (drop (e .start) m) → n < 4294967296
           small x = let (p, q, k, c) = got-holds (field l (drop at m) (octets-from m at o)) x in c
 
-    pub length-refused : (f : Cause) → r ≡ NoLength f → readLength l (drop at m) ≡ refused f l
+    pub length-refused : (f : ReadingCause) → r ≡ NoLength f → readLength l (drop at m) ≡ refused f l
     length-refused f d =
         let (j, x) = says-no (length m) (readLength l (drop at m)) f (sym d ∙ a) in
         the-refusal (readLength l (drop at m)) (length-faulty l (drop at m)) x
 
+-- whatever is read at a place keeps the rule
+pub length-ruled : (m : List ℕ) (at : ℕ) (r : Length) → AllOctets m → Here m at r
+    → Here m at r × ((x : Extent) → r ≡ ReadLength x → x .start ≤ at + 1 + longestField)
+    × ((x : Extent) → r ≡ ReadLength x → x .indefinite ≡ false → x .end - x .start < 4294967296)
+length-ruled m at r o h = (h, (λ x e. omega (arith, extent-field m at 0 r (h 0) x e o .0)), λ x e. extent-field m at 0 r (h 0) x e o .1)
+
 -- the length octets of contents that were read before
-module _ (n : ℕ) (x : Answer Size) where
-  pub again-told : (e : Extent) (z : Size) (w : List ℕ) → Again n x e → x ≡ got z w → ReadLength e ≡ toldLength n x
-  unfolding Again
-  again-told e z w h q = rw q (rw q at h)
+pub length-anywhere : (l k : ℕ) (s : List ℕ) {z : Size} {w : List ℕ} → readLength l s ≡ got z w → readLength k s ≡ got z w
+unfolding readLength if
+length-anywhere l k s x = of-shape (got-holds (length-sound l s) x)
+  where
+    of-shape : {z : Size} {w : List ℕ} → Shape s z w → readLength k s ≡ got z w
+    of-shape {w = w} (is-definite m e o h) = rw e (length-complete k w o h)
+    of-shape (is-indefinite e) = rw e
 
-  pub again-read : (r : Length) (e : Extent) → r ≡ toldLength n x → r ≡ ReadLength e → Again n x e
-  unfolding Again
-  again-read r e a d = go x (sym d ∙ a)
+module _ (m : List ℕ) (at : ℕ) where
+  pub again-none : length m ≤ at → noExtent ≡ againAt m at
+  unfolding againAt if
+  again-none h = rw (le-leb (length m) at h)
+
+  module _ (h : at < length m) where
+    pub again-short : getD m at 0 < 128 → record { start = at + 1; end = at + 1 + getD m at 0; indefinite = false } ≡ againAt m at
+    unfolding againAt if
+    again-short k = rw (lt-leb (length m) at h, lt-ltb (getD m at 0) 128 k)
+
+    module _ (k : 128 ≤ getD m at 0) (r : Length) (a : Here m at r) where
+      again-other : againAt m at ≡ extentOf r
+      unfolding againAt if
+      again-other = rw (lt-leb (length m) at h, le-ltb (getD m at 0) 128 k, ← a 0)
+
+      pub again-read : (e : Extent) → r ≡ ReadLength e → e ≡ againAt m at
+      again-read e d = sym (again-other ∙ ap extentOf d)
+
+      pub again-no : (f : ReadingCause) → r ≡ NoLength f → noExtent ≡ againAt m at
+      again-no f d = sym (again-other ∙ ap extentOf d)
+
+  -- it is the extent of what was read
+  pub again-told : (l : ℕ) (x : Extent) (z : Size) (w : List ℕ) → x ≡ againAt m at → readLength l (drop at m) ≡ got z w
+      → ReadLength x ≡ toldLength (length m) (readLength l (drop at m))
+  unfolding readLength toldLength
+  again-told l x z w e q =
+      rw e
+      (test (leb (length m) at) (λ t. refused≢got (rw (none-at m at (leb-true (length m) at t)) at q))
+      λ t. let h : at < length m = leb-false (length m) at t in
+      test (ltb (getD m at 0) 128)
+      (λ s. short h (ltb-true (getD m at 0) 128 s))
+      λ s. rw (again-other h (ltb-false (getD m at 0) 128 s) (toldLength (length m) (got z w)) λ k. rw (length-anywhere l k (drop at m) q), q) (told z))
     where
-      go : (y : Answer Size) → ReadLength e ≡ toldLength n y → Again n y e
-      go (got z w) h = h
-      go (refused c l) h = tt
+      told : (z : Size) → ReadLength (extentOf (toldLength (length m) (got z w))) ≡ toldLength (length m) (got z w)
+      told (definite n) = refl
+      told indefinite = refl
 
-  pub again-no : (r : Length) (f : Cause) (e : Extent) → r ≡ toldLength n x → r ≡ NoLength f → Again n x e
-  unfolding Again
-  again-no r f e a d = let (l, q) = says-no n x f (sym d ∙ a) in rw q tt
-
-module _ (m : List ℕ) (at l : ℕ) where
-  pub again-none : (e : Extent) → length m ≤ at → Again (length m) (readLength l (drop at m)) e
-  unfolding Again readLength
-  again-none e h = rw (none-at m at h) tt
-
-  pub again-short : at < length m → getD m at 0 < 128
-      → Again (length m) (readLength l (drop at m)) (record { start = at + 1; end = at + 1 + getD m at 0; indefinite = false })
-  unfolding Again readLength fit if toldLength
-  again-short h k =
-      let e : Extent = record { start = at + 1; end = at + 1 + getD m at 0; indefinite = false } in
-      rw (some-at m at h, lt-ltb (getD m at 0) 128 k)
-      (if-cases (λ (y : Answer Size). Again (length m) y e) (leb (getD m at 0) (length (drop (at + 1) m))) _ _
-      (λ t. rw (left-at m (at + 1) (omega arith))) λ t. tt)
+      short : at < length m → getD m at 0 < 128 → ReadLength (againAt m at) ≡ toldLength (length m) (readLength l (drop at m))
+      short h s =
+          let e = at + 1 + getD m at 0 in
+          test (leb e (length m)) (λ t. rw (← again-short h s) (length-short m at h s (leb-true e (length m) t) l))
+          λ t. let (k, g) = says-no (length m) (readLength l (drop at m)) Cut (length-short-no m at h s (leb-false e (length m) t) l) in
+          refused≢got (sym g ∙ q)

@@ -2,14 +2,14 @@
 -- Assumes nothing.
 use mathlib.Core.Bool.{Bool, true, false, not}
 use mathlib.Core.List.{List}
-use mathlib.Core.Path.{_≡_}
 use Prim.Native.Nat.{ℕ, _+_, _-_}
-use lib.Dec.{eqb}
+use lib.Dec.{ltb, leb, eqb}
 use lib.ListN.{length, getD, drop}
-use Rattle.octets.specs.declared.cause.Cause.the-variants.{Cut, Forbidden}
+use Rattle.x690.specs.declared.ReadingCause.{ReadingCause}
+use Rattle.x690.specs.declared.ReadingCause.the-variants.{Cut, Forbidden}
 use Rattle.octets.specs.Answer.{Answer, got, refused, if, none-left}
 use Rattle.ber.specs.Codes.{codeOf}
-use Rattle.x690.specs.Reading.{Size, definite, indefinite, Mode, closed, open-ended}
+use Rattle.x690.specs.Reading.{Size, definite, indefinite, readLength, Mode, closed, open-ended}
 use Rattle.ber.specs.declared.identifier.Identifier.{Identifier}
 use Rattle.ber.specs.declared.identifier.Identifier.the-variants.{Read as ReadIdentifier, Refused as NoIdentifier}
 use Rattle.ber.specs.declared.length.Length.{Length}
@@ -18,12 +18,12 @@ use Rattle.ber.specs.declared.length.Extent.{Extent}
 use Rattle.ber.specs.declared.ending.End.{End}
 use Rattle.ber.specs.declared.ending.End.the-variants.{More, Over, Broken}
 
-unfoldable pub toldIdentifier : ℕ → Answer (List ℕ) → Identifier
+unfoldable pub toldIdentifier : ℕ → Answer ReadingCause (List ℕ) → Identifier
 toldIdentifier n (got i s) = ReadIdentifier (codeOf i) (n - length s)
 toldIdentifier n (refused c l) = NoIdentifier c
 
 -- indefinite contents may go to the end of what was lent
-unfoldable pub toldLength : ℕ → Answer Size → Length
+unfoldable pub toldLength : ℕ → Answer ReadingCause Size → Length
 toldLength n (got (definite k) s) = ReadLength (record { start = n - length s; end = n - length s + k; indefinite = false })
 toldLength n (got indefinite s) = ReadLength (record { start = n - length s; end = n; indefinite = true })
 toldLength n (refused c l) = NoLength c
@@ -42,7 +42,18 @@ endOf true n s =
     if (not (eqb (getD s 1 0) 0)) (Broken Forbidden) λ _.
     Over (n - length (drop 2 s))
 
--- x is the extent of a length that can be read
-unfoldable pub Again : ℕ → Answer Size → Extent → Type 0
-Again n (got z s) x = ReadLength x ≡ toldLength n (got z s)
-Again n (refused c l) x = Unit {0}
+-- no octets
+abbrev pub noExtent : Extent
+noExtent = record { start = 0; end = 0; indefinite = false }
+
+-- of a length that is read; else no octets
+abbrev pub extentOf : Length → Extent
+extentOf (ReadLength x) = x
+extentOf (NoLength c) = noExtent
+
+-- The extent of the length at a place of m where one was read before. So contents in the short form are not tried whether they fit (X.690, 8.1.3.4).
+unfoldable pub againAt : List ℕ → ℕ → Extent
+againAt m at =
+    if (leb (length m) at) noExtent λ _.
+    if (ltb (getD m at 0) 128) (record { start = at + 1; end = at + 1 + getD m at 0; indefinite = false }) λ _.
+    extentOf (toldLength (length m) (readLength 0 (drop at m)))

@@ -5,13 +5,13 @@ ghost use lib.Dec.{eqb};
 ghost use lib.ListN.{length, getD, drop};
 ghost use Rattle.octets.specs.Answer.{none-left};
 ghost use Rattle.ber.specs.Told.{endOf};
-use octets::cause::Cause;
+use x690::ReadingCause;
 
 // An item follows; or the contents are over, and what stands behind them begins at `end`; or neither.
 pub enum End {
     More,
     Over { end: usize },
-    Broken { cause: Cause },
+    Broken { cause: ReadingCause },
 }
 
 // Whether contents that 00 00 closes are over at a place of m.
@@ -19,18 +19,22 @@ fn indefinite_end(m: &[u8], at: usize) -> End
     ensures { λ r. ⌜ r ≡ endOf true (length (now (m .entry))) (drop at (now (m .entry))) ⌝ }
 {
     if m.len() <= at {
-        return End::Broken { cause: Cause::Cut };
+        return End::Broken {
+            cause: ReadingCause::Cut,
+        };
     }
     if m[at] != 0 {
         return End::More;
     }
     let second = at + 1;
     if m.len() <= second {
-        return End::Broken { cause: Cause::Cut };
+        return End::Broken {
+            cause: ReadingCause::Cut,
+        };
     }
     if m[second] != 0 {
         return End::Broken {
-            cause: Cause::Forbidden,
+            cause: ReadingCause::Forbidden,
         };
     }
     let end = at + 2;

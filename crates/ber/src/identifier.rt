@@ -6,13 +6,13 @@ ghost use Rattle.octets.specs.Buffers.{put, putEnd};
 ghost use Rattle.ber.specs.Codes.{code, codeOctets};
 ghost use Rattle.x690.specs.Reading.{readIdentifier};
 ghost use Rattle.ber.specs.Told.{toldIdentifier};
-use octets::cause::Cause;
 use octets::holds;
+use x690::ReadingCause;
 
 // A code, and where the octets end; or why there is none.
 pub enum Identifier {
     Read { code: u32, end: usize },
-    Refused { cause: Cause },
+    Refused { cause: ReadingCause },
 }
 
 // The code of a tag, primitive or constructed.
@@ -54,19 +54,21 @@ fn read_long(m: &[u8], lead: u32) -> Identifier
             let f = m[1];
             if f == 128 {
                 return Identifier::Refused {
-                    cause: Cause::Forbidden,
+                    cause: ReadingCause::Forbidden,
                 };
             }
             if f < 31 {
                 return Identifier::Refused {
-                    cause: Cause::Forbidden,
+                    cause: ReadingCause::Forbidden,
                 };
             }
             let code = lead + 256 * n;
             return Identifier::Read { code, end: i };
         }
     }
-    Identifier::Refused { cause: Cause::Cut }
+    Identifier::Refused {
+        cause: ReadingCause::Cut,
+    }
 }
 
 // The identifier that m begins with.
@@ -74,7 +76,9 @@ pub fn read(m: &[u8]) -> Identifier
     ensures { λ r. ⌜ r ≡ toldIdentifier (length (now (m .entry))) (readIdentifier (now (m .entry))) ⌝ }
 {
     if m.len() == 0 {
-        return Identifier::Refused { cause: Cause::Cut };
+        return Identifier::Refused {
+            cause: ReadingCause::Cut,
+        };
     }
     let lead = m[0] as u32;
     if lead % 32 < 31 {

@@ -1,12 +1,12 @@
 // Whole items (X.690, 8.1.1): identifier, length and contents octets, and those that end indefinite contents.
 ghost use mathlib.Core.Path.{_≡_};
-ghost use mathlib.Core.List.{List, _++_};
-ghost use Prim.Native.Nat.{ℕ, _≤_, _+_, min};
-ghost use lib.ListN.{length, drop};
+ghost use mathlib.Core.List.{_++_};
+ghost use Prim.Native.Nat.{_≤_};
+ghost use lib.ListN.{length};
 ghost use Rattle.octets.specs.Buffers.{put, putEnd};
 ghost use Rattle.ber.specs.Codes.{codeOctets};
 ghost use Rattle.x690.specs.Length.{lengthOctets};
-ghost use Rattle.ber.specs.Skipping.{Passed, Skips};
+ghost use Rattle.ber.specs.Skipping.{openEnd, itemEnd};
 use crate::identifier;
 use crate::identifier::Identifier;
 use crate::length;
@@ -15,12 +15,7 @@ use crate::length::Length;
 // Where indefinite contents end that begin at a place of m. Those that no reader accepts go to the end of m.
 fn open_end(m: &[u8], start: usize) -> usize
     requires { ⌜ start ≤ length (now m) ⌝ }
-    ensures { λ r. ⌜
-        (let o = now (m .entry) in
-        (start ≤ r)
-        × (r ≤ length o)
-        × ((w : List ℕ) → Passed 1 (drop start o) w → drop r o ≡ w))
-        ⌝ }
+    ensures { λ r. ⌜ r ≡ openEnd (now (m .entry)) start ⌝ }
 {
     let mut at = start;
     let mut open: usize = 1;
@@ -53,14 +48,9 @@ fn open_end(m: &[u8], start: usize) -> usize
     at
 }
 
-// Where the item that m begins with ends, by headers alone; its identifier ends at `from`.
+// Where the item that m begins with ends, by headers alone; its identifier ends at `from`. One that no reader accepts goes to the end of m.
 pub fn end(m: &[u8], from: usize) -> usize
-    ensures { λ r. ⌜
-        (let o = now (m .entry) in
-        (min from (length o) ≤ r)
-        × (r ≤ length o)
-        × ((w : List ℕ) → Skips o from w → drop r o ≡ w))
-        ⌝ }
+    ensures { λ r. ⌜ r ≡ itemEnd (now (m .entry)) from ⌝ }
 {
     match length::read(m, from) {
         Length::Refused { cause: _ } => m.len(),

@@ -1,14 +1,17 @@
-// Length octets (X.690, 8.1.3). They are read in all forms that have at most four octets behind the first (document 02, [6]), and put in the
+// Length octets (X.690, 8.1.3). They are read in all forms that have at most four octets after the first (FORMATS, "Messages"), and put in the
 // shortest definite one.
+ghost use mathlib.Core.Bool.{false};
 ghost use mathlib.Core.Path.{_≡_};
-ghost use Prim.Native.Nat.{ℕ, _<_, _≤_, _+_, _-_};
+ghost use Prim.Native.Nat.{ℕ, _<_, _≤_, _+_, _-_, _^_};
 ghost use lib.ListN.{length, getD, drop};
 ghost use Rattle.octets.specs.Buffers.{put, putEnd};
 ghost use Rattle.x690.specs.Length.{longestField, lengthOctets};
 ghost use Rattle.x690.specs.Reading.{readLength};
-ghost use Rattle.ber.specs.Told.{toldLength, Again};
-use octets::cause::Cause;
+ghost use Rattle.ber.specs.Told.{toldLength, againAt};
+ghost use Rattle.ber.specs.declared.length.Extent.{Extent};
+ghost use Rattle.ber.specs.declared.length.Length.the-variants.{Read as ReadLength};
 use octets::holds;
+use x690::ReadingCause;
 
 // At most so many octets stand behind the first one.
 const LONGEST_FIELD: usize = 4;
@@ -22,7 +25,7 @@ pub struct Extent {
 
 pub enum Length {
     Read(Extent),
-    Refused { cause: Cause },
+    Refused { cause: ReadingCause },
 }
 
 // The long form with k octets from `at` on, which count less than 2^32.
@@ -32,7 +35,9 @@ fn read_long(m: &[u8], at: usize, k: usize) -> Length
 {
     let start = at + k;
     if m.len() < start {
-        return Length::Refused { cause: Cause::Cut };
+        return Length::Refused {
+            cause: ReadingCause::Cut,
+        };
     }
     let mut n: usize = 0;
     let mut p = at;
@@ -43,7 +48,9 @@ fn read_long(m: &[u8], at: usize, k: usize) -> Length
     }
     let end = start + n;
     if m.len() < end {
-        return Length::Refused { cause: Cause::Cut };
+        return Length::Refused {
+            cause: ReadingCause::Cut,
+        };
     }
     Length::Read(Extent {
         start,
@@ -70,27 +77,36 @@ fn read_other(m: &[u8], at: usize, first: usize) -> Length
     }
     if first < 255 {
         return Length::Refused {
-            cause: Cause::LengthField,
+            cause: ReadingCause::LengthField,
         };
     }
     Length::Refused {
-        cause: Cause::Forbidden,
+        cause: ReadingCause::Forbidden,
     }
 }
 
-// The length octets at a place of m.
+// The length octets at a place of m. Of a length that is read at most four octets stand between the first one and the contents, and a
+// definite one is below 2^32 (FORMATS, "Messages").
 pub fn read(m: &[u8], at: usize) -> Length
-    ensures { λ r. ⌜ ((l : ℕ) → r ≡ toldLength (length (now (m .entry))) (readLength l (drop at (now (m .entry))))) ⌝ }
+    ensures { λ r. ⌜
+        ((l : ℕ) → r ≡ toldLength (length (now (m .entry))) (readLength l (drop at (now (m .entry)))))
+        × ((x : Extent) → r ≡ ReadLength x → x .start ≤ at + 1 + longestField)
+        × ((x : Extent) → r ≡ ReadLength x → x .indefinite ≡ false → x .end - x .start < 2 ^ 32)
+        ⌝ }
 {
     if m.len() <= at {
-        return Length::Refused { cause: Cause::Cut };
+        return Length::Refused {
+            cause: ReadingCause::Cut,
+        };
     }
     let first = m[at] as usize;
     let start = at + 1;
     if first < 128 {
         let end = start + first;
         if m.len() < end {
-            return Length::Refused { cause: Cause::Cut };
+            return Length::Refused {
+                cause: ReadingCause::Cut,
+            };
         }
         return Length::Read(Extent {
             start,
@@ -101,9 +117,9 @@ pub fn read(m: &[u8], at: usize) -> Length
     read_other(m, start, first)
 }
 
-// The length octets at a place of m where a length was read before.
+// The length octets at a place of m where a length was read before; if none can be read there, an extent of no octets.
 pub fn again(m: &[u8], at: usize) -> Extent
-    ensures { λ r. ⌜ ((l : ℕ) → Again (length (now (m .entry))) (readLength l (drop at (now (m .entry)))) r) ⌝ }
+    ensures { λ r. ⌜ r ≡ againAt (now (m .entry)) at ⌝ }
 {
     let none = Extent {
         start: 0,
@@ -116,10 +132,9 @@ pub fn again(m: &[u8], at: usize) -> Extent
     let first = m[at] as usize;
     let start = at + 1;
     if first < 128 {
-        let end = start + first;
         return Extent {
             start,
-            end,
+            end: start + first,
             indefinite: false,
         };
     }

@@ -83,7 +83,7 @@ pub fn line_of(number: u64, a: Answer, buf: &[u8; 16384], line: &mut [u8]) -> us
             }
         }
         Answer::Refused(r) => {
-            let p = engine::refusal::report_of(r);
+            let p = refusal::report_of(r);
             refused_line(number, p.number, p.place, line)
         }
     }

@@ -7,15 +7,15 @@ use Prim.Native.Nat.{ℕ, zero, suc, _+_, _-_, _*_, _/_, _%_, _≤_, _<_}
 use native.Mathlib.Omega.{arith}
 use lib.Dec.{eqb, ltb, leb}
 use lib.ListN.{length, getD}
-use borrow.Author.Tests.{eqb-true, eqb-false, eq-eqb, ne-eqb, ltb-true, ltb-false, lt-ltb, le-ltb, leb-true}
-use Rattle.octets.specs.Answer.{if}
+use borrow.Author.Tests.{eqb-true, eqb-false, eq-eqb, ne-eqb, ltb-true, ltb-false, leb-true}
 use Rattle.octets.specs.Lists.{all, lowest}
 use Rattle.octets.specs.Numbers.{Octets, two}
 use Rattle.octets.proofs.Tests.{test}
 use Rattle.octets.proofs.Lists.{both}
 use Rattle.octets.proofs.Search.{lowest-most}
-use Rattle.x690.specs.Identifier.{bit, leading}
+use Rattle.x690.specs.Identifier.{bit}
 use Rattle.ber.specs.Codes.{code}
+use Rattle.ber.proofs.Codes.{bit-small, code-short, code-long}
 use Rattle.table.specs.Syntax.{Tag, Record, Table, constructed}
 use Rattle.table.specs.Octets.{recordShaped}
 use Rattle.table.specs.Rules.{tagsBelow}
@@ -27,27 +27,16 @@ use Rattle.table.proofs.Nodes.{like-untagged}
 use Rattle.table.proofs.Reading.{limits}
 use Rattle.records.specs.Entries.{unpacked, untagged, more, outermostCode, Entered, Filled}
 use Rattle.records.specs.declared.entry.Entry.{Entry}
+use Rattle.records.proofs.Entries.{code-small}
 use Rattle.checker.specs.Gathering.{tagOf, likeIn}
 
 -- a code by its number
-code-short : (c : ℕ) (k : Bool) (n : ℕ) → n < 31 → code c k n ≡ c * 64 + bit k * 32 + n
-unfolding code leading if
-code-short c k n h = rw (lt-ltb n 31 h)
-
-code-long : (c : ℕ) (k : Bool) (n : ℕ) → 31 ≤ n → code c k n ≡ c * 64 + bit k * 32 + 31 + 256 * n
-unfolding code leading if
-code-long c k n h = rw (le-ltb n 31 h)
-
 by-number : {X : Type 0} (n : ℕ) → (n < 31 → X) → (31 ≤ n → X) → X
 by-number n f g = test (ltb n 31) (λ e. f (ltb-true n 31 e)) λ e. g (ltb-false n 31 e)
 
 -- the first tag as a number: the code of the primitive form
 tag-short : (c d n : ℕ) → d ≤ 1 → n < 32 → tagOf (c * 64 + d * 32 + n) ≡ c * 64 + n
 tag-short c d n h l = let q : (c * 64 + d * 32 + n) / 32 ≡ c * 2 + d = omega arith in rw q (omega arith)
-
-bit-small : (k : Bool) → bit k ≤ 1
-bit-small true = omega arith
-bit-small false = omega arith
 
 tag-of : (c : ℕ) (k : Bool) (n : ℕ) → c < 4 → tagOf (code c k n) ≡ code c false n
 tag-of c k n h =
@@ -56,9 +45,6 @@ tag-of c k n h =
     λ i.
     let q : c * 64 + bit k * 32 + 31 + 256 * n ≡ (c + 4 * n) * 64 + bit k * 32 + 31 = omega arith in
     rw (code-long c k n i, code-long c false n i, q) (tag-short (c + 4 * n) (bit k) 31 (bit-small k) (omega arith) ∙ omega arith)
-
-code-small : (c n : ℕ) → c < 4 → n < 65536 → code c false n < 67108864
-code-small c n h l = by-number n (λ i. omega (arith, code-short c false n i)) λ i. omega (arith, code-long c false n i)
 
 classed-same : (c d n m : ℕ) → c < 4 → d < 4 → c + 4 * n ≡ d + 4 * m → (c ≡ d) × (n ≡ m)
 classed-same c d n m h l e =
@@ -113,7 +99,7 @@ module _ {b : List ℕ} {e : Entry} {r : Record} (o : Octets b) (x : Entered b e
       by [] t = t
       by (g ∷ gs) t =
           let f = fronted g gs t in
-          absurd (omega (arith, code-small (g .class) (g .number) (f .low) (f .small), f .is, ap (λ z. tagOf z) q))
+          absurd (omega (arith, code-small (g .class) false (g .number) (omega arith) (f .small), f .is, ap (λ z. tagOf z) q))
 
 pub code-some : {b : List ℕ} {e : Entry} {r : Record} → Entered b e r → r .tags ≡ [] → e .code ≡ untagged
 unfolding outermostCode
@@ -150,7 +136,12 @@ module _ {b : List ℕ} {e : Entry} {r : Record} (o : Octets b) (x : Entered b e
     where
       by : (hs : List Tag) → r .tags ≡ hs → eqb (tagOf (e .code)) (tagOf (f .code)) ≡ sameOutermost (r .tags) (g ∷ gs)
       by [] t =
-          rw (t, code-some x t, ne-eqb untagged (tagOf (f .code)) (λ z. omega (arith, z, y .is, code-small (g .class) (g .number) (y .low) (y .small))))
+          rw (
+            t,
+            code-some x t,
+            ne-eqb untagged (tagOf (f .code)) (λ z.
+                omega (arith, z, y .is, code-small (g .class) false (g .number) (omega arith) (y .small))),
+          )
       by (h ∷ hs) t = rw t (code-test e f h g (fronted o x s h hs t) y)
 
 module _ (b index : List ℕ) (n : ℕ) (o : Octets b) (x : Filled b index n) (t : ℕ) (h : t < n) where
@@ -166,7 +157,7 @@ module _ (b index : List ℕ) (n : ℕ) (o : Octets b) (x : Filled b index n) (t
       by (g ∷ gs) q =
           let f = fronted o (x .entered t h) (x .shaped t h) g gs q in
           rw (ne-eqb (tagOf (unpacked (getD index t 0) .code)) untagged
-          (λ z. omega (arith, z, f .is, code-small (g .class) (g .number) (f .low) (f .small))))
+          (λ z. omega (arith, z, f .is, code-small (g .class) false (g .number) (omega arith) (f .small))))
           (lowest-same _ (λ u. sameOutermost (T u .tags) (T t .tags)) t
           (λ u l. rw q (front-test o (x .entered u (omega arith)) (x .shaped u (omega arith)) (unpacked (getD index t 0)) g gs f)))
 

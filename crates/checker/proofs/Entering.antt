@@ -1,27 +1,19 @@
 -- The index of a table's records, one number a record, as it is filled.
 -- Assumes nothing.
 use mathlib.Core.Bool.{Bool, true, false}
-use mathlib.Core.List.{List, [], _∷_, _++_}
-use mathlib.Core.Path.{_≡_, refl, sym, ap, subst, _∙_}
+use mathlib.Core.List.{List, [], _∷_, _++_, map, map-append, append-assoc}
+use mathlib.Core.Path.{_≡_, refl, sym, ap, _∙_}
 use Prim.Native.Nat.{ℕ, suc, _+_, _-_, _≤_, _<_}
 use native.Mathlib.Omega.{arith}
-use lib.Dec.{eqb}
-use lib.ListN.{length, getD, set, length-set, length-append, List·getD-append}
-use lib.Seq.{getD-at, getD-set-same, getD-set-other}
-use borrow.Author.Tests.{eqb-true, eqb-false, eq-eqb, ne-eqb}
+use lib.ListN.{length, set, replicate, length-set, length-append, length-map}
+use lib.Seq.{set-at}
+use borrow.Author.Tests.{eq-eqb, ne-eqb}
 use Rattle.octets.specs.Numbers.{Octets}
-use Rattle.octets.proofs.Tests.{test}
-use Rattle.table.specs.Octets.{recordShaped}
-use Rattle.table.specs.Reading.{recordAt, recordEnd, scanFrom, scan, look}
+use Rattle.table.specs.Reading.{recordEnd, scanFrom, scan, countIn}
 use Rattle.table.proofs.Reading.{record-back}
-use Rattle.records.specs.Entries.{unpacked, Entered, Filled}
+use Rattle.checker.specs.Index.{numberAt, numbered, indexIn}
 
--- what a number of the index says of the record at o
-pub record Said (b : List ℕ) (w o : ℕ) : Type 0 where
-  pub shaped : recordShaped (recordAt b o) ≡ true
-  pub entered : Entered b (unpacked w) (recordAt b o)
-
--- the first n numbers are those of the records at these places, and the scan goes on at `at`
+-- the index is that of the records at these n places, and the scan goes on at `at`
 pub record Entering (b index : List ℕ) (n at : ℕ) : Type 0 where
   pub few : n ≤ 128
   pub size : length index ≡ 128
@@ -29,71 +21,57 @@ pub record Entering (b index : List ℕ) (n at : ℕ) : Type 0 where
   pub places : List ℕ
   pub count : length places ≡ n
   pub scans : scanFrom b (128 - n) places at ≡ scan b
-  pub said : (t : ℕ) → t < n → Said b (getD index t 0) (getD places t 65535)
+  pub is : index ≡ numbered b places
 
-pub entering-first : (b index : List ℕ) → length index ≡ 128 → Entering b index 0 0
-unfolding scan
-entering-first b index h =
-    record { few = omega arith; size = h; near = omega arith; places = []; count = refl; scans = refl; said = λ t l. absurd (omega arith) }
+pub entering-first : (b : List ℕ) → Entering b (replicate 128 0) 0 0
+unfolding scan numbered
+entering-first b = record { few = omega arith; size = refl; near = omega arith; places = []; count = refl; scans = refl; is = refl }
 
 -- one number more
-module _ (b index places : List ℕ) (n at w : ℕ) (size : length index ≡ 128) (count : length places ≡ n) (h : n < 128)
-    (said : (t : ℕ) → t < n → Said b (getD index t 0) (getD places t 65535)) (s : Said b w at) where
-  said-next : (t : ℕ) → t < n + 1 → Said b (getD (set index n w) t 0) (getD (places ++ (at ∷ [])) t 65535)
-  said-next t l =
-      test (eqb t n)
-      (λ e. rw (eqb-true t n e, getD-set-same index n w 0 (omega arith), getD-at places at [] 65535 n count) s)
-      λ e.
-      let d = eqb-false t n e in
-      rw (getD-set-other index n t w 0 d, List·getD-append places (at ∷ []) 65535 t (omega arith)) (said t (omega arith))
+longer : (places : List ℕ) (n at : ℕ) → length places ≡ n → length (places ++ (at ∷ [])) ≡ n + 1
+longer places n at c = length-append places (at ∷ []) ∙ ap (λ m. m + 1) c
+
+numbered-next : (b places : List ℕ) (n at : ℕ) → length places ≡ n → n < 128
+    → set (numbered b places) n (numberAt b at) ≡ numbered b (places ++ (at ∷ []))
+unfolding numbered
+numbered-next b places n at c h =
+    let q : 128 - n ≡ suc (128 - (n + 1)) = omega arith in
+    let s = set-at (map (numberAt b) places) 0 (replicate (128 - (n + 1)) 0) (numberAt b at) n (length-map places (numberAt b) ∙ c) in
+    rw (c, q, longer places n at c, s, map-append, append-assoc)
 
 -- the whole index
-filled : (b index places : List ℕ) (n : ℕ) (w : Bool) → record { whole = w; offsets = places } ≡ scan b → length places ≡ n → n ≤ 128 → length b ≤ 8192
-    → ((t : ℕ) → t < n → Said b (getD index t 0) (getD places t 65535)) → (w ≡ scan b .whole) × Filled b index n
-unfolding look
-filled b index places n w e c l k said = (
-  ap (λ s. s .whole) e,
-  record {
-    count = sym c ∙ ap (λ s. length (s .offsets)) e;
-    few = l;
-    short = k;
-    shaped = λ t h. subst (λ (s : List ℕ). recordShaped (recordAt b (getD s t 65535)) ≡ true) (ap (λ s. s .offsets) e) (said t h .shaped);
-    entered =
-        λ t h.
-        subst (λ (s : List ℕ). Entered b (unpacked (getD index t 0)) (recordAt b (getD s t 65535))) (ap (λ s. s .offsets) e) (said t h .entered);
-  },
-)
+abbrev Whole : List ℕ → List ℕ → Bool → ℕ → Type 0
+Whole b index w n = (w ≡ scan b .whole) × (n ≡ countIn b) × (index ≡ indexIn b)
 
-module _ (b index : List ℕ) (n at : ℕ) (f : Entering b index n at) (k : length b ≤ 8192) where
-  pub entering-stops : n < 128 → recordEnd b at ≡ 0 → (false ≡ scan b .whole) × Filled b index n
+whole : (b index places : List ℕ) (n : ℕ) (w : Bool) → record { whole = w; offsets = places } ≡ scan b → length places ≡ n → index ≡ numbered b places
+    → Whole b index w n
+whole b index places n w e c i = (ap (λ s. s .whole) e, sym c ∙ ap (λ s. length (s .offsets)) e, i ∙ ap (λ s. numbered b (s .offsets)) e)
+
+module _ (b index : List ℕ) (n at : ℕ) (f : Entering b index n at) where
+  pub entering-stops : n < 128 → recordEnd b at ≡ 0 → Whole b index false n
   unfolding scanFrom
   entering-stops h e =
       let q : 128 - n ≡ suc (128 - (n + 1)) = omega arith in
-      filled b index (f .places) n false (rw (q, eq-eqb (recordEnd b at) 0 e) at (f .scans)) (f .count) (f .few) k (f .said)
+      whole b index (f .places) n false (rw (q, eq-eqb (recordEnd b at) 0 e) at (f .scans)) (f .count) (f .is)
 
-  pub entering-ends : 128 ≤ n → (false ≡ scan b .whole) × Filled b index n
+  pub entering-ends : 128 ≤ n → Whole b index false n
   unfolding scanFrom
-  entering-ends h =
-      let q : 128 - n ≡ 0 = omega arith in filled b index (f .places) n false (rw q at (f .scans)) (f .count) (f .few) k (f .said)
+  entering-ends h = let q : 128 - n ≡ 0 = omega arith in whole b index (f .places) n false (rw q at (f .scans)) (f .count) (f .is)
 
-  module _ (o : Octets b) (h : n < 128) (d : recordEnd b at ≡ 0 → ⊥) (w : ℕ) (x : Entered b (unpacked w) (recordAt b at)) where
-    next : (t : ℕ) → t < n + 1 → Said b (getD (set index n w) t 0) (getD (f .places ++ (at ∷ [])) t 65535)
-    next =
-        said-next b index (f .places) n at w (f .size) (f .count) h (f .said) (record { shaped = record-back b at o d .shaped; entered = x })
+  module _ (h : n < 128) (d : recordEnd b at ≡ 0 → ⊥) (w : ℕ) (x : w ≡ numberAt b at) where
+    next : set index n w ≡ numbered b (f .places ++ (at ∷ []))
+    next = rw (x, f .is) (numbered-next b (f .places) n at (f .count) h)
 
-    longer : length (f .places ++ (at ∷ [])) ≡ n + 1
-    longer = length-append (f .places) (at ∷ []) ∙ ap (λ m. m + 1) (f .count)
-
-    pub entering-whole : recordEnd b at ≡ length b → (true ≡ scan b .whole) × Filled b (set index n w) (n + 1)
+    pub entering-whole : recordEnd b at ≡ length b → Whole b (set index n w) true (n + 1)
     unfolding scanFrom
     entering-whole e =
         let q : 128 - n ≡ suc (128 - (n + 1)) = omega arith in
-        filled b (set index n w) (f .places ++ (at ∷ [])) (n + 1) true
-        (rw (q, ne-eqb (recordEnd b at) 0 d, eq-eqb (recordEnd b at) (length b) e) at (f .scans)) longer (omega arith) k next
+        whole b (set index n w) (f .places ++ (at ∷ [])) (n + 1) true
+        (rw (q, ne-eqb (recordEnd b at) 0 d, eq-eqb (recordEnd b at) (length b) e) at (f .scans)) (longer (f .places) n at (f .count)) next
 
-    pub entering-next : (recordEnd b at ≡ length b → ⊥) → Entering b (set index n w) (n + 1) (recordEnd b at)
+    pub entering-next : Octets b → length b ≤ 8192 → (recordEnd b at ≡ length b → ⊥) → Entering b (set index n w) (n + 1) (recordEnd b at)
     unfolding scanFrom
-    entering-next e =
+    entering-next o k e =
         let q : 128 - n ≡ suc (128 - (n + 1)) = omega arith in
         let z = record-back b at o d in
         record {
@@ -101,7 +79,7 @@ module _ (b index : List ℕ) (n at : ℕ) (f : Entering b index n at) (k : leng
           size = simp length-set (f .size);
           near = omega arith;
           places = f .places ++ (at ∷ []);
-          count = longer;
+          count = longer (f .places) n at (f .count);
           scans = rw (q, ne-eqb (recordEnd b at) 0 d, ne-eqb (recordEnd b at) (length b) e) at (f .scans);
-          said = next;
+          is = next;
         }

@@ -2,17 +2,16 @@
 -- Assumes nothing.
 use mathlib.Core.Bool.{true, false}
 use mathlib.Core.List.{List}
-use mathlib.Core.Path.{_≡_, refl, _∙_}
+use mathlib.Core.Path.{_≡_, _∙_}
 use Prim.Native.Nat.{ℕ, _≤_, _<_}
-use native.Mathlib.Omega.{arith}
 use borrow.Author.Tests.{lt-ltb, le-ltb}
 use lib.ListN.{length}
-use Rattle.octets.specs.declared.cause.Cause.the-variants.{TableShape}
+use Rattle.table.specs.declared.CheckCause.the-variants.{TableShape}
 use Rattle.table.specs.Reading.{scan, tableIn, countIn}
 use Rattle.table.specs.Verdict.{judge, verdict}
 use Rattle.table.specs.declared.Verdict.{Verdict}
 use Rattle.table.specs.declared.Verdict.the-variants.{Refused}
-use Rattle.records.specs.Entries.{Filled}
+use Rattle.checker.specs.Index.{indexIn, countAfter, indexAfter}
 
 module _ (b : List ℕ) where
   verdict-long : 8192 < length b → Refused TableShape 0 ≡ verdict b
@@ -29,14 +28,19 @@ module _ (b : List ℕ) where
 
   -- what is so of the verdict v, the count n and the index after, where the index was before
   abbrev pub Into : List ℕ → List ℕ → Verdict → ℕ → Type 0
-  Into before after v n = (v ≡ verdict b) × (length b ≤ 8192 → Filled b after n) × (8192 < length b → (n ≡ 0) × (after ≡ before))
+  Into before after v n = (v ≡ verdict b) × (n ≡ countAfter b) × (after ≡ indexAfter b before)
 
   pub into-long : (index : List ℕ) → 8192 < length b → Into index index (Refused TableShape 0) 0
-  into-long index h = (verdict-long h, λ l. absurd (omega arith), λ _. (refl, refl))
+  unfolding countAfter indexAfter
+  into-long index h = let l = lt-ltb 8192 (length b) h in (verdict-long h, rw l, rw l)
 
-  module _ (before after : List ℕ) (n : ℕ) (h : length b ≤ 8192) (f : Filled b after n) where
+  module _ (before after : List ℕ) (n : ℕ) (h : length b ≤ 8192) (c : n ≡ countIn b) (i : after ≡ indexIn b) where
+    into : (v : Verdict) → v ≡ verdict b → Into before after v n
+    unfolding countAfter indexAfter
+    into v e = let l = le-ltb 8192 (length b) h in (e, rw l c, rw l i)
+
     pub into-misshapen : false ≡ scan b .whole → Into before after (Refused TableShape n) n
-    into-misshapen w = (rw (f .count) (verdict-misshapen h w), λ _. f, λ l. absurd (omega arith))
+    into-misshapen w = into _ (rw c (verdict-misshapen h w))
 
     pub into-judged : (v : Verdict) → true ≡ scan b .whole → v ≡ judge (tableIn b) n → Into before after v n
-    into-judged v w e = (e ∙ rw (f .count) (verdict-judged h w), λ _. f, λ l. absurd (omega arith))
+    into-judged v w e = into v (e ∙ rw c (verdict-judged h w))

@@ -2,3 +2,4 @@
 -- Assumes nothing.
 pub mod Marks
 pub mod Gathering
+pub mod Index

@@ -9,6 +9,8 @@ ghost use Rattle.table.specs.Reading.{membersAt, everyAt, tableIn};
 ghost use Rattle.table.specs.Decide.{finiteBody, infinite};
 ghost use Rattle.checker.specs.Marks.{isFlagged, Looked};
 ghost use Rattle.records.specs.Entries.{Near, Entered, Filled};
+use kinds::CHOICE;
+use kinds::has_members;
 use octets::octet;
 use records::entry::Entry;
 use records::entry::Span;
@@ -16,8 +18,6 @@ use records::entry::alternatives;
 use records::entry::optional;
 use records::entry::parts;
 use records::entry::unpack;
-use records::kind::CHOICE;
-use records::kind::has_members;
 
 // Whether record t is flagged; a number that is not there is not.
 fn flagged(flags: &[u8; 128], t: usize) -> bool

@@ -10,6 +10,7 @@ ghost use Rattle.table.specs.Decide.{circular, sharing};
 ghost use Rattle.table.specs.Walk.{like, Named, Straight};
 ghost use Rattle.records.specs.Entries.{unpacked, untagged, Filled};
 ghost use Rattle.checker.specs.Gathering.{likeIn, tagOf, StandIns, Gathers, Gathered, GatheredUnder, Compares, optionalIn};
+use kinds::SEQUENCE;
 use octets::octet;
 use records::entry::Span;
 use records::entry::UNTAGGED;
@@ -18,7 +19,6 @@ use records::entry::first;
 use records::entry::optional;
 use records::entry::parts;
 use records::entry::unpack;
-use records::kind::SEQUENCE;
 
 // The first tag of an entry: its code but for the bit that says constructed.
 fn first_tag(w: u64) -> u32

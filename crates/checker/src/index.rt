@@ -4,16 +4,17 @@ ghost use lib.ListN.{length};
 ghost use mathlib.Core.Path.{_≡_};
 ghost use lib.Dec.{eqb};
 ghost use Rattle.octets.specs.Tests.{if};
-ghost use Rattle.table.specs.Reading.{recordEnd, recordAt, scan};
-ghost use Rattle.records.specs.Entries.{unpacked, outermostIn, allButLast, Entered, Filled};
+ghost use Rattle.table.specs.Reading.{recordEnd, scan, countIn};
+ghost use Rattle.records.specs.Entries.{packed, outermostIn, allButLast};
+ghost use Rattle.checker.specs.Index.{numberAt, indexIn};
 use crate::shape::record_end;
 use ber::identifier::code_of;
+use kinds::CHOICE;
+use kinds::constructed;
 use octets::octet;
 use octets::two;
 use records::entry::LACKING;
 use records::entry::UNTAGGED;
-use records::kind::CHOICE;
-use records::kind::constructed;
 
 // How many records were indexed. Whole if nothing is left behind them.
 pub struct Count {
@@ -53,7 +54,7 @@ fn explicit(kind: u8, tags: u8) -> u8
 // An entry as one number.
 fn pack(code: u32, own: u16, kind: u8, explicit: u8, simple: bool) -> u64
     requires { ⌜ explicit < 128 ⌝ }
-    ensures { λ r. ⌜ unpacked r ≡ record { code = code; own = own; kind = kind; explicit = explicit; simple = simple } ⌝ }
+    ensures { λ r. ⌜ r ≡ packed (record { code = code; own = own; kind = kind; explicit = explicit; simple = simple }) ⌝ }
 {
     let high = if simple {
         explicit as u64 + 128
@@ -66,7 +67,7 @@ fn pack(code: u32, own: u16, kind: u8, explicit: u8, simple: bool) -> u64
 // The entry of the record at o, which is shaped.
 fn entry(table: &[u8], o: usize) -> u64
     requires { ⌜ (length (now table) ≤ 8192) × (0 < recordEnd (now table) o) ⌝ }
-    ensures { λ r. ⌜ Entered (now (table .entry)) (unpacked r) (recordAt (now (table .entry)) o) ⌝ }
+    ensures { λ r. ⌜ r ≡ numberAt (now (table .entry)) o ⌝ }
 {
     let a = o + 2;
     let b = o + 3;
@@ -82,7 +83,12 @@ fn entry(table: &[u8], o: usize) -> u64
 // Fills the index, from record to record. It is stored whole first: only then is it known how many numbers it has.
 pub(crate) fn fill(table: &[u8], index: &mut [u64; 128]) -> Count
     requires { ⌜ length (now table) ≤ 8192 ⌝ }
-    ensures { λ r. ⌜ (r .whole ≡ scan (now (table .entry)) .whole) × Filled (now (table .entry)) (now (index .exit)) (r .count) ⌝ }
+    ensures { λ r. ⌜
+        (let b = now (table .entry) in
+        (r .whole ≡ scan b .whole)
+        × (r .count ≡ countIn b)
+        × (now (index .exit) ≡ indexIn b))
+        ⌝ }
 {
     *index = [0u64; 128];
     let mut count: usize = 0;

@@ -7,13 +7,12 @@ mod shape;
 mod tags;
 
 ghost use mathlib.Core.Path.{_≡_};
-ghost use Prim.Native.Nat.{_≤_, _<_};
-ghost use lib.ListN.{length};
 ghost use Rattle.table.specs.Verdict.{judgeChoices, judge, verdict};
 ghost use Rattle.table.specs.Walk.{Named};
 ghost use Rattle.table.specs.Reading.{tableIn};
 ghost use Rattle.records.specs.Entries.{Filled};
-use octets::cause::Cause;
+ghost use Rattle.checker.specs.Index.{countAfter, indexAfter};
+use table::CheckCause;
 use table::Verdict;
 
 // Octets of a table.
@@ -35,21 +34,21 @@ fn judge_choices(table: &[u8], index: &[u64; 128], n: usize) -> Verdict
     let p = first_tags::lowest_circular(table, index, &nodes, n);
     if p < n {
         return Verdict::Refused {
-            cause: Cause::ChoiceLoop,
+            cause: CheckCause::ChoiceLoop,
             place: p,
         };
     }
     let p = first_tags::lowest_sharing(table, index, &nodes, n);
     if p < n {
         return Verdict::Refused {
-            cause: Cause::SharedTag,
+            cause: CheckCause::SharedTag,
             place: p,
         };
     }
     let p = finite::lowest(table, index, n);
     if p < n {
         return Verdict::Refused {
-            cause: Cause::NoValue,
+            cause: CheckCause::NoValue,
             place: p,
         };
     }
@@ -64,14 +63,14 @@ fn judge_records(table: &[u8], index: &[u64; 128], n: usize) -> Verdict
     let p = references::lowest(table, index, n);
     if p < n {
         return Verdict::Refused {
-            cause: Cause::NoRecord,
+            cause: CheckCause::NoRecord,
             place: p,
         };
     }
     let p = tags::lowest(table, index, n);
     if p < n {
         return Verdict::Refused {
-            cause: Cause::WrongTag,
+            cause: CheckCause::WrongTag,
             place: p,
         };
     }
@@ -79,19 +78,19 @@ fn judge_records(table: &[u8], index: &[u64; 128], n: usize) -> Verdict
 }
 
 // The check, and the index by which a table that passes is read. Of a table that is refused the records before the refusal of its shape
-// have their entries too.
+// have their entries too. Zeros follow the entries. Of too many octets no record is counted, and the index stays as it was.
 pub fn check_into(table: &[u8], index: &mut [u64; 128]) -> Counted
     ensures { λ r. ⌜
         (let b = now (table .entry) in
         (r .verdict ≡ verdict b)
-        × (length b ≤ 8192 → Filled b (now (index .exit)) (r .count))
-        × (8192 < length b → (r .count ≡ 0) × (now (index .exit) ≡ now (index .entry))))
+        × (r .count ≡ countAfter b)
+        × (now (index .exit) ≡ indexAfter b (now (index .entry))))
         ⌝ }
 {
     if LONGEST_TABLE < table.len() {
         return Counted {
             verdict: Verdict::Refused {
-                cause: Cause::TableShape,
+                cause: CheckCause::TableShape,
                 place: 0,
             },
             count: 0,
@@ -102,7 +101,7 @@ pub fn check_into(table: &[u8], index: &mut [u64; 128]) -> Counted
     if !made.whole {
         return Counted {
             verdict: Verdict::Refused {
-                cause: Cause::TableShape,
+                cause: CheckCause::TableShape,
                 place: count,
             },
             count,

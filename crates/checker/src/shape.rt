@@ -5,17 +5,17 @@ ghost use lib.Dec.{leb};
 ghost use Rattle.octets.specs.Lists.{all};
 ghost use Rattle.table.specs.Octets.{rising};
 ghost use Rattle.table.specs.Reading.{everyAt, numbersAt, countedEnd, enumeratedEnd, membersEnd, referenceEnd, ownEnd, recordEnd};
+use kinds::CHOICE;
+use kinds::ENUMERATED;
+use kinds::GENERALIZED_TIME;
+use kinds::NULL;
+use kinds::SEQUENCE;
+use kinds::SEQUENCE_OF;
+use kinds::SET;
+use kinds::SET_OF;
+use kinds::UTC_TIME;
 use octets::octet;
 use octets::two;
-use records::kind::CHOICE;
-use records::kind::ENUMERATED;
-use records::kind::GENERALIZED_TIME;
-use records::kind::NULL;
-use records::kind::SEQUENCE;
-use records::kind::SEQUENCE_OF;
-use records::kind::SET;
-use records::kind::SET_OF;
-use records::kind::UTC_TIME;
 
 // Whether each of n octets is at most `most`; the first is at p, each `step` behind the one before.
 fn each_at_most(table: &[u8], most: usize, step: usize, p: usize, n: usize) -> bool

@@ -11,14 +11,14 @@ ghost use Rattle.table.specs.Reading.{everyAt, tableIn};
 ghost use Rattle.table.specs.Fields.{universalOf};
 ghost use Rattle.table.specs.Decide.{wrongTags, mistagged};
 ghost use Rattle.records.specs.Entries.{tagPlace, Entered, Filled};
+use kinds::CHOICE;
+use kinds::universal;
 use octets::octet;
 use octets::two;
 use records::entry::Entry;
 use records::entry::LACKING;
 use records::entry::tag_place;
 use records::entry::unpack;
-use records::kind::CHOICE;
-use records::kind::universal;
 
 // Whether one of the n tags from p on is UNIVERSAL.
 fn any_universal(table: &[u8], p: usize, n: usize) -> bool

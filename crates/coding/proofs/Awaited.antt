@@ -9,7 +9,8 @@ use mathlib.Core.Path.{_≡_, refl, sym, ap, _∙_}
 use native.Mathlib.Omega.{arith}
 use Prim.Native.Nat.{ℕ, suc}
 use lib.ListN.{length}
-use Rattle.octets.specs.declared.cause.Cause.the-variants.{NotAwaited, Trailing}
+use Rattle.x690.specs.declared.ReadingCause.{ReadingCause}
+use Rattle.x690.specs.declared.ReadingCause.the-variants.{NotAwaited, Trailing}
 use Rattle.octets.specs.Answer.{Answer, got, refused, then, if, none-left}
 use Rattle.octets.specs.Lists.{any, same}
 use Rattle.octets.proofs.Lists.{same-refl, same-true}
@@ -23,7 +24,7 @@ use Rattle.coding.specs.Value.{Value, leaf}
 use Rattle.coding.specs.Awaited.{further, awaited, notYetRead, anything, Slotted, no-slot, a-slot, GoesOn, an-octet, no-end, begins, beginsItem, beginsBody}
 use Rattle.coding.specs.Reading.{decode, passes, begun, notAwaited, unwanted, full, readWrapped, readSequence, placeMember, readSet, readMany, choose, readKind, readValue, readMessage}
 
-goes-on : {A : Type 0} {mode : Mode} {s : List ℕ} (f : List ℕ → Answer A) (x : Unit {0} → Answer A) → GoesOn mode s → atEnd mode s f x ≡ x tt
+goes-on : {A : Type 0} {mode : Mode} {s : List ℕ} (f : List ℕ → Answer ReadingCause A) (x : Unit {0} → Answer ReadingCause A) → GoesOn mode s → atEnd mode s f x ≡ x tt
 unfolding atEnd
 goes-on f x an-octet = simp run
 goes-on f x (no-end {b = b} h) = simp (run, ne-eqb b 0 (λ e. omega arith))
@@ -37,12 +38,12 @@ or-none true = refl
 or-none false = refl
 
 -- an answer that was refused, whatever it is of
-refused-by : {A B : Type 0} (l : ℕ) (f : A → List ℕ → Answer B) (x : Answer (List ℕ)) → then (then {B = A} x (λ i r. refused NotAwaited l)) f ≡ then x (λ i r. refused NotAwaited l)
+refused-by : {A B : Type 0} (l : ℕ) (f : A → List ℕ → Answer ReadingCause B) (x : Answer ReadingCause (List ℕ)) → then (then {B = A} x (λ i r. refused NotAwaited l)) f ≡ then x (λ i r. refused NotAwaited l)
 unfolding then
 refused-by l f (got i r) = refl
 refused-by l f (refused c k) = refl
 
-refused-on : {A B : Type 0} (s : List ℕ) (f : A → List ℕ → Answer B) → then (notAwaited s) f ≡ notAwaited s
+refused-on : {A B : Type 0} (s : List ℕ) (f : A → List ℕ → Answer ReadingCause B) → then (notAwaited s) f ≡ notAwaited s
 unfolding notAwaited
 refused-on s f = refused-by (length s) f (readIdentifier s)
 
@@ -50,7 +51,7 @@ cut-first : (f : ℕ → Bool) (b : Bool) (ts : List ℕ) → b ≡ true → any
 cut-first f b ts q e = rw q at e
 
 -- In a SEQUENCE, an item that begins nothing awaited: w says whether members were passed over since the last one read, and so are awaited too.
-pub sequence-unwanted : (T : Table) (r : ℕ → List ℕ → Answer Value) (ms : List Member) (os : List (Option Value)) (w : Bool) (mode : Mode) (s : List ℕ) → GoesOn mode s
+pub sequence-unwanted : (T : Table) (r : ℕ → List ℕ → Answer ReadingCause Value) (ms : List Member) (os : List (Option Value)) (w : Bool) (mode : Mode) (s : List ℕ) → GoesOn mode s
     → any (λ t. begun T t s) (awaited ms) ≡ false → readSequence T r ms os w mode s ≡ unwanted (w || anything (awaited ms)) s
 unfolding readSequence awaited any anything unwanted
 sequence-unwanted T r [] os w mode s g e = goes-on _ _ g ∙ rw (or-none w)
@@ -62,7 +63,7 @@ sequence-unwanted T r (m ∷ ms) os w mode s g e =
     (λ q. simp (run, h .0, q) (goes-on _ _ g)))
 
 -- In a SET, an item that begins nothing awaited.
-place-unwanted : (T : Table) (r : ℕ → List ℕ → Answer Value) {ms : List Member} {os : List (Option Value)} (s : List ℕ) → Slotted ms os
+place-unwanted : (T : Table) (r : ℕ → List ℕ → Answer ReadingCause Value) {ms : List Member} {os : List (Option Value)} (s : List ℕ) → Slotted ms os
     → any (λ t. begun T t s) (notYetRead ms os) ≡ false → placeMember T r ms os s ≡ notAwaited s
 unfolding placeMember notYetRead any
 place-unwanted T r s no-slot e = refl
@@ -77,7 +78,7 @@ full-anything no-slot = refl
 full-anything (a-slot {o = none} p) = refl
 full-anything (a-slot {o = some v} p) = full-anything p
 
-pub set-unwanted : (T : Table) (r : ℕ → List ℕ → Answer Value) (k : ℕ) (ms : List Member) (os : List (Option Value)) (mode : Mode) (s : List ℕ) → GoesOn mode s → Slotted ms os
+pub set-unwanted : (T : Table) (r : ℕ → List ℕ → Answer ReadingCause Value) (k : ℕ) (ms : List Member) (os : List (Option Value)) (mode : Mode) (s : List ℕ) → GoesOn mode s → Slotted ms os
     → any (λ t. begun T t s) (notYetRead ms os) ≡ false → readSet T r (suc k) ms os mode s ≡ unwanted (anything (notYetRead ms os)) s
 unfolding readSet unwanted
 set-unwanted T r k ms os mode s g p e = goes-on _ _ g ∙ by (anything (notYetRead ms os)) (full-anything p) (place-unwanted T r s p e)
@@ -88,7 +89,7 @@ set-unwanted T r k ms os mode s g p e = goes-on _ _ g ∙ by (anything (notYetRe
     by false f h = simp (run, f)
 
 -- In a list an element is always awaited.
-pub list-unwanted : (T : Table) (r : ℕ → List ℕ → Answer Value) (k t : ℕ) (mode : Mode) (vs : List Value) (s : List ℕ) → GoesOn mode s → begun T t s ≡ false
+pub list-unwanted : (T : Table) (r : ℕ → List ℕ → Answer ReadingCause Value) (k t : ℕ) (mode : Mode) (vs : List Value) (s : List ℕ) → GoesOn mode s → begun T t s ≡ false
     → readMany T r (suc k) t mode vs s ≡ unwanted true s
 unfolding readMany unwanted
 list-unwanted T r k t mode vs s g e = goes-on _ _ g ∙ simp (run, e)
@@ -98,18 +99,18 @@ list-unwanted T r k t mode vs s g e = goes-on _ _ g ∙ simp (run, e)
 same-false : (i j : List ℕ) → same j i ≡ false → same i j ≡ false
 same-false i j e = test (same i j) (λ q. absurd (true≢false (sym (same-refl i) ∙ ap (λ (k : List ℕ). same k i) (same-true i j q) ∙ e))) λ q. q
 
-header-unwanted : {A : Type 0} (i s : List ℕ) (f : Size → List ℕ → Answer A) → passes (λ j. same j i) (readIdentifier s) ≡ false → then (readHeader i s) f ≡ notAwaited s
+header-unwanted : {A : Type 0} (i s : List ℕ) (f : Size → List ℕ → Answer ReadingCause A) → passes (λ j. same j i) (readIdentifier s) ≡ false → then (readHeader i s) f ≡ notAwaited s
 unfolding readHeader notAwaited passes then
 header-unwanted i s f e = by (readIdentifier s) e
   where
-    by : (x : Answer (List ℕ)) → passes (λ j. same j i) x ≡ false
+    by : (x : Answer ReadingCause (List ℕ)) → passes (λ j. same j i) x ≡ false
         → then (then x λ j s₁. if (not (same i j)) (refused NotAwaited (length s)) λ _. readLength (length s) s₁) f ≡ then x (λ j s₁. refused NotAwaited (length s))
     by (got j u) q = simp (run, same-false i j q)
     by (refused c l) q = refl
 
 -- a string has them with either bit 6
 
-passes-fails : (f g : List ℕ → Bool) (x : Answer (List ℕ)) → ((j : List ℕ) → f j ≡ false → g j ≡ false) → passes f x ≡ false → passes g x ≡ false
+passes-fails : (f g : List ℕ → Bool) (x : Answer ReadingCause (List ℕ)) → ((j : List ℕ) → f j ≡ false → g j ≡ false) → passes f x ≡ false → passes g x ≡ false
 unfolding passes
 passes-fails f g (got j u) h e = h j e
 passes-fails f g (refused c l) h e = refl
@@ -136,22 +137,22 @@ any-begun : (T : Table) (ts s : List ℕ) → any (λ t. begun T t s) ts ≡ pas
 unfolding begun passes
 any-begun T ts s = by (readIdentifier s)
   where
-    by : (x : Answer (List ℕ)) → any (λ t. passes (begins T t) x) ts ≡ passes (λ j. any (λ t. begins T t j) ts) x
+    by : (x : Answer ReadingCause (List ℕ)) → any (λ t. passes (begins T t) x) ts ≡ passes (λ j. any (λ t. begins T t j) ts) x
     by (got j u) = refl
     by (refused c l) = any-none ts
 
-choose-unwanted : (T : Table) (r : ℕ → List ℕ → Answer Value) (ts : List ℕ) (n : ℕ) (s : List ℕ) → any (λ t. begun T t s) ts ≡ false → choose T r ts n s ≡ notAwaited s
+choose-unwanted : (T : Table) (r : ℕ → List ℕ → Answer ReadingCause Value) (ts : List ℕ) (n : ℕ) (s : List ℕ) → any (λ t. begun T t s) ts ≡ false → choose T r ts n s ≡ notAwaited s
 unfolding choose any
 choose-unwanted T r [] n s e = refl
 choose-unwanted T r (t ∷ ts) n s e = let h = or-false (begun T t s) _ e in simp (run, h .0) (choose-unwanted T r ts (suc n) s (h .1))
 
 -- What begins a value: the next explicit tag, else the kind's own identifier octets, else what begins an alternative.
-module _ (T : Table) (r : ℕ → List ℕ → Answer Value) (i : List ℕ) where
+module _ (T : Table) (r : ℕ → List ℕ → Answer ReadingCause Value) (i : List ℕ) where
   pub item-unwanted : (is : List (List ℕ)) (b : Body) (s : List ℕ) → passes (λ j. beginsItem (λ a. begins T a j) j is i b) (readIdentifier s) ≡ false
       → readWrapped is (readKind T r i b) s ≡ notAwaited s
   unfolding readWrapped readKind readConstructed beginsItem beginsBody
   item-unwanted (e ∷ es) b s h = header-unwanted e s _ h
-  item-unwanted [] (Plain k) s h = ap (λ (x : Answer (List ℕ)). then x λ c s₁. then (decode k (length s) c s₁) λ y s₂. got (leaf y) s₂) (carried-unwanted (segmented k) i s h) ∙ refused-on s _
+  item-unwanted [] (Plain k) s h = ap (λ (x : Answer ReadingCause (List ℕ)). then x λ c s₁. then (decode k (length s) c s₁) λ y s₂. got (leaf y) s₂) (carried-unwanted (segmented k) i s h) ∙ refused-on s _
   item-unwanted [] (Sequence ms) s h = header-unwanted i s _ h
   item-unwanted [] (Set ms) s h = header-unwanted i s _ h
   item-unwanted [] (SequenceOf t) s h = header-unwanted i s _ h
@@ -160,21 +161,21 @@ module _ (T : Table) (r : ℕ → List ℕ → Answer Value) (i : List ℕ) wher
 
 -- Under an explicit tag its one item is awaited, and behind it nothing.
 
-abbrev pub underTag : {A : Type 0} → (List ℕ → Answer A) → Mode → List ℕ → Answer A
+abbrev pub underTag : {A : Type 0} → (List ℕ → Answer ReadingCause A) → Mode → List ℕ → Answer ReadingCause A
 underTag r mode u =
     atEnd mode u (λ _. refused NotAwaited (length u)) λ _.
     then (r u) λ v w.
     atEnd mode w (λ y. got v y) λ _. refused Trailing (length w)
 
-pub wrapped-under : {A : Type 0} (i : List ℕ) (is : List (List ℕ)) (r : List ℕ → Answer A) (s : List ℕ) → readWrapped (i ∷ is) r s ≡ readConstructed i (underTag (readWrapped is r)) s
+pub wrapped-under : {A : Type 0} (i : List ℕ) (is : List (List ℕ)) (r : List ℕ → Answer ReadingCause A) (s : List ℕ) → readWrapped (i ∷ is) r s ≡ readConstructed i (underTag (readWrapped is r)) s
 unfolding readWrapped
 wrapped-under i is r s = refl
 
-pub tag-unwanted : {A : Type 0} (r : List ℕ → Answer A) (mode : Mode) (u : List ℕ) → GoesOn mode u → r u ≡ notAwaited u → underTag r mode u ≡ unwanted true u
+pub tag-unwanted : {A : Type 0} (r : List ℕ → Answer ReadingCause A) (mode : Mode) (u : List ℕ) → GoesOn mode u → r u ≡ notAwaited u → underTag r mode u ≡ unwanted true u
 unfolding unwanted
 tag-unwanted r mode u g e = goes-on _ _ g ∙ rw e (refused-on u _)
 
-pub tag-trailing : {A : Type 0} (r : List ℕ → Answer A) (mode : Mode) (u : List ℕ) (v : A) (w : List ℕ) → GoesOn mode u → GoesOn mode w → r u ≡ got v w → underTag r mode u ≡ unwanted false w
+pub tag-trailing : {A : Type 0} (r : List ℕ → Answer ReadingCause A) (mode : Mode) (u : List ℕ) (v : A) (w : List ℕ) → GoesOn mode u → GoesOn mode w → r u ≡ got v w → underTag r mode u ≡ unwanted false w
 unfolding unwanted
 tag-trailing r mode u v w g h e = goes-on _ _ g ∙ rw e (simp run (goes-on _ _ h))
 

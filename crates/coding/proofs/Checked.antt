@@ -4,7 +4,7 @@ use mathlib.Core.List.{List}
 use mathlib.Core.Path.{_≡_, sym, _∙_}
 use Prim.Native.Nat.{ℕ, _≤_}
 use lib.ListN.{length}
-use Rattle.octets.specs.declared.cause.Cause.{Cause}
+use Rattle.table.specs.declared.CheckCause.{CheckCause}
 use Rattle.octets.specs.Numbers.{Octets}
 use Rattle.table.specs.Syntax.{Table}
 use Rattle.table.specs.Reading.{tableIn, countIn}
@@ -14,7 +14,7 @@ use Rattle.table.specs.declared.Verdict.{Verdict}
 use Rattle.table.specs.declared.Verdict.the-variants.{Passed, Refused}
 use Rattle.table.proofs.Theorems.{passes}
 use Rattle.table.proofs.Promises.{passed-short}
-use Rattle.coding.specs.Outcome.{Outcome, Told, refusal, of-table}
+use Rattle.coding.specs.Outcome.{Outcome, Told, refusal, tableCause, of-table}
 use Rattle.coding.specs.Calls.{afterCheck}
 
 -- an outcome is what was answered and what the buffer holds
@@ -23,8 +23,8 @@ Says x r buf = (r ≡ x .answer) × (buf ≡ x .buffer)
 
 module _ (b : List ℕ) (x : Verdict) (is : x ≡ verdict b) where
   -- the table is refused
-  pub out-table : (buf : List ℕ) (f : Table → ℕ → Outcome) (k : Cause) (p : ℕ) → x ≡ Refused k p
-      → Says (afterCheck b buf f (verdict b)) (refusal (of-table k p)) buf
+  pub out-table : (buf : List ℕ) (f : Table → ℕ → Outcome) (k : CheckCause) (p : ℕ) → x ≡ Refused k p
+      → Says (afterCheck b buf f (verdict b)) (refusal (of-table (tableCause k p))) buf
   unfolding afterCheck
   out-table buf f k p e = let q : verdict b ≡ Refused k p = sym is ∙ e in (rw q, rw q)
 

@@ -9,7 +9,8 @@ use native.Mathlib.Omega.{arith}
 use Prim.Native.Nat.{ℕ, zero, suc, _+_, _<_}
 use lib.ListN.{length, getD}
 use lib.Seq.{append-snoc}
-use Rattle.octets.specs.declared.cause.Cause.the-variants.{NotAwaited, Trailing}
+use Rattle.x690.specs.declared.ReadingCause.{ReadingCause}
+use Rattle.x690.specs.declared.ReadingCause.the-variants.{NotAwaited, Trailing}
 use Rattle.octets.specs.Answer.{Answer, got, refused, then, if, none-left}
 use Rattle.octets.specs.Lists.{any, joined}
 use Rattle.octets.specs.Permutations.{Sel, Sel.here, Sel.there, Perm, Perm.none as none-p, Perm.next, Each, nil, cons, Order, Arranged, Every, every-cons}
@@ -35,7 +36,7 @@ use Rattle.coding.proofs.FirstTags.{beginsAny, Distinct, Apart, GoodBod
 use Rattle.coding.proofs.Sound.{Pending, p-done, p-left, p-sent, p-have}
 
 -- a list of no elements
-no-elements : (T : Table) (r : ℕ → List ℕ → Answer Value) (t : ℕ) → readBody T r (SequenceOf t) closed [] ≡ got (sequenceOf (bag [])) []
+no-elements : (T : Table) (r : ℕ → List ℕ → Answer ReadingCause Value) (t : ℕ) → readBody T r (SequenceOf t) closed [] ≡ got (sequenceOf (bag [])) []
 unfolding if then none-left atEnd readMany readBody
 no-elements T r t = refl
 
@@ -104,7 +105,7 @@ any-proper T good (t ∷ ts) i e = or-by (begins T t i) _ e (good t .first i) (a
 no-zero : Proper (0 ∷ []) → ⊥
 no-zero p = let b = proper-begun p in let e : 0 ≡ b .head = ap (λ (l : List ℕ). getD l 0 0) (b .is) in let z = b .not-zero in omega arith
 
-module _ (o : Order) (T : Table) (good : Good T) (E : Coding) (Q : Value → Value → Type 0) (r : ℕ → List ℕ → Answer Value)
+module _ (o : Order) (T : Table) (good : Good T) (E : Coding) (Q : Value → Value → Type 0) (r : ℕ → List ℕ → Answer ReadingCause Value)
     (begin : (t : ℕ) (v : Value) (m : List ℕ) → E t v m → Starts T t m)
     (read : (t : ℕ) (v : Value) (m s : List ℕ) → E t v m → Reads Q (r t) v (m ++ s) s) where
   starts : {t : ℕ} {v : Value} {m : List ℕ} → E t v m → Starts T t m
@@ -122,7 +123,7 @@ module _ (o : Order) (T : Table) (good : Good T) (E : Coding) (Q : Value → Val
   begun-no : (t : ℕ) {ts m : List ℕ} (s : List ℕ) → ((i : List ℕ) → begins T t i ≡ true → beginsAny T i ts ≡ false) → StartsAny T ts m → begun T t (m ++ s) ≡ false
   begun-no t s d x = next-is T t (x .rest) s (proper-readable (proper x)) (x .is) ∙ fails _ _ (d (x .ident)) (x .begins)
 
-  not-end : {A : Type 0} {ts m : List ℕ} (mode : Mode) (s : List ℕ) (f : List ℕ → Answer A) (x : Unit {0} → Answer A) → StartsAny T ts m → atEnd mode (m ++ s) f x ≡ x tt
+  not-end : {A : Type 0} {ts m : List ℕ} (mode : Mode) (s : List ℕ) (f : List ℕ → Answer ReadingCause A) (x : Unit {0} → Answer ReadingCause A) → StartsAny T ts m → atEnd mode (m ++ s) f x ≡ x tt
   not-end mode s f x h = begun-more (h .rest) s mode f x (proper-begun (proper h)) (h .is)
 
   shorter : {ts m : List ℕ} (s : List ℕ) → StartsAny T ts m → length s < length (m ++ s)
@@ -238,7 +239,7 @@ module _ (o : Order) (T : Table) (good : Good T) (E : Coding) (Q : Value → Val
       (w, simp (run, begun-no t s (d .0) (at-starts a (starts e))) (x ∙ ap (λ (j : ℕ). got (choice j w) s) (omega arith)), q)
 
   -- a reader of contents, at pieces
-  at-pieces : {A : Type 0} {R : A → A → Type 0} (f : List ℕ → Answer A) {v : A} (ps : List (List ℕ)) (t u : List ℕ) → Reads R f v (flat ps t) u → Reads R f v (joined ps ++ t) u
+  at-pieces : {A : Type 0} {R : A → A → Type 0} (f : List ℕ → Answer ReadingCause A) {v : A} (ps : List (List ℕ)) (t u : List ℕ) → Reads R f v (flat ps t) u → Reads R f v (joined ps ++ t) u
   at-pieces f ps t u x = rw (joined-flat ps t) x
 
   sequence-body : {ms : List Member} {os : List (Option Value)} {ps : List (List ℕ)} → Apart T ms → Pieces E ms os ps → allowed ms os ≡ true → (mode : Mode) (t u : List ℕ) → Ends mode t u
@@ -335,7 +336,7 @@ wrapped-opened : {C : List ℕ → Type 0} {is : List (List ℕ)} {m : List ℕ}
 wrapped-opened {m = m} f ps (bare c) = f m c
 wrapped-opened f (every-cons p ps) (tagged {i = i} w h) = let (n, e) = constructed-head h in (i, n, e, proper-begun p)
 
-wrapped-complete : {A : Type 0} {Q : A → A → Type 0} {v : A} {C : List ℕ → Type 0} (r : List ℕ → Answer A) → ((m s : List ℕ) → C m → Reads Q r v (m ++ s) s) → ((m : List ℕ) → C m → Opened m)
+wrapped-complete : {A : Type 0} {Q : A → A → Type 0} {v : A} {C : List ℕ → Type 0} (r : List ℕ → Answer ReadingCause A) → ((m s : List ℕ) → C m → Reads Q r v (m ++ s) s) → ((m : List ℕ) → C m → Opened m)
     → {is : List (List ℕ)} {m : List ℕ} (s : List ℕ) → Every Proper is → Wrapped C is m → Reads Q (readWrapped is r) v (m ++ s) s
 unfolding readWrapped
 wrapped-complete r f o {m = m} s ps (bare c) = let x = f m s c in record { value = x .value; answer = x .answer; alike = x .alike }

@@ -9,7 +9,7 @@ use Prim.Native.Nat.{ℕ, suc}
 use lib.Dec.{leb}
 use lib.IntN.{ℤ, pos, negsuc}
 use lib.ListN.{length}
-use Rattle.octets.specs.declared.cause.Cause.the-variants.{Contents}
+use Rattle.x690.specs.declared.ReadingCause.the-variants.{Contents}
 use Rattle.octets.specs.Answer.{got, refused, if, none-left}
 use Rattle.octets.specs.Lists.{any}
 use Rattle.octets.specs.Permutations.{AllOctets, every-cons}

@@ -10,8 +10,8 @@ use lib.Dec.{leb}
 use lib.ListN.{length, take, drop, replicate}
 use lib.Seq.{take-append-seam}
 use borrow.Author.Tests.{leb-true, leb-false, le-leb, lt-leb}
-use Rattle.octets.specs.declared.cause.Cause.{Cause}
-use Rattle.octets.specs.declared.cause.Cause.the-variants.{NoType, ValueShape, IllTyped, ValueRoom}
+use Rattle.coding.specs.declared.JudgingCause.{JudgingCause}
+use Rattle.coding.specs.declared.JudgingCause.the-variants.{ValueShape, IllTyped}
 use Rattle.octets.specs.Answer.{if, then, none-left}
 use Rattle.octets.specs.Permutations.{AllOctets}
 use Rattle.octets.proofs.Tests.{test}
@@ -24,7 +24,7 @@ use Rattle.dates.specs.Century.{isVersion, firstYear, inWindow, inYear, toUtc, 
 use Rattle.dates.proofs.Centuries.{Around2000, windows, same-range, forth-and-back, shortens-one}
 use Rattle.coding.specs.declared.Given.{Given}
 use Rattle.coding.specs.declared.Given.the-variants.{Time, Refused as Wrong}
-use Rattle.coding.specs.Outcome.{Refusal, of-table, of-value, of-message, Told, done, refusal, Outcome, refuse, write-at-start}
+use Rattle.coding.specs.Outcome.{Unknown, valueCause, ValueRoom, Refusal, of-table, of-value, of-message, Told, done, refusal, Outcome, refuse, write-at-start}
 use Rattle.coding.specs.Value.{leafOctets}
 use Rattle.coding.specs.Judging.{need, ownTime, readOwn, readNode}
 use Rattle.coding.specs.Reckoning.{childless, isWhole, isLone, given, timeNode, Stands}
@@ -53,16 +53,16 @@ pub conversions-right :
     × (wholeToGeneralized 2 (utc 60) eleven ≡ wrote (generalized 1960))
     × (wholeToUtc 1 (generalized 2060) eleven ≡ wrote (utc 60))
     × (wholeToUtc 2 (generalized 1960) eleven ≡ wrote (utc 60))
-    × (wholeToUtc 2 (generalized 2060) eleven ≡ refuse (of-value IllTyped 0) eleven)
-    × (wholeToUtc 1 (generalized 1968) nine ≡ refuse (of-value IllTyped 0) nine)
-    × (wholeToUtc 1 (generalized 1900) nine ≡ refuse (of-value ValueShape 0) nine)
-    × (wholeToGeneralized 1 (utc 61) nine ≡ refuse (of-value ValueShape 0) nine)
-    × (wholeToGeneralized 1 (generalized 1900) eleven ≡ refuse (of-value ValueShape 0) eleven)
-    × (wholeToGeneralized 1 (generalized 2060) nine ≡ refuse (of-value IllTyped 0) nine)
-    × (wholeToGeneralized 1 (utc 60) nine ≡ refuse (of-message ValueRoom 0) nine)
-    × (wholeToUtc 2 (generalized 1960) nine ≡ refuse (of-message ValueRoom 0) nine)
-    × (wholeToGeneralized 0 (utc 60) eleven ≡ refuse (of-table NoType 0) eleven)
-    × (wholeToUtc 3 [] nine ≡ refuse (of-table NoType 0) nine)
+    × (wholeToUtc 2 (generalized 2060) eleven ≡ refuse (of-value (valueCause IllTyped 0)) eleven)
+    × (wholeToUtc 1 (generalized 1968) nine ≡ refuse (of-value (valueCause IllTyped 0)) nine)
+    × (wholeToUtc 1 (generalized 1900) nine ≡ refuse (of-value (valueCause ValueShape 0)) nine)
+    × (wholeToGeneralized 1 (utc 61) nine ≡ refuse (of-value (valueCause ValueShape 0)) nine)
+    × (wholeToGeneralized 1 (generalized 1900) eleven ≡ refuse (of-value (valueCause ValueShape 0)) eleven)
+    × (wholeToGeneralized 1 (generalized 2060) nine ≡ refuse (of-value (valueCause IllTyped 0)) nine)
+    × (wholeToGeneralized 1 (utc 60) nine ≡ refuse (of-message ValueRoom) nine)
+    × (wholeToUtc 2 (generalized 1960) nine ≡ refuse (of-message ValueRoom) nine)
+    × (wholeToGeneralized 0 (utc 60) eleven ≡ refuse (of-table Unknown) eleven)
+    × (wholeToUtc 3 [] nine ≡ refuse (of-table Unknown) nine)
 unfolding if then none-left leap february monthDays years isDate isTimeOfDay inRange timeOctets timeAt isVersion firstYear inWindow inYear toUtc windowYear toGeneralized
     need ownTime leafOctets readOwn readNode childless isWhole isLone given counterpart converted placed wholeConversion
 conversions-right = (refl, refl, refl, refl, refl, refl, refl, refl, refl, refl, refl, refl, refl, refl)
@@ -86,7 +86,7 @@ module _ (f : ℕ) (w : Around2000 f) where
   same-in-range Utc t u r h = ap (inRange Generalized) (shortens-one f w t u r .0 h) ∙ forth-and-back f w t r .2
   same-in-range Generalized t u r h = ap (inRange Utc) (h .digits) ∙ same-range f w t (h .inside) ∙ r
 
-outside : (f : ℕ) (k : TimeKind) (t : DateTime) (c : Cause) → counterpart f k t ≡ Wrong c → c ≡ IllTyped
+outside : (f : ℕ) (k : TimeKind) (t : DateTime) (c : JudgingCause) → counterpart f k t ≡ Wrong c → c ≡ IllTyped
 unfolding counterpart
 outside f Utc t c e = absurd (false≢true (sym (ap accepted e)))
 outside f Generalized t c e =
@@ -155,7 +155,7 @@ module _ (k : TimeKind) (v : ℕ) (s buf : List ℕ) where
   refused-so o r (no-node i l) = rw (i, ← given-shape k s l) refl
   refused-so o r (no-time i l h) = rw i (barred (converted-one o))
     where
-      barred : {g : Given} → Converted g → placed (otherKind k) buf g ≡ refuse (of-value IllTyped 0) buf
+      barred : {g : Given} → Converted g → placed (otherKind k) buf g ≡ refuse (of-value (valueCause IllTyped 0)) buf
       barred (one c) = absurd (h _ _ c)
       barred (not-alone m) = absurd (false≢true (sym m ∙ l))
       barred (none m n) = refl
@@ -235,17 +235,17 @@ there-and-back k v s buf o n after e b h =
 
 -- the steps by which the code answers
 module _ (k : TimeKind) (v : ℕ) (s buf : List ℕ) {y : Bool} (i : y ≡ isVersion v) where
-  pub version-refused : y ≡ false → wholeConversion k v s buf ≡ refuse (of-table NoType 0) buf
+  pub version-refused : y ≡ false → wholeConversion k v s buf ≡ refuse (of-table Unknown) buf
   unfolding wholeConversion
   version-refused h = rw (← i, h) refl
 
   module _ (h : y ≡ true) {g : Given} (e : g ≡ given k s) where
-    pub node-refused : {c : Cause} → g ≡ Wrong c → wholeConversion k v s buf ≡ refuse (of-value c 0) buf
+    pub node-refused : {c : JudgingCause} → g ≡ Wrong c → wholeConversion k v s buf ≡ refuse (of-value (valueCause c 0)) buf
     unfolding wholeConversion converted placed
     node-refused q = rw (← i, h, ← e, q) refl
 
     module _ {t : DateTime} (q : g ≡ Time t) {d : Given} (j : d ≡ counterpart (firstYear v) k t) where
-      pub time-refused : {c : Cause} → d ≡ Wrong c → wholeConversion k v s buf ≡ refuse (of-value c 0) buf
+      pub time-refused : {c : JudgingCause} → d ≡ Wrong c → wholeConversion k v s buf ≡ refuse (of-value (valueCause c 0)) buf
       unfolding wholeConversion converted placed
       time-refused r = rw (← i, h, ← e, q, ← j, r) refl
 
@@ -253,7 +253,7 @@ module _ (k : TimeKind) (v : ℕ) (s buf : List ℕ) {y : Bool} (i : y ≡ isVer
       unfolding wholeConversion converted
       counterpart-put r = rw (← i, h, ← e, q, ← j, r) refl
 
-pub put-refused : (k : TimeKind) (t : DateTime) (buf : List ℕ) → length buf < 10 → placed k buf (Time t) ≡ refuse (of-message ValueRoom 0) buf
+pub put-refused : (k : TimeKind) (t : DateTime) (buf : List ℕ) → length buf < 10 → placed k buf (Time t) ≡ refuse (of-message ValueRoom) buf
 unfolding placed
 put-refused k t buf h = rw (lt-leb 10 (length buf) h) refl
 

@@ -8,20 +8,20 @@ use mathlib.Core.Path.{_≡_, refl, sym, ap, subst, _∙_}
 use Prim.Native.Nat.{ℕ, _+_, _≤_, _<_}
 use native.Mathlib.Omega.{arith}
 use lib.ListN.{length, length-append}
-use Rattle.octets.specs.declared.cause.Cause.{Cause}
-use Rattle.octets.specs.declared.cause.Cause.the-variants.{NoType, MessageRoom, MessageLength, Trailing, ValueRoom}
+use Rattle.x690.specs.declared.ReadingCause.{ReadingCause}
+use Rattle.x690.specs.declared.ReadingCause.the-variants.{Trailing}
 use Rattle.octets.specs.Answer.{got}
 use Rattle.octets.specs.Lists.{joined}
 use Rattle.octets.specs.Numbers.{Octets}
 use Rattle.octets.specs.Permutations.{Each, any-order}
 use Rattle.octets.proofs.Permutations.{all-octets}
 use Rattle.table.specs.Syntax.{Record, Table, table}
+use Rattle.table.specs.declared.CheckCause.{CheckCause}
 use Rattle.table.specs.Cause.{Breaks, FirstCause}
 use Rattle.table.specs.Passes.{Passes}
 use Rattle.table.specs.Verdict.{verdict}
 use Rattle.table.specs.declared.Verdict.{Verdict}
 use Rattle.table.specs.declared.Verdict.the-variants.{Passed, Refused}
-use Rattle.table.proofs.Promises.{cause-low}
 use Rattle.table.proofs.Theorems.{rules-kept, named-first, first-named, passed-none, none-passed}
 use Rattle.coding.specs.Value.{Leaf, Value, leaf, octets, depth}
 use Rattle.coding.specs.Encodes.{Encodes, Arrives}
@@ -29,19 +29,23 @@ use Rattle.coding.specs.Typed.{WellTyped}
 use Rattle.coding.specs.Shaped.{Shaped}
 use Rattle.coding.specs.Equivalent.{Equivalent}
 use Rattle.coding.specs.Judging.{judgeWhole}
-use Rattle.coding.specs.Outcome.{levels, longestValue, longestMessage, Refusal, of-table, of-value, of-message, OfStage, done, refusal, Outcome, refuse}
+use Rattle.coding.specs.declared.JudgingCause.{JudgingCause}
+use Rattle.coding.specs.Outcome.{levels, longestValue, longestMessage, Unknown, tableCause, MessageRoom, valueCause, MessageLength, ValueRoom, messageCause}
+use Rattle.coding.specs.Outcome.{Refusal, of-table, of-value, of-message, done, refusal, Outcome, refuse}
 use Rattle.coding.specs.Calls.{readOutcome, writeOutcome, wholeRead, wholeWrite, checkAnswer}
-use Rattle.coding.specs.Demands.{Accepted, NoSuchType, OfType, MessageRefused, NoRoomForValue, Read, ValueRefused, NoRoomForMessage, Wrote, Received, Sent}
+use Rattle.coding.specs.Demands.{Answers, is-done, of-the-table, Accepted, NoSuchType, OfType, MessageRefused, NoRoomForValue, Read, ValueRefused, NoRoomForMessage, Wrote, Received, Sent}
 use Rattle.coding.proofs.FirstTags.{Good, good}
 use Rattle.coding.proofs.Levels.{retype}
 use Rattle.coding.proofs.Judging.{judge-octets}
 use Rattle.coding.proofs.Messages.{accepts-as-given, accepts-a-leaf, refuses-behind, unique, cut-once}
 use Rattle.coding.proofs.Shaped.{Limited, limited, encodes-shaped}
+use Rattle.coding.proofs.Causes.{same-table}
+use Rattle.coding.proofs.Outcomes as outcomes
 use Rattle.coding.proofs.Outcomes.{Beyond, reading, writing, long-exactly, refused-exactly, lacks-exactly, read-exactly, received, read-alike, read-refuses, read-beyond}
-use Rattle.coding.proofs.Outcomes.{read-unchanged, read-stage, read-never-value, write-stage, write-never-message, judged-exactly}
+use Rattle.coding.proofs.Outcomes.{read-unchanged, judged-exactly}
 use Rattle.coding.proofs.Outcomes.{full-exactly, written-exactly, sent, write-beyond, write-unchanged, done≢refusal, message-beyond}
-use Rattle.coding.proofs.Outcomes.{value-beyond, done-beyond, staged-by, read-staged, write-staged}
-use Rattle.coding.proofs.Stages.{never, call, call-found, found-exactly, table-exactly, type-exactly, call-unchanged, call-staged}
+use Rattle.coding.proofs.Outcomes.{value-beyond, done-beyond}
+use Rattle.coding.proofs.Stages.{call, call-found, found-exactly, table-exactly, type-exactly, call-unchanged, call-answers}
 
 -- both outcomes are those of a call: the table is judged, the type is looked for, then it is read or written
 
@@ -83,111 +87,97 @@ module _ {b : List ℕ} (o : Octets b) where
       → (wholeWrite b t v buf ≡ x) ↔ OfType b t P
   write-later t v buf x far f = along (write-call b t v buf) (later t buf (λ T. writing T t v buf) x far f)
 
--- Demand 1. Which answer is given when, from the octets alone: one equivalence a stage, in the order of the stages. There are no other answers:
--- `read` gives no refusal of the value stage, `write` none of the message stage.
+-- Demand 1. Which answer is given when, from the octets alone: one equivalence a stage, in the order of the stages.
 
 module _ (b : List ℕ) (o : Octets b) where
   -- check, 1 to 6: the first cause is named
-  pub check-refuses : (c : Cause) (p : ℕ) → (checkAnswer (verdict b) ≡ refusal (of-table c p)) ↔ FirstCause b c p
+  pub check-refuses : (c : CheckCause) (p : ℕ) → (checkAnswer (verdict b) ≡ refusal (of-table (tableCause c p))) ↔ FirstCause b c p
   unfolding checkAnswer
   check-refuses c p = (λ e. by (verdict b) refl e, λ x. ap checkAnswer (first-named b o c p x))
     where
-      by : (v : Verdict) → verdict b ≡ v → checkAnswer v ≡ refusal (of-table c p) → FirstCause b c p
+      by : (v : Verdict) → verdict b ≡ v → checkAnswer v ≡ refusal (of-table (tableCause c p)) → FirstCause b c p
       by Passed q e = done≢refusal e
-      by (Refused d r) q e = let s : (d ≡ c) × (r ≡ p) = (cc, cc) in rw (← s .0, ← s .1) (named-first b o d r q)
+      by (Refused d r) q e =
+          let z : tableCause d r ≡ tableCause c p = cc in
+          let s = same-table d c r p z in
+          rw (← s .0, ← s .1) (named-first b o d r q)
 
   -- check: the table passes where no cause holds
-  pub check-passes : (checkAnswer (verdict b) ≡ done 0) ↔ ((c : Cause) (p : ℕ) → Breaks b p c → ⊥)
+  pub check-passes : (checkAnswer (verdict b) ≡ done 0) ↔ ((c : CheckCause) (p : ℕ) → Breaks b p c → ⊥)
   unfolding checkAnswer
   check-passes = (λ e. by (verdict b) refl e, λ h. ap checkAnswer (none-passed b o h))
     where
-      by : (v : Verdict) → verdict b ≡ v → checkAnswer v ≡ done 0 → (c : Cause) (p : ℕ) → Breaks b p c → ⊥
+      by : (v : Verdict) → verdict b ≡ v → checkAnswer v ≡ done 0 → (c : CheckCause) (p : ℕ) → Breaks b p c → ⊥
       by Passed q e = passed-none b o q
       by (Refused d r) q e = done≢refusal (sym e)
 
   module _ (t : ℕ) (m buf : List ℕ) (o′ : Octets m) where
     -- read, 1 to 6
-    pub read-refuses-table : (c : Cause) (p : ℕ) → (c ≡ NoType → ⊥) → (wholeRead b t m buf ≡ refuse (of-table c p) buf) ↔ FirstCause b c p
-    read-refuses-table c p k = along (read-call b t m buf) (table-exactly b t buf (λ T. reading T t m buf) o (λ T. read-beyond T t m buf) c p k)
+    pub read-refuses-table : (c : CheckCause) (p : ℕ) → (wholeRead b t m buf ≡ refuse (of-table (tableCause c p)) buf) ↔ FirstCause b c p
+    read-refuses-table c p = along (read-call b t m buf) (table-exactly b t buf (λ T. reading T t m buf) o (λ T. read-beyond T t m buf) c p)
 
     -- 7
-    pub read-refuses-type : (p : ℕ) → (wholeRead b t m buf ≡ refuse (of-table NoType p) buf) ↔ (NoSuchType b t × (p ≡ 0))
-    read-refuses-type p = along (read-call b t m buf) (type-exactly b t buf (λ T. reading T t m buf) o (λ T. read-beyond T t m buf) p)
+    pub read-refuses-type : (wholeRead b t m buf ≡ refuse (of-table Unknown) buf) ↔ NoSuchType b t
+    read-refuses-type = along (read-call b t m buf) (type-exactly b t buf (λ T. reading T t m buf) o (λ T. read-beyond T t m buf))
 
     -- 21
-    pub read-refuses-length : (p : ℕ) → (wholeRead b t m buf ≡ refuse (of-message MessageLength p) buf) ↔ OfType b t (λ T. (longestMessage < length m) × (p ≡ 0))
+    pub read-refuses-length : (p : ℕ) → (wholeRead b t m buf ≡ refuse (of-message (MessageLength p)) buf) ↔ OfType b t (λ T. (longestMessage < length m) × (p ≡ 0))
     read-refuses-length p =
-        read-later o t m buf (refuse (of-message MessageLength p) buf) (message-beyond MessageLength p buf) λ rs a. long-exactly (table rs) t m buf o′ p
+        read-later o t m buf (refuse (of-message (MessageLength p)) buf) (message-beyond (MessageLength p) buf) λ rs a. long-exactly (table rs) t m buf o′ p
 
-    -- 22 to 26, 28
-    pub read-refuses-message : (c : Cause) (p : ℕ) → (c ≡ MessageLength → ⊥) → (c ≡ ValueRoom → ⊥)
-        → (wholeRead b t m buf ≡ refuse (of-message c p) buf) ↔ OfType b t (λ T. MessageRefused T t m c p)
-    read-refuses-message c p i j =
-        read-later o t m buf (refuse (of-message c p) buf) (message-beyond c p buf) λ rs a. refused-exactly (table rs) t m buf o′ c p i j
+    -- 22 to 26, 28, 29
+    pub read-refuses-message : (c : ReadingCause) (p : ℕ) → (wholeRead b t m buf ≡ refuse (of-message (messageCause c p)) buf) ↔ OfType b t (λ T. MessageRefused T t m c p)
+    read-refuses-message c p =
+        read-later o t m buf (refuse (of-message (messageCause c p)) buf) (message-beyond (messageCause c p) buf) λ rs a. refused-exactly (table rs) t m buf o′ c p
 
     -- 27
-    pub read-refuses-room : (p : ℕ) → (wholeRead b t m buf ≡ refuse (of-message ValueRoom p) buf) ↔ OfType b t (λ T. NoRoomForValue T t m buf × (p ≡ 0))
-    read-refuses-room p =
-        read-later o t m buf (refuse (of-message ValueRoom p) buf) (message-beyond ValueRoom p buf) λ rs a. lacks-exactly (table rs) t m buf o′ (good-of o a) p
+    pub read-refuses-room : (wholeRead b t m buf ≡ refuse (of-message ValueRoom) buf) ↔ OfType b t (λ T. NoRoomForValue T t m buf)
+    read-refuses-room =
+        read-later o t m buf (refuse (of-message ValueRoom) buf) (message-beyond ValueRoom buf) λ rs a. lacks-exactly (table rs) t m buf o′ (good-of o a)
 
     -- done
     pub read-is-done : (k : ℕ) (after : List ℕ) → (wholeRead b t m buf ≡ record { answer = done k; buffer = after }) ↔ OfType b t (λ T. Read T t m buf k after)
     read-is-done k after = read-later o t m buf (record { answer = done k; buffer = after }) (done-beyond k after) λ rs a. read-exactly (table rs) t m buf o′ (good-of o a) k after
 
-    -- 11 to 14, never
-    pub read-refuses-no-value : (c : Cause) (p : ℕ) → wholeRead b t m buf .answer ≡ refusal (of-value c p) → ⊥
-    unfolding wholeRead readOutcome
-    read-refuses-no-value c p =
-        never b t buf (λ T. reading T t m buf) o (refusal (of-value c p)) (value-beyond c p buf) (λ T e. read-never-value T t m buf c p (read-stage T t m buf o′) e)
-
   module _ (t : ℕ) (v buf : List ℕ) (o′ : Octets v) where
     -- write, 1 to 6
-    pub write-refuses-table : (c : Cause) (p : ℕ) → (c ≡ NoType → ⊥) → (wholeWrite b t v buf ≡ refuse (of-table c p) buf) ↔ FirstCause b c p
-    write-refuses-table c p k = along (write-call b t v buf) (table-exactly b t buf (λ T. writing T t v buf) o (λ T. write-beyond T t v buf) c p k)
+    pub write-refuses-table : (c : CheckCause) (p : ℕ) → (wholeWrite b t v buf ≡ refuse (of-table (tableCause c p)) buf) ↔ FirstCause b c p
+    write-refuses-table c p = along (write-call b t v buf) (table-exactly b t buf (λ T. writing T t v buf) o (λ T. write-beyond T t v buf) c p)
 
     -- 7
-    pub write-refuses-type : (p : ℕ) → (wholeWrite b t v buf ≡ refuse (of-table NoType p) buf) ↔ (NoSuchType b t × (p ≡ 0))
-    write-refuses-type p = along (write-call b t v buf) (type-exactly b t buf (λ T. writing T t v buf) o (λ T. write-beyond T t v buf) p)
+    pub write-refuses-type : (wholeWrite b t v buf ≡ refuse (of-table Unknown) buf) ↔ NoSuchType b t
+    write-refuses-type = along (write-call b t v buf) (type-exactly b t buf (λ T. writing T t v buf) o (λ T. write-beyond T t v buf))
 
     -- 11 to 13
-    pub write-refuses-value : (c : Cause) (p : ℕ) → (c ≡ MessageRoom → ⊥)
-        → (wholeWrite b t v buf ≡ refuse (of-value c p) buf) ↔ OfType b t (λ T. ValueRefused T t v c p)
-    write-refuses-value c p i = write-later o t v buf (refuse (of-value c p) buf) (value-beyond c p buf) λ rs a. judged-exactly (table rs) t v buf o′ c p i
+    pub write-refuses-value : (c : JudgingCause) (p : ℕ) → (wholeWrite b t v buf ≡ refuse (of-value (valueCause c p)) buf) ↔ OfType b t (λ T. ValueRefused T t v c p)
+    write-refuses-value c p =
+        write-later o t v buf (refuse (of-value (valueCause c p)) buf) (value-beyond (valueCause c p) buf) λ rs a. judged-exactly (table rs) t v buf o′ c p
 
     -- 14
-    pub write-refuses-room : (p : ℕ) → (wholeWrite b t v buf ≡ refuse (of-value MessageRoom p) buf) ↔ OfType b t (λ T. NoRoomForMessage T t v buf × (p ≡ 0))
-    write-refuses-room p =
-        write-later o t v buf (refuse (of-value MessageRoom p) buf) (value-beyond MessageRoom p buf) λ rs a. full-exactly (table rs) t v buf o′ p
+    pub write-refuses-room : (wholeWrite b t v buf ≡ refuse (of-value MessageRoom) buf) ↔ OfType b t (λ T. NoRoomForMessage T t v buf)
+    write-refuses-room = write-later o t v buf (refuse (of-value MessageRoom) buf) (value-beyond MessageRoom buf) λ rs a. full-exactly (table rs) t v buf o′
 
     -- done
     pub write-is-done : (k : ℕ) (after : List ℕ) → (wholeWrite b t v buf ≡ record { answer = done k; buffer = after }) ↔ OfType b t (λ T. Wrote T t v buf k after)
     write-is-done k after = write-later o t v buf (record { answer = done k; buffer = after }) (done-beyond k after) λ rs a. written-exactly (table rs) t v buf o′ k after
 
-    -- 21 to 28, never
-    pub write-refuses-no-message : (c : Cause) (p : ℕ) → wholeWrite b t v buf .answer ≡ refusal (of-message c p) → ⊥
-    unfolding wholeWrite writeOutcome
-    write-refuses-no-message c p =
-        never b t buf (λ T. writing T t v buf) o (refusal (of-message c p)) (message-beyond c p buf) (λ T e. write-never-message T t v buf c p (write-stage T t v buf o′) e)
+-- there are no other answers: a refusal of `check` is of the table, one of `read` of the table or the message, one of `write` of the table or the value
 
--- every refusal is of the stage that its number says
-
-pub check-stages : (b : List ℕ) (r : Refusal) → checkAnswer (verdict b) ≡ refusal r → OfStage r
+pub check-answers : (b : List ℕ) → Answers of-table (checkAnswer (verdict b))
 unfolding checkAnswer
-check-stages b r e = by (verdict b) refl e
+check-answers b = by (verdict b)
   where
-    by : (v : Verdict) → verdict b ≡ v → checkAnswer v ≡ refusal r → OfStage r
-    by Passed q e = done≢refusal e
-    by (Refused c p) q e =
-        let k = cause-low b c p q in
-        staged-by {x = refuse (of-table c p) []} (of-table c p) (omega arith) refl r e
+    by : (v : Verdict) → Answers of-table (checkAnswer v)
+    by Passed = is-done 0
+    by (Refused c p) = of-the-table (tableCause c p)
 
-pub read-stages : (b : List ℕ) (t : ℕ) (m buf : List ℕ) → Octets m → (r : Refusal) → wholeRead b t m buf .answer ≡ refusal r → OfStage r
+pub read-answers : (b : List ℕ) (t : ℕ) (m buf : List ℕ) → Answers of-message (wholeRead b t m buf .answer)
 unfolding wholeRead readOutcome
-read-stages b t m buf o = call-staged b t buf (λ T. reading T t m buf) (λ T. read-staged T t m buf o)
+read-answers b t m buf = call-answers b t buf (λ T. reading T t m buf) of-message (λ T. outcomes.read-answers T t m buf)
 
-pub write-stages : (b : List ℕ) (t : ℕ) (v buf : List ℕ) → Octets v → (r : Refusal) → wholeWrite b t v buf .answer ≡ refusal r → OfStage r
+pub write-answers : (b : List ℕ) (t : ℕ) (v buf : List ℕ) → Answers of-value (wholeWrite b t v buf .answer)
 unfolding wholeWrite writeOutcome
-write-stages b t v buf o = call-staged b t buf (λ T. writing T t v buf) (λ T. write-staged T t v buf o)
+write-answers b t v buf = call-answers b t buf (λ T. writing T t v buf) of-value (λ T. outcomes.write-answers T t v buf)
 
 -- a refusal leaves the buffer as it was
 
@@ -255,7 +245,7 @@ module _ (b : List ℕ) (o : Octets b) (rs : List Record) (a : Accepted b rs) (t
       let h = encodes-shaped any-order (table rs) (limits-of o a) (e .level) t (x .value) m (all-octets m p) (x .within) (e .encodes) in
       (h, judge-octets (table rs) levels t (x .value) (retype (table rs) (w .level) levels t (x .value) (x .deep) (w .typed)) h)
 
-  -- Document 02, [7]: the permitted encodings of the type. What octets encode is well-typed (`well-typed` in `Levels`), and it takes no limit of
+  -- No message hides in another: the permitted encodings of the type. What octets encode is well-typed (`well-typed` in `Levels`), and it takes no limit of
   -- levels or octets to tell encodings apart: what is asked of those within the limits is said of all.
 
   -- Values that share an encoding are equivalent.
@@ -273,7 +263,7 @@ module _ (b : List ℕ) (o : Octets b) (rs : List Record) (a : Accepted b rs) (t
 
   -- Reading from the front finds the cut: if anything stands behind the first message, 26 is said where that ends.
   pub the-cut-is-found : (v : Value) (m x buf : List ℕ) → depth v ≤ levels → Encodes (table rs) t v m → 1 ≤ length x → length (m ++ x) ≤ longestMessage
-      → wholeRead b t (m ++ x) buf ≡ refuse (of-message Trailing (length m)) buf
+      → wholeRead b t (m ++ x) buf ≡ refuse (of-message (messageCause Trailing (length m))) buf
   the-cut-is-found v m x buf d e k h =
       let h′ : length m + length x ≡ length (m ++ x) = sym (length-append m x) in
       read-found (m ++ x) buf

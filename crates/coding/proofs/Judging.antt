@@ -10,6 +10,7 @@ use Prim.Native.Nat.{ℕ, zero, suc, _<_}
 use lib.Dec.{eqb}
 use lib.ListN.{length, getD}
 use lib.Seq.{append-snoc}
+use Rattle.coding.specs.declared.JudgingCause.{JudgingCause}
 use Rattle.octets.specs.Answer.{Answer, got, none-left}
 use Rattle.octets.specs.Numbers.{octetsOf}
 use Rattle.octets.specs.Permutations.{Every, every-nil, every-cons, AllOctets}
@@ -134,7 +135,7 @@ record JudgedElements (W : ℕ → Value → Type 0) (t n : ℕ) (acc : List Val
 spliced : {s s₁ : List ℕ} (a p u : List ℕ) → s ≡ a ++ s₁ → s₁ ≡ p ++ u → s ≡ (a ++ p) ++ u
 spliced a p u e f = e ∙ ap (λ (l : List ℕ). a ++ l) f ∙ sym (append-assoc a p u)
 
-module _ (W : ℕ → Value → Type 0) (r : ℕ → List ℕ → Answer Value) (sound : (t : ℕ) (s : List ℕ) → AllOctets s → Holds (Judged W t s) (r t s)) where
+module _ (W : ℕ → Value → Type 0) (r : ℕ → List ℕ → Answer JudgingCause Value) (sound : (t : ℕ) (s : List ℕ) → AllOctets s → Holds (Judged W t s) (r t s)) where
   members-sound : (ms : List Member) (bs : List Bool) (acc : List (Option Value)) (s : List ℕ) → AllOctets s → agreeing ms bs ≡ true → Holds (JudgedMembers W ms bs acc s) (judgeMembers r ms bs acc s)
   unfolding judgeMembers agreeing slots octets presence flagsOf count allowed AllShaped
   members-sound [] [] acc s o e = yields (record { new = []; is = sym (append-nil acc); cut = refl; flags = refl; counted = refl; fits = f-done; allowed = refl; shaped = tt })
@@ -347,7 +348,7 @@ at-below : {t n : ℕ} {ts : List ℕ} → At t ts n → n < length ts
 at-below first = omega arith
 at-below (later a) = let h = at-below a in omega arith
 
-module _ (W : ℕ → Value → Type 0) (r : ℕ → List ℕ → Answer Value) (reads : (t : ℕ) (v : Value) (s : List ℕ) → W t v → Shaped v → r t (octets v ++ s) ≡ got v s) where
+module _ (W : ℕ → Value → Type 0) (r : ℕ → List ℕ → Answer JudgingCause Value) (reads : (t : ℕ) (v : Value) (s : List ℕ) → W t v → Shaped v → r t (octets v ++ s) ≡ got v s) where
   members-judged : {ms : List Member} {os : List (Option Value)} (acc : List (Option Value)) (s : List ℕ) → MembersTyped W ms os → AllShaped (slots os)
       → judgeMembers r ms (presentOf (slots os)) acc (slotOctets (slots os) ++ s) ≡ got (acc ++ os) s
   unfolding judgeMembers presentOf slots octets AllShaped

@@ -6,6 +6,7 @@ pub mod Stages
 pub mod Outcomes
 pub mod Messages
 pub mod Refusals
+pub mod Causes
 pub mod Checked
 pub mod Examples
 pub mod Content

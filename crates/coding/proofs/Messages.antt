@@ -7,7 +7,7 @@ use mathlib.Core.Path.{_≡_, refl, sym, ap, _∙_}
 use native.Mathlib.Omega.{arith}
 use Prim.Native.Nat.{ℕ, _≤_, max}
 use lib.ListN.{length}
-use Rattle.octets.specs.declared.cause.Cause.the-variants.{Trailing}
+use Rattle.x690.specs.declared.ReadingCause.the-variants.{Trailing}
 use Rattle.octets.specs.Answer.{got, refused, none-left}
 use Rattle.octets.specs.Lists.{joined}
 use Rattle.octets.specs.Numbers.{Octets}

@@ -10,6 +10,7 @@ use Prim.Native.Nat.{ℕ, zero, suc, _+_, _-_, _*_, _/_, _%_, _≤_, _<_}
 use lib.Dec.{ltb, leb, eqb}
 use lib.ListN.{length, getD, take, drop, length-append, take-append-drop}
 use lib.Seq.{length-take-le, take-append-seam, drop-append-seam}
+use Rattle.coding.specs.declared.JudgingCause.{JudgingCause}
 use Rattle.octets.specs.Answer.{Answer, got, if}
 use Rattle.octets.specs.Lists.{all, same}
 use Rattle.octets.specs.Numbers.{two, octetsOf}
@@ -78,11 +79,11 @@ octets-back a b h =
 
 -- enough octets are there
 
-need-yes : {A : Type 0} (l k : ℕ) (s : List ℕ) (x : Unit {0} → Answer A) → k ≤ length s → need l k s x ≡ x tt
+need-yes : {A : Type 0} (l k : ℕ) (s : List ℕ) (x : Unit {0} → Answer JudgingCause A) → k ≤ length s → need l k s x ≡ x tt
 unfolding need
 need-yes l k s x h = simp (run, le-leb k (length s) h)
 
-need-holds : {A : Type 0} {P : A → List ℕ → Type 0} (l k : ℕ) (s : List ℕ) {x : Unit {0} → Answer A} → (k ≤ length s → (u : Unit {0}) → Holds P (x u)) → Holds P (need l k s x)
+need-holds : {A : Type 0} {P : A → List ℕ → Type 0} (l k : ℕ) (s : List ℕ) {x : Unit {0} → Answer JudgingCause A} → (k ≤ length s → (u : Unit {0}) → Holds P (x u)) → Holds P (need l k s x)
 unfolding need
 need-holds l k s f = if-holds _ (λ e. refuses) λ e. f (leb-true k (length s) (not-false (leb k (length s)) e))
 
@@ -357,11 +358,11 @@ unfolding ownChoice nodeOwn nodeKind NodeShaped
 choice-owned l [] o = need-holds l 1 [] (λ h. absurd (omega arith))
 choice-owned l (a ∷ s) o = need-holds l 1 (a ∷ s) λ h _. yields (record { cut = refl; kind = refl; shaped = head-octet o })
 
-null-owned : (s : List ℕ) → Holds (Owned 5 s) (got (a-leaf null) s)
+null-owned : (s : List ℕ) → Holds {K = JudgingCause} (Owned 5 s) (got (a-leaf null) s)
 unfolding nodeOwn leafOwn nodeKind leafKind NodeShaped LeafShaped
 null-owned s = yields (record { cut = refl; kind = refl; shaped = tt })
 
-of-kind : {j k : ℕ} {s : List ℕ} {x : Answer Node} → eqb k j ≡ true → Holds (Owned j s) x → Holds (Owned k s) x
+of-kind : {j k : ℕ} {s : List ℕ} {x : Answer JudgingCause Node} → eqb k j ≡ true → Holds (Owned j s) x → Holds (Owned k s) x
 of-kind {j} {k} e h = map-holds h (λ x r y. record { cut = y .cut; kind = y .kind ∙ sym (eqb-true k j e); shaped = y .shaped })
 
 own-sound : (l k : ℕ) (s : List ℕ) → AllOctets s → Holds (Owned k s) (readOwn l k s)

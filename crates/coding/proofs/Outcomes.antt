@@ -9,9 +9,9 @@ use native.Mathlib.Omega.{arith}
 use Prim.Native.Nat.{ℕ, _-_, _≤_, _<_, min}
 use lib.Dec.{leb}
 use lib.ListN.{length, drop}
-use Rattle.octets.specs.declared.cause.Cause.{Cause}
-use Rattle.octets.specs.declared.cause.Cause.the-variants.{ValueShape, MessageRoom, MessageLength, ValueRoom}
-use Rattle.octets.specs.Causes.{causeNumber}
+use Rattle.x690.specs.declared.ReadingCause.{ReadingCause}
+use Rattle.coding.specs.declared.JudgingCause.{JudgingCause}
+use Rattle.coding.specs.declared.JudgingCause.the-variants.{ValueShape}
 use Rattle.octets.specs.Answer.{Answer, got, refused, if}
 use Rattle.octets.specs.Numbers.{Octets}
 use Rattle.octets.specs.Permutations.{any-order}
@@ -26,15 +26,17 @@ use Rattle.coding.specs.Form.{formAt}
 use Rattle.coding.specs.Judging.{judgeWhole}
 use Rattle.coding.specs.Reading.{readMessage}
 use Rattle.coding.specs.Calls.{afterReading, readOutcome, afterJudging}
-use Rattle.coding.specs.Outcome.{levels, longestValue, longestMessage, Refusal, of-table, of-value, of-message, OfStage, Told, done, refusal, Outcome, refuse, write-at-start}
-use Rattle.coding.specs.Demands.{MessageRefused, NoRoomForValue, Read, ValueRefused, over-long, as-judged, NoRoomForMessage, Wrote, Received, Sent}
+use Rattle.coding.specs.Outcome.{levels, longestValue, longestMessage, TableCause, ValueCause, MessageRoom, valueCause, MessageCause, MessageLength, ValueRoom, messageCause}
+use Rattle.coding.specs.Outcome.{messageReport, Refusal, of-table, of-value, of-message, Told, done, refusal, Outcome, refuse, write-at-start}
+use Rattle.coding.specs.Demands.{Answers, is-done, of-the-stage, MessageRefused, NoRoomForValue, Read, ValueRefused, over-long, as-judged, NoRoomForMessage, Wrote, Received, Sent}
 use Rattle.coding.proofs.FirstTags.{Good}
 use Rattle.coding.proofs.Levels.{retype, deep}
 use Rattle.coding.proofs.Form.{form-encodes}
 use Rattle.coding.proofs.Judging.{judge-whole, judge-octets}
 use Rattle.coding.proofs.Shaped.{Limited, encodes-shaped}
 use Rattle.coding.proofs.Equivalence.{equivalent-length}
-use Rattle.coding.proofs.Refusals.{OfMessage, late, OfValue, is-11, is-12, is-13, Says, Speaks, names, message-says, whole-says}
+use Rattle.coding.proofs.Causes.{same-value, not-message-room, same-message, not-message-length, not-value-room}
+use Rattle.coding.proofs.Refusals.{Within, names, message-says, whole-says}
 use Rattle.coding.proofs.Messages.{sound, at-level, message-complete, accepts-as-given}
 
 -- a value of four octets, of a message of three, in a buffer of four and of three
@@ -42,48 +44,38 @@ room-for-four : (m : List ℕ) → afterReading m (7 ∷ 7 ∷ 7 ∷ 7 ∷ []) (
 unfolding if leafOctets octets afterReading
 room-for-four m = refl
 
-room-for-three : afterReading (0x01 ∷ 0x01 ∷ 0xFF ∷ []) (7 ∷ 7 ∷ 7 ∷ []) (got (leaf (boolean true)) []) ≡ refuse (of-message ValueRoom 0) (7 ∷ 7 ∷ 7 ∷ [])
+room-for-three : afterReading (0x01 ∷ 0x01 ∷ 0xFF ∷ []) (7 ∷ 7 ∷ 7 ∷ []) (got (leaf (boolean true)) []) ≡ refuse (of-message ValueRoom) (7 ∷ 7 ∷ 7 ∷ [])
 unfolding if leafOctets octets afterReading
 room-for-three = refl
 
 -- one octet more than a message may have
-one-too-many : (T : Table) (m buf : List ℕ) → length m ≡ 8193 → readOutcome T 1 0 m buf ≡ refuse (of-message MessageLength 0) buf
+one-too-many : (T : Table) (m buf : List ℕ) → length m ≡ 8193 → readOutcome T 1 0 m buf ≡ refuse (of-message (MessageLength 0)) buf
 unfolding if readOutcome
 one-too-many T m buf e = rw e refl
 
 -- the outcome is no refusal of the table or the type
 abbrev pub Beyond : Outcome → Type 0
-Beyond x = (c : Cause) (p : ℕ) → x .answer ≡ refusal (of-table c p) → ⊥
+Beyond x = (c : TableCause) → x .answer ≡ refusal (of-table c) → ⊥
 
 -- where an outcome refuses, the buffer is as it was
 abbrev pub Unchanged : List ℕ → Outcome → Type 0
 Unchanged buf x = (r : Refusal) → x .answer ≡ refusal r → x .buffer ≡ buf
 
--- every refusal is of the stage that its number says
-abbrev pub Staged : Outcome → Type 0
-Staged x = (r : Refusal) → x .answer ≡ refusal r → OfStage r
-
-pub staged-by : {x : Outcome} {buf : List ℕ} (s : Refusal) → OfStage s → x ≡ refuse s buf → Staged x
-staged-by s h z r e = let q : s ≡ r = same s r (sym (ap (λ (o : Outcome). o .answer) z) ∙ e) in rw (← q) h
-  where
-    same : (s r : Refusal) → refusal s ≡ refusal r → s ≡ r
-    same s r e = cc
-
 -- the stage of an answer: done, of the table, of the value, of the message
 abbrev stageOf : Told → ℕ
 stageOf (done k) = 0
-stageOf (refusal (of-table c p)) = 1
-stageOf (refusal (of-value c p)) = 2
-stageOf (refusal (of-message c p)) = 3
+stageOf (refusal (of-table c)) = 1
+stageOf (refusal (of-value c)) = 2
+stageOf (refusal (of-message c)) = 3
 
-pub message-beyond : (c : Cause) (p : ℕ) (buf : List ℕ) → Beyond (refuse (of-message c p) buf)
-message-beyond c p buf d q e = let h : _≡_ {A = ℕ} 3 1 = ap stageOf e in omega arith
+pub message-beyond : (c : MessageCause) (buf : List ℕ) → Beyond (refuse (of-message c) buf)
+message-beyond c buf d e = let h : _≡_ {A = ℕ} 3 1 = ap stageOf e in omega arith
 
-pub value-beyond : (c : Cause) (p : ℕ) (buf : List ℕ) → Beyond (refuse (of-value c p) buf)
-value-beyond c p buf d q e = let h : _≡_ {A = ℕ} 2 1 = ap stageOf e in omega arith
+pub value-beyond : (c : ValueCause) (buf : List ℕ) → Beyond (refuse (of-value c) buf)
+value-beyond c buf d e = let h : _≡_ {A = ℕ} 2 1 = ap stageOf e in omega arith
 
 pub done-beyond : (k : ℕ) (after : List ℕ) → Beyond (record { answer = done k; buffer = after })
-done-beyond k after c p e = let h : _≡_ {A = ℕ} 0 1 = ap stageOf e in omega arith
+done-beyond k after c e = let h : _≡_ {A = ℕ} 0 1 = ap stageOf e in omega arith
 
 abbrev isRefusal : Told → ℕ
 isRefusal (done k) = 0
@@ -95,11 +87,14 @@ done≢refusal e = let h : _≡_ {A = ℕ} 0 1 = ap isRefusal e in absurd (omega
 answers : {x y : Outcome} → x ≡ y → x .answer ≡ y .answer
 answers e = ap (λ (o : Outcome). o .answer) e
 
-same-message : {c d : Cause} {p q : ℕ} {b w : List ℕ} → refuse (of-message c p) b ≡ refuse (of-message d q) w → (c ≡ d) × (p ≡ q)
-same-message {c} {d} {p} {q} e = let z : refusal (of-message c p) ≡ refusal (of-message d q) = answers e in (cc, cc)
+of-one-message : {c d : MessageCause} {b w : List ℕ} → refuse (of-message c) b ≡ refuse (of-message d) w → c ≡ d
+of-one-message {c} {d} e = let z : refusal (of-message c) ≡ refusal (of-message d) = answers e in cc
 
-same-value : {c d : Cause} {p q : ℕ} {b w : List ℕ} → refuse (of-value c p) b ≡ refuse (of-value d q) w → (c ≡ d) × (p ≡ q)
-same-value {c} {d} {p} {q} e = let z : refusal (of-value c p) ≡ refusal (of-value d q) = answers e in (cc, cc)
+abbrev numbered : MessageCause → ℕ
+numbered c = messageReport c .number
+
+of-one-value : {c d : ValueCause} {b w : List ℕ} → refuse (of-value c) b ≡ refuse (of-value d) w → c ≡ d
+of-one-value {c} {d} e = let z : refusal (of-value c) ≡ refusal (of-value d) = answers e in cc
 
 same-length : {j k : ℕ} {b c : List ℕ} → _≡_ {A = Outcome} (record { answer = done j; buffer = b }) (record { answer = done k; buffer = c }) → j ≡ k
 same-length e = let z : done _ ≡ done _ = ap (λ (o : Outcome). o .answer) e in cc
@@ -107,36 +102,23 @@ same-length e = let z : done _ ≡ done _ = ap (λ (o : Outcome). o .answer) e i
 same-buffer : {j k : ℕ} {b c : List ℕ} → _≡_ {A = Outcome} (record { answer = done j; buffer = b }) (record { answer = done k; buffer = c }) → b ≡ c
 same-buffer e = ap (λ (o : Outcome). o .buffer) e
 
--- none of these is 21 or 27, none of those 14
-
-message-other : {c d : Cause} → OfMessage c → c ≡ d → (causeNumber d ≡ 21 → ⊥) × (causeNumber d ≡ 27 → ⊥)
-message-other i e = let h = late (subst OfMessage e i) in (λ f. omega (arith, h .0), h .1)
-
-value-other : {c d : Cause} → OfValue c → c ≡ d → causeNumber d ≡ 14 → ⊥
-value-other {d = d} i e f = by i (ap causeNumber e)
-  where
-    by : {c : Cause} → OfValue c → causeNumber c ≡ causeNumber d → ⊥
-    by is-11 e = omega arith
-    by is-12 e = omega arith
-    by is-13 e = omega arith
-
 -- Reading.
 
 abbrev pub reading : Table → ℕ → List ℕ → List ℕ → Outcome
-reading T t m buf = if (not (leb (length m) longestMessage)) (refuse (of-message MessageLength 0) buf) λ _. afterReading m buf (readMessage T levels t m)
+reading T t m buf = if (not (leb (length m) longestMessage)) (refuse (of-message (MessageLength 0)) buf) λ _. afterReading m buf (readMessage T levels t m)
 
 -- the stages of reading, each with its rule and its answer
 pub data ReadStage (T : Table) (t : ℕ) (m buf : List ℕ) (x : Outcome) : Type 0 where
-  too-long : longestMessage < length m → x ≡ refuse (of-message MessageLength 0) buf → ReadStage T t m buf x
-  refused-at : (c : Cause) (p : ℕ) → OfMessage c → MessageRefused T t m c p → x ≡ refuse (of-message c p) buf → ReadStage T t m buf x
-  no-room : NoRoomForValue T t m buf → x ≡ refuse (of-message ValueRoom 0) buf → ReadStage T t m buf x
+  too-long : longestMessage < length m → x ≡ refuse (of-message (MessageLength 0)) buf → ReadStage T t m buf x
+  refused-at : (c : ReadingCause) (p : ℕ) → MessageRefused T t m c p → x ≡ refuse (of-message (messageCause c p)) buf → ReadStage T t m buf x
+  no-room : NoRoomForValue T t m buf → x ≡ refuse (of-message ValueRoom) buf → ReadStage T t m buf x
   is-read : (k : ℕ) (after : List ℕ) → Read T t m buf k after → x ≡ record { answer = done k; buffer = after } → ReadStage T t m buf x
 
 module _ (T : Table) (t : ℕ) (m buf : List ℕ) where
-  after-read : Octets m → length m ≤ longestMessage → (x : Answer Value) → readMessage T levels t m ≡ x → Says (length m) x → ReadStage T t m buf (afterReading m buf x)
+  after-read : Octets m → length m ≤ longestMessage → (x : Answer ReadingCause Value) → readMessage T levels t m ≡ x → Within (length m) x → ReadStage T t m buf (afterReading m buf x)
   unfolding afterReading
-  after-read o h (refused c l) e (names i q) =
-      refused-at c (length m - l) i (record { within = h; left = l; inside = q; reading = e; place = refl }) refl
+  after-read o h (refused c l) e (names q) =
+      refused-at c (length m - l) (record { within = h; left = l; inside = q; reading = e; place = refl }) refl
   after-read o h (got v r) e q =
       let s = sound T levels t m v r o e in
       if-cases (ReadStage T t m buf) (not (leb (length (octets v)) (min longestValue (length buf)))) _ _
@@ -154,54 +136,37 @@ module _ (T : Table) (t : ℕ) (m buf : List ℕ) where
       (λ f. too-long (leb-false (length m) longestMessage (not-true _ f)) refl)
       λ f. after-read o (leb-true (length m) longestMessage (not-false _ f)) (readMessage T levels t m) refl (message-says T levels t m)
 
-  -- no refusal of the value stage
-  pub read-never-value : (c : Cause) (p : ℕ) {x : Outcome} → ReadStage T t m buf x → x .answer ≡ refusal (of-value c p) → ⊥
-  read-never-value c p (too-long h z) e = let q : _≡_ {A = ℕ} 3 2 = ap stageOf (sym (answers z) ∙ e) in omega arith
-  read-never-value c p (refused-at d j i x z) e = let q : _≡_ {A = ℕ} 3 2 = ap stageOf (sym (answers z) ∙ e) in omega arith
-  read-never-value c p (no-room x z) e = let q : _≡_ {A = ℕ} 3 2 = ap stageOf (sym (answers z) ∙ e) in omega arith
-  read-never-value c p (is-read j after x z) e = done≢refusal (sym (answers z) ∙ e)
-
-  pub read-staged : Octets m → Staged (reading T t m buf)
-  read-staged o = by (read-stage o)
-    where
-      by : {x : Outcome} → ReadStage T t m buf x → Staged x
-      by (too-long h z) = staged-by (of-message MessageLength 0) (omega arith) z
-      by (refused-at c p i x z) = staged-by (of-message c p) (omega (arith, late i .0)) z
-      by (no-room x z) = staged-by (of-message ValueRoom 0) (omega arith) z
-      by (is-read k after x z) = λ r e. done≢refusal (sym (answers z) ∙ e)
-
-  pub read-within : length m ≤ longestMessage → (x : Answer Value) → readMessage T levels t m ≡ x → reading T t m buf ≡ afterReading m buf x
+  pub read-within : length m ≤ longestMessage → (x : Answer ReadingCause Value) → readMessage T levels t m ≡ x → reading T t m buf ≡ afterReading m buf x
   read-within h x e = simp (run, le-leb (length m) longestMessage h, e)
 
-  read-long : longestMessage < length m → reading T t m buf ≡ refuse (of-message MessageLength 0) buf
+  read-long : longestMessage < length m → reading T t m buf ≡ refuse (of-message (MessageLength 0)) buf
   read-long h = simp (run, lt-leb (length m) longestMessage h)
 
-  pub read-refuses : (c : Cause) (p : ℕ) → MessageRefused T t m c p → reading T t m buf ≡ refuse (of-message c p) buf
+  pub read-refuses : (c : ReadingCause) (p : ℕ) → MessageRefused T t m c p → reading T t m buf ≡ refuse (of-message (messageCause c p)) buf
   unfolding afterReading
-  read-refuses c p x = read-within (x .within) (refused c (x .left)) (x .reading) ∙ ap (λ (j : ℕ). refuse (of-message c j) buf) (sym (x .place))
+  read-refuses c p x = read-within (x .within) (refused c (x .left)) (x .reading) ∙ ap (λ (j : ℕ). refuse (of-message (messageCause c j)) buf) (sym (x .place))
 
   -- 21
-  pub long-exactly : Octets m → (p : ℕ) → (reading T t m buf ≡ refuse (of-message MessageLength p) buf) ↔ ((longestMessage < length m) × (p ≡ 0))
-  long-exactly o p = (λ e. from (read-stage o) e, λ h. read-long (h .0) ∙ ap (λ (j : ℕ). refuse (of-message MessageLength j) buf) (sym (h .1)))
+  pub long-exactly : Octets m → (p : ℕ) → (reading T t m buf ≡ refuse (of-message (MessageLength p)) buf) ↔ ((longestMessage < length m) × (p ≡ 0))
+  long-exactly o p = (λ e. from (read-stage o) e, λ h. read-long (h .0) ∙ ap (λ (j : ℕ). refuse (of-message (MessageLength j)) buf) (sym (h .1)))
     where
-      from : {x : Outcome} → ReadStage T t m buf x → x ≡ refuse (of-message MessageLength p) buf → (longestMessage < length m) × (p ≡ 0)
-      from (too-long h z) e = (h, sym (same-message (sym z ∙ e) .1))
-      from (refused-at c q i x z) e = absurd (message-other i (same-message (sym z ∙ e) .0) .0 refl)
-      from (no-room x z) e = let h : _≡_ {A = ℕ} 27 21 = ap causeNumber (same-message (sym z ∙ e) .0) in absurd (omega arith)
+      from : {x : Outcome} → ReadStage T t m buf x → x ≡ refuse (of-message (MessageLength p)) buf → (longestMessage < length m) × (p ≡ 0)
+      from (too-long h z) e = let q : MessageLength 0 ≡ MessageLength p = of-one-message (sym z ∙ e) in (h, cc)
+      from (refused-at c q x z) e = absurd (not-message-length c q p (of-one-message (sym z ∙ e)))
+      from (no-room x z) e = let q : _≡_ {A = ℕ} 27 21 = ap numbered (of-one-message (sym z ∙ e)) in absurd (omega arith)
       from (is-read k after x z) e = done≢refusal (answers (sym z ∙ e))
 
-  -- 22 to 26, 28
-  pub refused-exactly : Octets m → (c : Cause) (p : ℕ) → (c ≡ MessageLength → ⊥) → (c ≡ ValueRoom → ⊥)
-      → (reading T t m buf ≡ refuse (of-message c p) buf) ↔ MessageRefused T t m c p
-  refused-exactly o c p a b = (λ e. from (read-stage o) e, read-refuses c p)
+  -- 22 to 26, 28, 29
+  pub refused-exactly : Octets m → (c : ReadingCause) (p : ℕ) → (reading T t m buf ≡ refuse (of-message (messageCause c p)) buf) ↔ MessageRefused T t m c p
+  refused-exactly o c p = (λ e. from (read-stage o) e, read-refuses c p)
     where
-      from : {x : Outcome} → ReadStage T t m buf x → x ≡ refuse (of-message c p) buf → MessageRefused T t m c p
-      from (too-long h z) e = absurd (a (sym (same-message (sym z ∙ e) .0)))
-      from (refused-at d q y x z) e = let s = same-message (sym z ∙ e) in rw (← s .0, ← s .1) x
-      from (no-room x z) e = absurd (b (sym (same-message (sym z ∙ e) .0)))
+      from : {x : Outcome} → ReadStage T t m buf x → x ≡ refuse (of-message (messageCause c p)) buf → MessageRefused T t m c p
+      from (too-long h z) e = absurd (not-message-length c p 0 (sym (of-one-message (sym z ∙ e))))
+      from (refused-at d q x z) e = let s = same-message d c q p (of-one-message (sym z ∙ e)) in rw (← s .0, ← s .1) x
+      from (no-room x z) e = absurd (not-value-room c p (sym (of-one-message (sym z ∙ e))))
       from (is-read j after x z) e = done≢refusal (answers (sym z ∙ e))
 
-  read-lacks : Good T → NoRoomForValue T t m buf → reading T t m buf ≡ refuse (of-message ValueRoom 0) buf
+  read-lacks : Good T → NoRoomForValue T t m buf → reading T t m buf ≡ refuse (of-message ValueRoom) buf
   unfolding afterReading
   read-lacks good x =
       read-within (x .within) (got (x .value) []) (accepts-as-given T good levels t (x .value) m (x .arrives) (x .deep))
@@ -220,13 +185,13 @@ module _ (T : Table) (t : ℕ) (m buf : List ℕ) where
 
   module _ (o : Octets m) (good : Good T) where
     -- 27
-    pub lacks-exactly : (p : ℕ) → (reading T t m buf ≡ refuse (of-message ValueRoom p) buf) ↔ (NoRoomForValue T t m buf × (p ≡ 0))
-    lacks-exactly p = (λ e. from (read-stage o) e, λ h. read-lacks good (h .0) ∙ ap (λ (j : ℕ). refuse (of-message ValueRoom j) buf) (sym (h .1)))
+    pub lacks-exactly : (reading T t m buf ≡ refuse (of-message ValueRoom) buf) ↔ NoRoomForValue T t m buf
+    lacks-exactly = (λ e. from (read-stage o) e, read-lacks good)
       where
-        from : {x : Outcome} → ReadStage T t m buf x → x ≡ refuse (of-message ValueRoom p) buf → NoRoomForValue T t m buf × (p ≡ 0)
-        from (too-long h z) e = let h : _≡_ {A = ℕ} 21 27 = ap causeNumber (same-message (sym z ∙ e) .0) in absurd (omega arith)
-        from (refused-at c q y x z) e = absurd (message-other y (same-message (sym z ∙ e) .0) .1 refl)
-        from (no-room x z) e = (x, sym (same-message (sym z ∙ e) .1))
+        from : {x : Outcome} → ReadStage T t m buf x → x ≡ refuse (of-message ValueRoom) buf → NoRoomForValue T t m buf
+        from (too-long h z) e = let q : _≡_ {A = ℕ} 21 27 = ap numbered (of-one-message (sym z ∙ e)) in absurd (omega arith)
+        from (refused-at c q x z) e = absurd (not-value-room c q (of-one-message (sym z ∙ e)))
+        from (no-room x z) e = x
         from (is-read j after x z) e = done≢refusal (answers (sym z ∙ e))
 
     -- done
@@ -241,7 +206,7 @@ module _ (T : Table) (t : ℕ) (m buf : List ℕ) where
 
         from : {x : Outcome} → ReadStage T t m buf x → x ≡ record { answer = done k; buffer = after } → Read T t m buf k after
         from (too-long h z) e = refused-done z e
-        from (refused-at c p y x z) e = refused-done z e
+        from (refused-at c p x z) e = refused-done z e
         from (no-room x z) e = refused-done z e
         from (is-read j w x z) e = let q = sym z ∙ e in rw (← same-length q, ← same-buffer q) x
 
@@ -269,15 +234,24 @@ module _ (T : Table) (t : ℕ) (m buf : List ℕ) where
           deep = y .deep;
         }
 
-  after-read-beyond : (x : Answer Value) → Beyond (afterReading m buf x)
+  after-read-beyond : (x : Answer ReadingCause Value) → Beyond (afterReading m buf x)
   unfolding afterReading
-  after-read-beyond (refused c l) = message-beyond c _ buf
-  after-read-beyond (got v r) = if-cases Beyond (not (leb (length (octets v)) (min longestValue (length buf)))) _ _ (λ f. message-beyond ValueRoom 0 buf) λ f. done-beyond _ buf
+  after-read-beyond (refused c l) = message-beyond _ buf
+  after-read-beyond (got v r) = if-cases Beyond (not (leb (length (octets v)) (min longestValue (length buf)))) _ _ (λ f. message-beyond ValueRoom buf) λ f. done-beyond _ buf
 
   pub read-beyond : Beyond (reading T t m buf)
-  read-beyond = if-cases Beyond (not (leb (length m) longestMessage)) _ _ (λ f. message-beyond MessageLength 0 buf) λ f. after-read-beyond (readMessage T levels t m)
+  read-beyond = if-cases Beyond (not (leb (length m) longestMessage)) _ _ (λ f. message-beyond (MessageLength 0) buf) λ f. after-read-beyond (readMessage T levels t m)
 
-  after-read-unchanged : (x : Answer Value) → Unchanged buf (afterReading m buf x)
+  after-read-answers : (x : Answer ReadingCause Value) → Answers of-message (afterReading m buf x .answer)
+  unfolding afterReading
+  after-read-answers (refused c l) = of-the-stage _
+  after-read-answers (got v r) = if-cases (λ (x : Outcome). Answers of-message (x .answer)) (not (leb (length (octets v)) (min longestValue (length buf)))) _ _ (λ f. of-the-stage ValueRoom) λ f. is-done _
+
+  pub read-answers : Answers of-message (reading T t m buf .answer)
+  read-answers =
+      if-cases (λ (x : Outcome). Answers of-message (x .answer)) (not (leb (length m) longestMessage)) _ _ (λ f. of-the-stage (MessageLength 0)) λ f. after-read-answers (readMessage T levels t m)
+
+  after-read-unchanged : (x : Answer ReadingCause Value) → Unchanged buf (afterReading m buf x)
   unfolding afterReading
   after-read-unchanged (refused c l) = λ r z. refl
   after-read-unchanged (got v r) = if-cases (Unchanged buf) (not (leb (length (octets v)) (min longestValue (length buf)))) _ _ (λ f r z. refl) λ f r z. done≢refusal z
@@ -288,23 +262,23 @@ module _ (T : Table) (t : ℕ) (m buf : List ℕ) where
 -- Writing.
 
 abbrev pub writing : Table → ℕ → List ℕ → List ℕ → Outcome
-writing T t v buf = if (not (leb (length v) longestValue)) (refuse (of-value ValueShape 0) buf) λ _. afterJudging (formAt T levels t) v buf (judgeWhole T levels t v)
+writing T t v buf = if (not (leb (length v) longestValue)) (refuse (of-value (valueCause ValueShape 0)) buf) λ _. afterJudging (formAt T levels t) v buf (judgeWhole T levels t v)
 
 -- the stages of writing, each with its rule and its answer
 pub data WriteStage (T : Table) (t : ℕ) (v buf : List ℕ) (x : Outcome) : Type 0 where
-  refused-at : (c : Cause) (p : ℕ) → OfValue c → ValueRefused T t v c p → x ≡ refuse (of-value c p) buf → WriteStage T t v buf x
-  no-room : NoRoomForMessage T t v buf → x ≡ refuse (of-value MessageRoom 0) buf → WriteStage T t v buf x
+  refused-at : (c : JudgingCause) (p : ℕ) → ValueRefused T t v c p → x ≡ refuse (of-value (valueCause c p)) buf → WriteStage T t v buf x
+  no-room : NoRoomForMessage T t v buf → x ≡ refuse (of-value MessageRoom) buf → WriteStage T t v buf x
   is-written : (k : ℕ) (after : List ℕ) → Wrote T t v buf k after → x ≡ record { answer = done k; buffer = after } → WriteStage T t v buf x
 
 form-permitted : (T : Table) (t : ℕ) (v : Value) → WellTypedAt T levels t v → length (formAt T levels t v) ≤ longestMessage → Encodes T t v (formAt T levels t v)
 form-permitted T t v w h = record { level = levels; encodes = form-encodes any-order T levels t v w (omega arith) }
 
 module _ (T : Table) (t : ℕ) (v buf : List ℕ) where
-  after-judged : Octets v → length v ≤ longestValue → (x : Answer Value) → judgeWhole T levels t v ≡ x → Speaks OfValue (length v) x
+  after-judged : Octets v → length v ≤ longestValue → (x : Answer JudgingCause Value) → judgeWhole T levels t v ≡ x → Within (length v) x
       → WriteStage T t v buf (afterJudging (formAt T levels t) v buf x)
   unfolding afterJudging
-  after-judged o h (refused c l) e (names i q) =
-      WriteStage.refused-at c (length v - l) i (as-judged l h q e refl) refl
+  after-judged o h (refused c l) e (names q) =
+      WriteStage.refused-at c (length v - l) (as-judged l h q e refl) refl
   after-judged o h (got w r) e q =
       let s = got-holds (judge-whole T levels t v (all-octets v o)) e in
       let f = formAt T levels t w in
@@ -343,55 +317,46 @@ module _ (T : Table) (t : ℕ) (v buf : List ℕ) where
   pub write-stage : Octets v → WriteStage T t v buf (writing T t v buf)
   write-stage o =
       if-cases (WriteStage T t v buf) (not (leb (length v) longestValue)) _ _
-      (λ f. WriteStage.refused-at ValueShape 0 is-11 (over-long (leb-false (length v) longestValue (not-true _ f)) refl refl) refl)
+      (λ f. WriteStage.refused-at ValueShape 0 (over-long (leb-false (length v) longestValue (not-true _ f)) refl refl) refl)
       λ f. after-judged o (leb-true (length v) longestValue (not-false _ f)) (judgeWhole T levels t v) refl (whole-says T levels t v (all-octets v o))
 
-  -- no refusal of the message stage
-  pub write-never-message : (c : Cause) (p : ℕ) {x : Outcome} → WriteStage T t v buf x → x .answer ≡ refusal (of-message c p) → ⊥
-  write-never-message c p (WriteStage.refused-at d j i x z) e = let q : _≡_ {A = ℕ} 2 3 = ap stageOf (sym (answers z) ∙ e) in omega arith
-  write-never-message c p (WriteStage.no-room x z) e = let q : _≡_ {A = ℕ} 2 3 = ap stageOf (sym (answers z) ∙ e) in omega arith
-  write-never-message c p (is-written j after x z) e = done≢refusal (sym (answers z) ∙ e)
-
-  pub write-staged : Octets v → Staged (writing T t v buf)
-  write-staged o = by (write-stage o)
-    where
-      low : {c : Cause} → OfValue c → (11 ≤ causeNumber c) × (causeNumber c ≤ 14)
-      low is-11 = (omega arith, omega arith)
-      low is-12 = (omega arith, omega arith)
-      low is-13 = (omega arith, omega arith)
-
-      by : {x : Outcome} → WriteStage T t v buf x → Staged x
-      by (WriteStage.refused-at c p i x z) = staged-by (of-value c p) (low i) z
-      by (WriteStage.no-room x z) = staged-by (of-value MessageRoom 0) (omega arith, omega arith) z
-      by (is-written k after x z) = λ r e. done≢refusal (sym (answers z) ∙ e)
-
-  write-within : length v ≤ longestValue → (x : Answer Value) → judgeWhole T levels t v ≡ x → writing T t v buf ≡ afterJudging (formAt T levels t) v buf x
+  write-within : length v ≤ longestValue → (x : Answer JudgingCause Value) → judgeWhole T levels t v ≡ x → writing T t v buf ≡ afterJudging (formAt T levels t) v buf x
   write-within h x e = simp (run, le-leb (length v) longestValue h, e)
 
-  write-refuses : (c : Cause) (p : ℕ) → ValueRefused T t v c p → writing T t v buf ≡ refuse (of-value c p) buf
+  write-refuses : (c : JudgingCause) (p : ℕ) → ValueRefused T t v c p → writing T t v buf ≡ refuse (of-value (valueCause c p)) buf
   unfolding afterJudging
   write-refuses c p (over-long h q r) = rw (q, r) (simp (run, lt-leb (length v) longestValue h))
-  write-refuses c p (as-judged l h g e r) = write-within h (refused c l) e ∙ ap (λ (j : ℕ). refuse (of-value c j) buf) (sym r)
+  write-refuses c p (as-judged l h g e r) = write-within h (refused c l) e ∙ ap (λ (j : ℕ). refuse (of-value (valueCause c j)) buf) (sym r)
 
   -- 11 to 13
-  pub judged-exactly : Octets v → (c : Cause) (p : ℕ) → (c ≡ MessageRoom → ⊥) → (writing T t v buf ≡ refuse (of-value c p) buf) ↔ ValueRefused T t v c p
-  judged-exactly o c p a = (λ e. from (write-stage o) e, write-refuses c p)
+  pub judged-exactly : Octets v → (c : JudgingCause) (p : ℕ) → (writing T t v buf ≡ refuse (of-value (valueCause c p)) buf) ↔ ValueRefused T t v c p
+  judged-exactly o c p = (λ e. from (write-stage o) e, write-refuses c p)
     where
-      from : {x : Outcome} → WriteStage T t v buf x → x ≡ refuse (of-value c p) buf → ValueRefused T t v c p
-      from (WriteStage.refused-at d q y x z) e = let s = same-value (sym z ∙ e) in rw (← s .0, ← s .1) x
-      from (WriteStage.no-room x z) e = absurd (a (sym (same-value (sym z ∙ e) .0)))
+      from : {x : Outcome} → WriteStage T t v buf x → x ≡ refuse (of-value (valueCause c p)) buf → ValueRefused T t v c p
+      from (WriteStage.refused-at d q x z) e = let s = same-value d c q p (of-one-value (sym z ∙ e)) in rw (← s .0, ← s .1) x
+      from (WriteStage.no-room x z) e = absurd (not-message-room c p (sym (of-one-value (sym z ∙ e))))
       from (is-written j after x z) e = done≢refusal (answers (sym z ∙ e))
 
-  after-judged-beyond : (x : Answer Value) → Beyond (afterJudging (formAt T levels t) v buf x)
+  after-judged-beyond : (x : Answer JudgingCause Value) → Beyond (afterJudging (formAt T levels t) v buf x)
   unfolding afterJudging
-  after-judged-beyond (refused c l) = value-beyond c _ buf
+  after-judged-beyond (refused c l) = value-beyond _ buf
   after-judged-beyond (got w r) =
-      if-cases Beyond (not (leb (length (formAt T levels t w)) (min longestMessage (length buf)))) _ _ (λ f. value-beyond MessageRoom 0 buf) λ f. done-beyond _ buf
+      if-cases Beyond (not (leb (length (formAt T levels t w)) (min longestMessage (length buf)))) _ _ (λ f. value-beyond MessageRoom buf) λ f. done-beyond _ buf
 
   pub write-beyond : Beyond (writing T t v buf)
-  write-beyond = if-cases Beyond (not (leb (length v) longestValue)) _ _ (λ f. value-beyond ValueShape 0 buf) λ f. after-judged-beyond (judgeWhole T levels t v)
+  write-beyond = if-cases Beyond (not (leb (length v) longestValue)) _ _ (λ f. value-beyond _ buf) λ f. after-judged-beyond (judgeWhole T levels t v)
 
-  after-judged-unchanged : (x : Answer Value) → Unchanged buf (afterJudging (formAt T levels t) v buf x)
+  after-judged-answers : (x : Answer JudgingCause Value) → Answers of-value (afterJudging (formAt T levels t) v buf x .answer)
+  unfolding afterJudging
+  after-judged-answers (refused c l) = of-the-stage _
+  after-judged-answers (got w r) =
+      if-cases (λ (x : Outcome). Answers of-value (x .answer)) (not (leb (length (formAt T levels t w)) (min longestMessage (length buf)))) _ _ (λ f. of-the-stage MessageRoom) λ f. is-done _
+
+  pub write-answers : Answers of-value (writing T t v buf .answer)
+  write-answers =
+      if-cases (λ (x : Outcome). Answers of-value (x .answer)) (not (leb (length v) longestValue)) _ _ (λ f. of-the-stage _) λ f. after-judged-answers (judgeWhole T levels t v)
+
+  after-judged-unchanged : (x : Answer JudgingCause Value) → Unchanged buf (afterJudging (formAt T levels t) v buf x)
   unfolding afterJudging
   after-judged-unchanged (refused c l) = λ r z. refl
   after-judged-unchanged (got w r) = if-cases (Unchanged buf) (not (leb (length (formAt T levels t w)) (min longestMessage (length buf)))) _ _ (λ f r z. refl) λ f r z. done≢refusal z
@@ -411,7 +376,7 @@ module _ (T : Table) (t : ℕ) (buf : List ℕ) (w : Value) (typed : WellTyped T
   unfolding afterJudging
   write-fits k l = written ∙ simp (run, le-leb (length (formAt T levels t w)) (min longestMessage (length buf)) (omega arith))
 
-  write-lacks : min longestMessage (length buf) < length (formAt T levels t w) → writing T t (octets w) buf ≡ refuse (of-value MessageRoom 0) buf
+  write-lacks : min longestMessage (length buf) < length (formAt T levels t w) → writing T t (octets w) buf ≡ refuse (of-value MessageRoom) buf
   unfolding afterJudging
   write-lacks k = written ∙ simp (run, lt-leb (length (formAt T levels t w)) (min longestMessage (length buf)) k)
 
@@ -421,15 +386,15 @@ module _ (T : Table) (t : ℕ) (buf : List ℕ) (w : Value) (typed : WellTyped T
 
 module _ (T : Table) (t : ℕ) (v buf : List ℕ) (o : Octets v) where
   -- 14
-  pub full-exactly : (p : ℕ) → (writing T t v buf ≡ refuse (of-value MessageRoom p) buf) ↔ (NoRoomForMessage T t v buf × (p ≡ 0))
-  full-exactly p = (λ e. from (write-stage T t v buf o) e, λ h. to (h .0) ∙ ap (λ (j : ℕ). refuse (of-value MessageRoom j) buf) (sym (h .1)))
+  pub full-exactly : (writing T t v buf ≡ refuse (of-value MessageRoom) buf) ↔ NoRoomForMessage T t v buf
+  full-exactly = (λ e. from (write-stage T t v buf o) e, to)
     where
-      from : {x : Outcome} → WriteStage T t v buf x → x ≡ refuse (of-value MessageRoom p) buf → NoRoomForMessage T t v buf × (p ≡ 0)
-      from (WriteStage.refused-at d q y x z) e = absurd (value-other y (same-value (sym z ∙ e) .0) refl)
-      from (WriteStage.no-room x z) e = (x, sym (same-value (sym z ∙ e) .1))
+      from : {x : Outcome} → WriteStage T t v buf x → x ≡ refuse (of-value MessageRoom) buf → NoRoomForMessage T t v buf
+      from (WriteStage.refused-at d q x z) e = absurd (not-message-room d q (of-one-value (sym z ∙ e)))
+      from (WriteStage.no-room x z) e = x
       from (is-written j after x z) e = done≢refusal (answers (sym z ∙ e))
 
-      to : NoRoomForMessage T t v buf → writing T t v buf ≡ refuse (of-value MessageRoom 0) buf
+      to : NoRoomForMessage T t v buf → writing T t v buf ≡ refuse (of-value MessageRoom) buf
       to x =
           let s : length (octets (x .value)) ≤ longestValue = rw (← x .is) (x .short) in
           ap (λ (l : List ℕ). writing T t l buf) (x .is) ∙ write-lacks T t buf (x .value) (x .typed) (x .deep) (x .shaped) s (x .over)
@@ -442,7 +407,7 @@ module _ (T : Table) (t : ℕ) (v buf : List ℕ) (o : Octets v) where
       refused-done z e = done≢refusal (ap (λ (o : Outcome). o .answer) (sym e ∙ z))
 
       from : {x : Outcome} → WriteStage T t v buf x → x ≡ record { answer = done k; buffer = after } → Wrote T t v buf k after
-      from (WriteStage.refused-at d q y x z) e = refused-done z e
+      from (WriteStage.refused-at d q x z) e = refused-done z e
       from (WriteStage.no-room x z) e = refused-done z e
       from (is-written j w x z) e = let q = sym z ∙ e in rw (← same-length q, ← same-buffer q) x
 

@@ -11,8 +11,8 @@ use lib.IntN.{ℤ, pos, negsuc}
 use lib.ListN.{length, getD, drop}
 use lib.Seq.{getD-drop}
 use borrow.Author.Tests.{leb-true, eqb-true, eq-eqb}
-use Rattle.octets.specs.declared.cause.Cause.{Cause}
-use Rattle.octets.specs.declared.cause.Cause.the-variants.{ValueShape, IllTyped}
+use Rattle.coding.specs.declared.JudgingCause.{JudgingCause}
+use Rattle.coding.specs.declared.JudgingCause.the-variants.{ValueShape, IllTyped}
 use Rattle.octets.specs.Answer.{Answer, got, refused, if, then, none-left}
 use Rattle.octets.specs.Lists.{any, all}
 use Rattle.octets.specs.Permutations.{AllOctets}
@@ -31,7 +31,7 @@ use Rattle.coding.specs.declared.Given.the-variants.{Time, Refused as Wr
 use Rattle.coding.specs.Value.{timeNumber, boolean, integer, bits, string, null, enumerated, time, leafOctets}
 use Rattle.coding.specs.Judging.{Node, a-leaf, a-sequence, a-set, a-sequence-of, a-set-of, a-choice, need, readOwn, readNode, leafKind, nodeKind}
 use Rattle.coding.specs.Judging.{flags, ownMembers, ownCount, ownTime, ownChoice}
-use Rattle.coding.specs.Outcome.{longestValue, Refusal, of-value}
+use Rattle.coding.specs.Outcome.{longestValue, valueCause, Refusal, of-value}
 use Rattle.coding.specs.Shaped.{LeafShaped}
 use Rattle.coding.specs.declared.Reckoned.{Reckoned}
 use Rattle.coding.specs.declared.Reckoned.the-variants.{Is, Refused}
@@ -50,10 +50,10 @@ abbrev utc : List ℕ
 utc = 0x56 ∷ 0x41 ∷ 23 ∷ 0 ∷ 0 ∷ 1 ∷ 1 ∷ 0 ∷ 0 ∷ 0 ∷ []
 
 abbrev eleven : Reckoned
-eleven = Refused (of-value ValueShape 0)
+eleven = Refused (of-value (valueCause ValueShape 0))
 
 abbrev twelve : Reckoned
-twelve = Refused (of-value IllTyped 0)
+twelve = Refused (of-value (valueCause IllTyped 0))
 
 -- the order of two, and the seconds from the first to the second; 11 before 12, and the first before the second
 pub reckonings-right :
@@ -121,7 +121,7 @@ record Alone (s : List ℕ) : Type 0 where
   is : s ≡ nodeOctets node
   shaped : NodeShaped node
 
-alone-read : (s : List ℕ) → AllOctets s → (x : Answer Node) → readNode s ≡ x → isWhole x ≡ true → Alone s
+alone-read : (s : List ℕ) → AllOctets s → (x : Answer JudgingCause Node) → readNode s ≡ x → isWhole x ≡ true → Alone s
 unfolding isWhole
 alone-read s o (got x r) e h =
     let w = got-holds (node-sound s o) e in
@@ -215,12 +215,12 @@ given-time k s l n = rw (l, n) (simp getD-drop)
 
 -- the steps by which it answers
 module _ (f : DateTime → DateTime → ℤ) (s t : List ℕ) {x : Given} (e : x ≡ given Generalized s) where
-  pub first-refused : {c : Cause} → x ≡ Wrong c → {r : Reckoned} → r ≡ Refused (of-value c 0) → r ≡ reckonedBy f (given Generalized s) (given Generalized t)
+  pub first-refused : {c : JudgingCause} → x ≡ Wrong c → {r : Reckoned} → r ≡ Refused (of-value (valueCause c 0)) → r ≡ reckonedBy f (given Generalized s) (given Generalized t)
   unfolding reckonedBy
   first-refused q h = rw (← e, q) h
 
   module _ {a : DateTime} (q : x ≡ Time a) {y : Given} (g : y ≡ given Generalized t) where
-    pub second-refused : {c : Cause} → y ≡ Wrong c → {r : Reckoned} → r ≡ Refused (of-value c 0) → r ≡ reckonedBy f (given Generalized s) (given Generalized t)
+    pub second-refused : {c : JudgingCause} → y ≡ Wrong c → {r : Reckoned} → r ≡ Refused (of-value (valueCause c 0)) → r ≡ reckonedBy f (given Generalized s) (given Generalized t)
     unfolding reckonedBy
     second-refused k h = rw (← e, q, ← g, k) h
 
@@ -243,13 +243,13 @@ given-fault k s =
 
 -- A refusal is 11 or 12, and its place is 0.
 pub reckoning-refuses : (f : DateTime → DateTime → ℤ) (s t : List ℕ) (r : Refusal) → reckonedBy f (given Generalized s) (given Generalized t) ≡ Refused r
-    → (r ≡ of-value ValueShape 0) ⊎ (r ≡ of-value IllTyped 0)
+    → (r ≡ of-value (valueCause ValueShape 0)) ⊎ (r ≡ of-value (valueCause IllTyped 0))
 unfolding reckonedBy
 reckoning-refuses f s t r = told (given-fault Generalized s) (given-fault Generalized t)
   where
-    told : {x y : Given} → Fault s x → Fault t y → reckonedBy f x y ≡ Refused r → (r ≡ of-value ValueShape 0) ⊎ (r ≡ of-value IllTyped 0)
+    told : {x y : Given} → Fault s x → Fault t y → reckonedBy f x y ≡ Refused r → (r ≡ of-value (valueCause ValueShape 0)) ⊎ (r ≡ of-value (valueCause IllTyped 0))
     told (none-wrong l) (none-wrong m) h = absurd (false≢true (sym (ap counted h)))
-    told (none-wrong l) (shape m) h = inl (let i : Refused (of-value ValueShape 0) ≡ Refused r = h in cc)
-    told (none-wrong l) (type m) h = inr (let i : Refused (of-value IllTyped 0) ≡ Refused r = h in cc)
-    told (shape l) y h = inl (let i : Refused (of-value ValueShape 0) ≡ Refused r = h in cc)
-    told (type l) y h = inr (let i : Refused (of-value IllTyped 0) ≡ Refused r = h in cc)
+    told (none-wrong l) (shape m) h = inl (let i : Refused (of-value (valueCause ValueShape 0)) ≡ Refused r = h in cc)
+    told (none-wrong l) (type m) h = inr (let i : Refused (of-value (valueCause IllTyped 0)) ≡ Refused r = h in cc)
+    told (shape l) y h = inl (let i : Refused (of-value (valueCause ValueShape 0)) ≡ Refused r = h in cc)
+    told (type l) y h = inr (let i : Refused (of-value (valueCause IllTyped 0)) ≡ Refused r = h in cc)

@@ -9,7 +9,8 @@ use mathlib.Core.Path.{_≡_, refl, sym, ap, _∙_}
 use native.Mathlib.Omega.{arith}
 use Prim.Native.Nat.{ℕ, zero, suc, _≤_, _+_, _-_}
 use lib.ListN.{length, length-append}
-use Rattle.octets.specs.declared.cause.Cause.the-variants.{ValueShape}
+use Rattle.coding.specs.declared.JudgingCause.{JudgingCause}
+use Rattle.coding.specs.declared.JudgingCause.the-variants.{ValueShape}
 use Rattle.octets.specs.Answer.{Answer, got, none-left, refused, then, if}
 use Rattle.octets.specs.Numbers.{Octets}
 use Rattle.octets.specs.Lists.{any}
@@ -60,12 +61,12 @@ anyBody (a-set-of n) = SetOf 0
 anyBody (a-choice i) = Choice (zeros i)
 
 -- a tree of at most n levels
-unfoldable pub shapeValue : ℕ → List ℕ → Answer Value
+unfoldable pub shapeValue : ℕ → List ℕ → Answer JudgingCause Value
 shapeValue zero s = refused ValueShape (length s)
 shapeValue (suc n) s = then (readNode s) λ x s₁. judgeBelow (λ u w. shapeValue n w) (anyBody x) x s₁
 
 -- the whole, with nothing left behind it; a tree has no more levels than octets
-unfoldable pub shapeWhole : List ℕ → Answer Value
+unfoldable pub shapeWhole : List ℕ → Answer JudgingCause Value
 shapeWhole s =
     then (shapeValue (length s) s) λ v r.
     if (not (none-left r)) (refused ValueShape (length r)) λ _. got v r

@@ -9,6 +9,7 @@ use native.Mathlib.Omega.{arith}
 use Prim.Native.Nat.{ℕ, zero, suc, _+_, _≤_}
 use lib.ListN.{length, length-append}
 use lib.Seq.{append-snoc}
+use Rattle.x690.specs.declared.ReadingCause.{ReadingCause}
 use Rattle.octets.specs.Answer.{Answer}
 use Rattle.octets.specs.Lists.{joined}
 use Rattle.octets.specs.Permutations.{Sel, Sel.here, Sel.there, Perm, Perm.none as none-p, Perm.next, Each, nil, cons, Order, as-given}
@@ -37,7 +38,7 @@ unfolding unwanted
 unwanted-holds true s = not-awaited s
 unwanted-holds false s = refuses
 
-pub wrapped-sound : {A : Type 0} (C : A → List ℕ → Type 0) (r : List ℕ → Answer A) → ((s : List ℕ) → Holds (Taken C s) (r s)) → (is : List (List ℕ)) (s : List ℕ)
+pub wrapped-sound : {A : Type 0} (C : A → List ℕ → Type 0) (r : List ℕ → Answer ReadingCause A) → ((s : List ℕ) → Holds (Taken C s) (r s)) → (is : List (List ℕ)) (s : List ℕ)
     → Holds (Taken (λ v. Wrapped (C v) is) s) (readWrapped is r s)
 unfolding readWrapped
 wrapped-sound C r f [] s = map-holds (f s) (λ v u x. record { piece = x .piece; cut = x .cut; has = bare (x .has) })
@@ -115,7 +116,7 @@ placed-back (pass x) (p-left d) = let (qs, d′, s) = placed-back x d in (qs, p-
 placed-back (pass x) (p-sent {p = p} e d) = let (qs, d′, s) = placed-back x d in (p ∷ qs, p-sent e d′, there s)
 placed-back (pass x) (p-have q d) = let (qs, d′, s) = placed-back x d in (qs, p-have q d′, s)
 
-module _ (o : Order) (T : Table) (E : Coding) (r : ℕ → List ℕ → Answer Value) (sound : (t : ℕ) (s : List ℕ) → Holds (Taken (E t) s) (r t s)) where
+module _ (o : Order) (T : Table) (E : Coding) (r : ℕ → List ℕ → Answer ReadingCause Value) (sound : (t : ℕ) (s : List ℕ) → Holds (Taken (E t) s) (r t s)) where
   -- C of what came after vs
   abbrev pub Onto : {X : Type 0} → List X → (List X → List (List ℕ) → Type 0) → List X → List (List ℕ) → Type 0
   Onto {X} vs C ws ps = (us : List X) × (ws ≡ vs ++ us) × C us ps

@@ -9,9 +9,6 @@ use native.Mathlib.Omega.{arith}
 use Prim.Native.Nat.{ℕ, _≤_, _<_}
 use lib.Dec.{ltb}
 use lib.ListN.{length}
-use Rattle.octets.specs.declared.cause.Cause.{Cause}
-use Rattle.octets.specs.declared.cause.Cause.the-variants.{NoType}
-use Rattle.octets.specs.Causes.{causeNumber}
 use Rattle.octets.specs.Answer.{if}
 use Rattle.octets.specs.Numbers.{Octets}
 use Rattle.octets.proofs.Answer.{run, if-cases}
@@ -22,26 +19,27 @@ use Rattle.table.specs.Reading.{scan, look}
 use Rattle.table.specs.Verdict.{verdict}
 use Rattle.table.specs.declared.Verdict.{Verdict}
 use Rattle.table.specs.declared.Verdict.the-variants.{Passed, Refused}
-use Rattle.table.proofs.Promises.{cause-low}
-use Rattle.table.proofs.Theorems.{records-found, table-cause, named-first, first-named, passed-none, none-passed, passed-records}
-use Rattle.coding.specs.Outcome.{of-table, refusal, Outcome, refuse, Told}
+use Rattle.table.specs.declared.CheckCause.{CheckCause}
+use Rattle.table.proofs.Theorems.{records-found, named-first, first-named, passed-none, none-passed, passed-records}
+use Rattle.coding.specs.Outcome.{TableCause, Unknown, tableCause, Refusal, of-table, refusal, Outcome, refuse}
 use Rattle.coding.specs.Calls.{afterCheck}
-use Rattle.coding.specs.Demands.{Accepted, NoSuchType, OfType}
-use Rattle.coding.proofs.Outcomes.{Beyond, Unchanged, Staged, staged-by}
+use Rattle.coding.specs.Demands.{Answers, of-the-table, Accepted, NoSuchType, OfType}
+use Rattle.coding.proofs.Causes.{same-table, not-unknown}
+use Rattle.coding.proofs.Outcomes.{Beyond, Unchanged}
 
-same-table : {c d : Cause} {p q : ℕ} {b w : List ℕ} → refuse (of-table c p) b ≡ refuse (of-table d q) w → (c ≡ d) × (p ≡ q)
-same-table {c} {d} {p} {q} e = let z : refusal (of-table c p) ≡ refusal (of-table d q) = ap (λ (o : Outcome). o .answer) e in (cc, cc)
+of-one-table : {c d : TableCause} {b w : List ℕ} → refuse (of-table c) b ≡ refuse (of-table d) w → c ≡ d
+of-one-table {c} {d} e = let z : refusal (of-table c) ≡ refusal (of-table d) = ap (λ (o : Outcome). o .answer) e in cc
 
 -- g is what a call does with the records by number, once it has found the type among them
 module _ (b : List ℕ) (t : ℕ) (buf : List ℕ) (g : Table → Outcome) where
   abbrev pub step : Table → ℕ → Outcome
-  step T n = if (not (ltb t n)) (refuse (of-table NoType 0) buf) λ _. g T
+  step T n = if (not (ltb t n)) (refuse (of-table Unknown) buf) λ _. g T
 
   abbrev pub call : Outcome
   call = afterCheck b buf step (verdict b)
 
   module _ (o : Octets b) where
-    call-refused : (c : Cause) (p : ℕ) → FirstCause b c p → call ≡ refuse (of-table c p) buf
+    call-refused : (c : CheckCause) (p : ℕ) → FirstCause b c p → call ≡ refuse (of-table (tableCause c p)) buf
     unfolding afterCheck
     call-refused c p x = ap (afterCheck b buf step) (first-named b o c p x)
 
@@ -51,7 +49,7 @@ module _ (b : List ℕ) (t : ℕ) (buf : List ℕ) (g : Table → Outcome) where
         let f = records-found o (a .spells) in
         ap (afterCheck b buf step) (none-passed b o (a .no-cause)) ∙ rw (f .2, f .1)
 
-    call-unknown : {rs : List Record} → Accepted b rs → length rs ≤ t → call ≡ refuse (of-table NoType 0) buf
+    call-unknown : {rs : List Record} → Accepted b rs → length rs ≤ t → call ≡ refuse (of-table Unknown) buf
     call-unknown {rs} a h = call-accepted a ∙ simp (run, le-ltb t (length rs) h)
 
     pub call-found : {rs : List Record} → Accepted b rs → t < length rs → call ≡ g (table rs)
@@ -59,7 +57,7 @@ module _ (b : List ℕ) (t : ℕ) (buf : List ℕ) (g : Table → Outcome) where
 
     -- how far a call comes
     data Stage : Type 0 where
-      at-table : (c : Cause) (p : ℕ) → FirstCause b c p → Stage
+      at-table : (c : CheckCause) (p : ℕ) → FirstCause b c p → Stage
       at-type : NoSuchType b t → Stage
       at-records : (rs : List Record) → Accepted b rs → t < length rs → Stage
 
@@ -80,42 +78,28 @@ module _ (b : List ℕ) (t : ℕ) (buf : List ℕ) (g : Table → Outcome) where
       where
         from : Stage → call ≡ x → OfType b t (λ T. g T ≡ x)
         from (at-table c p f) e =
-            absurd (far c p (ap (λ (o : Outcome). o .answer) (sym e ∙ call-refused c p f)))
-        from (at-type f) e = absurd (far NoType 0 (ap (λ (o : Outcome). o .answer) (sym e ∙ call-unknown (f .accepted) (f .beyond))))
+            absurd (far (tableCause c p) (ap (λ (o : Outcome). o .answer) (sym e ∙ call-refused c p f)))
+        from (at-type f) e = absurd (far Unknown (ap (λ (o : Outcome). o .answer) (sym e ∙ call-unknown (f .accepted) (f .beyond))))
         from (at-records rs a h) e = record { records = rs; accepted = a; there = h; holds = sym (call-found a h) ∙ e }
-
-    -- an answer that none of the stages gives
-    pub never : (a : Told) → Beyond (record { answer = a; buffer = call .buffer }) → ((T : Table) → g T .answer ≡ a → ⊥) → call .answer ≡ a → ⊥
-    never a far f e =
-        let q : call ≡ record { answer = a; buffer = call .buffer } = outcome call e in
-        let r = found-exactly (record { answer = a; buffer = call .buffer }) far .0 q in
-        f (table (r .records)) (ap (λ (o : Outcome). o .answer) (r .holds))
-      where
-        outcome : (x : Outcome) → x .answer ≡ a → x ≡ record { answer = a; buffer = x .buffer }
-        outcome x z = λ i. record { answer = z i; buffer = x .buffer }
 
     module _ (far : (T : Table) → Beyond (g T)) where
       -- 1 to 6
-      pub table-exactly : (c : Cause) (p : ℕ) → (c ≡ NoType → ⊥) → (call ≡ refuse (of-table c p) buf) ↔ FirstCause b c p
-      table-exactly c p k = (λ e. from stage e, call-refused c p)
+      pub table-exactly : (c : CheckCause) (p : ℕ) → (call ≡ refuse (of-table (tableCause c p)) buf) ↔ FirstCause b c p
+      table-exactly c p = (λ e. from stage e, call-refused c p)
         where
-          from : Stage → call ≡ refuse (of-table c p) buf → FirstCause b c p
-          from (at-table d q f) e = let s = same-table (sym (call-refused d q f) ∙ e) in rw (← s .0, ← s .1) f
-          from (at-type f) e = absurd (k (sym (same-table (sym (call-unknown (f .accepted) (f .beyond)) ∙ e) .0)))
-          from (at-records rs a h) e = absurd (far (table rs) c p (ap (λ (o : Outcome). o .answer) (sym (call-found a h) ∙ e)))
+          from : Stage → call ≡ refuse (of-table (tableCause c p)) buf → FirstCause b c p
+          from (at-table d q f) e = let s = same-table d c q p (of-one-table (sym (call-refused d q f) ∙ e)) in rw (← s .0, ← s .1) f
+          from (at-type f) e = absurd (not-unknown c p (sym (of-one-table (sym (call-unknown (f .accepted) (f .beyond)) ∙ e))))
+          from (at-records rs a h) e = absurd (far (table rs) (tableCause c p) (ap (λ (o : Outcome). o .answer) (sym (call-found a h) ∙ e)))
 
       -- 7
-      pub type-exactly : (p : ℕ) → (call ≡ refuse (of-table NoType p) buf) ↔ (NoSuchType b t × (p ≡ 0))
-      type-exactly p = (λ e. from stage e, λ x. call-unknown (x .0 .accepted) (x .0 .beyond) ∙ ap (λ (j : ℕ). refuse (of-table NoType j) buf) (sym (x .1)))
+      pub type-exactly : (call ≡ refuse (of-table Unknown) buf) ↔ NoSuchType b t
+      type-exactly = (λ e. from stage e, λ x. call-unknown (x .accepted) (x .beyond))
         where
-          from : Stage → call ≡ refuse (of-table NoType p) buf → NoSuchType b t × (p ≡ 0)
-          from (at-table d q f) e =
-              let s : d ≡ NoType = same-table (sym (call-refused d q f) ∙ e) .0 in
-              let h : causeNumber d ≡ 7 = ap causeNumber s in
-              let k = table-cause (f .holds) in
-              absurd (omega arith)
-          from (at-type f) e = (f, sym (same-table (sym (call-unknown (f .accepted) (f .beyond)) ∙ e) .1))
-          from (at-records rs a h) e = absurd (far (table rs) NoType p (ap (λ (o : Outcome). o .answer) (sym (call-found a h) ∙ e)))
+          from : Stage → call ≡ refuse (of-table Unknown) buf → NoSuchType b t
+          from (at-table d q f) e = absurd (not-unknown d q (of-one-table (sym (call-refused d q f) ∙ e)))
+          from (at-type f) e = f
+          from (at-records rs a h) e = absurd (far (table rs) Unknown (ap (λ (o : Outcome). o .answer) (sym (call-found a h) ∙ e)))
 
   step-unchanged : ((T : Table) → Unchanged buf (g T)) → (T : Table) (n : ℕ) → Unchanged buf (step T n)
   step-unchanged f T n = if-cases (Unchanged buf) (not (ltb t n)) _ _ (λ e r z. refl) λ e. f T
@@ -129,14 +113,15 @@ module _ (b : List ℕ) (t : ℕ) (buf : List ℕ) (g : Table → Outcome) where
   pub call-unchanged : ((T : Table) → Unchanged buf (g T)) → Unchanged buf call
   call-unchanged f = after-unchanged f (verdict b)
 
-  -- a refusal is of the stage that its number says
-  pub call-staged : ((T : Table) → Staged (g T)) → Staged call
-  unfolding afterCheck
-  call-staged f = after-staged (verdict b) refl
-    where
-      step-staged : (T : Table) (n : ℕ) → Staged (step T n)
-      step-staged T n = if-cases Staged (not (ltb t n)) _ _ (λ e. staged-by {buf = buf} (of-table NoType 0) (omega arith) refl) λ e. f T
+  -- every answer is of the table, or of the stage of what follows
+  module _ {C : Type 0} (of : C → Refusal) (f : (T : Table) → Answers of (g T .answer)) where
+    step-answers : (T : Table) (n : ℕ) → Answers of (step T n .answer)
+    step-answers T n = if-cases (λ (x : Outcome). Answers of (x .answer)) (not (ltb t n)) _ _ (λ e. of-the-table Unknown) λ e. f T
 
-      after-staged : (v : Verdict) → verdict b ≡ v → Staged (afterCheck b buf step v)
-      after-staged Passed e = step-staged (look b (scan b .offsets)) (length (scan b .offsets))
-      after-staged (Refused c p) e = let k = cause-low b c p e in staged-by {buf = buf} (of-table c p) (omega arith) refl
+    after-answers : (v : Verdict) → Answers of (afterCheck b buf step v .answer)
+    unfolding afterCheck
+    after-answers Passed = step-answers (look b (scan b .offsets)) (length (scan b .offsets))
+    after-answers (Refused c p) = of-the-table (tableCause c p)
+
+    pub call-answers : Answers of (call .answer)
+    call-answers = after-answers (verdict b)

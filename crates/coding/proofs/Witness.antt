@@ -32,8 +32,8 @@ use Rattle.table.specs.Decide.{round, rounds, found, dangling, wrongTags, reach
 use Rattle.table.specs.Decide.{share, reached, pair, sharing, finiteBody, finiteStep, infinite}
 use Rattle.table.specs.Cause.{FirstCause}
 use Rattle.table.specs.Verdict.{judgeChoices, judge, verdict}
-use Rattle.octets.specs.Causes.{causeNumber}
-use Rattle.octets.specs.declared.cause.Cause.the-variants.{TableShape, NoType, ValueShape, MessageRoom, MessageLength, Cut, Trailing, ValueRoom}
+use Rattle.x690.specs.declared.ReadingCause.the-variants.{Cut, Trailing}
+use Rattle.table.specs.declared.CheckCause.the-variants.{TableShape}
 use Rattle.table.specs.declared.Verdict.the-variants.{Passed}
 use Rattle.table.proofs.Theorems.{passed-none}
 use Rattle.coding.specs.Value.{Value, leaf, integer, boolean, string, set, setOf, slots, bag, leafOctets, count, presence, octets, depth}
@@ -50,9 +50,11 @@ use Rattle.coding.specs.Judging.{judgeElements, judgeBelow, judgeValue, 
 use Rattle.coding.specs.Awaited.{beginsBody, beginsItem, beginsIn, begins}
 use Rattle.coding.specs.Reading.{isListed, decode, passes, begun, notAwaited, nothing, full, unwanted, readWrapped, readSequence, placeMember}
 use Rattle.coding.specs.Reading.{readSet, readMany, choose, readBody, readKind, readValue, readMessage}
-use Rattle.coding.specs.Outcome.{levels, longestMessage, done as done-with, refusal, of-table, of-value, of-message, OfStage, Outcome, refuse}
+use Rattle.coding.specs.declared.JudgingCause.the-variants.{ValueShape}
+use Rattle.coding.specs.Outcome.{levels, longestMessage, Unknown, tableCause, MessageRoom, valueCause, MessageLength, ValueRoom, messageCause}
+use Rattle.coding.specs.Outcome.{done as done-with, refusal, of-table, of-value, of-message, Outcome, refuse}
 use Rattle.coding.specs.Calls.{afterReading, readOutcome, afterJudging, writeOutcome, afterCheck, wholeRead, wholeWrite, checkAnswer}
-use Rattle.coding.specs.Demands.{Accepted, NoSuchType, OfType, MessageRefused, NoRoomForValue, Read, ValueRefused, NoRoomForMessage, Wrote, Received, Sent}
+use Rattle.coding.specs.Demands.{Answers, Accepted, NoSuchType, OfType, MessageRefused, NoRoomForValue, Read, ValueRefused, NoRoomForMessage, Wrote, Received, Sent}
 use Rattle.coding.proofs.Equivalence.{equivalent-length}
 use Rattle.coding.proofs.Demands as page
 
@@ -198,19 +200,19 @@ abbrev after-writing : Outcome
 after-writing = record { answer = done-with 8; buffer = form ++ room 1 }
 
 outcomes :
-    (checkAnswer (verdict []) ≡ refusal (of-table TableShape 0))
-    × (wholeRead [] 2 message [] ≡ refuse (of-table TableShape 0) [])
-    × (wholeRead S 3 message [] ≡ refuse (of-table NoType 0) [])
-    × (wholeRead S 2 (room 8193) [] ≡ refuse (of-message MessageLength 0) [])
-    × (wholeRead S 2 (0x31 ∷ 0x80 ∷ []) [] ≡ refuse (of-message Cut 2) [])
-    × (wholeRead S 2 message (room 3) ≡ refuse (of-message ValueRoom 0) (room 3))
+    (checkAnswer (verdict []) ≡ refusal (of-table (tableCause TableShape 0)))
+    × (wholeRead [] 2 message [] ≡ refuse (of-table (tableCause TableShape 0)) [])
+    × (wholeRead S 3 message [] ≡ refuse (of-table Unknown) [])
+    × (wholeRead S 2 (room 8193) [] ≡ refuse (of-message (MessageLength 0)) [])
+    × (wholeRead S 2 (0x31 ∷ 0x80 ∷ []) [] ≡ refuse (of-message (messageCause Cut 2)) [])
+    × (wholeRead S 2 message (room 3) ≡ refuse (of-message ValueRoom) (room 3))
     × (wholeRead S 2 message (room 24) ≡ after-reading)
-    × (wholeWrite [] 2 valueOctets [] ≡ refuse (of-table TableShape 0) [])
-    × (wholeWrite S 3 valueOctets [] ≡ refuse (of-table NoType 0) [])
-    × (wholeWrite S 2 [] [] ≡ refuse (of-value ValueShape 0) [])
-    × (wholeWrite S 2 valueOctets (room 7) ≡ refuse (of-value MessageRoom 0) (room 7))
+    × (wholeWrite [] 2 valueOctets [] ≡ refuse (of-table (tableCause TableShape 0)) [])
+    × (wholeWrite S 3 valueOctets [] ≡ refuse (of-table Unknown) [])
+    × (wholeWrite S 2 [] [] ≡ refuse (of-value (valueCause ValueShape 0)) [])
+    × (wholeWrite S 2 valueOctets (room 7) ≡ refuse (of-value MessageRoom) (room 7))
     × (wholeWrite S 2 valueOctets (room 9) ≡ after-writing)
-    × (wholeRead N 1 (of-one ++ of-two) (room 16) ≡ refuse (of-message Trailing 7) (room 16))
+    × (wholeRead N 1 (of-one ++ of-two) (room 16) ≡ refuse (of-message (messageCause Trailing 7)) (room 16))
     × (wholeRead N 1 of-one (room 16) ≡ after-one)
     × (wholeRead N 1 of-two (room 27) .answer ≡ done-with 27)
 unfolding if then behind none-left any all joined tabulate lowestFrom same references isChoice universal constructed kind members rising bodyBelow
@@ -249,52 +251,41 @@ checked = (page.check-refuses [] none-octets TableShape 0 .0 (outcomes .0), page
 
 pub reading :
     FirstCause [] TableShape 0
-    × (NoSuchType S 3 × (_≡_ {A = ℕ} 0 0))
+    × NoSuchType S 3
     × OfType S 2 (λ T. (longestMessage < length (room 8193)) × (_≡_ {A = ℕ} 0 0))
     × OfType S 2 (λ T. MessageRefused T 2 (0x31 ∷ 0x80 ∷ []) Cut 2)
-    × OfType S 2 (λ T. NoRoomForValue T 2 message (room 3) × (_≡_ {A = ℕ} 0 0))
+    × OfType S 2 (λ T. NoRoomForValue T 2 message (room 3))
     × OfType S 2 (λ T. Read T 2 message (room 24) 21 (valueOctets ++ room 3))
 reading = (
-  page.read-refuses-table [] none-octets 2 message [] message-octets TableShape 0 (λ e. let h : _≡_ {A = ℕ} 1 7 = ap causeNumber e in omega arith) .0 (outcomes .1),
-  page.read-refuses-type S table-octets 3 message [] message-octets 0 .0 (outcomes .2),
+  page.read-refuses-table [] none-octets 2 message [] message-octets TableShape 0 .0 (outcomes .1),
+  page.read-refuses-type S table-octets 3 message [] message-octets .0 (outcomes .2),
   page.read-refuses-length S table-octets 2 (room 8193) [] read-octets 0 .0 (outcomes .3),
-  page.read-refuses-message S table-octets 2 (0x31 ∷ 0x80 ∷ []) [] cut-octets Cut 2 (λ e. let h : _≡_ {A = ℕ} 22 21 = ap causeNumber e in omega arith)
-      (λ e. let h : _≡_ {A = ℕ} 22 27 = ap causeNumber e in omega arith) .0 (outcomes .4),
-  page.read-refuses-room S table-octets 2 message (room 3) message-octets 0 .0 (outcomes .5),
+  page.read-refuses-message S table-octets 2 (0x31 ∷ 0x80 ∷ []) [] cut-octets Cut 2 .0 (outcomes .4),
+  page.read-refuses-room S table-octets 2 message (room 3) message-octets .0 (outcomes .5),
   page.read-is-done S table-octets 2 message (room 24) message-octets 21 (valueOctets ++ room 3) .0 (outcomes .6),
 )
 
 pub writing :
     FirstCause [] TableShape 0
-    × (NoSuchType S 3 × (_≡_ {A = ℕ} 0 0))
+    × NoSuchType S 3
     × OfType S 2 (λ T. ValueRefused T 2 [] ValueShape 0)
-    × OfType S 2 (λ T. NoRoomForMessage T 2 valueOctets (room 7) × (_≡_ {A = ℕ} 0 0))
+    × OfType S 2 (λ T. NoRoomForMessage T 2 valueOctets (room 7))
     × OfType S 2 (λ T. Wrote T 2 valueOctets (room 9) 8 (form ++ room 1))
 writing = (
-  page.write-refuses-table [] none-octets 2 valueOctets [] value-octets TableShape 0 (λ e. let h : _≡_ {A = ℕ} 1 7 = ap causeNumber e in omega arith) .0 (outcomes .7),
-  page.write-refuses-type S table-octets 3 valueOctets [] value-octets 0 .0 (outcomes .8),
-  page.write-refuses-value S table-octets 2 [] [] none-octets ValueShape 0 (λ e. let h : _≡_ {A = ℕ} 11 14 = ap causeNumber e in omega arith) .0 (outcomes .9),
-  page.write-refuses-room S table-octets 2 valueOctets (room 7) value-octets 0 .0 (outcomes .10),
+  page.write-refuses-table [] none-octets 2 valueOctets [] value-octets TableShape 0 .0 (outcomes .7),
+  page.write-refuses-type S table-octets 3 valueOctets [] value-octets .0 (outcomes .8),
+  page.write-refuses-value S table-octets 2 [] [] none-octets ValueShape 0 .0 (outcomes .9),
+  page.write-refuses-room S table-octets 2 valueOctets (room 7) value-octets .0 (outcomes .10),
   page.write-is-done S table-octets 2 valueOctets (room 9) value-octets 8 (form ++ room 1) .0 (outcomes .11),
 )
 
-pub never : (wholeRead S 2 message (room 3) .answer ≡ refusal (of-value MessageRoom 0) → ⊥) × (wholeWrite S 2 valueOctets (room 7) .answer ≡ refusal (of-message ValueRoom 0) → ⊥)
-never = (
-  page.read-refuses-no-value S table-octets 2 message (room 3) message-octets MessageRoom 0,
-  page.write-refuses-no-message S table-octets 2 valueOctets (room 7) value-octets ValueRoom 0,
-)
-
-pub stages : OfStage (of-table TableShape 0) × OfStage (of-message Cut 2) × OfStage (of-value MessageRoom 0)
-stages = (
-  page.check-stages [] (of-table TableShape 0) (outcomes .0),
-  page.read-stages S 2 (0x31 ∷ 0x80 ∷ []) [] cut-octets (of-message Cut 2) (ap (λ (x : Outcome). x .answer) (outcomes .4)),
-  page.write-stages S 2 valueOctets (room 7) value-octets (of-value MessageRoom 0) (ap (λ (x : Outcome). x .answer) (outcomes .10)),
-)
+pub answered : Answers of-table (checkAnswer (verdict S)) × Answers of-message (wholeRead S 2 message (room 3) .answer) × Answers of-value (wholeWrite S 2 valueOctets (room 7) .answer)
+answered = (page.check-answers S, page.read-answers S 2 message (room 3), page.write-answers S 2 valueOctets (room 7))
 
 pub left : (wholeRead S 2 message (room 3) .buffer ≡ room 3) × (wholeWrite S 2 valueOctets (room 7) .buffer ≡ room 7)
 left = (
-  page.read-leaves S 2 message (room 3) (of-message ValueRoom 0) (ap (λ (x : Outcome). x .answer) (outcomes .5)),
-  page.write-leaves S 2 valueOctets (room 7) (of-value MessageRoom 0) (ap (λ (x : Outcome). x .answer) (outcomes .10)),
+  page.read-leaves S 2 message (room 3) (of-message ValueRoom) (ap (λ (x : Outcome). x .answer) (outcomes .5)),
+  page.write-leaves S 2 valueOctets (room 7) (of-value MessageRoom) (ap (λ (x : Outcome). x .answer) (outcomes .10)),
 )
 
 pub is-read : Read (table records) 2 message (room 24) 21 (valueOctets ++ room 3)
@@ -438,7 +429,7 @@ one-octets : Octets of-one
 unfolding all
 one-octets = octets-by of-one refl
 
-pub cut-found : (wholeRead N 1 (of-one ++ of-two) (room 16) ≡ refuse (of-message Trailing 7) (room 16)) × (of-one ≡ take 7 (of-one ++ of-two))
+pub cut-found : (wholeRead N 1 (of-one ++ of-two) (room 16) ≡ refuse (of-message (messageCause Trailing 7)) (room 16)) × (of-one ≡ take 7 (of-one ++ of-two))
 cut-found = (
   page.the-cut-is-found N list-table two list-accepted 1 (omega arith) alone of-one of-two (room 16) low-set alone-permitted (omega arith) (omega arith),
   page.no-other-cut-is-found N list-table two list-accepted 1 (omega arith) alone (take 7 (of-one ++ of-two)) of-two of-one of-two (room 16) alone-permitted refl one-octets 16 (after-one .buffer) (outcomes .13),

@@ -5,7 +5,9 @@ use mathlib.Core.List.{List}
 use Prim.Native.Nat.{ℕ, _-_, min}
 use lib.Dec.{ltb, leb}
 use lib.ListN.{length}
-use Rattle.octets.specs.declared.cause.Cause.the-variants.{NoType, ValueShape, MessageRoom, MessageLength, ValueRoom}
+use Rattle.x690.specs.declared.ReadingCause.{ReadingCause}
+use Rattle.coding.specs.declared.JudgingCause.{JudgingCause}
+use Rattle.coding.specs.declared.JudgingCause.the-variants.{ValueShape}
 use Rattle.octets.specs.Answer.{Answer, got, refused, if}
 use Rattle.table.specs.Syntax.{Table}
 use Rattle.table.specs.Verdict.{verdict}
@@ -16,40 +18,41 @@ use Rattle.coding.specs.Value.{Value, octets}
 use Rattle.coding.specs.Form.{formAt}
 use Rattle.coding.specs.Reading.{readMessage}
 use Rattle.coding.specs.Judging.{judgeWhole}
-use Rattle.coding.specs.Outcome.{levels, longestValue, longestMessage, of-table, of-value, of-message, Told, done, refusal, Outcome, refuse, write-at-start}
+use Rattle.coding.specs.Outcome.{levels, longestValue, longestMessage, Unknown, tableCause, MessageRoom, valueCause, MessageLength, ValueRoom, messageCause}
+use Rattle.coding.specs.Outcome.{of-table, of-value, of-message, Told, done, refusal, Outcome, refuse, write-at-start}
 
 -- 27 only for a message that is accepted; the place of a refusal counts from the start of the message m
-unfoldable pub afterReading : List ℕ → List ℕ → Answer Value → Outcome
+unfoldable pub afterReading : List ℕ → List ℕ → Answer ReadingCause Value → Outcome
 afterReading m buf (got v r) =
-    if (not (leb (length (octets v)) (min longestValue (length buf)))) (refuse (of-message ValueRoom 0) buf) λ _.
+    if (not (leb (length (octets v)) (min longestValue (length buf)))) (refuse (of-message ValueRoom) buf) λ _.
     write-at-start (octets v) buf
-afterReading m buf (refused c l) = refuse (of-message c (length m - l)) buf
+afterReading m buf (refused c l) = refuse (of-message (messageCause c (length m - l))) buf
 
 -- read: 7, 21, then from the left, then 27
 unfoldable pub readOutcome : Table → ℕ → ℕ → List ℕ → List ℕ → Outcome
 readOutcome T n t m buf =
-    if (not (ltb t n)) (refuse (of-table NoType 0) buf) λ _.
-    if (not (leb (length m) longestMessage)) (refuse (of-message MessageLength 0) buf) λ _.
+    if (not (ltb t n)) (refuse (of-table Unknown) buf) λ _.
+    if (not (leb (length m) longestMessage)) (refuse (of-message (MessageLength 0)) buf) λ _.
     afterReading m buf (readMessage T levels t m)
 
 -- 14 only for a value that is accepted; f is the form of the values
-unfoldable pub afterJudging : (Value → List ℕ) → List ℕ → List ℕ → Answer Value → Outcome
+unfoldable pub afterJudging : (Value → List ℕ) → List ℕ → List ℕ → Answer JudgingCause Value → Outcome
 afterJudging f b buf (got v r) =
-    if (not (leb (length (f v)) (min longestMessage (length buf)))) (refuse (of-value MessageRoom 0) buf) λ _.
+    if (not (leb (length (f v)) (min longestMessage (length buf)))) (refuse (of-value MessageRoom) buf) λ _.
     write-at-start (f v) buf
-afterJudging f b buf (refused c l) = refuse (of-value c (length b - l)) buf
+afterJudging f b buf (refused c l) = refuse (of-value (valueCause c (length b - l))) buf
 
 -- write: 7; 11 at 0 for over-long octets, with no look at a node; then from the left; then 14
 unfoldable pub writeOutcome : Table → ℕ → ℕ → List ℕ → List ℕ → Outcome
 writeOutcome T n t b buf =
-    if (not (ltb t n)) (refuse (of-table NoType 0) buf) λ _.
-    if (not (leb (length b) longestValue)) (refuse (of-value ValueShape 0) buf) λ _.
+    if (not (ltb t n)) (refuse (of-table Unknown) buf) λ _.
+    if (not (leb (length b) longestValue)) (refuse (of-value (valueCause ValueShape 0)) buf) λ _.
     afterJudging (formAt T levels t) b buf (judgeWhole T levels t b)
 
 -- 1 to 6 first, in every call; x is what follows for the records by number and their count
 unfoldable pub afterCheck : List ℕ → List ℕ → (Table → ℕ → Outcome) → Verdict → Outcome
 afterCheck b buf x Passed = x (look b (scan b .offsets)) (length (scan b .offsets))
-afterCheck b buf x (Refused c p) = refuse (of-table c p) buf
+afterCheck b buf x (Refused c p) = refuse (of-table (tableCause c p)) buf
 
 -- write: the octets b of a table, a type, the octets v of a value, a buffer
 unfoldable pub wholeWrite : List ℕ → ℕ → List ℕ → List ℕ → Outcome
@@ -62,4 +65,4 @@ wholeRead b t m buf = afterCheck b buf (λ T n. readOutcome T n t m buf) (verdic
 -- check: nothing is written
 unfoldable pub checkAnswer : Verdict → Told
 checkAnswer Passed = done 0
-checkAnswer (Refused c p) = refusal (of-table c p)
+checkAnswer (Refused c p) = refusal (of-table (tableCause c p))

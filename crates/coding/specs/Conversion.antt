@@ -6,13 +6,13 @@ use mathlib.Core.Path.{_≡_}
 use Prim.Native.Nat.{ℕ, _≤_, _<_}
 use lib.Dec.{leb}
 use lib.ListN.{length}
-use Rattle.octets.specs.declared.cause.Cause.the-variants.{NoType, ValueShape, IllTyped, ValueRoom}
+use Rattle.coding.specs.declared.JudgingCause.the-variants.{ValueShape, IllTyped}
 use Rattle.octets.specs.Tests.{if}
 use Rattle.dates.specs.declared.DateTime.{DateTime}
 use Rattle.dates.specs.declared.TimeKind.{TimeKind}
 use Rattle.dates.specs.declared.TimeKind.the-variants.{Utc, Generalized}
 use Rattle.dates.specs.Century.{isVersion, firstYear, inWindow, toUtc, toGeneralized, Shortens}
-use Rattle.coding.specs.Outcome.{Refusal, of-table, of-value, of-message, Outcome, refuse, write-at-start}
+use Rattle.coding.specs.Outcome.{Unknown, valueCause, ValueRoom, Refusal, of-table, of-value, of-message, Outcome, refuse, write-at-start}
 use Rattle.coding.specs.Reckoning.{isLone, given, timeNode, Stands}
 use Rattle.coding.specs.declared.Given.{Given}
 use Rattle.coding.specs.declared.Given.the-variants.{Time, Refused as Wrong}
@@ -32,15 +32,15 @@ converted f k (Time t) = counterpart f k t
 
 -- the node of a time in the buffer, if that has room for its ten octets (27)
 unfoldable pub placed : TimeKind → List ℕ → Given → Outcome
-placed k buf (Wrong c) = refuse (of-value c 0) buf
+placed k buf (Wrong c) = refuse (of-value (valueCause c 0)) buf
 placed k buf (Time t) =
-    if (not (leb 10 (length buf))) (refuse (of-message ValueRoom 0) buf) λ _.
+    if (not (leb 10 (length buf))) (refuse (of-message ValueRoom) buf) λ _.
     write-at-start (timeNode k t) buf
 
 -- a time of kind k becomes one of the other: by a link version v (7), the octets s of its node, a buffer
 unfoldable pub wholeConversion : TimeKind → ℕ → List ℕ → List ℕ → Outcome
 wholeConversion k v s buf =
-    if (not (isVersion v)) (refuse (of-table NoType 0) buf) λ _.
+    if (not (isVersion v)) (refuse (of-table Unknown) buf) λ _.
     placed (otherKind k) buf (converted (firstYear v) k (given k s))
 
 abbrev pub wholeToGeneralized : ℕ → List ℕ → List ℕ → Outcome
@@ -70,7 +70,7 @@ pub record Converts (k : TimeKind) (v : ℕ) (s buf : List ℕ) (x : Outcome) : 
 
 -- it is refused: 7, 11, 12, 27, in this order, and the place is 0
 pub data Refuses (k : TimeKind) (v : ℕ) (s buf : List ℕ) : Refusal → Type 0 where
-  no-version : isVersion v ≡ false → Refuses k v s buf (of-table NoType 0)
-  no-node : isVersion v ≡ true → isLone s ≡ false → Refuses k v s buf (of-value ValueShape 0)
-  no-time : isVersion v ≡ true → isLone s ≡ true → ((from to : DateTime) → Counterparts k v s from to → ⊥) → Refuses k v s buf (of-value IllTyped 0)
-  no-room : isVersion v ≡ true → {from to : DateTime} → Counterparts k v s from to → length buf < 10 → Refuses k v s buf (of-message ValueRoom 0)
+  no-version : isVersion v ≡ false → Refuses k v s buf (of-table Unknown)
+  no-node : isVersion v ≡ true → isLone s ≡ false → Refuses k v s buf (of-value (valueCause ValueShape 0))
+  no-time : isVersion v ≡ true → isLone s ≡ true → ((from to : DateTime) → Counterparts k v s from to → ⊥) → Refuses k v s buf (of-value (valueCause IllTyped 0))
+  no-room : isVersion v ≡ true → {from to : DateTime} → Counterparts k v s from to → length buf < 10 → Refuses k v s buf (of-message ValueRoom)

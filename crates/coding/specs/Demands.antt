@@ -5,8 +5,10 @@ use mathlib.Core.List.{List, _++_}
 use mathlib.Core.Path.{_≡_}
 use Prim.Native.Nat.{ℕ, _-_, _≤_, _<_, min}
 use lib.ListN.{length, drop}
-use Rattle.octets.specs.declared.cause.Cause.{Cause}
-use Rattle.octets.specs.declared.cause.Cause.the-variants.{ValueShape, MessageRoom}
+use Rattle.x690.specs.declared.ReadingCause.{ReadingCause}
+use Rattle.table.specs.declared.CheckCause.{CheckCause}
+use Rattle.coding.specs.declared.JudgingCause.{JudgingCause}
+use Rattle.coding.specs.declared.JudgingCause.the-variants.{ValueShape}
 use Rattle.octets.specs.Answer.{refused}
 use Rattle.table.specs.Syntax.{Record, Table, table}
 use Rattle.table.specs.Octets.{Spells}
@@ -19,12 +21,18 @@ use Rattle.coding.specs.Equivalent.{Equivalent}
 use Rattle.coding.specs.Form.{formAt}
 use Rattle.coding.specs.Judging.{judgeWhole}
 use Rattle.coding.specs.Reading.{readMessage}
-use Rattle.coding.specs.Outcome.{levels, longestValue, longestMessage, Outcome, done, refuse, write-at-start, of-value}
+use Rattle.coding.specs.Outcome.{levels, longestValue, longestMessage, TableCause, MessageRoom, Refusal, of-table, of-value, Told, done, refusal, Outcome, refuse, write-at-start}
+
+-- The answers of a call: done, a refusal of the table, or one of the call's own stage.
+pub data Answers {C : Type 0} (stage : C → Refusal) : Told → Type 0 where
+  is-done : (k : ℕ) → Answers stage (done k)
+  of-the-table : (c : TableCause) → Answers stage (refusal (of-table c))
+  of-the-stage : (c : C) → Answers stage (refusal (stage c))
 
 -- A table that is not refused: b are the octets of the records rs, and none of the causes 1 to 6 holds of b.
 pub record Accepted (b : List ℕ) (rs : List Record) : Type 0 where
   pub spells : Spells b rs
-  pub no-cause : (c : Cause) (p : ℕ) → Breaks b p c → ⊥
+  pub no-cause : (c : CheckCause) (p : ℕ) → Breaks b p c → ⊥
 
 -- 7: the table is not refused, and the type is none of its records.
 pub record NoSuchType (b : List ℕ) (t : ℕ) : Type 0 where
@@ -40,7 +48,7 @@ pub record OfType (b : List ℕ) (t : ℕ) (P : Table → Type 0) : Type 0 where
   pub holds : P (table records)
 
 -- 22 to 26, 28, 29: the message is not over-long, and the reading of it refuses for this cause, so many octets before its end.
-pub record MessageRefused (T : Table) (t : ℕ) (m : List ℕ) (c : Cause) (p : ℕ) : Type 0 where
+pub record MessageRefused (T : Table) (t : ℕ) (m : List ℕ) (c : ReadingCause) (p : ℕ) : Type 0 where
   pub within : length m ≤ longestMessage
   pub left : ℕ
   pub inside : left ≤ length m
@@ -70,7 +78,7 @@ pub record Read (T : Table) (t : ℕ) (m buf : List ℕ) (k : ℕ) (after : List
   pub buffer : after ≡ octets value ++ drop (length (octets value)) buf
 
 -- 11 to 13: the value is over-long, which is 11 at its first octet; or the judging of it refuses for this cause, so many octets before its end.
-pub data ValueRefused (T : Table) (t : ℕ) (v : List ℕ) (c : Cause) (p : ℕ) : Type 0 where
+pub data ValueRefused (T : Table) (t : ℕ) (v : List ℕ) (c : JudgingCause) (p : ℕ) : Type 0 where
   over-long : longestValue < length v → c ≡ ValueShape → p ≡ 0 → ValueRefused T t v c p
   as-judged : (left : ℕ) → length v ≤ longestValue → left ≤ length v → judgeWhole T levels t v ≡ refused c left → p ≡ length v - left → ValueRefused T t v c p
 
@@ -116,5 +124,5 @@ pub record Received (T : Table) (t : ℕ) (v : Value) (m buf : List ℕ) (x : Ou
 -- length it tells, is that form, and one of the permitted encodings.
 pub record Sent (T : Table) (t : ℕ) (v : Value) (buf : List ℕ) (x : Outcome) : Type 0 where
   pub when-it-fits : length (formAt T levels t v) ≤ longestMessage → length (formAt T levels t v) ≤ length buf → x ≡ write-at-start (formAt T levels t v) buf
-  pub else-14 : min longestMessage (length buf) < length (formAt T levels t v) → x ≡ refuse (of-value MessageRoom 0) buf
+  pub else-14 : min longestMessage (length buf) < length (formAt T levels t v) → x ≡ refuse (of-value MessageRoom) buf
   pub encodes : length (formAt T levels t v) ≤ longestMessage → Encodes T t v (formAt T levels t v)

@@ -7,7 +7,8 @@ use mathlib.Core.Option.{Option, some, none}
 use Prim.Native.Nat.{ℕ, zero, suc, _+_, _-_, _*_, _/_}
 use lib.Dec.{ltb, leb, eqb}
 use lib.ListN.{length, getD, take, drop}
-use Rattle.octets.specs.declared.cause.Cause.the-variants.{ValueShape, IllTyped, ValueLevel}
+use Rattle.coding.specs.declared.JudgingCause.{JudgingCause}
+use Rattle.coding.specs.declared.JudgingCause.the-variants.{ValueShape, IllTyped, ValueLevel}
 use Rattle.octets.specs.Answer.{Answer, got, refused, then, if, none-left}
 use Rattle.octets.specs.Numbers.{two}
 use Rattle.octets.specs.Lists.{all, same}
@@ -34,7 +35,7 @@ pub data Node : Type 0 where
   a-choice : ℕ → Node
 
 -- the first k octets, if so many are there; l octets are left where the node begins
-unfoldable pub need : {A : Type 0} → ℕ → ℕ → List ℕ → (Unit {0} → Answer A) → Answer A
+unfoldable pub need : {A : Type 0} → ℕ → ℕ → List ℕ → (Unit {0} → Answer JudgingCause A) → Answer JudgingCause A
 need l k s x = if (not (leb k (length s))) (refused ValueShape l) x
 
 -- presence octets: 1 for a member that is there, 0 for one that is missing
@@ -42,26 +43,26 @@ unfoldable pub flags : List ℕ → List Bool
 flags [] = []
 flags (b ∷ s) = eqb b 1 ∷ flags s
 
-unfoldable pub ownMembers : (List Bool → Node) → ℕ → List ℕ → Answer Node
+unfoldable pub ownMembers : (List Bool → Node) → ℕ → List ℕ → Answer JudgingCause Node
 ownMembers f l s =
     need l 1 s λ _.
     need l (getD s 0 0) (drop 1 s) λ _.
     if (not (all (λ b. ltb b 2) (take (getD s 0 0) (drop 1 s)))) (refused ValueShape l) λ _.
     got (f (flags (take (getD s 0 0) (drop 1 s)))) (drop (getD s 0 0) (drop 1 s))
 
-unfoldable pub ownCount : (ℕ → Node) → ℕ → List ℕ → Answer Node
+unfoldable pub ownCount : (ℕ → Node) → ℕ → List ℕ → Answer JudgingCause Node
 ownCount f l s = need l 2 s λ _. got (f (two s 0)) (drop 2 s)
 
-unfoldable pub ownBoolean : ℕ → List ℕ → Answer Node
+unfoldable pub ownBoolean : ℕ → List ℕ → Answer JudgingCause Node
 ownBoolean l s =
     need l 1 s λ _.
     if (not (ltb (getD s 0 0) 2)) (refused ValueShape l) λ _.
     got (a-leaf (boolean (eqb (getD s 0 0) 1))) (drop 1 s)
 
-unfoldable pub ownInteger : ℕ → List ℕ → Answer Node
+unfoldable pub ownInteger : ℕ → List ℕ → Answer JudgingCause Node
 ownInteger l s = need l 8 s λ _. got (a-leaf (integer (integerOf (take 8 s)))) (drop 8 s)
 
-unfoldable pub ownString : ℕ → List ℕ → Answer Node
+unfoldable pub ownString : ℕ → List ℕ → Answer JudgingCause Node
 ownString l s =
     need l 2 s λ _.
     need l (two s 0) (drop 2 s) λ _.
@@ -75,28 +76,28 @@ abbrev pub spareIn : ℕ → ℕ
 spareIn n = 8 * octetsFor n - n
 
 -- the bits behind the last one counted are 0
-unfoldable pub ownBits : ℕ → List ℕ → Answer Node
+unfoldable pub ownBits : ℕ → List ℕ → Answer JudgingCause Node
 ownBits l s =
     need l 2 s λ _.
     need l (octetsFor (two s 0)) (drop 2 s) λ _.
     if (not (same (masked (spareIn (two s 0)) (take (octetsFor (two s 0)) (drop 2 s))) (take (octetsFor (two s 0)) (drop 2 s)))) (refused ValueShape l) λ _.
     got (a-leaf (bits (spareIn (two s 0)) (take (octetsFor (two s 0)) (drop 2 s)))) (drop (octetsFor (two s 0)) (drop 2 s))
 
-unfoldable pub ownEnumerated : ℕ → List ℕ → Answer Node
+unfoldable pub ownEnumerated : ℕ → List ℕ → Answer JudgingCause Node
 ownEnumerated l s = need l 2 s λ _. got (a-leaf (enumerated (two s 0))) (drop 2 s)
 
 -- seven octets of a time in range
-unfoldable pub ownTime : TimeKind → ℕ → List ℕ → Answer Node
+unfoldable pub ownTime : TimeKind → ℕ → List ℕ → Answer JudgingCause Node
 ownTime k l s =
     need l 7 s λ _.
     if (not (inRange k (timeAt s 0))) (refused ValueShape l) λ _.
     got (a-leaf (time k (timeAt s 0))) (drop 7 s)
 
-unfoldable pub ownChoice : ℕ → List ℕ → Answer Node
+unfoldable pub ownChoice : ℕ → List ℕ → Answer JudgingCause Node
 ownChoice l s = need l 1 s λ _. got (a-choice (getD s 0 0)) (drop 1 s)
 
 -- the own part of a kind
-unfoldable pub readOwn : ℕ → ℕ → List ℕ → Answer Node
+unfoldable pub readOwn : ℕ → ℕ → List ℕ → Answer JudgingCause Node
 readOwn l k s =
     if (eqb k 1) (ownBoolean l s) λ _.
     if (eqb k 2) (ownInteger l s) λ _.
@@ -114,7 +115,7 @@ readOwn l k s =
     refused ValueShape l
 
 -- the mark 56 41, the kind, and the own part of that kind
-unfoldable pub readNode : List ℕ → Answer Node
+unfoldable pub readNode : List ℕ → Answer JudgingCause Node
 readNode s =
     need (length s) 3 s λ _.
     if (not (eqb (getD s 0 0) 0x56)) (refused ValueShape (length s)) λ _.
@@ -181,21 +182,21 @@ counts b (a-choice i) = ltb i (length (alternatives b))
 unfoldable pub agrees : Body → Node → Bool
 agrees b x = eqb (nodeKind x) (kind b) && counts b x
 
-module _ (r : ℕ → List ℕ → Answer Value) where
+module _ (r : ℕ → List ℕ → Answer JudgingCause Value) where
   -- the present members, after those in hand
-  unfoldable pub judgeMembers : List Member → List Bool → List (Option Value) → List ℕ → Answer (List (Option Value))
+  unfoldable pub judgeMembers : List Member → List Bool → List (Option Value) → List ℕ → Answer JudgingCause (List (Option Value))
   judgeMembers [] bs os s = got os s
   judgeMembers (m ∷ ms) [] os s = got os s
   judgeMembers (m ∷ ms) (true ∷ bs) os s = then (r (m .type) s) λ v s₁. judgeMembers ms bs (os ++ (some v ∷ [])) s₁
   judgeMembers (m ∷ ms) (false ∷ bs) os s = judgeMembers ms bs (os ++ (none ∷ [])) s
 
   -- n elements, after those in hand
-  unfoldable pub judgeElements : ℕ → ℕ → List Value → List ℕ → Answer (List Value)
+  unfoldable pub judgeElements : ℕ → ℕ → List Value → List ℕ → Answer JudgingCause (List Value)
   judgeElements zero t vs s = got vs s
   judgeElements (suc n) t vs s = then (r t s) λ v s₁. judgeElements n t (vs ++ (v ∷ [])) s₁
 
   -- the nodes below a node
-  unfoldable pub judgeBelow : Body → Node → List ℕ → Answer Value
+  unfoldable pub judgeBelow : Body → Node → List ℕ → Answer JudgingCause Value
   judgeBelow b (a-leaf x) s = got (leaf x) s
   judgeBelow b (a-sequence bs) s = then (judgeMembers (members b) bs [] s) λ os s₁. got (sequence (slots os)) s₁
   judgeBelow b (a-set bs) s = then (judgeMembers (members b) bs [] s) λ os s₁. got (set (slots os)) s₁
@@ -204,7 +205,7 @@ module _ (r : ℕ → List ℕ → Answer Value) where
   judgeBelow b (a-choice i) s = then (r (getD (alternatives b) i 0) s) λ v s₁. got (choice i v) s₁
 
 -- the node's own octets first (11), then its level (13), then its type (12); n levels are left
-unfoldable pub judgeValue : Table → ℕ → ℕ → List ℕ → Answer Value
+unfoldable pub judgeValue : Table → ℕ → ℕ → List ℕ → Answer JudgingCause Value
 judgeValue T zero t s = then (readNode s) λ x s₁. refused ValueLevel (length s)
 judgeValue T (suc n) t s =
     then (readNode s) λ x s₁.
@@ -212,7 +213,7 @@ judgeValue T (suc n) t s =
     judgeBelow (λ u w. judgeValue T n u w) (T t .body) x s₁
 
 -- the whole: octets behind the tree are 11 at the first of them
-unfoldable pub judgeWhole : Table → ℕ → ℕ → List ℕ → Answer Value
+unfoldable pub judgeWhole : Table → ℕ → ℕ → List ℕ → Answer JudgingCause Value
 judgeWhole T n t s =
     then (judgeValue T n t s) λ v r.
     if (not (none-left r)) (refused ValueShape (length r)) λ _. got v r

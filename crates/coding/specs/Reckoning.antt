@@ -7,7 +7,8 @@ use Prim.Native.Nat.{ℕ}
 use lib.Dec.{leb, eqb}
 use lib.IntN.{ℤ}
 use lib.ListN.{length, getD}
-use Rattle.octets.specs.declared.cause.Cause.the-variants.{ValueShape, IllTyped}
+use Rattle.coding.specs.declared.JudgingCause.{JudgingCause}
+use Rattle.coding.specs.declared.JudgingCause.the-variants.{ValueShape, IllTyped}
 use Rattle.octets.specs.Answer.{Answer, got, refused, none-left}
 use Rattle.octets.specs.Tests.{if}
 use Rattle.octets.specs.Lists.{any}
@@ -19,7 +20,7 @@ use Rattle.dates.specs.Own.{timeAt}
 use Rattle.dates.specs.Seconds.{order, elapsed}
 use Rattle.coding.specs.Value.{timeNumber, time, leafOctets}
 use Rattle.coding.specs.Judging.{Node, a-leaf, a-sequence, a-set, a-sequence-of, a-set-of, a-choice, readNode}
-use Rattle.coding.specs.Outcome.{longestValue, of-value}
+use Rattle.coding.specs.Outcome.{longestValue, valueCause, of-value}
 use Rattle.coding.specs.declared.Given.{Given}
 use Rattle.coding.specs.declared.Given.the-variants.{Time, Refused as Wrong}
 use Rattle.coding.specs.declared.Reckoned.{Reckoned}
@@ -34,7 +35,7 @@ childless (a-sequence-of n) = eqb n 0
 childless (a-set-of n) = eqb n 0
 childless (a-choice i) = false
 
-unfoldable pub isWhole : Answer Node → Bool
+unfoldable pub isWhole : Answer JudgingCause Node → Bool
 isWhole (got x r) = none-left r && childless x
 isWhole (refused c l) = false
 
@@ -51,8 +52,8 @@ given k s =
 
 -- f of two that are given; the first is judged wholly before the second, and the place is 0
 unfoldable pub reckonedBy : (DateTime → DateTime → ℤ) → Given → Given → Reckoned
-reckonedBy f (Wrong c) y = Refused (of-value c 0)
-reckonedBy f (Time a) (Wrong c) = Refused (of-value c 0)
+reckonedBy f (Wrong c) y = Refused (of-value (valueCause c 0))
+reckonedBy f (Time a) (Wrong c) = Refused (of-value (valueCause c 0))
 reckonedBy f (Time a) (Time b) = Is (f a b)
 
 abbrev pub wholeOrder : List ℕ → List ℕ → Reckoned

@@ -1,11 +1,10 @@
 // The link engine: check a type table, write a value as a message, read a message into a value.
-pub mod refusal;
-
 ghost use mathlib.Core.Path.{_≡_};
 ghost use Rattle.table.specs.Verdict.{verdict};
 ghost use Rattle.coding.specs.Calls.{checkAnswer, wholeWrite, wholeRead};
 use coding::Answer;
 use coding::Refusal;
+use refusal::table_cause;
 use table::Verdict;
 
 // Whether a table passes: Done with 0, or the first refusal of its table.
@@ -14,7 +13,10 @@ pub fn check(table: &[u8]) -> Answer
 {
     match checker::check(table) {
         Verdict::Passed => Answer::Done(0),
-        Verdict::Refused { cause, place } => Answer::Refused(Refusal::Table { cause, place }),
+        Verdict::Refused { cause, place } => {
+            let cause = table_cause(cause, place);
+            Answer::Refused(Refusal::Table(cause))
+        }
     }
 }
 

@@ -15,50 +15,44 @@ use Rattle.coding.specs.Encodes.{Encodes}
 use Rattle.coding.specs.Typed.{WellTyped}
 use Rattle.coding.specs.Shaped.{Shaped}
 use Rattle.coding.specs.Demands.{Accepted, Received, Sent}
-use Rattle.coding.specs.Outcome.{levels, longestValue, longestMessage, OfStage, Outcome}
-use Rattle.coding.specs.declared.Refusal.{Refusal}
+use Rattle.coding.specs.Outcome.{levels, longestValue, longestMessage, Outcome}
 use Rattle.coding.specs.declared.Answer.{Answer as Told}
-use Rattle.coding.specs.declared.Answer.the-variants.{Done, Refused}
 use Rattle.coding.specs.Calls.{checkAnswer, wholeRead, wholeWrite}
 use Rattle.coding.specs.Conversion.{wholeConversion}
-use Rattle.coding.proofs.Demands.{check-stages, read-stages, write-stages, what-was-sent-arrives, what-is-sent-is-permitted}
-use Rattle.link.specs.Pack.{lowPart, packed, Staged, Tells}
+use Rattle.coding.proofs.Demands.{what-was-sent-arrives, what-is-sent-is-permitted}
+use Rattle.link.specs.Pack.{lowPart, packed, Tells}
 use Rattle.link.proofs.Back.{packed-tells, tells-one}
-use Rattle.link.proofs.Small.{check-within, read-small, write-small, conversion-small, conversion-staged}
+use Rattle.link.proofs.Small.{check-within, read-small, write-small, conversion-small}
 
-staged : (a : Told) → ((r : Refusal) → a ≡ Refused r → OfStage r) → Staged a
-staged (Done n) h = tt
-staged (Refused r) h = h r refl
-
-tells-exactly : {r : ℕ} {x : Told} → r ≡ packed x → lowPart x < 65536 → Staged x → (a : Told) → Tells r a ↔ (a ≡ x)
-tells-exactly {r} {x} e h s a =
-    let y : Tells r x = rw e (packed-tells x h s) in
+tells-exactly : {r : ℕ} {x : Told} → r ≡ packed x → lowPart x < 65536 → (a : Told) → Tells r a ↔ (a ≡ x)
+tells-exactly {r} {x} e h a =
+    let y : Tells r x = rw e (packed-tells x h) in
     (λ z. tells-one z y, λ q. rw q y)
 
-outcome-tells : {r : ℕ} {x : Outcome} {after : List ℕ} → r ≡ packed (x .answer) → after ≡ x .buffer → lowPart (x .answer) < 65536 → Staged (x .answer)
+outcome-tells : {r : ℕ} {x : Outcome} {after : List ℕ} → r ≡ packed (x .answer) → after ≡ x .buffer → lowPart (x .answer) < 65536
     → (a : Told) → Tells r a ↔ (record { answer = a; buffer = after } ≡ x)
-outcome-tells {r} {x} {after} e f h s a =
-    let y = tells-exactly {r = r} {x = x .answer} e h s a in
+outcome-tells {r} {x} {after} e f h a =
+    let y = tells-exactly {r = r} {x = x .answer} e h a in
     (λ z. let q = y .0 z in rw (q, f), λ q. y .1 (ap (λ (o : Outcome). o .answer) q))
 
 -- the answer that the returned number tells is the outcome's, and it tells one
 
 pub link-checks : (b : List ℕ) (r : ℕ) → r ≡ packed (checkAnswer (verdict b)) → (a : Told) → Tells r a ↔ (a ≡ checkAnswer (verdict b))
-link-checks b r e = tells-exactly e (check-within b) (staged (checkAnswer (verdict b)) (check-stages b))
+link-checks b r e = tells-exactly e (check-within b)
 
 module _ (b : List ℕ) (t : ℕ) (m buf : List ℕ) (o : Octets m) (r : ℕ) (after : List ℕ) where
   pub link-reads : (r ≡ packed (wholeRead b t m buf .answer)) × (after ≡ wholeRead b t m buf .buffer)
       → (a : Told) → Tells r a ↔ (record { answer = a; buffer = after } ≡ wholeRead b t m buf)
-  link-reads (e, f) = outcome-tells e f (read-small b t m buf o) (staged (wholeRead b t m buf .answer) (read-stages b t m buf o))
+  link-reads (e, f) = outcome-tells e f (read-small b t m buf o)
 
   pub link-writes : (r ≡ packed (wholeWrite b t m buf .answer)) × (after ≡ wholeWrite b t m buf .buffer)
       → (a : Told) → Tells r a ↔ (record { answer = a; buffer = after } ≡ wholeWrite b t m buf)
-  link-writes (e, f) = outcome-tells e f (write-small b t m buf o) (staged (wholeWrite b t m buf .answer) (write-stages b t m buf o))
+  link-writes (e, f) = outcome-tells e f (write-small b t m buf o)
 
 module _ (k : TimeKind) (v : ℕ) (s buf : List ℕ) (o : Octets s) (r : ℕ) (after : List ℕ) where
   pub link-converts : (r ≡ packed (wholeConversion k v s buf .answer)) × (after ≡ wholeConversion k v s buf .buffer)
       → (a : Told) → Tells r a ↔ (record { answer = a; buffer = after } ≡ wholeConversion k v s buf)
-  link-converts (e, f) = outcome-tells e f (conversion-small k v s buf o) (conversion-staged k v s buf o)
+  link-converts (e, f) = outcome-tells e f (conversion-small k v s buf o)
 
 -- Demand 3 in C, for a table that is not refused and a type in it; the other theorems of the page carry over in the same way.
 module _ (b : List ℕ) (o : Octets b) (rs : List Record) (ok : Accepted b rs) (t : ℕ) (lt : t < length rs) (v : Value) (buf : List ℕ)

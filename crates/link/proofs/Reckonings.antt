@@ -10,7 +10,6 @@ use native.Mathlib.Omega.{arith}
 use lib.Dec.{ltb}
 use lib.IntN.{ℤ, pos, negsuc, natAbs}
 use Rattle.octets.specs.Numbers.{Octets}
-use Rattle.octets.specs.declared.cause.Cause.the-variants.{ValueShape, IllTyped}
 use Rattle.octets.proofs.Permutations.{all-octets}
 use Rattle.octets.proofs.Tests.{test}
 use Rattle.dates.specs.declared.DateTime.{DateTime}
@@ -20,19 +19,21 @@ use Rattle.dates.specs.Seconds.{ordered, order, elapsed}
 use Rattle.dates.proofs.Theorems.{seconds-fit}
 use Rattle.coding.specs.declared.Refusal.{Refusal}
 use Rattle.coding.specs.declared.Refusal.the-variants.{Value}
+use Rattle.coding.specs.declared.JudgingCause.the-variants.{ValueShape, IllTyped}
+use Rattle.coding.specs.Outcome.{valueCause}
 use Rattle.coding.specs.declared.Reckoned.{Reckoned}
 use Rattle.coding.specs.declared.Reckoned.the-variants.{Is, Refused}
 use Rattle.coding.specs.Reckoning.{given, reckonedBy, wholeOrder, wholeSeconds}
 use Rattle.coding.proofs.Reckoning.{reckons-exactly, reckoning-refuses}
 use Rattle.link.specs.Pack.{packedReckoning, Below, TellsReckoning, a-result, a-refusal}
-use Rattle.link.proofs.Back.{same-refusal}
+use Rattle.coding.proofs.Causes.{same-refusal}
 
 -- a number tells one outcome at most
 pub tells-one-reckoning : {u : ℤ} {a b : Reckoned} → TellsReckoning u a → TellsReckoning u b → a ≡ b
 tells-one-reckoning (a-result h) (a-result k) = refl
-tells-one-reckoning (a-result h) (a-refusal l n p s) = absurd (omega arith)
-tells-one-reckoning (a-refusal l n p s) (a-result h) = absurd (omega arith)
-tells-one-reckoning (a-refusal {r = r} l n p s) (a-refusal {r = q} k m o t) = ap Refused (same-refusal r q s t (sym n ∙ m) (p ∙ sym o))
+tells-one-reckoning (a-result h) (a-refusal l n p) = absurd (omega arith)
+tells-one-reckoning (a-refusal l n p) (a-result h) = absurd (omega arith)
+tells-one-reckoning (a-refusal {r = r} l n p) (a-refusal {r = q} k m o) = ap Refused (same-refusal r q (sym n ∙ m) (p ∙ sym o))
 
 -- no result reaches 2 ^ 40
 order-below : (xs ys : List ℕ) → Below (ordered xs ys)
@@ -45,9 +46,9 @@ seconds-below : (z : ℤ) → natAbs z < 2 ^ 39 → Below z
 seconds-below (pos n) h = omega arith
 seconds-below (negsuc n) h = tt
 
-refusal-told : (r : Refusal) → (r ≡ Value ValueShape 0) ⊎ (r ≡ Value IllTyped 0) → TellsReckoning (packedReckoning (Refused r)) (Refused r)
-refusal-told r (inl e) = rw e (a-refusal {n = 12094627905536} {r = Value ValueShape 0} (omega arith) refl refl (omega arith, omega arith))
-refusal-told r (inr e) = rw e (a-refusal {n = 13194139533312} {r = Value IllTyped 0} (omega arith) refl refl (omega arith, omega arith))
+refusal-told : (r : Refusal) → (r ≡ Value (valueCause ValueShape 0)) ⊎ (r ≡ Value (valueCause IllTyped 0)) → TellsReckoning (packedReckoning (Refused r)) (Refused r)
+refusal-told r (inl e) = rw e (a-refusal {n = 12094627905536} {r = Value (valueCause ValueShape 0)} (omega arith) refl refl)
+refusal-told r (inr e) = rw e (a-refusal {n = 13194139533312} {r = Value (valueCause IllTyped 0)} (omega arith) refl refl)
 
 module _ (f : DateTime → DateTime → ℤ) (small : (a b : DateTime) → inRange Generalized a ≡ true → inRange Generalized b ≡ true → Below (f a b))
     (s t : List ℕ) (o : Octets s) (p : Octets t) where

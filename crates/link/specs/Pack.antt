@@ -4,7 +4,7 @@
 use mathlib.Core.Path.{_≡_}
 use Prim.Native.Nat.{ℕ, _+_, _*_, _/_, _%_, _≤_, _<_}
 use lib.IntN.{ℤ, pos, negsuc}
-use Rattle.coding.specs.Outcome.{numberOf, placeOf, OfStage}
+use Rattle.coding.specs.Outcome.{numberOf, placeOf}
 use Rattle.coding.specs.declared.Refusal.{Refusal}
 use Rattle.coding.specs.declared.Answer.{Answer}
 use Rattle.coding.specs.declared.Answer.the-variants.{Done, Refused}
@@ -22,16 +22,10 @@ lowPart (Refused r) = placeOf r
 abbrev pub packed : Answer → ℕ
 packed a = highPart a * 65536 + lowPart a
 
--- done, or a refusal of the stage that its number says
-abbrev pub Staged : Answer → Type 0
-Staged (Done n) = Unit {0}
-Staged (Refused r) = OfStage r
-
 -- what the number u tells in C, taken apart, is the answer a
 pub record Tells (u : ℕ) (a : Answer) : Type 0 where
   pub high : u / 65536 ≡ highPart a
   pub low : u % 65536 ≡ lowPart a
-  pub staged : Staged a
 
 -- A reckoning with times: the result itself, which may be negative; or the number of the refusal times 2 ^ 40, which no result reaches. Its place is 0.
 abbrev pub beyond : ℕ
@@ -48,4 +42,4 @@ Below (negsuc n) = Unit {0}
 -- what the number u tells in C of a reckoning: below 2 ^ 40 the result, else the refusal whose number the quotient is
 pub data TellsReckoning : ℤ → Reckoned → Type 0 where
   a-result : {z : ℤ} → Below z → TellsReckoning z (Is z)
-  a-refusal : {n : ℕ} {r : Refusal} → beyond ≤ n → n / beyond ≡ numberOf r → placeOf r ≡ 0 → OfStage r → TellsReckoning (pos n) (Not r)
+  a-refusal : {n : ℕ} {r : Refusal} → beyond ≤ n → n / beyond ≡ numberOf r → placeOf r ≡ 0 → TellsReckoning (pos n) (Not r)

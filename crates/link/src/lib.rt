@@ -24,7 +24,7 @@ fn pack(a: Answer) -> u64
     match a {
         Answer::Done(n) => join(0, n),
         Answer::Refused(r) => {
-            let p = engine::refusal::report_of(r);
+            let p = refusal::report_of(r);
             join(p.number, p.place)
         }
     }
@@ -66,7 +66,7 @@ fn pack_reckoning(a: Reckoned) -> i64
     match a {
         Reckoned::Is(z) => z,
         Reckoned::Refused(r) => {
-            let p = engine::refusal::report_of(r);
+            let p = refusal::report_of(r);
             (p.number * 1099511627776) as i64
         }
     }

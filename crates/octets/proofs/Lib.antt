@@ -1,4 +1,4 @@
--- Laws that every crate shares: on tests, lists, octets by their places, causes of refusal, answers of readers, orders of lists.
+-- Laws that every crate shares: on tests, lists, octets by their places, answers of readers, orders of lists.
 -- Assumes nothing.
 pub mod Tests
 pub mod Lists
@@ -6,6 +6,5 @@ pub mod Search
 pub mod Tabulate
 pub mod Members
 pub mod Answer
-pub mod Causes
 pub mod Permutations
 pub mod Buffers

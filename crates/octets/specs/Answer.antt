@@ -3,14 +3,14 @@
 use mathlib.Core.Bool.{Bool, true, false}
 use mathlib.Core.List.{List, [], _∷_}
 use Prim.Native.Nat.{ℕ, _+_}
-use Rattle.octets.specs.Causes.{Cause}
 
--- What was read, and what follows it. Or a refusal: its cause, and how many octets are left from its place to the end of what was given.
-pub data Answer (A : Type 0) : Type 0 where
-  got : A → List ℕ → Answer A
-  refused : Cause → ℕ → Answer A
+-- What was read, and what follows it. Or a refusal: its cause, one of the causes K of that reading, and how many octets are left from its
+-- place to the end of what was given.
+pub data Answer (K A : Type 0) : Type 0 where
+  got : A → List ℕ → Answer K A
+  refused : K → ℕ → Answer K A
 
-unfoldable pub then : {A B : Type 0} → Answer A → (A → List ℕ → Answer B) → Answer B
+unfoldable pub then : {K A B : Type 0} → Answer K A → (A → List ℕ → Answer K B) → Answer K B
 then (got a s) f = f a s
 then (refused c l) f = refused c l
 
@@ -20,7 +20,7 @@ if true a k = a
 if false a k = k tt
 
 -- an answer about a part, where k octets stand behind the part
-unfoldable pub behind : {A : Type 0} → ℕ → Answer A → Answer A
+unfoldable pub behind : {K A : Type 0} → ℕ → Answer K A → Answer K A
 behind k (got a s) = got a s
 behind k (refused c l) = refused c (l + k)
 

@@ -1,7 +1,4 @@
-// Octets: reads that are total, where what lies behind the last octet counts as 0; room for octets; a copy. And the
-// causes of refusal, which every crate names.
-pub mod cause;
-
+// Octets: reads that are total, where what lies behind the last octet counts as 0; room for octets; a copy.
 ghost use mathlib.Core.Path.{_≡_};
 ghost use Prim.Native.Nat.{_<_, _+_, _*_};
 ghost use lib.Dec.{leb};

@@ -7,6 +7,7 @@ use mathlib.Core.List.{List, [], _∷_, List·Memᴰ as In, List·Memᴰ·head, 
 use mathlib.Core.Path.{_≡_, refl, sym, ap, _∙_}
 use native.Mathlib.Omega.{arith}
 use Prim.Native.Nat.{ℕ, zero, suc, _+_, _≤_, _<_}
+use Rattle.x690.specs.declared.ReadingCause.{ReadingCause}
 use Rattle.octets.specs.Answer.{Answer, got, refused, if}
 use Rattle.octets.specs.Lists.{any, all, same}
 use Rattle.octets.specs.Numbers.{Octets}
@@ -201,7 +202,7 @@ module _ (T : Table) (F : (t : ℕ) → Fit (T t)) where
   unfolding begun passes begins peeked
   begun-hit t s o = go (readIdentifier s) refl
     where
-      go : (x : Answer (List ℕ)) → readIdentifier s ≡ x → begun T t s ≡ hit (searchIn T 129 t (peeked (readIdentifier s)))
+      go : (x : Answer ReadingCause (List ℕ)) → readIdentifier s ≡ x → begun T t s ≡ hit (searchIn T 129 t (peeked (readIdentifier s)))
       go (got i w) e = rw e (search-read s i w o e 129 t)
       go (refused c l) e = rw e (sym (search-nothing 129 t))
 

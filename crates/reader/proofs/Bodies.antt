@@ -8,6 +8,7 @@ use mathlib.Core.Logic.{inl, inr}
 use mathlib.Core.Path.{_≡_, refl, sym, ap, _∙_}
 use native.Mathlib.Omega.{arith}
 use Prim.Native.Nat.{ℕ, _-_, _≤_}
+use Rattle.x690.specs.declared.ReadingCause.{ReadingCause}
 use Rattle.octets.specs.Answer.{Answer}
 use Rattle.x690.specs.Reading.{Mode}
 use Rattle.x690.specs.Reading.{readConstructed}
@@ -61,12 +62,12 @@ single-kind (SetOf t) e = refl
 single-kind (Choice ts) e = refl
 
 -- an item of a constructed kind is read by the items in it
-module _ (T : Table) (f : ℕ → List ℕ → Answer Value) (i s : List ℕ) where
-  abbrev pub Built : Body → Answer Value → Type 0
+module _ (T : Table) (f : ℕ → List ℕ → Answer ReadingCause Value) (i s : List ℕ) where
+  abbrev pub Built : Body → Answer ReadingCause Value → Type 0
   Built y x =
       (isChoice y ≡ false → x ≡ readConstructed i (readHeld T f (inside y)) s) × (isChoice y ≡ true → (k : Mode) → x ≡ readHeld T f (inside y) k s)
 
-  built : (g : _) (h : _) (y : Body) → constructed y ≡ true → (x : Answer Value) → Kind T f g h i s y x → Built y x
+  built : (g : _) (h : _) (y : Body) → constructed y ≡ true → (x : Answer ReadingCause Value) → Kind T f g h i s y x → Built y x
   unfolding constructed isChoice
   built g h (Plain k) c x q = absurd (false≢true c)
   built g h (Sequence ms) c x q = ((λ _. q), λ e. absurd (false≢true e))

@@ -6,8 +6,8 @@ use mathlib.Core.List.{List, [], _∷_}
 use mathlib.Core.Logic.{_⊎_, inl, inr}
 use mathlib.Core.Path.{_≡_, refl, sym, ap, _∙_}
 use Prim.Native.Nat.{ℕ, _+_, _-_}
-use Rattle.octets.specs.declared.cause.Cause.{Cause}
-use Rattle.octets.specs.declared.cause.Cause.the-variants.{Trailing}
+use Rattle.x690.specs.declared.ReadingCause.{ReadingCause}
+use Rattle.x690.specs.declared.ReadingCause.the-variants.{Trailing}
 use Rattle.octets.specs.Answer.{Answer, got, refused, then, behind}
 use Rattle.octets.proofs.Answer.{refused≢got, got-value, got-rest}
 use Rattle.x690.specs.Reading.{Mode, open-ended, closed, atEnd}
@@ -16,11 +16,11 @@ use Rattle.reader.specs.Wraps.{ended, shut, closing, Around}
 use Rattle.reader.proofs.Items.{Ending, over, broken, more, ending}
 use Rattle.reader.proofs.Wrapping.{closing-refused}
 
-abbrev Alike : {A B : Type 0} → A → B → Answer A → Answer B → Type 0
-Alike a b x y = ((u : List ℕ) × (x ≡ got a u) × (y ≡ got b u)) ⊎ ((c : Cause) × (l : ℕ) × (x ≡ refused c l) × (y ≡ refused c l))
+abbrev Alike : {A B : Type 0} → A → B → Answer ReadingCause A → Answer ReadingCause B → Type 0
+Alike a b x y = ((u : List ℕ) × (x ≡ got a u) × (y ≡ got b u)) ⊎ ((c : ReadingCause) × (l : ℕ) × (x ≡ refused c l) × (y ≡ refused c l))
 
 module _ {A B : Type 0} (a : A) (b : B) where
-  ended-alike : (k : Mode) (x : Answer A) (y : Answer B) → Alike a b x y → Alike a b (ended k x) (ended k y)
+  ended-alike : (k : Mode) (x : Answer ReadingCause A) (y : Answer ReadingCause B) → Alike a b x y → Alike a b (ended k x) (ended k y)
   unfolding ended then
   ended-alike k x y (inl (u, e, f)) = rw (e, f) (go (ending k u))
     where
@@ -30,7 +30,7 @@ module _ {A B : Type 0} (a : A) (b : B) where
       go (more h) = inr (Trailing, length u, h A _ _, h B _ _)
   ended-alike k x y (inr (c, l, e, f)) = inr (c, l, rw e refl, rw f refl)
 
-  shut-alike : (m : List ℕ) (outer inner : ℕ) (k : Bool) (x : Answer A) (y : Answer B) → Alike a b x y
+  shut-alike : (m : List ℕ) (outer inner : ℕ) (k : Bool) (x : Answer ReadingCause A) (y : Answer ReadingCause B) → Alike a b x y
       → Alike a b (shut m outer inner k x) (shut m outer inner k y)
   unfolding shut then behind
   shut-alike m outer inner true x y h = ended-alike open-ended x y h
@@ -42,7 +42,7 @@ module _ {A B : Type 0} (a : A) (b : B) where
       go (inl (u, e, f)) = inl (drop inner (take outer m), rw e refl, rw f refl)
       go (inr (c, l, e, f)) = inr (c, l + (outer - inner), rw e refl, rw f refl)
 
-  closing-alike : (m ns : List ℕ) (e : ℕ) (x : Answer A) (y : Answer B) → Alike a b x y → Alike a b (closing m ns e x) (closing m ns e y)
+  closing-alike : (m ns : List ℕ) (e : ℕ) (x : Answer ReadingCause A) (y : Answer ReadingCause B) → Alike a b x y → Alike a b (closing m ns e x) (closing m ns e y)
   unfolding closing
   closing-alike m [] e x y h = h
   closing-alike m (n ∷ ns) e x y h = shut-alike m _ _ _ (closing m ns e x) (closing m ns e y) (closing-alike m ns e x y h)
@@ -58,7 +58,7 @@ closing-size m ns e a b u f g q = go (closing-alike a b m ns e (got a u) (got b 
     go (inr (c, l, x, y)) = rw (x, y) refl
 
 -- what was read under tags that are closed was read with the same value, and a number that ends where it ends is closed alike
-pub closing-through : {A : Type 0} (m : List ℕ) (n : ℕ) (ns : List ℕ) (e : ℕ) → Around n ns e → (x : Answer A) (a : A) (rest : List ℕ)
+pub closing-through : {A : Type 0} (m : List ℕ) (n : ℕ) (ns : List ℕ) (e : ℕ) → Around n ns e → (x : Answer ReadingCause A) (a : A) (rest : List ℕ)
     → closing m ns e x ≡ got a rest → (u : List ℕ) × (x ≡ got a u) × ((i : ℕ) → closing m ns e (got i u) ≡ got i rest)
 closing-through m n ns e o (refused c l) a rest h = refused≢got (sym (closing-refused m n ns e c l o) ∙ h)
 closing-through m n ns e o (got b u) a rest h = (u, ap (λ z. got z u) (same 0 .0), λ i. same i .1)

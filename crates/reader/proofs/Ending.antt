@@ -7,8 +7,8 @@ use mathlib.Core.Bool.{Bool, true, false, not, _||_, true≢false}
 use mathlib.Core.List.{List, [], _∷_}
 use mathlib.Core.Path.{_≡_, refl, sym, ap, _∙_}
 use Prim.Native.Nat.{ℕ, zero, suc}
-use Rattle.octets.specs.declared.cause.Cause.{Cause}
-use Rattle.octets.specs.declared.cause.Cause.the-variants.{NotAwaited}
+use Rattle.x690.specs.declared.ReadingCause.{ReadingCause}
+use Rattle.x690.specs.declared.ReadingCause.the-variants.{NotAwaited}
 use Rattle.octets.specs.Answer.{if}
 use Rattle.octets.specs.Lists.{any}
 use Rattle.octets.proofs.Tests.{test}
@@ -68,7 +68,7 @@ module _ {b index : List ℕ} {w : ℕ} {came : List ℕ} (Z : Sound b index w c
     unfolding atEnding
     stands-more d = sym (at-ending ∙ rw d refl)
 
-    pub stands-broken : (c : Cause) → z ≡ Broken c → Refused c ≡ standing H i came y
+    pub stands-broken : (c : ReadingCause) → z ≡ Broken c → Refused c ≡ standing H i came y
     unfolding atEnding
     stands-broken c d = sym (at-ending ∙ rw d refl)
 

@@ -8,8 +8,8 @@ use mathlib.Core.Option.{Option, some, none}
 use mathlib.Core.Path.{_≡_, refl, sym, ap, _∙_}
 use native.Mathlib.Omega.{arith}
 use Prim.Native.Nat.{ℕ, suc, _+_, _*_, _≤_, _<_}
-use Rattle.octets.specs.declared.cause.Cause.{Cause}
-use Rattle.octets.specs.declared.cause.Cause.the-variants.{NotAwaited}
+use Rattle.x690.specs.declared.ReadingCause.{ReadingCause}
+use Rattle.x690.specs.declared.ReadingCause.the-variants.{NotAwaited}
 use Rattle.octets.specs.Answer.{got, refused, if, then}
 use Rattle.octets.specs.Numbers.{Octets}
 use Rattle.octets.proofs.Tests.{test}
@@ -42,7 +42,7 @@ use Rattle.reader.proofs.Searching.{Parted, spanned, type-low, clear-tu
 use Rattle.reader.proofs.Spans.{PartAt, held-body, tabled-some}
 
 -- the refusal of an item that begins no part that is awaited
-pub unfit-is : (h : Holder) (i : ℕ) (came s : List ℕ) (c : Cause) → notAwaited {A = List ℕ} s ≡ refused c (length s)
+pub unfit-is : (h : Holder) (i : ℕ) (came s : List ℕ) (c : ReadingCause) → notAwaited {A = List ℕ} s ≡ refused c (length s)
     → unfit {A = List ℕ} h i came s ≡ refused ((unfitCause h i came c)) (length s)
 unfolding unfit unfitCause if
 unfit-is h i came s c e =
@@ -69,7 +69,7 @@ module _ {b index : List ℕ} {w : ℕ} {came : List ℕ} {e : Entry} {s : Span}
   T = tableIn b
 
   -- no identifier
-  module _ (f : Cause) (q : y ≡ NoIdentifier f) where
+  module _ (f : ReadingCause) (q : y ≡ NoIdentifier f) where
     none-read : readIdentifier m ≡ refused f (length m)
     none-read = identifier-refused m y ey f q
 

@@ -11,8 +11,8 @@ use mathlib.Core.Path.{_≡_, refl, sym, ap, _∙_}
 use native.Mathlib.Numerals.{add-one}
 use native.Mathlib.Omega.{arith}
 use Prim.Native.Nat.{ℕ, zero, suc, _+_, _-_, _≤_, _<_}
-use Rattle.octets.specs.declared.cause.Cause.{Cause}
-use Rattle.octets.specs.declared.cause.Cause.the-variants.{Cut, Forbidden, NotAwaited, Trailing}
+use Rattle.x690.specs.declared.ReadingCause.{ReadingCause}
+use Rattle.x690.specs.declared.ReadingCause.the-variants.{Cut, Forbidden, NotAwaited, Trailing}
 use Rattle.octets.specs.Answer.{Answer, got, refused, then, if, none-left}
 use Rattle.octets.proofs.Answer.{Holds}
 use Rattle.octets.proofs.Tests.{test}
@@ -65,25 +65,25 @@ module _ {A : Type 0} where
 
 -- contents are over, and u stands behind them; they are cut off or in no form that X.690 has; or they go on
 abbrev pub Over : Mode → List ℕ → List ℕ → Type 1
-Over mode s u = (A : Type 0) (f : List ℕ → Answer A) (x : Unit {0} → Answer A) → atEnd mode s f x ≡ f u
+Over mode s u = (A : Type 0) (f : List ℕ → Answer ReadingCause A) (x : Unit {0} → Answer ReadingCause A) → atEnd mode s f x ≡ f u
 
-abbrev pub Broken : Mode → List ℕ → Cause → ℕ → Type 1
-Broken mode s c l = (A : Type 0) (f : List ℕ → Answer A) (x : Unit {0} → Answer A) → atEnd mode s f x ≡ refused c l
+abbrev pub Broken : Mode → List ℕ → ReadingCause → ℕ → Type 1
+Broken mode s c l = (A : Type 0) (f : List ℕ → Answer ReadingCause A) (x : Unit {0} → Answer ReadingCause A) → atEnd mode s f x ≡ refused c l
 
 abbrev pub More : Mode → List ℕ → Type 1
-More mode s = (A : Type 0) (f : List ℕ → Answer A) (x : Unit {0} → Answer A) → atEnd mode s f x ≡ x tt
+More mode s = (A : Type 0) (f : List ℕ → Answer ReadingCause A) (x : Unit {0} → Answer ReadingCause A) → atEnd mode s f x ≡ x tt
 
 -- nothing is noted; what is read leaves fewer octets than were given
 abbrev pub Clear : List ℕ → Type 0
 Clear came = (p : ℕ) → getD came p 0 ≡ 0
 
-abbrev pub Shortens : (ℕ → List ℕ → Answer Value) → Type 0
+abbrev pub Shortens : (ℕ → List ℕ → Answer ReadingCause Value) → Type 0
 Shortens r = (t : ℕ) (s : List ℕ) → Holds (λ v u. length u < length s) (r t s)
 
 -- where contents may end: no octet is left or the next one is 00, and no item begins; else items go on
 pub data Ending (mode : Mode) (s : List ℕ) : Type 1 where
   over : (u : List ℕ) → getD s 0 0 ≡ 0 → Over mode s u → Ending mode s
-  broken : (c : Cause) (l : ℕ) → getD s 0 0 ≡ 0 → Broken mode s c l → Ending mode s
+  broken : (c : ReadingCause) (l : ℕ) → getD s 0 0 ≡ 0 → Broken mode s c l → Ending mode s
   more : (More mode s) → Ending mode s
 
 pub ending : (mode : Mode) (s : List ℕ) → Ending mode s
@@ -105,28 +105,28 @@ unfolding begun passes readIdentifier if
 begun-zero T good t [] e = refl
 begun-zero T good t (b ∷ s) e = rw e (never (begins T t (0 ∷ [])) (λ z. no-zero (good t .first (0 ∷ []) z)))
 
-pub then-self : {A : Type 0} (x : Answer A) → then x (λ a u. got a u) ≡ x
+pub then-self : {A : Type 0} (x : Answer ReadingCause A) → then x (λ a u. got a u) ≡ x
 unfolding then
 then-self (got a u) = refl
 then-self (refused c l) = refl
 
 -- what follows may be replaced by what answers alike
-pub then-same : {A B : Type 0} (x : Answer A) (f g : A → List ℕ → Answer B) → ((a : A) (u : List ℕ) → x ≡ got a u → f a u ≡ g a u) → then x f ≡ then x g
+pub then-same : {A B : Type 0} (x : Answer ReadingCause A) (f g : A → List ℕ → Answer ReadingCause B) → ((a : A) (u : List ℕ) → x ≡ got a u → f a u ≡ g a u) → then x f ≡ then x g
 unfolding then
 then-same (got a u) f g h = h a u refl
 then-same (refused c l) f g h = refl
 
-pub then-then : {A B C : Type 0} (x : Answer A) (f : A → List ℕ → Answer B) (g : B → List ℕ → Answer C) → then (then x f) g ≡ then x λ a u. then (f a u) g
+pub then-then : {A B C : Type 0} (x : Answer ReadingCause A) (f : A → List ℕ → Answer ReadingCause B) (g : B → List ℕ → Answer ReadingCause C) → then (then x f) g ≡ then x λ a u. then (f a u) g
 unfolding then
 then-then (got a u) f g = refl
 then-then (refused c l) f g = refl
 
 -- an item that is not awaited is refused, whatever is read of it
-pub unawaited-on : {A B : Type 0} (s : List ℕ) (f : A → List ℕ → Answer B) → then (notAwaited s) f ≡ notAwaited s
+pub unawaited-on : {A B : Type 0} (s : List ℕ) (f : A → List ℕ → Answer ReadingCause B) → then (notAwaited s) f ≡ notAwaited s
 unfolding notAwaited then
 unawaited-on {A} {B} s f = go (readIdentifier s)
   where
-    go : (x : Answer (List ℕ)) → then (then {B = A} x λ i s₁. refused NotAwaited (length s)) f ≡ then x λ i s₁. refused NotAwaited (length s)
+    go : (x : Answer ReadingCause (List ℕ)) → then (then {B = A} x λ i s₁. refused NotAwaited (length s)) f ≡ then x λ i s₁. refused NotAwaited (length s)
     go (got i w) = refl
     go (refused c l) = refl
 
@@ -202,8 +202,8 @@ pub awaits-found : (h : Holder) (j : ℕ) (came : List ℕ) (f : Placed → Bool
 awaits-found h j came f = within-first (manner h) f (left h j came) (IfFound came j (drop j (partsOf h))) tt (pending-found came f j (drop j (partsOf h)))
 
 -- one turn
-module _ (T : Table) (r : ℕ → List ℕ → Answer Value) (h : Holder) (k j : ℕ) (came : List ℕ) (hand : Hand) (mode : Mode) (s : List ℕ) where
-  abbrev Whole : Answer Hand
+module _ (T : Table) (r : ℕ → List ℕ → Answer ReadingCause Value) (h : Holder) (k j : ℕ) (came : List ℕ) (hand : Hand) (mode : Mode) (s : List ℕ) where
+  abbrev Whole : Answer ReadingCause Hand
   Whole = readItems T r h (suc k) j came hand mode s
 
   -- an item of a CHOICE or a message
@@ -213,7 +213,7 @@ module _ (T : Table) (r : ℕ → List ℕ → Answer Value) (h : Holder) (k j :
     single-unawaited e = rw (one, e) (unawaited-on s (λ x s₁. got (hand ++ (x ∷ [])) s₁))
 
     module _ (x : Placed) (e : next T h j came s ≡ some x) where
-      pub single-refused : (c : Cause) (l : ℕ) → r (x .1 .type) s ≡ refused c l → Whole ≡ refused c l
+      pub single-refused : (c : ReadingCause) (l : ℕ) → r (x .1 .type) s ≡ refused c l → Whole ≡ refused c l
       unfolding readItems if readPart then
       single-refused c l d = rw (one, e, d) refl
 
@@ -232,7 +232,7 @@ module _ (T : Table) (r : ℕ → List ℕ → Answer Value) (h : Holder) (k j :
       unfolding readItems if
       items-lacking e = rw (many, end, e) refl
 
-    pub items-broken : (c : Cause) (l : ℕ) → Broken mode s c l → Whole ≡ refused c l
+    pub items-broken : (c : ReadingCause) (l : ℕ) → Broken mode s c l → Whole ≡ refused c l
     unfolding readItems if
     items-broken c l end = rw (many, end) refl
 
@@ -248,7 +248,7 @@ module _ (T : Table) (r : ℕ → List ℕ → Answer Value) (h : Holder) (k j :
         items-unawaited e = rw (many, end, some-left, e) (unawaited-on s _)
 
         module _ (x : Placed) (e : next T h j came s ≡ some x) where
-          pub items-refused : (c : Cause) (l : ℕ) → r (x .1 .type) s ≡ refused c l → Whole ≡ refused c l
+          pub items-refused : (c : ReadingCause) (l : ℕ) → r (x .1 .type) s ≡ refused c l → Whole ≡ refused c l
           unfolding readItems if readPart then
           items-refused c l d = rw (many, end, some-left, e, d) refl
 

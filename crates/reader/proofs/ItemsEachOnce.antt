@@ -8,8 +8,8 @@ use mathlib.Core.Option.{Option, some, none}
 use mathlib.Core.Path.{_≡_, refl, sym, ap, _∙_}
 use native.Mathlib.Omega.{arith}
 use Prim.Native.Nat.{ℕ, zero, suc, _+_, _-_, _≤_, _<_}
-use Rattle.octets.specs.declared.cause.Cause.{Cause}
-use Rattle.octets.specs.declared.cause.Cause.the-variants.{Trailing}
+use Rattle.x690.specs.declared.ReadingCause.{ReadingCause}
+use Rattle.x690.specs.declared.ReadingCause.the-variants.{Trailing}
 use Rattle.octets.specs.Answer.{Answer, got, refused, then, if}
 use Rattle.octets.specs.Lists.{any}
 use Rattle.octets.proofs.Tests.{test}
@@ -78,11 +78,11 @@ module _ (came : List ℕ) where
   full-came {k} (taken {m = m} {ms = ms} e d) = rw (pending-come came k m ms e) (full-came d)
 
   -- the member that an item begins
-  module _ (T : Table) (r : ℕ → List ℕ → Answer Value) (s : List ℕ) where
+  module _ (T : Table) (r : ℕ → List ℕ → Answer ReadingCause Value) (s : List ℕ) where
     abbrev Begun : Placed → Bool
     Begun x = begun T (x .1 .type) s
 
-    abbrev Put : ℕ → List (Option Value) → Option Placed → Answer (List (Option Value))
+    abbrev Put : ℕ → List (Option Value) → Option Placed → Answer ReadingCause (List (Option Value))
     Put k os none = notAwaited s
     Put k os (some x) = then (r (x .1 .type) s) λ v s₁. got (setAt os (x .0 - k) (some v)) s₁
 
@@ -103,21 +103,21 @@ module _ (came : List ℕ) where
         (test (begun T (m .type) s)
         (λ b. let q : k - k ≡ 0 = omega arith in rw (b, q) refl)
         λ b.
-        rw b (ap (λ (y : Answer (List (Option Value))). then y (λ us s₁. got (none ∷ us) s₁)) (place-came d)
+        rw b (ap (λ (y : Answer ReadingCause (List (Option Value))). then y (λ us s₁. got (none ∷ us) s₁)) (place-came d)
         ∙ put-later k m ms none os (first Begun (pending came (suc k) ms)) (pending-found came Begun (suc k) ms)))
     place-came {k} (taken {m = m} {ms = ms} {v = v} {os = os} e d) =
         rw (pending-come came k m ms e)
-        (ap (λ (y : Answer (List (Option Value))). then y (λ us s₁. got (some v ∷ us) s₁)) (place-came d)
+        (ap (λ (y : Answer ReadingCause (List (Option Value))). then y (λ us s₁. got (some v ∷ us) s₁)) (place-came d)
         ∙ put-later k m ms (some v) os (first Begun (pending came (suc k) ms)) (pending-found came Begun (suc k) ms))
 
-module _ (T : Table) (r : ℕ → List ℕ → Answer Value) (ms : List Member) (mode : Mode) where
+module _ (T : Table) (r : ℕ → List ℕ → Answer ReadingCause Value) (ms : List Member) (mode : Mode) where
   abbrev H : Holder
   H = inside (Set ms)
 
   abbrev Slots : Hand → List (Option Value)
   Slots hand = filled hand (nothing ms)
 
-  abbrev Result : ℕ → List ℕ → Hand → List ℕ → Answer (List (Option Value))
+  abbrev Result : ℕ → List ℕ → Hand → List ℕ → Answer ReadingCause (List (Option Value))
   Result k came hand s = then (readItems T r H k 0 came hand mode s) λ hand u. got (Slots hand) u
 
   abbrev Agrees : ℕ → Type 0
@@ -132,7 +132,7 @@ module _ (T : Table) (r : ℕ → List ℕ → Answer Value) (ms : List Member) 
         (λ e. rw (end, allowed-came came d, e, items-lacking T r H k 0 came hand mode s refl u end e) refl)
         λ e. rw (end, allowed-came came d, e, items-over T r H k 0 came hand mode s refl u end e) refl
 
-    at-broken : (c : Cause) (l : ℕ) → Broken mode s c l → readSet T r (suc k) ms (Slots hand) mode s ≡ Result (suc k) came hand s
+    at-broken : (c : ReadingCause) (l : ℕ) → Broken mode s c l → readSet T r (suc k) ms (Slots hand) mode s ≡ Result (suc k) came hand s
     unfolding readSet isSingle manner then
     at-broken c l end = rw (end, items-broken T r H k 0 came hand mode s refl c l end) refl
 
@@ -150,10 +150,10 @@ module _ (T : Table) (r : ℕ → List ℕ → Answer Value) (ms : List Member) 
         abbrev The : Option Placed
         The = first (Begun came T r s) (pending came 0 ms)
 
-        abbrev On : List (Option Value) → List ℕ → Answer (List (Option Value))
+        abbrev On : List (Option Value) → List ℕ → Answer ReadingCause (List (Option Value))
         On us s₁ = readSet T r k ms us mode s₁
 
-        on-found : (x : Placed) → The ≡ some x → (a : Answer Value) → r (x .1 .type) s ≡ a
+        on-found : (x : Placed) → The ≡ some x → (a : Answer ReadingCause Value) → r (x .1 .type) s ≡ a
             → then (then a λ v s₁. got (setAt (Slots hand) (x .0 - 0) (some v)) s₁) On ≡ Result (suc k) came hand s
         unfolding then isSingle manner partsOf within following noted
         on-found x f (refused c l) e = rw (items-refused T r H k 0 came hand mode s refl end some-left x f c l e) refl

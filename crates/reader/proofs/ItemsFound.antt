@@ -10,7 +10,7 @@ use mathlib.Core.Option.{some}
 use mathlib.Core.Path.{_≡_, refl, sym, ap, _∙_}
 use native.Mathlib.Omega.{arith}
 use Prim.Native.Nat.{ℕ, zero, suc, _+_, _-_, _*_, _%_, _≤_, _<_}
-use Rattle.octets.specs.declared.cause.Cause.the-variants.{MessageLevel}
+use Rattle.x690.specs.declared.ReadingCause.the-variants.{MessageLevel}
 use Rattle.octets.specs.Answer.{got, refused, then, if}
 use Rattle.octets.specs.Numbers.{Octets}
 use Rattle.octets.proofs.Tests.{test}

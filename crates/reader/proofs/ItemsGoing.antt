@@ -7,8 +7,8 @@ use mathlib.Core.Option.{some, none}
 use mathlib.Core.Path.{_≡_, refl, sym, ap, _∙_}
 use native.Mathlib.Omega.{arith}
 use Prim.Native.Nat.{ℕ, suc, _+_, _-_, _≤_, _<_}
-use Rattle.octets.specs.declared.cause.Cause.{Cause}
-use Rattle.octets.specs.declared.cause.Cause.the-variants.{NotAwaited, Trailing}
+use Rattle.x690.specs.declared.ReadingCause.{ReadingCause}
+use Rattle.x690.specs.declared.ReadingCause.the-variants.{NotAwaited, Trailing}
 use Rattle.octets.specs.Answer.{Answer, got, refused, then}
 use Rattle.x690.specs.Reading.{Mode}
 use Rattle.table.specs.Syntax.{Table}
@@ -29,7 +29,7 @@ since-first repeated = refl
 since-first single = refl
 
 -- before the item at a place of m: W is all the items give, in terms of those in hand and what is left
-pub record Going (W : Answer Value) (T : Table) (r : ℕ → List ℕ → Answer Value) (h : Holder) (mode : Mode) (m : List ℕ) (at j : ℕ)
+pub record Going (W : Answer ReadingCause Value) (T : Table) (r : ℕ → List ℕ → Answer ReadingCause Value) (h : Holder) (mode : Mode) (m : List ℕ) (at j : ℕ)
     (came : List ℕ) (total : ℕ) : Type 0 where
   pub hand : Hand
   pub fuel : ℕ
@@ -38,7 +38,7 @@ pub record Going (W : Answer Value) (T : Table) (r : ℕ → List ℕ → Answer
   pub sized : total ≡ cap (nodeSize h + sizesOf hand)
   pub sofar : SoFar h j came hand
 
-pub going-first : (T : Table) (r : ℕ → List ℕ → Answer Value) (h : Holder) (mode : Mode) (m : List ℕ) (total : ℕ) → isPlain h ≡ false → length (partsOf h) ≤ 16
+pub going-first : (T : Table) (r : ℕ → List ℕ → Answer ReadingCause Value) (h : Holder) (mode : Mode) (m : List ℕ) (total : ℕ) → isPlain h ≡ false → length (partsOf h) ≤ 16
     → total ≡ cap (nodeSize h)
     → Going (readHeld T r h mode m) T r h mode m 0 0 blank total
 unfolding readHeld sizesOf
@@ -46,15 +46,15 @@ going-first T r h mode m total p few e =
     let q : nodeSize h + 0 ≡ nodeSize h = omega arith in
     record { hand = []; fuel = length m; enough = omega arith; whole = refl; sized = rw q e; sofar = sofar-none h p few }
 
-module _ (W : Answer Value) (T : Table) (r : ℕ → List ℕ → Answer Value) (h : Holder) (mode : Mode) (m : List ℕ) (at j : ℕ) (came : List ℕ) (total : ℕ)
+module _ (W : Answer ReadingCause Value) (T : Table) (r : ℕ → List ℕ → Answer ReadingCause Value) (h : Holder) (mode : Mode) (m : List ℕ) (at j : ℕ) (came : List ℕ) (total : ℕ)
     (S : Going W T r h mode m at j came total) where
   abbrev Rest : List ℕ
   Rest = drop at m
 
-  abbrev Items : Answer Hand
+  abbrev Items : Answer ReadingCause Hand
   Items = readItems T r h (suc (S .fuel)) j came (S .hand) mode Rest
 
-  gives-refused : (c : Cause) (l : ℕ) → Items ≡ refused c l → W ≡ refused c l
+  gives-refused : (c : ReadingCause) (l : ℕ) → Items ≡ refused c l → W ≡ refused c l
   unfolding then
   gives-refused c l e = S .whole ∙ rw e refl
 
@@ -81,7 +81,7 @@ module _ (W : Answer Value) (T : Table) (r : ℕ → List ℕ → Answer Value) 
     one-unawaited e = gives-unawaited (single-unawaited T r h (S .fuel) j came (S .hand) mode Rest one e)
 
     module _ (x : Placed) (e : next T h j came Rest ≡ some x) where
-      pub one-refused : (c : Cause) (l : ℕ) → r (x .1 .type) Rest ≡ refused c l → W ≡ refused c l
+      pub one-refused : (c : ReadingCause) (l : ℕ) → r (x .1 .type) Rest ≡ refused c l → W ≡ refused c l
       one-refused c l d = gives-refused c l (single-refused T r h (S .fuel) j came (S .hand) mode Rest one x e c l d)
 
       pub one-done : (v : Value) (u : List ℕ) (i n : ℕ) → r (x .1 .type) Rest ≡ got v u → i ≡ cap (length (octets v)) → n ≡ cap (total + i) → Gives u n
@@ -106,7 +106,7 @@ module _ (W : Answer Value) (T : Table) (r : ℕ → List ℕ → Answer Value) 
     pub going-lacking : (u : List ℕ) → Over mode Rest u → lacks h j came ≡ true → W ≡ refused NotAwaited (length Rest)
     going-lacking u end e = gives-refused NotAwaited (length Rest) (items-lacking T r h (S .fuel) j came (S .hand) mode Rest many u end e)
 
-    pub going-broken : (c : Cause) (l : ℕ) → Broken mode Rest c l → W ≡ refused c l
+    pub going-broken : (c : ReadingCause) (l : ℕ) → Broken mode Rest c l → W ≡ refused c l
     going-broken c l end = gives-refused c l (items-broken T r h (S .fuel) j came (S .hand) mode Rest many c l end)
 
     module _ (end : More mode Rest) where
@@ -118,7 +118,7 @@ module _ (W : Answer Value) (T : Table) (r : ℕ → List ℕ → Answer Value) 
 
       -- an item of a part that is left
       module _ (e : remains h j came ≡ true) (x : Placed) (f : next T h j came Rest ≡ some x) where
-        pub going-refused : (c : Cause) (l : ℕ) → r (x .1 .type) Rest ≡ refused c l → W ≡ refused c l
+        pub going-refused : (c : ReadingCause) (l : ℕ) → r (x .1 .type) Rest ≡ refused c l → W ≡ refused c l
         going-refused c l d = gives-refused c l (items-refused T r h (S .fuel) j came (S .hand) mode Rest many end e x f c l d)
 
         pub going-turn : (v : Value) (end i n : ℕ) → r (x .1 .type) Rest ≡ got v (drop end m) → at < end → end ≤ length m → i ≡ cap (length (octets v))
@@ -133,7 +133,7 @@ module _ (W : Answer Value) (T : Table) (r : ℕ → List ℕ → Answer Value) 
               enough = omega (arith, S .enough, length-drop at m, length-drop stop m);
               whole =
                   S .whole
-                  ∙ ap (λ (a : Answer Hand). then a λ hand u. got (assemble h hand) u)
+                  ∙ ap (λ (a : Answer ReadingCause Hand). then a λ hand u. got (assemble h hand) u)
                   (items-turn T r h (S .fuel) j came (S .hand) mode Rest many end e x f v (drop stop m) d
                   ∙ ap (λ (k : ℕ). readItems T r h k (following (manner h) (x .0)) (noted (manner h) came (x .0)) (S .hand ++ ((x .0, v) ∷ [])) mode (drop stop m)) q);
               sized = grown (S .hand) (x .0) v i n (S .sized) g k;

@@ -9,8 +9,8 @@ use mathlib.Core.Path.{_≡_, refl, sym, ap, _∙_}
 use native.Mathlib.Nat.{add-zero}
 use native.Mathlib.Omega.{arith}
 use Prim.Native.Nat.{ℕ, zero, suc, _+_, _-_, _<_}
-use Rattle.octets.specs.declared.cause.Cause.{Cause}
-use Rattle.octets.specs.declared.cause.Cause.the-variants.{NotAwaited, Trailing}
+use Rattle.x690.specs.declared.ReadingCause.{ReadingCause}
+use Rattle.x690.specs.declared.ReadingCause.the-variants.{NotAwaited, Trailing}
 use Rattle.octets.specs.Answer.{Answer, got, refused, then, if}
 use Rattle.octets.specs.Lists.{any}
 use Rattle.octets.proofs.Answer.{got-holds}
@@ -52,7 +52,7 @@ append-none : {A : Type 0} (l : List A) → l ++ [] ≡ l
 append-none [] = refl
 append-none (x ∷ l) = ap (λ (w : List _). x ∷ w) (append-none l)
 
-module _ (T : Table) (r : ℕ → List ℕ → Answer Value) (came : List ℕ) (clear : Clear came) (mode : Mode) (s : List ℕ) where
+module _ (T : Table) (r : ℕ → List ℕ → Answer ReadingCause Value) (came : List ℕ) (clear : Clear came) (mode : Mode) (s : List ℕ) where
   -- at the end of the contents
   module _ (none-begun : (t : ℕ) → begun T t s ≡ false) where
     sequence-over : (u : List ℕ) → Over mode s u → (l : List Member) (j : ℕ) (os : List (Option Value)) (w : Bool)
@@ -65,7 +65,7 @@ module _ (T : Table) (r : ℕ → List ℕ → Answer Value) (came : List ℕ) (
         (λ o. rw o (sequence-over u end l (suc j) (os ++ (none ∷ [])) true ∙ rw (append-snoc os none (nothing l)) refl))
         λ o. rw (o, end) refl)
 
-    sequence-broken : (c : Cause) (k : ℕ) → Broken mode s c k → (l : List Member) (os : List (Option Value)) (w : Bool)
+    sequence-broken : (c : ReadingCause) (k : ℕ) → Broken mode s c k → (l : List Member) (os : List (Option Value)) (w : Bool)
         → readSequence T r l os w mode s ≡ refused c k
     unfolding readSequence if
     sequence-broken c k end [] os w = rw end refl
@@ -77,7 +77,7 @@ module _ (T : Table) (r : ℕ → List ℕ → Answer Value) (came : List ℕ) (
 
   -- where an item follows: the members F, of which those from the j-th on are missing
   module _ (ms : List Member) (F : List (Option Value)) (same : length F ≡ length ms) (end : More mode s) where
-    abbrev Next : Bool → List Member → Option Placed → Answer (List (Option Value))
+    abbrev Next : Bool → List Member → Option Placed → Answer ReadingCause (List (Option Value))
     Next w l none = unwanted (w || some-of l) s
     Next w l (some x) = then (r (x .1 .type) s) λ v s₁. readSequence T r (drop (suc (x .0)) ms) (take (suc (x .0)) (setAt F (x .0) (some v))) false mode s₁
 
@@ -161,7 +161,7 @@ module _ (T : Table) (r : ℕ → List ℕ → Answer Value) (came : List ℕ) (
         λ o. member-missing m l (take j F) w b o ∙ unwanted-any w ∙ ap (Next w (m ∷ l)) (sym (reached-none j m l b o))
 
 -- item by item; r leaves fewer octets than it was given
-module _ (T : Table) (good : Good T) (r : ℕ → List ℕ → Answer Value) (short : Shortens r)
+module _ (T : Table) (good : Good T) (r : ℕ → List ℕ → Answer ReadingCause Value) (short : Shortens r)
     (ms : List Member) (came : List ℕ) (clear : Clear came) (mode : Mode) where
   abbrev H : Holder
   H = inside (Sequence ms)
@@ -169,7 +169,7 @@ module _ (T : Table) (good : Good T) (r : ℕ → List ℕ → Answer Value) (sh
   abbrev Slots : Hand → List (Option Value)
   Slots hand = filled hand (nothing ms)
 
-  abbrev Result : ℕ → ℕ → Hand → List ℕ → Answer (List (Option Value))
+  abbrev Result : ℕ → ℕ → Hand → List ℕ → Answer ReadingCause (List (Option Value))
   Result k j hand s = then (readItems T r H k j came hand mode s) λ hand u. got (Slots hand) u
 
   got-result : (k j : ℕ) (hand : Hand) (s : List ℕ) (x : Hand) (u : List ℕ) → readItems T r H k j came hand mode s ≡ got x u
@@ -177,7 +177,7 @@ module _ (T : Table) (good : Good T) (r : ℕ → List ℕ → Answer Value) (sh
   unfolding then
   got-result k j hand s x u e = rw e refl
 
-  refused-result : (k j : ℕ) (hand : Hand) (s : List ℕ) (c : Cause) (l : ℕ) → readItems T r H k j came hand mode s ≡ refused c l → Result k j hand s ≡ refused c l
+  refused-result : (k j : ℕ) (hand : Hand) (s : List ℕ) (c : ReadingCause) (l : ℕ) → readItems T r H k j came hand mode s ≡ refused c l → Result k j hand s ≡ refused c l
   unfolding then
   refused-result k j hand s c l e = rw e refl
 
@@ -196,7 +196,7 @@ module _ (T : Table) (good : Good T) (r : ℕ → List ℕ → Answer Value) (sh
         let q : take j (Slots hand) ++ nothing (drop j ms) ≡ Slots hand = rw (← nothing-drop j ms, ← rest) (take-append-drop j (Slots hand)) in
         rw (e, q) (sym (got-result (suc k) j hand s hand u (items-over T r H k j came hand mode s refl u end e)))
 
-    at-broken : (c : Cause) (l : ℕ) → getD s 0 0 ≡ 0 → Broken mode s c l
+    at-broken : (c : ReadingCause) (l : ℕ) → getD s 0 0 ≡ 0 → Broken mode s c l
         → readSequence T r (drop j ms) (take j (Slots hand)) false mode s ≡ Result (suc k) j hand s
     unfolding isSingle manner
     at-broken c l z end =
@@ -220,13 +220,13 @@ module _ (T : Table) (good : Good T) (r : ℕ → List ℕ → Answer Value) (sh
     as-long : length (Slots hand) ≡ length ms
     as-long = filled-length hand (nothing ms) ∙ nothing-length ms
 
-    abbrev Then : Placed → Value → List ℕ → Answer (List (Option Value))
+    abbrev Then : Placed → Value → List ℕ → Answer ReadingCause (List (Option Value))
     Then x v s₁ = readSequence T r (drop (suc (x .0)) ms) (take (suc (x .0)) (setAt (Slots hand) (x .0) (some v))) false mode s₁
 
     -- an item of a member
     on-found : (m : Member) (l : List Member) → drop j ms ≡ m ∷ l → (x : Placed)
         → Reached T r came clear mode s ms (Slots hand) as-long end j (drop j ms) ≡ some x
-        → (a : Answer Value) → r (x .1 .type) s ≡ a → then a (Then x) ≡ Result (suc k) j hand s
+        → (a : Answer ReadingCause Value) → r (x .1 .type) s ≡ a → then a (Then x) ≡ Result (suc k) j hand s
     unfolding then isSingle manner partsOf within following noted some-of
     on-found m l e x f (refused c n) d =
         sym (refused-result (suc k) j hand s c n (items-refused T r H k j came hand mode s refl end (some-left (drop j ms) j ∙ ap some-of e) x f c n d))

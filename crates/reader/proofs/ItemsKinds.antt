@@ -7,7 +7,8 @@ use mathlib.Core.Option.{Option, some, none}
 use mathlib.Core.Path.{_≡_, refl, sym, ap, _∙_}
 use native.Mathlib.Omega.{arith}
 use Prim.Native.Nat.{ℕ, zero, suc, _+_, _-_, _≤_}
-use Rattle.octets.specs.declared.cause.Cause.the-variants.{Cut, Trailing}
+use Rattle.x690.specs.declared.ReadingCause.{ReadingCause}
+use Rattle.x690.specs.declared.ReadingCause.the-variants.{Cut, Trailing}
 use Rattle.octets.specs.Answer.{Answer, got, refused, then, if, none-left}
 use Rattle.octets.specs.Lists.{any}
 use Rattle.octets.proofs.Tests.{test}
@@ -30,7 +31,7 @@ values-snoc : (hand : Hand) (x : ℕ × Value) → values (hand ++ (x ∷ [])) �
 values-snoc [] x = refl
 values-snoc (y ∷ hand) x = ap (λ (l : List Value). y .1 ∷ l) (values-snoc hand x)
 
-module _ (T : Table) (r : ℕ → List ℕ → Answer Value) (h : Holder) (t : ℕ) (again : manner h ≡ repeated) (one : partsOf h ≡ optionals (t ∷ [])) (came : List ℕ)
+module _ (T : Table) (r : ℕ → List ℕ → Answer ReadingCause Value) (h : Holder) (t : ℕ) (again : manner h ≡ repeated) (one : partsOf h ≡ optionals (t ∷ [])) (came : List ℕ)
     (clear : getD came 0 0 ≡ 0) (mode : Mode) where
   abbrev Element : Member
   Element = record { type = t; optional = true }
@@ -55,7 +56,7 @@ module _ (T : Table) (r : ℕ → List ℕ → Answer Value) (h : Holder) (t : �
   unfolding some-of
   one-remains = rw its-left refl
 
-  abbrev Result : ℕ → Hand → List ℕ → Answer (List Value)
+  abbrev Result : ℕ → Hand → List ℕ → Answer ReadingCause (List Value)
   Result k hand s = then (readItems T r h k 0 came hand mode s) λ hand u. got (values hand) u
 
   abbrev Agrees : ℕ → Type 0
@@ -79,7 +80,7 @@ module _ (T : Table) (r : ℕ → List ℕ → Answer Value) (h : Holder) (t : �
       unfolding readMany if
       many-begun e = rw (end, e) refl
 
-      on-begun : begun T t s ≡ true → (a : Answer Value) → r t s ≡ a
+      on-begun : begun T t s ≡ true → (a : Answer ReadingCause Value) → r t s ≡ a
           → then a (λ v s₁. readMany T r k t mode (values hand ++ (v ∷ [])) s₁) ≡ Result (suc k) hand s
       unfolding then following noted
       on-begun b (refused c l) e = rw (items-refused T r h k 0 came hand mode s many end one-remains (0, Element) (next-begun b) c l e) refl
@@ -104,11 +105,11 @@ module _ (T : Table) (r : ℕ → List ℕ → Answer Value) (h : Holder) (t : �
   list-items (suc k) hand s = at-ending k hand s (list-items k) (ending mode s)
 
 -- a CHOICE
-module _ (T : Table) (r : ℕ → List ℕ → Answer Value) (came : List ℕ) (clear : Clear came) (s : List ℕ) where
+module _ (T : Table) (r : ℕ → List ℕ → Answer ReadingCause Value) (came : List ℕ) (clear : Clear came) (s : List ℕ) where
   abbrev Begun : Placed → Bool
   Begun x = begun T (x .1 .type) s
 
-  abbrev Chosen : Option Placed → Answer Value
+  abbrev Chosen : Option Placed → Answer ReadingCause Value
   Chosen none = notAwaited s
   Chosen (some x) = then (r (x .1 .type) s) λ v s₁. got (choice (x .0) v) s₁
 
@@ -120,7 +121,7 @@ module _ (T : Table) (r : ℕ → List ℕ → Answer Value) (came : List ℕ) (
       (test (begun T t s) (λ b. rw b refl) λ b. rw b (choose-first ts (suc n)))
 
   module _ (k : ℕ) (mode : Mode) where
-    abbrev Single : Holder → Answer Value
+    abbrev Single : Holder → Answer ReadingCause Value
     Single h = then (readItems T r h (suc k) 0 came [] mode s) λ hand u. got (assemble h hand) u
 
     module _ (h : Holder) (one : manner h ≡ single) where
@@ -131,7 +132,7 @@ module _ (T : Table) (r : ℕ → List ℕ → Answer Value) (came : List ℕ) (
       -- what f makes of the item is the value that is assembled
       single-item : (f : ℕ → Value → Value) → ((p : ℕ) (v : Value) → assemble h ((p, v) ∷ []) ≡ f p v) → (o : Option Placed) → next T h 0 came s ≡ o
           → (x : Placed) → o ≡ some x
-          → (a : Answer Value) → r (x .1 .type) s ≡ a → then a (λ v s₁. got (f (x .0) v) s₁) ≡ Single h
+          → (a : Answer ReadingCause Value) → r (x .1 .type) s ≡ a → then a (λ v s₁. got (f (x .0) v) s₁) ≡ Single h
       unfolding then
       single-item f g o e x d (refused c l) q = rw (single-refused T r h k 0 came [] mode s yes x (e ∙ d) c l q) refl
       single-item f g o e x d (got v u) q = rw (single-done T r h k 0 came [] mode s yes x (e ∙ d) v u q, g (x .0) v) refl
@@ -178,10 +179,10 @@ blank-clear p = zeros 16 p
     zeros (suc n) (suc p) = zeros n p
 
 -- the contents of a kind
-module _ (T : Table) (r : ℕ → List ℕ → Answer Value) where
+module _ (T : Table) (r : ℕ → List ℕ → Answer ReadingCause Value) where
   module _ (mode : Mode) (s : List ℕ) where
     -- what f makes of slots, or of elements
-    through : {A : Type 0} (x : Answer Hand) (g : Hand → A) (f : A → Value) (h : Holder) → ((hand : Hand) → f (g hand) ≡ assemble h hand)
+    through : {A : Type 0} (x : Answer ReadingCause Hand) (g : Hand → A) (f : A → Value) (h : Holder) → ((hand : Hand) → f (g hand) ≡ assemble h hand)
         → then (then x λ hand u. got (g hand) u) (λ a u. got (f a) u) ≡ then x λ hand u. got (assemble h hand) u
     unfolding then
     through (got hand u) g f h e = rw (e hand) refl
@@ -190,7 +191,7 @@ module _ (T : Table) (r : ℕ → List ℕ → Answer Value) where
     pub sequence-held : Good T → Shortens r → (ms : List Member) → readBody T r (Sequence ms) mode s ≡ readHeld T r (inside (Sequence ms)) mode s
     unfolding readBody readHeld assemble filled
     sequence-held good short ms =
-        ap (λ (x : Answer (List (Option Value))). then x λ os u. got (sequence (slots os)) u)
+        ap (λ (x : Answer ReadingCause (List (Option Value))). then x λ os u. got (sequence (slots os)) u)
         (sequence-items T good r short ms blank blank-clear mode (suc (length s)) 0 [] s (omega arith) refl)
         ∙ through (readItems T r (inside (Sequence ms)) (suc (length s)) 0 blank [] mode s)
         (λ hand. filled hand (nothing ms)) (λ os. sequence (slots os)) (inside (Sequence ms)) (λ hand. refl)
@@ -198,7 +199,7 @@ module _ (T : Table) (r : ℕ → List ℕ → Answer Value) where
     pub set-held : (ms : List Member) → length ms ≤ 16 → readBody T r (Set ms) mode s ≡ readHeld T r (inside (Set ms)) mode s
     unfolding readBody readHeld assemble filled
     set-held ms few =
-        ap (λ (x : Answer (List (Option Value))). then x λ os u. got (set (slots os)) u)
+        ap (λ (x : Answer ReadingCause (List (Option Value))). then x λ os u. got (set (slots os)) u)
         (set-items T r ms mode (suc (length s)) blank [] s few (came-none blank blank-clear 0 ms))
         ∙ through (readItems T r (inside (Set ms)) (suc (length s)) 0 blank [] mode s)
         (λ hand. filled hand (nothing ms)) (λ os. set (slots os)) (inside (Set ms)) (λ hand. refl)
@@ -206,7 +207,7 @@ module _ (T : Table) (r : ℕ → List ℕ → Answer Value) where
     pub sequence-of-held : (t : ℕ) → readBody T r (SequenceOf t) mode s ≡ readHeld T r (inside (SequenceOf t)) mode s
     unfolding readBody readHeld assemble manner partsOf
     sequence-of-held t =
-        ap (λ (x : Answer (List Value)). then x λ vs u. got (sequenceOf (bag vs)) u)
+        ap (λ (x : Answer ReadingCause (List Value)). then x λ vs u. got (sequenceOf (bag vs)) u)
         (list-items T r (inside (SequenceOf t)) t refl refl blank (blank-clear 0) mode (suc (length s)) [] s)
         ∙ through (readItems T r (inside (SequenceOf t)) (suc (length s)) 0 blank [] mode s)
         (λ hand. values hand) (λ vs. sequenceOf (bag vs)) (inside (SequenceOf t)) (λ hand. refl)
@@ -214,7 +215,7 @@ module _ (T : Table) (r : ℕ → List ℕ → Answer Value) where
     pub set-of-held : (t : ℕ) → readBody T r (SetOf t) mode s ≡ readHeld T r (inside (SetOf t)) mode s
     unfolding readBody readHeld assemble manner partsOf
     set-of-held t =
-        ap (λ (x : Answer (List Value)). then x λ vs u. got (setOf (bag vs)) u)
+        ap (λ (x : Answer ReadingCause (List Value)). then x λ vs u. got (setOf (bag vs)) u)
         (list-items T r (inside (SetOf t)) t refl refl blank (blank-clear 0) mode (suc (length s)) [] s)
         ∙ through (readItems T r (inside (SetOf t)) (suc (length s)) 0 blank [] mode s)
         (λ hand. values hand) (λ vs. setOf (bag vs)) (inside (SetOf t)) (λ hand. refl)
@@ -229,14 +230,14 @@ module _ (T : Table) (r : ℕ → List ℕ → Answer Value) where
 
   -- and the whole item of a kind
   module _ (good : Good T) (short : Shortens r) (i s : List ℕ) where
-    abbrev Constructed : Body → Answer Value
+    abbrev Constructed : Body → Answer ReadingCause Value
     Constructed b = readConstructed i (readHeld T r (inside b)) s
 
     constructed-held : (b : Body) → ((mode : Mode) (w : List ℕ) → readBody T r b mode w ≡ readHeld T r (inside b) mode w)
         → readConstructed i (readBody T r b) s ≡ Constructed b
-    constructed-held b e = ap (λ (f : Mode → List ℕ → Answer Value). readConstructed i f s) (λ j mode w. e mode w j)
+    constructed-held b e = ap (λ (f : Mode → List ℕ → Answer ReadingCause Value). readConstructed i f s) (λ j mode w. e mode w j)
 
-    abbrev pub Kind : Body → Answer Value → Type 0
+    abbrev pub Kind : Body → Answer ReadingCause Value → Type 0
     Kind (Plain k) x = Unit {0}
     Kind (Sequence ms) x = x ≡ Constructed (Sequence ms)
     Kind (Set ms) x = x ≡ Constructed (Set ms)
@@ -260,10 +261,10 @@ pub message-whole : (T : Table) (n t : ℕ) (mode : Mode) (s : List ℕ)
     then (readHeld T (readValue T n) (message t) mode s) λ v r. if (not (none-left r)) (refused Trailing (length r)) λ _. got v r
 unfolding readMessage if
 message-whole T n t mode s =
-    ap (λ (x : Unit {0} → Answer Value). if (none-left s) (refused Cut 0) x)
-    (λ i _. (regroup (begun T t s) ∙ ap (λ (x : Answer Value). then x Behind) (message-held T (readValue T n) mode s t)) i)
+    ap (λ (x : Unit {0} → Answer ReadingCause Value). if (none-left s) (refused Cut 0) x)
+    (λ i _. (regroup (begun T t s) ∙ ap (λ (x : Answer ReadingCause Value). then x Behind) (message-held T (readValue T n) mode s t)) i)
   where
-    Behind : Value → List ℕ → Answer Value
+    Behind : Value → List ℕ → Answer ReadingCause Value
     Behind v r = if (not (none-left r)) (refused Trailing (length r)) λ _. got v r
 
     regroup : (b : Bool) → if (not b) (notAwaited s) (λ _. then (readValue T n t s) Behind) ≡ then (if (not b) (notAwaited s) λ _. readValue T n t s) Behind

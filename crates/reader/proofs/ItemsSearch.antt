@@ -8,6 +8,7 @@ use mathlib.Core.List.{List, [], _∷_}
 use mathlib.Core.Option.{Option, some, Option·none-ne-some}
 use mathlib.Core.Path.{_≡_, refl, sym, ap, _∙_}
 use Prim.Native.Nat.{ℕ, zero, suc}
+use Rattle.x690.specs.declared.ReadingCause.{ReadingCause}
 use Rattle.octets.specs.Answer.{Answer, got, refused, if}
 use Rattle.octets.specs.Lists.{any}
 use Rattle.octets.specs.Numbers.{Octets}
@@ -76,7 +77,7 @@ module _ (T : Table) (s : List ℕ) where
   unfolding begun passes
   begun-apart t ts h = go (readIdentifier s)
     where
-      go : (x : Answer (List ℕ)) → passes (begins T t) x ≡ true → any (λ u. passes (begins T u) x) ts ≡ false
+      go : (x : Answer ReadingCause (List ℕ)) → passes (begins T t) x ≡ true → any (λ u. passes (begins T u) x) ts ≡ false
       go (got i w) e = h i e
       go (refused c l) e = absurd (true≢false (sym e))
 

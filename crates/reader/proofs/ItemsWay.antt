@@ -9,7 +9,8 @@ use mathlib.Core.List.{List, [], _∷_, List·Memᴰ as In, List·Memᴰ·not-ni
 use mathlib.Core.Path.{_≡_, refl, sym, ap, _∙_}
 use native.Mathlib.Omega.{arith}
 use Prim.Native.Nat.{ℕ, zero, suc, _+_, _-_, _*_, _/_, _%_, _≤_, _<_}
-use Rattle.octets.specs.declared.cause.Cause.the-variants.{MessageLevel}
+use Rattle.x690.specs.declared.ReadingCause.{ReadingCause}
+use Rattle.x690.specs.declared.ReadingCause.the-variants.{MessageLevel}
 use Rattle.octets.specs.Answer.{Answer, got, refused, then, if}
 use Rattle.octets.proofs.Members.{place-in}
 use Rattle.octets.proofs.Tests.{test}
@@ -236,7 +237,7 @@ module _ (T : Table) (n : ℕ) where
 
 -- the value at the end of a way
 wrapped-on : (way : List ℕ) (d j : ℕ) (v : Value) (u : List ℕ)
-    → then (got (choice (0 + j) v) u) (λ v s₁. got (wrapped way d v) s₁) ≡ got (wrapped way d (choice j v)) u
+    → _≡_ {A = Answer ReadingCause Value} (then (got (choice (0 + j) v) u) (λ v s₁. got (wrapped way d v) s₁)) (got (wrapped way d (choice j v)) u)
 unfolding then
 wrapped-on way d j v u = let q : 0 + j ≡ j = omega arith in rw q refl
 
@@ -253,7 +254,7 @@ module _ (T : Table) (F : (t : ℕ) → Fit (T t)) (N : (t : ℕ) → Nested T 1
   miss-begun : (a : ℕ) → searchIn T 129 a code ≡ Nothing → begun T a s ≡ false
   miss-begun a g = known a ∙ ap hit g
 
-  choose-at : (r : ℕ → List ℕ → Answer Value) (ts : List ℕ) (n j : ℕ) → j < length ts → ((i : ℕ) → i < j → searchIn T 129 (getD ts i 0) code ≡ Nothing)
+  choose-at : (r : ℕ → List ℕ → Answer ReadingCause Value) (ts : List ℕ) (n j : ℕ) → j < length ts → ((i : ℕ) → i < j → searchIn T 129 (getD ts i 0) code ≡ Nothing)
       → begun T (getD ts j 0) s ≡ true
       → choose T r ts n s ≡ then (r (getD ts j 0) s) λ v s₁. got (choice (n + j) v) s₁
   unfolding choose if
@@ -280,7 +281,7 @@ module _ (T : Table) (F : (t : ℕ) → Fit (T t)) (N : (t : ℕ) → Nested T 1
       let z = bare-value k x b ∙ choose-at (readValue T k) (siblings (T x .body)) 0 j h m (hit-begun a u e g) in
       rw (q, p)
       (leads-value l u (suc e) y (suc k)
-      ∙ ap (λ (o : Answer Value). then o λ v s₁. got (wrapped way d v) s₁) z
+      ∙ ap (λ (o : Answer ReadingCause Value). then o λ v s₁. got (wrapped way d v) s₁) z
       ∙ then-then (readValue T k a s) (λ v s₁. got (choice (0 + j) v) s₁) (λ v s₁. got (wrapped way d v) s₁)
       ∙ then-same (readValue T k a s) _ _ (λ v s₁ _. wrapped-on way d j v s₁))
 

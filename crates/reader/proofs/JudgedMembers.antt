@@ -10,8 +10,8 @@ use mathlib.Core.Option.{Option, some, none, Option·none-ne-some}
 use mathlib.Core.Path.{_≡_, refl, sym, ap, _∙_}
 use native.Mathlib.Omega.{arith}
 use Prim.Native.Nat.{ℕ, suc, _+_, _-_, _*_, _/_, _≤_, _<_}
-use Rattle.octets.specs.declared.cause.Cause.{Cause}
-use Rattle.octets.specs.declared.cause.Cause.the-variants.{Cut, NotAwaited, Trailing, MessageLevel}
+use Rattle.x690.specs.declared.ReadingCause.{ReadingCause}
+use Rattle.x690.specs.declared.ReadingCause.the-variants.{Cut, NotAwaited, Trailing, MessageLevel}
 use Rattle.octets.specs.Answer.{Answer, got, refused, then, if}
 use Rattle.octets.specs.Numbers.{Octets}
 use Rattle.octets.proofs.Answer.{got-holds}
@@ -121,11 +121,11 @@ module _ (h : Holder) (i : ℕ) (came : List ℕ) where
       λ l. let d : Ends v ≡ Ends u = rw l at e in let q : v ≡ u = cc in (ap (λ (y : ℕ). EndsAt y) q, l)
   ends-over (BrokenBy f) u e = let z : _≡_ {A = ℕ} 0 1 = cc in absurd (omega arith)
 
-  abbrev Stopped : End → Cause → Type 0
+  abbrev Stopped : End → ReadingCause → Type 0
   Stopped x c =
-      ((u : ℕ) × (x ≡ EndsAt u) × (lacks h i came ≡ true) × (c ≡ NotAwaited)) ⊎ ((f : Cause) × (x ≡ BrokenBy f) × (c ≡ f))
+      ((u : ℕ) × (x ≡ EndsAt u) × (lacks h i came ≡ true) × (c ≡ NotAwaited)) ⊎ ((f : ReadingCause) × (x ≡ BrokenBy f) × (c ≡ f))
 
-  ends-stopped : (x : End) (c : Cause) → atEnding h i came x ≡ Stops c → Stopped x c
+  ends-stopped : (x : End) (c : ReadingCause) → atEnding h i came x ≡ Stops c → Stopped x c
   unfolding atEnding if
   ends-stopped GoesOn c e = let z : _≡_ {A = ℕ} 0 1 = cc in absurd (omega arith)
   ends-stopped (EndsAt v) c e =
@@ -158,7 +158,7 @@ module _ (h : Holder) (i : ℕ) (came : List ℕ) where
         (λ q. let d : Item ≡ Ends u = sym (one-stands q) ∙ e in let z : _≡_ {A = ℕ} 0 1 = cc in absurd (omega arith))
         λ q. q
 
-    stopped-many : (c : Cause) → standing h i came x ≡ Stops c → isSingle (manner h) ≡ false
+    stopped-many : (c : ReadingCause) → standing h i came x ≡ Stops c → isSingle (manner h) ≡ false
     stopped-many c e =
         test (isSingle (manner h))
         (λ q. let d : Item ≡ Stops c = sym (one-stands q) ∙ e in let z : _≡_ {A = ℕ} 0 1 = cc in absurd (omega arith))
@@ -173,7 +173,7 @@ pub record Judging (b : List ℕ) (w : ℕ) (m : List ℕ) (indefinite : Bool) (
       (mode indefinite) m at (since (manner (held b w)) j) came total
 
 -- a refusal that an item is not awaited says the same of whatever was to be read
-unfit-alike : {A B : Type 0} (h : Holder) (i : ℕ) (came s : List ℕ) (c : Cause) (l : ℕ) → unfit {A = A} h i came s ≡ refused c l
+unfit-alike : {A B : Type 0} (h : Holder) (i : ℕ) (came s : List ℕ) (c : ReadingCause) (l : ℕ) → unfit {A = A} h i came s ≡ refused c l
     → unfit {A = B} h i came s ≡ refused c l
 unfolding unfit if then
 unfit-alike {A} {B} h i came s c l e =
@@ -183,7 +183,7 @@ unfit-alike {A} {B} h i came s c l e =
     other : notAwaited {A = A} s ≡ refused c l → notAwaited {A = B} s ≡ refused c l
     other d = sym (unawaited-on {A = A} {B = B} s (λ a u. refused Cut 0)) ∙ rw d refl
 
-    trailing : _≡_ {A = Answer A} (refused Trailing (length s)) (refused c l) → _≡_ {A = Answer B} (refused Trailing (length s)) (refused c l)
+    trailing : _≡_ {A = Answer ReadingCause A} (refused Trailing (length s)) (refused c l) → _≡_ {A = Answer ReadingCause B} (refused Trailing (length s)) (refused c l)
     trailing d = let x : Trailing ≡ c = cc in let y : length s ≡ l = cc in rw (← x, ← y) refl
 
 -- where one is found, some are left
@@ -303,16 +303,16 @@ module _ {Q : Setting} (P : Turn Q) where
   abbrev Rest : List ℕ
   Rest = drop (P .at) (P .m)
 
-  abbrev R : ℕ → List ℕ → Answer Value
+  abbrev R : ℕ → List ℕ → Answer ReadingCause Value
   R = readValue (T Q) (P .level)
 
-  abbrev W : Answer Value
+  abbrev W : Answer ReadingCause Value
   W = readHeld (T Q) (readValue (T Q) (P .level)) (H Q) (mode (P .indefinite)) (P .m)
 
   abbrev E : End
   E = endOf (P .indefinite) (length (P .m)) (drop (P .at) (P .m))
 
-  refused-here : (c : Cause) → W ≡ refused c (length Rest) → Refused c (length (P .m) - P .at) ≡ told (P .m) size W
+  refused-here : (c : ReadingCause) → W ≡ refused c (length Rest) → Refused c (length (P .m) - P .at) ≡ told (P .m) size W
   refused-here c x = tell-refused (P .m) size W c (length (P .m) - P .at) (x ∙ ap (refused c) (length-drop (P .at) (P .m)))
 
   total-few : P .total < 16386
@@ -347,7 +347,7 @@ module _ {Q : Setting} (P : Turn Q) where
       (end-over {A = ℕ} (λ z. got 0 z) (λ z. refused Cut 0) (P .m) (P .at) (P .indefinite) E u (P .low) refl a .2) (g .size)
 
   -- that lack a part, or are broken
-  pub judged-stopped : (c : Cause) → P .y ≡ Stops c → Refused c (length (P .m) - P .at) ≡ told (P .m) size W
+  pub judged-stopped : (c : ReadingCause) → P .y ≡ Stops c → Refused c (length (P .m) - P .at) ≡ told (P .m) size W
   unfolding if
   judged-stopped c d = go (ends-stopped (H Q) I (P .came) E c (sym (many-stands (H Q) I (P .came) E N) ∙ sym (P .stands) ∙ d))
     where
@@ -378,7 +378,7 @@ module _ {Q : Setting} (P : Turn Q) where
         λ q. end-more {A = ℕ} (λ z. got 0 z) (λ z. refused Cut 0) (P .m) (P .at) (P .indefinite) E refl (goes-on q) .1
 
     -- of no part that is awaited
-    pub judged-unfit : (way : List ℕ) (c : Cause) (r : Found) → Sought (Q .b) (H Q) I (P .came) (restOf (P .m) (P .at)) way r → r ≡ NotFound c
+    pub judged-unfit : (way : List ℕ) (c : ReadingCause) (r : Found) → Sought (Q .b) (H Q) I (P .came) (restOf (P .m) (P .at)) way r → r ≡ NotFound c
         → Refused c (length (P .m) - P .at) ≡ told (P .m) size W
     unfolding unfit if
     judged-unfit way c r q₀ ec =
@@ -444,7 +444,7 @@ module _ {Q : Setting} {P : Turn Q} (X : Comes P) where
   pub type-below : X .type < 128
   type-below = omega (arith, X .is .there, Q .ready .filled .few)
 
-  part-refused : (c : Cause) (l : ℕ) → R P Type-of (Rest P) ≡ refused c l → W P ≡ refused c l
+  part-refused : (c : ReadingCause) (l : ℕ) → R P Type-of (Rest P) ≡ refused c l → W P ≡ refused c l
   part-refused c l q =
       test (isSingle (manner (H Q)))
       (λ n. one-refused (W P) (T Q) (R P) (H Q) (mode (P .indefinite)) (P .m) (P .at) (I P) (P .came) (P .total) (P .so-far .going) n
@@ -476,7 +476,7 @@ pub record Valued {Q : Setting} {P : Turn Q} (X : Comes P) : Type 0 where
   pub said : r ≡ told (P .m) size (readRecord (T Q) (P .level - X .depth - 1) (recordIn (Q .b) (unpacked (Entry-of X))) (Rest P))
 
 module _ {Q : Setting} {P : Turn Q} {X : Comes P} (Y : Valued X) where
-  abbrev Below : Answer Value
+  abbrev Below : Answer ReadingCause Value
   Below = readValue (T Q) (P .level - X .depth) (X .type) (Rest P)
 
   record-value : readRecord (T Q) (P .level - X .depth - 1) (recordIn (Q .b) (unpacked (Entry-of X))) (Rest P) ≡ Below
@@ -486,7 +486,7 @@ module _ {Q : Setting} {P : Turn Q} {X : Comes P} (Y : Valued X) where
       ∙ value-step (T Q) (P .level - X .depth - 1) (X .type) (Rest P)
       ∙ ap (λ (k : ℕ). readValue (T Q) k (X .type) (Rest P)) (sym q)
 
-  abbrev Through : Answer Value → Answer Value
+  abbrev Through : Answer ReadingCause Value → Answer ReadingCause Value
   Through z = then z λ v u. got (wrapped (X .way) (X .depth) v) u
 
   through-way : R P (Type-of X) (Rest P) ≡ Through Below
@@ -499,7 +499,7 @@ module _ {Q : Setting} {P : Turn Q} {X : Comes P} (Y : Valued X) where
   depth-few = omega (arith, Y .deep, P .levels)
 
   -- and refused
-  pub judged-refused : (c : Cause) (l : ℕ) → Y .r ≡ Refused c l → Refused c l ≡ told (P .m) size (W P)
+  pub judged-refused : (c : ReadingCause) (l : ℕ) → Y .r ≡ Refused c l → Refused c l ≡ told (P .m) size (W P)
   unfolding then
   judged-refused c l q =
       tell-refused (P .m) size (W P) c l (part-refused X c l (through-way ∙ ap Through (told-refused (P .m) size Below (Y .r) is-said c l q)))

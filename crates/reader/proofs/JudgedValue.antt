@@ -9,8 +9,8 @@ use mathlib.Core.Option.{some}
 use mathlib.Core.Path.{_≡_, refl, sym, ap, subst, _∙_}
 use native.Mathlib.Omega.{arith}
 use Prim.Native.Nat.{ℕ, _+_, _-_, _≤_, _<_}
-use Rattle.octets.specs.declared.cause.Cause.{Cause}
-use Rattle.octets.specs.declared.cause.Cause.the-variants.{Cut, Trailing}
+use Rattle.x690.specs.declared.ReadingCause.{ReadingCause}
+use Rattle.x690.specs.declared.ReadingCause.the-variants.{Cut, Trailing}
 use Rattle.octets.specs.Answer.{Answer, got, refused, then, if, behind, none-left}
 use Rattle.octets.proofs.Answer.{refused≢got}
 use Rattle.octets.proofs.Tests.{test}
@@ -85,7 +85,7 @@ string-kind (Time q) e h = absurd (false≢true e)
 
 -- tags that were not opened
 pub value-unopened : {b index : List ℕ} (R : Ready b index) {w : ℕ} (I : IsRecord b index w) (m : List ℕ) (first : ℕ) (ns : List ℕ) (y : Opened)
-    → Opens b (recordOf b w) m first ns y → (c : Cause) (l : ℕ) → y ≡ NotOpened c l → (n : ℕ)
+    → Opens b (recordOf b w) m first ns y → (c : ReadingCause) (l : ℕ) → y ≡ NotOpened c l → (n : ℕ)
     → Refused c l ≡ told m size (readRecord (tableIn b) n (recordOf b w) (drop first m))
 value-unopened {b} R {w} I m first ns y o c l e n =
     tell-refused m size (readRecord (tableIn b) n (recordOf b w) (drop first m)) c l (tags-refused R I m first ns y o c l e n)
@@ -96,7 +96,7 @@ module _ {b index : List ℕ} {w : ℕ} {m : List ℕ} {first level : ℕ} (X : 
   Wanted = told m size (readRecord (tableIn b) level (recordOf b w) (drop first m))
 
   -- a refusal of the item is one of the value
-  under-refused : (c : Cause) (l : ℕ) → Bare X ≡ refused c l → Refused c (l + (length m - X .end)) ≡ Wanted
+  under-refused : (c : ReadingCause) (l : ℕ) → Bare X ≡ refused c l → Refused c (l + (length m - X .end)) ≡ Wanted
   unfolding told
   under-refused c l e =
       rw (
@@ -106,13 +106,13 @@ module _ {b index : List ℕ} {w : ℕ} {m : List ℕ} {first level : ℕ} (X : 
             (X .under .around),
       ) refl
 
-  item-unfit : (c : Cause) → Bare X ≡ refused c (length (Rest X)) → Refused c (length m - X .at) ≡ Wanted
+  item-unfit : (c : ReadingCause) → Bare X ≡ refused c (length (Rest X)) → Refused c (length m - X .at) ≡ Wanted
   item-unfit c e =
       let z : length m - X .at ≡ length (Rest X) + (length m - X .end) = omega (arith, left-part X, X .under .some, X .under .high) in
       rw z (under-refused c (length (Rest X)) e)
 
   pub value-unread : (X .entry .kind ≡ 50 → ⊥) → (z : Length) → z ≡ toldLength (length (Part X)) (readLength (length (Rest X)) (drop (X .from) (Part X)))
-      → (c : Cause) → z ≡ NoLength c → Refused c (length m - X .at) ≡ Wanted
+      → (c : ReadingCause) → z ≡ NoLength c → Refused c (length m - X .at) ≡ Wanted
   value-unread k z az c q =
       item-unfit c (item-unsized X (no-choice X k) c (length (Rest X)) (length-refused (Part X) (X .from) (length (Rest X)) z az c q))
 
@@ -135,7 +135,7 @@ module _ {b index : List ℕ} {w : ℕ} {m : List ℕ} {first level : ℕ} (Y : 
         (length m - Y .item .at) (length m - Y .stop) (C Y))) where
       -- the same in the octets around the item, with what stands behind those
       record Local : Type 0 where
-        answer : Answer Leaf
+        answer : Answer ReadingCause Leaf
         told-so : y ≡ told (C Y) leafSize (behind (length m - Y .item .end) answer)
         reads-so : Bare (Y .item) ≡ leafEnd (C Y) (drop (Y .start) (P Y)) answer
 
@@ -159,11 +159,11 @@ module _ {b index : List ℕ} {w : ℕ} {m : List ℕ} {first level : ℕ} (Y : 
             reads-so = leaf-read Y simple k q;
           }
 
-      pub value-wrong : (c : Cause) (l : ℕ) → y ≡ Refused c l → Refused c l ≡ Wanted (Y .item)
+      pub value-wrong : (c : ReadingCause) (l : ℕ) → y ≡ Refused c l → Refused c l ≡ Wanted (Y .item)
       unfolding behind then
       value-wrong c l d = go (local .answer) (local .reads-so) (told-refused (C Y) leafSize (behind (length m - Y .item .end) (local .answer)) y (local .told-so) c l d)
         where
-          go : (x : Answer Leaf) → Bare (Y .item) ≡ leafEnd (C Y) (drop (Y .start) (P Y)) x → behind (length m - Y .item .end) x ≡ refused c l → Refused c l ≡ Wanted (Y .item)
+          go : (x : Answer ReadingCause Leaf) → Bare (Y .item) ≡ leafEnd (C Y) (drop (Y .start) (P Y)) x → behind (length m - Y .item .end) x ≡ refused c l → Refused c l ≡ Wanted (Y .item)
           go (got x s) r e = refused≢got (sym e)
           go (refused a j) r e =
               let z : a ≡ c = cc in
@@ -184,7 +184,7 @@ module _ {b index : List ℕ} {w : ℕ} {m : List ℕ} {first level : ℕ} (Y : 
               sized = g;
             }
           where
-            its : (z : Answer Leaf) → Bare (Y .item) ≡ leafEnd (C Y) (drop (Y .start) (P Y)) z → (x : Leaf) (s : List ℕ) → behind (length m - Y .item .end) z ≡ got x s
+            its : (z : Answer ReadingCause Leaf) → Bare (Y .item) ≡ leafEnd (C Y) (drop (Y .start) (P Y)) z → (x : Leaf) (s : List ℕ) → behind (length m - Y .item .end) z ≡ got x s
                 → Bare (Y .item) ≡ got (leaf x) (drop (length (C Y) - length s) (drop (Y .start) (P Y)))
             its (got a t) r x s e = let p : a ≡ x = cc in let q : t ≡ s = cc in rw (← p, ← q) r
             its (refused c l) r x s e = refused≢got e
@@ -216,12 +216,12 @@ module _ {b index : List ℕ} {w : ℕ} {m : List ℕ} {first level : ℕ} (Y : 
 
   -- items
   module _ (plain : Y .item .entry .simple ≡ false) where
-    few-left : (c : Cause) (l : ℕ) (x : Answer Value) → Fine Y plain x → x ≡ refused c l → l ≤ length (C Y)
+    few-left : (c : ReadingCause) (l : ℕ) (x : Answer ReadingCause Value) → Fine Y plain x → x ≡ refused c l → l ≤ length (C Y)
     few-left c l (got v u) s q = refused≢got (sym q)
     few-left c l (refused a i) (stops h) q = let z : i ≡ l = cc in omega arith
 
     module _ (y : Judged) (ey : y ≡ told (C Y) size (Held Y plain)) where
-      module _ (c : Cause) (l : ℕ) (d : y ≡ Refused c l) where
+      module _ (c : ReadingCause) (l : ℕ) (d : y ≡ Refused c l) where
         its-refusal : Held Y plain ≡ refused c l
         its-refusal = told-refused (C Y) size (Held Y plain) y ey c l d
 
@@ -262,7 +262,7 @@ module _ {b index : List ℕ} {w : ℕ} {m : List ℕ} {first level : ℕ} (Z : 
   abbrev It : Item b index w m first level
   It = Z .item
 
-  abbrev Behind : ℕ → Answer ℕ
+  abbrev Behind : ℕ → Answer ReadingCause ℕ
   Behind n = got n (drop (Z .stop) (take (It .end) m))
 
   abbrev All-notes : List ℕ
@@ -313,7 +313,7 @@ message-empty T n t (x ∷ m) z = absurd (omega arith)
 module _ (b m : List ℕ) (n t : ℕ) (some : length m ≡ 0 → ⊥) (w : ℕ)
     (q : unpacked w ≡ record { code = 0; own = t; kind = 51; explicit = 0; simple = false })
     (y : Judged) (ey : y ≡ told m size (readHeld (tableIn b) (readValue (tableIn b) n) (held b w) closed m)) where
-  abbrev Root : Answer Value
+  abbrev Root : Answer ReadingCause Value
   Root = readHeld (tableIn b) (readValue (tableIn b) n) (message t) closed m
 
   abbrev Whole : Judged
@@ -330,7 +330,7 @@ module _ (b m : List ℕ) (n t : ℕ) (some : length m ≡ 0 → ⊥) (w : ℕ)
   unfolding if
   its-whole = message-whole (tableIn b) n t closed m ∙ rw (not-none m some) refl
 
-  pub message-refused : (c : Cause) (l : ℕ) → y ≡ Refused c l → Refused c l ≡ Whole
+  pub message-refused : (c : ReadingCause) (l : ℕ) → y ≡ Refused c l → Refused c l ≡ Whole
   unfolding told then
   message-refused c l d = rw (its-whole, told-refused m size Root y its-answer c l d) refl
 
@@ -338,7 +338,7 @@ module _ (b m : List ℕ) (n t : ℕ) (some : length m ≡ 0 → ⊥) (w : ℕ)
     rest-length : (v : Value) (s : List ℕ) → Root ≡ got v s → length s ≤ length m
     rest-length v s x = go (got v s) (rw x at (held-sane (tableIn b) n (message t) closed m)) refl
       where
-        go : (z : Answer Value) → Sane (Closes (tableIn b) n (message t) closed) m z → z ≡ got v s → length s ≤ length m
+        go : (z : Answer ReadingCause Value) → Sane (Closes (tableIn b) n (message t) closed) m z → z ≡ got v s → length s ≤ length m
         go (got a r) (leaves h p) e = let k : r ≡ s = cc in omega (arith, tail-less h, ap length k)
         go (refused c l) h e = refused≢got e
 

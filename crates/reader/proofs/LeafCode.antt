@@ -11,8 +11,8 @@ use borrow.Author.Tests.{not-true, not-false, eqb-true}
 use lib.Dec.{eqb}
 use lib.ListN.{length, getD, take, drop, length-append, length-drop, take-append-drop}
 use lib.Seq.{sets, sets-eq, length-sets, length-take-le, take-at, drop-at}
-use Rattle.octets.specs.declared.cause.Cause.{Cause}
-use Rattle.octets.specs.declared.cause.Cause.the-variants.{Forbidden, Contents}
+use Rattle.x690.specs.declared.ReadingCause.{ReadingCause}
+use Rattle.x690.specs.declared.ReadingCause.the-variants.{Forbidden, Contents}
 use Rattle.octets.specs.Answer.{Answer, got, refused, then, if, behind, none-left}
 use Rattle.octets.specs.Numbers.{octetsOf}
 use Rattle.octets.proofs.Answer.{got-holds}
@@ -23,14 +23,14 @@ use Rattle.x690.specs.Segments.{Kind, bit-string, octet-string, universal, empt
 use Rattle.x690.proofs.BitString.{length-masked}
 use Rattle.x690.proofs.Lengths.{length-sound}
 use Rattle.x690.proofs.Segments.{all-form}
-use Rattle.segments.specs.Segments.{kindOf, unusedIn, carried, toldSegments, Gathers, behind-all, at-end, closes, enters, opens, adds, IsJoined}
+use Rattle.segments.specs.Segments.{kindOf, unusedIn, carried, toldSegments, Gathers, behind-all, at-end, closes, enters, opens, adds, IsJoined, joining, toldJoined}
 use Rattle.ber.specs.Told.{mode}
 use Rattle.segments.specs.declared.Gathered.{Gathered as Extents}
 use Rattle.segments.specs.declared.Joined.{Joined}
 use Rattle.segments.specs.declared.Segments.{Segments}
 use Rattle.segments.specs.declared.Segments.the-variants.{Read as ReadSegments, Refused as NoSegments}
 use Rattle.segments.proofs.Gathering.{all-gathers}
-use Rattle.segments.proofs.JoinCode.{carried-empty, carried-join}
+use Rattle.segments.proofs.JoinCode.{carried-empty, carried-join, join-is}
 use Rattle.segments.proofs.Joining.{empty-few}
 use Rattle.segments.proofs.SegmentCode.{Came, all-came, all-refused}
 use Rattle.ber.proofs.Told.{shape-some}
@@ -102,14 +102,14 @@ is-string b kind own (inr e) =
     })
 
 -- Contents in segments, by what the code answers of those.
-abbrev allIn : ℕ → Bool → List ℕ → Answer Gathered
+abbrev allIn : ℕ → Bool → List ℕ → Answer ReadingCause Gathered
 allIn kind z c = readAll (kindIn kind) (readSegment (kindIn kind) deepest) (mode z) c
 
 module _ (kind : ℕ) (z : Bool) (c : List ℕ) {r : Segments} (a : r ≡ toldSegments (kindIn kind) (length c) (allIn kind z c)) where
-  parts-stop : (f : Cause) (n : ℕ) → r ≡ NoSegments f n → (allIn kind z c ≡ refused f n) × (n ≤ length c)
+  parts-stop : (f : ReadingCause) (n : ℕ) → r ≡ NoSegments f n → (allIn kind z c ≡ refused f n) × (n ≤ length c)
   parts-stop f n e = all-refused (kindIn kind) deepest c r z a f n e
 
-  pub parts-left : (f : Cause) (n : ℕ) → r ≡ NoSegments f n → n ≤ length c
+  pub parts-left : (f : ReadingCause) (n : ℕ) → r ≡ NoSegments f n → n ≤ length c
   parts-left f n e = parts-stop f n e .1
 
   parts-came : (y : Extents) → r ≡ ReadSegments y → Came (kindIn kind) 0 (length (empty (kindIn kind))) c (allIn kind z c) y
@@ -120,7 +120,7 @@ module _ (kind : ℕ) (z : Bool) (c : List ℕ) {r : Segments} (a : r ≡ toldSe
 
   -- l octets are left where the item begins, and j behind c
   module _ (b : List ℕ) (own l j : ℕ) (s : (kind ≡ 3) ⊎ (kind ≡ 4)) where
-    pub parts-refused : (f : Cause) (n : ℕ) → r ≡ NoSegments f n → Refused f (n + j) ≡ told c leafSize (readLeafIn (bodyAt b kind own) true z l j c)
+    pub parts-refused : (f : ReadingCause) (n : ℕ) → r ≡ NoSegments f n → Refused f (n + j) ≡ told c leafSize (readLeafIn (bodyAt b kind own) true z l j c)
     unfolding readLeafIn readLeaf readSegments then behind told
     parts-refused f n e = let I = is-string b kind own s in rw (I .body, I .segments, parts-stop f n e .0) refl
 
@@ -142,7 +142,7 @@ module _ (k : Simple) (c : List ℕ) (l : ℕ) (n : ℕ) (en : n ≡ weight (dec
   unfolding weight
   weight-none z = go (decode k l c []) refl
     where
-      go : (y : Answer Leaf) → decode k l c [] ≡ y → y ≡ refused Contents l
+      go : (y : Answer ReadingCause Leaf) → decode k l c [] ≡ y → y ≡ refused Contents l
       go (got x w) e = let q = rw (decode-moves k l c [] 0 [] x w e) at en in absurd (omega (arith, leaf-three x))
       go (refused a b) e = let (i, j) = rw e at (decode-only k l c []) in rw (i, j) refl
 
@@ -150,7 +150,7 @@ module _ (k : Simple) (c : List ℕ) (l : ℕ) (n : ℕ) (en : n ≡ weight (dec
   unfolding weight
   weight-some z = go (decode k 0 c []) refl
     where
-      go : (y : Answer Leaf) → decode k 0 c [] ≡ y → (x : Leaf) × (decode k l c [] ≡ got x []) × (n ≡ leafSize x)
+      go : (y : Answer ReadingCause Leaf) → decode k 0 c [] ≡ y → (x : Leaf) × (decode k l c [] ≡ got x []) × (n ≡ leafSize x)
       go (got x w) e = (x, decode-moves k 0 c [] l [] x w e, rw e at en)
       go (refused a b) e = absurd (z (rw e at en))
 
@@ -271,13 +271,12 @@ module _ {kind : ℕ} {c : List ℕ} {to : ℕ} (b : List ℕ) (P : ToPlaceLeaf 
 
   -- the code has joined them behind the mark and the kind
   module _ {b₁ b₂ : List ℕ} {x : Joined} (e₁ : b₁ ≡ sets b to (86 ∷ 65 ∷ kind ∷ []))
-      (f : (d w : List ℕ) → Gathers (kindIn kind) 1 (empty (kindIn kind)) c d w → to + 5 + length (carried (kindIn kind) d) ≤ length b₁
-      → IsJoined (kindIn kind) c b₁ (to + 5) d w b₂ x) where
+      (f : let y = joining (kindIn kind) c b₁ (to + 5) in (x ≡ toldJoined (length c) y) × (b₂ ≡ y .buffer)) where
     marked : length b₁ ≡ length b
     marked = ap length e₁ ∙ length-sets b to (86 ∷ 65 ∷ kind ∷ [])
 
     joined : IsJoined (kindIn kind) c b₁ (to + 5) (P .contents) (P .rest) b₂ x
-    joined = f (P .contents) (P .rest) gathered (omega (arith, parts-room, marked))
+    joined = join-is f (P .contents) (P .rest) gathered (omega (arith, parts-room, marked))
 
     pub parts-next : (to + 5 ≤ x .next) × (x .next ≤ length b) × (x .next - (to + 5) < 8192)
     parts-next = let n = joined .next in (omega arith, omega (arith, parts-room), omega (arith, parts-number))

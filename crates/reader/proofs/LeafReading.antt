@@ -8,8 +8,8 @@ use native.Mathlib.Omega.{arith}
 use Prim.Native.Nat.{ℕ, _+_, _-_, _≤_}
 use lib.ListN.{length, take, drop, length-append}
 use lib.Seq.{length-take-le, take-length, drop-append-seam}
-use Rattle.octets.specs.declared.cause.Cause.{Cause}
-use Rattle.octets.specs.declared.cause.Cause.the-variants.{Contents}
+use Rattle.x690.specs.declared.ReadingCause.{ReadingCause}
+use Rattle.x690.specs.declared.ReadingCause.the-variants.{Contents}
 use Rattle.octets.specs.Answer.{Answer, got, refused, then, behind}
 use Rattle.octets.proofs.Answer.{got-holds, if-cases, refused≢got}
 use Rattle.octets.proofs.Lists.{same-refl}
@@ -31,7 +31,7 @@ use Rattle.reader.proofs.Starts.{and-false}
 use Rattle.reader.proofs.Tagging.{own-parts}
 
 -- wrong contents are refused at the item
-abbrev pub Only : ℕ → Answer Leaf → Type 0
+abbrev pub Only : ℕ → Answer ReadingCause Leaf → Type 0
 Only l (got x s) = Unit {0}
 Only l (refused c k) = (c ≡ Contents) × (k ≡ l)
 
@@ -52,14 +52,14 @@ pub decode-moves : (k : Simple) (l : ℕ) (c s : List ℕ) (l₂ : ℕ) (s₂ : 
 decode-moves k l c s l₂ s₂ x w e = content-complete l₂ s₂ (got-holds (content-sound k l c s) e .1)
 
 -- the same contents elsewhere: a leaf, or a refusal at the other item
-pub data Elsewhere (l₂ : ℕ) (s₂ : List ℕ) : Answer Leaf → Answer Leaf → Type 0 where
+pub data Elsewhere (l₂ : ℕ) (s₂ : List ℕ) : Answer ReadingCause Leaf → Answer ReadingCause Leaf → Type 0 where
   leaf-there : {x : Leaf} {s : List ℕ} → Elsewhere l₂ s₂ (got x s) (got x s₂)
   wrong-there : {l : ℕ} → Elsewhere l₂ s₂ (refused Contents l) (refused Contents l₂)
 
 pub decode-elsewhere : (k : Simple) (l : ℕ) (c s : List ℕ) (l₂ : ℕ) (s₂ : List ℕ) → Elsewhere l₂ s₂ (decode k l c s) (decode k l₂ c s₂)
 decode-elsewhere k l c s l₂ s₂ = go (decode k l c s) refl (decode k l₂ c s₂) refl
   where
-    go : (x : Answer Leaf) → decode k l c s ≡ x → (y : Answer Leaf) → decode k l₂ c s₂ ≡ y → Elsewhere l₂ s₂ (decode k l c s) (decode k l₂ c s₂)
+    go : (x : Answer ReadingCause Leaf) → decode k l c s ≡ x → (y : Answer ReadingCause Leaf) → decode k l₂ c s₂ ≡ y → Elsewhere l₂ s₂ (decode k l c s) (decode k l₂ c s₂)
     go (got x w) e y f = rw (e, decode-moves k l c s l₂ s₂ x w e) leaf-there
     go (refused a b) e (got y w) f = refused≢got (sym e ∙ decode-moves k l₂ c s₂ l s y w f)
     go (refused a b) e (refused d i) f =
@@ -68,7 +68,7 @@ decode-elsewhere k l c s l₂ s₂ = go (decode k l c s) refl (decode k l₂ c s
         rw (e, f, p, g, h) wrong-there
 
 -- k octets more behind all
-there : (l₂ : ℕ) (s : List ℕ) {a : Cause} {b : ℕ} (x y : Answer Leaf) → Elsewhere l₂ s x y → x ≡ refused a b → y ≡ refused Contents l₂
+there : (l₂ : ℕ) (s : List ℕ) {a : ReadingCause} {b : ℕ} (x y : Answer ReadingCause Leaf) → Elsewhere l₂ s x y → x ≡ refused a b → y ≡ refused Contents l₂
 there l₂ s x y leaf-there d = refused≢got (sym d)
 there l₂ s x y wrong-there d = refl
 
@@ -76,23 +76,23 @@ decode-shift : (q : Simple) (l n : ℕ) (c s : List ℕ) → decode q (l + n) c 
 unfolding behind
 decode-shift q l n c s = go (decode q l c s) refl
   where
-    go : (x : Answer Leaf) → decode q l c s ≡ x → decode q (l + n) c s ≡ behind n (decode q l c s)
+    go : (x : Answer ReadingCause Leaf) → decode q l c s ≡ x → decode q (l + n) c s ≡ behind n (decode q l c s)
     go (got x w) e = rw e (decode-moves q l c s (l + n) s x w e ∙ ap (got x) (sym (got-holds (content-sound q l c s) e .0)))
     go (refused a b) e =
         let (p, h) = rw e at (decode-only q l c s) in
         there (l + n) s (decode q l c s) (decode q (l + n) c s) (decode-elsewhere q l c s (l + n) s) e ∙ rw (e, p, h) refl
 
-behind-then : {A B : Type 0} (n : ℕ) (x : Answer A) (f : A → List ℕ → Answer B) → behind n (then x f) ≡ then (behind n x) λ a s. behind n (f a s)
+behind-then : {A B : Type 0} (n : ℕ) (x : Answer ReadingCause A) (f : A → List ℕ → Answer ReadingCause B) → behind n (then x f) ≡ then (behind n x) λ a s. behind n (f a s)
 unfolding behind then
 behind-then n (got a s) f = refl
 behind-then n (refused c l) f = refl
 
-behind-twice : {A : Type 0} (j n : ℕ) (x : Answer A) → behind (j + n) x ≡ behind n (behind j x)
+behind-twice : {A : Type 0} (j n : ℕ) (x : Answer ReadingCause A) → behind (j + n) x ≡ behind n (behind j x)
 unfolding behind
 behind-twice j n (got a s) = refl
 behind-twice j n (refused c l) = ap (refused c) (omega arith)
 
-then-shift : (q : Simple) (l j n : ℕ) (x : Answer (List ℕ)) → then (behind (j + n) x) (λ d u. decode q (l + n) d u) ≡ behind n (then (behind j x) λ d u. decode q l d u)
+then-shift : (q : Simple) (l j n : ℕ) (x : Answer ReadingCause (List ℕ)) → then (behind (j + n) x) (λ d u. decode q (l + n) d u) ≡ behind n (then (behind j x) λ d u. decode q l d u)
 unfolding then behind
 then-shift q l j n (got d u) = decode-shift q l n d u
 then-shift q l j n (refused c i) = ap (refused c) (omega arith)
@@ -105,7 +105,7 @@ leaf-shift q false true l j n c = refl
 leaf-shift q false false l j n c = decode-shift q l n c []
 
 -- The value of an item, by what its contents c are read to: they stand at the front of u.
-abbrev pub leafEnd : List ℕ → List ℕ → Answer Leaf → Answer Value
+abbrev pub leafEnd : List ℕ → List ℕ → Answer ReadingCause Leaf → Answer ReadingCause Value
 leafEnd c u x = then x λ v w. got (leaf v) (drop (length c - length w) u)
 
 -- a decoded leaf is followed by what was said to follow
@@ -113,7 +113,7 @@ decode-leaf : (q : Simple) (l : ℕ) (d s t u c : List ℕ) → s ≡ drop (leng
 unfolding then
 decode-leaf q l d s t u c e = by (decode q l d t) refl
   where
-    by : (y : Answer Leaf) → decode q l d t ≡ y → then (decode q l d s) (λ v w. got (leaf v) w) ≡ leafEnd c u (decode q l d t)
+    by : (y : Answer ReadingCause Leaf) → decode q l d t ≡ y → then (decode q l d s) (λ v w. got (leaf v) w) ≡ leafEnd c u (decode q l d t)
     by (got v w) h = let k : w ≡ t = got-holds (content-sound q l d t) h .0 in rw (decode-moves q l d t l s v w h, h, k, e) refl
     by (refused a b) h =
         let (i, j) = rw h at (decode-only q l d t) in
@@ -131,9 +131,9 @@ sizeOf false n = definite n
 
 -- The item of a simple kind with the identifier octets o: its header is read, and u follows it. Of u the n octets in front are the contents, all of
 -- it where 00 00 closes them.
-module _ (T : Table) (f : ℕ → List ℕ → Answer Value) (o : List ℕ) (y : Body) (s : List ℕ) (q : Simple) (ey : y ≡ Plain q) (z : Bool) (n : ℕ) (u v : List ℕ)
+module _ (T : Table) (f : ℕ → List ℕ → Answer ReadingCause Value) (o : List ℕ) (y : Body) (s : List ℕ) (q : Simple) (ey : y ≡ Plain q) (z : Bool) (n : ℕ) (u v : List ℕ)
     (fits : n ≤ length u) (all : z ≡ true → n ≡ length u) where
-  abbrev Read : Bool → Answer Value
+  abbrev Read : Bool → Answer ReadingCause Value
   Read parts = leafEnd (take n u) u (readLeaf q parts z (length s) (length u - n) (take n u))
 
   -- primitive
@@ -155,10 +155,10 @@ module _ (T : Table) (f : ℕ → List ℕ → Answer Value) (o : List ℕ) (y :
 
   -- in segments
   module _ (k : Kind) (ek : segmented q ≡ some k) (e : readIdentifier s ≡ got (inParts o) v) (h : readHeader (inParts o) s ≡ got (sizeOf z n) u) where
-    abbrev All : Mode → List ℕ → Answer Gathered
+    abbrev All : Mode → List ℕ → Answer ReadingCause Gathered
     All m c = readAll k (readSegment k deepest) m c
 
-    abbrev Then : Answer Gathered → Answer Value
+    abbrev Then : Answer ReadingCause Gathered → Answer ReadingCause Value
     Then x = then (then x λ g w. got (g .0) w) λ d w. then (decode q (length s) d w) λ x w₂. got (leaf x) w₂
 
     its-segments : readKind T f o y s ≡ Then (readConstructed (inParts o) All s)
@@ -166,13 +166,13 @@ module _ (T : Table) (f : ℕ → List ℕ → Answer Value) (o : List ℕ) (y :
     its-segments = rw (ey, ek, carried-parts k s o v e) refl
 
     -- contents that 00 00 closes
-    by-mark : (x : Answer Gathered) → All open-ended u ≡ x → Then (All open-ended u) ≡ leafEnd u u (then (behind 0 (then (All open-ended u) λ g w. got (g .0) w)) λ d w. decode q (length s) d w)
+    by-mark : (x : Answer ReadingCause Gathered) → All open-ended u ≡ x → Then (All open-ended u) ≡ leafEnd u u (then (behind 0 (then (All open-ended u) λ g w. got (g .0) w)) λ d w. decode q (length s) d w)
     unfolding then behind
     by-mark (got g w) d = let (p, r) = got-holds (all-rest k deepest open-ended u) d in rw d (decode-leaf q (length s) (g .0) w w u u (rest-at p w u r))
     by-mark (refused c i) d = rw d (ap (refused c) (omega arith))
 
     -- contents of a size
-    by-size : (x : Answer Gathered) → All closed (take n u) ≡ x
+    by-size : (x : Answer ReadingCause Gathered) → All closed (take n u) ≡ x
         → Then (then (behind (length u - n) (All closed (take n u))) λ g w. got g (drop n u))
         ≡ leafEnd (take n u) u (then (behind (length u - n) (then (All closed (take n u)) λ g w. got (g .0) w)) λ d w. decode q (length s) d w)
     unfolding then behind
@@ -204,7 +204,7 @@ unfolding passes ownEither
 parts-read r s v k x y e = rw (e, same-refl (inParts (ownTag r)), x, y) refl
 
 -- by the form of its identifier
-pub form-read : (T : Table) (f : ℕ → List ℕ → Answer Value) (r : Record) (s : List ℕ) (q : Simple) (ey : r .body ≡ Plain q) (z : Bool) (n : ℕ) (u v : List ℕ)
+pub form-read : (T : Table) (f : ℕ → List ℕ → Answer ReadingCause Value) (r : Record) (s : List ℕ) (q : Simple) (ey : r .body ≡ Plain q) (z : Bool) (n : ℕ) (u v : List ℕ)
     → n ≤ length u → (z ≡ true → n ≡ length u) → (i : List ℕ) → readIdentifier s ≡ got i v → {parts : Bool} → Form r i parts → readHeader i s ≡ got (sizeOf z n) u
     → readKind T f (ownTag r) (r .body) s ≡ leafEnd (take n u) u (readLeaf q parts z (length s) (length u - n) (take n u))
 form-read T f r s q ey z n u v fits all i e (as-own o) h = leaf-own T f (ownTag r) (r .body) s q ey z n u v fits all (rw o at e) (rw o at h)
@@ -217,7 +217,7 @@ form-read T f r s q ey z n u v fits all i e (as-parts k x y o) h =
     a-kind (some j) g = (j, refl)
 
 -- an item whose header is refused
-pub form-refused : (T : Table) (f : ℕ → List ℕ → Answer Value) (r : Record) (s : List ℕ) (c : Cause) (l : ℕ) → isChoice (r .body) ≡ false → (i v : List ℕ) → readIdentifier s ≡ got i v
+pub form-refused : (T : Table) (f : ℕ → List ℕ → Answer ReadingCause Value) (r : Record) (s : List ℕ) (c : ReadingCause) (l : ℕ) → isChoice (r .body) ≡ false → (i v : List ℕ) → readIdentifier s ≡ got i v
     → {parts : Bool} → Form r i parts → readHeader i s ≡ refused c l → readKind T f (ownTag r) (r .body) s ≡ refused c l
 form-refused T f r s c l n i v e (as-own o) h = item-refused T f (ownTag r) (r .body) s c l n (own-read r s v (rw o at e)) (rw o at h)
 form-refused T f r s c l n i v e (as-parts k x y o) h = item-in-parts T f (ownTag r) (r .body) s c l (parts-read r s v k x y (rw o at e)) (rw o at h)

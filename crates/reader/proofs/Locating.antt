@@ -8,7 +8,7 @@ use native.Mathlib.Omega.{arith}
 use borrow.Author.Tests.{eqb-true, eqb-false}
 use lib.Dec.{eqb}
 use lib.ListN.{length, getD, drop, set}
-use Rattle.octets.specs.declared.cause.Cause.{Cause}
+use Rattle.x690.specs.declared.ReadingCause.{ReadingCause}
 use Rattle.octets.specs.Answer.{none-left}
 use Rattle.octets.proofs.Tests.{test}
 use Rattle.ber.specs.Skipping.{Skips}
@@ -122,7 +122,7 @@ module _ {b index : List ℕ} (R : Ready b index) {w : ℕ} (known : Known b ind
 
     module _ (more : over ≡ false) (way : List ℕ) (r : Found) (S : Sought b (held b w) (since (manner (held b w)) 0) ns (drop at m) way r) where
       -- no member begins
-      pub located-none : (c : Cause) → r ≡ Refused c → (e : ℕ) (ms : List Member) → held b w ≡ inside (Set ms) → Spotted T ms indefinite m ns e
+      pub located-none : (c : ReadingCause) → r ≡ Refused c → (e : ℕ) (ms : List Member) → held b w ≡ inside (Set ms) → Spotted T ms indefinite m ns e
       located-none c q e ms h =
           let n = (rw q at S) .0 in
           spotted-none T ms indefinite m ns at low (L ms h) (sym over-is ∙ more) (sym (next-is b ns (drop at m) (held b w) ms h) ∙ n) e

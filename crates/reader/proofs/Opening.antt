@@ -12,8 +12,8 @@ use mathlib.Core.Path.{_≡_, refl, sym, ap, subst, _∙_}
 use native.Mathlib.Numerals.{add-one}
 use native.Mathlib.Omega.{arith}
 use Prim.Native.Nat.{ℕ, zero, suc, _+_, _-_, _/_, _%_, _≤_, _<_}
-use Rattle.octets.specs.declared.cause.Cause.{Cause}
-use Rattle.octets.specs.declared.cause.Cause.the-variants.{Cut, Forbidden, NotAwaited}
+use Rattle.x690.specs.declared.ReadingCause.{ReadingCause}
+use Rattle.x690.specs.declared.ReadingCause.the-variants.{Cut, Forbidden, NotAwaited}
 use Rattle.octets.specs.Answer.{Answer, got, refused, then, if, behind, none-left}
 use Rattle.octets.specs.Lists.{same}
 use Rattle.octets.specs.Numbers.{Octets}
@@ -115,19 +115,19 @@ module _ (r : Record) (F : Fit r) where
   either-own j q = rw (eq-eqb (explicitCount r) j (explicit-count ∙ sym q)) (and-true (ownEither (r .body)))
 
 -- contents of a tag: they go on, or they are refused, whatever comes then
-clash : {A : Type 0} (a : A) (s : List ℕ) (c : Cause) (l : ℕ) → _≡_ {A = Answer A} (got a s) (refused c l) → ⊥
+clash : {A : Type 0} (a : A) (s : List ℕ) (c : ReadingCause) (l : ℕ) → _≡_ {A = Answer ReadingCause A} (got a s) (refused c l) → ⊥
 clash a s c l e = let z : _≡_ {A = ℕ} 0 1 = cc in omega arith
 
 module _ (A B : Type 0) (s : List ℕ) (l : ℕ) where
   abbrev Goes : Mode → Type 0
   Goes k =
-      ((x : Unit {0} → Answer A) → atEnd k s (λ _. refused NotAwaited l) x ≡ x tt)
-      × ((y : Unit {0} → Answer B) → atEnd k s (λ _. refused NotAwaited l) y ≡ y tt)
+      ((x : Unit {0} → Answer ReadingCause A) → atEnd k s (λ _. refused NotAwaited l) x ≡ x tt)
+      × ((y : Unit {0} → Answer ReadingCause B) → atEnd k s (λ _. refused NotAwaited l) y ≡ y tt)
 
   abbrev Stops : Mode → Type 0
   Stops k =
-      (c : Cause) × (n : ℕ) × ((x : Unit {0} → Answer A) → atEnd k s (λ _. refused NotAwaited l) x ≡ refused c n)
-      × ((y : Unit {0} → Answer B) → atEnd k s (λ _. refused NotAwaited l) y ≡ refused c n)
+      (c : ReadingCause) × (n : ℕ) × ((x : Unit {0} → Answer ReadingCause A) → atEnd k s (λ _. refused NotAwaited l) x ≡ refused c n)
+      × ((y : Unit {0} → Answer ReadingCause B) → atEnd k s (λ _. refused NotAwaited l) y ≡ refused c n)
 
   either : (k : Mode) → Goes k ⊎ Stops k
   unfolding atEnd if
@@ -141,7 +141,7 @@ module _ (A B : Type 0) (s : List ℕ) (l : ℕ) where
       λ g. inr (Forbidden, length s, (λ x. rw (a, d, f, g) refl), λ y. rw (a, d, f, g) refl))
       λ d. inl ((λ x. rw (a, d) refl), λ y. rw (a, d) refl)
 
-going : {B : Type 0} (k : Mode) (s u : List ℕ) (l : ℕ) → atEnd k s (λ _. refused NotAwaited l) (λ _. got u s) ≡ got u s → (y : Unit {0} → Answer B)
+going : {B : Type 0} (k : Mode) (s u : List ℕ) (l : ℕ) → atEnd k s (λ _. refused NotAwaited l) (λ _. got u s) ≡ got u s → (y : Unit {0} → Answer ReadingCause B)
     → atEnd k s (λ _. refused NotAwaited l) y ≡ y tt
 going {B} k s u l e y = go (either (List ℕ) B s l k)
   where
@@ -149,12 +149,12 @@ going {B} k s u l e y = go (either (List ℕ) B s l k)
     go (inl h) = h .1 y
     go (inr h) = absurd (clash u s (h .0) (h .1) (sym e ∙ h .2 (λ _. got u s)))
 
-stopping : {B : Type 0} (k : Mode) (s u : List ℕ) (l : ℕ) (c : Cause) (n : ℕ)
-    → atEnd k s (λ _. refused NotAwaited l) (λ _. got u s) ≡ refused c n → (y : Unit {0} → Answer B)
+stopping : {B : Type 0} (k : Mode) (s u : List ℕ) (l : ℕ) (c : ReadingCause) (n : ℕ)
+    → atEnd k s (λ _. refused NotAwaited l) (λ _. got u s) ≡ refused c n → (y : Unit {0} → Answer ReadingCause B)
     → atEnd k s (λ _. refused NotAwaited l) y ≡ refused c n
 stopping {B} k s u l c n e y = go (either (List ℕ) B s l k)
   where
-    same-refusal : (a : Cause) (b : ℕ) (p : Cause) (q : ℕ) → _≡_ {A = Answer (List ℕ)} (refused a b) (refused p q) → _≡_ {A = Answer B} (refused a b) (refused p q)
+    same-refusal : (a : ReadingCause) (b : ℕ) (p : ReadingCause) (q : ℕ) → _≡_ {A = Answer ReadingCause (List ℕ)} (refused a b) (refused p q) → _≡_ {A = Answer ReadingCause B} (refused a b) (refused p q)
     same-refusal a b p q z = let v : a ≡ p = cc in let w : b ≡ q = cc in rw (v, w) refl
 
     go : Goes (List ℕ) B s l k ⊎ Stops (List ℕ) B s l k → atEnd k s (λ _. refused NotAwaited l) y ≡ refused c n
@@ -162,36 +162,36 @@ stopping {B} k s u l c n e y = go (either (List ℕ) B s l k)
     go (inr h) = h .3 y ∙ same-refusal (h .0) (h .1) c n (sym (h .2 (λ _. got u s)) ∙ e)
 
 -- the tag's item, where y is what was read of its contents
-unfoldable sealed : {A : Type 0} → List ℕ → ℕ → ℕ → Bool → Answer A → Answer A
+unfoldable sealed : {A : Type 0} → List ℕ → ℕ → ℕ → Bool → Answer ReadingCause A → Answer ReadingCause A
 sealed m outer inner true y = y
 sealed m outer inner false y = then (behind (outer - inner) y) λ v r. got v (drop inner (take outer m))
 
-sealed-shut : {A : Type 0} (m : List ℕ) (outer inner : ℕ) (k : Bool) (x : Answer A) → sealed m outer inner k (ended (mode k) x) ≡ shut m outer inner k x
+sealed-shut : {A : Type 0} (m : List ℕ) (outer inner : ℕ) (k : Bool) (x : Answer ReadingCause A) → sealed m outer inner k (ended (mode k) x) ≡ shut m outer inner k x
 unfolding sealed shut
 sealed-shut m outer inner true x = refl
 sealed-shut m outer inner false x = refl
 
-sealed-refused : {A : Type 0} (m : List ℕ) (outer inner : ℕ) (k : Bool) (c : Cause) (l : ℕ) → (k ≡ true → inner ≡ outer)
+sealed-refused : {A : Type 0} (m : List ℕ) (outer inner : ℕ) (k : Bool) (c : ReadingCause) (l : ℕ) → (k ≡ true → inner ≡ outer)
     → sealed {A = A} m outer inner k (refused c l) ≡ refused c (l + (outer - inner))
 unfolding sealed then behind
 sealed-refused m outer inner true c l o = let q : l ≡ l + (outer - inner) = omega (arith, o refl) in ap (refused c) q
 sealed-refused m outer inner false c l o = refl
 
 -- a string whose header is refused, in whole or in segments
-carried-refused : (k : Option Kind) (o s : List ℕ) (c : Cause) (l : ℕ) → (inEither k && heads (inParts o) s) ≡ false → readHeader o s ≡ refused c l
+carried-refused : (k : Option Kind) (o s : List ℕ) (c : ReadingCause) (l : ℕ) → (inEither k && heads (inParts o) s) ≡ false → readHeader o s ≡ refused c l
     → readCarried k o s ≡ refused c l
 unfolding readCarried readPrimitive then if
 carried-refused none o s c l p e = rw e refl
 carried-refused (some k) o s c l p e = rw (p, e) refl
 
-parts-refused : (k : Option Kind) (o s : List ℕ) (c : Cause) (l : ℕ) → (inEither k && heads (inParts o) s) ≡ true → readHeader (inParts o) s ≡ refused c l
+parts-refused : (k : Option Kind) (o s : List ℕ) (c : ReadingCause) (l : ℕ) → (inEither k && heads (inParts o) s) ≡ true → readHeader (inParts o) s ≡ refused c l
     → readCarried k o s ≡ refused c l
 unfolding readCarried readConstructed then if
 parts-refused none o s c l p e = absurd (false≢true p)
 parts-refused (some k) o s c l p e = rw (p, e) refl
 
 -- an item whose header is refused
-pub item-refused : (T : Table) (f : ℕ → List ℕ → Answer Value) (o : List ℕ) (y : Body) (s : List ℕ) (c : Cause) (l : ℕ)
+pub item-refused : (T : Table) (f : ℕ → List ℕ → Answer ReadingCause Value) (o : List ℕ) (y : Body) (s : List ℕ) (c : ReadingCause) (l : ℕ)
     → isChoice y ≡ false → (ownEither y && heads (inParts o) s) ≡ false → readHeader o s ≡ refused c l → readKind T f o y s ≡ refused c l
 unfolding readKind readConstructed then isChoice ownEither
 item-refused T f o (Plain k) s c l n p e = rw (carried-refused (segmented k) o s c l p e) refl
@@ -201,7 +201,7 @@ item-refused T f o (SequenceOf u) s c l n p e = rw e refl
 item-refused T f o (SetOf u) s c l n p e = rw e refl
 item-refused T f o (Choice ts) s c l n p e = absurd (true≢false n)
 
-pub item-in-parts : (T : Table) (f : ℕ → List ℕ → Answer Value) (o : List ℕ) (y : Body) (s : List ℕ) (c : Cause) (l : ℕ)
+pub item-in-parts : (T : Table) (f : ℕ → List ℕ → Answer ReadingCause Value) (o : List ℕ) (y : Body) (s : List ℕ) (c : ReadingCause) (l : ℕ)
     → (ownEither y && heads (inParts o) s) ≡ true → readHeader (inParts o) s ≡ refused c l → readKind T f o y s ≡ refused c l
 unfolding readKind then ownEither
 item-in-parts T f o (Plain k) s c l p e = rw (parts-refused (segmented k) o s c l p e) refl
@@ -211,18 +211,18 @@ item-in-parts T f o (SequenceOf u) s c l p e = absurd (false≢true p)
 item-in-parts T f o (SetOf u) s c l p e = absurd (false≢true p)
 item-in-parts T f o (Choice ts) s c l p e = absurd (false≢true p)
 
-wrapped-refused : {A : Type 0} (i : List ℕ) (is : List (List ℕ)) (r : List ℕ → Answer A) (s : List ℕ) (c : Cause) (l : ℕ) → readHeader i s ≡ refused c l
+wrapped-refused : {A : Type 0} (i : List ℕ) (is : List (List ℕ)) (r : List ℕ → Answer ReadingCause A) (s : List ℕ) (c : ReadingCause) (l : ℕ) → readHeader i s ≡ refused c l
     → readWrapped (i ∷ is) r s ≡ refused c l
 unfolding readWrapped readConstructed then
 wrapped-refused i is r s c l e = rw e refl
 
-header-none : (b : Bool) (i s : List ℕ) (c : Cause)
+header-none : (b : Bool) (i s : List ℕ) (c : ReadingCause)
     → then (readIdentifier s) (λ j u. if (sentAs b i j) (got j u) λ _. refused NotAwaited (length s)) ≡ refused c (length s)
     → (readHeader i s ≡ refused c (length s)) × ((b && heads (inParts i) s) ≡ false)
 unfolding readHeader then if passes
 header-none b i s c e = go (readIdentifier s) e
   where
-    go : (x : Answer (List ℕ)) → then x (λ j u. if (sentAs b i j) (got j u) λ _. refused NotAwaited (length s)) ≡ refused c (length s)
+    go : (x : Answer ReadingCause (List ℕ)) → then x (λ j u. if (sentAs b i j) (got j u) λ _. refused NotAwaited (length s)) ≡ refused c (length s)
         → (then x (λ j u. if (not (same i j)) (refused NotAwaited (length s)) λ _. readLength (length s) u) ≡ refused c (length s))
         × ((b && passes (same (inParts i)) x) ≡ false)
     go (got j u) e =
@@ -341,13 +341,13 @@ module _ (b : List ℕ) (r : Record) (F : Fit r) (m : List ℕ) (om : Octets m) 
       under : (n : ℕ) → readRecord (tableIn b) n r (drop first m) ≡ closing m (take j notes) end (readWrapped (Id ∷ Rest) (readBare b n r) (drop at P))
       under n = S .whole n ∙ ap (λ (z : List (List ℕ)). closing m (take j notes) end (readWrapped z (readBare b n r) (drop at P))) (wraps-at j l)
 
-      refused-all : (c : Cause) (k n₁ : ℕ) (ns : List ℕ) → ((n : ℕ) → readWrapped (Id ∷ Rest) (readBare b n r) (drop at P) ≡ refused c k)
+      refused-all : (c : ReadingCause) (k n₁ : ℕ) (ns : List ℕ) → ((n : ℕ) → readWrapped (Id ∷ Rest) (readBare b n r) (drop at P) ≡ refused c k)
           → k + (length m - end) ≡ n₁ → n₁ ≤ length m → Opens b r m first ns (NotOpened c n₁)
       refused-all c k n₁ ns e q h =
           (h, λ n. under n ∙ ap (closing m (take j notes) end) (e n) ∙ closing-refused m (length m) (take j notes) end c k (S .around) ∙ ap (refused c) q)
 
       module _ (z : Length) (az : (k : ℕ) → z ≡ toldLength (length P) (readLength k (drop from P))) where
-        pub open-unread : (c : Cause) → z ≡ NoLength c → (ns : List ℕ)
+        pub open-unread : (c : ReadingCause) → z ≡ NoLength c → (ns : List ℕ)
             → Opens b r m first ns (NotOpened c (length m - at))
         open-unread c q ns =
             let k = length (drop at P) in
@@ -374,10 +374,10 @@ module _ (b : List ℕ) (r : Record) (F : Fit r) (m : List ℕ) (om : Octets m) 
           size-inside : length U ≡ x .end - x .start
           size-inside = length-drop (x .start) (take (x .end) m) ∙ ap (λ (i : ℕ). i - x .start) (length-take-le (x .end) m (omega (arith, extent .2, S .high)))
 
-          abbrev Contents : Answer Value → Answer Value
+          abbrev Contents : Answer ReadingCause Value → Answer ReadingCause Value
           Contents y = atEnd (mode (x .indefinite)) U (λ _. refused NotAwaited (length U)) λ _. ended (mode (x .indefinite)) y
 
-          tag-inside : (f : List ℕ → Answer Value) → readWrapped (Id ∷ Rest) f (drop at P) ≡ sealed m end (x .end) (x .indefinite) (Contents (readWrapped Rest f U))
+          tag-inside : (f : List ℕ → Answer ReadingCause Value) → readWrapped (Id ∷ Rest) f (drop at P) ≡ sealed m end (x .end) (x .indefinite) (Contents (readWrapped Rest f U))
           unfolding readWrapped readConstructed then inside sealed ended
           tag-inside f =
               test (x .indefinite)
@@ -395,7 +395,7 @@ module _ (b : List ℕ) (r : Record) (F : Fit r) (m : List ℕ) (om : Octets m) 
               rw (header-is, y .0, t, a, d, h) refl
 
           -- the identifier that is awaited next
-          rest-refused : (c : Cause) → AwaitsTag r (suc j) U (NoTag c) → (n : ℕ) → readWrapped Rest (readBare b n r) U ≡ refused c (length U)
+          rest-refused : (c : ReadingCause) → AwaitsTag r (suc j) U (NoTag c) → (n : ℕ) → readWrapped Rest (readBare b n r) U ≡ refused c (length U)
           unfolding readWrapped
           rest-refused c (no-tag w e) n =
               test (ltb (suc j) Count)
@@ -412,7 +412,7 @@ module _ (b : List ℕ) (r : Record) (F : Fit r) (m : List ℕ) (om : Octets m) 
               ap (λ (a : List (List ℕ)). readWrapped a (readBare b n r) U) (ap (λ (i : ℕ). drop i (explicit r)) k ∙ drop-length (explicit r))
               ∙ item-refused (tableIn b) _ (ownTag r) (r .body) U c (length U) v p y
 
-          no-entry : (c : Cause) → EntersTag r (suc j) U (x .indefinite) (NoTag c) → (n : ℕ)
+          no-entry : (c : ReadingCause) → EntersTag r (suc j) U (x .indefinite) (NoTag c) → (n : ℕ)
               → Contents (readWrapped Rest (readBare b n r) U) ≡ refused c (length U)
           unfolding ended then
           no-entry c (goes-on g h a) n =
@@ -436,7 +436,7 @@ module _ (b : List ℕ) (r : Record) (F : Fit r) (m : List ℕ) (om : Octets m) 
                 let ep = slice-is (x .start) (x .end) m (extent .1) (omega (arith, extent .2, S .high)) in
                 rw (q, ep, e) at E
 
-            pub open-refused : (c : Cause) → y ≡ NoTag c → (ns : List ℕ) → Opens b r m first ns (NotOpened c (length m - x .start))
+            pub open-refused : (c : ReadingCause) → y ≡ NoTag c → (ns : List ℕ) → Opens b r m first ns (NotOpened c (length m - x .start))
             open-refused c e ns =
                 let k = length U + (end - x .end) in
                 refused-all c k (length m - x .start) ns

@@ -10,8 +10,8 @@ use borrow.Author.Tests.{lt-ltb, le-ltb, le-leb, lt-leb}
 use lib.Dec.{ltb, leb}
 use lib.ListN.{length, take, drop}
 use lib.Seq.{sets, sets-eq}
-use Rattle.octets.specs.declared.cause.Cause.{Cause}
-use Rattle.octets.specs.declared.cause.Cause.the-variants.{NoType, MessageLength, Trailing, ValueRoom}
+use Rattle.x690.specs.declared.ReadingCause.{ReadingCause}
+use Rattle.x690.specs.declared.ReadingCause.the-variants.{Trailing}
 use Rattle.octets.specs.Answer.{Answer, got, refused, then, if, none-left}
 use Rattle.octets.proofs.Answer.{run, refused≢got}
 use Rattle.octets.proofs.Tests.{test}
@@ -22,11 +22,14 @@ use Rattle.table.specs.Passes.{Passes}
 use Rattle.records.specs.Entries.{Filled}
 use Rattle.coding.specs.Value.{Value, octets}
 use Rattle.coding.specs.Reading.{readValue, readMessage}
+use Rattle.coding.specs.declared.TableCause.the-variants.{Unknown}
+use Rattle.coding.specs.declared.MessageCause.the-variants.{MessageLength, ValueRoom}
+use Rattle.coding.specs.Outcome.{messageCause}
 use Rattle.coding.specs.Calls.{afterReading, readOutcome}
 use Rattle.coding.specs.declared.Refusal.the-variants.{Table as of-table, Message as of-message}
 use Rattle.coding.specs.declared.Answer.the-variants.{Done as done, Refused as refusal}
 use Rattle.coding.proofs.Checked.{Says}
-use Rattle.coding.proofs.Refusals.{Speaks, answers, names, message-says}
+use Rattle.coding.proofs.Refusals.{Within, answers, names, message-says}
 use Rattle.reader.specs.Answers.{cap, told, size}
 use Rattle.reader.specs.Items.{message, readHeld}
 use Rattle.reader.specs.Records.{Ready}
@@ -47,21 +50,21 @@ accepted-held T n t m v w e =
     let z = sym (message-whole T n t (mode false) m) ∙ e in
     test (none-left m) (λ y. absurd (refused≢got (rw y at z))) λ y. go (readHeld T (readValue T n) (message t) (mode false) m) (rw y at z)
   where
-    go : (x : Answer Value) → then x (λ a r. if (not (none-left r)) (refused Trailing (length r)) λ _. got a r) ≡ got v w → x ≡ got v w
+    go : (x : Answer ReadingCause Value) → then x (λ a r. if (not (none-left r)) (refused Trailing (length r)) λ _. got a r) ≡ got v w → x ≡ got v w
     go (got a r) z = test (none-left r) (λ y. rw y at z) λ y. absurd (refused≢got (rw y at z))
     go (refused c l) z = absurd (refused≢got z)
 
 -- the place of a refusal lies in the message
-speaks-low : {K : Cause → Type 0} {n : ℕ} (x : Answer Value) → Speaks K n x → (c : Cause) (l : ℕ) → x ≡ refused c l → l ≤ n
-speaks-low (got a r) answers c l e = absurd (refused≢got (sym e))
-speaks-low (refused d k) (names h i) c l e = let q : k ≡ l = cc in omega arith
+within-low : {n : ℕ} (x : Answer ReadingCause Value) → Within n x → (c : ReadingCause) (l : ℕ) → x ≡ refused c l → l ≤ n
+within-low (got a r) answers c l e = absurd (refused≢got (sym e))
+within-low (refused d k) (names h) c l e = let q : k ≡ l = cc in omega arith
 
 module _ (T : Table) (n t : ℕ) (m buf : List ℕ) where
-  pub out-type : n ≤ t → Says (readOutcome T n t m buf) (refusal (of-table NoType 0)) buf
+  pub out-type : n ≤ t → Says (readOutcome T n t m buf) (refusal (of-table Unknown)) buf
   unfolding readOutcome
   out-type h = let e : ltb t n ≡ false = le-ltb t n h in (simp (run, e), simp (run, e))
 
-  pub out-long : t < n → 8192 < length m → Says (readOutcome T n t m buf) (refusal (of-message MessageLength 0)) buf
+  pub out-long : t < n → 8192 < length m → Says (readOutcome T n t m buf) (refusal (of-message (MessageLength 0))) buf
   unfolding readOutcome
   out-long h l =
       let e : ltb t n ≡ true = lt-ltb t n h in
@@ -69,20 +72,20 @@ module _ (T : Table) (n t : ℕ) (m buf : List ℕ) where
       (simp (run, e, f), simp (run, e, f))
 
 module _ (T : Table) (t : ℕ) (m : List ℕ) (r : Judged) (p : r ≡ told m size (readMessage T 24 t m)) where
-  pub refused-within : (c : Cause) (l : ℕ) → r ≡ Refused c l → l ≤ length m
+  pub refused-within : (c : ReadingCause) (l : ℕ) → r ≡ Refused c l → l ≤ length m
   refused-within c l e =
-      speaks-low (readMessage T 24 t m) (message-says T 24 t m) c l (told-refused m size (readMessage T 24 t m) r p c l e)
+      within-low (readMessage T 24 t m) (message-says T 24 t m) c l (told-refused m size (readMessage T 24 t m) r p c l e)
 
   module _ (n : ℕ) (buf : List ℕ) (h : t < n) (l : length m ≤ 8192) where
     -- the outcome once the message is read
-    whole : (x : Answer Value) → readMessage T 24 t m ≡ x → readOutcome T n t m buf ≡ afterReading m buf x
+    whole : (x : Answer ReadingCause Value) → readMessage T 24 t m ≡ x → readOutcome T n t m buf ≡ afterReading m buf x
     unfolding readOutcome
     whole x q =
         let e : ltb t n ≡ true = lt-ltb t n h in
         let f : leb (length m) 8192 ≡ true = le-leb (length m) 8192 l in
         simp (run, e, f, q)
 
-    pub out-refused : (c : Cause) (i : ℕ) → r ≡ Refused c i → Says (readOutcome T n t m buf) (refusal (of-message c (length m - i))) buf
+    pub out-refused : (c : ReadingCause) (i : ℕ) → r ≡ Refused c i → Says (readOutcome T n t m buf) (refusal (of-message (messageCause c (length m - i)))) buf
     unfolding afterReading
     out-refused c i e =
         let o = whole (refused c i) (told-refused m size (readMessage T 24 t m) r p c i e) in
@@ -99,17 +102,17 @@ module _ (T : Table) (t : ℕ) (m : List ℕ) (r : Judged) (p : r ≡ told m siz
       accepted : Accepted
       accepted = let (v, w, x, _, y) = told-done m size (readMessage T 24 t m) r p e s d in record { value = v; rest = w; is = x; size = y }
 
-      lacks : min 16384 (length buf) < size (accepted .value) → Says (readOutcome T n t m buf) (refusal (of-message ValueRoom 0)) buf
+      lacks : min 16384 (length buf) < size (accepted .value) → Says (readOutcome T n t m buf) (refusal (of-message ValueRoom)) buf
       unfolding afterReading
       lacks k =
           let o = whole (got (accepted .value) (accepted .rest)) (accepted .is) in
           let f : leb (size (accepted .value)) (min 16384 (length buf)) ≡ false = lt-leb _ _ k in
           (rw o (simp (run, f)), rw o (simp (run, f)))
 
-      pub out-over : 16384 < s → Says (readOutcome T n t m buf) (refusal (of-message ValueRoom 0)) buf
+      pub out-over : 16384 < s → Says (readOutcome T n t m buf) (refusal (of-message ValueRoom)) buf
       out-over k = lacks (omega (arith, accepted .size))
 
-      pub out-room : s ≤ 16384 → length buf < s → Says (readOutcome T n t m buf) (refusal (of-message ValueRoom 0)) buf
+      pub out-room : s ≤ 16384 → length buf < s → Says (readOutcome T n t m buf) (refusal (of-message ValueRoom)) buf
       out-room j k = lacks (omega (arith, accepted .size))
 
       module _ (j : s ≤ 16384) (k : s ≤ length buf) where

@@ -5,6 +5,7 @@ use mathlib.Core.List.{List, [], _∷_}
 use mathlib.Core.Option.{Option}
 use mathlib.Core.Path.{_≡_, sym, _∙_}
 use Prim.Native.Nat.{ℕ, zero, suc}
+use Rattle.x690.specs.declared.ReadingCause.{ReadingCause}
 use Rattle.octets.specs.Answer.{Answer, got, refused}
 use Rattle.octets.proofs.Answer.{Holds, got-holds, refused≢got}
 use Rattle.octets.specs.Lists.{same}
@@ -50,6 +51,6 @@ value-begun T good (suc n) t s v w e =
     let z : Holds (λ (a : Value) (u : List ℕ). ⊥) (notAwaited s) = not-awaited s in
     absurd (got-holds z (sym x ∙ e))
   where
-    go : (x : Answer (List ℕ)) → passes (λ j. beginsItem (λ a. begins T a j) j (explicit (T t)) (ownTag (T t)) (T t .body)) x ≡ true → passes (begins T t) x ≡ true
+    go : (x : Answer ReadingCause (List ℕ)) → passes (λ j. beginsItem (λ a. begins T a j) j (explicit (T t)) (ownTag (T t)) (T t .body)) x ≡ true → passes (begins T t) x ≡ true
     go (got i u) q = good t .begin i (begins-so T i (explicit (T t)) (ownTag (T t)) (T t .body) q)
     go (refused c l) q = q

@@ -7,7 +7,7 @@ use mathlib.Core.Path.{_≡_}
 use Prim.Native.Nat.{ℕ, zero, suc, _+_, _-_, _≤_}
 use native.Mathlib.Omega.{arith}
 use lib.ListN.{take}
-use Rattle.octets.specs.declared.cause.Cause.{Cause}
+use Rattle.x690.specs.declared.ReadingCause.{ReadingCause}
 use Rattle.octets.specs.Answer.{Answer, got, refused, then, if, behind}
 use Rattle.octets.proofs.Answer.{refused≢got}
 use Rattle.x690.specs.Reading.{Size, definite, indefinite, Mode, closed, open-ended, atEnd, inside, readConstructed}
@@ -18,60 +18,60 @@ use Rattle.coding.specs.Reading.{nothing, readWrapped, readSequence, placeMembe
 use Rattle.coding.specs.Reading.{readKind, readValue}
 
 -- the second answer is the first, if that is no refusal
-pub data Kept {A : Type 0} : Answer A → Answer A → Type 0 where
-  same : {x : Answer A} → Kept x x
-  refusal : {c : Cause} {l : ℕ} {y : Answer A} → Kept (refused c l) y
+pub data Kept {A : Type 0} : Answer ReadingCause A → Answer ReadingCause A → Type 0 where
+  same : {x : Answer ReadingCause A} → Kept x x
+  refusal : {c : ReadingCause} {l : ℕ} {y : Answer ReadingCause A} → Kept (refused c l) y
 
-pub kept-got : {A : Type 0} {x y : Answer A} {a : A} {w : List ℕ} → Kept x y → x ≡ got a w → y ≡ got a w
+pub kept-got : {A : Type 0} {x y : Answer ReadingCause A} {a : A} {w : List ℕ} → Kept x y → x ≡ got a w → y ≡ got a w
 kept-got same e = e
 kept-got refusal e = refused≢got e
 
 module _ {A B : Type 0} where
-  then-kept : {x y : Answer A} {f g : A → List ℕ → Answer B} → Kept x y → ((a : A) (w : List ℕ) → Kept (f a w) (g a w)) → Kept (then x f) (then y g)
+  then-kept : {x y : Answer ReadingCause A} {f g : A → List ℕ → Answer ReadingCause B} → Kept x y → ((a : A) (w : List ℕ) → Kept (f a w) (g a w)) → Kept (then x f) (then y g)
   unfolding then
   then-kept {f = f} {g = g} (same {x = x}) h = go x
     where
-      go : (x : Answer A) → Kept (then x f) (then x g)
+      go : (x : Answer ReadingCause A) → Kept (then x f) (then x g)
       go (got a w) = h a w
       go (refused c l) = same
   then-kept refusal h = refusal
 
 module _ {A : Type 0} where
-  if-kept : (b : Bool) {x y : Answer A} {f g : Unit {0} → Answer A} → Kept x y → ((u : Unit {0}) → Kept (f u) (g u)) → Kept (if b x f) (if b y g)
+  if-kept : (b : Bool) {x y : Answer ReadingCause A} {f g : Unit {0} → Answer ReadingCause A} → Kept x y → ((u : Unit {0}) → Kept (f u) (g u)) → Kept (if b x f) (if b y g)
   unfolding if
   if-kept true h k = h
   if-kept false h k = k tt
 
-  behind-kept : (k : ℕ) {x y : Answer A} → Kept x y → Kept (behind k x) (behind k y)
+  behind-kept : (k : ℕ) {x y : Answer ReadingCause A} → Kept x y → Kept (behind k x) (behind k y)
   unfolding behind
   behind-kept k same = same
   behind-kept k refusal = refusal
 
-  end-kept : (mode : Mode) (s : List ℕ) {f g : List ℕ → Answer A} {x y : Unit {0} → Answer A} → ((u : List ℕ) → Kept (f u) (g u))
+  end-kept : (mode : Mode) (s : List ℕ) {f g : List ℕ → Answer ReadingCause A} {x y : Unit {0} → Answer ReadingCause A} → ((u : List ℕ) → Kept (f u) (g u))
       → ((u : Unit {0}) → Kept (x u) (y u))
       → Kept (atEnd mode s f x) (atEnd mode s g y)
   unfolding atEnd
   end-kept closed s h k = if-kept _ (h []) k
   end-kept open-ended s h k = if-kept _ same λ _. if-kept _ (k tt) λ _. if-kept _ same λ _. if-kept _ same λ _. h _
 
-  inside-kept : {f g : Mode → List ℕ → Answer A} → ((mode : Mode) (s : List ℕ) → Kept (f mode s) (g mode s)) → (z : Size) (s : List ℕ)
+  inside-kept : {f g : Mode → List ℕ → Answer ReadingCause A} → ((mode : Mode) (s : List ℕ) → Kept (f mode s) (g mode s)) → (z : Size) (s : List ℕ)
       → Kept (inside f z s) (inside g z s)
   unfolding inside
   inside-kept h (definite n) s = then-kept (behind-kept _ (h closed (take n s))) λ v r. same
   inside-kept h indefinite s = h open-ended s
 
-  constructed-kept : (i : List ℕ) {f g : Mode → List ℕ → Answer A} → ((mode : Mode) (s : List ℕ) → Kept (f mode s) (g mode s)) → (s : List ℕ)
+  constructed-kept : (i : List ℕ) {f g : Mode → List ℕ → Answer ReadingCause A} → ((mode : Mode) (s : List ℕ) → Kept (f mode s) (g mode s)) → (s : List ℕ)
       → Kept (readConstructed i f s) (readConstructed i g s)
   unfolding readConstructed
   constructed-kept i h s = then-kept same (inside-kept h)
 
-  wrapped-kept : (is : List (List ℕ)) {f g : List ℕ → Answer A} → ((s : List ℕ) → Kept (f s) (g s)) → (s : List ℕ)
+  wrapped-kept : (is : List (List ℕ)) {f g : List ℕ → Answer ReadingCause A} → ((s : List ℕ) → Kept (f s) (g s)) → (s : List ℕ)
       → Kept (readWrapped is f s) (readWrapped is g s)
   unfolding readWrapped
   wrapped-kept [] h s = h s
   wrapped-kept (i ∷ is) h s = constructed-kept i (λ mode u. end-kept mode u (λ _. same) λ _. then-kept (wrapped-kept is h u) λ v w. same) s
 
-module _ (T : Table) (r q : ℕ → List ℕ → Answer Value) (h : (t : ℕ) (s : List ℕ) → Kept (r t s) (q t s)) where
+module _ (T : Table) (r q : ℕ → List ℕ → Answer ReadingCause Value) (h : (t : ℕ) (s : List ℕ) → Kept (r t s) (q t s)) where
   sequence-kept : (ms : List Member) (os : List (Option Value)) (w : Bool) (mode : Mode) (s : List ℕ)
       → Kept (readSequence T r ms os w mode s) (readSequence T q ms os w mode s)
   unfolding readSequence
@@ -126,7 +126,7 @@ value-next T zero t s = refusal
 value-next T (suc n) t s =
     wrapped-kept (explicit (T t)) (λ u. kind-kept T (λ a w. readValue T n a w) (λ a w. readValue T (suc n) a w) (value-next T n) (ownTag (T t)) (T t .body) u) s
 
-kept-on : {A : Type 0} {x y z : Answer A} → Kept x y → Kept y z → Kept x z
+kept-on : {A : Type 0} {x y z : Answer ReadingCause A} → Kept x y → Kept y z → Kept x z
 kept-on same k = k
 kept-on refusal k = refusal
 

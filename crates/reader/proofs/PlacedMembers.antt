@@ -10,6 +10,7 @@ use borrow.Author.Tests.{eqb-true, eqb-false, ltb-true, ltb-false}
 use lib.Dec.{eqb, ltb}
 use lib.ListN.{length, getD, take, drop, length-append, length-drop}
 use lib.Seq.{sets, length-sets, length-take-le}
+use Rattle.x690.specs.declared.ReadingCause.{ReadingCause}
 use Rattle.octets.specs.Answer.{Answer, got, refused, then, if, none-left}
 use Rattle.octets.specs.Numbers.{Octets}
 use Rattle.octets.proofs.Answer.{refused≢got, got-value, got-rest, got-holds}
@@ -157,7 +158,7 @@ module _ {b index : List ℕ} {w : ℕ} {m : List ℕ} {indefinite : Bool} {firs
   unfolding readHeld then
   items = go (readItems T (readValue T 24) H (suc (length m)) 0 blank [] (mode indefinite) m) refl (G .fits .is)
     where
-      go : (x : Answer Hand) → readItems T (readValue T 24) H (suc (length m)) 0 blank [] (mode indefinite) m ≡ x
+      go : (x : Answer ReadingCause Hand) → readItems T (readValue T 24) H (suc (length m)) 0 blank [] (mode indefinite) m ≡ x
           → then x (λ hand u. got (assemble H hand) u) ≡ got (G .fits .value) (G .fits .rest)
           → Items
       go (got all u) q f = record { all = all; read = q ∙ ap (got all) (got-rest f); value = got-value f }

@@ -11,7 +11,8 @@ use borrow.Author.Tests.{ne-eqb}
 use lib.Dec.{eqb}
 use lib.ListN.{length, getD, drop, set, length-drop}
 use lib.Seq.{drop-drop}
-use Rattle.octets.specs.declared.cause.Cause.the-variants.{NotAwaited, Trailing}
+use Rattle.x690.specs.declared.ReadingCause.{ReadingCause}
+use Rattle.x690.specs.declared.ReadingCause.the-variants.{NotAwaited, Trailing}
 use Rattle.octets.specs.Answer.{Answer, got, refused, then, if}
 use Rattle.octets.proofs.Answer.{got-holds}
 use Rattle.octets.specs.Permutations.{Each, nil, cons}
@@ -64,14 +65,14 @@ noted-alike h repeated p = h
 noted-alike h single p = h
 
 -- one step of reading items, by the parts that are left and what goes on
-abbrev Step : Table → (ℕ → List ℕ → Answer Value) → Holder → Hand → Mode → List ℕ → List Placed → (ℕ × Value → List ℕ → Answer Hand) → Answer Hand
+abbrev Step : Table → (ℕ → List ℕ → Answer ReadingCause Value) → Holder → Hand → Mode → List ℕ → List Placed → (ℕ × Value → List ℕ → Answer ReadingCause Hand) → Answer ReadingCause Hand
 Step T r h hand md s l f =
     if (isSingle (manner h)) (then (readPart T r (first (λ x. begun T (x .1 .type) s) (within (manner h) l)) s) λ x s₁. got (hand ++ (x ∷ [])) s₁) λ _.
     atEnd md s (λ u. if (any (λ x. not (x .1 .optional)) l) (refused NotAwaited (length s)) λ _. got hand u) λ _.
     if (not (some-of l)) (refused Trailing (length s)) λ _.
     then (readPart T r (first (λ x. begun T (x .1 .type) s) (within (manner h) l)) s) f
 
-items-alike : (T : Table) (r : ℕ → List ℕ → Answer Value) (h : Holder) (k j : ℕ) {l q : List ℕ} → Alike l q → (hand : Hand) (md : Mode) (s : List ℕ)
+items-alike : (T : Table) (r : ℕ → List ℕ → Answer ReadingCause Value) (h : Holder) (k j : ℕ) {l q : List ℕ} → Alike l q → (hand : Hand) (md : Mode) (s : List ℕ)
     → readItems T r h k j l hand md s ≡ readItems T r h k j q hand md s
 unfolding readItems
 items-alike T r h zero j a hand md s = refl

@@ -10,7 +10,8 @@ use borrow.Author.Tests.{ne-eqb}
 use lib.Dec.{eqb}
 use lib.ListN.{length, getD, drop, length-append, length-drop}
 use lib.Seq.{append-snoc, sets, length-sets, drop-drop, getD-drop}
-use Rattle.octets.specs.declared.cause.Cause.the-variants.{NotAwaited, Trailing}
+use Rattle.x690.specs.declared.ReadingCause.{ReadingCause}
+use Rattle.x690.specs.declared.ReadingCause.the-variants.{NotAwaited, Trailing}
 use Rattle.octets.specs.Answer.{Answer, got, refused, then, if, none-left}
 use Rattle.octets.proofs.Answer.{Holds, yields, refuses, then-holds, if-holds, map-holds, got-holds, refused≢got, got-value, got-rest}
 use Rattle.octets.proofs.Tests.{test}
@@ -52,7 +53,7 @@ module _ (m : List ℕ) (at : ℕ) where
   end-at true = sym (drop-drop 2 at m)
   end-at false = refl
 
-module _ {A : Type 0} (f : List ℕ → Answer A) (x : Unit {0} → Answer A) (a : A) (u : List ℕ) where
+module _ {A : Type 0} (f : List ℕ → Answer ReadingCause A) (x : Unit {0} → Answer ReadingCause A) (a : A) (u : List ℕ) where
   pub end-over : (k : Bool) (s : List ℕ) → atEnd (mode k) s f x ≡ got a u → overAt k s ≡ true → (f (behindEnd k s) ≡ got a u) × (k ≡ true → 2 ≤ length s)
   unfolding atEnd if none-left
   end-over false [] e o = (e, λ z. absurd (false≢true z))
@@ -79,7 +80,7 @@ pub record Awaited (T : Table) (h : Holder) (j : ℕ) (came s : List ℕ) (x : P
   pub is : drop (x .0) (partsOf h) ≡ x .1 ∷ drop (suc (x .0)) (partsOf h)
   pub begins : begun T (x .1 .type) s ≡ true
 
-pub awaited : (T : Table) (r : ℕ → List ℕ → Answer Value) (h : Holder) (j : ℕ) (came s : List ℕ) (x : Placed) → j ≤ length (partsOf h)
+pub awaited : (T : Table) (r : ℕ → List ℕ → Answer ReadingCause Value) (h : Holder) (j : ℕ) (came s : List ℕ) (x : Placed) → j ≤ length (partsOf h)
     → next T h j came s ≡ some x → Awaited T h j came s x
 awaited T r h j came s x l e =
     let F = found-of came j (drop j (partsOf h)) (next T h j came s) x (awaits-found h j came (λ x. begun T (x .1 .type) s)) e in
@@ -92,7 +93,7 @@ awaited T r h j came s x l e =
     }
 
 -- an item of an accepted run: its part, its value, and the run behind it; one that is alone ends the run
-pub record Turn (T : Table) (r : ℕ → List ℕ → Answer Value) (h : Holder) (k j : ℕ) (came : List ℕ) (hand : Hand) (md : Mode) (s : List ℕ) (all : Hand)
+pub record Turn (T : Table) (r : ℕ → List ℕ → Answer ReadingCause Value) (h : Holder) (k j : ℕ) (came : List ℕ) (hand : Hand) (md : Mode) (s : List ℕ) (all : Hand)
     (last : List ℕ) : Type 0 where
   pub part : Placed
   pub is : next T h j came s ≡ some part
@@ -103,9 +104,9 @@ pub record Turn (T : Table) (r : ℕ → List ℕ → Answer Value) (h : Holder)
       → readItems T r h k (following (manner h) (part .0)) (noted (manner h) came (part .0)) (hand ++ ((part .0, value) ∷ [])) md behind ≡ got all last
   pub ends : isSingle (manner h) ≡ true → (all ≡ hand ++ ((part .0, value) ∷ [])) × (last ≡ behind)
 
-module _ (T : Table) (r : ℕ → List ℕ → Answer Value) (h : Holder) (j : ℕ) (came : List ℕ) (hand : Hand) (s : List ℕ) (all : Hand) (last : List ℕ) where
+module _ (T : Table) (r : ℕ → List ℕ → Answer ReadingCause Value) (h : Holder) (j : ℕ) (came : List ℕ) (hand : Hand) (s : List ℕ) (all : Hand) (last : List ℕ) where
   -- what follows the reading of a part that is done
-  record Reads (f : ℕ × Value → List ℕ → Answer Hand) : Type 0 where
+  record Reads (f : ℕ × Value → List ℕ → Answer ReadingCause Hand) : Type 0 where
     part : Placed
     is : next T h j came s ≡ some part
     value : Value
@@ -113,11 +114,11 @@ module _ (T : Table) (r : ℕ → List ℕ → Answer Value) (h : Holder) (j : �
     read : r (part .1 .type) s ≡ got value behind
     goes-on : f (part .0, value) behind ≡ got all last
 
-  reads : (f : ℕ × Value → List ℕ → Answer Hand) → then (readPart T r (next T h j came s) s) f ≡ got all last → Reads f
+  reads : (f : ℕ × Value → List ℕ → Answer ReadingCause Hand) → then (readPart T r (next T h j came s) s) f ≡ got all last → Reads f
   unfolding readPart then
   reads f e = go (next T h j came s) refl e
     where
-      value : (x : Placed) → next T h j came s ≡ some x → (y : Answer Value) → r (x .1 .type) s ≡ y
+      value : (x : Placed) → next T h j came s ≡ some x → (y : Answer ReadingCause Value) → r (x .1 .type) s ≡ y
           → then (then (r (x .1 .type) s) λ v s₁. got (x .0, v) s₁) f ≡ got all last → Reads f
       value x i (got v w) q e = record { part = x; is = i; value = v; behind = w; read = q; goes-on = rw q at e }
       value x i (refused c l) q e = refused≢got (rw q at e)
@@ -144,10 +145,10 @@ module _ (T : Table) (r : ℕ → List ℕ → Answer Value) (h : Holder) (j : �
           ends = λ z. (sym (got-value (R .goes-on)), sym (got-rest (R .goes-on)));
         }
 
-    abbrev Ended : List ℕ → Answer Hand
+    abbrev Ended : List ℕ → Answer ReadingCause Hand
     Ended u = if (lacks h j came) (refused NotAwaited (length s)) λ _. got hand u
 
-    abbrev More : Unit {0} → Answer Hand
+    abbrev More : Unit {0} → Answer ReadingCause Hand
     More _ =
         if (not (remains h j came)) (refused Trailing (length s)) λ _.
         then (readPart T r (next T h j came s) s) λ x s₁.
@@ -187,7 +188,7 @@ module _ (T : Table) (r : ℕ → List ℕ → Answer Value) (h : Holder) (j : �
         λ q. let z = rw q at e in (sym (got-value z), sym (got-rest z), l)
 
 -- there is fuel for what goes on
-pub some-fuel : (T : Table) (r : ℕ → List ℕ → Answer Value) (h : Holder) (k j : ℕ) (came : List ℕ) (hand : Hand) (md : Mode) (s : List ℕ) (all : Hand)
+pub some-fuel : (T : Table) (r : ℕ → List ℕ → Answer ReadingCause Value) (h : Holder) (k j : ℕ) (came : List ℕ) (hand : Hand) (md : Mode) (s : List ℕ) (all : Hand)
     (last : List ℕ)
     → readItems T r h k j came hand md s ≡ got all last → k ≡ suc (k - 1)
 unfolding readItems
@@ -195,14 +196,14 @@ some-fuel T r h zero j came hand md s all last e = refused≢got e
 some-fuel T r h (suc k) j came hand md s all last e = omega arith
 
 -- what is in hand stays
-anything : {A : Type 0} (x : Answer A) → Holds (λ a u. Unit {0}) x
+anything : {A : Type 0} (x : Answer ReadingCause A) → Holds (λ a u. Unit {0}) x
 anything (got a u) = yields tt
 anything (refused c l) = refuses
 
-part-any : (T : Table) (r : ℕ → List ℕ → Answer Value) (x : Option Placed) (s : List ℕ) → Holds (λ a u. Unit {0}) (readPart T r x s)
+part-any : (T : Table) (r : ℕ → List ℕ → Answer ReadingCause Value) (x : Option Placed) (s : List ℕ) → Holds (λ a u. Unit {0}) (readPart T r x s)
 part-any T r x s = anything (readPart T r x s)
 
-pub onto : (T : Table) (r : ℕ → List ℕ → Answer Value) (h : Holder) (k j : ℕ) (came : List ℕ) (hand : Hand) (md : Mode) (s : List ℕ)
+pub onto : (T : Table) (r : ℕ → List ℕ → Answer ReadingCause Value) (h : Holder) (k j : ℕ) (came : List ℕ) (hand : Hand) (md : Mode) (s : List ℕ)
     → Holds (λ all u. (more : Hand) × (all ≡ hand ++ more)) (readItems T r h k j came hand md s)
 unfolding readItems
 onto T r h zero j came hand md s = refuses
@@ -215,7 +216,7 @@ onto T r h (suc k) j came hand md s =
     (x ∷ y .0, y .1 ∙ append-snoc hand x (y .0))
 
 -- the members of a SEQUENCE come in the table's order
-pub rows : (T : Table) (r : ℕ → List ℕ → Answer Value) (h : Holder) → manner h ≡ in-turn
+pub rows : (T : Table) (r : ℕ → List ℕ → Answer ReadingCause Value) (h : Holder) → manner h ≡ in-turn
     → (k j : ℕ) (came : List ℕ) (hand : Hand) (b : Bool) (s : List ℕ) (all : Hand) (last : List ℕ)
     → Row hand j → j ≤ length (partsOf h) → readItems T r h k j came hand (mode b) s ≡ got all last → Row all (length (partsOf h))
 unfolding isSingle following noted
@@ -233,7 +234,7 @@ rows T r h i (suc k) j came hand b s all last R l W =
     (rw i at (t .goes-on o))
 
 -- what the octets of an accepted value are, but for those of a SET
-pub held-long : (T : Table) (r : ℕ → List ℕ → Answer Value) (h : Holder) → (kindOf h ≡ 0 → ⊥) → (kindOf h ≡ 17 → ⊥)
+pub held-long : (T : Table) (r : ℕ → List ℕ → Answer ReadingCause Value) (h : Holder) → (kindOf h ≡ 0 → ⊥) → (kindOf h ≡ 17 → ⊥)
     → (k : ℕ) (b : Bool) (s : List ℕ) (all : Hand) (last : List ℕ)
     → readItems T r h (suc k) 0 blank [] (mode b) s ≡ got all last → length (octets (assemble h all)) ≡ nodeSize h + length (bodies all)
 unfolding kindOf manner isSingle

@@ -11,7 +11,7 @@ use mathlib.Core.Option.{Option, some, none}
 use mathlib.Core.Path.{_≡_, refl, sym, ap, subst, _∙_}
 use native.Mathlib.Omega.{arith}
 use Prim.Native.Nat.{ℕ, zero, suc, _+_, _-_, _≤_, _<_}
-use Rattle.octets.specs.declared.cause.Cause.{Cause}
+use Rattle.x690.specs.declared.ReadingCause.{ReadingCause}
 use Rattle.octets.specs.Answer.{Answer, got, refused, then, if, behind}
 use Rattle.octets.specs.Lists.{any}
 use Rattle.octets.specs.Numbers.{Octets, two}
@@ -23,7 +23,7 @@ use Rattle.x690.specs.Integer.{minimal}
 use Rattle.x690.specs.Reading.{Mode, Size, readLength}
 use Rattle.x690.specs.Segments.{Kind, bit-string, octet-string, universal, deepest, readAll, readSegment}
 use Rattle.x690.proofs.Times.{time-read-back, time-complete}
-use Rattle.ber.specs.Told.{toldLength, Again, mode}
+use Rattle.ber.specs.Told.{toldLength, againAt, mode}
 use Rattle.ber.specs.declared.length.Length.the-variants.{Read as ReadLength}
 use Rattle.ber.specs.declared.length.Extent.{Extent}
 use Rattle.ber.proofs.Told.{again-told}
@@ -99,7 +99,7 @@ entered-small {b} {e} x o q h ns k f g =
     listed-small b o (e .own + 1) (getD b (e .own) 0) k (rw (y .is) g)
 
 -- What was accepted was accepted up to each place.
-then-through : {A B : Type 0} (x : Answer A) (f : A → List ℕ → Answer B) (b : B) (w : List ℕ) → then x f ≡ got b w
+then-through : {A B : Type 0} (x : Answer ReadingCause A) (f : A → List ℕ → Answer ReadingCause B) (b : B) (w : List ℕ) → then x f ≡ got b w
     → (a : A) × (u : List ℕ) × (x ≡ got a u) × (f a u ≡ got b w)
 unfolding then
 then-through (got a u) f b w e = (a, u, refl, e)
@@ -125,7 +125,7 @@ kind-of (Enumerated ns) j e = absurd (some-number j (ap number e))
 kind-of (Time q) j e = absurd (some-number j (ap number e))
 
 -- the contents by which a leaf was accepted
-behind-through : {A : Type 0} (n : ℕ) (x : Answer A) {a : A} {u : List ℕ} → behind n x ≡ got a u → x ≡ got a u
+behind-through : {A : Type 0} (n : ℕ) (x : Answer ReadingCause A) {a : A} {u : List ℕ} → behind n x ≡ got a u → x ≡ got a u
 unfolding behind
 behind-through n (got a u) e = e
 behind-through n (refused c l) e = refused≢got e
@@ -249,7 +249,7 @@ module _ {b index : List ℕ} {w : ℕ} {m : List ℕ} {at from : ℕ} {buf : Li
 
   -- explicit tags were opened
   module _ (notes : List ℕ) (y : Opened) (O : Opens b R m at (take (unpacked w .explicit) notes) y) where
-    pub must-open : (c : Cause) (l : ℕ) → y ≡ NotOpened c l → ⊥
+    pub must-open : (c : ReadingCause) (l : ℕ) → y ≡ NotOpened c l → ⊥
     must-open c l e = refused≢got (sym (tags-refused (P .ready) its-own m at _ y O c l e 24) ∙ P .fits .is)
 
     pub under-open : length notes ≡ 4 → (x : Inner) → y ≡ Inside x → Accepted b w m at Val Rest notes (x .at) (x .from) (x .end)
@@ -309,7 +309,7 @@ module _ {b index : List ℕ} {w : ℕ} {m : List ℕ} {at from : ℕ} {buf : Li
             × ((p : ℕ) → p ≤ length (C Y) → u ≡ drop p (C Y) → (start + p ≤ end) × (U .left ≡ drop (start + p) (take end m)))
         items-part n = go (Held Y n) refl (fine Y n)
           where
-            go : (x : Answer Value) → Held Y n ≡ x → Fine Y n x
+            go : (x : Answer ReadingCause Value) → Held Y n ≡ x → Fine Y n x
                 → (u : List ℕ) × (Held Y n ≡ got Val u)
                 × ((p : ℕ) → p ≤ length (C Y) → u ≡ drop p (C Y) → (start + p ≤ end) × (U .left ≡ drop (start + p) (take end m)))
             go (refused c l) d f = refused≢got (sym (reads Y n (refused c l) d f) ∙ U .is)
@@ -333,18 +333,17 @@ module _ {b index : List ℕ} {w : ℕ} {m : List ℕ} {at from : ℕ} {buf : Li
 
       -- an item whose length is read again
       pub read-contents : (unpacked w .kind ≡ 50 → ⊥) → (x : Extent)
-          → ((l : ℕ) → Again (length (take end m)) (readLength l (drop from₁ (take end m))) x)
+          → x ≡ againAt (take end m) from₁
           → Contents b w m at at₁ end Val (U .left) (x .start) (x .end) (x .indefinite)
       read-contents k x again =
           let n = no-choice item k in
           let W = contents-sized item k (ReadLength x) (its-length n (readLength (length (Around-rest item)) (drop from₁ (take end m))) refl) x refl in
           contents-at (x .start) (x .end) (x .indefinite) W (omega (arith, U .low, W .further n))
         where
-          its-length : isChoice (R .body) ≡ false → (y : Answer Size) → readLength (length (Around-rest item)) (drop from₁ (take end m)) ≡ y
+          its-length : isChoice (R .body) ≡ false → (y : Answer ReadingCause Size) → readLength (length (Around-rest item)) (drop from₁ (take end m)) ≡ y
               → ReadLength x ≡ toldLength (length (take end m)) (readLength (length (Around-rest item)) (drop from₁ (take end m)))
           its-length n (got z u) e =
-              again-told (length (take end m)) (readLength (length (Around-rest item)) (drop from₁ (take end m))) x z u
-              (again (length (Around-rest item))) e
+              again-told (take end m) from₁ (length (Around-rest item)) x z u again e
           its-length n (refused c l) e =
               refused≢got (sym (item-unsized item n c l e) ∙ U .is)
 
@@ -503,8 +502,8 @@ module _ {b index : List ℕ} {w : ℕ} {m : List ℕ} {at from : ℕ} {buf : Li
       bare-placed l =
           let z : unpacked w .explicit ≡ 0 = omega arith in
           let n : length m ≡ end = subst (λ (i : ℕ). Around (length m) (take i notes) end) z (U .under .around) in
-          let r : _≡_ {A = Answer ℕ} (got 0 (U .left)) (got 0 Rest)
-          = subst (λ (i : ℕ). _≡_ {A = Answer ℕ} (closing m (take i notes) end (got 0 (U .left))) (got 0 Rest)) z (U .closes 0) in
+          let r : _≡_ {A = Answer ReadingCause ℕ} (got 0 (U .left)) (got 0 Rest)
+          = subst (λ (i : ℕ). _≡_ {A = Answer ReadingCause ℕ} (closing m (take i notes) end (got 0 (U .left))) (got 0 Rest)) z (U .closes 0) in
           let q : Rest ≡ drop stop m = sym (got-rest r) ∙ S .behind ∙ ap (drop stop) (ap (λ (i : ℕ). take i m) (sym n) ∙ take-length m) in
           ended-placed stop (omega (arith, S .within)) q
 
@@ -528,7 +527,7 @@ module _ {b index : List ℕ} {w : ℕ} {m : List ℕ} {at from : ℕ} {buf : Li
             ∙ ap (λ (u : List ℕ). told m (λ (n : ℕ). n) (closing m (take (unpacked w .explicit) notes) end (got 0 u))) (sym (S .behind))
             ∙ ap (told m (λ (n : ℕ). n)) (U .closes 0)
 
-        pub must-close : (c : Cause) (l : ℕ) → y ≡ Refused c l → ⊥
+        pub must-close : (c : ReadingCause) (l : ℕ) → y ≡ Refused c l → ⊥
         unfolding told
         must-close c l d = let q = sym d ∙ closed-told in let z : _≡_ {A = ℕ} 0 1 = cc in omega arith
 

@@ -6,6 +6,7 @@ use Prim.Native.Nat.{ℕ, zero, suc, _-_, _*_, _%_, _≤_, _<_}
 use native.Mathlib.Omega.{arith}
 use lib.ListN.{length, getD, take}
 use lib.Seq.{take-suc}
+use Rattle.x690.specs.declared.ReadingCause.{ReadingCause}
 use Rattle.octets.specs.Answer.{Answer, got, refused, then}
 use Rattle.octets.proofs.Answer.{refused≢got, got-value, got-rest}
 use Rattle.table.specs.Syntax.{Table}
@@ -50,7 +51,7 @@ pub inner-under : (T : Table) (n t : ℕ) (s way : List ℕ) (d u : ℕ) (v : Va
 unfolding then
 inner-under T n t s way d u v w h e f = go (readValue T (n - d) u s) refl (sym e ∙ f)
   where
-    go : (x : Answer Value) → readValue T (n - d) u s ≡ x → then x (λ v s₁. got (wrapped way d v) s₁) ≡ got v w → Inner T n s (take d way) u v w
+    go : (x : Answer ReadingCause Value) → readValue T (n - d) u s ≡ x → then x (λ v s₁. got (wrapped way d v) s₁) ≡ got v w → Inner T n s (take d way) u v w
     go (got y z) q g =
         record {
           value = y;

@@ -10,8 +10,8 @@ use mathlib.Core.Option.{some, none}
 use mathlib.Core.Path.{_≡_, refl, sym, ap, _∙_}
 use native.Mathlib.Omega.{arith}
 use Prim.Native.Nat.{ℕ, zero, suc, _+_, _*_, _≤_, _<_}
-use Rattle.octets.specs.declared.cause.Cause.{Cause}
-use Rattle.octets.specs.declared.cause.Cause.the-variants.{NotAwaited, Trailing}
+use Rattle.x690.specs.declared.ReadingCause.{ReadingCause}
+use Rattle.x690.specs.declared.ReadingCause.the-variants.{NotAwaited, Trailing}
 use Rattle.octets.specs.Answer.{if}
 use Rattle.octets.specs.Lists.{any}
 use Rattle.octets.proofs.Tests.{test}
@@ -91,7 +91,7 @@ not-single each-once e = refl
 not-single repeated e = refl
 not-single single e = absurd (true≢false (sym e))
 
-module _ (i : ℕ) (came : List ℕ) (c : Cause) where
+module _ (i : ℕ) (came : List ℕ) (c : ReadingCause) where
   unfit-of : (h : Holder) → ((manner h ≡ each-once → ⊥) → (p : ℕ) → getD came p 0 ≡ 0) → by-member (manner h) ≡ false → since (manner h) i ≡ i
       → unfitCause h i came c ≡ c
   unfolding unfitCause manner isSingle partsOf since some-of if
@@ -120,7 +120,7 @@ module _ {b index : List ℕ} {w : ℕ} {came : List ℕ} (Z : Sound b index w c
   by-it : g ≡ by-member (manner (held b w))
   by-it = kind-members ∙ entry-of (Z .ready) w (Z .known) .members
 
-  module _ (r : Bool) (er : r ≡ any (λ x. true || not (x .1 .optional)) (left (held b w) i came)) (c : Cause) (y : g ≡ true) where
+  module _ (r : Bool) (er : r ≡ any (λ x. true || not (x .1 .optional)) (left (held b w) i came)) (c : ReadingCause) (y : g ≡ true) where
     its-rest : remains (held b w) i came ≡ r
     its-rest = sym (some-any (left (held b w) i came)) ∙ sym er
 
@@ -132,7 +132,7 @@ module _ {b index : List ℕ} {w : ℕ} {came : List ℕ} (Z : Sound b index w c
     unfolding unfitCause if
     unfit-left z = rw (not-single (manner (held b w)) (sym by-it ∙ y), its-rest, z) refl
 
-  pub unfit-other : (c : Cause) → g ≡ false → since (manner (held b w)) i ≡ i → unfitCause (held b w) i came c ≡ c
+  pub unfit-other : (c : ReadingCause) → g ≡ false → since (manner (held b w)) i ≡ i → unfitCause (held b w) i came c ≡ c
   unfit-other c n q = unfit-of i came c (held b w) (Z .clear) (sym by-it ∙ n) q
 
 -- an entry whose parts are sought, and where they are

@@ -9,6 +9,7 @@ use native.Mathlib.Nat.{zero-add, suc-add}
 use native.Mathlib.Omega.{arith}
 use Prim.Native.Nat.{ℕ, zero, suc, _+_}
 use lib.ListN.{length, take, drop}
+use Rattle.x690.specs.declared.ReadingCause.{ReadingCause}
 use Rattle.octets.specs.Answer.{Answer, got, refused, then, if, none-left}
 use Rattle.octets.proofs.Answer.{Holds, yields, refuses, then-holds, map-holds, behind-holds, if-holds, got-holds}
 use Rattle.x690.specs.Reading.{readIdentifier, Size, definite, indefinite, readLength, open-ended, closed, atEnd, readHeader, inside, readConstructed}
@@ -35,7 +36,7 @@ pub data Skips : List ℕ → List ℕ → Type 0 where
   unsized : {s r w : List ℕ} → headed s ≡ got indefinite r → Passed 1 r w → Skips s w
 
 -- an answer is what it is
-itself : {A : Type 0} (x : Answer A) → Holds (λ a r. x ≡ got a r) x
+itself : {A : Type 0} (x : Answer ReadingCause A) → Holds (λ a r. x ≡ got a r) x
 itself (got a r) = yields refl
 itself (refused c l) = refuses
 
@@ -54,7 +55,7 @@ item-then {k = k} (no-end h) (unsized e q) p = let f : 1 + suc k ≡ suc (suc k)
 ended : {s u : List ℕ} → Ends open-ended s u → Passed 1 s u
 ended mark = closes behind-all
 
-open-end : {A : Type 0} {P : A → List ℕ → Type 0} (s : List ℕ) {f : List ℕ → Answer A} {x : Unit {0} → Answer A} → ((u : List ℕ) → Ends open-ended s u → Holds P (f u))
+open-end : {A : Type 0} {P : A → List ℕ → Type 0} (s : List ℕ) {f : List ℕ → Answer ReadingCause A} {x : Unit {0} → Answer ReadingCause A} → ((u : List ℕ) → Ends open-ended s u → Holds P (f u))
     → (GoesOn open-ended s → (u : Unit {0}) → Holds P (x u)) → Holds P (atEnd open-ended s f x)
 unfolding atEnd if none-left
 open-end [] h k = refuses
@@ -63,7 +64,7 @@ open-end (zero ∷ zero ∷ s) h k = h s mark
 open-end (zero ∷ suc c ∷ s) h k = rw (ne-eqb (suc c) 0 (λ e. omega arith)) refuses
 open-end (suc b ∷ s) h k = rw (ne-eqb (suc b) 0 (λ e. omega arith)) (k (no-end (omega arith)) tt)
 
-passes-got : (f : List ℕ → Bool) (x : Answer (List ℕ)) → passes f x ≡ true → (i : List ℕ) × (w : List ℕ) × (x ≡ got i w) × (f i ≡ true)
+passes-got : (f : List ℕ → Bool) (x : Answer ReadingCause (List ℕ)) → passes f x ≡ true → (i : List ℕ) × (w : List ℕ) × (x ≡ got i w) × (f i ≡ true)
 unfolding passes
 passes-got f (got i w) e = (i, w, refl, e)
 passes-got f (refused c l) e = absurd (false≢true e)
@@ -84,19 +85,19 @@ header-headed i s =
     map-holds (itself (readLength (length s) s₁)) λ z r f. rw e f
 
 -- contents that read as they should, in an indefinite item
-abbrev Inner : {A : Type 0} → (List ℕ → Answer A) → Type 0
+abbrev Inner : {A : Type 0} → (List ℕ → Answer ReadingCause A) → Type 0
 Inner f = (s : List ℕ) → Holds (λ v w. Passed 1 s w) (f s)
 
-abbrev Outer : {A : Type 0} → (List ℕ → Answer A) → Type 0
+abbrev Outer : {A : Type 0} → (List ℕ → Answer ReadingCause A) → Type 0
 Outer f = (s : List ℕ) → Holds (λ v w. Skips s w) (f s)
 
-inside-skips : {A : Type 0} (body : _ → List ℕ → Answer A) → Inner (body open-ended) → (s : List ℕ) (z : Size) (r : List ℕ) → headed s ≡ got z r
+inside-skips : {A : Type 0} (body : _ → List ℕ → Answer ReadingCause A) → Inner (body open-ended) → (s : List ℕ) (z : Size) (r : List ℕ) → headed s ≡ got z r
     → Holds (λ v w. Skips s w) (inside body z r)
 unfolding inside
 inside-skips body f s (definite n) r e = then-holds (behind-holds _ (itself (body closed (take n r)))) λ v u x. yields (sized e)
 inside-skips body f s indefinite r e = map-holds (f r) λ v w x. unsized e x
 
-constructed-skips : {A : Type 0} (i : List ℕ) (body : _ → List ℕ → Answer A) → Inner (body open-ended) → Outer (readConstructed i body)
+constructed-skips : {A : Type 0} (i : List ℕ) (body : _ → List ℕ → Answer ReadingCause A) → Inner (body open-ended) → Outer (readConstructed i body)
 unfolding readConstructed
 constructed-skips i body f s = then-holds (header-headed i s) (inside-skips body f s)
 
@@ -110,7 +111,7 @@ unfolding readPrimitive
 primitive-skips i s = then-holds (header-headed i s) (contents-skips _ s)
 
 -- a string in segments is passed over by its header, or by theirs
-joined-skips : (k : Kind) (r : List ℕ → Answer Gathered) → Outer r → (n : ℕ) (c : List ℕ) (b : ℕ) → Inner (readJoined k r n c b open-ended)
+joined-skips : (k : Kind) (r : List ℕ → Answer ReadingCause Gathered) → Outer r → (n : ℕ) (c : List ℕ) (b : ℕ) → Inner (readJoined k r n c b open-ended)
 unfolding readJoined
 joined-skips k r f zero c b s = refuses
 joined-skips k r f (suc n) c b s =
@@ -138,7 +139,7 @@ carried-skips (some k) i s =
     then-holds (constructed-skips (inParts i) _ (λ u. joined-skips k (readSegment k deepest) (segment-skips k deepest) _ _ _ u) s) λ g u x. yields x)
     λ e _. primitive-skips i s
 
-wrapped-skips : {A : Type 0} (is : List (List ℕ)) (r : List ℕ → Answer A) → Outer r → Outer (readWrapped is r)
+wrapped-skips : {A : Type 0} (is : List (List ℕ)) (r : List ℕ → Answer ReadingCause A) → Outer r → Outer (readWrapped is r)
 unfolding readWrapped
 wrapped-skips [] r f s = f s
 wrapped-skips (i ∷ is) r f s =
@@ -153,7 +154,7 @@ unfolding unwanted
 unwanted-skips true s = not-awaited s
 unwanted-skips false s = refuses
 
-module _ (T : Table) (good : Good T) (r : ℕ → List ℕ → Answer Value) (skips : (t : ℕ) → Outer (r t)) where
+module _ (T : Table) (good : Good T) (r : ℕ → List ℕ → Answer ReadingCause Value) (skips : (t : ℕ) → Outer (r t)) where
   many-skips : (k t : ℕ) (vs : List Value) → Inner (readMany T r k t open-ended vs)
   unfolding readMany
   many-skips zero t vs s = refuses

@@ -8,8 +8,8 @@ use mathlib.Core.List.{List, [], _∷_, _++_, map}
 use mathlib.Core.Path.{_≡_, refl, sym, ap, _∙_}
 use native.Mathlib.Omega.{arith}
 use Prim.Native.Nat.{ℕ, zero, suc, _+_, _-_, _≤_, _<_}
-use Rattle.octets.specs.declared.cause.Cause.{Cause}
-use Rattle.octets.specs.declared.cause.Cause.the-variants.{NotAwaited}
+use Rattle.x690.specs.declared.ReadingCause.{ReadingCause}
+use Rattle.x690.specs.declared.ReadingCause.the-variants.{NotAwaited}
 use Rattle.octets.specs.Answer.{got, refused, then, if}
 use Rattle.octets.specs.Lists.{same}
 use Rattle.octets.specs.Numbers.{Octets, two}
@@ -268,7 +268,7 @@ module _ {b index : List ℕ} (R : Ready b index) {w : ℕ} (I : IsRecord b inde
       within : j < length (identifiers r)
       within = omega (arith, how-many)
 
-      pub awaits-unread : (c : Cause) → y ≡ NoIdentifier c → AwaitsTag r j m (NoTag c)
+      pub awaits-unread : (c : ReadingCause) → y ≡ NoIdentifier c → AwaitsTag r j m (NoTag c)
       unfolding then
       awaits-unread c q = no-tag {c = c} within (rw (identifier-refused m y ey c q) refl)
 
@@ -345,7 +345,7 @@ module _ (r : Record) (j : ℕ) (m : List ℕ) (indefinite : Bool) (y : End) (ey
   pub enters-over : (u : ℕ) → y ≡ Over u → EntersTag r j m indefinite (NoTag NotAwaited)
   enters-over u q = is-over (end-over {A = List ℕ} (λ _. refused NotAwaited (length m)) (λ _. got [] m) m 0 indefinite y u (omega arith) ey q .0)
 
-  pub enters-broken : (c : Cause) → y ≡ Broken c → EntersTag r j m indefinite (NoTag c)
+  pub enters-broken : (c : ReadingCause) → y ≡ Broken c → EntersTag r j m indefinite (NoTag c)
   enters-broken c q =
       is-over (end-broken {A = List ℕ} (λ _. refused NotAwaited (length m)) (λ _. got [] m) m 0 indefinite y c ey q)
 

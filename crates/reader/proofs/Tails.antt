@@ -8,8 +8,8 @@ use mathlib.Core.Option.{Option, some, none}
 use mathlib.Core.Path.{_≡_, refl, sym, ap, _∙_}
 use native.Mathlib.Omega.{arith}
 use Prim.Native.Nat.{ℕ, zero, suc, _+_, _-_, _≤_, _<_}
-use Rattle.octets.specs.declared.cause.Cause.{Cause}
-use Rattle.octets.specs.declared.cause.Cause.the-variants.{NotAwaited}
+use Rattle.x690.specs.declared.ReadingCause.{ReadingCause}
+use Rattle.x690.specs.declared.ReadingCause.the-variants.{NotAwaited}
 use Rattle.octets.specs.Answer.{Answer, got, refused, then, if, none-left}
 use Rattle.octets.specs.Permutations.{as-given}
 use Rattle.octets.proofs.Answer.{Holds, Taken, got-holds}
@@ -22,7 +22,7 @@ use Rattle.table.specs.Syntax.{Table}
 use Rattle.coding.specs.Value.{Value}
 use Rattle.coding.specs.Encodes.{EncodesAt}
 use Rattle.coding.specs.Reading.{notAwaited, readValue}
-use Rattle.coding.proofs.Refusals.{Says, names, value-says}
+use Rattle.coding.proofs.Refusals.{Within, names, value-says}
 use Rattle.coding.proofs.Sound.{value-sound}
 use Rattle.reader.specs.Items.{Holder, manner, Placed, remains, lacks, following, noted, isSingle, Hand, readPart, next}
 use Rattle.reader.specs.Items.{readItems, blank, readHeld}
@@ -58,28 +58,28 @@ some-left [] h = absurd (true≢false h)
 some-left (b ∷ s) h = omega arith
 
 -- What was read leaves an end of what was given, of which P holds; or no more octets are left at the place of a refusal than were given.
-pub data Sane {A : Type 0} (P : List ℕ → Type 0) (s : List ℕ) : Answer A → Type 0 where
+pub data Sane {A : Type 0} (P : List ℕ → Type 0) (s : List ℕ) : Answer ReadingCause A → Type 0 where
   leaves : {a : A} {u : List ℕ} → Tail s u → P u → Sane P s (got a u)
-  stops : {c : Cause} {l : ℕ} → l ≤ length s → Sane P s (refused c l)
+  stops : {c : ReadingCause} {l : ℕ} → l ≤ length s → Sane P s (refused c l)
 
 module _ {A : Type 0} {P : List ℕ → Type 0} where
-  sane-wider : (s t : List ℕ) → Tail s t → {x : Answer A} → Sane P t x → Sane P s x
+  sane-wider : (s t : List ℕ) → Tail s t → {x : Answer ReadingCause A} → Sane P t x → Sane P s x
   sane-wider s t h (leaves {u = u} i p) = leaves (tail-on s t u h i) p
   sane-wider s t h (stops {l = l} i) = stops {l = l} (omega (arith, tail-less h))
 
-  sane-if : (s : List ℕ) (b : Bool) {x : Answer A} {y : Unit {0} → Answer A} → (b ≡ true → Sane P s x) → (b ≡ false → (u : Unit {0}) → Sane P s (y u))
+  sane-if : (s : List ℕ) (b : Bool) {x : Answer ReadingCause A} {y : Unit {0} → Answer ReadingCause A} → (b ≡ true → Sane P s x) → (b ≡ false → (u : Unit {0}) → Sane P s (y u))
       → Sane P s (if b x y)
   unfolding if
   sane-if s true h k = h refl
   sane-if s false h k = k refl tt
 
-  sane-then : {B : Type 0} {Q : List ℕ → Type 0} (s : List ℕ) {x : Answer B} {f : B → List ℕ → Answer A} → Sane Q s x
+  sane-then : {B : Type 0} {Q : List ℕ → Type 0} (s : List ℕ) {x : Answer ReadingCause B} {f : B → List ℕ → Answer ReadingCause A} → Sane Q s x
       → ((a : B) (u : List ℕ) → Tail s u → Q u → Sane P s (f a u)) → Sane P s (then x f)
   unfolding then
   sane-then s (leaves {a = a} {u = u} h q) k = k a u h q
   sane-then s (stops {l = l} h) k = stops {l = l} h
 
-  sane-end : (k : Mode) (s : List ℕ) {f : List ℕ → Answer A} {x : Unit {0} → Answer A}
+  sane-end : (k : Mode) (s : List ℕ) {f : List ℕ → Answer ReadingCause A} {x : Unit {0} → Answer ReadingCause A}
       → ((u : List ℕ) → Tail s u → (k ≡ closed → u ≡ []) → Sane P s (f u))
       → ((u : Unit {0}) → Sane P s (x u)) → Sane P s (atEnd k s f x)
   unfolding atEnd
@@ -99,12 +99,12 @@ unawaited-sane : {A : Type 0} {P : List ℕ → Type 0} (s : List ℕ) → Sane 
 unfolding notAwaited then toldIdentifier
 unawaited-sane {A} {P} s = go (readIdentifier s) refl
   where
-    go : (x : Answer (List ℕ)) → readIdentifier s ≡ x → Sane {A = A} P s (then x λ i s₁. refused NotAwaited (length s))
+    go : (x : Answer ReadingCause (List ℕ)) → readIdentifier s ≡ x → Sane {A = A} P s (then x λ i s₁. refused NotAwaited (length s))
     go (got i u) e = stops {l = length s} (omega arith)
     go (refused c l) e =
         let q : NoIdentifier c ≡ toldIdentifier (length s) (readIdentifier s) = rw e refl in
         let y = identifier-refused s (NoIdentifier c) q c refl in
-        let z : _≡_ {A = Answer (List ℕ)} (refused c l) (refused c (length s)) = sym e ∙ y in
+        let z : _≡_ {A = Answer ReadingCause (List ℕ)} (refused c l) (refused c (length s)) = sym e ∙ y in
         let v : l ≡ length s = cc in
         stops {l = l} (omega arith)
 
@@ -114,10 +114,10 @@ Any u = Unit {0}
 value-sane : (T : Table) (n t : ℕ) (s : List ℕ) → Sane Any s (readValue T n t s)
 value-sane T n t s = go (readValue T n t s) (value-sound as-given T n t s) (value-says T n t s)
   where
-    few : {c : Cause} {l : ℕ} → Says {A = Value} (length s) (refused c l) → l ≤ length s
-    few (names k h) = h
+    few : {c : ReadingCause} {l : ℕ} → Within {A = Value} (length s) (refused c l) → l ≤ length s
+    few (names h) = h
 
-    go : (x : Answer Value) → Holds (Taken (EncodesAt as-given T n t) s) x → Says (length s) x → Sane Any s x
+    go : (x : Answer ReadingCause Value) → Holds (Taken (EncodesAt as-given T n t) s) x → Within (length s) x → Sane Any s x
     go (got v u) h k = let y = got-holds h refl in leaves (tail-of s (y .piece) (y .cut)) tt
     go (refused c l) h k = stops {l = l} (few k)
 

@@ -9,7 +9,7 @@ use mathlib.Core.Option.{some}
 use mathlib.Core.Path.{_≡_, refl, sym, ap, _∙_}
 use native.Mathlib.Omega.{arith}
 use Prim.Native.Nat.{ℕ, _+_, _-_, _≤_, _<_}
-use Rattle.octets.specs.declared.cause.Cause.{Cause}
+use Rattle.x690.specs.declared.ReadingCause.{ReadingCause}
 use Rattle.octets.specs.Answer.{Answer, got, refused, then, if, behind}
 use Rattle.octets.specs.Numbers.{Octets}
 use Rattle.octets.proofs.Answer.{got-holds}
@@ -75,7 +75,7 @@ pub record Within (r : Record) (p : List ℕ) (at end start stop : ℕ) (indefin
 
 -- the item of a constructed kind, by its header
 module _ (i : List ℕ) (s : List ℕ) (z : Bool) (n : ℕ) (u : List ℕ) (h : readHeader i s ≡ got (sizeOf z n) u)
-    (body : Mode → List ℕ → Answer Value) where
+    (body : Mode → List ℕ → Answer ReadingCause Value) where
   built-open : z ≡ true → readConstructed i body s ≡ body open-ended u
   unfolding readConstructed then insideSize
   built-open t = let g = rw t at h in rw g refl
@@ -113,7 +113,7 @@ module _ {b index : List ℕ} (R : Ready b index) {w : ℕ} (I : IsRecord b inde
 
   -- with tags
   module _ (m : List ℕ) (first : ℕ) (ns : List ℕ) (y : Opened) (o : Opens b r m first ns y) where
-    pub tags-refused : (c : Cause) (l : ℕ) → y ≡ NotOpened c l → (n : ℕ) → readRecord (tableIn b) n r (drop first m) ≡ refused c l
+    pub tags-refused : (c : ReadingCause) (l : ℕ) → y ≡ NotOpened c l → (n : ℕ) → readRecord (tableIn b) n r (drop first m) ≡ refused c l
     tags-refused c l e = let (_, q) : Opens b r m first ns (NotOpened c l) = rw e at o in q
 
     pub under-tags : (x : Inner) → y ≡ Inside x → Under b r m first ns (x .at) (x .from) (x .end)
@@ -147,7 +147,7 @@ module _ {b index : List ℕ} {w : ℕ} {m : List ℕ} {first level : ℕ} (X : 
   abbrev pub Rest : List ℕ
   Rest = drop (X .at) Part
 
-  abbrev pub Bare : Answer Value
+  abbrev pub Bare : Answer ReadingCause Value
   Bare = readBare b level Rec Rest
 
   pub size-part : length Part ≡ X .end
@@ -178,7 +178,7 @@ module _ {b index : List ℕ} {w : ℕ} {m : List ℕ} {first level : ℕ} (X : 
   own-header n = let h = X .under .headed n in lead-header Rest (h .identifier) (drop (X .from) Part) (h .is)
 
   -- an item whose length is refused
-  pub item-unsized : isChoice (Rec .body) ≡ false → (c : Cause) (l : ℕ) → readLength (length Rest) (drop (X .from) Part) ≡ refused c l → Bare ≡ refused c l
+  pub item-unsized : isChoice (Rec .body) ≡ false → (c : ReadingCause) (l : ℕ) → readLength (length Rest) (drop (X .from) Part) ≡ refused c l → Bare ≡ refused c l
   item-unsized n c l e = form-refused (tableIn b) _ Rec Rest c l n (X .under .headed n .identifier) _ (X .under .headed n .is) (own-form n .1) (own-header n ∙ e)
 
   pub no-choice : (X .entry .kind ≡ 50 → ⊥) → isChoice (Rec .body) ≡ false
@@ -336,10 +336,10 @@ module _ {b index : List ℕ} {w : ℕ} {m : List ℕ} {first level : ℕ} (Y : 
 
   -- items
   module _ (plain : X .entry .simple ≡ false) where
-    abbrev pub Held : Answer Value
+    abbrev pub Held : Answer ReadingCause Value
     Held = readHeld (tableIn b) (readValue (tableIn b) level) (held b w) (mode (Y .indefinite)) C
 
-    abbrev HeldIn : Mode → List ℕ → Answer Value
+    abbrev HeldIn : Mode → List ℕ → Answer ReadingCause Value
     HeldIn k s = readHeld (tableIn b) (readValue (tableIn b) level) (inside Kept) k s
 
     is-built : constructed Kept ≡ true
@@ -363,25 +363,25 @@ module _ {b index : List ℕ} {w : ℕ} {m : List ℕ} {first level : ℕ} (Y : 
         let y = W .bare z in
         omega (arith, size-C, y .0, y .1, U .some)
 
-    abbrev pub Fine : Answer Value → Type 0
+    abbrev pub Fine : Answer ReadingCause Value → Type 0
     Fine x = Sane (Closes (tableIn b) level (inside Kept) (mode (Y .indefinite))) C x
 
     pub fine : Fine Held
     fine = rw its-held (held-sane (tableIn b) level (inside Kept) (mode (Y .indefinite)) C)
 
     -- what the items give, the item gives
-    abbrev Reads : Answer Value → Type 0
+    abbrev Reads : Answer ReadingCause Value → Type 0
     Reads (refused c l) = Bare X ≡ refused c (l + (X .end - Y .stop))
     Reads (got v u) = Bare X ≡ got v (drop (Y .start + (length C - length u)) P)
 
     -- a CHOICE and contents that 00 00 closes go on to the end of what is around them
-    reads-open : Y .stop ≡ X .end → Bare X ≡ Held → (x : Answer Value) → Held ≡ x → Fine x → Reads x
+    reads-open : Y .stop ≡ X .end → Bare X ≡ Held → (x : Answer ReadingCause Value) → Held ≡ x → Fine x → Reads x
     reads-open z y (got v u) d (leaves t q) =
         let k = length C - length u in
         y ∙ d ∙ ap (got v) (tail-at C u t ∙ ap (drop k) (sym (all-c z)) ∙ drop-drop k (Y .start) P)
     reads-open z y (refused c l) d (stops h) = let v : l ≡ l + (X .end - Y .stop) = omega arith in y ∙ d ∙ ap (refused c) v
 
-    reads-sized : isChoice Kept ≡ false → Y .indefinite ≡ false → (x : Answer Value) → Held ≡ x → Fine x → Reads x
+    reads-sized : isChoice Kept ≡ false → Y .indefinite ≡ false → (x : Answer ReadingCause Value) → Held ≡ x → Fine x → Reads x
     unfolding then behind
     reads-sized k z x d y =
         let a = kept-built .0 k ∙ built-sized Own S (Y .indefinite) Size-of (drop (Y .start) P) (own-lead k) HeldIn z in
@@ -389,14 +389,14 @@ module _ {b index : List ℕ} {w : ℕ} {m : List ℕ} {first level : ℕ} (Y : 
         let i : HeldIn closed C ≡ x = ap (λ (t : Bool). HeldIn (mode t) C) (sym z) ∙ sym its-held ∙ d in
         go x y (a ∙ rw (part-c, rest-c, g, i) refl)
       where
-        go : (x : Answer Value) → Fine x → Bare X ≡ then (behind (X .end - Y .stop) x) (λ v w. got v (drop (Y .stop) P)) → Reads x
+        go : (x : Answer ReadingCause Value) → Fine x → Bare X ≡ then (behind (X .end - Y .stop) x) (λ v w. got v (drop (Y .stop) P)) → Reads x
         go (got v u) (leaves t q) y =
             let o = q (single-kind Kept is-built ∙ k) (ap mode z) in
             let f : Y .start + (length C - length u) ≡ Y .stop = omega (arith, size-C, ap length o, W .ordered) in
             rw f y
         go (refused c l) (stops h) y = y
 
-    pub reads : (x : Answer Value) → Held ≡ x → Fine x → Reads x
+    pub reads : (x : Answer ReadingCause Value) → Held ≡ x → Fine x → Reads x
     reads x d y =
         test (isChoice Kept)
         (λ k.

@@ -9,8 +9,8 @@ use mathlib.Core.List.{List, [], _∷_, _++_}
 use mathlib.Core.Path.{_≡_, refl, sym, ap, _∙_}
 use native.Mathlib.Omega.{arith}
 use Prim.Native.Nat.{ℕ, suc, _+_, _-_, _*_, _/_, _%_, _≤_, _<_}
-use Rattle.octets.specs.declared.cause.Cause.{Cause}
-use Rattle.octets.specs.declared.cause.Cause.the-variants.{Trailing}
+use Rattle.x690.specs.declared.ReadingCause.{ReadingCause}
+use Rattle.x690.specs.declared.ReadingCause.the-variants.{Trailing}
 use Rattle.octets.specs.Answer.{Answer, got, refused, then, if, behind, none-left}
 use Rattle.ber.specs.Told.{endOf, mode}
 use Rattle.ber.specs.declared.ending.End.{End}
@@ -32,7 +32,7 @@ unfolding innerEnd
 inner-last [] n e = refl
 inner-last (k ∷ ns) n e = refl
 
-pub closing-last : {A : Type 0} (m ns : List ℕ) (n e : ℕ) (x : Answer A)
+pub closing-last : {A : Type 0} (m ns : List ℕ) (n e : ℕ) (x : Answer ReadingCause A)
     → closing m (ns ++ (n ∷ [])) e x ≡ closing m ns (n / 2) (shut m (n / 2) e (eqb (n % 2) 1) x)
 unfolding closing innerEnd
 closing-last m [] n e x = refl
@@ -52,14 +52,14 @@ around-last l (k ∷ ns) n e a =
     ((b .0, b .1, b .2, c .0), c .1, c .2)
 
 -- a refusal under a tag, and under all
-shut-broken : {A : Type 0} (m : List ℕ) (outer inner : ℕ) (k : Bool) (x : Answer A) (c : Cause) (l : ℕ) → ended (mode k) x ≡ refused c l → inner ≤ outer
+shut-broken : {A : Type 0} (m : List ℕ) (outer inner : ℕ) (k : Bool) (x : Answer ReadingCause A) (c : ReadingCause) (l : ℕ) → ended (mode k) x ≡ refused c l → inner ≤ outer
     → (k ≡ true → inner ≡ outer)
     → shut m outer inner k x ≡ refused c (l + (outer - inner))
 unfolding shut then behind
 shut-broken m outer inner true x c l e h o = let q : l ≡ l + (outer - inner) = omega (arith, o refl) in e ∙ ap (refused c) q
 shut-broken m outer inner false x c l e h o = rw e refl
 
-pub closing-refused : {A : Type 0} (m : List ℕ) (n : ℕ) (ns : List ℕ) (e : ℕ) (c : Cause) (l : ℕ) → Around n ns e
+pub closing-refused : {A : Type 0} (m : List ℕ) (n : ℕ) (ns : List ℕ) (e : ℕ) (c : ReadingCause) (l : ℕ) → Around n ns e
     → closing {A = A} m ns e (refused c l) ≡ refused c (l + (n - e))
 unfolding closing Around ended then
 closing-refused m n [] e c l a = let q : l ≡ l + (n - e) = omega arith in ap (refused c) q
@@ -80,7 +80,7 @@ note-mark e true = eq-eqb ((2 * e + 1) % 2) 1 (omega arith)
 note-mark e false = ne-eqb (2 * e % 2) 1 (λ z. omega arith)
 
 -- behind the one item under a tag
-shut-over : {A : Type 0} (m : List ℕ) (outer inner : ℕ) (k : Bool) (x : Answer A) (a : A) (u : ℕ) → ended (mode k) x ≡ got a (drop u (take inner m))
+shut-over : {A : Type 0} (m : List ℕ) (outer inner : ℕ) (k : Bool) (x : Answer ReadingCause A) (a : A) (u : ℕ) → ended (mode k) x ≡ got a (drop u (take inner m))
     → (k ≡ true → inner ≡ outer)
     → (k ≡ false → u ≡ inner) → shut m outer inner k x ≡ got a (drop u (take outer m))
 unfolding shut then behind
@@ -153,7 +153,7 @@ module _ (m notes : List ℕ) (count last first size : ℕ) where
         left-part : length (drop at (take end m)) ≡ end - at
         left-part = length-drop at (take end m) ∙ ap (λ (i : ℕ). i - at) size-part
 
-        broken : (c : Cause) → ended (mode k) (got size (drop at (take end m))) ≡ refused c (length (drop at (take end m)))
+        broken : (c : ReadingCause) → ended (mode k) (got size (drop at (take end m))) ≡ refused c (length (drop at (take end m)))
             → Refused c (length m - at) ≡ Told
         unfolding told
         broken c e =
@@ -171,7 +171,7 @@ module _ (m notes : List ℕ) (count last first size : ℕ) where
         unfolding ended then if
         close-more d = broken Trailing (end-more {A = ℕ} (λ w. got size w) (λ _. refused Trailing (length (drop at (take end m)))) (take end m) at k r er d .0)
 
-        pub close-broken : (c : Cause) → r ≡ Broken c → Refused c (length m - at) ≡ Told
+        pub close-broken : (c : ReadingCause) → r ≡ Broken c → Refused c (length m - at) ≡ Told
         unfolding ended then
         close-broken c d =
             broken c (end-broken {A = ℕ} (λ w. got size w) (λ _. refused Trailing (length (drop at (take end m)))) (take end m) at k r c er d)

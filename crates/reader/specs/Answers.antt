@@ -3,6 +3,7 @@
 use mathlib.Core.List.{List}
 use Prim.Native.Nat.{ℕ, _-_, min}
 use lib.ListN.{length}
+use Rattle.x690.specs.declared.ReadingCause.{ReadingCause}
 use Rattle.octets.specs.Answer.{Answer, got, refused}
 use Rattle.coding.specs.Value.{Value, octets}
 use Rattle.reader.specs.declared.answer.Judged.{Judged}
@@ -13,7 +14,7 @@ abbrev pub cap : ℕ → ℕ
 cap n = min 16385 n
 
 -- where what was read ends, and what f makes of it; or the cause, and how many octets are left
-unfoldable pub told : {A : Type 0} → List ℕ → (A → ℕ) → Answer A → Judged
+unfoldable pub told : {A : Type 0} → List ℕ → (A → ℕ) → Answer ReadingCause A → Judged
 told m f (got a u) = Done (length m - length u) (cap (f a))
 told m f (refused c l) = Refused c l
 

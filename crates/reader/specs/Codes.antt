@@ -4,6 +4,7 @@ use mathlib.Core.Bool.{Bool, true, false, not, _&&_, _||_}
 use mathlib.Core.List.{List, [], _∷_}
 use Prim.Native.Nat.{ℕ, zero, suc, _+_}
 use lib.Dec.{eqb}
+use Rattle.x690.specs.declared.ReadingCause.{ReadingCause}
 use Rattle.octets.specs.Answer.{Answer, got, refused, if}
 use Rattle.ber.specs.Codes.{codeOf}
 use Rattle.x690.specs.Segments.{inEither}
@@ -21,7 +22,7 @@ untagged = noTag
 abbrev pub none : ℕ
 none = 67108865
 
-unfoldable pub peeked : Answer (List ℕ) → ℕ
+unfoldable pub peeked : Answer ReadingCause (List ℕ) → ℕ
 peeked (got i s) = codeOf i
 peeked (refused c l) = none
 

@@ -7,13 +7,14 @@ use mathlib.Core.Option.{Option, some, none}
 use Prim.Native.Nat.{ℕ, zero, suc, _+_}
 use lib.Dec.{eqb}
 use lib.ListN.{length, getD, drop, set as setAt, replicate}
-use Rattle.octets.specs.declared.cause.Cause.the-variants.{Cut, NotAwaited, Trailing}
+use Rattle.x690.specs.declared.ReadingCause.{ReadingCause}
+use Rattle.x690.specs.declared.ReadingCause.the-variants.{Cut, NotAwaited, Trailing}
 use Rattle.octets.specs.Answer.{Answer, got, refused, then, if}
 use Rattle.octets.specs.Lists.{any}
 use Rattle.x690.specs.Reading.{Mode, atEnd}
 use Rattle.table.specs.Syntax.{Member, Body, Plain, Sequence, Set, SequenceOf, SetOf, Choice, Table}
 use Rattle.coding.specs.Value.{Value, leaf, null, sequence, set, sequenceOf, setOf, choice, slots, bag, octets}
-use Rattle.coding.specs.Reading.{begun, never, notAwaited, nothing}
+use Rattle.coding.specs.Reading.{begun, notAwaited, nothing}
 
 -- what items stand in: the contents of a record with this body, or a message of type t
 pub data Holder : Type 0 where
@@ -128,17 +129,17 @@ Hand = List (ℕ × Value)
 abbrev pub next : Table → Holder → ℕ → List ℕ → List ℕ → Option Placed
 next T h j came s = first (λ x. begun T (x .1 .type) s) (awaits h j came)
 
-module _ (T : Table) (r : ℕ → List ℕ → Answer Value) where
+module _ (T : Table) (r : ℕ → List ℕ → Answer ReadingCause Value) where
   -- an item of the part that it begins
-  unfoldable pub readPart : Option Placed → List ℕ → Answer (ℕ × Value)
+  unfoldable pub readPart : Option Placed → List ℕ → Answer ReadingCause (ℕ × Value)
   readPart none s = notAwaited s
   readPart (some x) s = then (r (x .1 .type) s) λ v s₁. got (x .0, v) s₁
 
   module _ (h : Holder) where
     -- The items after those in hand. They go on to the end of the contents, where nothing must be lacking (24); where no part is left an
     -- item is 26. A CHOICE and a message have one item and no end.
-    unfoldable pub readItems : ℕ → ℕ → List ℕ → Hand → Mode → List ℕ → Answer Hand
-    readItems zero j came hand mode s = never s
+    unfoldable pub readItems : ℕ → ℕ → List ℕ → Hand → Mode → List ℕ → Answer ReadingCause Hand
+    readItems zero j came hand mode s = refused Trailing (length s)
     readItems (suc k) j came hand mode s =
         if (isSingle (manner h)) (then (readPart (next T h j came s) s) λ x s₁. got (hand ++ (x ∷ [])) s₁) λ _.
         atEnd mode s (λ u. if (lacks h j came) (refused NotAwaited (length s)) λ _. got hand u) λ _.
@@ -189,5 +190,5 @@ abbrev pub blank : List ℕ
 blank = replicate 16 0
 
 -- all the items, and their value
-unfoldable pub readHeld : Table → (ℕ → List ℕ → Answer Value) → Holder → Mode → List ℕ → Answer Value
+unfoldable pub readHeld : Table → (ℕ → List ℕ → Answer ReadingCause Value) → Holder → Mode → List ℕ → Answer ReadingCause Value
 readHeld T r h mode s = then (readItems T r h (suc (length s)) 0 blank [] mode s) λ hand u. got (assemble h hand) u

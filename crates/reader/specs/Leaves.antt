@@ -9,12 +9,13 @@ use lib.Dec.{eqb, ltb}
 use lib.IntN.{pos}
 use lib.ListN.{length, getD, drop}
 use lib.Seq.{sets}
-use Rattle.octets.specs.declared.cause.Cause.the-variants.{Forbidden}
+use Rattle.x690.specs.declared.ReadingCause.{ReadingCause}
+use Rattle.x690.specs.declared.ReadingCause.the-variants.{Forbidden, Trailing}
 use Rattle.octets.specs.Answer.{Answer, got, refused, then, if, behind}
 use Rattle.x690.specs.Integer.{integerOf}
 use Rattle.x690.specs.BitString.{unused, masked}
 use Rattle.x690.specs.Time.{timeOf, isTime}
-use Rattle.x690.specs.Reading.{Mode, never}
+use Rattle.x690.specs.Reading.{Mode}
 use Rattle.x690.specs.Segments.{Kind, universal, deepest, readAll, readSegment}
 use Rattle.ber.specs.Told.{mode}
 use Rattle.dates.specs.declared.TimeKind.{TimeKind}
@@ -41,24 +42,24 @@ unfoldable pub inSegments : ℕ → Bool
 inSegments lead = ltb 31 (lead % 64)
 
 -- what the segments of a string join to
-unfoldable pub readSegments : Option Kind → Mode → List ℕ → Answer (List ℕ)
-readSegments none mode c = never c
+unfoldable pub readSegments : Option Kind → Mode → List ℕ → Answer ReadingCause (List ℕ)
+readSegments none mode c = refused Trailing (length c)
 readSegments (some k) mode c = then (readAll k (readSegment k deepest) mode c) λ g u. got (g .0) u
 
 -- The leaf that the contents c of a simple kind carry: by their segments, if `parts`; else by themselves, and then no 00 00 closes them (23).
 -- l octets are left where the item begins, and j behind c.
-unfoldable pub readLeaf : Simple → Bool → Bool → ℕ → ℕ → List ℕ → Answer Leaf
+unfoldable pub readLeaf : Simple → Bool → Bool → ℕ → ℕ → List ℕ → Answer ReadingCause Leaf
 readLeaf q true z l j c = then (behind j (readSegments (segmented q) (mode z) c)) λ d u. decode q l d u
 readLeaf q false true l j c = refused Forbidden l
 readLeaf q false false l j c = decode q l c []
 
-unfoldable pub readLeafIn : Body → Bool → Bool → ℕ → ℕ → List ℕ → Answer Leaf
+unfoldable pub readLeafIn : Body → Bool → Bool → ℕ → ℕ → List ℕ → Answer ReadingCause Leaf
 readLeafIn (Plain q) parts z l j c = readLeaf q parts z l j c
-readLeafIn (Sequence ms) parts z l j c = never c
-readLeafIn (Set ms) parts z l j c = never c
-readLeafIn (SequenceOf t) parts z l j c = never c
-readLeafIn (SetOf t) parts z l j c = never c
-readLeafIn (Choice ts) parts z l j c = never c
+readLeafIn (Sequence ms) parts z l j c = refused Trailing (length c)
+readLeafIn (Set ms) parts z l j c = refused Trailing (length c)
+readLeafIn (SequenceOf t) parts z l j c = refused Trailing (length c)
+readLeafIn (SetOf t) parts z l j c = refused Trailing (length c)
+readLeafIn (Choice ts) parts z l j c = refused Trailing (length c)
 
 abbrev pub leafSize : Leaf → ℕ
 leafSize x = length (leafOctets x)

@@ -7,6 +7,7 @@ use mathlib.Core.Path.{_≡_}
 use Prim.Native.Nat.{ℕ, _+_, _≤_, _<_}
 use lib.ListN.{length, getD, drop}
 use lib.Seq.{sets}
+use Rattle.x690.specs.declared.ReadingCause.{ReadingCause}
 use Rattle.octets.specs.Answer.{Answer, got}
 use Rattle.ber.specs.Told.{mode}
 use Rattle.table.specs.Reading.{tableIn, countIn}
@@ -21,7 +22,7 @@ use Rattle.reader.specs.Wraps.{Headed}
 use Rattle.reader.specs.declared.node.Placed.{Placed}
 
 -- x is accepted, and its octets have room
-pub record Fits (x : Answer Value) (to : ℕ) (buf : List ℕ) : Type 0 where
+pub record Fits (x : Answer ReadingCause Value) (to : ℕ) (buf : List ℕ) : Type 0 where
   pub value : Value
   pub rest : List ℕ
   pub is : x ≡ got value rest
@@ -34,15 +35,15 @@ pub record Final (v : Value) (rest m first : List ℕ) (to : ℕ) (buf : List �
   pub within : end ≤ length m
   pub behind : rest ≡ drop end m
 
-abbrev pub IsPlaced : Answer Value → List ℕ → ℕ → List ℕ → List ℕ → Placed → Type 0
+abbrev pub IsPlaced : Answer ReadingCause Value → List ℕ → ℕ → List ℕ → List ℕ → Placed → Type 0
 IsPlaced x m to first buf r = (v : Value) (rest : List ℕ) → x ≡ got v rest → Final v rest m first to buf (r .end) (r .next)
 
 -- the items in the contents m of h
-abbrev pub heldIn : List ℕ → Holder → Bool → List ℕ → Answer Value
+abbrev pub heldIn : List ℕ → Holder → Bool → List ℕ → Answer ReadingCause Value
 heldIn b h indefinite m = readHeld (tableIn b) (readValue (tableIn b) 24) h (mode indefinite) m
 
 -- a value of an entry
-abbrev pub valueIn : List ℕ → ℕ → List ℕ → Answer Value
+abbrev pub valueIn : List ℕ → ℕ → List ℕ → Answer ReadingCause Value
 valueIn b w s = readRecord (tableIn b) 24 (recordIn b (unpacked w)) s
 
 -- what the placing of the items in w requires

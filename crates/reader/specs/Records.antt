@@ -6,6 +6,7 @@ use mathlib.Core.Path.{_≡_}
 use Prim.Native.Nat.{ℕ, _<_}
 use lib.Dec.{eqb}
 use lib.ListN.{getD}
+use Rattle.x690.specs.declared.ReadingCause.{ReadingCause}
 use Rattle.octets.specs.Answer.{Answer, if}
 use Rattle.table.specs.Syntax.{Record, Table}
 use Rattle.table.specs.Reading.{tagsAt, bodyAt, tableIn, countIn}
@@ -48,7 +49,7 @@ abbrev pub Begins : ℕ → ℕ → Bool → Type 0
 Begins w code r = (b : List ℕ) (x : Record) → Entered b (unpacked w) x → r ≡ startsWith x code
 
 -- a value of a record, where the values in it have n levels
-unfoldable pub readRecord : Table → ℕ → Record → List ℕ → Answer Value
+unfoldable pub readRecord : Table → ℕ → Record → List ℕ → Answer ReadingCause Value
 readRecord T n r s = readWrapped (explicit r) (readKind T (λ u w. readValue T n u w) (ownTag r) (r .body)) s
 
 -- what the search finds under t: the record that the code begins, with the way to it

@@ -6,8 +6,8 @@ use mathlib.Core.Option.{Option, some, none}
 use mathlib.Core.Path.{_≡_}
 use Prim.Native.Nat.{ℕ, _<_, _≤_}
 use lib.ListN.{length, getD, drop}
-use Rattle.octets.specs.declared.cause.Cause.{Cause}
-use Rattle.octets.specs.declared.cause.Cause.the-variants.{NotAwaited, Trailing}
+use Rattle.x690.specs.declared.ReadingCause.{ReadingCause}
+use Rattle.x690.specs.declared.ReadingCause.the-variants.{NotAwaited, Trailing}
 use Rattle.octets.specs.Answer.{Answer, got, refused, if}
 use Rattle.ber.specs.Codes.{codeOf}
 use Rattle.x690.specs.Reading.{readIdentifier}
@@ -52,14 +52,14 @@ abbrev pub direct : List ℕ → Holder → ℕ → List ℕ → ℕ → ℕ
 direct b h i came code = placeOf (tabledCount h) (first (λ x. startsWith (tableIn b (x .1 .type)) code) (tabled h i came))
 
 -- the refusal of an item that begins no part that is awaited
-unfoldable pub unfit : {A : Type 0} → Holder → ℕ → List ℕ → List ℕ → Answer A
+unfoldable pub unfit : {A : Type 0} → Holder → ℕ → List ℕ → List ℕ → Answer ReadingCause A
 unfit h i came s =
     if (isSingle (manner h)) (notAwaited s) λ _.
     if (not (remains h i came)) (refused Trailing (length s)) λ _.
     notAwaited s
 
 -- its cause, where c is that of an item that is not awaited
-unfoldable pub unfitCause : Holder → ℕ → List ℕ → Cause → Cause
+unfoldable pub unfitCause : Holder → ℕ → List ℕ → ReadingCause → ReadingCause
 unfitCause h i came c =
     if (isSingle (manner h)) c λ _.
     if (not (remains h i came)) Trailing λ _. c

@@ -2,7 +2,7 @@
 -- Assumes nothing.
 use mathlib.Core.List.{List}
 use Prim.Native.Nat.{ℕ}
-use Rattle.octets.specs.declared.cause.Cause.the-variants.{NotAwaited}
+use Rattle.x690.specs.declared.ReadingCause.the-variants.{NotAwaited}
 use Rattle.octets.specs.Answer.{if}
 use Rattle.ber.specs.declared.ending.End.{End}
 use Rattle.ber.specs.declared.ending.End.the-variants.{More, Over as EndsAt, Broken}

@@ -4,6 +4,7 @@ use mathlib.Core.Bool.{_&&_}
 use mathlib.Core.List.{List, []}
 use Prim.Native.Nat.{ℕ}
 use lib.ListN.{length}
+use Rattle.x690.specs.declared.ReadingCause.{ReadingCause}
 use Rattle.octets.specs.Answer.{Answer, got, refused, if}
 use Rattle.table.specs.Syntax.{Body, Plain, Sequence, Set, SequenceOf, SetOf, Choice}
 use Rattle.coding.specs.Value.{Leaf, leafOctets}
@@ -12,7 +13,7 @@ use Rattle.reader.specs.Codes.{ownEither}
 use Rattle.reader.specs.Leaves.{inSegments}
 
 -- the size of a leaf; 0 where contents are wrong
-unfoldable pub weight : Answer Leaf → ℕ
+unfoldable pub weight : Answer ReadingCause Leaf → ℕ
 weight (got x s) = length (leafOctets x)
 weight (refused c l) = 0
 

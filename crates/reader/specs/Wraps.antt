@@ -7,8 +7,8 @@ use mathlib.Core.Path.{_≡_}
 use Prim.Native.Nat.{ℕ, _+_, _-_, _*_, _/_, _%_, _≤_, _<_}
 use lib.Dec.{eqb}
 use lib.ListN.{length, getD, take, drop}
-use Rattle.octets.specs.declared.cause.Cause.{Cause}
-use Rattle.octets.specs.declared.cause.Cause.the-variants.{NotAwaited, Trailing}
+use Rattle.x690.specs.declared.ReadingCause.{ReadingCause}
+use Rattle.x690.specs.declared.ReadingCause.the-variants.{NotAwaited, Trailing}
 use Rattle.octets.specs.Answer.{Answer, got, refused, then, if, behind}
 use Rattle.octets.specs.Lists.{same}
 use Rattle.ber.specs.Codes.{codeOf}
@@ -28,11 +28,11 @@ use Rattle.reader.specs.declared.tags.Opened.{Opened}
 use Rattle.reader.specs.declared.tags.Opened.the-variants.{Inside, Refused as NotOpened}
 
 -- behind the one item under a tag
-unfoldable pub ended : {A : Type 0} → Mode → Answer A → Answer A
+unfoldable pub ended : {A : Type 0} → Mode → Answer ReadingCause A → Answer ReadingCause A
 ended mode x = then x λ v w. atEnd mode w (λ y. got v y) λ _. refused Trailing (length w)
 
 -- the tag's item, where x is what was read in its contents: those end at `inner`, if they are definite
-unfoldable pub shut : {A : Type 0} → List ℕ → ℕ → ℕ → Bool → Answer A → Answer A
+unfoldable pub shut : {A : Type 0} → List ℕ → ℕ → ℕ → Bool → Answer ReadingCause A → Answer ReadingCause A
 shut m outer inner true x = ended open-ended x
 shut m outer inner false x = then (behind (outer - inner) (ended closed x)) λ v r. got v (drop inner (take outer m))
 
@@ -41,7 +41,7 @@ innerEnd [] e = e
 innerEnd (n ∷ ns) e = n / 2
 
 -- the tags of the notes, the outermost first; the contents of the innermost end at e
-unfoldable pub closing : {A : Type 0} → List ℕ → List ℕ → ℕ → Answer A → Answer A
+unfoldable pub closing : {A : Type 0} → List ℕ → List ℕ → ℕ → Answer ReadingCause A → Answer ReadingCause A
 closing m [] e x = x
 closing m (n ∷ ns) e x = shut m (n / 2) (innerEnd ns e) (eqb (n % 2) 1) (closing m ns e x)
 
@@ -68,7 +68,7 @@ abbrev pub identifiers : Record → List (List ℕ)
 identifiers r = explicit r ++ if (isChoice (r .body)) [] λ _. ownTag r ∷ []
 
 -- the item of a record under its explicit tags, where the values in it have n levels
-abbrev pub readBare : List ℕ → ℕ → Record → List ℕ → Answer Value
+abbrev pub readBare : List ℕ → ℕ → Record → List ℕ → Answer ReadingCause Value
 readBare b n r s = readKind (tableIn b) (λ u w. readValue (tableIn b) n u w) (ownTag r) (r .body) s
 
 -- the identifier octets i are the awaited ones o or, if e, those of the constructed form
@@ -79,17 +79,17 @@ sentAs e o i = same o i || (e && same (inParts o) i)
 pub data AwaitsTag (r : Record) (j : ℕ) (m : List ℕ) : Tag → Type 0 where
   behind-last : length (identifiers r) ≤ j → AwaitsTag r j m (ReadTag 0)
   is-tag : (end : ℕ) → j < length (identifiers r) → Headed m 0 end (eitherAt r j) (codeOf (getD (identifiers r) j [])) → AwaitsTag r j m (ReadTag end)
-  no-tag : {c : Cause} → j < length (identifiers r)
+  no-tag : {c : ReadingCause} → j < length (identifiers r)
       → then (readIdentifier m) (λ i s. if (sentAs (eitherAt r j) (getD (identifiers r) j []) i) (got i s) λ _. refused NotAwaited (length m)) ≡ refused c (length m)
       → AwaitsTag r j m (NoTag c)
 
 -- the same in the contents of a tag, which 00 00 closes if `indefinite`: over they may not be
-abbrev pub mustGoOn : Bool → List ℕ → Answer (List ℕ)
+abbrev pub mustGoOn : Bool → List ℕ → Answer ReadingCause (List ℕ)
 mustGoOn indefinite m = atEnd (mode indefinite) m (λ u. refused NotAwaited (length m)) λ _. got [] m
 
 pub data EntersTag (r : Record) (j : ℕ) (m : List ℕ) (indefinite : Bool) : Tag → Type 0 where
   goes-on : {x : Tag} → mustGoOn indefinite m ≡ got [] m → 0 < length m → AwaitsTag r j m x → EntersTag r j m indefinite x
-  is-over : {c : Cause} → mustGoOn indefinite m ≡ refused c (length m) → EntersTag r j m indefinite (NoTag c)
+  is-over : {c : ReadingCause} → mustGoOn indefinite m ≡ refused c (length m) → EntersTag r j m indefinite (NoTag c)
 
 -- What opening the tags of a record says of reading it, with however many levels.
 abbrev pub Opens : List ℕ → Record → List ℕ → ℕ → List ℕ → Opened → Type 0

@@ -28,23 +28,23 @@ use crate::node::begin_node;
 use crate::node::put_number;
 use clock::own;
 use dates::TimeKind;
-use octets::cause::Cause;
+use digits::time;
+use kinds::BIT_STRING;
+use kinds::BOOLEAN;
+use kinds::ENUMERATED;
+use kinds::GENERALIZED_TIME;
+use kinds::INTEGER;
+use kinds::NULL;
+use kinds::OCTET_STRING;
+use kinds::UTC_TIME;
+use kinds::time_kind;
 use octets::copy;
 use records::entry::Entry;
 use records::entry::lists;
-use records::kind::BIT_STRING;
-use records::kind::BOOLEAN;
-use records::kind::ENUMERATED;
-use records::kind::GENERALIZED_TIME;
-use records::kind::INTEGER;
-use records::kind::NULL;
-use records::kind::OCTET_STRING;
-use records::kind::UTC_TIME;
-use records::kind::time_kind;
 use segments::Segments;
 use simple::bit_string;
 use simple::integer;
-use simple::time;
+use x690::ReadingCause;
 
 // How many octets the value of contents of a simple record has, in an item that begins with the octet `lead`; 0 if they are wrong for it, or
 // come in segments.
@@ -173,12 +173,12 @@ pub fn judge_segments(
     }
     if indefinite {
         return Judged::Refused {
-            cause: Cause::Forbidden,
+            cause: ReadingCause::Forbidden,
             left,
         };
     }
     Judged::Refused {
-        cause: Cause::Contents,
+        cause: ReadingCause::Contents,
         left,
     }
 }

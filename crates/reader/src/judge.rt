@@ -34,22 +34,22 @@ use ber::ending::End;
 use ber::length;
 use ber::length::Length;
 use coding::LEVELS;
-use octets::cause::Cause;
+use kinds::CHOICE;
+use kinds::SEQUENCE;
+use kinds::SET;
+use kinds::has_members;
+use kinds::holds_one;
 use records::entry::first;
 use records::entry::parts;
 use records::entry::unpack;
 use records::entry::whole;
-use records::kind::CHOICE;
-use records::kind::SEQUENCE;
-use records::kind::SET;
-use records::kind::has_members;
-use records::kind::holds_one;
+use x690::ReadingCause;
 
 // An item, or the end of contents, behind which other octets begin at `end`.
 pub enum Standing {
     Item,
     Over { end: usize },
-    Refused { cause: Cause },
+    Refused { cause: ReadingCause },
 }
 
 // What stands at a place of the contents m of w, which 00 00 closes if `indefinite`. Awaited are members of a SEQUENCE from the j-th on, and
@@ -82,7 +82,7 @@ fn next(
             }
             if lacks(table, w, i, came, false) {
                 return Standing::Refused {
-                    cause: Cause::NotAwaited,
+                    cause: ReadingCause::NotAwaited,
                 };
             }
             Standing::Over { end }
@@ -96,7 +96,7 @@ fn done(end: usize, size: usize) -> Judged
     Judged::Done { end, size }
 }
 
-fn refused(cause: Cause, left: usize) -> Judged
+fn refused(cause: ReadingCause, left: usize) -> Judged
     ensures { λ r. ⌜ r ≡ Refused cause left ⌝ }
 {
     Judged::Refused { cause, left }
@@ -234,7 +234,7 @@ fn judge_members(
             }
         }
         if level <= depth {
-            return refused(Cause::MessageLevel, m.len() - at);
+            return refused(ReadingCause::MessageLevel, m.len() - at);
         }
         if e.kind == SET {
             came[place] = 1;
@@ -269,13 +269,13 @@ pub fn judge(table: &[u8], index: &[u64; 128], t: usize, m: &[u8], way: &mut [u1
         ⌝ }
 {
     if m.len() == 0 {
-        return refused(Cause::Cut, 0);
+        return refused(ReadingCause::Cut, 0);
     }
     match judge_members(table, index, whole(t as u16), m, false, LEVELS, way) {
         Judged::Refused { cause, left } => refused(cause, left),
         Judged::Done { end, size } => {
             if end < m.len() {
-                return refused(Cause::Trailing, m.len() - end);
+                return refused(ReadingCause::Trailing, m.len() - end);
             }
             done(end, size)
         }

@@ -18,8 +18,11 @@ use answer::Judged;
 use coding::Answer;
 use coding::LONGEST_MESSAGE;
 use coding::LONGEST_VALUE;
+use coding::MessageCause;
 use coding::Refusal;
-use octets::cause::Cause;
+use coding::TableCause;
+use refusal::message_cause;
+use refusal::table_cause;
 use table::Verdict;
 
 // Reads a message of type t, by a table of n records that passed.
@@ -42,35 +45,23 @@ fn read_passed(
         ⌝ }
 {
     if n <= t {
-        return Answer::Refused(Refusal::Table {
-            cause: Cause::NoType,
-            place: 0,
-        });
+        return Answer::Refused(Refusal::Table(TableCause::Unknown));
     }
     if LONGEST_MESSAGE < message.len() {
-        return Answer::Refused(Refusal::Message {
-            cause: Cause::MessageLength,
-            place: 0,
-        });
+        return Answer::Refused(Refusal::Message(MessageCause::MessageLength(0)));
     }
     let mut way = [0u16; 128];
     match judge::judge(table, index, t, message, &mut way) {
         Judged::Refused { cause, left } => {
             let place = message.len() - left;
-            Answer::Refused(Refusal::Message { cause, place })
+            Answer::Refused(Refusal::Message(message_cause(cause, place)))
         }
         Judged::Done { end: _, size } => {
             if LONGEST_VALUE < size {
-                return Answer::Refused(Refusal::Message {
-                    cause: Cause::ValueRoom,
-                    place: 0,
-                });
+                return Answer::Refused(Refusal::Message(MessageCause::ValueRoom));
             }
             if buf.len() < size {
-                return Answer::Refused(Refusal::Message {
-                    cause: Cause::ValueRoom,
-                    place: 0,
-                });
+                return Answer::Refused(Refusal::Message(MessageCause::ValueRoom));
             }
             place::place(table, index, t, message, buf, &mut way);
             Answer::Done(size)
@@ -90,7 +81,10 @@ pub fn read(table: &[u8], t: usize, message: &[u8], buf: &mut [u8]) -> Answer
     let c = checker::check_into(table, &mut index);
     let verdict = c.verdict;
     match verdict {
-        Verdict::Refused { cause, place } => Answer::Refused(Refusal::Table { cause, place }),
+        Verdict::Refused { cause, place } => {
+            let cause = table_cause(cause, place);
+            Answer::Refused(Refusal::Table(cause))
+        }
         Verdict::Passed => read_passed(table, &index, c.count, t, message, buf),
     }
 }

@@ -7,10 +7,10 @@ ghost use lib.ListN.{length, take};
 ghost use lib.Seq.{sets};
 ghost use Rattle.octets.specs.Numbers.{octetsOf};
 ghost use Rattle.reader.specs.Placing.{hasMembers, nodeOf, openingOf, notedIn, absentIn, finishedIn, wayOctets};
-use records::kind::CHOICE;
-use records::kind::MESSAGE;
-use records::kind::has_members;
-use records::kind::is_list;
+use kinds::CHOICE;
+use kinds::MESSAGE;
+use kinds::has_members;
+use kinds::is_list;
 
 // Where an item or contents end in the message, and their value in the buffer.
 pub struct Placed {

@@ -35,14 +35,14 @@ use crate::tags::close;
 use crate::tags::open;
 use ber::ending;
 use ber::length;
+use kinds::CHOICE;
+use kinds::SET;
+use kinds::has_members;
+use kinds::holds_one;
 use records::entry::first;
 use records::entry::parts;
 use records::entry::unpack;
 use records::entry::whole;
-use records::kind::CHOICE;
-use records::kind::SET;
-use records::kind::has_members;
-use records::kind::holds_one;
 
 // The value of w at a place of m: explicit tags, length, and contents, simple ones or items. Its first identifier ends at `from`.
 fn place_value(

@@ -14,7 +14,10 @@ ghost use Rattle.reader.specs.Items.{manner, since};
 use crate::came::lacks;
 use ber::identifier;
 use ber::identifier::Identifier;
-use octets::cause::Cause;
+use kinds::MESSAGE;
+use kinds::SEQUENCE;
+use kinds::has_members;
+use kinds::is_string;
 use octets::octet;
 use records::entry::Span;
 use records::entry::UNTAGGED;
@@ -23,10 +26,7 @@ use records::entry::first;
 use records::entry::optional;
 use records::entry::parts;
 use records::entry::unpack;
-use records::kind::MESSAGE;
-use records::kind::SEQUENCE;
-use records::kind::has_members;
-use records::kind::is_string;
+use x690::ReadingCause;
 
 // The record of the j-th part of a span that lies in the table.
 pub fn part(table: &[u8], s: Span, j: usize) -> usize
@@ -142,7 +142,7 @@ pub struct Choice {
 
 pub enum Found {
     Part(Choice),
-    Refused { cause: Cause },
+    Refused { cause: ReadingCause },
 }
 
 // The first part from the i-th on that is awaited and begins with the code itself; their count if none does.
@@ -172,14 +172,14 @@ fn direct(table: &[u8], index: &[u64; 128], w: u64, i: usize, came: &[u16; 16], 
 }
 
 // The refusal of an item: for the cause given, or for standing where nothing is awaited.
-fn unawaited(table: &[u8], w: u64, i: usize, came: &[u16; 16], cause: Cause) -> Found
+fn unawaited(table: &[u8], w: u64, i: usize, came: &[u16; 16], cause: ReadingCause) -> Found
     requires { ⌜ ((index : List ℕ) × Sound (now table) index w (now came) × (since (manner (held (now table) w)) i ≡ i)) ⌝ }
     ensures { λ r. ⌜ r ≡ Refused (unfitCause (held (now (table .entry)) w) i (now (came .entry)) cause) ⌝ }
 {
     if has_members(unpack(w).kind) {
         if !lacks(table, w, i, came, true) {
             return Found::Refused {
-                cause: Cause::Trailing,
+                cause: ReadingCause::Trailing,
             };
         }
     }
@@ -228,13 +228,13 @@ fn indirect(
             }
             if e.kind == SEQUENCE {
                 if !optional(table, s.first + s.step * k) {
-                    return unawaited(table, w, i, came, Cause::NotAwaited);
+                    return unawaited(table, w, i, came, ReadingCause::NotAwaited);
                 }
             }
         }
         k += 1;
     }
-    unawaited(table, w, i, came, Cause::NotAwaited)
+    unawaited(table, w, i, came, ReadingCause::NotAwaited)
 }
 
 // The part of w that the item at the beginning of m begins. Of a SEQUENCE the parts from the j-th on are awaited, up to the first that is

@@ -16,11 +16,11 @@ use ber::identifier;
 use ber::identifier::Identifier;
 use ber::length;
 use ber::length::Length;
-use octets::cause::Cause;
+use kinds::is_string;
 use records::entry::tag_code;
 use records::entry::tag_count;
 use records::entry::unpack;
-use records::kind::is_string;
+use x690::ReadingCause;
 
 // The item under all tags: where it begins, where its identifier ends, and where what it stands in ends.
 pub struct Inner {
@@ -31,7 +31,7 @@ pub struct Inner {
 
 pub enum Opened {
     Inside(Inner),
-    Refused { cause: Cause, left: usize },
+    Refused { cause: ReadingCause, left: usize },
 }
 
 // The note of a tag: twice the end of what it stands in, and 1 if 00 00 closes its contents.
@@ -49,7 +49,7 @@ fn note(end: usize, indefinite: bool) -> u16
 // Where an identifier ends, or why it is refused.
 pub enum Tag {
     Read { end: usize },
-    Refused { cause: Cause },
+    Refused { cause: ReadingCause },
 }
 
 // Where the identifier of the j-th tag of w ends, which m must begin with; a string's own may be constructed too. There is none if a CHOICE has
@@ -77,7 +77,7 @@ fn awaited(table: &[u8], w: u64, j: usize, m: &[u8]) -> Tag
                 }
             }
             Tag::Refused {
-                cause: Cause::NotAwaited,
+                cause: ReadingCause::NotAwaited,
             }
         }
     }
@@ -90,7 +90,7 @@ fn enter(table: &[u8], w: u64, j: usize, m: &[u8], indefinite: bool) -> Tag
 {
     match ending::read(m, 0, indefinite) {
         End::Over { end: _ } => Tag::Refused {
-            cause: Cause::NotAwaited,
+            cause: ReadingCause::NotAwaited,
         },
         End::Broken { cause } => Tag::Refused { cause },
         End::More => awaited(table, w, j, m),
@@ -175,7 +175,7 @@ pub fn close(m: &[u8], notes: &[u16; 4], count: usize, at: usize, end: usize, si
         match ending::read(around, at, n % 2 == 1) {
             End::More => {
                 return Judged::Refused {
-                    cause: Cause::Trailing,
+                    cause: ReadingCause::Trailing,
                     left: m.len() - at,
                 };
             }

@@ -10,8 +10,10 @@ use lib.Dec.{ltb, leb, eqb}
 use lib.ListN.{length, getD}
 use borrow.Author.Tests.{leb-false, ltb-true, ltb-false, lt-ltb, le-ltb, le-leb, eqb-false, ne-eqb}
 use Rattle.octets.specs.Tests.{if}
-use Rattle.octets.specs.Numbers.{Octets}
+use Rattle.octets.specs.Numbers.{Octets, two}
 use Rattle.octets.proofs.Tests.{test, at}
+use Rattle.ber.specs.Codes.{code}
+use Rattle.ber.proofs.Codes.{bit-small, code-short, code-long}
 use Rattle.dates.specs.declared.TimeKind.the-variants.{Utc, Generalized}
 use Rattle.table.specs.Syntax.{Tag, Member, Boolean, Integer, BitString, OctetString, Null, Enumerated, Time, Body, Plain}
 use Rattle.table.specs.Syntax.{Sequence, Set, SequenceOf, SetOf, Choice, Record, references, isChoice, constructed}
@@ -22,9 +24,10 @@ use Rattle.table.proofs.Pieces.{tagAt, length-tags, length-numbers, length-memb
 use Rattle.table.proofs.Fields.{constructed-of}
 use Rattle.table.proofs.Own.{Counted, counted-back, above-five}
 use Rattle.table.proofs.Reading.{headed, record-back}
-use Rattle.records.specs.Entries.{outermostCode, outermostIn, allButLast, explicitCount, tagCount, tagPlace, hasMembers}
+use Rattle.records.specs.Entries.{unpacked, packed, untagged, outermostCode, outermostIn, allButLast, explicitCount, entryAt, tagCount, tagPlace, hasMembers}
 use Rattle.records.specs.Entries.{counted, spanOf, Entered, WithMembers, WithAlternatives, WithElements, WithNumbers}
 use Rattle.records.specs.declared.entry.Entry.{Entry}
+use Rattle.records.proofs.Packing.{unpacks}
 
 -- A body by its kind, with the own part at p, which is shaped.
 data Owned (b : List ℕ) (p : ℕ) : ℕ → Body → Type 0 where
@@ -146,40 +149,56 @@ outermost-is b p (suc (suc n)) x t e = rw (ne-eqb (suc (suc n)) 0 (λ q. omega a
 pub heads : (b : List ℕ) (o : ℕ) → 0 < recordEnd b o → (getD b (o + 3) 0 ≤ 4) × (ownAt b o ≤ length b)
 heads b o h = let c = headed b o (λ e. omega arith) in (c .few, c .fits)
 
-pub explicit-small : (k n x : ℕ) → n ≤ 4 → x ≡ if (eqb k 50) n (λ _. allButLast n) → x < 128
-explicit-small k n x h e =
-    test (eqb k 50) (λ d. let q = rw d at e in omega arith) λ d.
-    test (eqb n 0) (λ z. let q = rw (d, z) at e in omega arith) λ z. let q = rw (d, z) at e in omega arith
+pub explicit-small : (k n : ℕ) → n ≤ 4 → if (eqb k 50) n (λ _. allButLast n) < 128
+explicit-small k n h =
+    test (eqb k 50) (λ d. rw d (omega arith)) λ d.
+    test (eqb n 0) (λ z. rw (d, z) (omega arith)) λ z. rw (d, z) (omega arith)
 
--- the entry that the code makes of a shaped record
-pub entering : (b : List ℕ) (o : ℕ) → Octets b → 0 < recordEnd b o → (c x : ℕ) (t : Bool)
-    → c ≡ outermostIn b (o + 4) (getD b (o + 3) 0) (not t)
-    → x ≡ if (eqb (getD b (o + 2) 0) 50) (getD b (o + 3) 0) (λ _. allButLast (getD b (o + 3) 0))
-    → t ≡ constructedOf (getD b (o + 2) 0)
-    → Entered b (record { code = c; own = ownAt b o; kind = getD b (o + 2) 0; explicit = x; simple = not t }) (recordAt b o)
-unfolding recordAt explicitCount
-entering b o s h c x t e₁ e₂ e₃ =
-    let k = getD b (o + 2) 0 in
-    let n = getD b (o + 3) 0 in
-    let z : recordEnd b o ≡ 0 → ⊥ = λ q. omega arith in
-    let head = headed b o z in
-    let back = record-back b o s z in
-    let body = bodyAt b k (ownAt b o) in
-    let w = owned b (ownAt b o) k (rw (head .end) at h) in
-    let q : o + 4 + 3 * n - 3 * n ≡ o + 4 = omega arith in
-    let l = length-tags b (o + 4) n in
-    let i : eqb k 50 ≡ isChoice body = ap (λ m. eqb m 50) (kind-owned w) ∙ choice-kind body in
-    record {
-      body = refl;
-      tags = rw (l, q);
-      behind = rw l (omega arith);
-      few = rw l (head .few);
-      code = e₁ ∙ outermost-is b (o + 4) n body t (e₃ ∙ sym (constructed-of b k (ownAt b o)));
-      explicit = e₂ ∙ rw (l, i);
-      simple = ap not (e₃ ∙ sym (constructed-of b k (ownAt b o)));
-      some = rw (head .end) at h;
-      ends = rw (head .end) at (back .within);
-    }
+-- the code of a tag is not that of a CHOICE without tags, and fits
+pub code-small : (c : ℕ) (t : Bool) (n : ℕ) → c < 256 → n < 65536 → code c t n < untagged
+code-small c t n h l =
+    test (ltb n 31) (λ e. omega (arith, code-short c t n (ltb-true _ _ e), bit-small t)) λ e.
+    omega (arith, code-long c t n (ltb-false _ _ e), bit-small t)
+
+outermost-small : (b : List ℕ) (p n : ℕ) (t : Bool) → Octets b → outermostIn b p n t < 4294967296
+unfolding outermostIn
+outermost-small b p n t s =
+    test (eqb n 0) (λ e. rw e (omega arith)) λ e.
+    rw e (omega (arith, code-small (getD b p 0) (ltb 1 n || not t) (two b (p + 1)) (s p) (omega (arith, s (p + 1), s (p + 1 + 1)))))
+
+-- the entry of a shaped record, and that its number gives it back
+module _ (b : List ℕ) (o : ℕ) (s : Octets b) (h : 0 < recordEnd b o) where
+  pub entry-entered : Entered b (entryAt b o) (recordAt b o)
+  unfolding recordAt explicitCount entryAt
+  entry-entered =
+      let k = getD b (o + 2) 0 in
+      let n = getD b (o + 3) 0 in
+      let z : recordEnd b o ≡ 0 → ⊥ = λ q. omega arith in
+      let head = headed b o z in
+      let back = record-back b o s z in
+      let body = bodyAt b k (ownAt b o) in
+      let w = owned b (ownAt b o) k (rw (head .end) at h) in
+      let q : o + 4 + 3 * n - 3 * n ≡ o + 4 = omega arith in
+      let l = length-tags b (o + 4) n in
+      let i : eqb k 50 ≡ isChoice body = ap (λ m. eqb m 50) (kind-owned w) ∙ choice-kind body in
+      let c : constructedOf k ≡ constructed body = sym (constructed-of b k (ownAt b o)) in
+      record {
+        body = refl;
+        tags = rw (l, q);
+        behind = rw l (omega arith);
+        few = rw l (head .few);
+        code = outermost-is b (o + 4) n body (constructedOf k) c;
+        explicit = rw (l, i);
+        simple = ap not c;
+        some = rw (head .end) at h;
+        ends = rw (head .end) at (back .within);
+      }
+
+  pub entry-back : length b ≤ 8192 → unpacked (packed (entryAt b o)) ≡ entryAt b o
+  unfolding entryAt
+  entry-back l =
+      let n = heads b o h in
+      unpacks (entryAt b o) (explicit-small (getD b (o + 2) 0) (getD b (o + 3) 0) (n .0)) (s (o + 2)) (omega arith) (outermost-small b (o + 4) _ _ s)
 
 -- the span of a kind whose own part is at p
 module _ {b : List ℕ} {p : ℕ} where

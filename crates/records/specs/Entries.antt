@@ -13,7 +13,8 @@ use Rattle.octets.specs.Numbers.{two}
 use Rattle.ber.specs.Codes.{code}
 use Rattle.table.specs.Syntax.{Tag, Member, Body, Plain, Sequence, Set, SequenceOf, SetOf, Choice, Record, isChoice, constructed}
 use Rattle.table.specs.Octets.{recordShaped}
-use Rattle.table.specs.Reading.{tagsAt, numbersAt, membersAt, everyAt, bodyAt, ownEnd, tableIn, countIn}
+use Rattle.table.specs.Reading.{tagsAt, numbersAt, membersAt, everyAt, bodyAt, ownAt, ownEnd, tableIn, countIn}
+use Rattle.table.specs.Fields.{constructedOf}
 use Rattle.records.specs.declared.entry.Entry.{Entry}
 use Rattle.records.specs.declared.entry.Span.{Span}
 
@@ -27,6 +28,15 @@ unpacked w =
       explicit = w / 72057594037927936 % 128;
       simple = leb 9223372036854775808 w;
     }
+
+-- the highest octet: the explicit tags, and 128 more for a simple kind
+abbrev pub highOctet : Bool → ℕ → ℕ
+highOctet true x = x + 128
+highOctet false x = x
+
+-- an entry as one number, which `unpacked` takes apart again
+unfoldable pub packed : Entry → ℕ
+packed e = ((highOctet (e .simple) (e .explicit) * 256 + e .kind) * 65536 + e .own) * 4294967296 + e .code
 
 -- the first identifier as a number: of the outermost tag, which is constructed unless it is the only one of a simple kind
 abbrev pub untagged : ℕ
@@ -55,6 +65,20 @@ allButLast n = if (eqb n 0) 127 λ _. n - 1
 
 unfoldable pub explicitCount : Record → ℕ
 explicitCount r = if (isChoice (r .body)) (length (r .tags)) λ _. allButLast (length (r .tags))
+
+-- the entry of the record at o
+unfoldable pub entryAt : List ℕ → ℕ → Entry
+entryAt b o =
+    let kind = getD b (o + 2) 0 in
+    let tags = getD b (o + 3) 0 in
+    let simple = not (constructedOf kind) in
+    record {
+      code = outermostIn b (o + 4) tags simple;
+      own = ownAt b o;
+      kind = kind;
+      explicit = if (eqb kind 50) tags λ _. allButLast tags;
+      simple = simple;
+    }
 
 -- how many tags an entry has
 unfoldable pub tagCount : Entry → ℕ

@@ -8,6 +8,7 @@ use native.Mathlib.Omega.{arith}
 use Prim.Native.Nat.{ℕ, zero, suc, _+_, _-_, _≤_}
 use lib.ListN.{length, getD, take, drop, length-append, take-append-drop}
 use lib.Seq.{take-append-seam, drop-append-seam}
+use Rattle.x690.specs.declared.ReadingCause.{ReadingCause}
 use Rattle.octets.specs.Answer.{Answer, got, if}
 use Rattle.octets.proofs.Answer.{Holds, yields, refuses, then-holds, map-holds, behind-holds, if-holds, got-holds}
 use Rattle.x690.specs.Identifier.{leading, identifier}
@@ -89,7 +90,7 @@ one-more : (k : Kind) (mode : Mode) (c s u v : List ℕ) (g h : Gathered) → wh
 one-more k mode c s u v g h w x y n a t r d e z =
     x n (join k a c) t (ready-join k a c w) d e (rw (join-assoc k a c (g .0)) (y n a t r d e z))
 
-module _ (k : Kind) (r : List ℕ → Answer Gathered) (one : (s : List ℕ) → Holds (Adds k s) (r s)) where
+module _ (k : Kind) (r : List ℕ → Answer ReadingCause Gathered) (one : (s : List ℕ) → Holds (Adds k s) (r s)) where
   joined-gathers : (n : ℕ) (c : List ℕ) (b : ℕ) (mode : Mode) (s : List ℕ) → Holds (AddsAll k mode c s) (readJoined k r n c b mode s)
   unfolding readJoined
   joined-gathers zero c b mode s = refuses
@@ -126,9 +127,9 @@ primitive-adds k b {c = c} {s} {u} x n a t r d w y = go (x .framed)
         ∙ ap (λ (l : List ℕ). universal k ∷ l) (append-assoc ls c (u ++ t)) in
         rw q (add c (u ++ t) (rw (x .has) at l) y)
 
-module _ (k : Kind) (body : Mode → List ℕ → Answer Gathered) (all : (mode : Mode) (s : List ℕ) → Holds (AddsAll k mode (empty k) s) (body mode s))
+module _ (k : Kind) (body : Mode → List ℕ → Answer ReadingCause Gathered) (all : (mode : Mode) (s : List ℕ) → Holds (AddsAll k mode (empty k) s) (body mode s))
     (ends : (s : List ℕ) → Holds (λ g u. u ≡ []) (body closed s)) where
-  both : (s : List ℕ) {x : Answer Gathered} → Holds (AddsAll k closed (empty k) s) x → Holds (λ g u. u ≡ []) x
+  both : (s : List ℕ) {x : Answer ReadingCause Gathered} → Holds (AddsAll k closed (empty k) s) x → Holds (λ g u. u ≡ []) x
       → Holds (λ g u. (u ≡ []) × AddsAll k closed (empty k) s g u) x
   both s (yields x) (yields e) = yields (e, x)
   both s refuses e = refuses

@@ -1,32 +1,32 @@
--- Laws of the code that joins segments: what is gathered by headers alone, turn by turn.
+-- Laws of the code that joins segments by headers alone: what can be gathered is joined, and the walk of the code, turn by turn.
 -- Assumes nothing.
+use borrow.Author.Tests.{lt-ltb, le-ltb, le-leb, ne-eqb}
 use mathlib.Core.Bool.{true, false}
 use mathlib.Core.List.{List, [], _∷_, _++_}
-use mathlib.Core.Path.{_≡_, refl, sym, ap, _∙_}
+use mathlib.Core.Path.{_≡_, refl, ap, _∙_}
 use native.Mathlib.Nat.{add-zero}
 use native.Mathlib.Omega.{arith}
 use Prim.Native.Nat.{ℕ, zero, suc, _+_, _-_, _≤_, _<_}
 use lib.ListN.{length, getD, take, drop, length-append, length-drop}
 use lib.Seq.{drop-drop}
-use Rattle.octets.specs.declared.cause.Cause.{Cause}
-use Rattle.octets.specs.Answer.{got, refused}
+use Rattle.x690.specs.declared.ReadingCause.{ReadingCause}
+use Rattle.octets.specs.Answer.{got, if, none-left}
 use Rattle.octets.specs.Buffers.{put, putEnd}
-use Rattle.octets.proofs.Answer.{refused≢got, got-rest}
 use Rattle.octets.proofs.Buffers.{put-roomy, put-end}
 use Rattle.octets.proofs.Tests.{test}
-use Rattle.x690.specs.Reading.{definite, indefinite, readLength}
+use Rattle.x690.specs.Reading.{definite, readLength}
 use Rattle.x690.specs.Segments.{Kind, bit-string, octet-string, universal, empty, join}
 use Rattle.ber.specs.Told.{toldLength}
 use Rattle.segments.specs.Segments.{unusedIn, carried, Gathers, behind-all, at-end, closes, enters, opens, adds, IsJoined}
+use Rattle.segments.specs.Segments.{Way, onTo, withPut, enter, walk, joining, toldJoined}
 use Rattle.ber.specs.declared.length.Length.{Length}
 use Rattle.ber.specs.declared.length.Length.the-variants.{Read as ReadLength, Refused as NoLength}
 use Rattle.ber.specs.declared.length.Extent.{Extent}
 use Rattle.segments.specs.declared.Joined.{Joined}
 use Rattle.ber.proofs.Headers.{put-behind}
-use Rattle.ber.proofs.Places.{none-at, some-at}
-use Rattle.ber.proofs.Skipping.{not-both, same-size}
+use Rattle.ber.proofs.Places.{left-at, none-at, some-at, Left, left-all, left-of, left-back}
 use Rattle.segments.proofs.SegmentCode.{unused-none, unused-join}
-use Rattle.ber.proofs.Told.{length-definite, length-indefinite, length-refused}
+use Rattle.ber.proofs.Told.{length-rest, length-definite, length-indefinite, length-refused}
 
 universal-some : (k : Kind) → 0 < universal k
 universal-some bit-string = omega arith
@@ -58,137 +58,172 @@ gather-more {k} {a = a} (adds {z = z} {r = r} e p) =
     let l = ap length (carried-join k a (take z r)) ∙ length-append (carried k a) (carried k (take z r)) in
     omega arith
 
+-- a way, by its parts
+abbrev way : List ℕ → List ℕ → ℕ → ℕ → Way
+way s buf next unused = record { left = s; buffer = buf; next = next; unused = unused }
+
+walk-none : (k : Kind) (t n : ℕ) (x : Way) → walk k t n (onTo [] x) ≡ onTo [] x
+unfolding walk if none-left
+walk-none k zero n x = refl
+walk-none k (suc t) zero x = refl
+walk-none k (suc t) (suc n) x = refl
+
 -- by the first octet
-gather-over : {k : Kind} {n : ℕ} {a c w : List ℕ} → Gathers k (suc n) a [] c w → (c ≡ a) × (w ≡ [])
-gather-over at-end = (refl, refl)
+module _ (k : Kind) (t n b : ℕ) (s buf : List ℕ) (next unused : ℕ) where
+  walk-close : b ≡ 0 → walk k (suc t) (suc n) (way (b ∷ s) buf next unused) ≡ walk k t n (way (drop 1 s) buf next unused)
+  unfolding walk if none-left
+  walk-close z = rw z refl
 
-gather-none : {k : Kind} {a s c w : List ℕ} → Gathers k zero a s c w → (c ≡ a) × (s ≡ w)
-gather-none behind-all = (refl, refl)
+  walk-enter : (b ≡ 0 → ⊥)
+      → walk k (suc t) (suc n) (way (b ∷ s) buf next unused) ≡ enter k (walk k t) b (suc n) (way (b ∷ s) buf next unused) (readLength 0 s)
+  unfolding walk if none-left
+  walk-enter z = rw (ne-eqb b 0 z) refl
 
-gather-close : {k : Kind} {n b : ℕ} {a s c w : List ℕ} → Gathers k (suc n) a (b ∷ s) c w → b ≡ 0 → (0 < length s) × Gathers k n a (drop 1 s) c w
-gather-close (closes p) e = (omega arith, p)
-gather-close (enters f p) e = absurd (omega arith)
-gather-close (opens f p) e = absurd (omega arith)
-gather-close {k} (adds f p) e = absurd (omega (arith, universal-some k))
+-- What can be gathered and has room is joined to it.
+module _ (k : Kind) (buf : List ℕ) (to : ℕ) where
+  -- the way where a was gathered, and s is left
+  abbrev held : List ℕ → List ℕ → Way
+  held a s = way s (put buf to (carried k a)) (putEnd buf to (carried k a)) (unusedIn k a)
 
-gather-unread : {k : Kind} {n b : ℕ} {a s c w : List ℕ} → Gathers k (suc n) a (b ∷ s) c w
-    → (b ≡ 0 → ⊥) → (f : Cause) → ((l : ℕ) → readLength l s ≡ refused f l) → ⊥
-gather-unread (closes p) z f h = z refl
-gather-unread (enters e p) z f h = refused≢got (sym (h 0) ∙ e 0)
-gather-unread (opens e p) z f h = refused≢got (sym (h 0) ∙ e 0)
-gather-unread (adds e p) z f h = refused≢got (sym (h 0) ∙ e 0)
+  held-none : (s : List ℕ) → to ≤ length buf → way s buf to 0 ≡ held (empty k) s
+  held-none s h = rw (carried-empty k, unused-none k, le-leb (to + 0) (length buf) (omega arith), add-zero to) refl
 
-gather-enter : {k : Kind} {n b : ℕ} {a s c w : List ℕ} {z : ℕ} {r : List ℕ} → Gathers k (suc n) a (b ∷ s) c w → 32 ≤ b
-    → readLength 0 s ≡ got (definite z) r → Gathers k (suc n) a r c w
-gather-enter (closes p) h f = absurd (omega arith)
-gather-enter (enters e p) h f = rw (got-rest (sym (e 0) ∙ f)) at p
-gather-enter (opens e p) h f = absurd (not-both f (e 0))
-gather-enter {k} (adds e p) h f = absurd (omega (arith, universal-low k))
+  held-more : (a d s u : List ℕ) → to + length (carried k (join k a d)) ≤ length buf → withPut k d s (held a u) ≡ held (join k a d) s
+  held-more a d s u room =
+      let (x, y) = put-behind buf to (carried k a) (carried k d) (rw carried-join at room) _ _ refl refl in
+      rw (x, y, unused-join k a d, carried-join k a d) refl
 
-gather-open : {k : Kind} {n b : ℕ} {a s c w : List ℕ} {r : List ℕ} → Gathers k (suc n) a (b ∷ s) c w
-    → 32 ≤ b → readLength 0 s ≡ got indefinite r → Gathers k (suc (suc n)) a r c w
-gather-open (closes p) h f = absurd (omega arith)
-gather-open (enters e p) h f = absurd (not-both (e 0) f)
-gather-open (opens e p) h f = rw (got-rest (sym (e 0) ∙ f)) at p
-gather-open {k} (adds e p) h f = absurd (omega (arith, universal-low k))
+  added : (t n z : ℕ) (a s r : List ℕ) → readLength 0 s ≡ got (definite z) r → to + length (carried k (join k a (take z r))) ≤ length buf
+      → walk k (suc (suc t)) (suc n) (held a (universal k ∷ s)) ≡ walk k (suc t) (suc n) (held (join k a (take z r)) (drop z r))
+  unfolding if
+  added t n z a s r e g =
+      walk-enter k (suc t) n (universal k) s _ _ _ (λ y. omega (arith, universal-some k))
+      ∙ rw (e, lt-ltb (universal k) 32 (universal-low k)) (ap (walk k (suc t) (suc n)) (held-more a (take z r) (drop z r) (universal k ∷ s) g))
 
-gather-add : {k : Kind} {n b : ℕ} {a s c w : List ℕ} {z : ℕ} {r : List ℕ} → Gathers k (suc n) a (b ∷ s) c w
-    → (b ≡ 0 → ⊥) → b < 32 → readLength 0 s ≡ got (definite z) r
-    → Gathers k (suc n) (join k a (take z r)) (drop z r) c w
-gather-add (closes p) y h f = absurd (y refl)
-gather-add (enters e p) y h f = absurd (omega arith)
-gather-add (opens e p) y h f = absurd (omega arith)
-gather-add (adds e p) y h f = rw (same-size (e 0) f, got-rest (sym (e 0) ∙ f)) at p
+  gathered : {n : ℕ} {a s c w : List ℕ} → Gathers k n a s c w → to + length (carried k c) ≤ length buf → (t : ℕ) → length s ≤ t
+      → walk k (suc t) n (held a s) ≡ held c w
+  unfolding walk if none-left
+  gathered behind-all room t h = refl
+  gathered at-end room t h = refl
+  gathered (closes p) room zero h = absurd (omega arith)
+  gathered (closes p) room (suc t) h = gathered p room t (omega arith)
+  gathered (enters e p) room zero h = absurd (omega arith)
+  gathered (enters {s = s} {r = r} e p) room (suc t) h =
+      let (q, f, low, high, o) = length-rest s 0 0 _ r (e 0) in
+      rw (ne-eqb (universal k + 32) 0 (λ y. omega arith), e 0, le-ltb (universal k + 32) 32 (omega arith))
+      (gathered p room t (omega (arith, ap length f, length-drop q s)))
+  gathered (opens e p) room zero h = absurd (omega arith)
+  gathered (opens {s = s} {r = r} e p) room (suc t) h =
+      let (q, f, low, high, o) = length-rest s 0 0 _ r (e 0) in
+      rw (ne-eqb (universal k + 32) 0 (λ y. omega arith), e 0, le-ltb (universal k + 32) 32 (omega arith))
+      (gathered p room t (omega (arith, ap length f, length-drop q s)))
+  gathered (adds e p) room zero h = absurd (omega arith)
+  gathered (adds {n = n} {z = z} {a = a} {s = s} {r = r} e p) room (suc t) h =
+      let (q, f, low, high, o) = length-rest s 0 0 _ r (e 0) in
+      let g : to + length (carried k (join k a (take z r))) ≤ length buf = omega (arith, gather-more p) in
+      added t n z a s r (e 0) g ∙ gathered p room t (omega (arith, ap length f, length-drop q s, length-drop z r))
 
-gather-whole : {k : Kind} {n b : ℕ} {a s c w : List ℕ} {r : List ℕ} → Gathers k (suc n) a (b ∷ s) c w
-    → (b ≡ 0 → ⊥) → b < 32 → readLength 0 s ≡ got indefinite r → ⊥
-gather-whole (closes p) y h f = y refl
-gather-whole (enters e p) y h f = omega arith
-gather-whole (opens e p) y h f = omega arith
-gather-whole (adds e p) y h f = not-both (e 0) f
+-- what is left after it is an end of the octets
+gather-left : {k : Kind} {n : ℕ} {a s c w : List ℕ} → Gathers k n a s c w → Left s w
+gather-left (behind-all {w = w}) = left-all w
+gather-left at-end = left-all []
+gather-left (closes {s = s} p) = left-of (0 ∷ 0 ∷ s) 2 refl (omega arith) (gather-left p)
+gather-left {k} (enters {s = s} {r = r} e p) =
+    let (q, f, low, high, o) = length-rest s 0 0 _ r (e 0) in left-of ((universal k + 32) ∷ s) (suc q) f (omega arith) (gather-left p)
+gather-left {k} (opens {s = s} {r = r} e p) =
+    let (q, f, low, high, o) = length-rest s 0 0 _ r (e 0) in left-of ((universal k + 32) ∷ s) (suc q) f (omega arith) (gather-left p)
+gather-left {k} (adds {z = z} {s = s} {r = r} e p) =
+    let (q, f, low, high, o) = length-rest s 0 0 _ r (e 0) in
+    left-of (universal k ∷ s) (suc q) f (omega arith) (left-of r z refl o (gather-left p))
 
--- the loop: what is in hand, and stands in the buffer
-pub record Reached (k : Kind) (m buf₀ : List ℕ) (to : ℕ) (buf : List ℕ) (at next unused n : ℕ) (c w : List ℕ) : Type 0 where
-  pub hand : List ℕ
-  pub goes : Gathers k n hand (drop at m) c w
-  pub ends : next ≡ putEnd buf₀ to (carried k hand)
-  pub stored : buf ≡ put buf₀ to (carried k hand)
-  pub left : unused ≡ unusedIn k hand
+-- so the code's answer says what was gathered
+pub join-is : {k : Kind} {m buf : List ℕ} {to : ℕ} {last : List ℕ} {r : Joined}
+    → (let x = joining k m buf to in (r ≡ toldJoined (length m) x) × (last ≡ x .buffer))
+    → (c w : List ℕ) → Gathers k 1 (empty k) m c w → to + length (carried k c) ≤ length buf → IsJoined k m buf to c w last r
+unfolding joining
+join-is {k} {m} {buf} {to} {last} {r} (e, f) c w g room =
+    let x : joining k m buf to ≡ held k buf to c w = ap (walk k (suc (length m)) 1) (held-none k buf to m (omega arith)) ∙ gathered k buf to g room (length m) (omega arith) in
+    let y : r ≡ toldJoined (length m) (held k buf to c w) = e ∙ ap (toldJoined (length m)) x in
+    record {
+      within = rw y (omega arith);
+      behind = rw y (left-back m w (gather-left g));
+      next = rw y (put-end buf to (carried k c) room);
+      unused = rw y refl;
+      put = f ∙ ap (λ (x : Way). x .buffer) x ∙ put-roomy buf to (carried k c) room;
+    }
 
--- whatever the octets m are to make, as far as there is room
+-- the loop: what is left of the way
 pub record Joins (k : Kind) (m buf₀ : List ℕ) (to : ℕ) (buf : List ℕ) (at next unused n : ℕ) : Type 0 where
-  pub reached : (c w : List ℕ) → Gathers k 1 (empty k) m c w → to + length (carried k c) ≤ length buf₀ → Reached k m buf₀ to buf at next unused n c w
+  pub turns : ℕ
+  pub enough : length (drop at m) ≤ turns
+  pub whole : joining k m buf₀ to ≡ walk k (suc turns) n (way (drop at m) buf next unused)
 
 abbrev Result : Kind → List ℕ → List ℕ → ℕ → List ℕ → Joined → Type 0
-Result k m buf₀ to buf r = (c w : List ℕ) → Gathers k 1 (empty k) m c w → to + length (carried k c) ≤ length buf₀ → IsJoined k m buf₀ to c w buf r
+Result k m buf₀ to buf r = let x = joining k m buf₀ to in (r ≡ toldJoined (length m) x) × (buf ≡ x .buffer)
 
 pub joins-first : (k : Kind) (m buf : List ℕ) (to : ℕ) → Joins k m buf to buf 0 to 0 1
-joins-first k m buf to = record { reached = λ c w g room. start c w g room }
-  where
-    start : (c w : List ℕ) → Gathers k 1 (empty k) m c w → to + length (carried k c) ≤ length buf → Reached k m buf to buf 0 to 0 1 c w
-    start c w g room =
-        let z = carried-empty k in
-        let h : to + length (carried k (empty k)) ≤ length buf = rw z (omega arith) in
-        record {
-          hand = empty k;
-          goes = g;
-          ends = sym (put-end buf to (carried k (empty k)) h ∙ rw z (add-zero to));
-          stored = sym (put-roomy buf to (carried k (empty k)) h ∙ rw z refl);
-          left = sym (unused-none k);
-        }
+unfolding joining
+joins-first k m buf to = record { turns = length m; enough = omega arith; whole = refl }
 
 module _ {k : Kind} {m buf₀ : List ℕ} {to : ℕ} {buf : List ℕ} {at next unused n : ℕ} (J : Joins k m buf₀ to buf at next unused n) where
-  -- at the end of the outermost
-  finished : at ≤ length m → (c w : List ℕ) → to + length (carried k c) ≤ length buf₀ → (R : Reached k m buf₀ to buf at next unused n c w)
-      → c ≡ R .hand → drop at m ≡ w → IsJoined k m buf₀ to c w buf (record { end = at; next = next; unused = unused })
-  finished h c w room R e f =
-      record {
-        within = h;
-        behind = f;
-        next = R .ends ∙ rw (← e) (put-end buf₀ to (carried k c) room);
-        unused = R .left ∙ rw (← e) refl;
-        put = R .stored ∙ rw (← e) (put-roomy buf₀ to (carried k c) room);
-      }
+  -- at the end
+  ended : (e : ℕ) → e ≤ length m → joining k m buf₀ to ≡ way (drop e m) buf next unused → Result k m buf₀ to buf (record { end = e; next = next; unused = unused })
+  ended e h q = rw (q, left-at m e h) (refl, refl)
 
   pub joins-none : at ≤ length m → n ≡ 0 → Result k m buf₀ to buf (record { end = at; next = next; unused = unused })
-  joins-none h z c w g room =
-      let R = J .reached c w g room in
-      let (e, f) = gather-none (rw z at (R .goes)) in
-      finished h c w room R e f
+  unfolding walk
+  joins-none h z = ended at h (rw z at (J .whole))
 
   module _ (o : 0 < n) where
     counted : n ≡ suc (n - 1)
     counted = omega arith
 
     pub joins-over : at ≤ length m → length m ≤ at → Result k m buf₀ to buf (record { end = at; next = next; unused = unused })
-    joins-over h i c w g room =
-        let R = J .reached c w g room in
+    joins-over h i =
         let x = none-at m at i in
-        let (e, f) = gather-over (rw (counted, x) at (R .goes)) in
-        finished h c w room R e (x ∙ sym f)
+        ended at h (J .whole ∙ rw x (walk-none k (suc (J .turns)) n (way [] buf next unused)))
 
     module _ (there : at < length m) where
-      standing : (c w : List ℕ) (R : Reached k m buf₀ to buf at next unused n c w)
-          → Gathers k (suc (n - 1)) (R .hand) (getD m at 0 ∷ drop (at + 1) m) c w
-      standing c w R = rw (counted, some-at m at there) at (R .goes)
+      standing : joining k m buf₀ to ≡ walk k (suc (J .turns)) (suc (n - 1)) (way (getD m at 0 ∷ drop (at + 1) m) buf next unused)
+      standing = rw (counted, some-at m at there) at (J .whole)
 
-      pub joins-cut : getD m at 0 ≡ 0 → length m - at < 2 → {r : Joined} → Result k m buf₀ to buf r
-      joins-cut z l c w g room =
-          let (h, p) = gather-close (standing c w (J .reached c w g room)) z in
-          absurd (omega (arith, length-drop (at + 1) m))
+      to-end : joining k m buf₀ to ≡ way [] buf next unused → Result k m buf₀ to buf (record { end = length m; next = next; unused = unused })
+      to-end e = ended (length m) (omega arith) (e ∙ rw (none-at m (length m) (omega arith)) refl)
 
-      pub joins-mark : getD m at 0 ≡ 0 → Joins k m buf₀ to buf (at + 2) next unused (n - 1)
-      joins-mark z = record {
-        reached = λ c w g room.
-            let R = J .reached c w g room in
-            let (h, p) = gather-close (standing c w R) z in
+      -- a turn to a further place
+      turn : {last : List ℕ} {after count : ℕ} (further j : ℕ) → at < further → further ≤ length m
+          → joining k m buf₀ to ≡ walk k (J .turns) j (way (drop further m) last after count) → Joins k m buf₀ to last further after count j
+      turn {last} {after} {count} further j low high e =
+          let l = length-drop at m in
+          let i = J .enough in
+          let t : J .turns ≡ suc (J .turns - 1) = omega arith in
+          record {
+            turns = J .turns - 1;
+            enough = omega (arith, length-drop further m);
+            whole = e ∙ ap (λ (t : ℕ). walk k t j (way (drop further m) last after count)) t;
+          }
+
+      module _ (z : getD m at 0 ≡ 0) where
+        closed : joining k m buf₀ to ≡ walk k (J .turns) (n - 1) (way (drop (at + 2) m) buf next unused)
+        closed =
             let e : at + 1 + 1 ≡ at + 2 = omega arith in
-            record { hand = R .hand; goes = rw (drop-drop 1 (at + 1) m, e) at p; ends = R .ends; stored = R .stored; left = R .left };
-      }
+            standing ∙ walk-close k (J .turns) (n - 1) (getD m at 0) (drop (at + 1) m) buf next unused z ∙ rw (drop-drop 1 (at + 1) m, e) refl
+
+        pub joins-cut : length m - at < 2 → Result k m buf₀ to buf (record { end = length m; next = next; unused = unused })
+        joins-cut l = to-end (closed ∙ rw (none-at m (at + 2) (omega arith)) (walk-none k (J .turns) (n - 1) (way [] buf next unused)))
+
+        pub joins-mark : at + 2 ≤ length m → Joins k m buf₀ to buf (at + 2) next unused (n - 1)
+        joins-mark h = turn (at + 2) (n - 1) (omega arith) h closed
 
       module _ (z : getD m at 0 ≡ 0 → ⊥) {x : Length} (a : (l : ℕ) → x ≡ toldLength (length m) (readLength l (drop (at + 1) m))) where
-        pub joins-unread : {f : Cause} → x ≡ NoLength f → {r : Joined} → Result k m buf₀ to buf r
-        joins-unread {f} e c w g room = absurd (gather-unread (standing c w (J .reached c w g room)) z f λ l. length-refused m (at + 1) l x (a l) f e)
+        abbrev here : Way
+        here = way (getD m at 0 ∷ drop (at + 1) m) buf next unused
+
+        onward : joining k m buf₀ to ≡ enter k (walk k (J .turns)) (getD m at 0) (suc (n - 1)) here (readLength 0 (drop (at + 1) m))
+        onward = standing ∙ walk-enter k (J .turns) (n - 1) (getD m at 0) (drop (at + 1) m) buf next unused z
+
+        pub joins-unread : {f : ReadingCause} → x ≡ NoLength f → Result k m buf₀ to buf (record { end = length m; next = next; unused = unused })
+        joins-unread {f} e = to-end (onward ∙ rw (length-refused m (at + 1) 0 x (a 0) f e) refl)
 
         module _ {y : Extent} (e : x ≡ ReadLength y) where
           pub joins-further : (at < y .start) × (y .start ≤ y .end) × (y .end ≤ length m)
@@ -198,54 +233,39 @@ module _ {k : Kind} {m buf₀ : List ℕ} {to : ℕ} {buf : List ℕ} {at next u
               λ t. let (p, i, j, l) = length-definite m (at + 1) 0 x (a 0) y e t in (omega arith, j, l)
 
           pub joins-entered : 32 ≤ getD m at 0 → y .indefinite ≡ false → Joins k m buf₀ to buf (y .start) next unused n
-          joins-entered h t = record {
-            reached = λ c w g room.
-                let R = J .reached c w g room in
-                let (p, i, j, l) = length-definite m (at + 1) 0 x (a 0) y e t in
-                record { hand = R .hand; goes = rw (← counted) at (gather-enter (standing c w R) h p); ends = R .ends; stored = R .stored; left = R .left };
-          }
+          unfolding if
+          joins-entered h t =
+              let (low, mid, high) = joins-further in
+              let (p, i, j, l) = length-definite m (at + 1) 0 x (a 0) y e t in
+              turn (y .start) n low (omega arith) (onward ∙ rw (p, le-ltb (getD m at 0) 32 h, ← counted) refl)
 
           pub joins-opened : 32 ≤ getD m at 0 → y .indefinite ≡ true → Joins k m buf₀ to buf (y .start) next unused (n + 1)
-          joins-opened h t = record {
-            reached = λ c w g room.
-                let R = J .reached c w g room in
-                let (p, i, j, l) = length-indefinite m (at + 1) 0 x (a 0) y e t in
-                let q : suc (suc (n - 1)) ≡ n + 1 = omega arith in
-                record { hand = R .hand; goes = rw q at (gather-open (standing c w R) h p); ends = R .ends; stored = R .stored; left = R .left };
-          }
+          unfolding if
+          joins-opened h t =
+              let (low, mid, high) = joins-further in
+              let (p, i, j, l) = length-indefinite m (at + 1) 0 x (a 0) y e t in
+              let q : suc (suc (n - 1)) ≡ n + 1 = omega arith in
+              turn (y .start) (n + 1) low (omega arith) (onward ∙ rw (p, le-ltb (getD m at 0) 32 h, q) refl)
 
           -- what a primitive segment carries is put
-          module _ (h : getD m at 0 < 32) (c w : List ℕ) (g : Gathers k 1 (empty k) m c w) (room : to + length (carried k c) ≤ length buf₀) where
-            abbrev d : List ℕ
-            d = take (y .end - y .start) (drop (y .start) m)
+          module _ (h : getD m at 0 < 32) where
+            abbrev c : List ℕ
+            c = take (y .end - y .start) (drop (y .start) m)
 
-            no-open : y .indefinite ≡ true → ⊥
-            no-open t =
-                let (p, i, j, v) = length-indefinite m (at + 1) 0 x (a 0) y e t in
-                gather-whole (standing c w (J .reached c w g room)) z h p
+            primitive : joining k m buf₀ to ≡ walk k (J .turns) n (withPut k c (drop (y .end) m) here)
+            unfolding if
+            primitive = test (y .indefinite)
+                (λ t. let (p, i, j, l) = length-indefinite m (at + 1) 0 x (a 0) y e t in
+                let q : length (drop (y .start) m) ≡ y .end - y .start = omega (arith, length-drop (y .start) m) in
+                onward ∙ rw (p, lt-ltb (getD m at 0) 32 h, q, drop-drop (y .end - y .start) (y .start) m, ← counted) (rw (back (omega arith)) refl))
+                λ t. let (p, i, j, l) = length-definite m (at + 1) 0 x (a 0) y e t in
+                onward ∙ rw (p, lt-ltb (getD m at 0) 32 h, drop-drop (y .end - y .start) (y .start) m, ← counted) (rw (back j) refl)
+              where
+                back : y .start ≤ y .end → y .start + (y .end - y .start) ≡ y .end
+                back l = omega arith
 
-            sized : (last : List ℕ) (after count : ℕ) → after ≡ putEnd buf next (carried k d) → last ≡ put buf next (carried k d) → count ≡ unusedIn k d
-                → y .indefinite ≡ false → Reached k m buf₀ to last (y .end) after count n c w
-            sized last after count f l u t =
-                let R = J .reached c w g room in
-                let (p, i, j, v) = length-definite m (at + 1) 0 x (a 0) y e t in
-                let s = gather-add (standing c w R) z h p in
-                let q : y .start + (y .end - y .start) ≡ y .end = omega arith in
-                let b = carried-join k (R .hand) d in
-                let grows : to + length (carried k (R .hand) ++ carried k d) ≤ length buf₀ = omega (arith, rw b at (gather-more s)) in
-                let (ends, stored) = put-behind buf₀ to (carried k (R .hand)) (carried k d) grows next buf (R .ends) (R .stored) in
-                record {
-                  hand = join k (R .hand) d;
-                  goes = rw (← counted, drop-drop (y .end - y .start) (y .start) m, q) at s;
-                  ends = f ∙ ends ∙ rw b refl;
-                  stored = l ∙ stored ∙ rw b refl;
-                  left = u ∙ sym (unused-join k (R .hand) d);
-                }
-
-          pub joins-added : getD m at 0 < 32 → {last : List ℕ} {after count : ℕ}
-              → (let d = take (y .end - y .start) (drop (y .start) m) in
-              after ≡ putEnd buf next (carried k d) → last ≡ put buf next (carried k d) → count ≡ unusedIn k d → Joins k m buf₀ to last (y .end) after count n)
-          joins-added h {last} {after} {count} f l u =
-              record {
-                reached = λ c w g room. test (y .indefinite) (λ t. absurd (no-open h c w g room t)) λ t. sized h c w g room last after count f l u t;
-              }
+            pub joins-added : {last : List ℕ} {after count : ℕ} → after ≡ putEnd buf next (carried k c) → last ≡ put buf next (carried k c) → count ≡ unusedIn k c
+                → Joins k m buf₀ to last (y .end) after count n
+            joins-added {last} {after} {count} f l u =
+                let (low, mid, high) = joins-further in
+                turn (y .end) n (omega arith) high (primitive ∙ rw (f, l, u) refl)

@@ -9,8 +9,8 @@ use native.Mathlib.Omega.{arith}
 use Prim.Native.Nat.{ℕ, zero, suc, _+_, _-_, _*_, _≤_}
 use lib.ListN.{length, take, drop, length-append, length-drop, take-append-drop}
 use lib.Seq.{length-take-le}
-use Rattle.octets.specs.declared.cause.Cause.{Cause}
-use Rattle.octets.specs.declared.cause.Cause.the-variants.{NotAwaited}
+use Rattle.x690.specs.declared.ReadingCause.{ReadingCause}
+use Rattle.x690.specs.declared.ReadingCause.the-variants.{NotAwaited}
 use Rattle.octets.specs.Answer.{Answer, got, refused, then, if, behind, none-left}
 use Rattle.octets.specs.Lists.{same}
 use Rattle.octets.proofs.Answer.{Holds, yields, refuses}
@@ -47,29 +47,29 @@ form-least bit-string (x ∷ c) e = omega arith
 form-least octet-string c e = omega arith
 
 -- At s, where the contents in hand have e octets and the last primitive segment begins b octets back: at least o octets are taken.
-pub data Within (k : Kind) (o e b : ℕ) (s : List ℕ) : Answer Gathered → Type 0 where
+pub data Within (k : Kind) (o e b : ℕ) (s : List ℕ) : Answer ReadingCause Gathered → Type 0 where
   takes : {g : Gathered} {u : List ℕ} (p : List ℕ) → s ≡ p ++ u → o ≤ length p → length (empty k) ≤ length (g .0) → length (g .0) ≤ e + length p
       → g .1 ≤ b + length p → Within k o e b s (got g u)
-  stops : {c : Cause} {l : ℕ} → l ≤ b + length s → Within k o e b s (refused c l)
+  stops : {c : ReadingCause} {l : ℕ} → l ≤ b + length s → Within k o e b s (refused c l)
 
 -- a refusal here
-here : {k : Kind} {o e b : ℕ} {s : List ℕ} {c : Cause} → Within k o e b s (refused c (length s))
+here : {k : Kind} {o e b : ℕ} {s : List ℕ} {c : ReadingCause} → Within k o e b s (refused c (length s))
 here {s = s} = stops {l = length s} (omega arith)
 
 module _ {k : Kind} {o e b : ℕ} {s : List ℕ} where
-  then-within : {A : Type 0} {P : A → List ℕ → Type 0} {x : Answer A} {f : A → List ℕ → Answer Gathered} → Holds P x → Faulty (length s) x
+  then-within : {A : Type 0} {P : A → List ℕ → Type 0} {x : Answer ReadingCause A} {f : A → List ℕ → Answer ReadingCause Gathered} → Holds P x → Faulty (length s) x
       → ((a : A) (r : List ℕ) → P a r → Within k o e b s (f a r)) → Within k o e b s (then x f)
   unfolding then
   then-within (yields {a = a} {r = r} h) q f = f a r h
   then-within (refuses {l = l}) q f = stops {l = l} (omega arith)
 
-  if-within : (t : Bool) {x : Answer Gathered} {y : Unit {0} → Answer Gathered} → (t ≡ true → Within k o e b s x)
+  if-within : (t : Bool) {x : Answer ReadingCause Gathered} {y : Unit {0} → Answer ReadingCause Gathered} → (t ≡ true → Within k o e b s x)
       → (t ≡ false → (u : Unit {0}) → Within k o e b s (y u)) → Within k o e b s (if t x y)
   unfolding if
   if-within true h g = h refl
   if-within false h g = g refl tt
 
-atEnd-within : {k : Kind} {o e b : ℕ} (mode : Mode) (s : List ℕ) {f : List ℕ → Answer Gathered} {x : Unit {0} → Answer Gathered}
+atEnd-within : {k : Kind} {o e b : ℕ} (mode : Mode) (s : List ℕ) {f : List ℕ → Answer ReadingCause Gathered} {x : Unit {0} → Answer ReadingCause Gathered}
     → ((u : List ℕ) → Ends mode s u → Within k o e b s (f u)) → ((t : Unit {0}) → Within k o e b s (x t)) → Within k o e b s (atEnd mode s f x)
 unfolding atEnd if none-left
 atEnd-within closed [] h g = h [] no-more
@@ -85,7 +85,7 @@ ends-cut no-more = ([], refl)
 ends-cut mark = (0 ∷ 0 ∷ [], refl)
 
 -- behind a segment
-further : (k : Kind) (c p s u : List ℕ) (b : ℕ) (g : Gathered) {y : Answer Gathered} → s ≡ p ++ u → length (empty k) ≤ length c
+further : (k : Kind) (c p s u : List ℕ) (b : ℕ) (g : Gathered) {y : Answer ReadingCause Gathered} → s ≡ p ++ u → length (empty k) ≤ length c
     → length (empty k) ≤ length (g .0) → length (g .0) ≤ length p → g .1 ≤ length p
     → Within k 0 (length (join k c (g .0))) (g .1) u y → Within k 0 (length c) b s y
 further k c p s u b g e a f h i (takes {g = x} {u = v} q eq o low high back) =
@@ -94,7 +94,7 @@ further k c p s u b g e a f h i (takes {g = x} {u = v} q eq o low high back) =
     takes {g = x} {u = v} (p ++ q) (e ∙ ap (λ (l : List ℕ). p ++ l) eq ∙ sym (append-assoc p q v)) (omega arith) low (omega arith) (omega arith)
 further k c p s u b g e a f h i (stops {l = l} q) = let j = ap length e ∙ length-append p u in stops {l = l} (omega arith)
 
-module _ (k : Kind) (r : List ℕ → Answer Gathered) (one : (s : List ℕ) → Within k 1 0 0 s (r s)) where
+module _ (k : Kind) (r : List ℕ → Answer ReadingCause Gathered) (one : (s : List ℕ) → Within k 1 0 0 s (r s)) where
   pub joined-within : (n : ℕ) (c : List ℕ) (b : ℕ) (mode : Mode) (s : List ℕ) → length (empty k) ≤ length c
       → Within k 0 (length c) b s (readJoined k r n c b mode s)
   unfolding readJoined then
@@ -109,7 +109,7 @@ module _ (k : Kind) (r : List ℕ → Answer Gathered) (one : (s : List ℕ) →
       ended : (u : List ℕ) → (p : List ℕ) × (s ≡ p ++ u) → Within k 0 (length c) b s (got (c, b + (length s - length u)) u)
       ended u (p, e) = let l = ap length e ∙ length-append p u in takes {g = (c, b + (length s - length u))} {u = u} p e (omega arith) h (omega arith) (omega arith)
 
-      on : {x : Answer Gathered} {f : Gathered → List ℕ → Answer Gathered} → Within k 1 0 0 s x
+      on : {x : Answer ReadingCause Gathered} {f : Gathered → List ℕ → Answer ReadingCause Gathered} → Within k 1 0 0 s x
           → ((g : Gathered) (u : List ℕ) → length (empty k) ≤ length (join k c (g .0)) → Within k 0 (length (join k c (g .0))) (g .1) u (f g u))
           → Within k 0 (length c) b s (then x f)
       on (takes {g = g} {u = u} p e o low high back) f =
@@ -141,13 +141,13 @@ primitive-faulty i s = then-faulty (length s) (readHeader i s) _ (header-faulty 
     of-size (definite n) w = tt
     of-size indefinite w = refl
 
-inside-within : (k : Kind) (body : Mode → List ℕ → Answer Gathered) (s q w : List ℕ) (z : Size)
+inside-within : (k : Kind) (body : Mode → List ℕ → Answer ReadingCause Gathered) (s q w : List ℕ) (z : Size)
     → ((mode : Mode) (u : List ℕ) → Within k 0 (length (empty k)) 0 u (body mode u)) → length (empty k) ≤ 1
     → s ≡ q ++ w → 2 ≤ length q → Room z w → Within k 1 0 0 s (inside body z w)
 unfolding inside then behind
 inside-within k body s q w (definite n) h one e two room = part (h closed (take n w))
   where
-    part : {x : Answer Gathered} → Within k 0 (length (empty k)) 0 (take n w) x
+    part : {x : Answer ReadingCause Gathered} → Within k 0 (length (empty k)) 0 (take n w) x
         → Within k 1 0 0 s (then (behind (length w - n) x) λ v r. got v (drop n w))
     part (takes {g = g} {u = v} p d o low high back) =
         let l = length-append q (take n w) in
@@ -161,7 +161,7 @@ inside-within k body s q w (definite n) h one e two room = part (h closed (take 
         stops {l = l + (length w - n)} (omega arith)
 inside-within k body s q w indefinite h one e two room = all (h open-ended w)
   where
-    all : {x : Answer Gathered} → Within k 0 (length (empty k)) 0 w x → Within k 1 0 0 s x
+    all : {x : Answer ReadingCause Gathered} → Within k 0 (length (empty k)) 0 w x → Within k 1 0 0 s x
     all (takes {g = g} {u = u} p d o low high back) =
         let l = length-append q p in
         takes {g = g} {u = u} (q ++ p) (e ∙ ap (λ (v : List ℕ). q ++ v) d ∙ sym (append-assoc q p u)) (omega arith) low (omega arith) (omega arith)

@@ -10,8 +10,8 @@ use Prim.Native.Nat.{ℕ, suc, _+_, _-_, _*_, _≤_, _<_}
 use lib.Dec.{eqb, leb}
 use lib.ListN.{length, getD, take, drop, length-append, length-drop, drop-of-length-le}
 use lib.Seq.{sets-eq, drop-drop, drop-append-seam, length-take-le}
-use Rattle.octets.specs.declared.cause.Cause.{Cause}
-use Rattle.octets.specs.declared.cause.Cause.the-variants.{NotAwaited, Contents, MessageLevel, Forbidden}
+use Rattle.x690.specs.declared.ReadingCause.{ReadingCause}
+use Rattle.x690.specs.declared.ReadingCause.the-variants.{NotAwaited, Contents, MessageLevel, Forbidden}
 use Rattle.octets.specs.Answer.{Answer, got, refused, then, if, behind}
 use Rattle.octets.specs.Buffers.{put, putEnd, filled}
 use Rattle.octets.specs.Lists.{same}
@@ -70,7 +70,7 @@ abbrev isTag : Kind → List ℕ → Bool
 isTag k i = same (segmentTag k false) i || same (segmentTag k true) i
 
 module _ (k : Kind) (m : List ℕ) (r : Identifier) (a : r ≡ toldIdentifier (length m) (readIdentifier m)) where
-  pub tag-none : (f : Cause) → r ≡ NoIdentifier f → NoIdentifier f ≡ toldIdentifier (length m) (readTag k m)
+  pub tag-none : (f : ReadingCause) → r ≡ NoIdentifier f → NoIdentifier f ≡ toldIdentifier (length m) (readTag k m)
   unfolding readTag then toldIdentifier
   tag-none f d = rw (identifier-refused m r a f d) refl
 
@@ -98,7 +98,7 @@ tag-faulty k s = then-faulty (length s) (readIdentifier s) _ (identifier-faulty 
 abbrev IsTag : Kind → List ℕ → Type 0
 IsTag k i = (b : Bool) × (i ≡ segmentTag k b)
 
-tag-got : (k : Kind) (x : Answer (List ℕ)) (l : ℕ) (j w : List ℕ)
+tag-got : (k : Kind) (x : Answer ReadingCause (List ℕ)) (l : ℕ) (j w : List ℕ)
     → then x (λ i s₁. if (not (isTag k i)) (refused NotAwaited l) λ _. got i s₁) ≡ got j w → (x ≡ got j w) × IsTag k j
 unfolding then if
 tag-got k (refused c n) l j w e = refused≢got e
@@ -114,7 +114,7 @@ tag-got k (got i s₁) l j w e =
     λ t. refused≢got (rw t at e)
 
 module _ (k : Kind) (s : List ℕ) (r : Identifier) (a : r ≡ toldIdentifier (length s) (readTag k s)) where
-  tag-refused : (f : Cause) → r ≡ NoIdentifier f → readTag k s ≡ refused f (length s)
+  tag-refused : (f : ReadingCause) → r ≡ NoIdentifier f → readTag k s ≡ refused f (length s)
   tag-refused f d =
       let (l, x) : Says (length s) (readTag k s) (NoIdentifier f) = rw (← a, d) at (says (length s) (readTag k s)) in
       the-refusal (readTag k s) (tag-faulty k s) x
@@ -140,12 +140,12 @@ module _ (k : Kind) (s : List ℕ) (r : Identifier) (a : r ≡ toldIdentifier (l
 
 -- what an answer says of segments
 module _ (k : Kind) (n : ℕ) where
-  segments-refused : (x : Answer Gathered) (c : Cause) (l : ℕ) → Refused c l ≡ toldSegments k n x → x ≡ refused c l
+  segments-refused : (x : Answer ReadingCause Gathered) (c : ReadingCause) (l : ℕ) → Refused c l ≡ toldSegments k n x → x ≡ refused c l
   unfolding toldSegments
   segments-refused (got g u) c l e = let z : _≡_ {A = ℕ} 0 1 = cc in absurd (omega arith)
   segments-refused (refused d j) c l e = let p : d ≡ c = cc in let q : j ≡ l = cc in rw (p, q) refl
 
-  segments-read : (x : Answer Gathered) (y : Extents) → Read y ≡ toldSegments k n x
+  segments-read : (x : Answer ReadingCause Gathered) (y : Extents) → Read y ≡ toldSegments k n x
       → (g : Gathered) × (u : List ℕ) × (x ≡ got g u) × (y .end ≡ n - length u) × (y .size ≡ length (g .0)) × (y .unused ≡ unusedIn k (g .0)) × (y .back ≡ g .1)
   unfolding toldSegments
   segments-read (got g u) y e =
@@ -154,7 +154,7 @@ module _ (k : Kind) (n : ℕ) where
   segments-read (refused c l) y e = let z : _≡_ {A = ℕ} 0 1 = cc in absurd (omega arith)
 
 -- segments that were read from s, by the code's answer
-pub record Came (k : Kind) (o e : ℕ) (s : List ℕ) (x : Answer Gathered) (y : Extents) : Type 0 where
+pub record Came (k : Kind) (o e : ℕ) (s : List ℕ) (x : Answer ReadingCause Gathered) (y : Extents) : Type 0 where
   pub gathered : Gathered
   pub is : x ≡ got gathered (drop (y .end) s)
   pub sized : y .size ≡ length (gathered .0)
@@ -166,7 +166,7 @@ pub record Came (k : Kind) (o e : ℕ) (s : List ℕ) (x : Answer Gathered) (y :
   pub high : y .size ≤ e + y .end
   pub near : y .back ≤ y .end
 
-came : (k : Kind) (o e : ℕ) (s : List ℕ) (x : Answer Gathered) → Within k o e 0 s x → (y : Extents) → Read y ≡ toldSegments k (length s) x → Came k o e s x y
+came : (k : Kind) (o e : ℕ) (s : List ℕ) (x : Answer ReadingCause Gathered) → Within k o e 0 s x → (y : Extents) → Read y ≡ toldSegments k (length s) x → Came k o e s x y
 came k o e s x h y q =
     let (g, u, d, i, j, l, b) = segments-read k (length s) x y q in
     go g u d i j l b (rw d at h)
@@ -198,7 +198,7 @@ module _ (k : Kind) (d : ℕ) (s : List ℕ) (r : Segments) where
     pub all-came : (y : Extents) → r ≡ Read y → Came k 0 (length (empty k)) s (readAll k (readSegment k d) (mode i) s) y
     all-came y e = came k 0 (length (empty k)) s _ (all-within k d (mode i) s) y (sym e ∙ a)
 
-    pub all-refused : (c : Cause) (l : ℕ) → r ≡ Refused c l → (readAll k (readSegment k d) (mode i) s ≡ refused c l) × (l ≤ length s)
+    pub all-refused : (c : ReadingCause) (l : ℕ) → r ≡ Refused c l → (readAll k (readSegment k d) (mode i) s ≡ refused c l) × (l ≤ length s)
     all-refused c l e =
         let q = segments-refused k (length s) _ c l (sym e ∙ a) in
         (q, go (rw q at (all-within k d (mode i) s)))
@@ -260,7 +260,7 @@ module _ {k : Kind} {m : List ℕ} {d : ℕ} (B : Begun k m d) where
       ap (λ (i : ℕ). readSegment k i m) one-less ∙ rw (x, y) refl
 
   module _ {x : Length} (a : (l : ℕ) → x ≡ toldLength (length m) (readLength l (drop (B .from) m))) where
-    pub segment-unread : {f : Cause} → x ≡ NoLength f → Refused f (length m) ≡ toldSegments k (length m) (readSegment k d m)
+    pub segment-unread : {f : ReadingCause} → x ≡ NoLength f → Refused f (length m) ≡ toldSegments k (length m) (readSegment k d m)
     unfolding toldSegments then
     segment-unread {f} e =
         let l = length-refused m (B .from) (length m) x (a (length m)) f e in
@@ -293,14 +293,14 @@ module _ {k : Kind} {m : List ℕ} {d : ℕ} (B : Begun k m d) where
           v ∙ rw (is-primitive q, p, n)
           (test (inForm k (part m y)) (λ t. rw (t, left-at m (y .end) j) refl) λ t. rw t refl)
 
-      abbrev inner : Answer Gathered
+      abbrev inner : Answer ReadingCause Gathered
       inner = readAll k (readSegment k (d - 1)) (mode (y .indefinite)) (part m y)
 
       module _ (q : not (B .constructed) ≡ false) {z : Segments} (v : z ≡ toldSegments k (length (part m y)) inner) where
         part-size : length (part m y) ≡ y .end - y .start
         part-size = let (i, j) = segment-part in length-take-le (y .end - y .start) (drop (y .start) m) (omega (arith, length-drop (y .start) m))
 
-        refused-open : {c : Cause} {l : ℕ} → inner ≡ refused c l → y .indefinite ≡ true
+        refused-open : {c : ReadingCause} {l : ℕ} → inner ≡ refused c l → y .indefinite ≡ true
             → Refused c (l + (length m - y .end)) ≡ toldSegments k (length m) (readSegment k d m)
         unfolding toldSegments then inside
         refused-open {c} {l} p t =
@@ -310,7 +310,7 @@ module _ {k : Kind} {m : List ℕ} {d : ℕ} (B : Begun k m d) where
             let r : readAll k (readSegment k (d - 1)) open-ended (drop (y .start) m) ≡ refused c l = rw (t, w) at p in
             rw (is-constructed q, o, r, none) refl
 
-        refused-sized : {c : Cause} {l : ℕ} → inner ≡ refused c l → y .indefinite ≡ false
+        refused-sized : {c : ReadingCause} {l : ℕ} → inner ≡ refused c l → y .indefinite ≡ false
             → Refused c (l + (length m - y .end)) ≡ toldSegments k (length m) (readSegment k d m)
         unfolding toldSegments then inside behind
         refused-sized {c} {l} p t =
@@ -319,7 +319,7 @@ module _ {k : Kind} {m : List ℕ} {d : ℕ} (B : Begun k m d) where
             let r : readAll k (readSegment k (d - 1)) closed (part m y) ≡ refused c l = rw t at p in
             rw (is-constructed q, o, r, w) refl
 
-        pub segment-refused : {c : Cause} {l : ℕ} → z ≡ Refused c l
+        pub segment-refused : {c : ReadingCause} {l : ℕ} → z ≡ Refused c l
             → (l + (length m - y .end) ≤ length m) × (Refused c (l + (length m - y .end)) ≡ toldSegments k (length m) (readSegment k d m))
         segment-refused {c} {l} e =
             let (i, j) = segment-part in
@@ -382,16 +382,16 @@ carried-put b d w p to e h q =
     (rw (f, add-sub-cancel-left to n, drop-drop n to b) (sym (sets-eq d b to k ∙ append-assoc (take to b) d (drop (to + n) b))))
 
 -- The segments in contents, one after another. How answers are said:
-tell-refused : (k : Kind) (n : ℕ) (x : Answer Gathered) (c : Cause) (l : ℕ) → x ≡ refused c l → Refused c l ≡ toldSegments k n x
+tell-refused : (k : Kind) (n : ℕ) (x : Answer ReadingCause Gathered) (c : ReadingCause) (l : ℕ) → x ≡ refused c l → Refused c l ≡ toldSegments k n x
 unfolding toldSegments
 tell-refused k n x c l e = rw e refl
 
-tell-read : (k : Kind) (m : List ℕ) (x : Answer Gathered) (c : List ℕ) (b u size unused : ℕ) → x ≡ got (c, b) (drop u m) → u ≤ length m → size ≡ length c
+tell-read : (k : Kind) (m : List ℕ) (x : Answer ReadingCause Gathered) (c : List ℕ) (b u size unused : ℕ) → x ≡ got (c, b) (drop u m) → u ≤ length m → size ≡ length c
     → unused ≡ unusedIn k c → Read (record { end = u; size = size; unused = unused; back = b }) ≡ toldSegments k (length m) x
 unfolding toldSegments
 tell-read k m x c b u size unused e h s f = rw (e, left-at m u h, s, f) refl
 
-tag-then : (k : Kind) (x : Answer (List ℕ)) (l : ℕ) (y : Answer Gathered)
+tag-then : (k : Kind) (x : Answer ReadingCause (List ℕ)) (l : ℕ) (y : Answer ReadingCause Gathered)
     → then x (λ i s₁. if (not (isTag k i)) (refused NotAwaited l) λ _. y)
     ≡ then (then x λ i s₁. if (not (isTag k i)) (refused NotAwaited l) λ _. got i s₁) λ i s₁. y
 unfolding then if
@@ -432,13 +432,13 @@ going-first k d i m one e = record { hand = empty k; fuel = length m; enough = o
 
 module _ {k : Kind} {d : ℕ} {i : Bool} {m : List ℕ} {at size unused back : ℕ} (G : Going k d i m at size unused back) {r : End}
     (e : r ≡ endOf i (length m) (drop at m)) where
-  abbrev it : Answer Gathered
+  abbrev it : Answer ReadingCause Gathered
   it = readAll k (readSegment k d) (mode i) m
 
   abbrev s : List ℕ
   s = drop at m
 
-  pub going-broken : {c : Cause} → r ≡ Broken c → Refused c (length m - at) ≡ toldSegments k (length m) it
+  pub going-broken : {c : ReadingCause} → r ≡ Broken c → Refused c (length m - at) ≡ toldSegments k (length m) it
   unfolding readJoined
   going-broken {c} f = tell-refused k (length m) it c (length m - at) (G .is ∙ end-broken _ _ m at i r c e f ∙ rw (length-drop at m) refl)
 
@@ -450,7 +450,7 @@ module _ {k : Kind} {d : ℕ} {i : Bool} {m : List ℕ} {at size unused back : �
       let l : length (drop at m) - length (drop u m) ≡ u - at = rw (length-drop at m, length-drop u m) (omega arith) in
       (low, high, tell-read k m it (G .hand) (back + (u - at)) u size unused (G .is ∙ x ∙ rw l refl) high (G .sized) (G .left))
 
-  abbrev behind-tag : Answer Gathered
+  abbrev behind-tag : Answer ReadingCause Gathered
   behind-tag =
       if (not (whole k (G .hand))) (refused Contents (length s + back)) λ _.
       then (readSegment k d s) λ g s₂. readJoined k (readSegment k d) (G .fuel) (join k (G .hand) (g .0)) (g .1) (mode i) s₂
@@ -464,7 +464,7 @@ module _ {k : Kind} {d : ℕ} {i : Bool} {m : List ℕ} {at size unused back : �
     at-tag = G .is ∙ end-more _ _ m at i r e f .0 ∙ tag-then k (readIdentifier s) (length s) (behind-tag)
 
     module _ {t : Identifier} (a : t ≡ toldIdentifier (length s) (readTag k s)) where
-      pub going-untagged : {c : Cause} → t ≡ NoIdentifier c → Refused c (length m - at) ≡ toldSegments k (length m) it
+      pub going-untagged : {c : ReadingCause} → t ≡ NoIdentifier c → Refused c (length m - at) ≡ toldSegments k (length m) it
       unfolding then
       going-untagged {c} b = tell-refused k (length m) it c (length m - at) (at-tag ∙ rw (tag-refused k s t a c b, length-drop at m) refl)
 
@@ -492,7 +492,7 @@ module _ {k : Kind} {d : ℕ} {i : Bool} {m : List ℕ} {at size unused back : �
               is-whole ∙ rw (x, n, drop-drop u at m, q) refl
 
           module _ {x : Segments} (v : x ≡ toldSegments k (length s) (readSegment k d s)) where
-            pub going-refused : {c : Cause} {n : ℕ} → x ≡ Refused c n → Refused c n ≡ toldSegments k (length m) it
+            pub going-refused : {c : ReadingCause} {n : ℕ} → x ≡ Refused c n → Refused c n ≡ toldSegments k (length m) it
             unfolding then
             going-refused {c} {n} w = tell-refused k (length m) it c n (is-whole ∙ rw (segments-refused k (length s) (readSegment k d s) c n (sym w ∙ v)) refl)
 

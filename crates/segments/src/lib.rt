@@ -1,14 +1,13 @@
 // Strings in segments (X.690, 8.6.4 and 8.7.3): judged, with how long the contents are that they join to; and joined.
 ghost use mathlib.Core.Path.{_≡_};
-ghost use mathlib.Core.List.{List};
-ghost use Prim.Native.Nat.{ℕ, _≤_, _<_, _+_};
+ghost use Prim.Native.Nat.{_<_};
 ghost use lib.ListN.{length, drop};
 ghost use Rattle.octets.specs.Answer.{got};
 ghost use Rattle.octets.specs.Buffers.{put, putEnd};
 ghost use Rattle.x690.specs.Reading.{readIdentifier};
 ghost use Rattle.x690.specs.Segments.{universal, segmentTag, empty, inForm, readAll, readSegment, deepest};
 ghost use Rattle.ber.specs.Told.{toldIdentifier, mode};
-ghost use Rattle.segments.specs.Segments.{kindOf, unusedIn, carried, toldSegments, toldPrimitive, readTag, Gathers, IsJoined};
+ghost use Rattle.segments.specs.Segments.{kindOf, unusedIn, carried, toldSegments, toldPrimitive, readTag, joining, toldJoined};
 ghost use Rattle.segments.specs.declared.Segments.the-variants.{Refused};
 use ber::ending;
 use ber::ending::End;
@@ -16,11 +15,11 @@ use ber::identifier;
 use ber::identifier::Identifier;
 use ber::length;
 use ber::length::Length;
-use octets::cause::Cause;
 use octets::copy;
 use octets::holds;
 use octets::octet;
 use simple::bit_string::are_bits;
+use x690::ReadingCause;
 
 // Segments nest at most so deep.
 const DEEPEST: usize = 4;
@@ -36,10 +35,10 @@ pub struct Gathered {
 
 pub enum Segments {
     Read(Gathered),
-    Refused { cause: Cause, left: usize },
+    Refused { cause: ReadingCause, left: usize },
 }
 
-fn refused(cause: Cause, left: usize) -> Segments
+fn refused(cause: ReadingCause, left: usize) -> Segments
     ensures { λ r. ⌜ r ≡ Refused cause left ⌝ }
 {
     Segments::Refused { cause, left }
@@ -74,7 +73,7 @@ fn read_tag(m: &[u8], bits: bool) -> Identifier
                 return Identifier::Read { code, end };
             }
             Identifier::Refused {
-                cause: Cause::NotAwaited,
+                cause: ReadingCause::NotAwaited,
             }
         }
     }
@@ -105,7 +104,7 @@ fn primitive(c: &[u8], bits: bool, end: usize, left: usize) -> Segments
     ensures { λ r. ⌜ r ≡ toldPrimitive (kindOf bits) (now (c .entry)) end left ⌝ }
 {
     if !in_form(c, bits) {
-        return refused(Cause::Contents, left);
+        return refused(ReadingCause::Contents, left);
     }
     let unused = unused_in(c, bits);
     Segments::Read(Gathered {
@@ -123,7 +122,7 @@ fn segment(m: &[u8], from: usize, constructed: bool, bits: bool, depth: usize) -
 {
     let left = m.len();
     if depth == 0 {
-        return refused(Cause::MessageLevel, left);
+        return refused(ReadingCause::MessageLevel, left);
     }
     match length::read(m, from) {
         Length::Refused { cause } => refused(cause, left),
@@ -133,7 +132,7 @@ fn segment(m: &[u8], from: usize, constructed: bool, bits: bool, depth: usize) -
             let c = &m[start..stop];
             if !constructed {
                 if x.indefinite {
-                    return refused(Cause::Forbidden, left);
+                    return refused(ReadingCause::Forbidden, left);
                 }
                 return primitive(c, bits, stop, left);
             }
@@ -180,7 +179,7 @@ fn all(m: &[u8], indefinite: bool, bits: bool, depth: usize) -> Segments
             Identifier::Refused { cause } => return refused(cause, left),
             Identifier::Read { code, end } => {
                 if 0 < unused {
-                    return refused(Cause::Contents, left + back);
+                    return refused(ReadingCause::Contents, left + back);
                 }
                 match segment(rest, end, 32 <= code, bits, depth) {
                     Segments::Refused { cause, left: n } => return refused(cause, n),
@@ -235,12 +234,13 @@ fn put_carried(c: &[u8], bits: bool, buf: &mut [u8], to: usize) -> usize
 }
 
 // Joins segments that were read before: what they carry, without the numbers of unused bits, stands at `to` in the buffer. The contents m
-// go to their end or to the 00 00 that closes them. What is nested is met in the same order, so headers and ends are passed over.
+// go to their end or to the 00 00 that closes them. What is nested is met in the same order, so headers and ends are passed over. What no
+// reader accepts goes to the end of m where a header cannot be read, and what has no room is not put.
 pub fn join(m: &[u8], bits: bool, buf: &mut [u8], to: usize) -> Joined
     ensures { λ r. ⌜
-        (let k = kindOf bits in
-        (c w : List ℕ) → Gathers k 1 (empty k) (now (m .entry)) c w → to + length (carried k c) ≤ length (now (buf .entry))
-        → IsJoined k (now (m .entry)) (now (buf .entry)) to c w (now (buf .exit)) r)
+        (let x = joining (kindOf bits) (now (m .entry)) (now (buf .entry)) to in
+        (r ≡ toldJoined (length (now (m .entry))) x)
+        × (now (buf .exit) ≡ x .buffer))
         ⌝ }
 {
     let mut at: usize = 0;

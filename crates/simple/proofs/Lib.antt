@@ -3,4 +3,3 @@
 pub mod IntegerCode
 pub mod LastOctets
 pub mod Sizes
-pub mod TimeCode

@@ -1,4 +1,3 @@
 -- What the contracts of the code cite beside the definitions of `x690`.
 -- Assumes nothing.
 pub mod Integers
-pub mod Times

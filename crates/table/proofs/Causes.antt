@@ -2,17 +2,16 @@
 -- Assumes nothing.
 use mathlib.Core.Bool.{true, true≢false}
 use mathlib.Core.List.{List, [], _∷_}
-use mathlib.Core.Path.{_≡_, refl, sym, _∙_, subst, fun-ext}
+use mathlib.Core.Path.{_≡_, refl, sym, ap, _∙_, subst, fun-ext}
 use Prim.Native.Nat.{ℕ, suc, _≤_, _<_}
 use native.Mathlib.Omega.{arith}
 use lib.Dec.{ltb, eqb}
 use lib.ListN.{length}
 use borrow.Author.Tests.{ltb-true, ltb-false, eqb-true, eqb-false}
-use Rattle.octets.specs.declared.cause.Cause.{Cause}
-use Rattle.octets.specs.declared.cause.Cause.the-variants.{TableShape, NoRecord, WrongTag, ChoiceLoop, SharedTag, NoValue}
-use Rattle.octets.specs.Causes.{causeNumber}
-use Rattle.octets.proofs.Causes.{same-cause}
+use Rattle.table.specs.declared.CheckCause.{CheckCause}
+use Rattle.table.specs.declared.CheckCause.the-variants.{TableShape, NoRecord, WrongTag, ChoiceLoop, SharedTag, NoValue}
 use Rattle.octets.proofs.Tests.{test}
+use Rattle.octets.specs.Tests.{if}
 use Rattle.octets.specs.Lists.{lowest}
 use Rattle.octets.specs.Numbers.{Octets}
 use Rattle.octets.proofs.Search.{lowest-passes, before-lowest}
@@ -22,7 +21,7 @@ use Rattle.table.specs.Rules.{Dangling, Mistagged, Circular, Sharing, In
 use Rattle.table.specs.Reading.{scan, look}
 use Rattle.table.specs.Decide.{dangling as Decide·dangling, mistagged as Decide·mistagged, circular as Decide·circular, sharing as Decide·sharing}
 use Rattle.table.specs.Decide.{infinite as isInfinite}
-use Rattle.table.specs.Cause.{Holds, Breaks, misshapen, dangling, mistagged, circular, sharing, infinite, FirstCause}
+use Rattle.table.specs.Cause.{causeNumber, Holds, Breaks, misshapen, dangling, mistagged, circular, sharing, infinite, FirstCause}
 use Rattle.table.specs.Verdict.{Test, inTurn, recordCauses, judge, tooLong, verdict}
 use Rattle.table.specs.Passes.{Passes}
 use Rattle.table.specs.Walk.{Named}
@@ -35,22 +34,44 @@ use Rattle.table.proofs.Limits.{tag-numbers, listed-numbers}
 use Rattle.table.proofs.Decided.{dangling-sound, dangling-complete, mistagged-sound, mistagged-complete, circular-sound}
 use Rattle.table.proofs.Decided.{circular-complete, sharing-sound, sharing-complete, infinite-true, infinite-false}
 
--- they are of a table
-pub stage : {b : List ℕ} {p : ℕ} {c : Cause} → Breaks b p c → (1 ≤ causeNumber c) × (causeNumber c < 7)
-stage (misshapen x) = (omega arith, omega arith)
-stage (dangling x) = (omega arith, omega arith)
-stage (mistagged x) = (omega arith, omega arith)
-stage (circular x) = (omega arith, omega arith)
-stage (sharing x) = (omega arith, omega arith)
-stage (infinite x) = (omega arith, omega arith)
+-- the numbers are 1 to 6, and no two causes share one
+pub in-range : (c : CheckCause) → (1 ≤ causeNumber c) × (causeNumber c < 7)
+in-range TableShape = (omega arith, omega arith)
+in-range NoRecord = (omega arith, omega arith)
+in-range WrongTag = (omega arith, omega arith)
+in-range ChoiceLoop = (omega arith, omega arith)
+in-range SharedTag = (omega arith, omega arith)
+in-range NoValue = (omega arith, omega arith)
+
+-- the cause with a number
+unfoldable numbered : ℕ → CheckCause
+numbered n =
+    if (eqb n 1) TableShape λ _.
+    if (eqb n 2) NoRecord λ _.
+    if (eqb n 3) WrongTag λ _.
+    if (eqb n 4) ChoiceLoop λ _.
+    if (eqb n 5) SharedTag λ _.
+    NoValue
+
+numbered-back : (c : CheckCause) → numbered (causeNumber c) ≡ c
+unfolding numbered
+numbered-back TableShape = refl
+numbered-back NoRecord = refl
+numbered-back WrongTag = refl
+numbered-back ChoiceLoop = refl
+numbered-back SharedTag = refl
+numbered-back NoValue = refl
+
+pub same-cause : (c d : CheckCause) → causeNumber c ≡ causeNumber d → c ≡ d
+same-cause c d e = sym (numbered-back c) ∙ ap numbered e ∙ numbered-back d
 
 -- no cause below the number k holds
 abbrev Before : List ℕ → ℕ → Type 0
-Before b k = (d : Cause) (q : ℕ) → causeNumber d < k → Breaks b q d → ⊥
+Before b k = (d : CheckCause) (q : ℕ) → causeNumber d < k → Breaks b q d → ⊥
 
 -- what the verdict is to say
 abbrev pub Right : List ℕ → Verdict → Type 0
-Right b Passed = (c : Cause) (p : ℕ) → Breaks b p c → ⊥
+Right b Passed = (c : CheckCause) (p : ℕ) → Breaks b p c → ⊥
 Right b (Refused c p) = FirstCause b c p
 
 -- a table whose causes are those of the octets
@@ -128,7 +149,7 @@ module _ (b : List ℕ) (T : Table) (n : ℕ) (beyond : (t : ℕ) → n ≤ t �
   -- one cause in turn, after all with a lower number
   module _ (k : ℕ) (x : Test) (its : Agrees k x) where
     -- none of its number holds below the lowest record that is found
-    none-lower : (d : Cause) (q : ℕ) → causeNumber d ≡ k → Breaks b q d → (q < n) × (q < lowest (x .1 T n) n → ⊥)
+    none-lower : (d : CheckCause) (q : ℕ) → causeNumber d ≡ k → Breaks b q d → (q < n) × (q < lowest (x .1 T n) n → ⊥)
     none-lower d q e h =
         let s : d ≡ x .0 = same-cause d (x .0) (e ∙ sym (its .rank)) in
         let y = its .complete q (subst (Breaks b q) s h) in
@@ -151,7 +172,7 @@ module _ (b : List ℕ) (T : Table) (n : ℕ) (beyond : (t : ℕ) → n ≤ t �
         λ s. before d q (omega (arith, eqb-false (causeNumber d) k s)) y)
 
   judged : (k : ℕ) (xs : List Test) → InOrder k xs → Before b k → Right b (inTurn T n xs)
-  judged k [] o before = λ c p h. before c p (omega (arith, o, stage h .1)) h
+  judged k [] o before = λ c p h. before c p (omega (arith, o, in-range c .1)) h
   judged k (x ∷ xs) o before = step k x (o .0) xs before (judged (suc k) xs (o .1))
 
 module _ (b : List ℕ) (octets : Octets b) where
@@ -169,7 +190,7 @@ module _ (b : List ℕ) (octets : Octets b) where
   from-rule p rule x = rw (looks (x .spells), spells-scan (x .spells) .1) (x .there, x .holds)
 
   -- a cause with the number 1 is the shape
-  shape-of : (d : Cause) (q : ℕ) → causeNumber d ≡ 1 → Breaks b q d → Misshapen b q
+  shape-of : (d : CheckCause) (q : ℕ) → causeNumber d ≡ 1 → Breaks b q d → Misshapen b q
   shape-of d q e x = by (subst (Breaks b q) (same-cause d TableShape e) x)
     where
       by : Breaks b q TableShape → Misshapen b q
@@ -181,7 +202,7 @@ module _ (b : List ℕ) (octets : Octets b) where
       test (tooLong b)
       (λ e. rw e (record {
         holds = misshapen (over-long (omega (arith, ltb-true)));
-        earlier = λ d q h x. omega (arith, stage x .0);
+        earlier = λ d q h x. omega (arith, in-range d .0);
         lower = λ q h x. omega arith;
       }))
       λ e.
@@ -190,17 +211,17 @@ module _ (b : List ℕ) (octets : Octets b) where
       (λ w.
       let f = scan-spells b octets short w in
       rw (e, w) (judged b _ _ (f .beyond) (to-rule f) from-rule 2 recordCauses (in-order b _ _ (f .beyond) (to-rule f) from-rule)
-      (λ d q h x. spells-not-misshapen octets (f .spells) (shape-of d q (omega (arith, stage x .0)) x))))
+      (λ d q h x. spells-not-misshapen octets (f .spells) (shape-of d q (omega (arith, in-range d .0)) x))))
       λ w.
       let m = scan-misshapen b octets short w in
       rw (e, w) (record {
         holds = misshapen m;
-        earlier = λ d q h x. omega (arith, stage x .0);
+        earlier = λ d q h x. omega (arith, in-range d .0);
         lower = λ q h x. omega (arith, misshapen-unique octets (shape-of TableShape q refl x) m);
       })
 
   -- octets of which no cause holds
-  module _ (none : (c : Cause) (p : ℕ) → Breaks b p c → ⊥) where
+  module _ (none : (c : CheckCause) (p : ℕ) → Breaks b p c → ⊥) where
     pub sound : Found b
     sound =
         test (ltb 8192 (length b)) (λ e. absurd (none TableShape 0 (misshapen (over-long (ltb-true 8192 (length b) e))))) λ e.

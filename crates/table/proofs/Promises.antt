@@ -7,8 +7,7 @@ use Prim.Native.Nat.{ℕ, _+_, _-_, _≤_, _<_}
 use lib.Dec.{leb}
 use lib.ListN.{length, getD}
 use Rattle.octets.specs.Lists.{all}
-use Rattle.octets.specs.Causes.{causeNumber}
-use Rattle.octets.specs.declared.cause.Cause.{Cause}
+use Rattle.table.specs.declared.CheckCause.{CheckCause}
 use Rattle.table.specs.Syntax.{Record, constructed}
 use Rattle.table.specs.Octets.{recordShaped, bodyShaped}
 use Rattle.table.specs.Reading.{membersAt, everyAt, bodyAt}
@@ -21,13 +20,10 @@ use Rattle.table.proofs.Fields as fields
 use Rattle.table.proofs.Loops as loops
 use Rattle.table.proofs.Places as places
 
--- The verdict, of any list: the place and the cause of a refusal, and the length of what passes.
+-- The verdict, of any list: the place of a refusal, and the length of what passes.
 
-pub place-small : (b : List ℕ) (c : Cause) (p : ℕ) → verdict b ≡ Refused c p → p ≤ 128
+pub place-small : (b : List ℕ) (c : CheckCause) (p : ℕ) → verdict b ≡ Refused c p → p ≤ 128
 place-small = places.place-small
-
-pub cause-low : (b : List ℕ) (c : Cause) (p : ℕ) → verdict b ≡ Refused c p → causeNumber c < 7
-cause-low = places.cause-low
 
 pub passed-short : (b : List ℕ) → verdict b ≡ Passed → length b ≤ 8192
 passed-short = places.passed-short

@@ -11,21 +11,18 @@ use lib.ListN.{length}
 use borrow.Author.Tests.{ltb-true, ltb-false}
 use Rattle.octets.proofs.Tests.{test}
 use Rattle.octets.specs.Numbers.{Octets}
-use Rattle.octets.specs.declared.cause.Cause.{Cause}
-use Rattle.octets.specs.declared.cause.Cause.the-variants.{NoType}
-use Rattle.octets.specs.Causes.{causeNumber}
-use Rattle.octets.proofs.Causes.{same-cause}
+use Rattle.table.specs.declared.CheckCause.{CheckCause}
 use Rattle.table.specs.Syntax.{Record, table}
 use Rattle.table.specs.Octets.{Spells, Misshapen}
 use Rattle.table.specs.Reading.{scan, look}
-use Rattle.table.specs.Cause.{Breaks, FirstCause}
+use Rattle.table.specs.Cause.{causeNumber, Breaks, FirstCause}
 use Rattle.table.specs.Verdict.{verdict}
 use Rattle.table.specs.Passes.{Passes}
 use Rattle.table.specs.declared.Verdict.{Verdict}
 use Rattle.table.specs.declared.Verdict.the-variants.{Passed, Refused}
 use Rattle.table.proofs.Scan.{scan-spells}
 use Rattle.table.proofs.Spelled.{unique, spells-scan, spells-not-misshapen, misshapen-unique}
-use Rattle.table.proofs.Causes.{stage, Right, looks, right, sound, keeps}
+use Rattle.table.proofs.Causes.{same-cause, Right, looks, right, sound, keeps}
 
 -- Octets are those of one list of records at most.
 pub records-unique : {b : List ℕ} {rs rs′ : List Record} → Spells b rs → Spells b rs′ → rs ≡ rs′
@@ -47,33 +44,29 @@ misshapen-once = misshapen-unique
 pub misshapen-no-records : {b : List ℕ} {rs : List Record} {p : ℕ} → Octets b → Spells b rs → Misshapen b p → ⊥
 misshapen-no-records = spells-not-misshapen
 
--- The causes that hold of octets are 1 to 6.
-pub table-cause : {b : List ℕ} {p : ℕ} {c : Cause} → Breaks b p c → causeNumber c < 7
-table-cause x = stage x .1
-
 told : (b : List ℕ) → Octets b → (v : Verdict) → verdict b ≡ v → Right b v
 told b o v e = subst (Right b) e (right b o)
 
 module _ (b : List ℕ) (o : Octets b) where
   -- The cause that the verdict names is the first: none with a lower number holds, nor the same at a lower record.
-  pub named-first : (c : Cause) (p : ℕ) → verdict b ≡ Refused c p → FirstCause b c p
+  pub named-first : (c : CheckCause) (p : ℕ) → verdict b ≡ Refused c p → FirstCause b c p
   named-first c p e = told b o (Refused c p) e
 
   -- The verdict is passed where no cause holds, and nowhere else.
-  pub passed-none : verdict b ≡ Passed → (c : Cause) (p : ℕ) → Breaks b p c → ⊥
+  pub passed-none : verdict b ≡ Passed → (c : CheckCause) (p : ℕ) → Breaks b p c → ⊥
   passed-none e = told b o Passed e
 
-  by-verdict : {X : Type 0} → (verdict b ≡ Passed → X) → ((c : Cause) (p : ℕ) → verdict b ≡ Refused c p → X) → X
+  by-verdict : {X : Type 0} → (verdict b ≡ Passed → X) → ((c : CheckCause) (p : ℕ) → verdict b ≡ Refused c p → X) → X
   by-verdict {X} f g = by (verdict b) refl
     where
       by : (v : Verdict) → verdict b ≡ v → X
       by Passed e = f e
       by (Refused c p) e = g c p e
 
-  pub none-passed : ((c : Cause) (p : ℕ) → Breaks b p c → ⊥) → verdict b ≡ Passed
+  pub none-passed : ((c : CheckCause) (p : ℕ) → Breaks b p c → ⊥) → verdict b ≡ Passed
   none-passed h = by-verdict (λ e. e) λ c p e. absurd (h c p (named-first c p e .holds))
 
-  one-first : (c d : Cause) (p q : ℕ) → FirstCause b c p → FirstCause b d q → (c ≡ d) × (p ≡ q)
+  one-first : (c d : CheckCause) (p q : ℕ) → FirstCause b c p → FirstCause b d q → (c ≡ d) × (p ≡ q)
   one-first c d p q x y =
       test (ltb (causeNumber c) (causeNumber d)) (λ e. absurd (y .earlier c p (ltb-true _ _ e) (x .holds))) λ e₁.
       test (ltb (causeNumber d) (causeNumber c)) (λ e. absurd (x .earlier d q (ltb-true _ _ e) (y .holds))) λ e₂.
@@ -83,17 +76,13 @@ module _ (b : List ℕ) (o : Octets b) where
       (s, omega (arith, ltb-false p q e₃, ltb-false q p e₄))
 
   -- The first cause is the one that the verdict names.
-  pub first-named : (c : Cause) (p : ℕ) → FirstCause b c p → verdict b ≡ Refused c p
+  pub first-named : (c : CheckCause) (p : ℕ) → FirstCause b c p → verdict b ≡ Refused c p
   first-named c p x =
       by-verdict (λ e. absurd (passed-none e c p (x .holds))) λ d q e.
       let s = one-first d c q p (named-first d q e) x in e ∙ rw (s .0, s .1)
 
-  -- 7 is no verdict on a table alone.
-  pub never-no-type : (p : ℕ) → verdict b ≡ Refused NoType p → ⊥
-  never-no-type p e = let h = table-cause (named-first NoType p e .holds) in omega arith
-
   -- Of the octets of records of which no cause holds, all that the crates above rely on: by the rules alone.
-  pub rules-kept : {rs : List Record} → Spells b rs → ((c : Cause) (p : ℕ) → Breaks b p c → ⊥) → Passes b (table rs) (length rs)
+  pub rules-kept : {rs : List Record} → Spells b rs → ((c : CheckCause) (p : ℕ) → Breaks b p c → ⊥) → Passes b (table rs) (length rs)
   rules-kept x h = keeps b o h x
 
   -- A table that passes is the octets of records, and reading finds them.

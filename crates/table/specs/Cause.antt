@@ -3,12 +3,20 @@
 use mathlib.Core.List.{List}
 use Prim.Native.Nat.{ℕ, _<_}
 use lib.ListN.{length}
-use Rattle.octets.specs.declared.cause.Cause.{Cause}
-use Rattle.octets.specs.declared.cause.Cause.the-variants.{TableShape, NoRecord, WrongTag, ChoiceLoop, SharedTag, NoValue}
-use Rattle.octets.specs.Causes.{causeNumber}
+use Rattle.table.specs.declared.CheckCause.{CheckCause}
+use Rattle.table.specs.declared.CheckCause.the-variants.{TableShape, NoRecord, WrongTag, ChoiceLoop, SharedTag, NoValue}
 use Rattle.table.specs.Syntax.{Record, Table, table}
 use Rattle.table.specs.Octets.{Spells, Misshapen}
 use Rattle.table.specs.Rules.{Dangling, Mistagged, Circular, Sharing, Infinite}
+
+-- their numbers, which are also the order in which they are sought
+abbrev pub causeNumber : CheckCause → ℕ
+causeNumber TableShape = 1
+causeNumber NoRecord = 2
+causeNumber WrongTag = 3
+causeNumber ChoiceLoop = 4
+causeNumber SharedTag = 5
+causeNumber NoValue = 6
 
 -- the octets are those of records, p is one of their numbers, and this holds of their table and their count
 pub record Holds (b : List ℕ) (p : ℕ) (rule : Table → ℕ → Type 0) : Type 0 where
@@ -17,8 +25,8 @@ pub record Holds (b : List ℕ) (p : ℕ) (rule : Table → ℕ → Type 0) : Ty
   pub there : p < length records
   pub holds : rule (table records) (length records)
 
--- the rule of a cause, 1 to 6, is broken at the record p
-pub data Breaks (b : List ℕ) (p : ℕ) : Cause → Type 0 where
+-- the rule of a cause is broken at the record p
+pub data Breaks (b : List ℕ) (p : ℕ) : CheckCause → Type 0 where
   misshapen : Misshapen b p → Breaks b p TableShape
   dangling : Holds b p (λ T n. Dangling T n p) → Breaks b p NoRecord
   mistagged : Holds b p (λ T n. Mistagged (T p)) → Breaks b p WrongTag
@@ -27,7 +35,7 @@ pub data Breaks (b : List ℕ) (p : ℕ) : Cause → Type 0 where
   infinite : Holds b p (λ T n. Infinite T p) → Breaks b p NoValue
 
 -- Each cause is sought in the whole table before the next, and named at the lowest record that has it (FORMATS, "Order of refusals").
-pub record FirstCause (b : List ℕ) (c : Cause) (p : ℕ) : Type 0 where
+pub record FirstCause (b : List ℕ) (c : CheckCause) (p : ℕ) : Type 0 where
   pub holds : Breaks b p c
-  pub earlier : (d : Cause) (q : ℕ) → causeNumber d < causeNumber c → Breaks b q d → ⊥
+  pub earlier : (d : CheckCause) (q : ℕ) → causeNumber d < causeNumber c → Breaks b q d → ⊥
   pub lower : (q : ℕ) → q < p → Breaks b q c → ⊥

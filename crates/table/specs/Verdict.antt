@@ -10,14 +10,14 @@ use Rattle.octets.specs.Lists.{lowest}
 use Rattle.table.specs.Syntax.{Table}
 use Rattle.table.specs.Reading.{scan, look}
 use Rattle.table.specs.Decide.{dangling, mistagged, circular, sharing, infinite}
-use Rattle.octets.specs.declared.cause.Cause.{Cause}
-use Rattle.octets.specs.declared.cause.Cause.the-variants.{TableShape, NoRecord, WrongTag, ChoiceLoop, SharedTag, NoValue}
+use Rattle.table.specs.declared.CheckCause.{CheckCause}
+use Rattle.table.specs.declared.CheckCause.the-variants.{TableShape, NoRecord, WrongTag, ChoiceLoop, SharedTag, NoValue}
 use Rattle.table.specs.declared.Verdict.{Verdict}
 use Rattle.table.specs.declared.Verdict.the-variants.{Passed, Refused}
 
 -- a cause of records, and its test at a record: the table, how many records it has, and the record
 abbrev pub Test : Type 0
-Test = Cause × (Table → ℕ → ℕ → Bool)
+Test = CheckCause × (Table → ℕ → ℕ → Bool)
 
 -- the causes in turn, each sought in all n records: refused by the first that is found, at the lowest record that has it (FORMATS, "Order of refusals")
 abbrev pub inTurn : Table → ℕ → List Test → Verdict

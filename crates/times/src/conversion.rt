@@ -3,15 +3,18 @@ ghost use mathlib.Core.Path.{_≡_};
 ghost use Rattle.dates.specs.Century.{firstYear};
 ghost use Rattle.coding.specs.declared.Refusal.the-variants.{Value};
 ghost use Rattle.coding.specs.declared.Answer.the-variants.{Refused};
+ghost use Rattle.coding.specs.Outcome.{valueCause};
 ghost use Rattle.coding.specs.Conversion.{otherKind, counterpart as Conversion·counterpart, wholeConversion, wholeToGeneralized, wholeToUtc};
 use crate::node;
 use clock::century;
 use coding::Answer;
 use coding::Given;
+use coding::JudgingCause;
 use coding::Refusal;
+use coding::TableCause;
 use dates::DateTime;
 use dates::TimeKind;
-use octets::cause::Cause;
+use refusal::value_cause;
 
 fn other_kind(kind: TimeKind) -> TimeKind
     ensures { λ r. ⌜ r ≡ otherKind kind ⌝ }
@@ -30,17 +33,17 @@ fn counterpart(version: usize, kind: TimeKind, t: DateTime) -> Given
         TimeKind::Utc => Given::Time(century::to_generalized(version, t)),
         TimeKind::Generalized => {
             if !century::in_window(version, t.year) {
-                return Given::Refused(Cause::IllTyped);
+                return Given::Refused(JudgingCause::IllTyped);
             }
             Given::Time(century::to_utc(t))
         }
     }
 }
 
-fn refuse(cause: Cause) -> Answer
-    ensures { λ r. ⌜ r ≡ Refused (Value cause 0) ⌝ }
+fn refuse(cause: JudgingCause) -> Answer
+    ensures { λ r. ⌜ r ≡ Refused (Value (valueCause cause 0)) ⌝ }
 {
-    Answer::Refused(Refusal::Value { cause, place: 0 })
+    Answer::Refused(Refusal::Value(value_cause(cause, 0)))
 }
 
 // Puts the counterpart of a time of a kind into the buffer.
@@ -52,10 +55,7 @@ fn convert(kind: TimeKind, version: usize, time: &[u8], buf: &mut [u8]) -> Answe
         ⌝ }
 {
     if !century::is_version(version) {
-        return Answer::Refused(Refusal::Table {
-            cause: Cause::NoType,
-            place: 0,
-        });
+        return Answer::Refused(Refusal::Table(TableCause::Unknown));
     }
     match node::given(kind, time) {
         Given::Refused(cause) => refuse(cause),

@@ -7,12 +7,13 @@ ghost use Rattle.coding.specs.Conversion.{placed};
 use clock::own;
 use coding::Answer;
 use coding::Given;
+use coding::JudgingCause;
+use coding::MessageCause;
 use coding::Refusal;
 use dates::DateTime;
 use dates::TimeKind;
-use octets::cause::Cause;
-use records::kind::GENERALIZED_TIME;
-use records::kind::UTC_TIME;
+use kinds::GENERALIZED_TIME;
+use kinds::UTC_TIME;
 use writer::lone::is_lone;
 
 // The mark, the kind, and the seven octets of a time.
@@ -33,10 +34,10 @@ pub fn given(kind: TimeKind, s: &[u8]) -> Given
     ensures { λ r. ⌜ r ≡ Reckoning·given kind (now (s .entry)) ⌝ }
 {
     if !is_lone(s) {
-        return Given::Refused(Cause::ValueShape);
+        return Given::Refused(JudgingCause::ValueShape);
     }
     if s[2] != number(kind) {
-        return Given::Refused(Cause::IllTyped);
+        return Given::Refused(JudgingCause::IllTyped);
     }
     Given::Time(own::of(&s[3..]))
 }
@@ -50,10 +51,7 @@ pub fn put(kind: TimeKind, t: DateTime, buf: &mut [u8]) -> Answer
         ⌝ }
 {
     if buf.len() < SIZE {
-        return Answer::Refused(Refusal::Message {
-            cause: Cause::ValueRoom,
-            place: 0,
-        });
+        return Answer::Refused(Refusal::Message(MessageCause::ValueRoom));
     }
     buf[0] = 0x56;
     buf[1] = 0x41;

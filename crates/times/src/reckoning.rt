@@ -3,19 +3,21 @@
 ghost use mathlib.Core.Path.{_≡_};
 ghost use Rattle.coding.specs.declared.Refusal.the-variants.{Value};
 ghost use Rattle.coding.specs.declared.Reckoned.the-variants.{Refused};
+ghost use Rattle.coding.specs.Outcome.{valueCause};
 ghost use Rattle.coding.specs.Reckoning.{wholeOrder, wholeSeconds};
 use crate::node::given;
 use clock::seconds;
 use coding::Given;
+use coding::JudgingCause;
 use coding::Reckoned;
 use coding::Refusal;
 use dates::TimeKind;
-use octets::cause::Cause;
+use refusal::value_cause;
 
-fn refuse(cause: Cause) -> Reckoned
-    ensures { λ r. ⌜ r ≡ Refused (Value cause 0) ⌝ }
+fn refuse(cause: JudgingCause) -> Reckoned
+    ensures { λ r. ⌜ r ≡ Refused (Value (valueCause cause 0)) ⌝ }
 {
-    Reckoned::Refused(Refusal::Value { cause, place: 0 })
+    Reckoned::Refused(Refusal::Value(value_cause(cause, 0)))
 }
 
 // -1 if the first is before the second, 0 if they are the same, 1 if it is after it.

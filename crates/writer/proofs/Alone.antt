@@ -9,6 +9,7 @@ use borrow.Author.Tests.{le-leb, lt-leb, le-ltb, eq-eqb, ne-eqb, eqb-true, eqb-f
 use lib.Dec.{ltb, eqb}
 use lib.ListN.{length, getD, drop}
 use lib.Seq.{drop-cons, drop-length}
+use Rattle.coding.specs.declared.JudgingCause.{JudgingCause}
 use Rattle.octets.proofs.Tests.{test, at, or-by}
 use Rattle.octets.specs.Answer.{Answer, none-left}
 use Rattle.octets.specs.Lists.{any, all}
@@ -106,12 +107,12 @@ none-behind v e h =
     (λ t. rw (t, eqb-true e (length v) t, drop-length v) refl)
     (λ t. let z = eqb-false e (length v) t in rw (t, drop-cons v e 0 (omega (arith, z))) refl)
 
-whole-is : {v : List ℕ} {l p : ℕ} {x : Node} {e : ℕ} {a : Answer Node} → 0 < length v → Reads v l p x e a → isWhole a ≡ (eqb e (length v) && childless x)
+whole-is : {v : List ℕ} {l p : ℕ} {x : Node} {e : ℕ} {a : Answer JudgingCause Node} → 0 < length v → Reads v l p x e a → isWhole a ≡ (eqb e (length v) && childless x)
 unfolding isWhole
 whole-is {v = v} h bad = rw (ne-eqb 0 (length v) (λ z. omega arith)) refl
 whole-is {v = v} h (good e _ k) = rw (none-behind v e k) refl
 
-not-whole : {v : List ℕ} {l p : ℕ} {x : Node} {e : ℕ} {a : Answer Node} → 0 < p → e ≡ 0 → Reads v l p x e a → isWhole a ≡ false
+not-whole : {v : List ℕ} {l p : ℕ} {x : Node} {e : ℕ} {a : Answer JudgingCause Node} → 0 < p → e ≡ 0 → Reads v l p x e a → isWhole a ≡ false
 unfolding isWhole
 not-whole h z bad = refl
 not-whole h z (good e k _) = absurd (omega arith)

@@ -8,7 +8,8 @@ use native.Mathlib.Omega.{arith}
 use borrow.Author.Tests.{ltb-true, ltb-false, eqb-true, eqb-false}
 use lib.Dec.{ltb, eqb}
 use lib.ListN.{length, drop, length-drop}
-use Rattle.octets.specs.declared.cause.Cause.the-variants.{ValueShape, IllTyped, ValueLevel}
+use Rattle.coding.specs.declared.JudgingCause.{JudgingCause}
+use Rattle.coding.specs.declared.JudgingCause.the-variants.{ValueShape, IllTyped, ValueLevel}
 use Rattle.octets.specs.Answer.{Answer, got, refused, then, if}
 use Rattle.octets.proofs.Tests.{test}
 use Rattle.table.specs.Syntax.{Table}
@@ -26,11 +27,11 @@ use Rattle.writer.proofs.Reading.{Reads, bad, good, node-reads}
 use Rattle.writer.proofs.Rows.{alike-told, below-row}
 use Rattle.writer.proofs.Judging.{JudgedRow}
 
-reads-bad : {v : List ℕ} {l q : ℕ} {x : Node} {e : ℕ} {a : Answer Node} → Reads v l q x e a → e ≡ 0 → 0 < q → a ≡ refused ValueShape l
+reads-bad : {v : List ℕ} {l q : ℕ} {x : Node} {e : ℕ} {a : Answer JudgingCause Node} → Reads v l q x e a → e ≡ 0 → 0 < q → a ≡ refused ValueShape l
 reads-bad bad h k = refl
 reads-bad (good e g w) h k = absurd (omega arith)
 
-reads-good : {v : List ℕ} {l q : ℕ} {x : Node} {e : ℕ} {a : Answer Node} → Reads v l q x e a → 0 < e → (a ≡ got x (drop e v)) × (q ≤ e) × (e ≤ length v)
+reads-good : {v : List ℕ} {l q : ℕ} {x : Node} {e : ℕ} {a : Answer JudgingCause Node} → Reads v l q x e a → 0 < e → (a ≡ got x (drop e v)) × (q ≤ e) × (e ≤ length v)
 reads-good bad h = absurd (omega arith)
 reads-good (good e g w) h = (refl, g, w)
 

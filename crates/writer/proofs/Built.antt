@@ -7,8 +7,8 @@ use Prim.Native.Nat.{ℕ, _+_, _-_, _/_, _≤_, _<_}
 use native.Mathlib.Omega.{arith}
 use lib.ListN.{length, getD, drop, set}
 use Rattle.octets.specs.Numbers.{Octets}
-use Rattle.octets.specs.declared.cause.Cause.{Cause}
-use Rattle.octets.specs.declared.cause.Cause.the-variants.{ValueShape, IllTyped, ValueLevel}
+use Rattle.coding.specs.declared.JudgingCause.{JudgingCause}
+use Rattle.coding.specs.declared.JudgingCause.the-variants.{ValueShape, IllTyped, ValueLevel}
 use Rattle.table.specs.Syntax.{Table}
 use Rattle.table.specs.Fields.{constructedOf}
 use Rattle.table.specs.Reading.{tableIn, countIn}
@@ -103,7 +103,7 @@ module _ {b index v : List ℕ} {t at : ℕ} (N : Node b index v t at) (n : ℕ)
             is-told : y ≡ told (contentsForm T (n - 1) (T t .body)) v (judgeValue T n t (drop at v))
             is-told = at-row-said .0 ∙ value-row T t v at within n shaped z (agreed true f) (rw (node-kind (getD v (at + 2) 0) v (at + 3) own-there) (N .constructed))
 
-            pub built-refused : (k : Cause) (q : ℕ) → y ≡ Refused q k → NodeSaid b v t at n (Refused q k) first last
+            pub built-refused : (k : JudgingCause) (q : ℕ) → y ≡ Refused q k → NodeSaid b v t at n (Refused q k) first last
             built-refused k q d =
                 let g = stands v at within shaped .onward in
                 (sym d ∙ is-told, noting-refused at (endAt v at) first last y k q _ _ (omega arith) (at-row-said .1))

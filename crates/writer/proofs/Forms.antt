@@ -8,6 +8,7 @@ use native.Mathlib.Omega.{arith}
 use borrow.Author.Tests.{eqb-true, not-false}
 use lib.Dec.{eqb}
 use lib.ListN.{getD}
+use Rattle.coding.specs.declared.JudgingCause.{JudgingCause}
 use Rattle.octets.specs.Answer.{Answer, got, refused, then}
 use Rattle.octets.proofs.Answer.{Holds, yields, refuses, then-holds, map-holds, if-holds}
 use Rattle.octets.specs.Lists.{joined}
@@ -42,12 +43,12 @@ a-chosen (a-sequence-of n) = false
 a-chosen (a-set-of n) = false
 a-chosen (a-choice i) = true
 
-then-chosen : {A : Type 0} (c : A → Value) (k : Bool) → ((a : A) → chosen (c a) ≡ k) → (J : Answer A) → Holds (λ x u. chosen x ≡ k) (then J λ a u. got (c a) u)
+then-chosen : {A : Type 0} (c : A → Value) (k : Bool) → ((a : A) → chosen (c a) ≡ k) → (J : Answer JudgingCause A) → Holds (λ x u. chosen x ≡ k) (then J λ a u. got (c a) u)
 unfolding then
 then-chosen c k h (got a u) = yields (h a)
 then-chosen c k h (refused n l) = refuses
 
-below-chosen : (r : ℕ → List ℕ → Answer Value) (b : Body) (x : Node) (s : List ℕ) → Holds (λ y u. chosen y ≡ a-chosen x) (judgeBelow r b x s)
+below-chosen : (r : ℕ → List ℕ → Answer JudgingCause Value) (b : Body) (x : Node) (s : List ℕ) → Holds (λ y u. chosen y ≡ a-chosen x) (judgeBelow r b x s)
 unfolding judgeBelow
 below-chosen r b (a-leaf x) s = yields refl
 below-chosen r b (a-sequence bs) s = then-chosen (λ os. sequence (slots os)) false (λ os. refl) (judgeMembers r (members b) bs [] s)
@@ -107,7 +108,7 @@ module _ (T : Table) (g : Tagged T) where
   formed n t (setOf s) e = wrapped-item (T t .body) (T t .tags) (joined (formElements (λ u c. formAt T n u c) (element (T t .body)) s)) e (g t)
   formed n t (choice i x) e = wrapped-choice (T t) (formAt T n (getD (alternatives (T t .body)) i 0) x) e
 
-  anyhow : {A : Type 0} (x : Answer A) → Holds (λ a w. Unit {0}) x
+  anyhow : {A : Type 0} (x : Answer JudgingCause A) → Holds (λ a w. Unit {0}) x
   anyhow (got a w) = yields tt
   anyhow (refused c l) = refuses
 

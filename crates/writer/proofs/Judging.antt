@@ -5,7 +5,7 @@ use mathlib.Core.Path.{_≡_, refl, sym, ap, _∙_}
 use Prim.Native.Nat.{ℕ, _+_, _-_, _≤_, _<_}
 use native.Mathlib.Omega.{arith}
 use lib.ListN.{length, drop, length-append, length-drop}
-use Rattle.octets.specs.declared.cause.Cause.{Cause}
+use Rattle.coding.specs.declared.JudgingCause.{JudgingCause}
 use Rattle.octets.specs.Answer.{Answer, got, refused, then}
 use Rattle.octets.proofs.Answer.{got-holds}
 use Rattle.table.specs.Syntax.{Table, constructed}
@@ -22,23 +22,23 @@ use Rattle.writer.proofs.Forms.{value-formed}
 use Rattle.writer.proofs.Rows.{row-take, value-behind}
 
 -- the answers apart
-pub apart : {X : Type 0} {e k : ℕ} {c : Cause} {p : ℕ} → Done e k ≡ Refused p c → X
+pub apart : {X : Type 0} {e k : ℕ} {c : JudgingCause} {p : ℕ} → Done e k ≡ Refused p c → X
 apart z = let o : _≡_ {A = ℕ} 0 1 = cc in absurd (omega arith)
 
 module _ {A : Type 0} (f : A → List ℕ) (v : List ℕ) where
-  pub done : (x : Answer A) (r : Judged) (e k : ℕ) → r ≡ told f v x → r ≡ Done e k
+  pub done : (x : Answer JudgingCause A) (r : Judged) (e k : ℕ) → r ≡ told f v x → r ≡ Done e k
       → (a : A) × (w : List ℕ) × (x ≡ got a w) × (length v - length w ≡ e) × (cap (length (f a)) ≡ k)
   unfolding told
   done (got a w) r e k h d = let z = sym h ∙ d in (a, w, refl, cc, cc)
   done (refused c l) r e k h d = apart (sym d ∙ h)
 
-  pub no : (x : Answer A) (r : Judged) (k : Cause) (p : ℕ) → r ≡ told f v x → r ≡ Refused p k
+  pub no : (x : Answer JudgingCause A) (r : Judged) (k : JudgingCause) (p : ℕ) → r ≡ told f v x → r ≡ Refused p k
       → (l : ℕ) × (x ≡ refused k l) × (p ≡ length v - l)
   unfolding told
   no (got a w) r k p h d = apart (sym h ∙ d)
   no (refused c l) r k p h d = let z = sym h ∙ d in (l, cc, cc)
 
-  pub told-small : (x : Answer A) (r : Judged) (e k : ℕ) → r ≡ told f v x → r ≡ Done e k → k < 8194
+  pub told-small : (x : Answer JudgingCause A) (r : Judged) (e k : ℕ) → r ≡ told f v x → r ≡ Done e k → k < 8194
   told-small x r e k h d = let (a, w, y, q, z) = done x r e k h d in rw (← z) (cap-below (length (f a)))
 
 -- a value that was judged: where it ends, and the length of its form
@@ -74,7 +74,7 @@ unfoldable pub plus : ℕ → Judged → Judged
 plus t (Done e k) = Done e (cap (t + k))
 plus t (Refused p c) = Refused p c
 
-plus-none : {A : Type 0} (f : A → List ℕ) (v : List ℕ) (x : Answer A) → told f v x ≡ plus 0 (told f v x)
+plus-none : {A : Type 0} (f : A → List ℕ) (v : List ℕ) (x : Answer JudgingCause A) → told f v x ≡ plus 0 (told f v x)
 unfolding told plus
 plus-none f v (got a w) = let e : cap (length (f a)) ≡ cap (0 + cap (length (f a))) = omega arith in ap (Done (length v - length w)) e
 plus-none f v (refused c l) = refl
@@ -85,7 +85,7 @@ plus-plus t k (Done e s) = let q : cap (t + cap (k + s)) ≡ cap (cap (t + k) + 
 plus-plus t k (Refused p c) = refl
 
 -- the form of the first comes before those of the rest
-told-take : (T : Table) (n : ℕ) (v : List ℕ) (t : ℕ) (ts : List ℕ) (x : Value) (J : Answer (List Value))
+told-take : (T : Table) (n : ℕ) (v : List ℕ) (t : ℕ) (ts : List ℕ) (x : Value) (J : Answer JudgingCause (List Value))
     → told (rowForm T n (t ∷ ts)) v (then J λ vs u. got (x ∷ vs) u) ≡ plus (cap (length (formAt T n t x))) (told (rowForm T n ts) v J)
 unfolding told then plus rowForm
 told-take T n v t ts x (got vs u) =
@@ -118,18 +118,18 @@ module _ (T : Table) (n : ℕ) (w : Judged) (v : List ℕ) (next total : ℕ) wh
     row-turn e k z =
         record {
           whole = S .whole
-              ∙ ap (λ (x : Answer (List Value)). plus total (told (rowForm T n (t ∷ ts)) v x)) (row-take (λ u x. judgeValue T n u x) t ts (drop next v) (drop
+              ∙ ap (λ (x : Answer JudgingCause (List Value)). plus total (told (rowForm T n (t ∷ ts)) v x)) (row-take (λ u x. judgeValue T n u x) t ts (drop next v) (drop
               e v) (z .value) (z .is))
               ∙ ap (plus total) (told-take T n v t ts (z .value) (judgeRow T n ts (drop e v)))
               ∙ plus-plus total (cap (length (formAt T n t (z .value)))) _
               ∙ ap (λ (x : ℕ). plus (cap (total + x)) (JudgedRow T n v ts e)) (sym (z .sized));
         }
 
-    refused-by : (k : Cause) (l : ℕ) → judgeValue T n t (drop next v) ≡ refused k l → w ≡ Refused (length v - l) k
+    refused-by : (k : JudgingCause) (l : ℕ) → judgeValue T n t (drop next v) ≡ refused k l → w ≡ Refused (length v - l) k
     unfolding judgeEach told then plus
     refused-by k l x = S .whole ∙ rw x refl
 
-    pub row-refused : (f : Value → List ℕ) (y : Judged) (c : Cause) (p : ℕ) → y ≡ told f v (judgeValue T n t (drop next v)) → y ≡ Refused p c
+    pub row-refused : (f : Value → List ℕ) (y : Judged) (c : JudgingCause) (p : ℕ) → y ≡ told f v (judgeValue T n t (drop next v)) → y ≡ Refused p c
         → Refused p c ≡ w
     row-refused f y c p a d =
         let (l, x, q) = no f v (judgeValue T n t (drop next v)) y c p a d in

@@ -7,8 +7,8 @@ use Prim.Native.Nat.{ℕ, _+_, _-_, _≤_, _<_}
 use native.Mathlib.Omega.{arith}
 use borrow.Author.Tests.{not-true}
 use lib.ListN.{length, getD, drop}
-use Rattle.octets.specs.declared.cause.Cause.{Cause}
-use Rattle.octets.specs.declared.cause.Cause.the-variants.{ValueShape}
+use Rattle.coding.specs.declared.JudgingCause.{JudgingCause}
+use Rattle.coding.specs.declared.JudgingCause.the-variants.{ValueShape}
 use Rattle.table.specs.Syntax.{Record, Table}
 use Rattle.table.specs.Fields.{constructedOf}
 use Rattle.table.specs.Reading.{tableIn, countIn}
@@ -121,7 +121,7 @@ module _ {b index v : List ℕ} {e : Entry} {p n : ℕ} {first : List ℕ} (m : 
       T v l n (m .t) (m .at))
 
   module _ (y : Judged) (last : List ℕ) (S : Said y last) where
-    pub member-refused : (k : Cause) (q : ℕ) → y ≡ Refused q k → RowSaid b v e p n first (Refused q k) last
+    pub member-refused : (k : JudgingCause) (q : ℕ) → y ≡ Refused q k → RowSaid b v e p n first (Refused q k) last
     member-refused k q d =
         (row-refused T n _ v (m .at) (m .total) (m .t) Rest left-now _ y k q (S .0) d, going-refused going-now last y k q (S .1))
 

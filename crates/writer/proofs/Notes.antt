@@ -8,7 +8,7 @@ use native.Mathlib.Omega.{arith}
 use lib.ListN.{length, getD, drop, set, length-set, length-drop}
 use lib.Seq.{getD-set-same, getD-set-other}
 use Rattle.octets.proofs.Answer.{got-holds}
-use Rattle.octets.specs.declared.cause.Cause.{Cause}
+use Rattle.coding.specs.declared.JudgingCause.{JudgingCause}
 use Rattle.table.specs.Syntax.{Table, constructed}
 use Rattle.table.specs.Fields.{constructedOf}
 use Rattle.coding.specs.Value.{Value}
@@ -29,11 +29,11 @@ ends : {a b e k : ℕ} → Done a b ≡ Done e k → a ≡ e
 ends z = cc
 
 -- nothing was noted, and it was refused
-pub noting-none : (at : ℕ) (l : List ℕ) (c : Cause) (q : ℕ) (N : List ℕ → Type 0) → Noting at l l (Refused q c) N
+pub noting-none : (at : ℕ) (l : List ℕ) (c : JudgingCause) (q : ℕ) (N : List ℕ → Type 0) → Noting at l l (Refused q c) N
 noting-none at l c q N = record { long = refl; kept = λ i h. refl; noted = λ e k d m s. apart (sym d) }
 
 -- notes of what begins farther on, which is refused
-pub noting-refused : (at next : ℕ) (first last : List ℕ) (r : Judged) (c : Cause) (q : ℕ) (M N : List ℕ → Type 0) → at ≤ next → Noting next first last r M
+pub noting-refused : (at next : ℕ) (first last : List ℕ) (r : Judged) (c : JudgingCause) (q : ℕ) (M N : List ℕ → Type 0) → at ≤ next → Noting next first last r M
     → Noting at first last (Refused q c) N
 noting-refused at next first last r c q M N h x = record { long = x .long; kept = λ i k. x .kept i (omega arith); noted = λ e k d m s. apart (sym d) }
 
@@ -59,12 +59,12 @@ module _ {at : ℕ} {first : List ℕ} {next : ℕ} {l : List ℕ} {R W : List �
         whole = λ m s w. G .whole m (λ i a b. s i a (omega arith) ∙ x .kept i b) (f m (x .noted e k d m (λ i a b. s i (omega arith) b)) w);
       }
 
-  pub going-refused : {N : List ℕ → Type 0} (last : List ℕ) (r : Judged) (c : Cause) (q : ℕ) → Noting next l last r N → Noting at first last (Refused q c) W
+  pub going-refused : {N : List ℕ → Type 0} (last : List ℕ) (r : Judged) (c : JudgingCause) (q : ℕ) → Noting next l last r N → Noting at first last (Refused q c) W
   going-refused last r c q x =
       let o = G .onward in
       record { long = x .long ∙ G .long; kept = λ i j. x .kept i (omega arith) ∙ G .kept i j; noted = λ e k d m s. apart (sym d) }
 
-  pub going-stopped : (c : Cause) (q : ℕ) → Noting at first l (Refused q c) W
+  pub going-stopped : (c : JudgingCause) (q : ℕ) → Noting at first l (Refused q c) W
   going-stopped c q = record { long = G .long; kept = G .kept; noted = λ e k d m s. apart (sym d) }
 
   pub going-end : (k : ℕ) → ((m : List ℕ) → R m) → Noting at first l (Done next k) W

@@ -7,6 +7,7 @@ use Prim.Native.Nat.{ℕ, _+_, _-_, _≤_, _<_}
 use native.Mathlib.Omega.{arith}
 use lib.ListN.{length, getD, drop, length-append, length-drop}
 use lib.Seq.{sets}
+use Rattle.coding.specs.declared.JudgingCause.{JudgingCause}
 use Rattle.octets.specs.Answer.{Answer, got, refused, then}
 use Rattle.octets.proofs.Answer.{got-holds}
 use Rattle.table.specs.Syntax.{Table, constructed}
@@ -30,13 +31,13 @@ use Rattle.writer.proofs.Below as below
 use Rattle.writer.proofs.Notes.{value-note}
 
 -- U is written as y and then J, and ends where J ends
-pub record Split {A B : Type 0} (g : A → List ℕ) (U : Answer A) (y : List ℕ) (h : B → List ℕ) (J : Answer B) (v : List ℕ) : Type 0 where
+pub record Split {A B : Type 0} (g : A → List ℕ) (U : Answer JudgingCause A) (y : List ℕ) (h : B → List ℕ) (J : Answer JudgingCause B) (v : List ℕ) : Type 0 where
   pub done : IsDone J
   pub is : written g U ≡ y ++ written h J
   pub ends : ended v U ≡ ended v J
 
 -- a loop: of W, which was to be written from `to` on, U is still to be written, from `next` on
-pub record Rest {A B : Type 0} (f : A → List ℕ) (W : Answer A) (g : B → List ℕ) (U : Answer B) (v : List ℕ) (to : ℕ) (first : List ℕ) (next : ℕ) (buf : List ℕ)
+pub record Rest {A B : Type 0} (f : A → List ℕ) (W : Answer JudgingCause A) (g : B → List ℕ) (U : Answer JudgingCause B) (v : List ℕ) (to : ℕ) (first : List ℕ) (next : ℕ) (buf : List ℕ)
     : Type 0 where
   pub done : IsDone U
   pub short : length (written g U) ≤ 8192
@@ -44,12 +45,12 @@ pub record Rest {A B : Type 0} (f : A → List ℕ) (W : Answer A) (g : B → Li
   pub long : to + length (written f W) ≡ next + length (written g U)
   pub target : sets first to (written f W) ≡ sets buf next (written g U)
 
-pub rest-all : {A : Type 0} (f : A → List ℕ) (W : Answer A) (v : List ℕ) (to : ℕ) (first : List ℕ) → Fits f W to first → Rest f W f W v to first to first
+pub rest-all : {A : Type 0} (f : A → List ℕ) (W : Answer JudgingCause A) (v : List ℕ) (to : ℕ) (first : List ℕ) → Fits f W to first → Rest f W f W v to first to first
 rest-all f W v to first F = record { done = F .done; short = F .short; ends = refl; long = refl; target = refl }
 
-module _ {A B : Type 0} (f : A → List ℕ) (W : Answer A) (g : B → List ℕ) (U : Answer B) (v : List ℕ) (to : ℕ) (first : List ℕ) (next : ℕ) (buf : List ℕ)
+module _ {A B : Type 0} (f : A → List ℕ) (W : Answer JudgingCause A) (g : B → List ℕ) (U : Answer JudgingCause B) (v : List ℕ) (to : ℕ) (first : List ℕ) (next : ℕ) (buf : List ℕ)
     (R : Rest f W g U v to first next buf) where
-  rest-front : {C D : Type 0} (k : D → List ℕ) (X : Answer D) (h : C → List ℕ) (J : Answer C) → Split g U (written k X) h J v → IsDone X
+  rest-front : {C D : Type 0} (k : D → List ℕ) (X : Answer JudgingCause D) (h : C → List ℕ) (J : Answer JudgingCause C) → Split g U (written k X) h J v → IsDone X
       → to + length (written f W) ≤ length first → length buf ≡ length first → Fits k X next buf
   rest-front k X h J S d room e =
       let l : length (written g U) ≡ length (written k X) + length (written h J) = ap length (S .is) ∙ length-append (written k X) (written h J) in
@@ -57,7 +58,7 @@ module _ {A B : Type 0} (f : A → List ℕ) (W : Answer A) (g : B → List ℕ)
       let m = R .long in
       record { done = d; short = omega arith; room = omega arith }
 
-  rest-turn : {C : Type 0} (y : List ℕ) (h : C → List ℕ) (J : Answer C) → Split g U y h J v → Rest f W h J v to first (next + length y) (sets buf next y)
+  rest-turn : {C : Type 0} (y : List ℕ) (h : C → List ℕ) (J : Answer JudgingCause C) → Split g U y h J v → Rest f W h J v to first (next + length y) (sets buf next y)
   rest-turn y h J S =
       let l : length (written g U) ≡ length y + length (written h J) = ap length (S .is) ∙ length-append y (written h J) in
       let s = R .short in
@@ -70,7 +71,7 @@ module _ {A B : Type 0} (f : A → List ℕ) (W : Answer A) (g : B → List ℕ)
       record { ends = re ∙ sym k ∙ sym (R .ends); reaches = omega arith; buffer = sym (rw n at (R .target)) }
 
 -- a callee's answer about parts, as its caller's about a value
-then-split : {A B : Type 0} (g : B → List ℕ) (h : A → List ℕ) (y : List ℕ) (c : A → B) (J : Answer A) (v : List ℕ) → ((a : A) → g (c a) ≡ y ++ h a)
+then-split : {A B : Type 0} (g : B → List ℕ) (h : A → List ℕ) (y : List ℕ) (c : A → B) (J : Answer JudgingCause A) (v : List ℕ) → ((a : A) → g (c a) ≡ y ++ h a)
     → IsDone (then J λ a u. got (c a) u) → Split g (then J λ a u. got (c a) u) y h J v
 unfolding then IsDone written ended
 then-split g h y c (got a u) v k d = record { done = tt; is = k a; ends = refl }
@@ -104,14 +105,14 @@ came T n t v at h x w e =
     }
 
 -- what follows a value that is done
-by-answer : {X : Type 0} {B : Type 0} (a : Answer Value) (k : Value → List ℕ → Answer B) → IsDone (then a k) → ((x : Value) (w : List ℕ) → a ≡ got x w → X) → X
+by-answer : {X : Type 0} {B : Type 0} (a : Answer JudgingCause Value) (k : Value → List ℕ → Answer JudgingCause B) → IsDone (then a k) → ((x : Value) (w : List ℕ) → a ≡ got x w → X) → X
 unfolding then IsDone
 by-answer (got x w) k d f = f x w refl
 by-answer (refused c l) k d f = absurd d
 
 -- a row: the first value, then the others
 module _ (T : Table) (n : ℕ) (v : List ℕ) where
-  abbrev pub RowLeft : List ℕ → ℕ → Answer (List Value)
+  abbrev pub RowLeft : List ℕ → ℕ → Answer JudgingCause (List Value)
   RowLeft ts from = judgeRow T n ts (drop from v)
 
   module _ (t : ℕ) (ts : List ℕ) (from : ℕ) (k : from ≤ length v) (d : IsDone (RowLeft (t ∷ ts) from)) where
@@ -125,7 +126,7 @@ module _ (T : Table) (n : ℕ) (v : List ℕ) where
     row-split =
         let z = row-came in
         let q = row-take (λ u w. judgeValue T n u w) t ts (drop from v) (drop (ended v (judgeValue T n t (drop from v))) v) (z .value) (z .is) in
-        subst (λ (U : Answer (List Value)). Split (rowForm T n (t ∷ ts)) U (written (formAt T n t) (judgeValue T n t (drop from v))) (rowForm T n ts) (RowLeft
+        subst (λ (U : Answer JudgingCause (List Value)). Split (rowForm T n (t ∷ ts)) U (written (formAt T n t) (judgeValue T n t (drop from v))) (rowForm T n ts) (RowLeft
         ts (ended v (judgeValue T n t (drop from v)))) v) (sym q)
         (then-split (rowForm T n (t ∷ ts)) (rowForm T n ts) (written (formAt T n t) (judgeValue T n t (drop from v))) (λ vs. z .value ∷ vs) (RowLeft ts (ended
         v (judgeValue T n t (drop from v)))) v (λ vs. rw (z .form) refl) (subst IsDone q d))
@@ -142,7 +143,7 @@ module _ (T : Table) (n t : ℕ) (v : List ℕ) (at : ℕ) where
   abbrev pub Contents : List ℕ
   Contents = written (contentsForm T (n - 1) (T t .body)) (judgeValue T n t (drop at v))
 
-  form-by : Tagged T → (a : Answer Value) → a ≡ judgeValue T n t (drop at v) → IsDone a → length (written (formAt T n t) a) ≤ 8192
+  form-by : Tagged T → (a : Answer JudgingCause Value) → a ≡ judgeValue T n t (drop at v) → IsDone a → length (written (formAt T n t) a) ≤ 8192
       → let c = written (contentsForm T (n - 1) (T t .body)) a in written (formAt T n t) a ≡ heads (constructed (T t .body)) (T t .tags) (cap (length c)) ++ c
   unfolding written IsDone
   form-by g (got x w) e y l =

@@ -10,7 +10,8 @@ use borrow.Author.Tests.{ltb-true, ltb-false, leb-true, leb-false, lt-ltb, le-lt
 use lib.Dec.{ltb, leb, eqb}
 use lib.ListN.{length, getD, take, drop, length-drop}
 use lib.Seq.{drop-cons, drop-drop, getD-drop}
-use Rattle.octets.specs.declared.cause.Cause.the-variants.{ValueShape}
+use Rattle.coding.specs.declared.JudgingCause.{JudgingCause}
+use Rattle.coding.specs.declared.JudgingCause.the-variants.{ValueShape}
 use Rattle.octets.specs.Answer.{Answer, got, refused, if}
 use Rattle.octets.proofs.Answer.{run}
 use Rattle.octets.proofs.Tests.{test, at}
@@ -29,15 +30,15 @@ use Rattle.coding.specs.Judging.{ownString, octetsFor, spareIn, ownBits, ownEnu
 use Rattle.writer.specs.Nodes.{fixedEnd, booleanEnd, stringEnd, clearAt, bitsEnd, timeEnd, membersEnd, ownEnd, endAt, leafOf, nodeOf, nodeAt}
 
 -- e is the end of the own part at p of the node x, where a is read; 0 if it is refused; l octets are left where the node begins
-pub data Reads (v : List ℕ) (l p : ℕ) (x : Node) : ℕ → Answer Node → Type 0 where
+pub data Reads (v : List ℕ) (l p : ℕ) (x : Node) : ℕ → Answer JudgingCause Node → Type 0 where
   bad : Reads v l p x 0 (refused ValueShape l)
   good : (e : ℕ) → p ≤ e → e ≤ length v → Reads v l p x e (got x (drop e v))
 
-need-yes : {A : Type 0} (l k : ℕ) (s : List ℕ) (x : Unit {0} → Answer A) → k ≤ length s → need l k s x ≡ x tt
+need-yes : {A : Type 0} (l k : ℕ) (s : List ℕ) (x : Unit {0} → Answer JudgingCause A) → k ≤ length s → need l k s x ≡ x tt
 unfolding need
 need-yes l k s x h = simp (run, le-leb k (length s) h)
 
-need-no : {A : Type 0} (l k : ℕ) (s : List ℕ) (x : Unit {0} → Answer A) → length s < k → need l k s x ≡ refused ValueShape l
+need-no : {A : Type 0} (l k : ℕ) (s : List ℕ) (x : Unit {0} → Answer JudgingCause A) → length s < k → need l k s x ≡ refused ValueShape l
 unfolding need
 need-no l k s x h = simp (run, lt-leb k (length s) h)
 
@@ -64,7 +65,7 @@ module _ (v : List ℕ) (l p : ℕ) (h : p ≤ length v) where
   left = length-drop p v
 
   -- n octets, and x of them
-  fixed-reads : (n : ℕ) (f : Unit {0} → Answer Node) (x : Node) → f tt ≡ got x (drop n (drop p v)) → Reads v l p x (fixedEnd v (p + n)) (need l n (drop p v) f)
+  fixed-reads : (n : ℕ) (f : Unit {0} → Answer JudgingCause Node) (x : Node) → f tt ≡ got x (drop n (drop p v)) → Reads v l p x (fixedEnd v (p + n)) (need l n (drop p v) f)
   unfolding fixedEnd
   fixed-reads n f x e =
       let k = left in

@@ -8,7 +8,7 @@ use Prim.Native.Nat.{ℕ, zero, suc, _-_, _≤_}
 use native.Mathlib.Omega.{arith}
 use lib.ListN.{length, getD, drop, replicate}
 use lib.Seq.{append-snoc}
-use Rattle.octets.specs.declared.cause.Cause.{Cause}
+use Rattle.coding.specs.declared.JudgingCause.{JudgingCause}
 use Rattle.octets.specs.Answer.{Answer, got, refused, then}
 use Rattle.octets.proofs.Answer.{Holds, yields, refuses, then-holds, map-holds, if-holds}
 use Rattle.octets.specs.Lists.{joined}
@@ -28,70 +28,70 @@ use Rattle.writer.specs.declared.judge.Judged.the-variants.{Done}
 use Rattle.writer.proofs.Reading.{Reads, bad, good, node-reads}
 
 -- two answers with the same form and the same rest, or the same refusal
-pub data Alike {A B : Type 0} (f : A → List ℕ) (g : B → List ℕ) : Answer A → Answer B → Type 0 where
+pub data Alike {A B : Type 0} (f : A → List ℕ) (g : B → List ℕ) : Answer JudgingCause A → Answer JudgingCause B → Type 0 where
   both : {a : A} {b : B} {s : List ℕ} → f a ≡ g b → Alike f g (got a s) (got b s)
-  neither : {c : Cause} {l : ℕ} → Alike f g (refused c l) (refused c l)
+  neither : {c : JudgingCause} {l : ℕ} → Alike f g (refused c l) (refused c l)
 
 module _ {A B : Type 0} {f : A → List ℕ} {g : B → List ℕ} where
-  pub alike-told : {x : Answer A} {y : Answer B} → Alike f g x y → (v : List ℕ) → told f v x ≡ told g v y
+  pub alike-told : {x : Answer JudgingCause A} {y : Answer JudgingCause B} → Alike f g x y → (v : List ℕ) → told f v x ≡ told g v y
   unfolding told
   alike-told (both {s = s} e) v = ap (λ (l : List ℕ). Done (length v - length s) (cap (length l))) e
   alike-told neither v = refl
 
-  pub alike-written : {x : Answer A} {y : Answer B} → Alike f g x y → written f x ≡ written g y
+  pub alike-written : {x : Answer JudgingCause A} {y : Answer JudgingCause B} → Alike f g x y → written f x ≡ written g y
   unfolding written
   alike-written (both e) = e
   alike-written neither = refl
 
-  pub alike-ended : {x : Answer A} {y : Answer B} → Alike f g x y → (v : List ℕ) → ended v x ≡ ended v y
+  pub alike-ended : {x : Answer JudgingCause A} {y : Answer JudgingCause B} → Alike f g x y → (v : List ℕ) → ended v x ≡ ended v y
   unfolding ended
   alike-ended (both e) v = refl
   alike-ended neither v = refl
 
-  pub alike-done : {x : Answer A} {y : Answer B} → Alike f g x y → IsDone x → IsDone y
+  pub alike-done : {x : Answer JudgingCause A} {y : Answer JudgingCause B} → Alike f g x y → IsDone x → IsDone y
   unfolding IsDone
   alike-done (both e) d = tt
   alike-done neither d = d
 
-  alike-rest : {P : List ℕ → Type 0} {x : Answer A} {y : Answer B} → Alike f g x y → Holds (λ b w. P w) y → Holds (λ a w. P w) x
+  alike-rest : {P : List ℕ → Type 0} {x : Answer JudgingCause A} {y : Answer JudgingCause B} → Alike f g x y → Holds (λ b w. P w) y → Holds (λ a w. P w) x
   alike-rest (both e) (yields p) = yields p
   alike-rest neither h = refuses
 
-  alike-then : {C D : Type 0} {h : C → List ℕ} {k : D → List ℕ} {x : Answer A} {y : Answer B} (c : A → C) (d : B → D)
+  alike-then : {C D : Type 0} {h : C → List ℕ} {k : D → List ℕ} {x : Answer JudgingCause A} {y : Answer JudgingCause B} (c : A → C) (d : B → D)
       → ((a : A) (b : B) → f a ≡ g b → h (c a) ≡ k (d b)) → Alike f g x y
       → Alike h k (then x λ a u. got (c a) u) (then y λ b u. got (d b) u)
   unfolding then
   alike-then c d e (both {a = a} {b = b} q) = both (e a b q)
   alike-then c d e neither = neither
 
-  alike-map : {C : Type 0} {h : C → List ℕ} {x : Answer A} {y : Answer B} (c : A → C) → ((a : A) → h (c a) ≡ f a) → Alike f g x y
+  alike-map : {C : Type 0} {h : C → List ℕ} {x : Answer JudgingCause A} {y : Answer JudgingCause B} (c : A → C) → ((a : A) → h (c a) ≡ f a) → Alike f g x y
       → Alike h g (then x λ a u. got (c a) u) y
   unfolding then
   alike-map c e (both {a = a} q) = both (e a ∙ q)
   alike-map c e neither = neither
 
-  alike-after : {C : Type 0} (x : Answer C) {k : C → List ℕ → Answer A} {m : C → List ℕ → Answer B} → ((c : C) (s : List ℕ) → Alike f g (k c s) (m c s))
+  alike-after : {C : Type 0} (x : Answer JudgingCause C) {k : C → List ℕ → Answer JudgingCause A} {m : C → List ℕ → Answer JudgingCause B} → ((c : C) (s : List ℕ) → Alike f g (k c s) (m c s))
       → Alike f g (then x k) (then x m)
   unfolding then
   alike-after (got c s) h = h c s
   alike-after (refused n l) h = neither
 
 -- what is in hand comes before the rest
-regroup : {A : Type 0} (J : Answer (List A)) (acc : List A) (a : A)
+regroup : {A : Type 0} (J : Answer JudgingCause (List A)) (acc : List A) (a : A)
     → then J (λ os u. got ((acc ++ (a ∷ [])) ++ os) u) ≡ then (then J λ os u. got (a ∷ os) u) λ os u. got (acc ++ os) u
 unfolding then
 regroup (got os u) acc a = ap (λ (l : List _). got l u) (append-snoc acc a os)
 regroup (refused c l) acc a = refl
 
-gather-first : {A : Type 0} (acc : List A) (e : Value → A) (K : List A → List ℕ → Answer (List A))
+gather-first : {A : Type 0} (acc : List A) (e : Value → A) (K : List A → List ℕ → Answer JudgingCause (List A))
     → ((a : List A) (s : List ℕ) → K a s ≡ then (K [] s) λ os u. got (a ++ os) u)
-    → (x : Answer Value) → then x (λ v s₁. K (acc ++ (e v ∷ [])) s₁) ≡ then (then x (λ v s₁. K (e v ∷ []) s₁)) λ os u. got (acc ++ os) u
+    → (x : Answer JudgingCause Value) → then x (λ v s₁. K (acc ++ (e v ∷ [])) s₁) ≡ then (then x (λ v s₁. K (e v ∷ []) s₁)) λ os u. got (acc ++ os) u
 unfolding then
 gather-first acc e K h (got v s) =
-    h (acc ++ (e v ∷ [])) s ∙ regroup (K [] s) acc (e v) ∙ ap (λ (y : Answer (List _)). then y λ os u. got (acc ++ os) u) (sym (h (e v ∷ []) s))
+    h (acc ++ (e v ∷ [])) s ∙ regroup (K [] s) acc (e v) ∙ ap (λ (y : Answer JudgingCause (List _)). then y λ os u. got (acc ++ os) u) (sym (h (e v ∷ []) s))
 gather-first acc e K h (refused c l) = refl
 
-module _ (r : ℕ → List ℕ → Answer Value) where
+module _ (r : ℕ → List ℕ → Answer JudgingCause Value) where
   gather-members : (ms : List Member) (bs : List Bool) (acc : List (Option Value)) (s : List ℕ)
       → judgeMembers r ms bs acc s ≡ then (judgeMembers r ms bs [] s) λ os u. got (acc ++ os) u
   unfolding judgeMembers then
@@ -101,7 +101,7 @@ module _ (r : ℕ → List ℕ → Answer Value) where
   gather-members (m ∷ ms) (false ∷ bs) acc s =
       gather-members ms bs (acc ++ (none ∷ [])) s
       ∙ regroup (judgeMembers r ms bs [] s) acc none
-      ∙ ap (λ (y : Answer (List (Option Value))). then y λ os u. got (acc ++ os) u) (sym (gather-members ms bs (none ∷ []) s))
+      ∙ ap (λ (y : Answer JudgingCause (List (Option Value))). then y λ os u. got (acc ++ os) u) (sym (gather-members ms bs (none ∷ []) s))
 
   gather-elements : (n t : ℕ) (acc : List Value) (s : List ℕ) → judgeElements r n t acc s ≡ then (judgeElements r n t [] s) λ vs u. got (acc ++ vs) u
   unfolding judgeElements then
@@ -162,7 +162,7 @@ module _ (T : Table) (n : ℕ) where
   unfolding judgeEach rowForm then
   one-row t s = go (judgeValue T n t s)
     where
-      go : (x : Answer Value) → Alike (formAt T n t) (rowForm T n (t ∷ [])) x (then x λ v s₁. got (v ∷ []) s₁)
+      go : (x : Answer JudgingCause Value) → Alike (formAt T n t) (rowForm T n (t ∷ [])) x (then x λ v s₁. got (v ∷ []) s₁)
       go (got v s₁) = both (sym (append-nil (formAt T n t v)))
       go (refused c l) = neither
 
@@ -187,7 +187,7 @@ pub record Behind (v : List ℕ) (at : ℕ) (w : List ℕ) : Type 0 where
 farther : {v : List ℕ} {at to : ℕ} {w : List ℕ} → at ≤ to → Behind v to w → Behind v at w
 farther h z = record { to = z .to; is = z .is; onward = (let o = z .onward in omega arith); within = z .within }
 
-each-behind : (v : List ℕ) (r : ℕ → List ℕ → Answer Value) → ((t at : ℕ) → at ≤ length v → Holds (λ x w. Behind v at w) (r t (drop at v)))
+each-behind : (v : List ℕ) (r : ℕ → List ℕ → Answer JudgingCause Value) → ((t at : ℕ) → at ≤ length v → Holds (λ x w. Behind v at w) (r t (drop at v)))
     → (ts : List ℕ) (vs : List Value) (at : ℕ) → at ≤ length v → Holds (λ x w. Behind v at w) (judgeEach r ts vs (drop at v))
 unfolding judgeEach
 each-behind v r b [] vs at h = yields (record { to = at; is = refl; onward = omega arith; within = h })
@@ -208,7 +208,7 @@ module _ (T : Table) (n : ℕ) (v : List ℕ) (b : (t at : ℕ) → at ≤ lengt
   below-behind (a-set-of k) = by-row (a-set-of k) refl
   below-behind (a-choice i) = by-row (a-choice i) refl
 
-node-behind : {v : List ℕ} {l p : ℕ} {x : Node} {e : ℕ} {a : Answer Node} → Reads v l p x e a → Holds (λ y w. Behind v p w) a
+node-behind : {v : List ℕ} {l p : ℕ} {x : Node} {e : ℕ} {a : Answer JudgingCause Node} → Reads v l p x e a → Holds (λ y w. Behind v p w) a
 node-behind bad = refuses
 node-behind (good e h k) = yields (record { to = e; is = refl; onward = h; within = k })
 

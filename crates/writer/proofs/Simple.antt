@@ -6,7 +6,7 @@ use mathlib.Core.Path.{_≡_, sym, ap, _∙_}
 use Prim.Native.Nat.{ℕ, _+_, _-_, _≤_, _<_}
 use native.Mathlib.Omega.{arith}
 use lib.ListN.{length, getD, drop}
-use Rattle.octets.specs.declared.cause.Cause.the-variants.{ValueShape, IllTyped, ValueLevel}
+use Rattle.coding.specs.declared.JudgingCause.the-variants.{ValueShape, IllTyped, ValueLevel}
 use Rattle.table.specs.Syntax.{Table}
 use Rattle.table.specs.Fields.{constructedOf}
 use Rattle.table.proofs.Promises.{constructed-of}

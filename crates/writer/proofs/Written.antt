@@ -10,8 +10,8 @@ use borrow.Author.Tests.{lt-ltb, le-ltb, le-leb, lt-leb, leb-true, eqb-true, eqb
 use lib.Dec.{ltb, leb, eqb}
 use lib.ListN.{length, take, drop, take-append-drop}
 use lib.Seq.{sets, sets-eq, length-take-le, drop-append-le}
-use Rattle.octets.specs.declared.cause.Cause.{Cause}
-use Rattle.octets.specs.declared.cause.Cause.the-variants.{NoType, ValueShape, MessageRoom}
+use Rattle.coding.specs.declared.JudgingCause.{JudgingCause}
+use Rattle.coding.specs.declared.JudgingCause.the-variants.{ValueShape}
 use Rattle.octets.proofs.Tests.{test}
 use Rattle.octets.specs.Answer.{Answer, got, refused, then, if, none-left}
 use Rattle.octets.proofs.Answer.{run, refused≢got, then-refused}
@@ -22,7 +22,9 @@ use Rattle.records.specs.Entries.{Filled}
 use Rattle.coding.specs.Value.{Value}
 use Rattle.coding.specs.Form.{formAt}
 use Rattle.coding.specs.Judging.{need, readNode, judgeValue, judgeWhole}
-use Rattle.coding.specs.Outcome.{Outcome, refuse, write-at-start}
+use Rattle.coding.specs.declared.TableCause.the-variants.{Unknown}
+use Rattle.coding.specs.declared.ValueCause.the-variants.{MessageRoom}
+use Rattle.coding.specs.Outcome.{valueCause, Outcome, refuse, write-at-start}
 use Rattle.coding.specs.Calls.{afterJudging, writeOutcome}
 use Rattle.coding.specs.declared.Answer.{Answer as Told}
 use Rattle.coding.specs.declared.Refusal.{Refusal}
@@ -69,11 +71,11 @@ record Accepted (T : Table) (t : ℕ) (v : List ℕ) (s : ℕ) : Type 0 where
   size : cap (length (formAt T 24 t value)) ≡ s
 
 module _ (T : Table) (n t : ℕ) (v buf : List ℕ) where
-  pub out-type : n ≤ t → Says (writeOutcome T n t v buf) (TRefused (OfTable NoType 0)) buf
+  pub out-type : n ≤ t → Says (writeOutcome T n t v buf) (TRefused (OfTable Unknown)) buf
   unfolding writeOutcome
   out-type h = let e : ltb t n ≡ false = le-ltb t n h in (simp (run, e), simp (run, e))
 
-  pub out-long : t < n → 16384 < length v → Says (writeOutcome T n t v buf) (TRefused (OfValue ValueShape 0)) buf
+  pub out-long : t < n → 16384 < length v → Says (writeOutcome T n t v buf) (TRefused (OfValue (valueCause ValueShape 0))) buf
   unfolding writeOutcome
   out-long h l =
       let e : ltb t n ≡ true = lt-ltb t n h in
@@ -81,14 +83,14 @@ module _ (T : Table) (n t : ℕ) (v buf : List ℕ) where
       (simp (run, e, f), simp (run, e, f))
 
   -- the outcome once the value is judged
-  judged : t < n → length v ≤ 16384 → (x : Answer Value) → judgeWhole T 24 t v ≡ x → writeOutcome T n t v buf ≡ afterJudging (formAt T 24 t) v buf x
+  judged : t < n → length v ≤ 16384 → (x : Answer JudgingCause Value) → judgeWhole T 24 t v ≡ x → writeOutcome T n t v buf ≡ afterJudging (formAt T 24 t) v buf x
   unfolding writeOutcome
   judged h l x q =
       let e : ltb t n ≡ true = lt-ltb t n h in
       let f : leb (length v) 16384 ≡ true = le-leb (length v) 16384 l in
       simp (run, e, f, q)
 
-  whole-refused : (c : Cause) (l : ℕ) → judgeValue T 24 t v ≡ refused c l → judgeWhole T 24 t v ≡ refused c l
+  whole-refused : (c : JudgingCause) (l : ℕ) → judgeValue T 24 t v ≡ refused c l → judgeWhole T 24 t v ≡ refused c l
   unfolding judgeWhole
   whole-refused c l q = simp (q, then-refused)
 
@@ -101,15 +103,15 @@ module _ (T : Table) (n t : ℕ) (v buf : List ℕ) where
   whole-got a w q h = simp (run, q, none-nil w h)
 
   module _ (h : t < n) (l : length v ≤ 16384) (r : Judged) (p : r ≡ told (formAt T 24 t) v (judgeValue T 24 t v)) where
-    pub out-refused : (k : Cause) (q : ℕ) → r ≡ Refused q k → Says (writeOutcome T n t v buf) (TRefused (OfValue k q)) buf
+    pub out-refused : (k : JudgingCause) (q : ℕ) → r ≡ Refused q k → Says (writeOutcome T n t v buf) (TRefused (OfValue (valueCause k q))) buf
     unfolding afterJudging
     out-refused k q e =
         let (i, x, y) = no (formAt T 24 t) v (judgeValue T 24 t v) r k q p e in
         let o = judged h l (refused k i) (whole-refused k i x) in
-        (rw o (ap (λ (z : ℕ). TRefused (OfValue k z)) y), rw o)
+        (rw o (ap (λ (z : ℕ). TRefused (OfValue (valueCause k z))) y), rw o)
 
     module _ (e s : ℕ) (d : r ≡ Done e s) where
-      pub out-left : e < length v → Says (writeOutcome T n t v buf) (TRefused (OfValue ValueShape e)) buf
+      pub out-left : e < length v → Says (writeOutcome T n t v buf) (TRefused (OfValue (valueCause ValueShape e))) buf
       unfolding afterJudging
       out-left g =
           let (a, w, x, y, z) = done (formAt T 24 t) v (judgeValue T 24 t v) r e s p d in
@@ -128,7 +130,7 @@ module _ (T : Table) (n t : ℕ) (v buf : List ℕ) where
         whole x = judged h l (got (x .value) (x .rest)) (whole-got (x .value) (x .rest) (x .is) (x .none))
 
         module _ (room : length buf ≤ 8192) where
-          pub out-room : length buf < s → Says (writeOutcome T n t v buf) (TRefused (OfValue MessageRoom 0)) buf
+          pub out-room : length buf < s → Says (writeOutcome T n t v buf) (TRefused (OfValue MessageRoom)) buf
           unfolding afterJudging
           out-room k =
               let x = accepted g in
@@ -179,21 +181,21 @@ module _ (buf : List ℕ) (long : 8192 < length buf) where
       ∙ ap (drop (length w)) (take-append-drop 8192 buf) in
       (refl, append-assoc w (drop (length w) Front) (drop 8192 buf) ∙ ap (λ (l : List ℕ). w ++ l) q)
 
-  grown-judged : (f : Value → List ℕ) (v : List ℕ) (a : Answer Value) → Grown (afterJudging f v Front a) (afterJudging f v buf a)
+  grown-judged : (f : Value → List ℕ) (v : List ℕ) (a : Answer JudgingCause Value) → Grown (afterJudging f v Front a) (afterJudging f v buf a)
   unfolding afterJudging if
   grown-judged f v (got x r) =
       let l = front-length in
       let m : min 8192 (length Front) ≡ 8192 = omega arith in
       let k : min 8192 (length buf) ≡ 8192 = omega arith in
-      rw (m, k) (test (leb (length (f x)) 8192) (λ t. rw t (grown-write (f x) (leb-true _ _ t))) λ t. rw t (grown-refuse (OfValue MessageRoom 0)))
-  grown-judged f v (refused c l) = grown-refuse (OfValue c (length v - l))
+      rw (m, k) (test (leb (length (f x)) 8192) (λ t. rw t (grown-write (f x) (leb-true _ _ t))) λ t. rw t (grown-refuse (OfValue MessageRoom)))
+  grown-judged f v (refused c l) = grown-refuse (OfValue (valueCause c (length v - l)))
 
   grown : (T : Table) (n t : ℕ) (v : List ℕ) → Grown (writeOutcome T n t v Front) (writeOutcome T n t v buf)
   unfolding writeOutcome if
   grown T n t v =
       test (ltb t n)
-      (λ a. test (leb (length v) 16384) (λ c. rw (a, c) (grown-judged (formAt T 24 t) v (judgeWhole T 24 t v))) λ c. rw (a, c) (grown-refuse (OfValue ValueShape 0)))
-      (λ a. rw a (grown-refuse (OfTable NoType 0)))
+      (λ a. test (leb (length v) 16384) (λ c. rw (a, c) (grown-judged (formAt T 24 t) v (judgeWhole T 24 t v))) λ c. rw (a, c) (grown-refuse (OfValue (valueCause ValueShape 0))))
+      (λ a. rw a (grown-refuse (OfTable Unknown)))
 
   pub out-front : (T : Table) (n t : ℕ) (v : List ℕ) (r : Told) (w : List ℕ) → Says (writeOutcome T n t v Front) r w
       → Says (writeOutcome T n t v buf) r (w ++ drop 8192 buf)

@@ -5,6 +5,7 @@ use mathlib.Core.Path.{_≡_}
 use Prim.Native.Nat.{ℕ, _+_, _≤_}
 use lib.ListN.{length, drop}
 use lib.Seq.{sets}
+use Rattle.coding.specs.declared.JudgingCause.{JudgingCause}
 use Rattle.octets.specs.Answer.{Answer}
 use Rattle.table.specs.Reading.{tableIn}
 use Rattle.records.specs.declared.entry.Entry.{Entry}
@@ -16,13 +17,13 @@ use Rattle.writer.specs.Notes.{NotedRow}
 use Rattle.writer.specs.declared.put.Placed.{Placed}
 
 -- W is done, and what is written of it fits a message and, from a place on, the buffer
-pub record Fits {A : Type 0} (f : A → List ℕ) (W : Answer A) (to : ℕ) (buf : List ℕ) : Type 0 where
+pub record Fits {A : Type 0} (f : A → List ℕ) (W : Answer JudgingCause A) (to : ℕ) (buf : List ℕ) : Type 0 where
   pub done : IsDone W
   pub short : length (written f W) ≤ 8192
   pub room : to + length (written f W) ≤ length buf
 
 -- it was written there, and nothing else was
-pub record IsPut {A : Type 0} (f : A → List ℕ) (W : Answer A) (v : List ℕ) (to : ℕ) (first last : List ℕ) (r : Placed) : Type 0 where
+pub record IsPut {A : Type 0} (f : A → List ℕ) (W : Answer JudgingCause A) (v : List ℕ) (to : ℕ) (first last : List ℕ) (r : Placed) : Type 0 where
   pub ends : r .end ≡ ended v W
   pub reaches : r .to ≡ to + length (written f W)
   pub buffer : last ≡ sets first to (written f W)

@@ -4,6 +4,7 @@ use mathlib.Core.Bool.{Bool, true, false}
 use mathlib.Core.List.{List, [], _∷_, _++_}
 use Prim.Native.Nat.{ℕ}
 use lib.ListN.{getD, replicate}
+use Rattle.coding.specs.declared.JudgingCause.{JudgingCause}
 use Rattle.octets.specs.Answer.{Answer, got, then}
 use Rattle.octets.specs.Lists.{joined}
 use Rattle.table.specs.Syntax.{Member, Body, Table}
@@ -29,12 +30,12 @@ rowOf b (a-set-of n) = replicate n (element b)
 rowOf b (a-choice i) = getD (alternatives b) i 0 ∷ []
 
 -- the values of a row, after those in hand, where r judges one
-unfoldable pub judgeEach : (ℕ → List ℕ → Answer Value) → List ℕ → List Value → List ℕ → Answer (List Value)
+unfoldable pub judgeEach : (ℕ → List ℕ → Answer JudgingCause Value) → List ℕ → List Value → List ℕ → Answer JudgingCause (List Value)
 judgeEach r [] vs s = got vs s
 judgeEach r (t ∷ ts) vs s = then (r t s) λ v s₁. judgeEach r ts (vs ++ (v ∷ [])) s₁
 
 -- the same with n levels left
-abbrev pub judgeRow : Table → ℕ → List ℕ → List ℕ → Answer (List Value)
+abbrev pub judgeRow : Table → ℕ → List ℕ → List ℕ → Answer JudgingCause (List Value)
 judgeRow T n ts s = judgeEach (λ u w. judgeValue T n u w) ts [] s
 
 -- their forms, one after another

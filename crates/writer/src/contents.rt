@@ -20,17 +20,17 @@ use clock::calendar;
 use clock::own;
 use dates::DateTime;
 use dates::TimeKind;
+use digits::time;
+use kinds::BIT_STRING;
+use kinds::BOOLEAN;
+use kinds::ENUMERATED;
+use kinds::INTEGER;
+use kinds::NULL;
+use kinds::OCTET_STRING;
+use kinds::time_kind;
 use octets::copy;
-use records::kind::BIT_STRING;
-use records::kind::BOOLEAN;
-use records::kind::ENUMERATED;
-use records::kind::INTEGER;
-use records::kind::NULL;
-use records::kind::OCTET_STRING;
-use records::kind::time_kind;
 use simple::bit_string;
 use simple::integer;
-use simple::time;
 
 // The number that two octets at p stand for.
 pub fn two(v: &[u8], p: usize) -> usize

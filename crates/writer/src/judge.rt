@@ -22,20 +22,20 @@ use crate::contents;
 use crate::contents::two;
 use crate::frame;
 use crate::node;
+use coding::JudgingCause;
 use coding::LEVELS;
-use octets::cause::Cause;
+use kinds::ENUMERATED;
+use kinds::constructed;
 use records::entry::Entry;
 use records::entry::lists;
 use records::entry::parts;
 use records::entry::unpack;
 use records::entry::whole;
-use records::kind::ENUMERATED;
-use records::kind::constructed;
 
 // Where a part of the value ends, and how many octets are written of it, to 8,193; or why it is refused.
 pub enum Judged {
     Done { end: usize, size: usize },
-    Refused { place: usize, cause: Cause },
+    Refused { place: usize, cause: JudgingCause },
 }
 
 // Whether the shaped leaf of a kind with its own part at p agrees with a record.
@@ -77,19 +77,19 @@ fn judge_leaf(table: &[u8], e: Entry, v: &[u8], at: usize, level: usize) -> Judg
     let end = x.end;
     if end == 0 {
         return Judged::Refused {
-            cause: Cause::ValueShape,
+            cause: JudgingCause::ValueShape,
             place: at,
         };
     }
     if level == 0 {
         return Judged::Refused {
-            cause: Cause::ValueLevel,
+            cause: JudgingCause::ValueLevel,
             place: at,
         };
     }
     if !suits(table, e, v, kind, p) {
         return Judged::Refused {
-            cause: Cause::IllTyped,
+            cause: JudgingCause::IllTyped,
             place: at,
         };
     }
@@ -137,20 +137,20 @@ fn judge_built(
     let p = at + 3;
     if node::own_end(v, kind, p) == 0 {
         return Judged::Refused {
-            cause: Cause::ValueShape,
+            cause: JudgingCause::ValueShape,
             place: at,
         };
     }
     if level == 0 {
         return Judged::Refused {
-            cause: Cause::ValueLevel,
+            cause: JudgingCause::ValueLevel,
             place: at,
         };
     }
     let w = index[t];
     if !node::agrees(table, unpack(w), v, kind, p) {
         return Judged::Refused {
-            cause: Cause::IllTyped,
+            cause: JudgingCause::IllTyped,
             place: at,
         };
     }
@@ -200,7 +200,7 @@ fn judge_members(
         if t < 256 {
             if !node::marked(v, at) {
                 return Judged::Refused {
-                    cause: Cause::ValueShape,
+                    cause: JudgingCause::ValueShape,
                     place: at,
                 };
             }

@@ -18,8 +18,11 @@ use coding::Answer;
 use coding::LONGEST_MESSAGE;
 use coding::LONGEST_VALUE;
 use coding::Refusal;
+use coding::TableCause;
+use coding::ValueCause;
 use judge::Judged;
-use octets::cause::Cause;
+use refusal::table_cause;
+use refusal::value_cause;
 use table::Verdict;
 
 // Writes a value of type t, by a table of n records that passed.
@@ -43,33 +46,24 @@ fn write_passed(
         ⌝ }
 {
     if n <= t {
-        return Answer::Refused(Refusal::Table {
-            cause: Cause::NoType,
-            place: 0,
-        });
+        return Answer::Refused(Refusal::Table(TableCause::Unknown));
     }
     if LONGEST_VALUE < value.len() {
-        return Answer::Refused(Refusal::Value {
-            cause: Cause::ValueShape,
-            place: 0,
-        });
+        return Answer::Refused(Refusal::Value(ValueCause::ValueShape(0)));
     }
     // ones and not zeros, which would be cleared by a call of memset, four times as dear as these stores
     let mut notes = [1u16; 4096];
     match judge::judge(table, index, t, value, &mut notes) {
-        Judged::Refused { cause, place } => Answer::Refused(Refusal::Value { cause, place }),
+        Judged::Refused { cause, place } => Answer::Refused(Refusal::Value(value_cause(
+            cause,
+            place,
+        ))),
         Judged::Done { end, size } => {
             if end < value.len() {
-                return Answer::Refused(Refusal::Value {
-                    cause: Cause::ValueShape,
-                    place: end,
-                });
+                return Answer::Refused(Refusal::Value(ValueCause::ValueShape(end)));
             }
             if buf.len() < size {
-                return Answer::Refused(Refusal::Value {
-                    cause: Cause::MessageRoom,
-                    place: 0,
-                });
+                return Answer::Refused(Refusal::Value(ValueCause::MessageRoom));
             }
             put::put(table, index, t, value, &notes, buf);
             Answer::Done(size)
@@ -89,7 +83,10 @@ pub fn write(table: &[u8], t: usize, value: &[u8], buf: &mut [u8]) -> Answer
     let c = checker::check_into(table, &mut index);
     let verdict = c.verdict;
     match verdict {
-        Verdict::Refused { cause, place } => Answer::Refused(Refusal::Table { cause, place }),
+        Verdict::Refused { cause, place } => {
+            let cause = table_cause(cause, place);
+            Answer::Refused(Refusal::Table(cause))
+        }
         Verdict::Passed => {
             if LONGEST_MESSAGE < buf.len() {
                 let room = &mut buf[..LONGEST_MESSAGE];

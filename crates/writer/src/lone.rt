@@ -13,10 +13,10 @@ ghost use Rattle.writer.specs.Nodes.{membersEnd, fixedEnd};
 use crate::contents;
 use crate::node;
 use coding::LONGEST_VALUE;
+use kinds::constructed;
+use kinds::has_members;
+use kinds::is_list;
 use octets::octet;
-use records::kind::constructed;
-use records::kind::has_members;
-use records::kind::is_list;
 
 // Whether n octets from p on are 0. They are added up, with no way out of the loop, so that many are taken at a time.
 fn are_zero(v: &[u8], p: usize, n: usize) -> bool

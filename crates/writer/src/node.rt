@@ -12,16 +12,16 @@ ghost use Rattle.coding.specs.Judging.{flags, agreeing, agrees as Judging·agre
 ghost use Rattle.writer.specs.Nodes.{membersEnd, fixedEnd, ownEnd, nodeOf, Marked};
 ghost use Rattle.writer.specs.Known.{recordIn, Known};
 ghost use Rattle.writer.specs.Standing.{startAt, countAt, partsOf, placeOf, belowAt, Standing};
+use kinds::CHOICE;
+use kinds::MESSAGE;
+use kinds::has_members;
+use kinds::holds_one;
+use kinds::is_list;
 use octets::octet;
 use records::entry::Entry;
 use records::entry::Span;
 use records::entry::optional;
 use records::entry::parts;
-use records::kind::CHOICE;
-use records::kind::MESSAGE;
-use records::kind::has_members;
-use records::kind::holds_one;
-use records::kind::is_list;
 
 // Whether the octets of a node with its mark are there, to its kind.
 pub fn marked(v: &[u8], at: usize) -> bool

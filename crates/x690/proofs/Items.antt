@@ -7,8 +7,8 @@ use native.Mathlib.Omega.{arith}
 use Prim.Native.Nat.{ℕ, zero, suc, _+_, _-_, _^_, _≤_, _<_}
 use lib.ListN.{length, take, drop, length-append, take-append-drop}
 use lib.Seq.{length-take-le, take-append-seam, drop-append-seam}
-use Rattle.octets.specs.declared.cause.Cause.{Cause}
-use Rattle.octets.specs.declared.cause.Cause.the-variants.{NotAwaited, LengthField}
+use Rattle.x690.specs.declared.ReadingCause.{ReadingCause}
+use Rattle.x690.specs.declared.ReadingCause.the-variants.{NotAwaited, LengthField}
 use Rattle.octets.specs.Answer.{Answer, got, refused, if, then, behind, none-left}
 use Rattle.octets.specs.Permutations.{AllOctets}
 use Rattle.octets.specs.Lists.{same}
@@ -45,12 +45,12 @@ ends-closed no-more = refl
 ends-open : {t r : List ℕ} → Ends open-ended t r → t ≡ 0 ∷ 0 ∷ r
 ends-open mark = refl
 
-pub atEnd-end : {A : Type 0} {mode : Mode} {t r : List ℕ} (f : List ℕ → Answer A) (x : Unit {0} → Answer A) → Ends mode t r → atEnd mode t f x ≡ f r
+pub atEnd-end : {A : Type 0} {mode : Mode} {t r : List ℕ} (f : List ℕ → Answer ReadingCause A) (x : Unit {0} → Answer ReadingCause A) → Ends mode t r → atEnd mode t f x ≡ f r
 unfolding atEnd if none-left
 atEnd-end f x no-more = refl
 atEnd-end f x mark = refl
 
-pub atEnd-holds : {A : Type 0} {P : A → List ℕ → Type 0} (mode : Mode) (s : List ℕ) {f : List ℕ → Answer A} {x : Unit {0} → Answer A}
+pub atEnd-holds : {A : Type 0} {P : A → List ℕ → Type 0} (mode : Mode) (s : List ℕ) {f : List ℕ → Answer ReadingCause A} {x : Unit {0} → Answer ReadingCause A}
     → ((r : List ℕ) → Ends mode s r → Holds P (f r)) → ((u : Unit {0}) → Holds P (x u)) → Holds P (atEnd mode s f x)
 unfolding atEnd if none-left
 atEnd-holds closed [] h k = h [] no-more
@@ -61,7 +61,7 @@ atEnd-holds open-ended (zero ∷ zero ∷ s) h k = h s mark
 atEnd-holds open-ended (zero ∷ suc c ∷ s) h k = rw (ne-eqb (suc c) 0 (λ e. omega arith)) refuses
 atEnd-holds open-ended (suc b ∷ s) h k = rw (ne-eqb (suc b) 0 (λ e. omega arith)) (k tt)
 
-pub atEnd-more : {A : Type 0} (mode : Mode) (b : ℕ) (s : List ℕ) (f : List ℕ → Answer A) (x : Unit {0} → Answer A) → 0 < b → atEnd mode (b ∷ s) f x ≡ x tt
+pub atEnd-more : {A : Type 0} (mode : Mode) (b : ℕ) (s : List ℕ) (f : List ℕ → Answer ReadingCause A) (x : Unit {0} → Answer ReadingCause A) → 0 < b → atEnd mode (b ∷ s) f x ≡ x tt
 unfolding atEnd
 atEnd-more closed b s f x h = simp run
 atEnd-more open-ended b s f x h = simp (run, ne-eqb b 0 (λ e. omega arith))
@@ -91,7 +91,7 @@ constructed-fits (in-size p) = definite-fits p
 constructed-fits (in-marks q) = rw q (simp length-append (omega arith))
 
 -- an item that has begun is no end
-pub begun-more : {A : Type 0} {i m : List ℕ} (rest s : List ℕ) (mode : Mode) (f : List ℕ → Answer A) (x : Unit {0} → Answer A) → Begun i → m ≡ i ++ rest → atEnd mode (m ++ s) f x ≡ x tt
+pub begun-more : {A : Type 0} {i m : List ℕ} (rest s : List ℕ) (mode : Mode) (f : List ℕ → Answer ReadingCause A) (x : Unit {0} → Answer ReadingCause A) → Begun i → m ≡ i ++ rest → atEnd mode (m ++ s) f x ≡ x tt
 begun-more rest s mode f x b e = rw (e, b .is) (atEnd-more mode (b .head) ((b .rest ++ rest) ++ s) f x (b .not-zero))
 
 pub begun-longer : {i m : List ℕ} (rest s : List ℕ) → Begun i → m ≡ i ++ rest → length s < length (m ++ s)
@@ -121,7 +121,7 @@ primitive-complete {i} {c} s g (sized ls l e) =
     let h : length c ≤ length (c ++ s) = simp length-append (omega arith) in
     rw (e, whole i ls c s) (simp (run, header-complete (c ++ s) g l h, contents, take-append-seam c s, drop-append-seam c s))
 
-pub constructed-complete : {A : Type 0} {Q : A → A → Type 0} (body : Mode → List ℕ → Answer A) {v : A} {i c m : List ℕ} (s : List ℕ) → Readable i
+pub constructed-complete : {A : Type 0} {Q : A → A → Type 0} (body : Mode → List ℕ → Answer ReadingCause A) {v : A} {i c m : List ℕ} (s : List ℕ) → Readable i
     → ((mode : Mode) (t u : List ℕ) → Ends mode t u → Reads Q (body mode) v (c ++ t) u)
     → Constructed i c m → Reads Q (readConstructed i body) v (m ++ s) s
 unfolding readConstructed inside
@@ -139,7 +139,7 @@ constructed-complete body {i = i} {c} s g b (in-marks e) =
     record { value = x .value; answer = rw (e, whole-indefinite i c s) (simp (run, header-indefinite i (c ++ (0 ∷ 0 ∷ s)) g, inside, x .answer)); alike = x .alike }
 
 -- a refusal inside a part is at the same octet of the whole: what stands behind the part is left as well
-pub part-place : {A : Type 0} (body : Mode → List ℕ → Answer A) {k : Cause} {l : ℕ} (c s : List ℕ) → body closed c ≡ refused k l
+pub part-place : {A : Type 0} (body : Mode → List ℕ → Answer ReadingCause A) {k : ReadingCause} {l : ℕ} (c s : List ℕ) → body closed c ≡ refused k l
     → inside body (definite (length c)) (c ++ s) ≡ refused k (l + length s)
 unfolding inside behind then
 part-place body {k} {l} c s e =
@@ -154,7 +154,7 @@ header-sound i s =
     if-holds _ (λ f. refuses) λ f _.
     map-holds (length-sound _ u) (λ z r h. (u, rw (same-true i j (not-false (same i j) f)) e, h))
 
--- Document 02, [6]: of a header that is accepted at most four octets stand behind the first length octet, and the length is below 2^32.
+-- FORMATS, "Limits": of a header that is accepted at most four octets stand after the first length octet, and the length is below 2^32.
 pub header-field : (i s : List ℕ) → AllOctets s → Holds (λ z r. (m : List ℕ) × (s ≡ i ++ (m ++ r)) × (length m ≤ 5) × Counted z) (readHeader i s)
 header-field i s o =
     map-holds (header-sound i s) λ z r (u, e, h).
@@ -199,7 +199,7 @@ pub record Body {A : Type 0} (C : A → List ℕ → Type 0) (mode : Mode) (s : 
   pub ends : Ends mode tail r
   pub has : C v content
 
-module _ {A : Type 0} (C : A → List ℕ → Type 0) (body : Mode → List ℕ → Answer A) (sound : (mode : Mode) (s : List ℕ) → Holds (Body C mode s) (body mode s)) where
+module _ {A : Type 0} (C : A → List ℕ → Type 0) (body : Mode → List ℕ → Answer ReadingCause A) (sound : (mode : Mode) (s : List ℕ) → Holds (Body C mode s) (body mode s)) where
   at-size : {v : A} {s r : List ℕ} → Body C closed s v r → C v s
   at-size {v} b = rw (b .cut, ends-closed (b .ends), append-nil) (b .has)
 

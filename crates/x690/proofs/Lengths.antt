@@ -11,7 +11,7 @@ use Prim.Native.Nat.{ℕ, zero, suc, _+_, _-_, _*_, _/_, _%_, _^_, _≤_, _<_}
 use lib.Dec.{ltb, eqb}
 use lib.ListN.{length, take, length-append, take-append-drop}
 use lib.Seq.{length-take-le, take-append-seam, drop-append-seam}
-use Rattle.octets.specs.declared.cause.Cause.the-variants.{Cut, Forbidden, LengthField}
+use Rattle.x690.specs.declared.ReadingCause.the-variants.{Cut, Forbidden, LengthField}
 use Rattle.octets.specs.Answer.{got, refused, if}
 use Rattle.octets.specs.Permutations.{AllOctets, every-cons}
 use Rattle.octets.proofs.Answer.{Holds, yields, refuses, if-holds, map-holds, if-cases, run}
@@ -159,7 +159,7 @@ pub shape-field : {s : List ℕ} {z : Size} {r : List ℕ} → AllOctets s → S
 shape-field {r = r} o (is-definite m e l t) = let (few, small) = length-field l (every-left m r (rw e at o)) in (m, e, few, small)
 shape-field o (is-indefinite e) = (128 ∷ [], e, omega arith, tt)
 
--- The promise of document 02, [6]: of length octets that are read at most four stand behind the first, and the length is below 2^32.
+-- FORMATS, "Limits": of length octets that are read at most four stand after the first, and the length is below 2^32.
 pub field : (l : ℕ) (s : List ℕ) → AllOctets s → Holds (λ z r. (m : List ℕ) × (s ≡ m ++ r) × (length m ≤ 5) × Counted z) (readLength l s)
 field l s o = map-holds (length-sound l s) λ z r h. shape-field o h
 

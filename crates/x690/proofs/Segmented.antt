@@ -6,7 +6,8 @@ use mathlib.Core.List.{List, [], _∷_}
 use mathlib.Core.Option.{some}
 use mathlib.Core.Path.{_≡_, refl}
 use Prim.Native.Nat.{ℕ}
-use Rattle.octets.specs.declared.cause.Cause.the-variants.{Cut, Forbidden, NotAwaited, Contents, MessageLevel, LengthField}
+use Rattle.x690.specs.declared.ReadingCause.{ReadingCause}
+use Rattle.x690.specs.declared.ReadingCause.the-variants.{Cut, Forbidden, NotAwaited, Contents, MessageLevel, LengthField}
 use Rattle.octets.specs.Answer.{Answer, got, refused, if, then, behind, none-left}
 use Rattle.octets.specs.Lists.{same}
 use Rattle.x690.specs.BitString.{unused}
@@ -15,13 +16,13 @@ use Rattle.x690.specs.Reading.{readFollowing, readIdentifier, passes, fi
 use Rattle.x690.specs.Segments.{Kind, bit-string, octet-string, segmentTag, inParts, empty, join, inForm, whole, readJoined, readSegment, readCarried}
 
 -- a string with the tag [UNIVERSAL 3] or [UNIVERSAL 4], or with another
-abbrev bits : List ℕ → Answer (List ℕ)
+abbrev bits : List ℕ → Answer ReadingCause (List ℕ)
 bits m = readCarried (some bit-string) (0x03 ∷ []) m
 
-abbrev octets : List ℕ → Answer (List ℕ)
+abbrev octets : List ℕ → Answer ReadingCause (List ℕ)
 octets m = readCarried (some octet-string) (0x04 ∷ []) m
 
-abbrev tagged : List ℕ → Answer (List ℕ)
+abbrev tagged : List ℕ → Answer ReadingCause (List ℕ)
 tagged m = readCarried (some octet-string) (0x80 ∷ []) m
 
 -- each case comes out as the readings say

@@ -1,7 +1,7 @@
 -- Laws of strings in segments: what may be sent is read, and what is read may be sent; and what is read of some, with the refusals.
 -- Assumes nothing.
 use borrow.Author.Tests.{eqb-true, lt-ltb, ne-eqb, not-false}
-use mathlib.Core.Bool.{Bool, true, false, not, true≢false}
+use mathlib.Core.Bool.{Bool, true, false, not, _||_, true≢false}
 use mathlib.Core.List.{List, [], _∷_, _++_, append-assoc, append-nil}
 use mathlib.Core.Option.{Option, some, none}
 use mathlib.Core.Path.{_≡_, refl, sym, ap, _∙_}
@@ -9,15 +9,17 @@ use native.Mathlib.Omega.{arith}
 use Prim.Native.Nat.{ℕ, zero, suc, _+_, _-_, _≤_, _<_}
 use lib.Dec.{ltb}
 use lib.ListN.{length, getD, drop, length-append}
-use Rattle.octets.specs.Answer.{Answer, got, if, none-left}
+use Rattle.x690.specs.declared.ReadingCause.{ReadingCause}
+use Rattle.x690.specs.declared.ReadingCause.the-variants.{NotAwaited, Contents}
+use Rattle.octets.specs.Answer.{Answer, got, refused, then, if, none-left}
 use Rattle.octets.specs.Lists.{same}
 use Rattle.octets.specs.Permutations.{AllOctets, every-nil, every-cons}
-use Rattle.octets.proofs.Answer.{Holds, yields, refuses, if-holds, if-cases, then-holds, map-holds, refused≢got, run, Reads, Taken}
+use Rattle.octets.proofs.Answer.{Holds, yields, refuses, if-holds, if-cases, then-holds, map-holds, got-holds, then-alike, refused≢got, run, Reads, Taken}
 use Rattle.octets.proofs.Lists.{same-refl}
 use Rattle.octets.proofs.Permutations.{every-left, every-right, every-append, every-drop}
 use Rattle.x690.specs.Identifier.{leading, following, identifier}
 use Rattle.x690.specs.BitString.{unused}
-use Rattle.x690.specs.Reading.{readIdentifier, passes, Mode, closed, readPrimitive}
+use Rattle.x690.specs.Reading.{readIdentifier, passes, Mode, closed, atEnd, readPrimitive}
 use Rattle.x690.specs.Segments.{Kind, bit-string, octet-string, universal, segmentTag, inParts, inEither, empty, join, inForm, whole, Joined, no-segment, last, further}
 use Rattle.x690.specs.Segments.{primitive, constructed, SegmentIn, deepest, Carries, in-whole, in-segments, Gathered, heads, readJoined, readAll, readSegment, readCarried}
 use Rattle.x690.proofs.Identifiers.{identifier-sound, identifier-complete, identifier-begun, Begun}
@@ -151,7 +153,7 @@ onto-all : {k : Kind} {S : List ℕ → List ℕ → Type 0} {e q : List ℕ} �
 onto-all f at-end = no-segment
 onto-all {k = k} f (goes-on {d = d} w j) = rw (join-left k d (joined-told f j)) j
 
-module _ (k : Kind) (S : List ℕ → List ℕ → Type 0) (r : List ℕ → Answer Gathered) (sound : (s : List ℕ) → Holds (Taken (λ g p. S (g .0) p) s) (r s)) (told : (c p : List ℕ) → S c p → Told k c) where
+module _ (k : Kind) (S : List ℕ → List ℕ → Type 0) (r : List ℕ → Answer ReadingCause Gathered) (sound : (s : List ℕ) → Holds (Taken (λ g p. S (g .0) p) s) (r s)) (told : (c p : List ℕ) → S c p → Told k c) where
   joined-sound : (n : ℕ) (c : List ℕ) (b : ℕ) (mode : Mode) (s : List ℕ) → Holds (Body (λ g q. Onto k S c (g .0) q) mode s) (readJoined k r n c b mode s)
   unfolding readJoined
   joined-sound zero c b mode s = refuses
@@ -197,6 +199,19 @@ segment-some k (suc d) c p (constructed j x) = let h = constructed-fits x in ome
 
 pub segment-shorter : (k : Kind) (d : ℕ) (s : List ℕ) → Holds (λ g u. length u < length s) (readSegment k d s)
 segment-shorter k d s = map-holds (segment-sound k d s) λ g u x. let h = segment-some k d (g .0) (x .piece) (x .has) in rw (x .cut, length-append) (omega arith)
+
+-- a segment takes an octet at least, so more turns than octets change nothing
+pub joined-turns : (k : Kind) (d n : ℕ) (c : List ℕ) (b : ℕ) (mode : Mode) (s : List ℕ) → length s < n
+    → readJoined k (readSegment k d) n c b mode s ≡ readJoined k (readSegment k d) (suc n) c b mode s
+unfolding readJoined
+joined-turns k d zero c b mode s h = absurd (omega arith)
+joined-turns k d (suc n) c b mode s h =
+    ap (λ (y : Answer ReadingCause Gathered).
+    atEnd mode s (λ u. got (c, b + (length s - length u)) u) λ _.
+    then (readIdentifier s) λ i s₁.
+    if (not (same (segmentTag k false) i || same (segmentTag k true) i)) (refused NotAwaited (length s)) λ _.
+    if (not (whole k c)) (refused Contents (length s + b)) λ _. y)
+    (then-alike (readSegment k d s) λ g s₂ e. let x = got-holds (segment-shorter k d s) e in joined-turns k d n (join k c (g .0)) (g .1) mode s₂ (omega arith))
 
 -- what segments join to is in form: the primitive form could carry it
 unused-join : (n : ℕ) (c d : List ℕ) → unused n d ≡ true → unused n (c ++ d) ≡ true
@@ -300,7 +315,7 @@ segment-headed k (suc d) c p (constructed j x) = let (n, h) = constructed-head x
 abbrev Alike : Gathered → Gathered → Type 0
 Alike g h = g .0 ≡ h .0
 
-module _ (k : Kind) (S : List ℕ → List ℕ → Type 0) (r : List ℕ → Answer Gathered) (told : (c p : List ℕ) → S c p → Told k c) (headed : (c p : List ℕ) → S c p → Headed k p)
+module _ (k : Kind) (S : List ℕ → List ℕ → Type 0) (r : List ℕ → Answer ReadingCause Gathered) (told : (c p : List ℕ) → S c p → Told k c) (headed : (c p : List ℕ) → S c p → Headed k p)
     (reads : (c p s : List ℕ) → S c p → (b : ℕ) × (r (p ++ s) ≡ got (c, b) s)) where
   one-more : (n : ℕ) (c : List ℕ) (b : ℕ) (mode : Mode) {d p : List ℕ} (s : List ℕ) (x : S d p) → whole k c ≡ true
       → readJoined k r (suc n) c b mode (p ++ s) ≡ readJoined k r n (join k c d) (reads d p s x .0) mode s

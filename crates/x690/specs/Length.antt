@@ -12,7 +12,7 @@ unfoldable pub unsigned : ℕ → List ℕ → ℕ
 unsigned n [] = n
 unsigned n (d ∷ ds) = unsigned (n * 256 + d) ds
 
--- document 02, [6]: at most four octets stand behind the first one
+-- FORMATS, "Messages" (8.1.3): at most four octets stand after the first one
 abbrev pub longestField : ℕ
 longestField = 4
 

@@ -8,13 +8,14 @@ use mathlib.Core.Path.{_≡_}
 use Prim.Native.Nat.{ℕ, zero, suc, _+_, _-_}
 use lib.Dec.{eqb}
 use lib.ListN.{length, getD, drop}
-use Rattle.octets.specs.declared.cause.Cause.the-variants.{NotAwaited, Contents, MessageLevel}
+use Rattle.x690.specs.declared.ReadingCause.{ReadingCause}
+use Rattle.x690.specs.declared.ReadingCause.the-variants.{NotAwaited, Contents, Trailing, MessageLevel}
 use Rattle.octets.specs.Answer.{Answer, got, refused, then, if, none-left}
 use Rattle.octets.specs.Lists.{same}
 use Rattle.x690.specs.Identifier.{identifier}
 use Rattle.x690.specs.Item.{Definite, Constructed}
 use Rattle.x690.specs.BitString.{unused}
-use Rattle.x690.specs.Reading.{readIdentifier, passes, never, Mode, atEnd, readConstructed, readPrimitive}
+use Rattle.x690.specs.Reading.{readIdentifier, passes, Mode, atEnd, readConstructed, readPrimitive}
 
 -- the kinds that have segments
 pub data Kind : Type 0 where
@@ -73,7 +74,7 @@ unfoldable pub SegmentIn : Kind → ℕ → List ℕ → List ℕ → Type 0
 SegmentIn k zero c p = ⊥
 SegmentIn k (suc d) c p = Segment k (Joined k (SegmentIn k d)) c p
 
--- document 02, [2]: segments nest at most four deep
+-- FORMATS, "Messages" (8.6, 8.7): segments nest at most four deep
 abbrev pub deepest : ℕ
 deepest = 4
 
@@ -90,11 +91,11 @@ Gathered = List ℕ × ℕ
 abbrev pub heads : List ℕ → List ℕ → Bool
 heads i s = passes (same i) (readIdentifier s)
 
--- The segments after those that join to c, the last primitive one of which begins b octets back; r reads one. At each its identifier (22, 23)
--- is awaited (24); then one before it that has unused bits is 25, placed there.
-module _ (k : Kind) (r : List ℕ → Answer Gathered) where
-  unfoldable pub readJoined : ℕ → List ℕ → ℕ → Mode → List ℕ → Answer Gathered
-  readJoined zero c b mode s = never s
+-- At most n segments after those that join to c, the last primitive one of which begins b octets back; r reads one. At each its identifier
+-- (22, 23) is awaited (24); then one before it that has unused bits is 25, placed there.
+module _ (k : Kind) (r : List ℕ → Answer ReadingCause Gathered) where
+  unfoldable pub readJoined : ℕ → List ℕ → ℕ → Mode → List ℕ → Answer ReadingCause Gathered
+  readJoined zero c b mode s = refused Trailing (length s)
   readJoined (suc n) c b mode s =
       atEnd mode s (λ u. got (c, b + (length s - length u)) u) λ _.
       then (readIdentifier s) λ i s₁.
@@ -103,11 +104,11 @@ module _ (k : Kind) (r : List ℕ → Answer Gathered) where
       then (r s) λ g s₂. readJoined n (join k c (g .0)) (g .1) mode s₂
 
   -- all of them; there are no more than octets
-  abbrev pub readAll : Mode → List ℕ → Answer Gathered
+  abbrev pub readAll : Mode → List ℕ → Answer ReadingCause Gathered
   readAll mode s = readJoined (suc (length s)) (empty k) 0 mode s
 
 -- a segment where d more depths are left: 28, then its length, what fits, and its contents (25)
-unfoldable pub readSegment : Kind → ℕ → List ℕ → Answer Gathered
+unfoldable pub readSegment : Kind → ℕ → List ℕ → Answer ReadingCause Gathered
 readSegment k zero s = refused MessageLevel (length s)
 readSegment k (suc d) s =
     if (heads (segmentTag k true) s) (readConstructed (segmentTag k true) (λ mode u. readAll k (readSegment k d) mode u) s) λ _.
@@ -115,7 +116,7 @@ readSegment k (suc d) s =
     if (not (inForm k c)) (refused Contents (length s)) λ _. got (c, length s - length u) u
 
 -- the contents of an item with the identifier octets i, or of a string that has them with either bit 6
-unfoldable pub readCarried : Option Kind → List ℕ → List ℕ → Answer (List ℕ)
+unfoldable pub readCarried : Option Kind → List ℕ → List ℕ → Answer ReadingCause (List ℕ)
 readCarried none i s = readPrimitive i s
 readCarried (some k) i s =
     if (heads (inParts i) s) (then (readConstructed (inParts i) (readAll k (readSegment k deepest)) s) λ g u. got (g .0) u) λ _.

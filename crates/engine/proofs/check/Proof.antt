@@ -11,5 +11,6 @@ check-spec = tie.close (tie.spec
     (λ c κs. search needs)  -- check-requires
     (λ c. search needs)  -- enum-told
     (λ c. search needs)  -- enum-known-cause
+    (λ c κs. search needs)  -- table-cause-requires
     (λ c. rw (← c .before .before .check .ensures, c .enum-told .given .1))  -- returns
-    (λ c. rw (← c .before .before .before .check .ensures, c .before .cause .given .1)))  -- returns-2
+    (λ c. rw (← c .before .before .before .before .check .ensures, c .before .before .cause .given .1, c .table-cause .ensures)))  -- returns-2

@@ -7,7 +7,6 @@ use Rattle.link.proofs.pack.Tie as tie
 use Rattle.link.proofs.pack.Reads as reads
 use Rattle.link.proofs.pack.Lts as lts
 use Rattle.link.proofs.join.Reads as join-reads
-use Rattle.engine.proofs.refusal.report_of.Reads as report-of-reads
 
 pub pack-spec : {M : Type 1} → statement M
 pack-spec =

@@ -37,6 +37,7 @@ read-passed-spec =
     let T = tableIn _ in
     let m = now (c3 .before .before .before .before .before .before .before .args .message) in
     refused-within T _ m _ (c3 .judge .ensures .1) _ _ (c .before .cause .given .1))  -- sub-place
+    (λ c κs. search needs)  -- message-cause-requires
     (λ c. search needs)  -- enum-known-size
     (λ c.
     let c4 = c .before .before .before .before in
@@ -82,14 +83,14 @@ read-passed-spec =
           (c .before .before .if4 .left),
     ))  -- place-requires
     (λ c.
-    let c3 = c .before .before .before in
+    let c3 = c .before .before .before .before in
     let c5 = c3 .before .before in
     let c6 = c5 .before in
     let a = c6 .before .before .before .before .args in
     let T = tableIn _ in
     let m = now (a .message) in
     let w = now (a .buf) in
-    out-refused T _ m _ (c3 .judge .ensures .1) _ w (c6 .if1 .left) (c5 .if2 .left) _ _ (c .before .cause .given .1))  -- returns-5
+    rw (c .message-cause .ensures) (out-refused T _ m _ (c3 .judge .ensures .1) _ w (c6 .if1 .left) (c5 .if2 .left) _ _ (c .before .before .cause .given .1)))  -- returns-5
     (λ c. search needs)  -- same-length
     (λ c.
     let c5 = c .before .before .before .before .before in

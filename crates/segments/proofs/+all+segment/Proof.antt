@@ -226,27 +226,27 @@ pub +all+segment-spec : {M : Type 1} → statement M
     (λ c.
     let c3 = c .before .before .before in
     let c4 = c3 .before in
-    segment-part (begun t c4) (c3 .read .ensures) (c .before .x .given .1) .0)  -- segment-sub-c
+    segment-part (begun t c4) (c3 .read .ensures .0) (c .before .x .given .1) .0)  -- segment-sub-c
     (λ c.
     let c3 = c .before .before .before in
     let c4 = c3 .before in
-    omega (arith, segment-part (begun t c4) (c3 .read .ensures) (c .before .x .given .1)))  -- segment-part-c-start
+    omega (arith, segment-part (begun t c4) (c3 .read .ensures .0) (c .before .x .given .1)))  -- segment-part-c-start
     (λ c.
     let c3 = c .before .before .before in
     let c4 = c3 .before in
-    segment-part (begun t c4) (c3 .read .ensures) (c .before .x .given .1) .1)  -- segment-part-c-end
+    segment-part (begun t c4) (c3 .read .ensures .0) (c .before .x .given .1) .1)  -- segment-part-c-end
     (λ c κs. search needs)  -- segment-refused-requires-3
     (λ c.
     let c5 = c .before .before .before .before .before in
     let c7 = c5 .before .before in
     let c8 = c7 .before in
-    c .refused3 .ensures ∙ segment-open (begun t c8) (c7 .read .ensures) (c5 .x .given .1) (c .before .before .if2 .taken) (c .before .if3 .taken))  -- segment-returns-2
+    c .refused3 .ensures ∙ segment-open (begun t c8) (c7 .read .ensures .0) (c5 .x .given .1) (c .before .before .if2 .taken) (c .before .if3 .taken))  -- segment-returns-2
     (λ c κs. search needs)  -- segment-primitive-requires
     (λ c.
     let c5 = c .before .before .before .before .before in
     let c7 = c5 .before .before in
     let c8 = c7 .before in
-    segment-whole (begun t c8) (c7 .read .ensures) (c5 .x .given .1) (c .before .before .if2 .taken) (c .before .if3 .left) (c .primitive .ensures))  -- segment-returns-3
+    segment-whole (begun t c8) (c7 .read .ensures .0) (c5 .x .given .1) (c .before .before .if2 .taken) (c .before .if3 .left) (c .primitive .ensures))  -- segment-returns-3
     (λ c. omega (arith, c .before .before .before .before .before .before .if1 .left))  -- segment-sub-all
     (λ c κs.
     let c6 = c .before .before .before .before .before .before in
@@ -257,7 +257,7 @@ pub +all+segment-spec : {M : Type 1} → statement M
     let c7 = c .before .before .before .before .before .before .before in
     let c9 = c7 .before .before in
     let c10 = c9 .before in
-    segment-part (begun t c10) (c9 .read .ensures) (c7 .x .given .1) .1)  -- segment-sub-refused
+    segment-part (begun t c10) (c9 .read .ensures .0) (c7 .x .given .1) .1)  -- segment-sub-refused
     (λ c.
     let c3 = c .before .before .before in
     let c4 = c3 .before in
@@ -267,7 +267,7 @@ pub +all+segment-spec : {M : Type 1} → statement M
     let c12 = c10 .before .before in
     omega (
       arith,
-      segment-refused (begun t c10) (c9 .read .ensures) (c7 .x .given .1) (c4 .if2 .left) (c3 .all .ensures)
+      segment-refused (begun t c10) (c9 .read .ensures .0) (c7 .x .given .1) (c4 .if2 .left) (c3 .all .ensures)
           (c .before .cause2 .given .1) .0,
       c12 .good,
     ))  -- segment-add-refused
@@ -282,21 +282,21 @@ pub +all+segment-spec : {M : Type 1} → statement M
     let c13 = c11 .before .before in
     omega (
       arith,
-      segment-read (begun t c11) (c10 .read .ensures) (c8 .x .given .1) (c5 .if2 .left) (c4 .all .ensures)
+      segment-read (begun t c11) (c10 .read .ensures .0) (c8 .x .given .1) (c5 .if2 .left) (c4 .all .ensures)
           (c .before .before .y .given .1) .0,
       c13 .good,
     ))  -- segment-add-t29
     (λ c.
     let c4 = c .before .before .before .before in
     let c5 = c4 .before in
-    c .refused2 .ensures ∙ segment-unread (begun t c5) (c4 .read .ensures) (c .before .before .cause .given .1))  -- segment-returns-4
+    c .refused2 .ensures ∙ segment-unread (begun t c5) (c4 .read .ensures .0) (c .before .before .cause .given .1))  -- segment-returns-4
     (λ c.
     let c4 = c .before .before .before .before in
     let c5 = c4 .before in
     let c8 = c5 .before .before .before in
     let c10 = c8 .before .before in
     let c11 = c10 .before in
-    c .refused4 .ensures ∙ segment-refused (begun t c11) (c10 .read .ensures) (c8 .x .given .1) (c5 .if2 .left) (c4 .all .ensures)
+    c .refused4 .ensures ∙ segment-refused (begun t c11) (c10 .read .ensures .0) (c8 .x .given .1) (c5 .if2 .left) (c4 .all .ensures)
     (c .before .before .cause2 .given .1) .1)  -- segment-returns-5
     (λ c.
     let c4 = c .before .before .before .before in
@@ -304,4 +304,4 @@ pub +all+segment-spec : {M : Type 1} → statement M
     let c8 = c5 .before .before .before in
     let c10 = c8 .before .before in
     let c11 = c10 .before in
-    segment-read (begun t c11) (c10 .read .ensures) (c8 .x .given .1) (c5 .if2 .left) (c4 .all .ensures) (c .before .before .y .given .1) .1)  -- segment-returns-6
+    segment-read (begun t c11) (c10 .read .ensures .0) (c8 .x .given .1) (c5 .if2 .left) (c4 .all .ensures) (c .before .before .y .given .1) .1)  -- segment-returns-6

@@ -41,7 +41,7 @@ join-spec =
     (λ c.
     let c4 = c .before .before .before .before in
     let c5 = c4 .before in
-    joins-none (joins-mark (c5 .loop .inv .4) (c5 .loop .inv .1) (c4 .loop-test .taken) (c .before .before .if1 .taken))
+    joins-none (joins-mark (c5 .loop .inv .4) (c5 .loop .inv .1) (c4 .loop-test .taken) (c .before .before .if1 .taken) (omega (arith, c .before .if2 .left)))
     (omega (arith, c .before .if2 .left)) (c .if3 .taken))  -- returns-2
     (λ c. omega (arith, c .before .if2 .left))  -- loop-less
     (λ c.
@@ -52,7 +52,7 @@ join-spec =
       omega (arith, c5 .loop .inv .2),
       c5 .loop .inv .3,
       joins-mark
-          (c5 .loop .inv .4) (c5 .loop .inv .1) (c4 .loop-test .taken) (c .before .before .if1 .taken),
+          (c5 .loop .inv .4) (c5 .loop .inv .1) (c4 .loop-test .taken) (c .before .before .if1 .taken) (omega (arith, c .before .if2 .left)),
     ))  -- loop-again
     (λ c. omega (arith, c .before .before .loop-test .taken, c .before .before .before .before .before .before .good))  -- add-read
     (λ c κs. search needs)  -- read-requires
@@ -62,7 +62,7 @@ join-spec =
     let c3 = c .before .before .before in
     let c5 = c3 .before .before in
     let c6 = c5 .before in
-    joins-unread (c6 .loop .inv .4) (c6 .loop .inv .1) (c5 .loop-test .taken) (c3 .if1 .left) (c .before .before .read .ensures) (c .enum-told .given .1))  -- returns-3
+    joins-unread (c6 .loop .inv .4) (c6 .loop .inv .1) (c5 .loop-test .taken) (c3 .if1 .left) (c .before .before .read .ensures .0) (c .enum-told .given .1))  -- returns-3
     (λ c. search needs)  -- enum-known-x
     (λ c.
     let c9 = c .before .before .before .before .before .before .before .before .before in
@@ -74,7 +74,7 @@ join-spec =
     let c6 = c5 .before in
     let c8 = c6 .before .before in
     let c9 = c8 .before in
-    let (o, i, j) = joins-further (c9 .loop .inv .4) (c9 .loop .inv .1) (c8 .loop-test .taken) (c6 .if1 .left) (c5 .read .ensures) (c3 .x .given .1) in
+    let (o, i, j) = joins-further (c9 .loop .inv .4) (c9 .loop .inv .1) (c8 .loop-test .taken) (c6 .if1 .left) (c5 .read .ensures .0) (c3 .x .given .1) in
     omega arith)  -- loop-less-2
     (λ c.
     let c3 = c .before .before .before in
@@ -82,13 +82,13 @@ join-spec =
     let c6 = c5 .before in
     let c8 = c6 .before .before in
     let c9 = c8 .before in
-    let (o, i, j) = joins-further (c9 .loop .inv .4) (c9 .loop .inv .1) (c8 .loop-test .taken) (c6 .if1 .left) (c5 .read .ensures) (c3 .x .given .1) in (
+    let (o, i, j) = joins-further (c9 .loop .inv .4) (c9 .loop .inv .1) (c8 .loop-test .taken) (c6 .if1 .left) (c5 .read .ensures .0) (c3 .x .given .1) in (
       omega arith,
       omega arith,
       omega (arith, c9 .loop .inv .2),
       c9 .loop .inv .3,
       joins-opened (c9 .loop .inv .4) (c9 .loop .inv .1)
-          (c8 .loop-test .taken) (c6 .if1 .left) (c5 .read .ensures) (c3 .x .given .1) (c .before .if4 .taken) (c .if5 .taken),
+          (c8 .loop-test .taken) (c6 .if1 .left) (c5 .read .ensures .0) (c3 .x .given .1) (c .before .if4 .taken) (c .if5 .taken),
     ))  -- loop-again-2
     (λ c.
     let c3 = c .before .before .before in
@@ -96,7 +96,7 @@ join-spec =
     let c6 = c5 .before in
     let c8 = c6 .before .before in
     let c9 = c8 .before in
-    let (o, i, j) = joins-further (c9 .loop .inv .4) (c9 .loop .inv .1) (c8 .loop-test .taken) (c6 .if1 .left) (c5 .read .ensures) (c3 .x .given .1) in
+    let (o, i, j) = joins-further (c9 .loop .inv .4) (c9 .loop .inv .1) (c8 .loop-test .taken) (c6 .if1 .left) (c5 .read .ensures .0) (c3 .x .given .1) in
     omega arith)  -- loop-less-3
     (λ c.
     let c3 = c .before .before .before in
@@ -104,20 +104,20 @@ join-spec =
     let c6 = c5 .before in
     let c8 = c6 .before .before in
     let c9 = c8 .before in
-    let (o, i, j) = joins-further (c9 .loop .inv .4) (c9 .loop .inv .1) (c8 .loop-test .taken) (c6 .if1 .left) (c5 .read .ensures) (c3 .x .given .1) in (
+    let (o, i, j) = joins-further (c9 .loop .inv .4) (c9 .loop .inv .1) (c8 .loop-test .taken) (c6 .if1 .left) (c5 .read .ensures .0) (c3 .x .given .1) in (
       omega arith,
       c9 .loop .inv .1,
       omega (arith, c9 .loop .inv .2),
       c9 .loop .inv .3,
       joins-entered (c9 .loop .inv .4) (c9 .loop .inv .1)
-          (c8 .loop-test .taken) (c6 .if1 .left) (c5 .read .ensures) (c3 .x .given .1) (c .before .if4 .taken) (c .if5 .left),
+          (c8 .loop-test .taken) (c6 .if1 .left) (c5 .read .ensures .0) (c3 .x .given .1) (c .before .if4 .taken) (c .if5 .left),
     ))  -- loop-again-3
     (λ c.
     let c4 = c .before .before .before .before in
     let c5 = c4 .before in
     let c7 = c5 .before .before in
     let c8 = c7 .before in
-    joins-further (c8 .loop .inv .4) (c8 .loop .inv .1) (c7 .loop-test .taken) (c5 .if1 .left) (c4 .read .ensures) (c .before .before .x .given .1) .1)  -- sub-c
+    joins-further (c8 .loop .inv .4) (c8 .loop .inv .1) (c7 .loop-test .taken) (c5 .if1 .left) (c4 .read .ensures .0) (c .before .before .x .given .1) .1)  -- sub-c
     (λ c.
     let c4 = c .before .before .before .before in
     let c5 = c4 .before in
@@ -125,7 +125,7 @@ join-spec =
     let c8 = c7 .before in
     omega (
       arith,
-      joins-further (c8 .loop .inv .4) (c8 .loop .inv .1) (c7 .loop-test .taken) (c5 .if1 .left) (c4 .read .ensures)
+      joins-further (c8 .loop .inv .4) (c8 .loop .inv .1) (c7 .loop-test .taken) (c5 .if1 .left) (c4 .read .ensures .0)
           (c .before .before .x .given .1),
     ))  -- part-c-start
     (λ c.
@@ -133,7 +133,7 @@ join-spec =
     let c5 = c4 .before in
     let c7 = c5 .before .before in
     let c8 = c7 .before in
-    joins-further (c8 .loop .inv .4) (c8 .loop .inv .1) (c7 .loop-test .taken) (c5 .if1 .left) (c4 .read .ensures) (c .before .before .x .given .1) .2)  -- part-c-end
+    joins-further (c8 .loop .inv .4) (c8 .loop .inv .1) (c7 .loop-test .taken) (c5 .if1 .left) (c4 .read .ensures .0) (c .before .before .x .given .1) .2)  -- part-c-end
     (λ c κs. search needs)  -- put-carried-requires
     (λ c κs. search needs)  -- unused-in-requires
     (λ c.
@@ -142,7 +142,7 @@ join-spec =
     let c11 = c10 .before in
     let c13 = c11 .before .before in
     let c14 = c13 .before in
-    let (o, i, j) = joins-further (c14 .loop .inv .4) (c14 .loop .inv .1) (c13 .loop-test .taken) (c11 .if1 .left) (c10 .read .ensures) (c8 .x .given .1) in
+    let (o, i, j) = joins-further (c14 .loop .inv .4) (c14 .loop .inv .1) (c13 .loop-test .taken) (c11 .if1 .left) (c10 .read .ensures .0) (c8 .x .given .1) in
     omega arith)  -- loop-less-4
     (λ c.
     let c3 = c .before .before .before in
@@ -152,13 +152,13 @@ join-spec =
     let c11 = c10 .before in
     let c13 = c11 .before .before in
     let c14 = c13 .before in
-    let (o, i, j) = joins-further (c14 .loop .inv .4) (c14 .loop .inv .1) (c13 .loop-test .taken) (c11 .if1 .left) (c10 .read .ensures) (c8 .x .given .1) in (
+    let (o, i, j) = joins-further (c14 .loop .inv .4) (c14 .loop .inv .1) (c13 .loop-test .taken) (c11 .if1 .left) (c10 .read .ensures .0) (c8 .x .given .1) in (
       j,
       c14 .loop .inv .1,
       omega (arith, c14 .loop .inv .2),
       c3 .put-carried .kept .1 .1 .0 ∙ c14 .loop .inv .3,
       joins-added (c14 .loop .inv .4)
-          (c14 .loop .inv .1) (c13 .loop-test .taken) (c11 .if1 .left) (c10 .read .ensures) (c8 .x .given .1) (c6 .if4 .left) (c3 .put-carried .ensures .0)
+          (c14 .loop .inv .1) (c13 .loop-test .taken) (c11 .if1 .left) (c10 .read .ensures .0) (c8 .x .given .1) (c6 .if4 .left) (c3 .put-carried .ensures .0)
           (c3 .put-carried .ensures .1) (c .unused-in .ensures),
     ))  -- loop-again-4
     (λ c. c .before .loop .inv .3)  -- same-length-4

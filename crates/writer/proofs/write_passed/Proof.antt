@@ -41,6 +41,7 @@ write-passed-spec =
           {A = ℕ} 4096 1,
     ))  -- judge-requires
     (λ c. search needs)  -- enum-known-place
+    (λ c κs. search needs)  -- value-cause-requires
     (λ c. search needs)  -- enum-known-end
     (λ c.
     let s = c .before .before .before .before .before .before .before .before .before .before .before in
@@ -79,13 +80,13 @@ write-passed-spec =
           .before .before .end .given .1) (c .before .before .before .if3 .left) (q .2) (c .before .before .if4 .left),
     ))  -- put-requires
     (λ c.
-    let s = c .before .before .before .before .before .before .before .before .before .before in
+    let s = c .before .before .before .before .before .before .before .before .before .before .before in
     let a = s .args in
     let q = s .pre in
     let b = now (a .table) in
     let v = now (a .value) in
-    out-refused (tableIn b) (a .n) (a .t) v (now (a .buf)) (c .before .before .before .before .before .before .if1 .left) (c .before .before .before
-    .before .before .if2 .left) _ (c .before .before .before .judge .ensures .0) _ _ (c .before .place .given .1))  -- returns-5
+    rw (c .value-cause .ensures) (out-refused (tableIn b) (a .n) (a .t) v (now (a .buf)) (c .before .before .before .before .before .before .before .if1 .left) (c .before .before .before
+    .before .before .before .if2 .left) _ (c .before .before .before .before .judge .ensures .0) _ _ (c .before .before .place .given .1)))  -- returns-5
     (λ c. search needs)  -- same-length
     (λ c.
     let s = c .before .before .before .before .before .before .before .before .before .before .before .before .before .before .before .before .before in

@@ -1,8 +1,8 @@
 -- `ber::item::end` meets its contract.
 -- Assumes nothing.
-use native.Mathlib.Omega.{arith}
+use mathlib.Core.Path.{_∙_}
 use denote.Ref.{now}
-use Rattle.ber.proofs.Told.{length-definite, length-indefinite}
+use Rattle.ber.proofs.Told.{length-indefinite}
 use Rattle.ber.proofs.Skipping.{skip-none, skip-sized, skip-indefinite}
 use borrow.Author.Needs.{needs}
 use Rattle.ber.proofs.item.end.Statement.{statement}
@@ -21,30 +21,14 @@ end-spec =
     (λ c. search needs)  -- enum-known-x
     (λ c κs. let at-read = c .before .before .before .before in
     let at-start = at-read .before .before in
-    length-indefinite (now (at-start .args .m)) (at-start .args .from) 0 _ (at-read .read .ensures 0) _
+    length-indefinite (now (at-start .args .m)) (at-start .args .from) 0 _ (at-read .read .ensures .0 0) _
     (c .before .before .x .given .1) (c .if1 .taken) .2)  -- open-end-requires
     (λ c. let at-x = c .before .before .before in
     let at-read = at-x .before .before in
-    let at-start = at-read .before .before in
-    let (q, low, high, e) = length-indefinite (now (at-start .args .m)) (at-start .args .from) 0 _ (at-read .read .ensures 0) _ (at-x .x .given .1)
-    (c .before .if1 .taken) in (
-      omega (arith, c .open-end .ensures .0),
-      c .open-end .ensures .1,
-      skip-indefinite (now (at-start .args .m)) (at-start .args .from) _
-          (at-read .read .ensures) _ (at-x .x .given .1) (c .before .if1 .taken) (c .open-end .result) (c .open-end .ensures .2),
-    ))  -- returns
-    (λ c. let at-start = c .before .before .before .before in (
-      omega arith,
-      omega arith,
-      skip-none (now (at-start .args .m)) (at-start .args .from) _ (c .before .before .read .ensures) _
-          (c .enum-told .given .1),
-    ))  -- returns-2
-    (λ c. let at-read = c .before .before .before .before in
-    let at-start = at-read .before .before in
-    let (q, low, high, e) = length-definite (now (at-start .args .m)) (at-start .args .from) 0 _ (at-read .read .ensures 0) _
-    (c .before .before .x .given .1) (c .if1 .left) in (
-      omega arith,
-      e,
-      skip-sized (now (at-start .args .m)) (at-start .args .from) _ (at-read .read .ensures) _
-          (c .before .before .x .given .1) (c .if1 .left),
-    )))  -- returns-3
+    c .open-end .ensures ∙ skip-indefinite (now (at-read .before .before .args .m)) _ _ (at-read .read .ensures .0) _ (at-x .x .given .1)
+    (c .before .if1 .taken))  -- returns
+    (λ c. let at-read = c .before .before in
+    skip-none (now (at-read .before .before .args .m)) _ _ (at-read .read .ensures .0) _ (c .enum-told .given .1))  -- returns-2
+    (λ c. let at-x = c .before .before in
+    let at-read = at-x .before .before in
+    skip-sized (now (at-read .before .before .args .m)) _ _ (at-read .read .ensures .0) _ (at-x .x .given .1) (c .if1 .left)))  -- returns-3

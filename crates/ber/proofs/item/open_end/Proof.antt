@@ -5,7 +5,7 @@ use native.Mathlib.Omega.{arith}
 use lib.ListN.{length}
 use denote.Ref.{now}
 use Rattle.ber.proofs.Places.{part-to-end}
-use Rattle.ber.proofs.Skipping.{Stands, pass-cut, pass-mark, pass-none, pass-refused, pass-sized, pass-opened, pass-end}
+use Rattle.ber.proofs.Skipping.{Stands, pass-first, pass-cut, pass-mark, pass-none, pass-refused, pass-sized, pass-opened, pass-end}
 use borrow.Author.Needs.{needs}
 use Rattle.ber.proofs.item.open_end.Statement.{statement}
 use Rattle.ber.proofs.item.open_end.Tie as tie
@@ -36,7 +36,7 @@ opened c = let at-x = c .before .before .before in
     let at-start = at-loop .before .before in
     pass-opened (now (at-start .args .m)) (at-start .args .start) (at-loop .loop .at) (at-loop .loop .«open») (at-loop-test .loop-test .taken)
     (at-loop .loop .inv .3) (at-if2 .if2 .left) _ (rw part-to-end at (at-read .read .ensures)) _ _ (at-end .end .given .1) _
-    (λ l. rw part-to-end at (at-read2 .read2 .ensures l)) _ (at-x .x .given .1) (at-loop .loop .inv .1) (c .before .if3 .taken)
+    (λ l. rw part-to-end at (at-read2 .read2 .ensures .0 l)) _ (at-x .x .given .1) (at-loop .loop .inv .1) (c .before .if3 .taken)
 
 -- a definite item is passed over
 passed : (c : tie.After-struct-known2 Inv-loop μ-loop) →
@@ -54,7 +54,7 @@ passed c = let at-x = c .before .before .before in
     let at-start = at-loop .before .before in
     pass-sized (now (at-start .args .m)) (at-start .args .start) (at-loop .loop .at) (at-loop .loop .«open») (at-loop-test .loop-test .taken)
     (at-loop .loop .inv .3) (at-if2 .if2 .left) _ (rw part-to-end at (at-read .read .ensures)) _ _ (at-end .end .given .1) _
-    (λ l. rw part-to-end at (at-read2 .read2 .ensures l)) _ (at-x .x .given .1) (at-loop .loop .inv .1) (c .before .if3 .left)
+    (λ l. rw part-to-end at (at-read2 .read2 .ensures .0 l)) _ (at-x .x .given .1) (at-loop .loop .inv .1) (c .before .if3 .left)
 
 pub open-end-spec : {M : Type 1} → statement M
 open-end-spec =
@@ -62,14 +62,11 @@ open-end-spec =
     (tie.spec
     Inv-loop
     μ-loop
-    (λ c. (omega arith, c .before .pre, omega arith, λ w p. p))  -- loop-holds
+    (λ c. (omega arith, c .before .pre, omega arith, pass-first _ _))  -- loop-holds
     (λ c. omega (arith, c .before .loop .inv .1))  -- sub-left
-    (λ c. let at-start = c .before .before .before .before in (
-      at-start .pre,
-      omega arith,
-      pass-cut (now (at-start .args .m)) (at-start .args .start) (c .before .before .loop .at)
-          (c .before .before .loop .«open») (c .before .loop-test .taken) (c .before .before .loop .inv .3) (c .if1 .taken),
-    ))  -- returns
+    (λ c. let at-start = c .before .before .before .before in
+    pass-cut (now (at-start .args .m)) (at-start .args .start) (c .before .before .loop .at) (c .before .before .loop .«open»)
+    (c .before .loop-test .taken) (c .before .before .loop .inv .3) (c .if1 .taken))  -- returns
     (λ c. omega (arith, c .before .if1 .left))  -- shared-slice-read-if2
     (λ c. omega (arith, c .before .before .if1 .left, c .before .before .before .before .before .before .good))  -- add-at
     (λ c. omega (arith, c .before .before .before .loop-test .taken))  -- sub-open
@@ -81,7 +78,7 @@ open-end-spec =
       omega (arith, c .before .before .if1 .left),
       omega (arith, at-loop .loop .inv .2),
       pass-mark (now (at-start .args .m)) (at-start .args .start) _ _ (at-loop-test .loop-test .taken) (at-loop .loop .inv .3)
-          (c .if2 .taken),
+          (c .if2 .taken) (omega (arith, c .before .before .if1 .left)),
     ))  -- loop-again
     (λ c. c .before .before .before .before .loop .inv .1)  -- sub-rest
     (λ c. omega (arith, c .before .before .before .before .loop .inv .1))  -- part-rest-start
@@ -91,13 +88,9 @@ open-end-spec =
     (λ c. let at-if2 = c .before .before .before .before in
     let at-loop-test = at-if2 .before .before .before in
     let at-loop = at-loop-test .before in
-    let at-start = at-loop .before .before in (
-      at-start .pre,
-      omega arith,
-      pass-none (now (at-start .args .m)) (at-start .args .start) (at-loop .loop .at)
-          (at-loop .loop .«open») (at-loop-test .loop-test .taken) (at-loop .loop .inv .3) (at-if2 .if2 .left) _
-          (rw part-to-end at (c .before .before .read .ensures)) _ (c .enum-told .given .1),
-    ))  -- returns-2
+    let at-start = at-loop .before .before in
+    pass-none (now (at-start .args .m)) (at-start .args .start) (at-loop .loop .at) (at-loop .loop .«open») (at-loop-test .loop-test .taken)
+    (at-loop .loop .inv .3) (at-if2 .if2 .left) _ (rw part-to-end at (c .before .before .read .ensures)) _ (c .enum-told .given .1))  -- returns-2
     (λ c. search needs)  -- enum-known-end
     (λ c κs. search needs)  -- read-requires-2
     (λ c. search needs)  -- enum-told-2
@@ -106,14 +99,10 @@ open-end-spec =
     let at-if2 = at-read .before .before in
     let at-loop-test = at-if2 .before .before .before in
     let at-loop = at-loop-test .before in
-    let at-start = at-loop .before .before in (
-      at-start .pre,
-      omega arith,
-      pass-refused (now (at-start .args .m)) (at-start .args .start) (at-loop .loop .at)
-          (at-loop .loop .«open») (at-loop-test .loop-test .taken) (at-loop .loop .inv .3) (at-if2 .if2 .left) _
-          (rw part-to-end at (at-read .read .ensures)) _ _ (at-end .end .given .1) _
-          (λ l. rw part-to-end at (c .before .before .read2 .ensures l)) _ (c .enum-told2 .given .1),
-    ))  -- returns-3
+    let at-start = at-loop .before .before in
+    pass-refused (now (at-start .args .m)) (at-start .args .start) (at-loop .loop .at) (at-loop .loop .«open») (at-loop-test .loop-test .taken)
+    (at-loop .loop .inv .3) (at-if2 .if2 .left) _ (rw part-to-end at (at-read .read .ensures)) _ _ (at-end .end .given .1) _
+    (λ l. rw part-to-end at (c .before .before .read2 .ensures .0 l)) _ (c .enum-told2 .given .1))  -- returns-3
     (λ c. search needs)  -- enum-known-x
     (λ c. let at-loop = c .before .before .before .before .before .before .before .before .before .before .before .before .before .before .before in
     omega (arith, opened c .1, at-loop .before .before .good))  -- add-at-2
@@ -127,9 +116,5 @@ open-end-spec =
     (λ c. omega (arith, passed c .0, passed c .1))  -- loop-less-3
     (λ c. let at-loop = c .before .before .before .before .before .before .before .before .before .before .before .before .before .before .before in
     (omega (arith, passed c .0, at-loop .loop .inv .0), passed c .1, omega (arith, passed c .0, at-loop .loop .inv .2), passed c .2))  -- loop-again-3
-    (λ c. let at-start = c .before .before .before in (
-      c .before .loop .inv .0,
-      c .before .loop .inv .1,
-      pass-end (now (at-start .args .m)) (at-start .args .start) (c .before .loop .at)
-          (c .before .loop .«open») (c .before .loop .inv .3) (c .loop-test .left),
-    )))  -- returns-4
+    (λ c. let at-start = c .before .before .before in
+    pass-end (now (at-start .args .m)) (at-start .args .start) _ _ (c .before .loop .inv .3) (c .loop-test .left) (c .before .loop .inv .1)))  -- returns-4

@@ -3,8 +3,9 @@
 use mathlib.Core.Path.{refl}
 use native.Mathlib.Omega.{arith}
 use denote.Ref.{now}
+use Rattle.octets.proofs.Permutations.{all-octets}
 use Rattle.ber.proofs.Places.{one-back}
-use Rattle.ber.proofs.Told.{length-none, length-short, length-short-no}
+use Rattle.ber.proofs.Told.{length-none, length-short, length-short-no, length-ruled}
 use borrow.Author.Needs.{needs}
 use Rattle.ber.proofs.length.read.Statement.{statement}
 use Rattle.ber.proofs.length.read.Tie as tie
@@ -16,17 +17,21 @@ pub read-spec : {M : Type 1} → statement M
 read-spec =
     tie.close
     (tie.spec
-    (λ c. length-none (now (c .before .before .args .m)) _ (c .if1 .taken))  -- returns
+    (λ c. let at-start = c .before .before in
+    length-ruled (now (at-start .args .m)) _ _ (all-octets (now (at-start .args .m)) (λ i. omega (arith, c .before .shared-slice-known .given i)))
+    (length-none (now (at-start .args .m)) _ (c .if1 .taken)))  -- returns
     (λ c. search needs)  -- shared-slice-read-first
     (λ c. omega (arith, c .shared-slice-known2 .given (c .before .before .before .args .at)))  -- cast-first
     (λ c. search needs)  -- add-start
     (λ c. search needs)  -- add-end
     (λ c. let at-if1 = c .before .before .before in
     let at-start = at-if1 .before .before in
-    length-short-no (now (at-start .args .m)) _ (at-if1 .if1 .left) (c .before .if2 .taken) (c .if3 .taken))  -- returns-2
+    length-ruled (now (at-start .args .m)) _ _ (all-octets (now (at-start .args .m)) (λ i. omega (arith, at-if1 .before .shared-slice-known .given i)))
+    (length-short-no (now (at-start .args .m)) _ (at-if1 .if1 .left) (c .before .if2 .taken) (c .if3 .taken)))  -- returns-2
     (λ c. let at-if1 = c .before .before .before in
     let at-start = at-if1 .before .before in
-    length-short (now (at-start .args .m)) _ (at-if1 .if1 .left) (c .before .if2 .taken) (c .if3 .left))  -- returns-3
+    length-ruled (now (at-start .args .m)) _ _ (all-octets (now (at-start .args .m)) (λ i. omega (arith, at-if1 .before .shared-slice-known .given i)))
+    (length-short (now (at-start .args .m)) _ (at-if1 .if1 .left) (c .before .if2 .taken) (c .if3 .left)))  -- returns-3
     (λ c κs. let at-start = c .before .before .before .before in (
       omega arith,
       omega (arith, c .before .before .if1 .left),
@@ -35,4 +40,7 @@ read-spec =
       omega
           (arith, c .before .shared-slice-known2 .given (at-start .args .at)),
     ))  -- read-other-requires
-    (λ c. λ l. rw one-back at (c .read-other .ensures l)))  -- returns-4
+    (λ c. let at-if1 = c .before .before .before in
+    let at-start = at-if1 .before .before in
+    length-ruled (now (at-start .args .m)) _ _ (all-octets (now (at-start .args .m)) (λ i. omega (arith, at-if1 .before .shared-slice-known .given i)))
+    (λ l. rw one-back at (c .read-other .ensures l))))  -- returns-4

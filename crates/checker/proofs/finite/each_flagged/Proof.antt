@@ -1,7 +1,7 @@
 -- `checker::finite::each_flagged` meets its contract. The loop's invariant: the test of the members that are left is the whole test. The measure is their count.
 -- Assumes nothing.
 use mathlib.Core.Logic.{⊎-elim}
-use mathlib.Core.Path.{_≡_, refl}
+use mathlib.Core.Path.{_≡_, refl, sym, _∙_}
 use Prim.Native.Nat.{_+_, _*_}
 use native.Mathlib.Omega.{arith}
 use borrow.Author.Needs.{needs}
@@ -30,8 +30,8 @@ each-flagged-spec =
     (λ c κs. search needs)  -- octet-requires
     (λ c κs. search needs)  -- flagged-requires
     (λ c. present-stops (isFlagged _) _ _ _ _ (c .before .before .before .before .before .before .loop .inv .1)
-    (c .before .before .before .before .before .loop-test .taken) (rw (← c .before .before .before .before .optional .ensures)
-    (not-true _ (c .before .before .before .if1 .taken)))
+    (c .before .before .before .before .before .loop-test .taken) (sym (c .before .before .before .before .optional .ensures) ∙
+    not-true _ (c .before .before .before .if1 .taken))
     (rw (← c .before .before .octet .ensures .0, ← c .before .flagged .ensures) (not-true _ (c .if2 .taken))))  -- returns
     (λ c. omega arith)  -- add-at
     (λ c. omega arith)  -- sub-left
@@ -42,7 +42,7 @@ each-flagged-spec =
           (λ w. present-flagged (isFlagged _) _ _ _ _ (c .before .before .before .loop .inv .1) (c .before .before .loop-test .taken)
           (rw (← w .1 .ensures .0, ← w .2 .ensures) (not-false _ (w .3 .left))))
           (λ w. present-optional (isFlagged _) _ _ _ _ (c .before .before .before .loop .inv .1) (c .before .before .loop-test .taken)
-          (rw (← c .before .optional .ensures) (not-false _ (w .left))))
+          (sym (c .before .optional .ensures) ∙ not-false _ (w .left)))
           (c .if1 .came),
     ))  -- loop-again
     (λ c. present-ends (isFlagged _) _ _ _ _ (c .before .loop .inv .1) (omega arith)))  -- returns-2

@@ -1,14 +1,16 @@
--- `checker::index::entry` meets its contract: what is read is what `entering` asks for.
+-- `checker::index::entry` meets its contract: what is read is what `entryAt` reads.
 -- Assumes nothing.
 use Prim.Native.Nat.{_+_}
 use native.Mathlib.Omega.{arith}
 use lib.ListN.{getD}
 use borrow.Author.Needs.{needs}
-use Rattle.records.proofs.Entries.{heads, explicit-small, entering}
+use Rattle.records.specs.Entries.{entryAt}
+use Rattle.records.proofs.Entries.{heads, explicit-small}
 use Rattle.checker.proofs.index.entry.Statement.{statement}
 use Rattle.checker.proofs.index.entry.Tie as tie
 
 pub entry-spec : {M : Type 1} → statement M
+unfolding entryAt
 entry-spec =
     tie.close
     (tie.spec
@@ -55,11 +57,11 @@ entry-spec =
     (λ c κs. search needs)  -- explicit-requires
     (λ c κs.
     let a = c .before .before .before .before .before .before in
-    explicit-small (getD (a .args .table .now) (a .args .o + 2) 0) _ _ (heads (a .args .table .now) (a .args .o) (a .pre .1) .0)
-    (c .explicit .ensures))  -- pack-requires
-    (λ c.
-    let a = c .before .before .before .before .before .before .before in
-    rw (c .pack .ensures)
-    (entering (a .args .table .now) (a .args .o) (λ i. omega (arith, c .before .before .before .before .before .before .shared-slice-known .given i))
-    (a .pre .1) _ _ _
-    (c .before .before .outermost .ensures) (c .before .explicit .ensures) (c .before .before .before .constructed .ensures))))  -- returns
+    rw (c .explicit .ensures) (explicit-small (getD (a .args .table .now) (a .args .o + 2) 0) _
+    (heads (a .args .table .now) (a .args .o) (a .pre .1) .0)))  -- pack-requires
+    (λ c. rw (
+      c .pack .ensures,
+      c .before .explicit .ensures,
+      c .before .before .outermost .ensures,
+      c .before .before .before .constructed .ensures,
+    )))  -- returns

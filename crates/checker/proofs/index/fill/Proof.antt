@@ -1,6 +1,6 @@
--- `checker::index::fill` meets its contract. The loop's invariant: the numbers so far are filled in, and the scan goes on at `at`. The measure is the room left.
+-- `checker::index::fill` meets its contract. The loop's invariant: the numbers so far are filled in, zeros follow, and the scan goes on at `at`. The measure is the room left.
 -- Assumes nothing.
-use mathlib.Core.Path.{refl, sym, _∙_}
+use mathlib.Core.Path.{sym, _∙_}
 use Prim.Native.Nat.{_-_}
 use native.Mathlib.Omega.{arith}
 use borrow.Author.Needs.{needs}
@@ -20,10 +20,10 @@ fill-spec =
     (tie.spec
     Inv-loop
     μ-loop
-    (λ c. entering-first _ _ refl)  -- loop-holds
+    (λ c. entering-first _)  -- loop-holds
     (λ c κs. omega arith)  -- record-end-requires
-    (λ c. entering-stops _ _ _ _ (c .before .before .before .loop .inv) (c .before .before .before .before .before .before .pre)
-    (c .before .before .loop-test .taken) (sym (c .before .record-end .ensures) ∙ c .if1 .taken))  -- returns
+    (λ c. entering-stops _ _ _ _ (c .before .before .before .loop .inv) (c .before .before .loop-test .taken) (sym (c .before .record-end .ensures) ∙
+    c .if1 .taken))  -- returns
     (λ c κs. (
       c .before .before .before .before .before .before .pre,
       let d = rw (c .before .record-end .ensures) at
@@ -32,15 +32,14 @@ fill-spec =
     (λ c. search needs)  -- mul-index
     (λ c. omega arith)  -- element-write-index
     (λ c. omega arith)  -- add-count
-    (λ c. entering-whole _ _ _ _ (c .before .before .before .before .before .loop .inv)
-    (c .before .before .before .before .before .before .before .before .pre)
-    (λ i. omega (arith, c .before .before .before .before .before .before .before .shared-slice-known .given i))
-    (c .before .before .before .before .loop-test .taken) (rw (c .before .before .before .record-end .ensures) at (c .before .before .if1 .left)) _
-    (c .before .entry .ensures) (sym (c .before .before .before .record-end .ensures) ∙ c .if2 .taken))  -- returns-2
+    (λ c. entering-whole _ _ _ _ (c .before .before .before .before .before .loop .inv) (c .before .before .before .before .loop-test .taken)
+    (rw (c .before .before .before .record-end .ensures) at (c .before .before .if1 .left)) _ (c .before .entry .ensures)
+    (sym (c .before .before .before .record-end .ensures) ∙ c .if2 .taken))  -- returns-2
     (λ c. omega arith)  -- loop-less
     (λ c. rw (c .before .before .before .record-end .ensures)
-    (entering-next _ _ _ _ (c .before .before .before .before .before .loop .inv) (c .before .before .before .before .before .before .before .before .pre)
+    (entering-next _ _ _ _ (c .before .before .before .before .before .loop .inv) (c .before .before .before .before .loop-test .taken)
+    (rw (c .before .before .before .record-end .ensures) at (c .before .before .if1 .left)) _ (c .before .entry .ensures)
     (λ i. omega (arith, c .before .before .before .before .before .before .before .shared-slice-known .given i))
-    (c .before .before .before .before .loop-test .taken) (rw (c .before .before .before .record-end .ensures) at (c .before .before .if1 .left)) _
-    (c .before .entry .ensures) (rw (c .before .before .before .record-end .ensures) at (c .if2 .left))))  -- loop-again
-    (λ c. entering-ends _ _ _ _ (c .before .loop .inv) (c .before .before .before .before .pre) (c .loop-test .left)))  -- returns-3
+    (c .before .before .before .before .before .before .before .before .pre)
+    (rw (c .before .before .before .record-end .ensures) at (c .if2 .left))))  -- loop-again
+    (λ c. entering-ends _ _ _ _ (c .before .loop .inv) (c .loop-test .left)))  -- returns-3

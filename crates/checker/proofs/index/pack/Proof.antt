@@ -1,11 +1,12 @@
--- `checker::index::pack` meets its contract: each part is below the next one's unit.
+-- `checker::index::pack` meets its contract: the high octet goes by the test, and each part is below the next one's unit.
 -- Assumes nothing.
 use mathlib.Core.Logic.{⊎-elim}
 use mathlib.Core.Path.{_≡_, _∙_}
 use Prim.Native.Nat.{_<_}
 use native.Mathlib.Omega.{arith}
 use borrow.Author.Needs.{needs}
-use Rattle.records.proofs.Packing.{highOctet, high-octet-below, unpacks}
+use Rattle.records.specs.Entries.{highOctet, packed}
+use Rattle.records.proofs.Packing.{high-octet-below}
 use Rattle.checker.proofs.index.pack.Statement.{statement}
 use Rattle.checker.proofs.index.pack.Tie as tie
 use Rattle.checker.proofs.index.pack.Reads as reads
@@ -18,6 +19,7 @@ high-below : (c : lts.After-row-known reads.Pre reads.Post) → c .before .if1 .
 high-below c = let a = c .before .before .args in rw (high-is c) (high-octet-below (a .simple) (a .explicit) (c .before .before .pre))
 
 pub pack-spec : {M : Type 1} → statement M
+unfolding packed
 pack-spec =
     tie.close
     (tie.spec
@@ -28,7 +30,4 @@ pack-spec =
     (λ c. omega (arith, high-below c))  -- add-result-2
     (λ c. omega (arith, high-below c))  -- mul-result-3
     (λ c. omega (arith, high-below c))  -- add-result-3
-    (λ c.
-    let a = c .before .before .args in
-    rw (high-is c) (unpacks (a .simple) (a .explicit) (a .kind) (a .own) (a .code) (c .before .before .pre) (omega arith) (omega arith)
-    (omega arith))))  -- returns
+    (λ c. rw (high-is c)))  -- returns

@@ -38,7 +38,7 @@ use Rattle.reader.proofs.tags.open.Reads as open-reads
 use Rattle.records.proofs.entry.first.Reads as first-reads
 use Rattle.records.proofs.entry.parts.Reads as parts-reads
 use Rattle.records.proofs.entry.unpack.Reads as unpack-reads
-use Rattle.records.proofs.kind.holds_one.Reads as holds-one-reads
+use Rattle.kinds.proofs.holds_one.Reads as holds-one-reads
 use Rattle.reader.proofs.judge.+judge_members+judge_value.{statement}
 use Rattle.reader.proofs.judge.+judge_members+judge_value.Tie.{close}
 use Rattle.table.specs.Reading.{tableIn}
@@ -410,7 +410,7 @@ abbrev at-contents : (t : ℕ) (c : judge-value-lts.Joined2 (judge-value-claims 
 at-contents t c =
     let x = at-item t (c .before .before .before .before) in
     ⊎-elim
-    (λ z. rw (z .5, z .6, z .7) (contents-sized x (z .0 .taken) (z .1 .result) (z .1 .ensures _) (z .3 .given .0 .0) (z .3 .given .1)))
+    (λ z. rw (z .5, z .6, z .7) (contents-sized x (z .0 .taken) (z .1 .result) (z .1 .ensures .0 _) (z .3 .given .0 .0) (z .3 .given .1)))
     (λ z. rw (z .1, z .2, z .3) (contents-bare x (z .0 .left)))
     (c .if2 .came)
 
@@ -507,7 +507,7 @@ judge-value-half t =
     let c9 = c5 .before .before .before .before in
     let f = c .before .before .cause2 .given in (
       c9 .before .before .before .before .before .pre .1 .ways,
-      c .refused2 .ensures ∙ value-unread (at-item t c9) (c5 .if2 .taken) _ (c4 .read .ensures _) (f .0 .0) (f .1),
+      c .refused2 .ensures ∙ value-unread (at-item t c9) (c5 .if2 .taken) _ (c4 .read .ensures .0 _) (f .0 .0) (f .1),
     ))  -- judge-value-returns-2
     (λ c. search needs)  -- judge-value-enum-known-x-2
     (λ c. contents-within (at-filling t (c .before .before .before)) .0)  -- judge-value-sub-c

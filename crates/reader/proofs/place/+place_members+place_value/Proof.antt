@@ -56,8 +56,8 @@ use Rattle.reader.proofs.tags.open.Reads as open-reads
 use Rattle.records.proofs.entry.first.Reads as first-reads
 use Rattle.records.proofs.entry.parts.Reads as parts-reads
 use Rattle.records.proofs.entry.unpack.Reads as unpack-reads
-use Rattle.records.proofs.kind.has_members.Reads as has-members-reads
-use Rattle.records.proofs.kind.holds_one.Reads as holds-one-reads
+use Rattle.kinds.proofs.has_members.Reads as has-members-reads
+use Rattle.kinds.proofs.holds_one.Reads as holds-one-reads
 use Rattle.reader.proofs.place.+place_members+place_value.{statement}
 use Rattle.reader.proofs.place.+place_members+place_value.Tie.{close}
 use lib.Seq.{length-take-le}

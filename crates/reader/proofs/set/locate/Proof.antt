@@ -8,6 +8,7 @@ use native.Mathlib.Omega.{arith}
 use Prim.Native.Nat.{_≤_, _-_}
 use denote.Ref.{now}
 use lib.ListN.{length, drop, length-drop, length-set}
+use Rattle.ber.proofs.Skipping.{item-ends}
 use Rattle.table.specs.Syntax.{Member, Set}
 use Rattle.table.specs.Reading.{tableIn}
 use Rattle.reader.specs.Items.{inside}
@@ -93,7 +94,7 @@ locate-spec =
     (λ c κs. search needs)  -- end-requires
     (λ c.
     let c11 = c .before .before .before .before .before .before .before .before .before .before .before in
-    omega (arith, (rw from-is at (c .end .ensures .1)), length-drop (c11 .loop .at) (now (c11 .before .before .before .args .m))))  -- add-at
+    omega (arith, item-ends _ _ (rw from-is at (c .end .ensures)) .1, length-drop (c11 .loop .at) (now (c11 .before .before .before .args .m))))  -- add-at
     (λ c.
     let c4 = c .before .before .before .before in
     let c11 = c4 .before .before .before .before .before .before .before in
@@ -102,8 +103,8 @@ locate-spec =
     let l = c11 .loop in
     let p = c14 .pre in
     let q = end-further (p .0) (p .1) (l .began) (drop (l .at) (now (a .m))) _ _ (rw from-is at (c4 .search .ensures .1)) _
-    (c .before .before .x .given .1) _ (rw from-is at (c .end .ensures .0)) in
-    omega (arith, (rw from-is at (c .end .ensures .1)), length-drop (l .at) (now (a .m))))  -- loop-less
+    (c .before .before .x .given .1) _ (item-ends _ _ (rw from-is at (c .end .ensures)) .0) in
+    omega (arith, item-ends _ _ (rw from-is at (c .end .ensures)) .1, length-drop (l .at) (now (a .m))))  -- loop-less
     (λ c.
     let c4 = c .before .before .before .before in
     let c9 = c4 .before .before .before .before .before in
@@ -114,10 +115,9 @@ locate-spec =
     let l = c11 .loop in
     let p = c14 .pre in
     let v = l .inv in (
-      omega (arith, (rw from-is at (c .end .ensures .1)), length-drop (l .at) (now (a .m))),
+      omega (arith, item-ends _ _ (rw from-is at (c .end .ensures)) .1, length-drop (l .at) (now (a .m))),
       simp length-set (v .1),
       c4 .search .ensures .0,
       located-turn (p .0) (p .1) (now (a .m)) (a .indefinite) (l .began) (l .at) (v .0) (v .3) _ (c10 .is-over .ensures)
-          (c9 .if1 .left) _ _ (rw from-is at (c4 .search .ensures .1)) _ (c .before .before .x .given .1) _ (rw from-is at
-          (c .end .ensures .2)),
+          (c9 .if1 .left) _ _ (rw from-is at (c4 .search .ensures .1)) _ (c .before .before .x .given .1) _ (item-ends _ _ (rw from-is at (c .end .ensures)) .2),
     )))  -- loop-again

@@ -48,7 +48,7 @@ at-extent c =
     let c8 = c4 .before .before .before .before in
     let q = c8 .before .before .pre in
     extent _ _ (its-fit (q .1) (q .2)) _ (λ n. omega (arith, c8 .shared-slice-known2 .given n)) _ _ _ _ _ _ (c4 .before .loop .inv .1)
-    (some-left c4) _ (c .before .before .read .ensures) _ (c .x .given .1)
+    (some-left c4) _ (c .before .before .read .ensures .0) _ (c .x .given .1)
 
 pub open-spec : {M : Type 1} → statement M
 open-spec =
@@ -78,7 +78,7 @@ open-spec =
     let l = c5 .before .loop in (
       l .inv .0,
       open-unread _ _ (its-fit (q .1) (q .2)) _
-          (λ n. omega (arith, c9 .shared-slice-known2 .given n)) _ _ _ _ _ _ (l .inv .1) (some-left c5) _ (c3 .read .ensures) _
+          (λ n. omega (arith, c9 .shared-slice-known2 .given n)) _ _ _ _ _ _ (l .inv .1) (some-left c5) _ (c3 .read .ensures .0) _
           (c .before .cause .given .1) (l .notes),
     ))  -- returns
     (λ c. search needs)  -- enum-known-x
@@ -112,7 +112,7 @@ open-spec =
     let l = c11 .before .loop in (
       simp length-set (l .inv .0),
       open-refused _ _ (its-fit (q .1) (q .2)) _
-          (λ n. omega (arith, c15 .shared-slice-known2 .given n)) _ _ _ _ _ _ (l .inv .1) (some-left c11) _ (c7 .before .before .read .ensures) _
+          (λ n. omega (arith, c15 .shared-slice-known2 .given n)) _ _ _ _ _ _ (l .inv .1) (some-left c11) _ (c7 .before .before .read .ensures .0) _
           (c7 .x .given .1) _ (c3 .enter .ensures) _ (c .before .cause2 .given .1) (l .notes),
     ))  -- returns-2
     (λ c. search needs)  -- enum-known-next
@@ -125,7 +125,7 @@ open-spec =
     let l = c11 .before .loop in
     let x = at-extent c7 in
     let z = open-next _ _ (its-fit (q .1) (q .2)) _ (λ n. omega (arith, c15 .shared-slice-known2 .given n)) _ _ _ _ _ _ (l .inv .1)
-    (some-left c11) _ (c7 .before .before .read .ensures) _ (c7 .x .given .1) _ (c3 .enter .ensures) _ (c .before .next .given .1) in
+    (some-left c11) _ (c7 .before .before .read .ensures .0) _ (c7 .x .given .1) _ (c3 .enter .ensures) _ (c .before .next .given .1) in
     omega (arith, z, x .1, x .2, l .inv .1 .high, q .5))  -- add-from
     (λ c.
     omega (arith, c .before .before .before .before .before .before .before .before .before .before .before .loop-test .taken))  -- loop-less
@@ -139,7 +139,7 @@ open-spec =
     let l = c11 .before .loop in (
       simp length-set (l .inv .0),
       open-turn _ _ (its-fit (q .1) (q .2)) _ (λ n. omega (arith, c15 .shared-slice-known2 .given n)) _ _ _ _ _ _ (l .inv .1) (some-left c11) _
-          (c7 .before .before .read .ensures) _ (c7 .x .given .1) _ (c3 .enter .ensures) _ (c .before .next .given .1) _ (c5 .note .ensures)
+          (c7 .before .before .read .ensures .0) _ (c7 .x .given .1) _ (c3 .enter .ensures) _ (c .before .next .given .1) _ (c5 .note .ensures)
           (omega (arith, l .inv .0, some-room c11)),
     ))  -- loop-again
     (λ c.

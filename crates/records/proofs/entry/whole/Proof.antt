@@ -5,12 +5,13 @@ use mathlib.Core.Path.{ap, _∙_}
 use Prim.Native.Nat.{ℕ}
 use native.Mathlib.Omega.{arith}
 use borrow.Author.Needs.{needs}
-use Rattle.records.specs.Entries.{unpacked}
+use Rattle.records.specs.Entries.{unpacked, packed}
 use Rattle.records.proofs.Packing.{unpacks}
 use Rattle.records.proofs.entry.whole.Statement.{statement}
 use Rattle.records.proofs.entry.whole.Tie as tie
 
 pub whole-spec : {M : Type 1} → statement M
+unfolding packed
 whole-spec =
     tie.close
     (tie.spec
@@ -20,4 +21,5 @@ whole-spec =
     (λ c. search needs)  -- mul-result-2
     (λ c.
     let a = c .args in
-    ap (λ (w : ℕ). unpacked w) (omega arith) ∙ unpacks false 0 51 (a .t) 0 (omega arith) (omega arith) (omega arith) (omega arith)))  -- returns
+    ap (λ (w : ℕ). unpacked w) (omega arith) ∙
+    unpacks (record { code = 0; own = a .t; kind = 51; explicit = 0; simple = false }) (omega arith) (omega arith) (omega arith) (omega arith)))  -- returns

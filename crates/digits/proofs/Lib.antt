@@ -1,0 +1,3 @@
+-- Laws of the code of the contents of times.
+-- Assumes nothing.
+pub mod TimeCode

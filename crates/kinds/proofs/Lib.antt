@@ -1,0 +1,3 @@
+-- Laws of the kinds by their octets.
+-- Assumes nothing.
+mod Identifiers
