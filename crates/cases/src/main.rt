@@ -1,4 +1,5 @@
 // The program of cases (FORMATS, "The program of cases"): reads cases from standard input and prints a line for each.
+#![tactic(auto)]
 mod case;
 mod line;
 mod text;

@@ -1,4 +1,5 @@
 // The check of a type table's octets, and the index of its records (FORMATS, "Tables", "Order of refusals").
+#![tactic(auto)]
 mod finite;
 mod first_tags;
 mod index;

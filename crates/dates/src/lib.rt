@@ -1,14 +1,15 @@
 // Times: a date and a time of day by Gregory's calendar, with no table and no encoding in them (FORMATS, "Times").
+#![tactic(auto)]
 
 // What a time is given as: the year of a UTCTime has two digits, that of a GeneralizedTime four.
-#[derive(Drop)]
+#[derive(Clone, Copy)]
 pub enum TimeKind {
     Utc,
     Generalized,
 }
 
 // A date and a time of day.
-#[derive(Drop)]
+#[derive(Clone, Copy)]
 pub struct DateTime {
     pub year: u16,
     pub month: u8,

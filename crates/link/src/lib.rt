@@ -1,4 +1,5 @@
 // The engine for call control in C: octets and numbers in, one packed number out (FORMATS, "Answers for C").
+#![tactic(auto)]
 ghost use Rattle.std.specs.Prelude.{◌≡◌, ◌+◌, ◌*◌, ◌<◌};
 ghost use Rattle.table.specs.Verdict.{verdict};
 ghost use Rattle.coding.specs.Calls.{check_answer, whole_write, whole_read};

@@ -1,4 +1,5 @@
 // Reads messages into values: a message is judged, which finds every refusal, and its value is then placed into a lent buffer.
+#![tactic(auto)]
 mod answer;
 mod came;
 mod contents;

@@ -18,7 +18,7 @@ pub const LACKING: u8 = 127;
 
 // The code of a record's first identifier, where its own part begins, its kind, how many of its tags are explicit, and whether its contents
 // are simple: octets, and no items.
-#[derive(Drop)]
+#[derive(Clone, Copy)]
 pub struct Entry {
     pub code: u32,
     pub own: u16,
@@ -101,7 +101,7 @@ pub fn tag_code(table: &[u8], e: Entry, j: usize) -> u32
 
 // The parts of a record that is not simple: its members, its alternatives, or the one type of its elements. The place of the first,
 // how many there are, and how far each is from the one before. A member's record number has 1 behind it if the member is optional.
-#[derive(Drop)]
+#[derive(Clone, Copy)]
 pub struct Span {
     pub first: usize,
     pub count: usize,

@@ -1,4 +1,5 @@
 // X.690 with no table: definitions and laws alone (specs, proofs). The code that is proved to follow them is in `ber` and `simple`.
+#![tactic(auto)]
 
 // Why the reading of a message refuses, 22 to 26, 28 and 29 (FORMATS, "Refusals"). The place is made of the octets that are left, where the
 // message is known.

@@ -5,14 +5,14 @@ use Rattle.octets.proofs.holds.Tie as tie
 use Rattle.octets.proofs.holds.Reads as reads
 use Rattle.octets.proofs.holds.Lts as lts
 
-returns : tie.Need-returns
-returns c = no_room_behind _ _ _ c.if1.true
+returns : tie.Need-returns-then-s-at
+returns c = no_room_behind _ _ _ c.if-s-at.true
 
-sub-result : tie.Need-overflow-sub-result
+sub-result : tie.Need-overflow_sub-result
 sub-result c = search rules
 
-returns-2 : tie.Need-returns-2
-returns-2 c = room_behind _ _ _ c.if1.false
+returns-2 : tie.Need-returns
+returns-2 c = room_behind _ _ _ c.if-s-at.false
 
-pub holds-spec : {M : Type 1} → statement M
-holds-spec = tie.close (tie.spec returns sub-result returns-2)
+pub holds_spec : {M : Type 1} → statement M
+holds_spec = tie.close (tie.spec returns sub-result returns-2)

@@ -9,17 +9,17 @@ use Rattle.octets.proofs.octet.Tie as tie
 use Rattle.octets.proofs.octet.Reads as reads
 use Rattle.octets.proofs.octet.Lts as lts
 
-shared-slice-read-result : tie.Need-shared-slice-read-result
+shared-slice-read-result : tie.Need-bounds-s-at
 shared-slice-read-result c = search rules
 
-cast-result : tie.Need-overflow-cast-result
-cast-result c = omega (arith, c.shared-slice-known.given c.before.before.args.at)
+cast-result : tie.Need-overflow_cast-result
+cast-result c = omega (arith, c.shared_slice_known-1.given c.before.before.args.at)
 
-returns : tie.Need-returns
-returns c = (refl, omega (arith, c.shared-slice-known.given c.before.before.args.at))
+returns : tie.Need-returns-then-at-s
+returns c = (refl, omega (arith, c.shared_slice_known-1.given c.before.before.args.at))
 
-returns-2 : tie.Need-returns-2
+returns-2 : tie.Need-returns-else-at-s
 returns-2 c = (sym (get_or-eq_default c.before.args.s.now 0 (omega arith)), search rules)
 
-pub octet-spec : {M : Type 1} → statement M
-octet-spec = tie.close (tie.spec shared-slice-read-result cast-result returns returns-2)
+pub octet_spec : {M : Type 1} → statement M
+octet_spec = tie.close (tie.spec shared-slice-read-result cast-result returns returns-2)

@@ -8,14 +8,14 @@ use Rattle.ber.proofs.ending.is_over.Tie as tie
 use Rattle.ber.proofs.ending.is_over.Reads as reads
 use Rattle.ber.proofs.ending.is_over.Lts as lts
 
-pub is-over-spec : {M : Type 1} → statement M
-is-over-spec =
+pub is_over_spec : {M : Type 1} → statement M
+is_over_spec =
     tie.close
     (tie.spec
-    (λ c. over_none c.before.args.m.now c.before.args.at c.before.args.indefinite c.if1.true)  -- returns
+    (λ c. over_none c.before.args.m.now c.before.args.at c.before.args.indefinite c.if-m-at.true)  -- returns
     (λ c. over_closed c.before.before.args.m.now c.before.before.args.at c.before.before.args.indefinite
-    c.before.if1.false (not-true _ c.if2.true))  -- returns-2
+    c.before.if-m-at.false (not-true _ c.if-not-indefinite.true))  -- returns-2
     (λ c. search rules)  -- shared-slice-read-result
     (λ c. let at_start = c.before.before.before in
-    over_octet at_start.args.m.now at_start.args.at at_start.args.indefinite c.before.before.if1.false
-    (not-false _ c.before.if2.false)))  -- returns-3
+    over_octet at_start.args.m.now at_start.args.at at_start.args.indefinite c.before.before.if-m-at.false
+    (not-false _ c.before.if-not-indefinite.false)))  -- returns-3

@@ -19,6 +19,6 @@ read_spec =
     (λ c κs. search rules)  -- indefinite-end-requires
     (λ c. let at_start = c.before.before.before in
     let m = at_start.args.m.now in
-    c.indefinite-end.ensures ∙ ap (λ (k : Bool). end_of k (length m) (drop at_start.args.at m)) (sym c.before.if1.true))  -- returns
-    (λ c. rw c.before.if1.false (ends_closed c.before.before.before.args.m.now _ c.if2.true))  -- returns-2
-    (λ c. rw c.before.if1.false (ends_not c.before.before.before.args.m.now _ c.if2.false)))  -- returns-3
+    c.indefinite_end.ensures ∙ ap (λ (k : Bool). end_of k (length m) (drop at_start.args.at m)) (sym c.before.if-indefinite.true))  -- returns
+    (λ c. rw c.before.if-indefinite.false (ends_closed c.before.before.before.args.m.now _ c.if-m-at.true))  -- returns-2
+    (λ c. rw c.before.if-indefinite.false (ends_not c.before.before.before.args.m.now _ c.if-m-at.false)))  -- returns-3

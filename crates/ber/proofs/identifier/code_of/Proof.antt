@@ -13,11 +13,11 @@ use Rattle.ber.proofs.identifier.code_of.Reads as reads
 use Rattle.ber.proofs.identifier.code_of.Lts as lts
 
 -- the leading octet without the number
-lead_is : (c : tie.Joined1) → let a = c.before.args in c.if1.lead ≡ a.class * 64 + bit a.constructed * 32
-lead_is c = ⊎_elim (λ w. rw w.0.taken w.1) (λ w. rw w.0.left (w.1 ∙ omega arith)) c.if1.branch
+lead_is : (c : tie.Joined-constructed) → let a = c.before.args in c.if-constructed.lead ≡ a.class * 64 + bit a.constructed * 32
+lead_is c = ⊎_elim (λ w. rw w.0.taken w.1) (λ w. rw w.0.left (w.1 ∙ omega arith)) c.if-constructed.branch
 
-pub code-of-spec : {M : Type 1} → statement M
-code-of-spec =
+pub code_of_spec : {M : Type 1} → statement M
+code_of_spec =
     tie.close
     (tie.spec
     (λ c. search rules)  -- mul-lead
@@ -25,7 +25,7 @@ code-of-spec =
     (λ c. search rules)  -- mul-lead-2
     (λ c. omega (arith, lead_is c.before.before, bit_small c.before.before.before.args.constructed))  -- add-result
     (λ c. let at_start = c.before.before.before in (
-      rw (code_short _ _ _ c.before.if2.true) (omega (arith, lead_is c.before.before)),
+      rw (code_short _ _ _ c.before.if-number-lt31.true) (omega (arith, lead_is c.before.before)),
       omega
           (arith, lead_is c.before.before, bit_small at_start.args.constructed),
     ))  -- returns
@@ -33,7 +33,7 @@ code-of-spec =
     (λ c. search rules)  -- mul-result
     (λ c. omega (arith, lead_is c.before.before, bit_small c.before.before.before.args.constructed))  -- add-result-3
     (λ c. let at_start = c.before.before.before in (
-      rw (code_long _ _ _ c.before.if2.false) (omega (arith, lead_is c.before.before)),
+      rw (code_long _ _ _ c.before.if-number-lt31.false) (omega (arith, lead_is c.before.before)),
       omega
           (arith, lead_is c.before.before, bit_small at_start.args.constructed),
     )))  -- returns-2

@@ -8,11 +8,11 @@ use Rattle.ber.proofs.identifier.size.Tie as tie
 use Rattle.ber.proofs.identifier.size.Reads as reads
 use Rattle.ber.proofs.identifier.size.Lts as lts
 
-pub size-spec : {M : Type 1} → statement M
-size-spec =
+pub size_spec : {M : Type 1} → statement M
+size_spec =
     tie.close
     (tie.spec
-    (λ c. (rw (octets_one _ c.if1.true) refl, omega arith))  -- returns
-    (λ c. (rw (octets_two _ c.before.if1.false c.if2.true) refl, omega arith))  -- returns-2
-    (λ c. (rw (octets_three _ c.before.if2.false c.if3.true) refl, omega arith))  -- returns-3
-    (λ c. (rw (octets_four _ c.if3.false) refl, omega arith)))  -- returns-4
+    (λ c. (rw (octets_one _ c.if-code-lt256.true) refl, omega arith))  -- returns
+    (λ c. (rw (octets_two _ c.before.if-code-lt256.false c.if-code-lt32768.true) refl, omega arith))  -- returns-2
+    (λ c. (rw (octets_three _ c.before.if-code-lt32768.false c.if-code-lt4194304.true) refl, omega arith))  -- returns-3
+    (λ c. (rw (octets_four _ c.if-code-lt4194304.false) refl, omega arith)))  -- returns-4

@@ -11,8 +11,8 @@ use Rattle.ber.proofs.item.end.Lts as lts
 use Rattle.ber.proofs.item.open_end.Reads as open_end_reads
 use Rattle.ber.proofs.length.read.Reads as read_reads
 
-pub end-spec : {M : Type 1} → statement M
-end-spec =
+pub end_spec : {M : Type 1} → statement M
+end_spec =
     tie.close
     (tie.spec
     (λ c κs. search rules)  -- read-requires
@@ -21,13 +21,13 @@ end-spec =
     (λ c κs. let at_read = c.before.before.before.before in
     let at_start = at_read.before.before in
     (length_indefinite at_start.args.m.now at_start.args.from 0 _ (at_read.read.ensures.0 0) _
-    c.before.before.x.given.1 c.if1.true).2)  -- open-end-requires
+    c.before.before.x-1.given.1 c.if-x.true).2)  -- open-end-requires
     (λ c. let at_x = c.before.before.before in
     let at_read = at_x.before.before in
-    c.open-end.ensures ∙ skip_indefinite at_read.before.before.args.m.now _ _ at_read.read.ensures.0 _ at_x.x.given.1
-    c.before.if1.true)  -- returns
+    c.open_end.ensures ∙ skip_indefinite at_read.before.before.args.m.now _ _ at_read.read.ensures.0 _ at_x.x-1.given.1
+    c.before.if-x.true)  -- returns
     (λ c. let at_read = c.before.before in
-    skip_none at_read.before.before.args.m.now _ _ at_read.read.ensures.0 _ c.enum_told.given.1)  -- returns-2
+    skip_none at_read.before.before.args.m.now _ _ at_read.read.ensures.0 _ c.enum_told-1.given.1)  -- returns-2
     (λ c. let at_x = c.before.before in
     let at_read = at_x.before.before in
-    skip_sized at_read.before.before.args.m.now _ _ at_read.read.ensures.0 _ at_x.x.given.1 c.if1.false))  -- returns-3
+    skip_sized at_read.before.before.args.m.now _ _ at_read.read.ensures.0 _ at_x.x-1.given.1 c.if-x.false))  -- returns-3

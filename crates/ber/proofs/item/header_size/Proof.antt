@@ -9,11 +9,11 @@ use Rattle.ber.proofs.item.header_size.Lts as lts
 use Rattle.ber.proofs.identifier.size.Reads as identifier_size_reads
 use Rattle.ber.proofs.length.size.Reads as length_size_reads
 
-pub header-size-spec : {M : Type 1} → statement M
-header-size-spec =
+pub header_size_spec : {M : Type 1} → statement M
+header_size_spec =
     tie.close
     (tie.spec
     (λ c κs. search rules)  -- size-requires
     (λ c κs. search rules)  -- size-requires-2
     (λ c. search rules)  -- add-result
-    (λ c. rw (length-append, c.before.size.ensures.0, c.size2.ensures.0)))  -- returns
+    (λ c. rw (length-append, c.before.size.ensures.0, c.size-2.ensures.0)))  -- returns

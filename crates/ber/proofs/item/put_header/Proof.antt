@@ -15,8 +15,8 @@ use Rattle.ber.proofs.item.header_size.Reads as header_size_reads
 use Rattle.ber.proofs.length.put.Reads as length_put_reads
 use Rattle.octets.proofs.holds.Reads as holds_reads
 
-pub put-header-spec : {M : Type 1} → statement M
-put-header-spec =
+pub put_header_spec : {M : Type 1} → statement M
+put_header_spec =
     tie.close
     (tie.spec
     (λ c κs. search rules)  -- header-size-requires
@@ -24,8 +24,8 @@ put-header-spec =
     (λ c. search rules)  -- same-length
     (λ c. let at_start = c.before.before.before.before.before in
     let w = code_octets at_start.args.code ++ length_octets at_start.args.n in
-    put_nothing at_start.args.buf.now at_start.args.to w
-    (no_room w _ _ _ _ c.before.before.header-size.ensures c.before.holds.ensures c.if1.true))  -- returns
+    put_nothing at_start.args.buf-1.now at_start.args.to w
+    (no_room w _ _ _ _ c.before.before.header_size.ensures c.before.holds.ensures c.if-not-holds.true))  -- returns
     (λ c κs. search rules)  -- put-requires
     (λ c κs. search rules)  -- put-requires-2
     (λ c. search rules)  -- same-length-2
@@ -35,7 +35,7 @@ put-header-spec =
     let at_header_size = at_holds.before in
     let at_start = at_header_size.before.before.before in
     let v = code_octets at_start.args.code in let w = length_octets at_start.args.n in
-    let (p, q) = put_behind at_start.args.buf.now at_start.args.to v w
-    (room (v ++ w) _ _ _ _ at_header_size.header-size.ensures at_holds.holds.ensures at_if1.if1.false) _ _ at_put.put.ensures.0
-    at_put.put.ensures.1 in
-    (c.before.before.put2.ensures.0 ∙ p, c.before.before.put2.ensures.1 ∙ q)))  -- returns-2
+    let (p, q) = put_behind at_start.args.buf-1.now at_start.args.to v w
+    (room (v ++ w) _ _ _ _ at_header_size.header_size.ensures at_holds.holds.ensures at_if1.if-not-holds.false) _ _ at_put.put-next.ensures.0
+    at_put.put-next.ensures.1 in
+    (c.before.before.put.ensures.0 ∙ p, c.before.before.put.ensures.1 ∙ q)))  -- returns-2

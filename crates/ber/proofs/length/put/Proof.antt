@@ -14,9 +14,9 @@ use Rattle.ber.proofs.length.size.Reads as size_reads
 use Rattle.octets.proofs.holds.Reads as holds_reads
 
 -- the octets have room
-has_room : (c : tie.Else1) → let a = c.before.before.before.before.before.args in a.to + length (length_octets a.n) ≤ length a.buf.now
+has_room : (c : tie.Else-not-holds) → let a = c.before.before.before.before.before.args in a.to + length (length_octets a.n) ≤ length a.buf.now
 has_room c = let at_start = c.before.before.before.before.before in
-    room (length_octets at_start.args.n) _ _ _ _ c.before.before.size.ensures.0 c.before.holds.ensures c.if1.false
+    room (length_octets at_start.args.n) _ _ _ _ c.before.before.size.ensures.0 c.before.holds.ensures c.if-not-holds.false
 
 pub put_spec : {M : Type 1} → statement M
 put_spec =
@@ -28,47 +28,47 @@ put_spec =
     (λ c. let at_start = c.before.before.before.before.before in
     put_nothing at_start.args.buf.now at_start.args.to (length_octets at_start.args.n)
     (no_room (length_octets at_start.args.n) _ _ _ _ c.before.before.size.ensures.0 c.before.holds.ensures
-    c.if1.true))  -- returns
+    c.if-not-holds.true))  -- returns
     (λ c. search rules)  -- cast-buf
-    (λ c. omega (arith, rw (length_one _ c.if2.true) at (has_room c.before)))  -- slice-write-buf
-    (λ c. omega (arith, rw (length_one _ c.if2.true) at (has_room c.before)))  -- add-result
+    (λ c. omega (arith, rw (length_one _ c.if-n-lt128.true) at (has_room c.before)))  -- slice-write-buf
+    (λ c. omega (arith, rw (length_one _ c.if-n-lt128.true) at (has_room c.before)))  -- add-result
     (λ c. search rules)  -- same-length-2
     (λ c. let at_start = c.before.before.before.before.before.before in
-    put_one at_start.args.buf.now at_start.args.to _ (has_room c.before) _ (length_one _ c.if2.true))  -- returns-2
+    put_one at_start.args.buf.now at_start.args.to _ (has_room c.before) _ (length_one _ c.if-n-lt128.true))  -- returns-2
     (λ c. omega (arith, has_room c.before))  -- add-a
-    (λ c. omega (arith, rw (length_two _ c.before.if2.false c.if3.true) at (has_room c.before.before)))  -- slice-write-buf-2
+    (λ c. omega (arith, rw (length_two _ c.before.if-n-lt128.false c.if-n-lt256.true) at (has_room c.before.before)))  -- slice-write-buf-2
     (λ c. search rules)  -- cast-buf-2
     (λ c. simp length-set (omega (
       arith,
-      rw (length_two _ c.before.if2.false c.if3.true) at
+      rw (length_two _ c.before.if-n-lt128.false c.if-n-lt256.true) at
           (has_room c.before.before),
     )))  -- slice-write-buf-3
-    (λ c. omega (arith, rw (length_two _ c.before.if2.false c.if3.true) at (has_room c.before.before)))  -- add-result-2
+    (λ c. omega (arith, rw (length_two _ c.before.if-n-lt128.false c.if-n-lt256.true) at (has_room c.before.before)))  -- add-result-2
     (λ c. simp length-set)  -- same-length-3
     (λ c. let at_start = c.before.before.before.before.before.before.before in
     put_two at_start.args.buf.now at_start.args.to _ (has_room c.before.before) _ _
-    (length_two _ c.before.if2.false c.if3.true))  -- returns-3
+    (length_two _ c.before.if-n-lt128.false c.if-n-lt256.true))  -- returns-3
     (λ c. let at_start = c.before.before.before.before.before.before.before in
-    omega (arith, rw (length_three _ c.if3.false (omega (arith, at_start.ranges.n))) at (has_room c.before.before)))  -- add-b
+    omega (arith, rw (length_three _ c.if-n-lt256.false (omega (arith, at_start.ranges.n))) at (has_room c.before.before)))  -- add-b
     (λ c. let at_start = c.before.before.before.before.before.before.before in
-    omega (arith, rw (length_three _ c.if3.false (omega (arith, at_start.ranges.n))) at (has_room c.before.before)))  -- slice-write-buf-4
+    omega (arith, rw (length_three _ c.if-n-lt256.false (omega (arith, at_start.ranges.n))) at (has_room c.before.before)))  -- slice-write-buf-4
     (λ c. search rules)  -- cast-buf-3
     (λ c. let at_start = c.before.before.before.before.before.before.before in
     simp length-set (omega (
       arith,
-      rw (length_three _ c.if3.false (omega (arith, at_start.ranges.n))) at
+      rw (length_three _ c.if-n-lt256.false (omega (arith, at_start.ranges.n))) at
           (has_room c.before.before),
     )))  -- slice-write-buf-5
     (λ c. search rules)  -- cast-buf-4
     (λ c. let at_start = c.before.before.before.before.before.before.before in
     simp length-set (omega (
       arith,
-      rw (length_three _ c.if3.false (omega (arith, at_start.ranges.n))) at
+      rw (length_three _ c.if-n-lt256.false (omega (arith, at_start.ranges.n))) at
           (has_room c.before.before),
     )))  -- slice-write-buf-6
     (λ c. let at_start = c.before.before.before.before.before.before.before in
-    omega (arith, rw (length_three _ c.if3.false (omega (arith, at_start.ranges.n))) at (has_room c.before.before)))  -- add-result-3
+    omega (arith, rw (length_three _ c.if-n-lt256.false (omega (arith, at_start.ranges.n))) at (has_room c.before.before)))  -- add-result-3
     (λ c. simp length-set)  -- same-length-4
     (λ c. let at_start = c.before.before.before.before.before.before.before in
     put_three at_start.args.buf.now at_start.args.to _ (has_room c.before.before) _ _ _
-    (length_three _ c.if3.false (omega (arith, at_start.ranges.n)))))  -- returns-4
+    (length_three _ c.if-n-lt256.false (omega (arith, at_start.ranges.n)))))  -- returns-4

@@ -12,56 +12,56 @@ use Rattle.ber.proofs.length.read_long.Tie as tie
 use Rattle.ber.proofs.length.read_long.Reads as reads
 use Rattle.ber.proofs.length.read_long.Lts as lts
 
-abbrev invariant-loop : tie.invariant-loop
+abbrev invariant-loop : tie.invariant-loop-p
 invariant-loop m at k start n₀ p₀ n p = (p ≤ start) × (n < 4294967296) × Digits m at k n p
 
-abbrev decreases-loop : tie.decreases-loop
+abbrev decreases-loop : tie.decreases-loop-p
 decreases-loop m at k start n₀ p₀ n p = start - p
 
 -- behind the octet that was read
 abbrev Turn : Type 0
-Turn = lts.After-shared-slice-known reads.Pre reads.Post invariant-loop decreases-loop
+Turn = lts.After-shared_slice_known-1 reads.Pre reads.Post invariant-loop decreases-loop
 
 one_more : (c : Turn)
     → let a = c.before.before.before.before.args in
-    let p = c.before.before.loop.p in
-    Digits a.m.now a.at a.k (c.before.before.loop.n * 256 + get_or a.m.now p 0) (p + 1)
+    let p = c.before.before.loop-p.p in
+    Digits a.m.now a.at a.k (c.before.before.loop-p.n * 256 + get_or a.m.now p 0) (p + 1)
 one_more c = let at_start = c.before.before.before.before in
-    one_digit at_start.args.m.now _ _ _ _ c.before.loop-test.true (omega (arith, c.before.loop-test.true, c.before.before.before.if1.false))
-    c.before.before.loop.invariant.2
+    one_digit at_start.args.m.now _ _ _ _ c.before.loop-p-test.true (omega (arith, c.before.loop-p-test.true, c.before.before.before.if-m-start.false))
+    c.before.before.loop-p.invariant.2
 
 small : (c : Turn)
-    → c.before.before.loop.n * 256 + get_or c.before.before.before.before.args.m.now c.before.before.loop.p 0 < 4294967296
+    → c.before.before.loop-p.n * 256 + get_or c.before.before.before.before.args.m.now c.before.before.loop-p.p 0 < 4294967296
 small c = let at_start = c.before.before.before.before in
-    digits_small at_start.args.m.now at_start.args.at _ _ (c.before.before.loop.p + 1) at_start.requires.3
-    (all_octets at_start.args.m.now (λ i. omega (arith, c.shared-slice-known.given i))) (one_more c)
+    digits_small at_start.args.m.now at_start.args.at _ _ (c.before.before.loop-p.p + 1) at_start.requires.3
+    (all_octets at_start.args.m.now (λ i. omega (arith, c.shared_slice_known-1.given i))) (one_more c)
 
-whole : (c : lts.After-loop reads.Pre reads.Post invariant-loop decreases-loop)
-    → let a = c.before.before.before.args in unsigned 0 (take a.k (drop a.at a.m.now)) ≡ c.before.loop.n
-whole c = let a = c.before.before.before.args in all_digits a.m.now a.at _ _ _ c.loop-test.false c.before.loop.invariant.2
+whole : (c : lts.After-loop-p reads.Pre reads.Post invariant-loop decreases-loop)
+    → let a = c.before.before.before.args in unsigned 0 (take a.k (drop a.at a.m.now)) ≡ c.before.loop-p.n
+whole c = let a = c.before.before.before.args in all_digits a.m.now a.at _ _ _ c.loop-p-test.false c.before.loop-p.invariant.2
 
-pub read-long-spec : {M : Type 1} → statement M
-read-long-spec =
+pub read_long_spec : {M : Type 1} → statement M
+read_long_spec =
     tie.close
     (tie.spec
     invariant-loop
     decreases-loop
-    (λ c. omega (arith, c.requires.1, c.requires.3, c.well-formed))  -- add-start
+    (λ c. omega (arith, c.requires.1, c.requires.3, c.well_formed))  -- add-start
     (λ c. let at_start = c.before in
     length_few at_start.args.m.now _ at_start.requires.0 at_start.requires.1 _ at_start.requires.2 at_start.requires.3 at_start.requires.4
-    c.if1.true)  -- returns
+    c.if-m-start.true)  -- returns
     (λ c. (omega arith, omega arith, no_digit c.before.args.m.now c.before.args.at c.before.args.k))  -- loop-holds
-    (λ c. omega (arith, c.before.loop-test.true, c.before.before.before.if1.false))  -- shared-slice-read-d
+    (λ c. omega (arith, c.before.loop-p-test.true, c.before.before.before.if-m-start.false))  -- shared-slice-read-d
     (λ c. omega (arith, small c))  -- cast-d
     (λ c. omega (arith, small c))  -- mul-n
     (λ c. omega (arith, small c))  -- add-n
-    (λ c. omega (arith, c.before.loop-test.true, c.before.before.before.if1.false, c.before.before.before.before.well-formed))  -- add-p
-    (λ c. omega (arith, c.before.loop-test.true))  -- loop-less
-    (λ c. (omega (arith, c.before.loop-test.true), small c, one_more c))  -- loop-again
-    (λ c. omega (arith, c.before.loop.invariant.1, c.before.before.if1.false, c.before.before.before.well-formed))  -- add-end
+    (λ c. omega (arith, c.before.loop-p-test.true, c.before.before.before.if-m-start.false, c.before.before.before.before.well_formed))  -- add-p
+    (λ c. omega (arith, c.before.loop-p-test.true))  -- loop-less
+    (λ c. (omega (arith, c.before.loop-p-test.true), small c, one_more c))  -- loop-again
+    (λ c. omega (arith, c.before.loop-p.invariant.1, c.before.before.if-m-start.false, c.before.before.before.well_formed))  -- add-end
     (λ c. let at_start = c.before.before.before.before in
     length_long_no at_start.args.m.now _ at_start.requires.0 at_start.requires.1 _ at_start.requires.2 at_start.requires.3 at_start.requires.4
-    c.before.before.before.if1.false _ (whole c.before) c.if2.true)  -- returns-2
+    c.before.before.before.if-m-start.false _ (whole c.before) c.if-m-end.true)  -- returns-2
     (λ c. let at_start = c.before.before.before.before in
     length_long at_start.args.m.now _ at_start.requires.0 at_start.requires.1 _ at_start.requires.2 at_start.requires.3 at_start.requires.4
-    c.before.before.before.if1.false _ (whole c.before) c.if2.false))  -- returns-3
+    c.before.before.before.if-m-start.false _ (whole c.before) c.if-m-end.false))  -- returns-3

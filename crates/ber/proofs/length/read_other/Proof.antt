@@ -10,18 +10,18 @@ use Rattle.ber.proofs.length.read_other.Reads as reads
 use Rattle.ber.proofs.length.read_other.Lts as lts
 use Rattle.ber.proofs.length.read_long.Reads as read_long_reads
 
-pub read-other-spec : {M : Type 1} → statement M
-read-other-spec =
+pub read_other_spec : {M : Type 1} → statement M
+read_other_spec =
     tie.close
     (tie.spec
     (λ c. length_open c.before.before.args.m.now _ c.before.before.requires.0 c.before.before.requires.1
-    (sym c.before.before.requires.2 ∙ c.if1.true))  -- returns
+    (sym c.before.before.requires.2 ∙ c.if-first-eq128.true))  -- returns
     (λ c. search rules)  -- sub-k
     (λ c κs. search rules)  -- read-long-requires
     (λ c. search rules)  -- returns-2
     (λ c. let at_start = c.before.before.before.before in
-    length_over at_start.args.m.now _ at_start.requires.0 at_start.requires.1 (omega (arith, at_start.requires.2, c.before.if2.false))
-    (omega (arith, at_start.requires.2, c.if3.true)))  -- returns-3
+    length_over at_start.args.m.now _ at_start.requires.0 at_start.requires.1 (omega (arith, at_start.requires.2, c.before.if-k-le-LONGEST_FIELD.false))
+    (omega (arith, at_start.requires.2, c.if-first-lt255.true)))  -- returns-3
     (λ c. let at_start = c.before.before.before.before in
-    length_reserved at_start.args.m.now _ at_start.requires.0 at_start.requires.1 (omega (arith, at_start.requires.2, c.before.if2.false))
-    (omega (arith, at_start.requires.2, c.if3.false))))  -- returns-4
+    length_reserved at_start.args.m.now _ at_start.requires.0 at_start.requires.1 (omega (arith, at_start.requires.2, c.before.if-k-le-LONGEST_FIELD.false))
+    (omega (arith, at_start.requires.2, c.if-first-lt255.false))))  -- returns-4

@@ -5,11 +5,11 @@ use Rattle.dates.specs.Calendar.{february}
 use Rattle.clock.proofs.calendar.february.Statement.{statement}
 use Rattle.clock.proofs.calendar.february.Tie as tie
 
-pub february-spec : {M : Type 1} → statement M
+pub february_spec : {M : Type 1} → statement M
 unfolding february
-february-spec =
+february_spec =
     tie.close
     (tie.spec
     (λ c κs. search rules)  -- is-leap-requires
-    (λ c. rw (← c.before.is-leap.ensures, c.if1.true))  -- returns
-    (λ c. rw (← c.before.is-leap.ensures, c.if1.false)))  -- returns-2
+    (λ c. rw (← c.before.is_leap.ensures, c.if-is_leap.true))  -- returns
+    (λ c. rw (← c.before.is_leap.ensures, c.if-is_leap.false)))  -- returns-2

@@ -7,20 +7,20 @@ use Rattle.dates.specs.Calendar.{in_range}
 use Rattle.clock.proofs.calendar.in_range.Statement.{statement}
 use Rattle.clock.proofs.calendar.in_range.Tie as tie
 
-pub in-range-spec : {M : Type 1} → statement M
+pub in_range_spec : {M : Type 1} → statement M
 unfolding in_range
-in-range-spec =
+in_range_spec =
     tie.close
     (tie.spec
     (λ c κs. search rules)  -- years-of-requires
-    (λ c. rw (← c.before.before.years-of.ensures) (search tests))  -- returns
+    (λ c. rw (← c.before.before.years_of.ensures) (search tests))  -- returns
     (λ c κs. search rules)  -- is-date-requires
     (λ c.
-    let y = c.before.before.before.before.years-of in
-    let d = c.before.is-date in
-    rw (← y.ensures, ← d.ensures, not-true d.result c.if2.true) (search tests))  -- returns-2
+    let y = c.before.before.before.before.years_of in
+    let d = c.before.is_date in
+    rw (← y.ensures, ← d.ensures, not-true d.result c.if-not-is_date.true) (search tests))  -- returns-2
     (λ c κs. search rules)  -- is-time-of-day-requires
     (λ c.
-    let y = c.before.before.before.before.before.years-of in
-    let d = c.before.before.is-date in
-    rw (← y.ensures, ← d.ensures, not-false d.result c.before.if2.false, ← c.is-time-of-day.ensures) (search tests)))  -- returns-3
+    let y = c.before.before.before.before.before.years_of in
+    let d = c.before.before.is_date in
+    rw (← y.ensures, ← d.ensures, not-false d.result c.before.if-not-is_date.false, ← c.is_time_of_day.ensures) (search tests)))  -- returns-3

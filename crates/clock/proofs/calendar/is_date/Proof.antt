@@ -6,13 +6,13 @@ use Rattle.dates.specs.Calendar.{is_date}
 use Rattle.clock.proofs.calendar.is_date.Statement.{statement}
 use Rattle.clock.proofs.calendar.is_date.Tie as tie
 
-pub is-date-spec : {M : Type 1} → statement M
+pub is_date_spec : {M : Type 1} → statement M
 unfolding is_date
-is-date-spec =
+is_date_spec =
     tie.close
     (tie.spec
     (λ c. search tests)  -- returns
     (λ c. search tests)  -- returns-2
     (λ c. search tests)  -- returns-3
     (λ c κs. search rules)  -- month-days-requires
-    (λ c. rw (← c.before.month-days.ensures) (search tests)))  -- returns-4
+    (λ c. rw (← c.before.month_days.ensures) (search tests)))  -- returns-4

@@ -5,9 +5,9 @@ use Rattle.dates.specs.Calendar.{leap}
 use Rattle.clock.proofs.calendar.is_leap.Statement.{statement}
 use Rattle.clock.proofs.calendar.is_leap.Tie as tie
 
-pub is-leap-spec : {M : Type 1} → statement M
+pub is_leap_spec : {M : Type 1} → statement M
 unfolding leap
-is-leap-spec =
+is_leap_spec =
     tie.close
     (tie.spec
     (λ c. search tests)  -- returns

@@ -5,9 +5,9 @@ use Rattle.dates.specs.Calendar.{is_time_of_day}
 use Rattle.clock.proofs.calendar.is_time_of_day.Statement.{statement}
 use Rattle.clock.proofs.calendar.is_time_of_day.Tie as tie
 
-pub is-time-of-day-spec : {M : Type 1} → statement M
+pub is_time_of_day_spec : {M : Type 1} → statement M
 unfolding is_time_of_day
-is-time-of-day-spec =
+is_time_of_day_spec =
     tie.close
     (tie.spec
     (λ c. search tests)  -- returns

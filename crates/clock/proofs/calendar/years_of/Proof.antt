@@ -5,12 +5,12 @@ use Rattle.dates.specs.Calendar.{years}
 use Rattle.clock.proofs.calendar.years_of.Statement.{statement}
 use Rattle.clock.proofs.calendar.years_of.Tie as tie
 
-pub years-of-spec : {M : Type 1} → statement M
+pub years_of_spec : {M : Type 1} → statement M
 unfolding years
-years-of-spec =
+years_of_spec =
     tie.close
     (tie.spec
     (λ c. search rules)  -- enum_told
     (λ c. search rules)  -- enum-told-2
-    (λ c. rw c.enum_told.given.1)  -- returns
-    (λ c. rw c.enum-told2.given.1))  -- returns-2
+    (λ c. rw c.enum_told-1.given.1)  -- returns
+    (λ c. rw c.enum_told-in-Generalized-1.given.1))  -- returns-2

@@ -6,9 +6,9 @@ use Rattle.dates.specs.Century.{first_year}
 use Rattle.clock.proofs.century.first_year.Statement.{statement}
 use Rattle.clock.proofs.century.first_year.Tie as tie
 
-pub first-year-spec : {M : Type 1} → statement M
+pub first_year_spec : {M : Type 1} → statement M
 unfolding first_year
-first-year-spec =
+first_year_spec =
     tie.close
     (tie.spec
     (λ c. (search tests, omega arith))  -- returns

@@ -10,14 +10,14 @@ use Rattle.dates.specs.Century.{in_window}
 use Rattle.clock.proofs.century.in_window.Statement.{statement}
 use Rattle.clock.proofs.century.in_window.Tie as tie
 
-pub in-window-spec : {M : Type 1} → statement M
+pub in_window_spec : {M : Type 1} → statement M
 unfolding in_window
-in-window-spec =
+in_window_spec =
     tie.close
     (tie.spec
     (λ c κs. search rules)  -- first-year-requires
-    (λ c. let s = c.before in subst (λ (f : ℕ). false ≡ in_window f s.before.args.year) s.first-year.ensures.0 (search tests))  -- returns
+    (λ c. let s = c.before in subst (λ (f : ℕ). false ≡ in_window f s.before.args.year) s.first_year-from.ensures.0 (search tests))  -- returns
     (λ c. search rules)  -- add-result
     (λ c.
     let s = c.before in
-    subst (λ (f : ℕ). ltb s.before.args.year (s.first-year.result + 100) ≡ in_window f s.before.args.year) s.first-year.ensures.0 (search tests)))  -- returns-2
+    subst (λ (f : ℕ). ltb s.before.args.year (s.first_year-from.result + 100) ≡ in_window f s.before.args.year) s.first_year-from.ensures.0 (search tests)))  -- returns-2

@@ -5,6 +5,6 @@ use Rattle.dates.specs.Century.{in_year}
 use Rattle.clock.proofs.century.in_year.Statement.{statement}
 use Rattle.clock.proofs.century.in_year.Tie as tie
 
-pub in-year-spec : {M : Type 1} → statement M
+pub in_year_spec : {M : Type 1} → statement M
 unfolding in_year
-in-year-spec = tie.close (tie.spec (λ c. refl))
+in_year_spec = tie.close (tie.spec (λ c. refl))

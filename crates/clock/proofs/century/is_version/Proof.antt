@@ -5,9 +5,9 @@ use Rattle.dates.specs.Century.{is_version}
 use Rattle.clock.proofs.century.is_version.Statement.{statement}
 use Rattle.clock.proofs.century.is_version.Tie as tie
 
-pub is-version-spec : {M : Type 1} → statement M
+pub is_version_spec : {M : Type 1} → statement M
 unfolding is_version
-is-version-spec =
+is_version_spec =
     tie.close
     (tie.spec
     (λ c. search tests)  -- returns

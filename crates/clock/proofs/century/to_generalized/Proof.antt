@@ -5,9 +5,9 @@ use Rattle.dates.specs.Century.{window_year, to_generalized}
 use Rattle.clock.proofs.century.to_generalized.Statement.{statement}
 use Rattle.clock.proofs.century.to_generalized.Tie as tie
 
-pub to-generalized-spec : {M : Type 1} → statement M
+pub to_generalized_spec : {M : Type 1} → statement M
 unfolding window_year to_generalized
-to-generalized-spec =
+to_generalized_spec =
     tie.close
     (tie.spec
     (λ c κs. search rules)  -- first-year-requires
@@ -17,4 +17,4 @@ to-generalized-spec =
     (λ c. search rules)  -- add-in-year
     (λ c. search rules)  -- cast-in-year
     (λ c κs. search rules)  -- in-year-requires
-    (λ c. rw (← c.before.before.first-year.ensures.0) c.in-year.ensures))  -- returns
+    (λ c. rw (← c.before.before.first_year-first.ensures.0) c.in_year.ensures))  -- returns

@@ -5,10 +5,10 @@ use Rattle.dates.specs.Century.{to_utc}
 use Rattle.clock.proofs.century.to_utc.Statement.{statement}
 use Rattle.clock.proofs.century.to_utc.Tie as tie
 
-pub to-utc-spec : {M : Type 1} → statement M
+pub to_utc_spec : {M : Type 1} → statement M
 unfolding to_utc
-to-utc-spec =
+to_utc_spec =
     tie.close
     (tie.spec
     (λ c κs. search rules)  -- in-year-requires
-    (λ c. c.in-year.ensures))  -- returns
+    (λ c. c.in_year.ensures))  -- returns

@@ -24,4 +24,4 @@ of_spec =
     (λ c.
     let s = c.before.before.before.before.before in
     time_of_lem s.before.before.args.o.now s.two.ensures.0 c.before.before.before.before.octet.ensures.0
-    c.before.before.before.octet2.ensures.0 c.before.before.octet3.ensures.0 c.before.octet4.ensures.0 c.octet5.ensures.0))  -- returns
+    c.before.before.before.octet-2.ensures.0 c.before.before.octet-3.ensures.0 c.before.octet-4.ensures.0 c.octet-5.ensures.0))  -- returns

@@ -6,24 +6,24 @@ use Rattle.dates.proofs.Days.{before_early, before_leap, before_plain, whole_yea
 use Rattle.clock.proofs.seconds.before_month.Statement.{statement}
 use Rattle.clock.proofs.seconds.before_month.Tie as tie
 
-pub before-month-spec : {M : Type 1} → statement M
-before-month-spec =
+pub before_month_spec : {M : Type 1} → statement M
+before_month_spec =
     tie.close
     (tie.spec
     (λ c κs. search rules)  -- year-days-requires
-    (λ c. (rw (whole_year _ _ c.before.if1.true) c.year-days.ensures.0, c.year-days.ensures.1))  -- returns
+    (λ c. (rw (whole_year _ _ c.before.if-month-gt12.true) c.year_days.ensures.0, c.year_days.ensures.1))  -- returns
     (λ c. search rules)  -- mul-days
     (λ c. search rules)  -- array-read-days
-    (λ c. let s = c.before.before in before_early s.args.year s.args.month c.if2.true)  -- returns-2
+    (λ c. let s = c.before.before in before_early s.args.year s.args.month c.if-month-lt3.true)  -- returns-2
     (λ c κs. search rules)  -- is-leap-requires
     (λ c.
     let l = c.before.before in
     let s = l.before.before in
-    omega (arith, (before_leap s.args.year s.args.month l.if2.false l.before.if1.false c.before.is-leap.ensures c.if3.true).1))  -- add-result
+    omega (arith, (before_leap s.args.year s.args.month l.if-month-lt3.false l.before.if-month-gt12.false c.before.is_leap.ensures c.if-is_leap.true).1))  -- add-result
     (λ c.
     let l = c.before.before in
     let s = l.before.before in
-    before_leap s.args.year s.args.month l.if2.false l.before.if1.false c.before.is-leap.ensures c.if3.true)  -- returns-3
+    before_leap s.args.year s.args.month l.if-month-lt3.false l.before.if-month-gt12.false c.before.is_leap.ensures c.if-is_leap.true)  -- returns-3
     (λ c.
     let l = c.before.before.before in
-    before_plain l.before.args.year l.before.args.month l.if1.false c.before.is-leap.ensures c.if3.false))  -- returns-4
+    before_plain l.before.args.year l.before.args.month l.if-month-gt12.false c.before.is_leap.ensures c.if-is_leap.false))  -- returns-4

@@ -6,8 +6,8 @@ use Rattle.dates.proofs.Days.{years_closed}
 use Rattle.clock.proofs.seconds.before_year.Statement.{statement}
 use Rattle.clock.proofs.seconds.before_year.Tie as tie
 
-pub before-year-spec : {M : Type 1} → statement M
-before-year-spec =
+pub before_year_spec : {M : Type 1} → statement M
+before_year_spec =
     tie.close
     (tie.spec
     (λ c. search rules)  -- mul-result

@@ -5,8 +5,8 @@ use Rattle.octets.proofs.Search.{tests}
 use Rattle.clock.proofs.seconds.compare.Statement.{statement}
 use Rattle.clock.proofs.seconds.compare.Tie as tie
 
-pub compare-spec : {M : Type 1} → statement M
-compare-spec =
+pub compare_spec : {M : Type 1} → statement M
+compare_spec =
     tie.close
     (tie.spec
     (λ c. search (rules, tests))  -- returns

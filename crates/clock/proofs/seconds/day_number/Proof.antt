@@ -5,9 +5,9 @@ use Rattle.dates.specs.Seconds.{day_number}
 use Rattle.clock.proofs.seconds.day_number.Statement.{statement}
 use Rattle.clock.proofs.seconds.day_number.Tie as tie
 
-pub day-number-spec : {M : Type 1} → statement M
+pub day_number_spec : {M : Type 1} → statement M
 unfolding day_number
-day-number-spec =
+day_number_spec =
     tie.close
     (tie.spec
     (λ c κs. search rules)  -- before-year-requires

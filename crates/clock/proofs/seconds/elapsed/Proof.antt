@@ -6,16 +6,16 @@ use Rattle.dates.proofs.Differences.{difference, difference_fits}
 use Rattle.clock.proofs.seconds.elapsed.Statement.{statement}
 use Rattle.clock.proofs.seconds.elapsed.Tie as tie
 
-pub elapsed-spec : {M : Type 1} → statement M
+pub elapsed_spec : {M : Type 1} → statement M
 unfolding elapsed
-elapsed-spec =
+elapsed_spec =
     tie.close
     (tie.spec
     (λ c κs. search rules)  -- seconds-requires
     (λ c. search rules)  -- cast-result
     (λ c κs. search rules)  -- seconds-requires-2
     (λ c. search rules)  -- cast-result-2
-    (λ c. difference_fits c.before.seconds.result c.seconds2.result c.before.seconds.ensures.1 c.seconds2.ensures.1)  -- sub-result
+    (λ c. difference_fits c.before.seconds.result c.seconds-2.result c.before.seconds.ensures.1 c.seconds-2.ensures.1)  -- sub-result
     (λ c.
-    rw (← c.before.seconds.ensures.0, ← c.seconds2.ensures.0)
-    (difference c.before.seconds.result c.seconds2.result c.before.seconds.ensures.1 c.seconds2.ensures.1)))  -- returns
+    rw (← c.before.seconds.ensures.0, ← c.seconds-2.ensures.0)
+    (difference c.before.seconds.result c.seconds-2.result c.before.seconds.ensures.1 c.seconds-2.ensures.1)))  -- returns

@@ -11,9 +11,9 @@ use Rattle.dates.proofs.Ordered.{ordered_self, before_others}
 use Rattle.clock.proofs.seconds.order.Statement.{statement}
 use Rattle.clock.proofs.seconds.order.Tie as tie
 
-pub order-spec : {M : Type 1} → statement M
+pub order_spec : {M : Type 1} → statement M
 unfolding fields order
-order-spec =
+order_spec =
     tie.close
     (tie.spec
     (λ c. search rules)  -- cast-compare
@@ -40,10 +40,10 @@ order-spec =
     let c₁ = c₂.before.before.before in
     let a = c₁.before.before.before.args.a in
     let b = c₁.before.before.before.args.b in
-    let seconds = before_others a.second b.second [] [] (record { sfits = omega arith }) (sym (ordered_self [])) c₁.compare.ensures in
-    let minutes = before_others a.minute b.minute _ _ (record { sfits = c₁.compare.type-inv }) seconds c₂.compare2.ensures in
-    let hours = before_others a.hour b.hour _ _ (record { sfits = c₂.compare2.type-inv }) minutes c₃.compare3.ensures in
-    let days = before_others a.day b.day _ _ (record { sfits = c₃.compare3.type-inv }) hours c₄.compare4.ensures in
-    let months = before_others a.month b.month _ _ (record { sfits = c₄.compare4.type-inv }) days c₅.compare5.ensures in
-    let years = before_others a.year b.year _ _ (record { sfits = c₅.compare5.type-inv }) months c.compare6.ensures in
-    to_z-of_z w64 c.compare6.result (record { sfits = c.compare6.type-inv }) ∙ years))  -- returns
+    let seconds = before_others a.second b.second [] [] (record { sfits = omega arith }) (sym (ordered_self [])) c₁.compare-seconds.ensures in
+    let minutes = before_others a.minute b.minute _ _ (record { sfits = c₁.compare-seconds.type-inv }) seconds c₂.compare-minutes.ensures in
+    let hours = before_others a.hour b.hour _ _ (record { sfits = c₂.compare-minutes.type-inv }) minutes c₃.compare-hours.ensures in
+    let days = before_others a.day b.day _ _ (record { sfits = c₃.compare-hours.type-inv }) hours c₄.compare-days.ensures in
+    let months = before_others a.month b.month _ _ (record { sfits = c₄.compare-days.type-inv }) days c₅.compare-months.ensures in
+    let years = before_others a.year b.year _ _ (record { sfits = c₅.compare-months.type-inv }) months c.compare.ensures in
+    to_z-of_z w64 c.compare.result (record { sfits = c.compare.type-inv }) ∙ years))  -- returns

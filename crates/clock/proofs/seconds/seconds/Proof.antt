@@ -5,9 +5,9 @@ use Rattle.dates.specs.Seconds.{seconds_of}
 use Rattle.clock.proofs.seconds.seconds.Statement.{statement}
 use Rattle.clock.proofs.seconds.seconds.Tie as tie
 
-pub seconds-spec : {M : Type 1} → statement M
+pub seconds_spec : {M : Type 1} → statement M
 unfolding seconds_of
-seconds-spec =
+seconds_spec =
     tie.close
     (tie.spec
     (λ c κs. search rules)  -- day-number-requires

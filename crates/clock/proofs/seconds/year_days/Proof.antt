@@ -6,10 +6,10 @@ use Rattle.dates.proofs.Days.{year_days_lem}
 use Rattle.clock.proofs.seconds.year_days.Statement.{statement}
 use Rattle.clock.proofs.seconds.year_days.Tie as tie
 
-pub year-days-spec : {M : Type 1} → statement M
-year-days-spec =
+pub year_days_spec : {M : Type 1} → statement M
+year_days_spec =
     tie.close
     (tie.spec
     (λ c κs. search rules)  -- is-leap-requires
-    (λ c. (rw (year_days_lem, ← c.before.is-leap.ensures, c.if1.true), omega arith))  -- returns
-    (λ c. (rw (year_days_lem, ← c.before.is-leap.ensures, c.if1.false), omega arith)))  -- returns-2
+    (λ c. (rw (year_days_lem, ← c.before.is_leap.ensures, c.if-is_leap.true), omega arith))  -- returns
+    (λ c. (rw (year_days_lem, ← c.before.is_leap.ensures, c.if-is_leap.false), omega arith)))  -- returns-2
