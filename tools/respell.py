@@ -19,12 +19,17 @@ BY_HAND = {
     "isDone": "told_done",
     "isTag": "is_tag_of",
 }
+# Names that are declared with others on a line, as modules, or by a `use`.
+MORE = """of-value open-ended of-table in-turn each-once Value-of not-in-nil codeBy in-none none-p refused-at isInfinite done-with in-v insideSize
+Around-rest nextPart Choice-found in-cons firstBegins lines-right cases-read cases-told firstEither behind-part one-item here-is codedAs noTag k-few
+reckonings-right tagBegins last-segment conversions-right range-cases second-cases octet-cases century-cases k-some""".split()
 # Two names that stay alike, since no file has both.
 APART = {"no-time", "noTime"}
 DECLARED = re.compile(r"^(\s*)(?:(?:pub|abbrev|unfoldable|instance)\s+)*([^\s:(){}λ.,;=]+) : ")
 HEADED = re.compile(r"^\s*(?:(?:pub|unfoldable|abbrev)\s+)*(?:data|record|ruleset)\s+([^\s:(){}]+)")
 USE = re.compile(r"^\s*(?:pub )?(?:ghost )?use ([^\s{]+)\.\{([^}]*)\}", re.M)
 BOUND = re.compile(r"\blet ([a-z][\w']*-[\w'-]*)(?= )|\bas ([a-z][\w']*-[\w'-]*)$", re.M)
+ALIAS = re.compile(r"^use (Rattle\.[^\s{]+) as (\S+)$", re.M)
 TOKEN = re.compile(r"(\.?)([^\s(){}\[\],;.\"`⌜⌝]+)")
 
 
@@ -105,6 +110,8 @@ def names(root):
                     fields.add(m.group(2))
             if l.strip() and not l[0].isspace():
                 record = False
+    for n in MORE:
+        declared[n].add("by hand")
     return crate_names, declared, fields
 
 
@@ -127,7 +134,11 @@ def rewrite(text, path, crate_names, declared, fields):
             return m.group(0)
         return turned(name)
 
-    return TOKEN.sub(one, text)
+    text = TOKEN.sub(one, text)
+    for module, alias in ALIAS.findall(text):
+        if module.split(".")[1] in crate_names and not re.search(r"\.(Tie|Lts|Reads|Kinds|Statement)(-|$)", module):
+            text = re.sub(rf"(?<![\w.'-]){re.escape(alias)}\.([a-z][^\s(){{}}\[\],;.]*)", lambda m: alias + "." + turned(m.group(1)), text)
+    return text
 
 
 def main(root="."):

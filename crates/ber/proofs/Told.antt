@@ -208,7 +208,7 @@ module _ (m : List ℕ) (at : ℕ) (some : 0 < at) (there : at ≤ length m) whe
     unfolding told_length if
     length_reserved h l = rw (over_field l, le-ltb (get_or m (at - 1) 0) 255 h)
 
-  module _ (k : ℕ) (k-some : 0 < k) (k-few : k ≤ longest_field) (says : get_or m (at - 1) 0 ≡ 128 + k) where
+  module _ (k : ℕ) (k_some : 0 < k) (k_few : k ≤ longest_field) (says : get_or m (at - 1) 0 ≡ 128 + k) where
     long_form : (l : ℕ) → read_length l (drop (at - 1) m) ≡ read_long l k (drop at m)
     unfolding read_length if
     long_form l =
@@ -219,7 +219,7 @@ module _ (m : List ℕ) (at : ℕ) (some : 0 < at) (there : at ≤ length m) whe
           le-ltb (128 + k) 128 (omega arith),
           ne_eqb (128 + k) 128 (λ e. omega arith),
           z,
-          le-leb k longest_field k-few,
+          le-leb k longest_field k_few,
         )
 
     pub length_few : length m < at + k → Here m (at - 1) (NoLength Cut)

@@ -5,7 +5,7 @@ use Rattle.x690.specs.declared.ReadingCause.{ReadingCause}
 use Rattle.x690.specs.declared.ReadingCause.TheVariants.{Cut, Forbidden}
 use Rattle.octets.specs.Answer.{Answer, got, refused, if, none_left}
 use Rattle.ber.specs.Codes.{code_of}
-use Rattle.x690.specs.Reading.{Size, definite, indefinite, read_length, Mode, closed, open-ended}
+use Rattle.x690.specs.Reading.{Size, definite, indefinite, read_length, Mode, closed, open_ended}
 use Rattle.ber.specs.declared.identifier.Identifier.{Identifier}
 use Rattle.ber.specs.declared.identifier.Identifier.TheVariants.{Read as ReadIdentifier, Refused as NoIdentifier}
 use Rattle.ber.specs.declared.length.Length.{Length}
@@ -25,7 +25,7 @@ told_length n (got indefinite s) = ReadLength (record { start = n - length s; en
 told_length n (refused c l) = NoLength c
 
 abbrev pub mode : Bool → Mode
-mode true = open-ended
+mode true = open_ended
 mode false = closed
 
 -- whether contents end at s, the last of the n octets

@@ -5,7 +5,7 @@ use mathlib.Core.List.Memᴰ.{head as first_of}
 use mathlib.Core.List.{List, [], ◌∷◌, ◌++◌, append_assoc, append-nil, Memᴰ as In}
 use mathlib.Core.List.Memᴰ.{append_right as in_right}
 use mathlib.Core.List.Memᴰ.{eq_of_singleton as in_one}
-use mathlib.Core.List.Memᴰ.{not-nil as not-in-nil}
+use mathlib.Core.List.Memᴰ.{not-nil as not_in_nil}
 use mathlib.Core.Path.{◌≡◌, refl, sym, ap, ◌∙◌}
 use Prim.Native.Nat.{ℕ, suc, ◌+◌, ◌-◌, ◌≤◌, ◌<◌}
 use native.Mathlib.Nat.{not-suc-le-zero}
@@ -46,7 +46,7 @@ Zero v = (j : ℕ) → get_or v j 0 ≡ 0
 untagged : (gs : List Tag) (b : Body) (a : ℕ) → In a (tags_below gs b) → gs ≡ []
 unfolding tags_below
 untagged [] b a i = refl
-untagged (g ∷ gs) b a i = absurd (not-in-nil i)
+untagged (g ∷ gs) b a i = absurd (not_in_nil i)
 
 -- whether a walk from the alternatives comes back to the record
 circle_by : (T : Table) (t : ℕ) {v w : List ℕ} (r : Bool) → Zero v → Walks T 1 v (below T t) w → r ≡ not (eqb (get_or w t 0) 0)

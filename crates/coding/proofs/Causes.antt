@@ -12,7 +12,7 @@ use Rattle.table.specs.Cause.{cause_number}
 use Rattle.coding.specs.declared.JudgingCause.{JudgingCause}
 use Rattle.coding.specs.declared.Report.{Report}
 use Rattle.coding.specs.Outcome.{TableCause, Unknown, ValueCause, MessageRoom, MessageCause, MessageLength, ValueRoom, table_cause, value_cause, message_cause}
-use Rattle.coding.specs.Outcome.{Refusal, of-table, of-value, of_message, report, table_report, number_of, place_of}
+use Rattle.coding.specs.Outcome.{Refusal, of_table, of_value, of_message, report, table_report, number_of, place_of}
 
 -- the check's numbers are the table's
 pub table_number : (c : CheckCause) (p : ℕ) → table_report (table_cause c p) ≡ report (cause_number c) p
@@ -25,10 +25,10 @@ table_number CheckCause.NoValue p = refl
 
 -- their places are those at which they were refused
 
-pub table_place : (c : CheckCause) (p : ℕ) → place_of (of-table (table_cause c p)) ≡ p
+pub table_place : (c : CheckCause) (p : ℕ) → place_of (of_table (table_cause c p)) ≡ p
 table_place c p = ap (λ (r : Report). r.place) (table_number c p)
 
-pub value_place : (c : JudgingCause) (p : ℕ) → place_of (of-value (value_cause c p)) ≡ p
+pub value_place : (c : JudgingCause) (p : ℕ) → place_of (of_value (value_cause c p)) ≡ p
 value_place JudgingCause.ValueShape p = refl
 value_place JudgingCause.IllTyped p = refl
 value_place JudgingCause.ValueLevel p = refl
@@ -140,17 +140,17 @@ not_value_room c p = other message_cause read read_back c p ValueRoom refl
 -- the refusal with a number and a place
 unfoldable numbered : ℕ → ℕ → Refusal
 numbered n p =
-    if (eqb n 1) (of-table (TableCause.TableShape p)) λ _.
-    if (eqb n 2) (of-table (TableCause.NoRecord p)) λ _.
-    if (eqb n 3) (of-table (TableCause.WrongTag p)) λ _.
-    if (eqb n 4) (of-table (TableCause.ChoiceLoop p)) λ _.
-    if (eqb n 5) (of-table (TableCause.SharedTag p)) λ _.
-    if (eqb n 6) (of-table (TableCause.NoValue p)) λ _.
-    if (eqb n 7) (of-table Unknown) λ _.
-    if (eqb n 11) (of-value (ValueCause.ValueShape p)) λ _.
-    if (eqb n 12) (of-value (ValueCause.IllTyped p)) λ _.
-    if (eqb n 13) (of-value (ValueCause.ValueLevel p)) λ _.
-    if (eqb n 14) (of-value MessageRoom) λ _.
+    if (eqb n 1) (of_table (TableCause.TableShape p)) λ _.
+    if (eqb n 2) (of_table (TableCause.NoRecord p)) λ _.
+    if (eqb n 3) (of_table (TableCause.WrongTag p)) λ _.
+    if (eqb n 4) (of_table (TableCause.ChoiceLoop p)) λ _.
+    if (eqb n 5) (of_table (TableCause.SharedTag p)) λ _.
+    if (eqb n 6) (of_table (TableCause.NoValue p)) λ _.
+    if (eqb n 7) (of_table Unknown) λ _.
+    if (eqb n 11) (of_value (ValueCause.ValueShape p)) λ _.
+    if (eqb n 12) (of_value (ValueCause.IllTyped p)) λ _.
+    if (eqb n 13) (of_value (ValueCause.ValueLevel p)) λ _.
+    if (eqb n 14) (of_value MessageRoom) λ _.
     if (eqb n 21) (of_message (MessageLength p)) λ _.
     if (eqb n 22) (of_message (MessageCause.Cut p)) λ _.
     if (eqb n 23) (of_message (MessageCause.Forbidden p)) λ _.
@@ -163,17 +163,17 @@ numbered n p =
 
 numbered_back : (r : Refusal) → numbered (number_of r) (place_of r) ≡ r
 unfolding numbered if
-numbered_back (of-table (TableCause.TableShape p)) = refl
-numbered_back (of-table (TableCause.NoRecord p)) = refl
-numbered_back (of-table (TableCause.WrongTag p)) = refl
-numbered_back (of-table (TableCause.ChoiceLoop p)) = refl
-numbered_back (of-table (TableCause.SharedTag p)) = refl
-numbered_back (of-table (TableCause.NoValue p)) = refl
-numbered_back (of-table Unknown) = refl
-numbered_back (of-value (ValueCause.ValueShape p)) = refl
-numbered_back (of-value (ValueCause.IllTyped p)) = refl
-numbered_back (of-value (ValueCause.ValueLevel p)) = refl
-numbered_back (of-value MessageRoom) = refl
+numbered_back (of_table (TableCause.TableShape p)) = refl
+numbered_back (of_table (TableCause.NoRecord p)) = refl
+numbered_back (of_table (TableCause.WrongTag p)) = refl
+numbered_back (of_table (TableCause.ChoiceLoop p)) = refl
+numbered_back (of_table (TableCause.SharedTag p)) = refl
+numbered_back (of_table (TableCause.NoValue p)) = refl
+numbered_back (of_table Unknown) = refl
+numbered_back (of_value (ValueCause.ValueShape p)) = refl
+numbered_back (of_value (ValueCause.IllTyped p)) = refl
+numbered_back (of_value (ValueCause.ValueLevel p)) = refl
+numbered_back (of_value MessageRoom) = refl
 numbered_back (of_message (MessageLength p)) = refl
 numbered_back (of_message (MessageCause.Cut p)) = refl
 numbered_back (of_message (MessageCause.Forbidden p)) = refl

@@ -14,7 +14,7 @@ use Rattle.table.specs.declared.Verdict.{Verdict}
 use Rattle.table.specs.declared.Verdict.TheVariants.{Passed, Refused}
 use Rattle.table.proofs.Theorems.{passes}
 use Rattle.table.proofs.Promises.{passed_short}
-use Rattle.coding.specs.Outcome.{Outcome, Told, refusal, table_cause, of-table}
+use Rattle.coding.specs.Outcome.{Outcome, Told, refusal, table_cause, of_table}
 use Rattle.coding.specs.Calls.{after_check}
 
 -- an outcome is what was answered and what the buffer holds
@@ -24,7 +24,7 @@ Says x r buf = (r ≡ x.answer) × (buf ≡ x.buffer)
 module _ (b : List ℕ) (x : Verdict) (is : x ≡ verdict b) where
   -- the table is refused
   pub out_table : (buf : List ℕ) (f : Table → ℕ → Outcome) (k : CheckCause) (p : ℕ) → x ≡ Refused k p
-      → Says (after_check b buf f (verdict b)) (refusal (of-table (table_cause k p))) buf
+      → Says (after_check b buf f (verdict b)) (refusal (of_table (table_cause k p))) buf
   unfolding after_check
   out_table buf f k p e = let q : verdict b ≡ Refused k p = sym is ∙ e in (rw q, rw q)
 

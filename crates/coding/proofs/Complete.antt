@@ -13,7 +13,7 @@ use Rattle.x690.specs.declared.ReadingCause.{ReadingCause}
 use Rattle.x690.specs.declared.ReadingCause.TheVariants.{NotAwaited, Trailing}
 use Rattle.octets.specs.Answer.{Answer, got, refused, then, if, none_left}
 use Rattle.octets.specs.Lists.{any, joined}
-use Rattle.octets.specs.Permutations.{Sel, Sel.here, Sel.there, Perm, Perm.none as none-p, Perm.next, Each, nil, cons, Order, Arranged, Every, every_cons}
+use Rattle.octets.specs.Permutations.{Sel, Sel.here, Sel.there, Perm, Perm.none as none_p, Perm.next, Each, nil, cons, Order, Arranged, Every, every_cons}
 use Rattle.octets.proofs.Answer.{run, Reads}
 use Rattle.octets.proofs.Permutations.{flat, joined_flat, arranged_each}
 use Rattle.octets.proofs.Tests.{or_by, and_left, and_right}
@@ -186,7 +186,7 @@ module _ (o : Order) (T : Table) (good : Good T) (E : Coding) (Q : Value → Val
       → Reads (Each (Slot Q)) (read_set T r k ms us mode) os (flat qs tail) u
   unfolding read_set flat
   set_complete zero ms mode tail u d p c a h z = absurd (omega arith)
-  set_complete (suc k) ms mode {us = us} tail u d p none-p a h z =
+  set_complete (suc k) ms mode {us = us} tail u d p none_p a h z =
       let (x, e) = all_read p in
       record { value = us; answer = at_end_end _ _ z ∙ simp (run, e, a); alike = x }
   set_complete (suc k) ms mode {us = us} tail u d p (next {x = q} {r = qs} c cs) a h z =

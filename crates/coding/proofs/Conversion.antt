@@ -24,7 +24,7 @@ use Rattle.dates.specs.Century.{is_version, first_year, in_window, in_year, to_u
 use Rattle.dates.proofs.Centuries.{Around2000, windows, same_range, forth_and_back, shortens_one}
 use Rattle.coding.specs.declared.Given.{Given}
 use Rattle.coding.specs.declared.Given.TheVariants.{Time, Refused as Wrong}
-use Rattle.coding.specs.Outcome.{Unknown, value_cause, ValueRoom, Refusal, of-table, of-value, of_message, Told, done, refusal, Outcome, refuse, write_at_start}
+use Rattle.coding.specs.Outcome.{Unknown, value_cause, ValueRoom, Refusal, of_table, of_value, of_message, Told, done, refusal, Outcome, refuse, write_at_start}
 use Rattle.coding.specs.Value.{leaf_octets}
 use Rattle.coding.specs.Judging.{need, own_time, read_own, read_node}
 use Rattle.coding.specs.Reckoning.{childless, is_whole, is_lone, given, time_node, Stands}
@@ -48,24 +48,24 @@ abbrev wrote : List ℕ → Outcome
 wrote w = record { answer = done 10; buffer = w ++ (0xAA ∷ []) }
 
 -- forth and back by each version; 7 before 11 before 12 before 27
-pub conversions-right :
+pub conversions_right :
     (whole_to_generalized 1 (utc 60) eleven ≡ wrote (generalized 2060))
     × (whole_to_generalized 2 (utc 60) eleven ≡ wrote (generalized 1960))
     × (whole_to_utc 1 (generalized 2060) eleven ≡ wrote (utc 60))
     × (whole_to_utc 2 (generalized 1960) eleven ≡ wrote (utc 60))
-    × (whole_to_utc 2 (generalized 2060) eleven ≡ refuse (of-value (value_cause IllTyped 0)) eleven)
-    × (whole_to_utc 1 (generalized 1968) nine ≡ refuse (of-value (value_cause IllTyped 0)) nine)
-    × (whole_to_utc 1 (generalized 1900) nine ≡ refuse (of-value (value_cause ValueShape 0)) nine)
-    × (whole_to_generalized 1 (utc 61) nine ≡ refuse (of-value (value_cause ValueShape 0)) nine)
-    × (whole_to_generalized 1 (generalized 1900) eleven ≡ refuse (of-value (value_cause ValueShape 0)) eleven)
-    × (whole_to_generalized 1 (generalized 2060) nine ≡ refuse (of-value (value_cause IllTyped 0)) nine)
+    × (whole_to_utc 2 (generalized 2060) eleven ≡ refuse (of_value (value_cause IllTyped 0)) eleven)
+    × (whole_to_utc 1 (generalized 1968) nine ≡ refuse (of_value (value_cause IllTyped 0)) nine)
+    × (whole_to_utc 1 (generalized 1900) nine ≡ refuse (of_value (value_cause ValueShape 0)) nine)
+    × (whole_to_generalized 1 (utc 61) nine ≡ refuse (of_value (value_cause ValueShape 0)) nine)
+    × (whole_to_generalized 1 (generalized 1900) eleven ≡ refuse (of_value (value_cause ValueShape 0)) eleven)
+    × (whole_to_generalized 1 (generalized 2060) nine ≡ refuse (of_value (value_cause IllTyped 0)) nine)
     × (whole_to_generalized 1 (utc 60) nine ≡ refuse (of_message ValueRoom) nine)
     × (whole_to_utc 2 (generalized 1960) nine ≡ refuse (of_message ValueRoom) nine)
-    × (whole_to_generalized 0 (utc 60) eleven ≡ refuse (of-table Unknown) eleven)
-    × (whole_to_utc 3 [] nine ≡ refuse (of-table Unknown) nine)
+    × (whole_to_generalized 0 (utc 60) eleven ≡ refuse (of_table Unknown) eleven)
+    × (whole_to_utc 3 [] nine ≡ refuse (of_table Unknown) nine)
 unfolding if then none_left leap february month_days years is_date is_time_of_day in_range time_octets time_at is_version first_year in_window in_year to_utc window_year to_generalized
     need own_time leaf_octets read_own read_node childless is_whole is_lone given counterpart converted placed whole_conversion
-conversions-right = (refl, refl, refl, refl, refl, refl, refl, refl, refl, refl, refl, refl, refl, refl)
+conversions_right = (refl, refl, refl, refl, refl, refl, refl, refl, refl, refl, refl, refl, refl, refl)
 
 -- a time that is given is one
 one_time : {t u : DateTime} → Time t ≡ Time u → t ≡ u
@@ -155,7 +155,7 @@ module _ (k : TimeKind) (v : ℕ) (s buf : List ℕ) where
   refused_so o r (no_node i l) = rw (i, ← given_shape k s l) refl
   refused_so o r (no_time i l h) = rw i (barred (converted_one o))
     where
-      barred : {g : Given} → Converted g → placed (other_kind k) buf g ≡ refuse (of-value (value_cause IllTyped 0)) buf
+      barred : {g : Given} → Converted g → placed (other_kind k) buf g ≡ refuse (of_value (value_cause IllTyped 0)) buf
       barred (one c) = absurd (h _ _ c)
       barred (not_alone m) = absurd (false≢true (sym m ∙ l))
       barred (none m n) = refl
@@ -235,17 +235,17 @@ there_and_back k v s buf o n after e b h =
 
 -- the steps by which the code answers
 module _ (k : TimeKind) (v : ℕ) (s buf : List ℕ) {y : Bool} (i : y ≡ is_version v) where
-  pub version_refused : y ≡ false → whole_conversion k v s buf ≡ refuse (of-table Unknown) buf
+  pub version_refused : y ≡ false → whole_conversion k v s buf ≡ refuse (of_table Unknown) buf
   unfolding whole_conversion
   version_refused h = rw (← i, h) refl
 
   module _ (h : y ≡ true) {g : Given} (e : g ≡ given k s) where
-    pub node_refused : {c : JudgingCause} → g ≡ Wrong c → whole_conversion k v s buf ≡ refuse (of-value (value_cause c 0)) buf
+    pub node_refused : {c : JudgingCause} → g ≡ Wrong c → whole_conversion k v s buf ≡ refuse (of_value (value_cause c 0)) buf
     unfolding whole_conversion converted placed
     node_refused q = rw (← i, h, ← e, q) refl
 
     module _ {t : DateTime} (q : g ≡ Time t) {d : Given} (j : d ≡ counterpart (first_year v) k t) where
-      pub time_refused : {c : JudgingCause} → d ≡ Wrong c → whole_conversion k v s buf ≡ refuse (of-value (value_cause c 0)) buf
+      pub time_refused : {c : JudgingCause} → d ≡ Wrong c → whole_conversion k v s buf ≡ refuse (of_value (value_cause c 0)) buf
       unfolding whole_conversion converted placed
       time_refused r = rw (← i, h, ← e, q, ← j, r) refl
 

@@ -31,7 +31,7 @@ use Rattle.coding.specs.Equivalent.{Equivalent}
 use Rattle.coding.specs.Judging.{judge_whole}
 use Rattle.coding.specs.declared.JudgingCause.{JudgingCause}
 use Rattle.coding.specs.Outcome.{levels, longest_value, longest_message, Unknown, table_cause, MessageRoom, value_cause, MessageLength, ValueRoom, message_cause}
-use Rattle.coding.specs.Outcome.{Refusal, of-table, of-value, of_message, done, refusal, Outcome, refuse}
+use Rattle.coding.specs.Outcome.{Refusal, of_table, of_value, of_message, done, refusal, Outcome, refuse}
 use Rattle.coding.specs.Calls.{read_outcome, write_outcome, whole_read, whole_write, check_answer}
 use Rattle.coding.specs.Demands.{Answers, is_done, of_the_table, Accepted, NoSuchType, OfType, MessageRefused, NoRoomForValue, Read, ValueRefused, NoRoomForMessage, Wrote, Received, Sent}
 use Rattle.coding.proofs.FirstTags.{Good, good}
@@ -91,11 +91,11 @@ module _ {b : List ℕ} (o : Octets b) where
 
 module _ (b : List ℕ) (o : Octets b) where
   -- check, 1 to 6: the first cause is named
-  pub check_refuses : (c : CheckCause) (p : ℕ) → (check_answer (verdict b) ≡ refusal (of-table (table_cause c p))) ↔ FirstCause b c p
+  pub check_refuses : (c : CheckCause) (p : ℕ) → (check_answer (verdict b) ≡ refusal (of_table (table_cause c p))) ↔ FirstCause b c p
   unfolding check_answer
   check_refuses c p = (λ e. by (verdict b) refl e, λ x. ap check_answer (first_named b o c p x))
     where
-      by : (v : Verdict) → verdict b ≡ v → check_answer v ≡ refusal (of-table (table_cause c p)) → FirstCause b c p
+      by : (v : Verdict) → verdict b ≡ v → check_answer v ≡ refusal (of_table (table_cause c p)) → FirstCause b c p
       by Passed q e = done≢refusal e
       by (Refused d r) q e =
           let z : table_cause d r ≡ table_cause c p = cc in
@@ -113,11 +113,11 @@ module _ (b : List ℕ) (o : Octets b) where
 
   module _ (t : ℕ) (m buf : List ℕ) (o' : Octets m) where
     -- read, 1 to 6
-    pub read_refuses_table : (c : CheckCause) (p : ℕ) → (whole_read b t m buf ≡ refuse (of-table (table_cause c p)) buf) ↔ FirstCause b c p
+    pub read_refuses_table : (c : CheckCause) (p : ℕ) → (whole_read b t m buf ≡ refuse (of_table (table_cause c p)) buf) ↔ FirstCause b c p
     read_refuses_table c p = along (read_call b t m buf) (table_exactly b t buf (λ T. reading T t m buf) o (λ T. read_beyond T t m buf) c p)
 
     -- 7
-    pub read_refuses_type : (whole_read b t m buf ≡ refuse (of-table Unknown) buf) ↔ NoSuchType b t
+    pub read_refuses_type : (whole_read b t m buf ≡ refuse (of_table Unknown) buf) ↔ NoSuchType b t
     read_refuses_type = along (read_call b t m buf) (type_exactly b t buf (λ T. reading T t m buf) o (λ T. read_beyond T t m buf))
 
     -- 21
@@ -141,21 +141,21 @@ module _ (b : List ℕ) (o : Octets b) where
 
   module _ (t : ℕ) (v buf : List ℕ) (o' : Octets v) where
     -- write, 1 to 6
-    pub write_refuses_table : (c : CheckCause) (p : ℕ) → (whole_write b t v buf ≡ refuse (of-table (table_cause c p)) buf) ↔ FirstCause b c p
+    pub write_refuses_table : (c : CheckCause) (p : ℕ) → (whole_write b t v buf ≡ refuse (of_table (table_cause c p)) buf) ↔ FirstCause b c p
     write_refuses_table c p = along (write_call b t v buf) (table_exactly b t buf (λ T. writing T t v buf) o (λ T. write_beyond T t v buf) c p)
 
     -- 7
-    pub write_refuses_type : (whole_write b t v buf ≡ refuse (of-table Unknown) buf) ↔ NoSuchType b t
+    pub write_refuses_type : (whole_write b t v buf ≡ refuse (of_table Unknown) buf) ↔ NoSuchType b t
     write_refuses_type = along (write_call b t v buf) (type_exactly b t buf (λ T. writing T t v buf) o (λ T. write_beyond T t v buf))
 
     -- 11 to 13
-    pub write_refuses_value : (c : JudgingCause) (p : ℕ) → (whole_write b t v buf ≡ refuse (of-value (value_cause c p)) buf) ↔ OfType b t (λ T. ValueRefused T t v c p)
+    pub write_refuses_value : (c : JudgingCause) (p : ℕ) → (whole_write b t v buf ≡ refuse (of_value (value_cause c p)) buf) ↔ OfType b t (λ T. ValueRefused T t v c p)
     write_refuses_value c p =
-        write_later o t v buf (refuse (of-value (value_cause c p)) buf) (value_beyond (value_cause c p) buf) λ rs a. judged_exactly (table rs) t v buf o' c p
+        write_later o t v buf (refuse (of_value (value_cause c p)) buf) (value_beyond (value_cause c p) buf) λ rs a. judged_exactly (table rs) t v buf o' c p
 
     -- 14
-    pub write_refuses_room : (whole_write b t v buf ≡ refuse (of-value MessageRoom) buf) ↔ OfType b t (λ T. NoRoomForMessage T t v buf)
-    write_refuses_room = write_later o t v buf (refuse (of-value MessageRoom) buf) (value_beyond MessageRoom buf) λ rs a. full_exactly (table rs) t v buf o'
+    pub write_refuses_room : (whole_write b t v buf ≡ refuse (of_value MessageRoom) buf) ↔ OfType b t (λ T. NoRoomForMessage T t v buf)
+    write_refuses_room = write_later o t v buf (refuse (of_value MessageRoom) buf) (value_beyond MessageRoom buf) λ rs a. full_exactly (table rs) t v buf o'
 
     -- done
     pub write_is_done : (k : ℕ) (after : List ℕ) → (whole_write b t v buf ≡ record { answer = done k; buffer = after }) ↔ OfType b t (λ T. Wrote T t v buf k after)
@@ -163,21 +163,21 @@ module _ (b : List ℕ) (o : Octets b) where
 
 -- there are no other answers: a refusal of `check` is of the table, one of `read` of the table or the message, one of `write` of the table or the value
 
-pub check_answers : (b : List ℕ) → Answers of-table (check_answer (verdict b))
+pub check_answers : (b : List ℕ) → Answers of_table (check_answer (verdict b))
 unfolding check_answer
 check_answers b = by (verdict b)
   where
-    by : (v : Verdict) → Answers of-table (check_answer v)
+    by : (v : Verdict) → Answers of_table (check_answer v)
     by Passed = is_done 0
     by (Refused c p) = of_the_table (table_cause c p)
 
 pub read_answers : (b : List ℕ) (t : ℕ) (m buf : List ℕ) → Answers of_message (whole_read b t m buf).answer
 unfolding whole_read read_outcome
-read_answers b t m buf = call_answers b t buf (λ T. reading T t m buf) of_message (λ T. outcomes.read-answers T t m buf)
+read_answers b t m buf = call_answers b t buf (λ T. reading T t m buf) of_message (λ T. outcomes.read_answers T t m buf)
 
-pub write_answers : (b : List ℕ) (t : ℕ) (v buf : List ℕ) → Answers of-value (whole_write b t v buf).answer
+pub write_answers : (b : List ℕ) (t : ℕ) (v buf : List ℕ) → Answers of_value (whole_write b t v buf).answer
 unfolding whole_write write_outcome
-write_answers b t v buf = call_answers b t buf (λ T. writing T t v buf) of-value (λ T. outcomes.write-answers T t v buf)
+write_answers b t v buf = call_answers b t buf (λ T. writing T t v buf) of_value (λ T. outcomes.write_answers T t v buf)
 
 -- a refusal leaves the buffer as it was
 

@@ -6,7 +6,7 @@ use mathlib.Core.Path.{◌≡◌, refl, ap}
 use native.Mathlib.Omega.{arith}
 use Prim.Native.Nat.{ℕ, zero, suc, ◌+◌, ◌≤◌}
 use lib.ListN.{length, length-append}
-use Rattle.octets.specs.Permutations.{Sel, Sel.here, Sel.there, Perm, Perm.none as none-p, Perm.next, Each, nil, cons, Order, as_given, Arranged, permuted, kept}
+use Rattle.octets.specs.Permutations.{Sel, Sel.here, Sel.there, Perm, Perm.none as none_p, Perm.next, Each, nil, cons, Order, as_given, Arranged, permuted, kept}
 use Rattle.octets.proofs.Permutations.{Perm_sym, Perm_trans, each_flip, each_map, each_then, arranged_each, arranged_perm}
 use Rattle.coding.specs.Value.{Leaf, Value, leaf, sequence, set, sequence_of, set_of, choice, Slots, end, missing, present, slots, bag, presence, octets, slot_octets}
 use Rattle.coding.specs.Equivalent.{Slot, Alike, same_leaf, same_sequence, same_set, same_sequence_of, same_set_of, same_choice, EquivalentAt}
@@ -176,7 +176,7 @@ sel_size {x = x} (there {y = y} {l = l} {r = r} s) =
 
 perm_size : {l r : List Value} → Perm l r → length (slot_octets (bag l)) ≡ length (slot_octets (bag r))
 unfolding bag octets
-perm_size none-p = refl
+perm_size none_p = refl
 perm_size (next {x = x} {l' = l'} {r = r} s p) =
     let h = sel_size s in
     let k = perm_size p in

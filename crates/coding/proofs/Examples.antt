@@ -22,7 +22,7 @@ use Rattle.table.specs.Syntax.{references, is_choice, universal, constructed}
 use Rattle.table.specs.Octets.{kind, rising}
 use Rattle.table.specs.Rules.{body_below, tags_below, siblings, runs_on, members}
 use Rattle.table.specs.Reading.{tags_at, numbers_at, members_at, every_at, body_at, record_at, counted_end, enumerated_end, members_end, own_end, record_end, scan_from, scan, look}
-use Rattle.table.specs.Decide.{round, rounds, found, dangling, wrong_tags, reach_step, circular, same_tag, begins as tagBegins, first_step, first_of_both}
+use Rattle.table.specs.Decide.{round, rounds, found, dangling, wrong_tags, reach_step, circular, same_tag, begins as tag_begins, first_step, first_of_both}
 use Rattle.table.specs.Decide.{share, reached, pair, sharing, finite_body, finite_step, infinite}
 use Rattle.table.specs.Verdict.{judge_choices, judge, verdict}
 use Rattle.coding.specs.Value.{slots, bag, leaf_octets, count, presence, octets}
@@ -309,7 +309,7 @@ unfolding if then behind none_left any all joined tabulate lowest_from same lead
     integer_of spare minimal eight fewest unused masked two_digits year_digits later_digits time_digits spelled time_of is_time leap february month_days years is_date is_time_of_day in_range time_octets time_at read_following read_identifier fit read_long read_length at_end read_header inside read_constructed
     contents read_primitive segment_tag in_parts empty join in_form whole read_joined read_segment read_carried references is_choice universal constructed kind rising body_below tags_below siblings runs_on members tags_at numbers_at members_at every_at
     body_at record_at counted_end enumerated_end members_end own_end record_end scan_from scan look round rounds found dangling wrong_tags reach_step circular
-    same_tag tagBegins first_step first_of_both share reached pair sharing finite_body finite_step infinite judge_choices judge verdict slots bag leaf_octets count
+    same_tag tag_begins first_step first_of_both share reached pair sharing finite_body finite_step infinite judge_choices judge verdict slots bag leaf_octets count
     presence octets listed segmented identifier_of last before explicit_tags own_tag explicit allowed encode element alternatives form_members form_elements form_body
     wrap form_at need flags own_members own_count own_boolean own_integer own_string own_bits own_enumerated own_time own_choice read_own read_node leaf_kind node_kind
     numbers leaf_agrees agreeing counts agrees judge_members judge_elements judge_below judge_value judge_whole begins_body begins_item begins_in begins

@@ -27,7 +27,7 @@ use Rattle.coding.specs.Judging.{judge_whole}
 use Rattle.coding.specs.Reading.{read_message}
 use Rattle.coding.specs.Calls.{after_reading, read_outcome, after_judging}
 use Rattle.coding.specs.Outcome.{levels, longest_value, longest_message, TableCause, ValueCause, MessageRoom, value_cause, MessageCause, MessageLength, ValueRoom, message_cause}
-use Rattle.coding.specs.Outcome.{message_report, Refusal, of-table, of-value, of_message, Told, done, refusal, Outcome, refuse, write_at_start}
+use Rattle.coding.specs.Outcome.{message_report, Refusal, of_table, of_value, of_message, Told, done, refusal, Outcome, refuse, write_at_start}
 use Rattle.coding.specs.Demands.{Answers, is_done, of_the_stage, MessageRefused, NoRoomForValue, Read, ValueRefused, over_long, as_judged, NoRoomForMessage, Wrote, Received, Sent}
 use Rattle.coding.proofs.FirstTags.{Good}
 use Rattle.coding.proofs.Levels.{retype, deep}
@@ -55,7 +55,7 @@ one_too_many T m buf e = rw e refl
 
 -- the outcome is no refusal of the table or the type
 abbrev pub Beyond : Outcome → Type 0
-Beyond x = (c : TableCause) → x.answer ≡ refusal (of-table c) → ⊥
+Beyond x = (c : TableCause) → x.answer ≡ refusal (of_table c) → ⊥
 
 -- where an outcome refuses, the buffer is as it was
 abbrev pub Unchanged : List ℕ → Outcome → Type 0
@@ -64,14 +64,14 @@ Unchanged buf x = (r : Refusal) → x.answer ≡ refusal r → x.buffer ≡ buf
 -- the stage of an answer: done, of the table, of the value, of the message
 abbrev stage_of : Told → ℕ
 stage_of (done k) = 0
-stage_of (refusal (of-table c)) = 1
-stage_of (refusal (of-value c)) = 2
+stage_of (refusal (of_table c)) = 1
+stage_of (refusal (of_value c)) = 2
 stage_of (refusal (of_message c)) = 3
 
 pub message_beyond : (c : MessageCause) (buf : List ℕ) → Beyond (refuse (of_message c) buf)
 message_beyond c buf d e = let h : ◌≡◌ {A = ℕ} 3 1 = ap stage_of e in omega arith
 
-pub value_beyond : (c : ValueCause) (buf : List ℕ) → Beyond (refuse (of-value c) buf)
+pub value_beyond : (c : ValueCause) (buf : List ℕ) → Beyond (refuse (of_value c) buf)
 value_beyond c buf d e = let h : ◌≡◌ {A = ℕ} 2 1 = ap stage_of e in omega arith
 
 pub done_beyond : (k : ℕ) (after : List ℕ) → Beyond (record { answer = done k; buffer = after })
@@ -93,8 +93,8 @@ of_one_message {c} {d} e = let z : refusal (of_message c) ≡ refusal (of_messag
 abbrev numbered : MessageCause → ℕ
 numbered c = (message_report c).number
 
-of_one_value : {c d : ValueCause} {b w : List ℕ} → refuse (of-value c) b ≡ refuse (of-value d) w → c ≡ d
-of_one_value {c} {d} e = let z : refusal (of-value c) ≡ refusal (of-value d) = answers e in cc
+of_one_value : {c d : ValueCause} {b w : List ℕ} → refuse (of_value c) b ≡ refuse (of_value d) w → c ≡ d
+of_one_value {c} {d} e = let z : refusal (of_value c) ≡ refusal (of_value d) = answers e in cc
 
 same_length : {j k : ℕ} {b c : List ℕ} → ◌≡◌ {A = Outcome} (record { answer = done j; buffer = b }) (record { answer = done k; buffer = c }) → j ≡ k
 same_length e = let z : done _ ≡ done _ = ap (λ (o : Outcome). o.answer) e in cc
@@ -262,12 +262,12 @@ module _ (T : Table) (t : ℕ) (m buf : List ℕ) where
 -- Writing.
 
 abbrev pub writing : Table → ℕ → List ℕ → List ℕ → Outcome
-writing T t v buf = if (not (leb (length v) longest_value)) (refuse (of-value (value_cause ValueShape 0)) buf) λ _. after_judging (form_at T levels t) v buf (judge_whole T levels t v)
+writing T t v buf = if (not (leb (length v) longest_value)) (refuse (of_value (value_cause ValueShape 0)) buf) λ _. after_judging (form_at T levels t) v buf (judge_whole T levels t v)
 
 -- the stages of writing, each with its rule and its answer
 pub data WriteStage (T : Table) (t : ℕ) (v buf : List ℕ) (x : Outcome) : Type 0 where
-  refused_at : (c : JudgingCause) (p : ℕ) → ValueRefused T t v c p → x ≡ refuse (of-value (value_cause c p)) buf → WriteStage T t v buf x
-  no_room : NoRoomForMessage T t v buf → x ≡ refuse (of-value MessageRoom) buf → WriteStage T t v buf x
+  refused_at : (c : JudgingCause) (p : ℕ) → ValueRefused T t v c p → x ≡ refuse (of_value (value_cause c p)) buf → WriteStage T t v buf x
+  no_room : NoRoomForMessage T t v buf → x ≡ refuse (of_value MessageRoom) buf → WriteStage T t v buf x
   is_written : (k : ℕ) (after : List ℕ) → Wrote T t v buf k after → x ≡ record { answer = done k; buffer = after } → WriteStage T t v buf x
 
 form_permitted : (T : Table) (t : ℕ) (v : Value) → WellTypedAt T levels t v → length (form_at T levels t v) ≤ longest_message → Encodes T t v (form_at T levels t v)
@@ -323,16 +323,16 @@ module _ (T : Table) (t : ℕ) (v buf : List ℕ) where
   write_within : length v ≤ longest_value → (x : Answer JudgingCause Value) → judge_whole T levels t v ≡ x → writing T t v buf ≡ after_judging (form_at T levels t) v buf x
   write_within h x e = simp (run, le-leb (length v) longest_value h, e)
 
-  write_refuses : (c : JudgingCause) (p : ℕ) → ValueRefused T t v c p → writing T t v buf ≡ refuse (of-value (value_cause c p)) buf
+  write_refuses : (c : JudgingCause) (p : ℕ) → ValueRefused T t v c p → writing T t v buf ≡ refuse (of_value (value_cause c p)) buf
   unfolding after_judging
   write_refuses c p (over_long h q r) = rw (q, r) (simp (run, lt-leb (length v) longest_value h))
-  write_refuses c p (as_judged l h g e r) = write_within h (refused c l) e ∙ ap (λ (j : ℕ). refuse (of-value (value_cause c j)) buf) (sym r)
+  write_refuses c p (as_judged l h g e r) = write_within h (refused c l) e ∙ ap (λ (j : ℕ). refuse (of_value (value_cause c j)) buf) (sym r)
 
   -- 11 to 13
-  pub judged_exactly : Octets v → (c : JudgingCause) (p : ℕ) → (writing T t v buf ≡ refuse (of-value (value_cause c p)) buf) ↔ ValueRefused T t v c p
+  pub judged_exactly : Octets v → (c : JudgingCause) (p : ℕ) → (writing T t v buf ≡ refuse (of_value (value_cause c p)) buf) ↔ ValueRefused T t v c p
   judged_exactly o c p = (λ e. from (write_stage o) e, write_refuses c p)
     where
-      from : {x : Outcome} → WriteStage T t v buf x → x ≡ refuse (of-value (value_cause c p)) buf → ValueRefused T t v c p
+      from : {x : Outcome} → WriteStage T t v buf x → x ≡ refuse (of_value (value_cause c p)) buf → ValueRefused T t v c p
       from (WriteStage.refused-at d q x z) e = let s = same_value d c q p (of_one_value (sym z ∙ e)) in rw (← s.0, ← s.1) x
       from (WriteStage.no_room x z) e = absurd (not_message_room c p (sym (of_one_value (sym z ∙ e))))
       from (is_written j after x z) e = done≢refusal (answers (sym z ∙ e))
@@ -346,15 +346,15 @@ module _ (T : Table) (t : ℕ) (v buf : List ℕ) where
   pub write_beyond : Beyond (writing T t v buf)
   write_beyond = if_cases Beyond (not (leb (length v) longest_value)) _ _ (λ f. value_beyond _ buf) λ f. after_judged_beyond (judge_whole T levels t v)
 
-  after_judged_answers : (x : Answer JudgingCause Value) → Answers of-value (after_judging (form_at T levels t) v buf x).answer
+  after_judged_answers : (x : Answer JudgingCause Value) → Answers of_value (after_judging (form_at T levels t) v buf x).answer
   unfolding after_judging
   after_judged_answers (refused c l) = of_the_stage _
   after_judged_answers (got w r) =
-      if_cases (λ (x : Outcome). Answers of-value x.answer) (not (leb (length (form_at T levels t w)) (min longest_message (length buf)))) _ _ (λ f. of_the_stage MessageRoom) λ f. is_done _
+      if_cases (λ (x : Outcome). Answers of_value x.answer) (not (leb (length (form_at T levels t w)) (min longest_message (length buf)))) _ _ (λ f. of_the_stage MessageRoom) λ f. is_done _
 
-  pub write_answers : Answers of-value (writing T t v buf).answer
+  pub write_answers : Answers of_value (writing T t v buf).answer
   write_answers =
-      if_cases (λ (x : Outcome). Answers of-value x.answer) (not (leb (length v) longest_value)) _ _ (λ f. of_the_stage _) λ f. after_judged_answers (judge_whole T levels t v)
+      if_cases (λ (x : Outcome). Answers of_value x.answer) (not (leb (length v) longest_value)) _ _ (λ f. of_the_stage _) λ f. after_judged_answers (judge_whole T levels t v)
 
   after_judged_unchanged : (x : Answer JudgingCause Value) → Unchanged buf (after_judging (form_at T levels t) v buf x)
   unfolding after_judging
@@ -376,7 +376,7 @@ module _ (T : Table) (t : ℕ) (buf : List ℕ) (w : Value) (typed : WellTyped T
   unfolding after_judging
   write_fits k l = written ∙ simp (run, le-leb (length (form_at T levels t w)) (min longest_message (length buf)) (omega arith))
 
-  write_lacks : min longest_message (length buf) < length (form_at T levels t w) → writing T t (octets w) buf ≡ refuse (of-value MessageRoom) buf
+  write_lacks : min longest_message (length buf) < length (form_at T levels t w) → writing T t (octets w) buf ≡ refuse (of_value MessageRoom) buf
   unfolding after_judging
   write_lacks k = written ∙ simp (run, lt-leb (length (form_at T levels t w)) (min longest_message (length buf)) k)
 
@@ -386,15 +386,15 @@ module _ (T : Table) (t : ℕ) (buf : List ℕ) (w : Value) (typed : WellTyped T
 
 module _ (T : Table) (t : ℕ) (v buf : List ℕ) (o : Octets v) where
   -- 14
-  pub full_exactly : (writing T t v buf ≡ refuse (of-value MessageRoom) buf) ↔ NoRoomForMessage T t v buf
+  pub full_exactly : (writing T t v buf ≡ refuse (of_value MessageRoom) buf) ↔ NoRoomForMessage T t v buf
   full_exactly = (λ e. from (write_stage T t v buf o) e, to)
     where
-      from : {x : Outcome} → WriteStage T t v buf x → x ≡ refuse (of-value MessageRoom) buf → NoRoomForMessage T t v buf
+      from : {x : Outcome} → WriteStage T t v buf x → x ≡ refuse (of_value MessageRoom) buf → NoRoomForMessage T t v buf
       from (WriteStage.refused-at d q x z) e = absurd (not_message_room d q (of_one_value (sym z ∙ e)))
       from (WriteStage.no_room x z) e = x
       from (is_written j after x z) e = done≢refusal (answers (sym z ∙ e))
 
-      to : NoRoomForMessage T t v buf → writing T t v buf ≡ refuse (of-value MessageRoom) buf
+      to : NoRoomForMessage T t v buf → writing T t v buf ≡ refuse (of_value MessageRoom) buf
       to x =
           let s : length (octets x.value) ≤ longest_value = rw (← x.is) x.short in
           ap (λ (l : List ℕ). writing T t l buf) x.is ∙ write_lacks T t buf x.value x.typed x.deep x.shaped s x.over

@@ -31,7 +31,7 @@ use Rattle.coding.specs.declared.Given.TheVariants.{Time, Refused as Wrong}
 use Rattle.coding.specs.Value.{time_number, boolean, integer, bits, string, null, enumerated, time, leaf_octets}
 use Rattle.coding.specs.Judging.{Node, a_leaf, a_sequence, a_set, a_sequence_of, a_set_of, a_choice, need, read_own, read_node, leaf_kind, node_kind}
 use Rattle.coding.specs.Judging.{flags, own_members, own_count, own_time, own_choice}
-use Rattle.coding.specs.Outcome.{longest_value, value_cause, Refusal, of-value}
+use Rattle.coding.specs.Outcome.{longest_value, value_cause, Refusal, of_value}
 use Rattle.coding.specs.Shaped.{LeafShaped}
 use Rattle.coding.specs.declared.Reckoned.{Reckoned}
 use Rattle.coding.specs.declared.Reckoned.TheVariants.{Is, Refused}
@@ -50,13 +50,13 @@ abbrev utc : List ℕ
 utc = 0x56 ∷ 0x41 ∷ 23 ∷ 0 ∷ 0 ∷ 1 ∷ 1 ∷ 0 ∷ 0 ∷ 0 ∷ []
 
 abbrev eleven : Reckoned
-eleven = Refused (of-value (value_cause ValueShape 0))
+eleven = Refused (of_value (value_cause ValueShape 0))
 
 abbrev twelve : Reckoned
-twelve = Refused (of-value (value_cause IllTyped 0))
+twelve = Refused (of_value (value_cause IllTyped 0))
 
 -- the order of two, and the seconds from the first to the second; 11 before 12, and the first before the second
-pub reckonings-right :
+pub reckonings_right :
     (whole_order january march ≡ Is (negsuc 0))
     × (whole_order january january ≡ Is (pos 0))
     × (whole_order march january ≡ Is (pos 1))
@@ -74,7 +74,7 @@ pub reckonings-right :
     × (whole_order (0x56 ∷ 0x41 ∷ 50 ∷ 0 ∷ january) march ≡ eleven)
 unfolding if then none_left any all leap february month_days years is_date is_time_of_day in_range time_at sum year_days day_number seconds_of elapsed ordered fields order
     need flags own_members own_count own_time own_choice read_own read_node childless is_whole is_lone given reckoned_by
-reckonings-right = (refl, refl, refl, refl, refl, refl, refl, refl, refl, refl, refl, refl, refl, refl)
+reckonings_right = (refl, refl, refl, refl, refl, refl, refl, refl, refl, refl, refl, refl, refl, refl)
 
 time_number_lem : (k : TimeKind) → (22 < time_number k) × (time_number k < 25)
 time_number_lem Utc = (omega arith, omega arith)
@@ -215,12 +215,12 @@ given_time k s l n = rw (l, n) (simp get_or-drop)
 
 -- the steps by which it answers
 module _ (f : DateTime → DateTime → ℤ) (s t : List ℕ) {x : Given} (e : x ≡ given Generalized s) where
-  pub first_refused : {c : JudgingCause} → x ≡ Wrong c → {r : Reckoned} → r ≡ Refused (of-value (value_cause c 0)) → r ≡ reckoned_by f (given Generalized s) (given Generalized t)
+  pub first_refused : {c : JudgingCause} → x ≡ Wrong c → {r : Reckoned} → r ≡ Refused (of_value (value_cause c 0)) → r ≡ reckoned_by f (given Generalized s) (given Generalized t)
   unfolding reckoned_by
   first_refused q h = rw (← e, q) h
 
   module _ {a : DateTime} (q : x ≡ Time a) {y : Given} (g : y ≡ given Generalized t) where
-    pub second_refused : {c : JudgingCause} → y ≡ Wrong c → {r : Reckoned} → r ≡ Refused (of-value (value_cause c 0)) → r ≡ reckoned_by f (given Generalized s) (given Generalized t)
+    pub second_refused : {c : JudgingCause} → y ≡ Wrong c → {r : Reckoned} → r ≡ Refused (of_value (value_cause c 0)) → r ≡ reckoned_by f (given Generalized s) (given Generalized t)
     unfolding reckoned_by
     second_refused k h = rw (← e, q, ← g, k) h
 
@@ -243,13 +243,13 @@ given_fault k s =
 
 -- A refusal is 11 or 12, and its place is 0.
 pub reckoning_refuses : (f : DateTime → DateTime → ℤ) (s t : List ℕ) (r : Refusal) → reckoned_by f (given Generalized s) (given Generalized t) ≡ Refused r
-    → (r ≡ of-value (value_cause ValueShape 0)) ⊎ (r ≡ of-value (value_cause IllTyped 0))
+    → (r ≡ of_value (value_cause ValueShape 0)) ⊎ (r ≡ of_value (value_cause IllTyped 0))
 unfolding reckoned_by
 reckoning_refuses f s t r = told (given_fault Generalized s) (given_fault Generalized t)
   where
-    told : {x y : Given} → Fault s x → Fault t y → reckoned_by f x y ≡ Refused r → (r ≡ of-value (value_cause ValueShape 0)) ⊎ (r ≡ of-value (value_cause IllTyped 0))
+    told : {x y : Given} → Fault s x → Fault t y → reckoned_by f x y ≡ Refused r → (r ≡ of_value (value_cause ValueShape 0)) ⊎ (r ≡ of_value (value_cause IllTyped 0))
     told (none_wrong l) (none_wrong m) h = absurd (false≢true (sym (ap counted h)))
-    told (none_wrong l) (shape m) h = inl (let i : Refused (of-value (value_cause ValueShape 0)) ≡ Refused r = h in cc)
-    told (none_wrong l) (type m) h = inr (let i : Refused (of-value (value_cause IllTyped 0)) ≡ Refused r = h in cc)
-    told (shape l) y h = inl (let i : Refused (of-value (value_cause ValueShape 0)) ≡ Refused r = h in cc)
-    told (type l) y h = inr (let i : Refused (of-value (value_cause IllTyped 0)) ≡ Refused r = h in cc)
+    told (none_wrong l) (shape m) h = inl (let i : Refused (of_value (value_cause ValueShape 0)) ≡ Refused r = h in cc)
+    told (none_wrong l) (type m) h = inr (let i : Refused (of_value (value_cause IllTyped 0)) ≡ Refused r = h in cc)
+    told (shape l) y h = inl (let i : Refused (of_value (value_cause ValueShape 0)) ≡ Refused r = h in cc)
+    told (type l) y h = inr (let i : Refused (of_value (value_cause IllTyped 0)) ≡ Refused r = h in cc)

@@ -15,7 +15,7 @@ use Rattle.octets.specs.Answer.{Answer, got, refused, then, if, behind}
 use Rattle.octets.specs.Permutations.{AllOctets, Order, as_given}
 use Rattle.octets.proofs.Answer.{Holds, yields, refuses, if_holds, then_holds, map_holds, behind_holds, got_holds, then_alike, Taken}
 use Rattle.octets.proofs.Permutations.{every_right}
-use Rattle.x690.specs.Reading.{read_following, read_identifier, Size, definite, indefinite, fit, read_long, read_length, Mode, closed, open-ended, at_end}
+use Rattle.x690.specs.Reading.{read_following, read_identifier, Size, definite, indefinite, fit, read_long, read_length, Mode, closed, open_ended, at_end}
 use Rattle.x690.specs.Reading.{read_header, inside, read_constructed, contents, read_primitive}
 use Rattle.x690.specs.Length.{short, long}
 use Rattle.x690.specs.Item.{Definite, sized, Constructed, in_size, in_marks}
@@ -182,7 +182,7 @@ inside_says body f (definite n) w h =
     let e : length (take n w) ≡ n = length-take-le n w k in
     let q : length (take n w) + (length w - n) ≡ length w = omega arith in
     then_says (wider (behind_says (length w - n) (f closed (take n w))) (omega arith)) λ v r g. answers
-inside_says body f indefinite w h = f open-ended w
+inside_says body f indefinite w h = f open_ended w
 
 constructed_says : {A : Type 0} (i : List ℕ) (body : Mode → List ℕ → Answer ReadingCause A) → ((mode : Mode) (s : List ℕ) → Within (length s) (body mode s))
     → (s : List ℕ) → Within (length s) (read_constructed i body s)
@@ -220,7 +220,7 @@ end_says : {A : Type 0} (n : ℕ) (mode : Mode) (s : List ℕ) {f : List ℕ →
     → ((r : List ℕ) → Within n (f r)) → ((u : Unit {0}) → Within n (x u)) → Within n (at_end mode s f x)
 unfolding at_end
 end_says n closed s h f x = if_says _ (λ e. f []) λ e. x
-end_says n open-ended s h f x =
+end_says n open_ended s h f x =
     if_says _ (λ e. names {l = 0} (omega arith)) λ e _.
     if_says _ (λ e. x tt) λ e _.
     if_says _ (λ e. names h) λ e _.
@@ -236,7 +236,7 @@ inside_back body f (definite n) w h =
     let d = length-drop n w in
     let k = h n refl in
     then_holds (behind_holds _ (f closed (take n w))) λ g r x. yields (omega arith)
-inside_back body f indefinite w h = f open-ended w
+inside_back body f indefinite w h = f open_ended w
 
 constructed_back : (i : List ℕ) (body : Mode → List ℕ → Answer ReadingCause Gathered) → ((mode : Mode) (s : List ℕ) → Holds (λ g u. length u + g.1 ≤ length s) (body mode s))
     → (s : List ℕ) → Holds (λ g u. length u + g.1 ≤ length s) (read_constructed i body s)

@@ -10,7 +10,7 @@ use Prim.Native.Nat.{ℕ, zero, suc, ◌≤◌, ◌<◌}
 use lib.Dec.{leb, ltb, eqb}
 use lib.ListN.{length, length-append}
 use Rattle.octets.specs.Lists.{joined}
-use Rattle.octets.specs.Permutations.{Perm, Sel, Sel.here, Sel.there, Perm.none as none-p, Perm.next, Each, nil, cons, Every, every_nil, every_cons, AllOctets, Order}
+use Rattle.octets.specs.Permutations.{Perm, Sel, Sel.here, Sel.there, Perm.none as none_p, Perm.next, Each, nil, cons, Every, every_nil, every_cons, AllOctets, Order}
 use Rattle.octets.proofs.Tests.{test, and_right}
 use Rattle.octets.proofs.Members.{any_some}
 use Rattle.octets.proofs.Permutations.{Perm_sym, every_perm, joined_octets, arranged_perm}
@@ -57,7 +57,7 @@ sel_length here = refl
 sel_length (there s) = ap suc (sel_length s)
 
 perm_length : {A : Type 0} {l r : List A} → Perm l r → length l ≡ length r
-perm_length none-p = refl
+perm_length none_p = refl
 perm_length (next s p) = sel_length s ∙ ap suc (perm_length p)
 
 each_length : {A B : Type 0} {R : A → B → Type 0} {l : List A} {r : List B} → Each R l r → length l ≡ length r

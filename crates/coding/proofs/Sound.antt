@@ -12,7 +12,7 @@ use lib.Seq.{append_snoc}
 use Rattle.x690.specs.declared.ReadingCause.{ReadingCause}
 use Rattle.octets.specs.Answer.{Answer}
 use Rattle.octets.specs.Lists.{joined}
-use Rattle.octets.specs.Permutations.{Sel, Sel.here, Sel.there, Perm, Perm.none as none-p, Perm.next, Each, nil, cons, Order, as_given}
+use Rattle.octets.specs.Permutations.{Sel, Sel.here, Sel.there, Perm, Perm.none as none_p, Perm.next, Each, nil, cons, Order, as_given}
 use Rattle.octets.proofs.Answer.{Holds, yields, refuses, if_holds, then_holds, map_holds, Taken}
 use Rattle.octets.proofs.Permutations.{flat, joined_flat, arranged_refl}
 use Rattle.octets.proofs.Tests.{and_right}
@@ -185,7 +185,7 @@ module _ (o : Order) (T : Table) (E : Coding) (r : ℕ → List ℕ → Answer R
   set_sound zero ms os mode s = refuses
   set_sound (suc k) ms os mode s =
       at_end_holds mode s
-      (λ u h. if_holds _ (λ a. yields (record { tail = s; body = record { pieces = []; cut = refl; has = ([], all_there ms os a, none-p, a) }; ends = h })) (λ a _. refuses))
+      (λ u h. if_holds _ (λ a. yields (record { tail = s; body = record { pieces = []; cut = refl; has = ([], all_there ms os a, none_p, a) }; ends = h })) (λ a _. refuses))
       (λ _. if_holds _ (λ e. refuses) λ e _.
       then_holds (place_sound ms os s) λ us s₁ x.
       map_holds (set_sound k ms us mode s₁) λ fin s₂ y.

@@ -21,25 +21,25 @@ use Rattle.table.specs.declared.Verdict.{Verdict}
 use Rattle.table.specs.declared.Verdict.TheVariants.{Passed, Refused}
 use Rattle.table.specs.declared.CheckCause.{CheckCause}
 use Rattle.table.proofs.Theorems.{records_found, named_first, first_named, passed_none, none_passed, passed_records}
-use Rattle.coding.specs.Outcome.{TableCause, Unknown, table_cause, Refusal, of-table, refusal, Outcome, refuse}
+use Rattle.coding.specs.Outcome.{TableCause, Unknown, table_cause, Refusal, of_table, refusal, Outcome, refuse}
 use Rattle.coding.specs.Calls.{after_check}
 use Rattle.coding.specs.Demands.{Answers, of_the_table, Accepted, NoSuchType, OfType}
 use Rattle.coding.proofs.Causes.{same_table, not_unknown}
 use Rattle.coding.proofs.Outcomes.{Beyond, Unchanged}
 
-of_one_table : {c d : TableCause} {b w : List ℕ} → refuse (of-table c) b ≡ refuse (of-table d) w → c ≡ d
-of_one_table {c} {d} e = let z : refusal (of-table c) ≡ refusal (of-table d) = ap (λ (o : Outcome). o.answer) e in cc
+of_one_table : {c d : TableCause} {b w : List ℕ} → refuse (of_table c) b ≡ refuse (of_table d) w → c ≡ d
+of_one_table {c} {d} e = let z : refusal (of_table c) ≡ refusal (of_table d) = ap (λ (o : Outcome). o.answer) e in cc
 
 -- g is what a call does with the records by number, once it has found the type among them
 module _ (b : List ℕ) (t : ℕ) (buf : List ℕ) (g : Table → Outcome) where
   abbrev pub step : Table → ℕ → Outcome
-  step T n = if (not (ltb t n)) (refuse (of-table Unknown) buf) λ _. g T
+  step T n = if (not (ltb t n)) (refuse (of_table Unknown) buf) λ _. g T
 
   abbrev pub call : Outcome
   call = after_check b buf step (verdict b)
 
   module _ (o : Octets b) where
-    call_refused : (c : CheckCause) (p : ℕ) → FirstCause b c p → call ≡ refuse (of-table (table_cause c p)) buf
+    call_refused : (c : CheckCause) (p : ℕ) → FirstCause b c p → call ≡ refuse (of_table (table_cause c p)) buf
     unfolding after_check
     call_refused c p x = ap (after_check b buf step) (first_named b o c p x)
 
@@ -49,7 +49,7 @@ module _ (b : List ℕ) (t : ℕ) (buf : List ℕ) (g : Table → Outcome) where
         let f = records_found o a.spells in
         ap (after_check b buf step) (none_passed b o a.no_cause) ∙ rw (f.2, f.1)
 
-    call_unknown : {rs : List Record} → Accepted b rs → length rs ≤ t → call ≡ refuse (of-table Unknown) buf
+    call_unknown : {rs : List Record} → Accepted b rs → length rs ≤ t → call ≡ refuse (of_table Unknown) buf
     call_unknown {rs} a h = call_accepted a ∙ simp (run, le-ltb t (length rs) h)
 
     pub call_found : {rs : List Record} → Accepted b rs → t < length rs → call ≡ g (table rs)
@@ -84,19 +84,19 @@ module _ (b : List ℕ) (t : ℕ) (buf : List ℕ) (g : Table → Outcome) where
 
     module _ (far : (T : Table) → Beyond (g T)) where
       -- 1 to 6
-      pub table_exactly : (c : CheckCause) (p : ℕ) → (call ≡ refuse (of-table (table_cause c p)) buf) ↔ FirstCause b c p
+      pub table_exactly : (c : CheckCause) (p : ℕ) → (call ≡ refuse (of_table (table_cause c p)) buf) ↔ FirstCause b c p
       table_exactly c p = (λ e. from stage e, call_refused c p)
         where
-          from : Stage → call ≡ refuse (of-table (table_cause c p)) buf → FirstCause b c p
+          from : Stage → call ≡ refuse (of_table (table_cause c p)) buf → FirstCause b c p
           from (at_table d q f) e = let s = same_table d c q p (of_one_table (sym (call_refused d q f) ∙ e)) in rw (← s.0, ← s.1) f
           from (at_type f) e = absurd (not_unknown c p (sym (of_one_table (sym (call_unknown f.accepted f.beyond) ∙ e))))
           from (at_records rs a h) e = absurd (far (table rs) (table_cause c p) (ap (λ (o : Outcome). o.answer) (sym (call_found a h) ∙ e)))
 
       -- 7
-      pub type_exactly : (call ≡ refuse (of-table Unknown) buf) ↔ NoSuchType b t
+      pub type_exactly : (call ≡ refuse (of_table Unknown) buf) ↔ NoSuchType b t
       type_exactly = (λ e. from stage e, λ x. call_unknown x.accepted x.beyond)
         where
-          from : Stage → call ≡ refuse (of-table Unknown) buf → NoSuchType b t
+          from : Stage → call ≡ refuse (of_table Unknown) buf → NoSuchType b t
           from (at_table d q f) e = absurd (not_unknown d q (of_one_table (sym (call_refused d q f) ∙ e)))
           from (at_type f) e = f
           from (at_records rs a h) e = absurd (far (table rs) Unknown (ap (λ (o : Outcome). o.answer) (sym (call_found a h) ∙ e)))

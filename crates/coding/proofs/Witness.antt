@@ -23,12 +23,12 @@ use Rattle.x690.specs.Item.{sized, in_size, in_marks, item}
 use Rattle.x690.specs.Integer.{negative, pile, integer_of, spare, minimal, eight, fewest}
 use Rattle.x690.specs.BitString.{unused, masked}
 use Rattle.x690.specs.Reading.{read_following, read_identifier, fit, read_long, read_length, at_end, read_header, inside, read_constructed, contents, read_primitive}
-use Rattle.x690.specs.Segments.{octet_string, segment_tag, in_parts, in_form, last as last-segment, primitive, SegmentIn, in_whole, in_segments, read_carried}
+use Rattle.x690.specs.Segments.{octet_string, segment_tag, in_parts, in_form, last as last_segment, primitive, SegmentIn, in_whole, in_segments, read_carried}
 use Rattle.table.specs.Syntax.{Tag, Boolean, Integer, OctetString, Plain, Set, SetOf, Record, table, references, is_choice, universal, constructed}
 use Rattle.table.specs.Octets.{Spells, kind, tag_octets, member_octets, own_octets, record_octets, rising, body_shaped, record_shaped}
 use Rattle.table.specs.Rules.{body_below, tags_below, siblings, runs_on, members}
 use Rattle.table.specs.Reading.{tags_at, numbers_at, members_at, every_at, body_at, record_at, counted_end, enumerated_end, members_end, own_end, record_end, scan_from, scan, look}
-use Rattle.table.specs.Decide.{round, rounds, found, dangling, wrong_tags, reach_step, circular, same_tag, begins as firstBegins, first_step, first_of_both}
+use Rattle.table.specs.Decide.{round, rounds, found, dangling, wrong_tags, reach_step, circular, same_tag, begins as first_begins, first_step, first_of_both}
 use Rattle.table.specs.Decide.{share, reached, pair, sharing, finite_body, finite_step, infinite}
 use Rattle.table.specs.Cause.{FirstCause}
 use Rattle.table.specs.Verdict.{judge_choices, judge, verdict}
@@ -52,7 +52,7 @@ use Rattle.coding.specs.Reading.{is_listed, decode, passes, begun, not_awaited, 
 use Rattle.coding.specs.Reading.{read_set, read_many, choose, read_body, read_kind, read_value, read_message}
 use Rattle.coding.specs.declared.JudgingCause.TheVariants.{ValueShape}
 use Rattle.coding.specs.Outcome.{levels, longest_message, Unknown, table_cause, MessageRoom, value_cause, MessageLength, ValueRoom, message_cause}
-use Rattle.coding.specs.Outcome.{done as done-with, refusal, of-table, of-value, of_message, Outcome, refuse}
+use Rattle.coding.specs.Outcome.{done as done_with, refusal, of_table, of_value, of_message, Outcome, refuse}
 use Rattle.coding.specs.Calls.{after_reading, read_outcome, after_judging, write_outcome, after_check, whole_read, whole_write, check_answer}
 use Rattle.coding.specs.Demands.{Answers, Accepted, NoSuchType, OfType, MessageRefused, NoRoomForValue, Read, ValueRefused, NoRoomForMessage, Wrote, Received, Sent}
 use Rattle.coding.proofs.Equivalence.{equivalent_length}
@@ -110,7 +110,7 @@ list_table = octets_by N refl
 passed : (verdict S ≡ Passed) × (verdict O ≡ Passed) × (verdict N ≡ Passed)
 unfolding any all joined tabulate lowest_from references is_choice universal rising body_below tags_below siblings runs_on tags_at numbers_at members_at every_at body_at
     record_at counted_end enumerated_end members_end own_end record_end scan_from scan look round rounds found dangling wrong_tags reach_step circular same_tag
-    firstBegins first_step first_of_both share reached pair sharing finite_body finite_step infinite judge_choices judge verdict
+    first_begins first_step first_of_both share reached pair sharing finite_body finite_step infinite judge_choices judge verdict
 passed = (refl, refl, refl)
 
 spelled : Spells S records × Spells O one × Spells N two
@@ -191,33 +191,33 @@ abbrev form : List ℕ
 form = 0x31 ∷ 6 ∷ 0x80 ∷ 1 ∷ 5 ∷ 1 ∷ 1 ∷ 0xFF ∷ []
 
 abbrev after_reading_lem : Outcome
-after_reading_lem = record { answer = done-with 21; buffer = value_octets ++ room 3 }
+after_reading_lem = record { answer = done_with 21; buffer = value_octets ++ room 3 }
 
 abbrev after_one : Outcome
-after_one = record { answer = done-with 16; buffer = 0x56 ∷ 0x41 ∷ 0x31 ∷ 0 ∷ 1 ∷ 0x56 ∷ 0x41 ∷ 2 ∷ 0 ∷ 0 ∷ 0 ∷ 0 ∷ 0 ∷ 0 ∷ 0 ∷ 5 ∷ [] }
+after_one = record { answer = done_with 16; buffer = 0x56 ∷ 0x41 ∷ 0x31 ∷ 0 ∷ 1 ∷ 0x56 ∷ 0x41 ∷ 2 ∷ 0 ∷ 0 ∷ 0 ∷ 0 ∷ 0 ∷ 0 ∷ 0 ∷ 5 ∷ [] }
 
 abbrev after_writing : Outcome
-after_writing = record { answer = done-with 8; buffer = form ++ room 1 }
+after_writing = record { answer = done_with 8; buffer = form ++ room 1 }
 
 outcomes :
-    (check_answer (verdict []) ≡ refusal (of-table (table_cause TableShape 0)))
-    × (whole_read [] 2 message [] ≡ refuse (of-table (table_cause TableShape 0)) [])
-    × (whole_read S 3 message [] ≡ refuse (of-table Unknown) [])
+    (check_answer (verdict []) ≡ refusal (of_table (table_cause TableShape 0)))
+    × (whole_read [] 2 message [] ≡ refuse (of_table (table_cause TableShape 0)) [])
+    × (whole_read S 3 message [] ≡ refuse (of_table Unknown) [])
     × (whole_read S 2 (room 8193) [] ≡ refuse (of_message (MessageLength 0)) [])
     × (whole_read S 2 (0x31 ∷ 0x80 ∷ []) [] ≡ refuse (of_message (message_cause Cut 2)) [])
     × (whole_read S 2 message (room 3) ≡ refuse (of_message ValueRoom) (room 3))
     × (whole_read S 2 message (room 24) ≡ after_reading_lem)
-    × (whole_write [] 2 value_octets [] ≡ refuse (of-table (table_cause TableShape 0)) [])
-    × (whole_write S 3 value_octets [] ≡ refuse (of-table Unknown) [])
-    × (whole_write S 2 [] [] ≡ refuse (of-value (value_cause ValueShape 0)) [])
-    × (whole_write S 2 value_octets (room 7) ≡ refuse (of-value MessageRoom) (room 7))
+    × (whole_write [] 2 value_octets [] ≡ refuse (of_table (table_cause TableShape 0)) [])
+    × (whole_write S 3 value_octets [] ≡ refuse (of_table Unknown) [])
+    × (whole_write S 2 [] [] ≡ refuse (of_value (value_cause ValueShape 0)) [])
+    × (whole_write S 2 value_octets (room 7) ≡ refuse (of_value MessageRoom) (room 7))
     × (whole_write S 2 value_octets (room 9) ≡ after_writing)
     × (whole_read N 1 (of_one ++ of_two) (room 16) ≡ refuse (of_message (message_cause Trailing 7)) (room 16))
     × (whole_read N 1 of_one (room 16) ≡ after_one)
-    × ((whole_read N 1 of_two (room 27)).answer ≡ done-with 27)
+    × ((whole_read N 1 of_two (room 27)).answer ≡ done_with 27)
 unfolding if then behind none_left any all joined tabulate lowest_from same references is_choice universal constructed kind members rising body_below
     tags_below siblings runs_on tags_at numbers_at members_at every_at body_at record_at counted_end enumerated_end members_end own_end record_end scan_from scan look round
-    rounds found dangling wrong_tags reach_step circular same_tag firstBegins first_step first_of_both share reached pair sharing finite_body finite_step infinite
+    rounds found dangling wrong_tags reach_step circular same_tag first_begins first_step first_of_both share reached pair sharing finite_body finite_step infinite
     judge_choices judge verdict leading following identifier unsigned digits length_octets item negative pile integer_of spare minimal eight fewest unused
     masked read_following read_identifier fit read_long read_length at_end read_header inside read_constructed contents read_primitive read_carried slots bag leaf_octets
     count presence octets listed segmented identifier_of last before explicit_tags own_tag explicit allowed encode element alternatives form_members form_elements
@@ -246,8 +246,8 @@ module _ where
   unfolding all
   none_octets = octets_by [] refl
 
-pub checked : (FirstCause [] TableShape 0) × (check_answer (verdict S) ≡ done-with 0)
-checked = ((page.check-refuses [] none_octets TableShape 0).0 outcomes.0, (page.check-passes S table_octets).1 accepted.no_cause)
+pub checked : (FirstCause [] TableShape 0) × (check_answer (verdict S) ≡ done_with 0)
+checked = ((page.check_refuses [] none_octets TableShape 0).0 outcomes.0, (page.check_passes S table_octets).1 accepted.no_cause)
 
 pub reading :
     FirstCause [] TableShape 0
@@ -257,12 +257,12 @@ pub reading :
     × OfType S 2 (λ T. NoRoomForValue T 2 message (room 3))
     × OfType S 2 (λ T. Read T 2 message (room 24) 21 (value_octets ++ room 3))
 reading = (
-  (page.read-refuses-table [] none_octets 2 message [] message_octets TableShape 0).0 outcomes.1,
-  (page.read-refuses-type S table_octets 3 message [] message_octets).0 outcomes.2,
-  (page.read-refuses-length S table_octets 2 (room 8193) [] read_octets 0).0 outcomes.3,
-  (page.read-refuses-message S table_octets 2 (0x31 ∷ 0x80 ∷ []) [] cut_octets Cut 2).0 outcomes.4,
-  (page.read-refuses-room S table_octets 2 message (room 3) message_octets).0 outcomes.5,
-  (page.read-is-done S table_octets 2 message (room 24) message_octets 21 (value_octets ++ room 3)).0 outcomes.6,
+  (page.read_refuses_table [] none_octets 2 message [] message_octets TableShape 0).0 outcomes.1,
+  (page.read_refuses_type S table_octets 3 message [] message_octets).0 outcomes.2,
+  (page.read_refuses_length S table_octets 2 (room 8193) [] read_octets 0).0 outcomes.3,
+  (page.read_refuses_message S table_octets 2 (0x31 ∷ 0x80 ∷ []) [] cut_octets Cut 2).0 outcomes.4,
+  (page.read_refuses_room S table_octets 2 message (room 3) message_octets).0 outcomes.5,
+  (page.read_is_done S table_octets 2 message (room 24) message_octets 21 (value_octets ++ room 3)).0 outcomes.6,
 )
 
 pub writing :
@@ -272,24 +272,24 @@ pub writing :
     × OfType S 2 (λ T. NoRoomForMessage T 2 value_octets (room 7))
     × OfType S 2 (λ T. Wrote T 2 value_octets (room 9) 8 (form ++ room 1))
 writing = (
-  (page.write-refuses-table [] none_octets 2 value_octets [] value_octets_lem TableShape 0).0 outcomes.7,
-  (page.write-refuses-type S table_octets 3 value_octets [] value_octets_lem).0 outcomes.8,
-  (page.write-refuses-value S table_octets 2 [] [] none_octets ValueShape 0).0 outcomes.9,
-  (page.write-refuses-room S table_octets 2 value_octets (room 7) value_octets_lem).0 outcomes.10,
-  (page.write-is-done S table_octets 2 value_octets (room 9) value_octets_lem 8 (form ++ room 1)).0 outcomes.11,
+  (page.write_refuses_table [] none_octets 2 value_octets [] value_octets_lem TableShape 0).0 outcomes.7,
+  (page.write_refuses_type S table_octets 3 value_octets [] value_octets_lem).0 outcomes.8,
+  (page.write_refuses_value S table_octets 2 [] [] none_octets ValueShape 0).0 outcomes.9,
+  (page.write_refuses_room S table_octets 2 value_octets (room 7) value_octets_lem).0 outcomes.10,
+  (page.write_is_done S table_octets 2 value_octets (room 9) value_octets_lem 8 (form ++ room 1)).0 outcomes.11,
 )
 
-pub answered : Answers of-table (check_answer (verdict S)) × Answers of_message (whole_read S 2 message (room 3)).answer × Answers of-value (whole_write S 2 value_octets (room 7)).answer
-answered = (page.check-answers S, page.read-answers S 2 message (room 3), page.write-answers S 2 value_octets (room 7))
+pub answered : Answers of_table (check_answer (verdict S)) × Answers of_message (whole_read S 2 message (room 3)).answer × Answers of_value (whole_write S 2 value_octets (room 7)).answer
+answered = (page.check_answers S, page.read_answers S 2 message (room 3), page.write_answers S 2 value_octets (room 7))
 
 pub left : ((whole_read S 2 message (room 3)).buffer ≡ room 3) × ((whole_write S 2 value_octets (room 7)).buffer ≡ room 7)
 left = (
-  page.read-leaves S 2 message (room 3) (of_message ValueRoom) (ap (λ (x : Outcome). x.answer) outcomes.5),
-  page.write-leaves S 2 value_octets (room 7) (of-value MessageRoom) (ap (λ (x : Outcome). x.answer) outcomes.10),
+  page.read_leaves S 2 message (room 3) (of_message ValueRoom) (ap (λ (x : Outcome). x.answer) outcomes.5),
+  page.write_leaves S 2 value_octets (room 7) (of_value MessageRoom) (ap (λ (x : Outcome). x.answer) outcomes.10),
 )
 
 pub is_read : Read (table records) 2 message (room 24) 21 (value_octets ++ room 3)
-is_read = (page.reads-exactly S table_octets records accepted 2 (omega arith) message (room 24) message_octets 21 (value_octets ++ room 3)).0 outcomes.6
+is_read = (page.reads_exactly S table_octets records accepted 2 (omega arith) message (room 24) message_octets 21 (value_octets ++ room 3)).0 outcomes.6
 
 pub exactly :
     Read (table records) 2 message (room 24) 21 (value_octets ++ room 3)
@@ -297,8 +297,8 @@ pub exactly :
     × Shaped is_read.value
     × (judge_whole (table records) levels 2 (octets is_read.value) ≡ got is_read.value [])
 exactly =
-    let x = page.what-was-read-is-a-value S table_octets records accepted 2 (omega arith) message (room 24) message_octets 21 (value_octets ++ room 3) is_read in
-    (is_read, (page.writes-exactly S table_octets records accepted 2 (omega arith) value_octets (room 9) value_octets_lem 8 (form ++ room 1)).0 outcomes.11, x.0, x.1)
+    let x = page.what_was_read_is_a_value S table_octets records accepted 2 (omega arith) message (room 24) message_octets 21 (value_octets ++ room 3) is_read in
+    (is_read, (page.writes_exactly S table_octets records accepted 2 (omega arith) value_octets (room 9) value_octets_lem 8 (form ++ room 1)).0 outcomes.11, x.0, x.1)
 
 low : depth value ≤ levels
 unfolding slots depth
@@ -309,10 +309,10 @@ unfolding slots octets leaf_octets count presence eight
 small = omega arith
 
 pub arrives : Received (table records) 2 value message (room 24) (whole_read S 2 message (room 24))
-arrives = page.what-was-sent-arrives S table_octets records accepted 2 (omega arith) value message (room 24) low (omega (arith, small)) message_octets permitted (omega arith) small
+arrives = page.what_was_sent_arrives S table_octets records accepted 2 (omega arith) value message (room 24) low (omega (arith, small)) message_octets permitted (omega arith) small
 
 pub sends : Sent (table records) 2 value (room 9) (whole_write S 2 (octets value) (room 9))
-sends = page.what-is-sent-is-permitted S table_octets records accepted 2 (omega arith) value (room 9) typed low shaped (omega (arith, small))
+sends = page.what_is_sent_is_permitted S table_octets records accepted 2 (omega arith) value (room 9) typed low shaped (omega (arith, small))
 
 -- the same value in two messages, and a string in two: whole, and in one segment of indefinite length
 
@@ -349,13 +349,13 @@ parted_permitted : Encodes (table one) 0 (leaf (string (0xAA ∷ []))) parted
 unfolding EncodesAt table explicit explicit_tags before own_tag identifier_of identifier leading last constructed if segmented segment_tag in_parts in_form SegmentIn
 parted_permitted = record {
   level = 1;
-  encodes = bare (is_plain (0xAA ∷ []) c_string (in_segments {k = octet_string} (last-segment {c = 0xAA ∷ []} {p = whole} (primitive refl (sized (1 ∷ []) (short (omega arith) refl) refl))) (in_marks refl)));
+  encodes = bare (is_plain (0xAA ∷ []) c_string (in_segments {k = octet_string} (last_segment {c = 0xAA ∷ []} {p = whole} (primitive refl (sized (1 ∷ []) (short (omega arith) refl) refl))) (in_marks refl)));
 }
 
 pub however_sent : (whole_read S 2 message (room 24) ≡ whole_read S 2 in_order (room 24)) × (whole_read O 0 whole (room 9) ≡ whole_read O 0 parted (room 9))
 however_sent = (
-  page.however-it-is-sent S table_octets records accepted 2 (omega arith) value message in_order (room 24) low message_arrives in_order_arrives (omega arith) (omega arith),
-  page.however-a-string-is-sent O string_table one string_accepted 0 (omega arith) (string (0xAA ∷ [])) whole parted (room 9) whole_permitted parted_permitted (omega arith) (omega arith),
+  page.however_it_is_sent S table_octets records accepted 2 (omega arith) value message in_order (room 24) low message_arrives in_order_arrives (omega arith) (omega arith),
+  page.however_a_string_is_sent O string_table one string_accepted 0 (omega arith) (string (0xAA ∷ [])) whole parted (room 9) whole_permitted parted_permitted (omega arith) (omega arith),
 )
 
 -- a line of two messages; the values of the first and the second are not equivalent, and another value shares the second one
@@ -406,17 +406,17 @@ apart e = let h = equivalent_length any_order e.level alone both e.equivalent in
 
 pub shared : Equivalent both turned × ((m : List ℕ) → Encodes (table two) 1 alone m → Encodes (table two) 1 both m → ⊥)
 shared =
-    let share = page.what-shares-an-encoding-is-equivalent N list_table two list_accepted 1 (omega arith) in
+    let share = page.what_shares_an_encoding_is_equivalent N list_table two list_accepted 1 (omega arith) in
     (share both turned of_two both_permitted turned_permitted, λ m e f. apart (share alone both m e f))
 
 pub begins_none : (x : List ℕ) → Encodes (table two) 1 both (of_one ++ x) → x ≡ []
-begins_none x = page.no-encoding-begins-another N list_table two list_accepted 1 (omega arith) alone both of_one x alone_permitted
+begins_none x = page.no_encoding_begins_another N list_table two list_accepted 1 (omega arith) alone both of_one x alone_permitted
 
 -- however their fifteen octets are cut
 pub cut_one_way : (ws : List Value) (ns : List (List ℕ)) → Each (Encodes (table two) 1) ws ns → joined (of_one ∷ of_two ∷ []) ≡ joined ns
     → ((of_one ∷ of_two ∷ []) ≡ ns) × Each Equivalent (alone ∷ both ∷ []) ws
 cut_one_way ws ns =
-    page.a-line-is-cut-in-one-way N list_table two list_accepted 1 (omega arith) (alone ∷ both ∷ []) ws (of_one ∷ of_two ∷ []) ns (cons alone_permitted (cons both_permitted nil))
+    page.a_line_is_cut_in_one_way N list_table two list_accepted 1 (omega arith) (alone ∷ both ∷ []) ws (of_one ∷ of_two ∷ []) ns (cons alone_permitted (cons both_permitted nil))
 
 pub cut_alike : Each Equivalent (alone ∷ both ∷ []) (alone ∷ turned ∷ [])
 cut_alike = (cut_one_way (alone ∷ turned ∷ []) (of_one ∷ of_two ∷ []) (cons alone_permitted (cons turned_permitted nil)) refl).1
@@ -431,6 +431,6 @@ one_octets = octets_by of_one refl
 
 pub cut_found : (whole_read N 1 (of_one ++ of_two) (room 16) ≡ refuse (of_message (message_cause Trailing 7)) (room 16)) × (of_one ≡ take 7 (of_one ++ of_two))
 cut_found = (
-  page.the-cut-is-found N list_table two list_accepted 1 (omega arith) alone of_one of_two (room 16) low_set alone_permitted (omega arith) (omega arith),
-  page.no-other-cut-is-found N list_table two list_accepted 1 (omega arith) alone (take 7 (of_one ++ of_two)) of_two of_one of_two (room 16) alone_permitted refl one_octets 16 after_one.buffer outcomes.13,
+  page.the_cut_is_found N list_table two list_accepted 1 (omega arith) alone of_one of_two (room 16) low_set alone_permitted (omega arith) (omega arith),
+  page.no_other_cut_is_found N list_table two list_accepted 1 (omega arith) alone (take 7 (of_one ++ of_two)) of_two of_one of_two (room 16) alone_permitted refl one_octets 16 after_one.buffer outcomes.13,
 )

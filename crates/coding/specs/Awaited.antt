@@ -3,7 +3,7 @@
 use Rattle.std.specs.Prelude.{Bool, true, false, ◌&&◌, ◌||◌, List, [], ◌∷◌, map, ℕ, zero, suc, ◌<◌}
 use Rattle.std.proofs.Math.Option.{Option, some, none}
 use Rattle.octets.specs.Lists.{any, same}
-use Rattle.x690.specs.Reading.{Mode, closed, open-ended}
+use Rattle.x690.specs.Reading.{Mode, closed, open_ended}
 use Rattle.x690.specs.Segments.{in_either, in_parts}
 use Rattle.table.specs.Syntax.{Body, Plain, Sequence, Set, SequenceOf, SetOf, Choice, Table, Member}
 use Rattle.coding.specs.Content.{segmented}
@@ -65,4 +65,4 @@ pub data Slotted : List Member → List (Option Value) → Type 0 where
 -- the contents go on: an octet is left, and in an indefinite item it is not 00
 pub data GoesOn : Mode → List ℕ → Type 0 where
   an_octet : {b : ℕ} {s : List ℕ} → GoesOn closed (b ∷ s)
-  no_end : {b : ℕ} {s : List ℕ} → 0 < b → GoesOn open-ended (b ∷ s)
+  no_end : {b : ℕ} {s : List ℕ} → 0 < b → GoesOn open_ended (b ∷ s)

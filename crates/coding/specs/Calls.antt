@@ -15,7 +15,7 @@ use Rattle.coding.specs.Form.{form_at}
 use Rattle.coding.specs.Reading.{read_message}
 use Rattle.coding.specs.Judging.{judge_whole}
 use Rattle.coding.specs.Outcome.{levels, longest_value, longest_message, Unknown, table_cause, MessageRoom, value_cause, MessageLength, ValueRoom, message_cause}
-use Rattle.coding.specs.Outcome.{of-table, of-value, of_message, Told, done, refusal, Outcome, refuse, write_at_start}
+use Rattle.coding.specs.Outcome.{of_table, of_value, of_message, Told, done, refusal, Outcome, refuse, write_at_start}
 
 -- 27 only for a message that is accepted; the place of a refusal counts from the start of the message m
 unfoldable pub after_reading : List ℕ → List ℕ → Answer ReadingCause Value → Outcome
@@ -27,28 +27,28 @@ after_reading m buf (refused c l) = refuse (of_message (message_cause c (length 
 -- read: 7, 21, then from the left, then 27
 unfoldable pub read_outcome : Table → ℕ → ℕ → List ℕ → List ℕ → Outcome
 read_outcome T n t m buf =
-    if (not (ltb t n)) (refuse (of-table Unknown) buf) λ _.
+    if (not (ltb t n)) (refuse (of_table Unknown) buf) λ _.
     if (not (leb (length m) longest_message)) (refuse (of_message (MessageLength 0)) buf) λ _.
     after_reading m buf (read_message T levels t m)
 
 -- 14 only for a value that is accepted; f is the form of the values
 unfoldable pub after_judging : (Value → List ℕ) → List ℕ → List ℕ → Answer JudgingCause Value → Outcome
 after_judging f b buf (got v r) =
-    if (not (leb (length (f v)) (min longest_message (length buf)))) (refuse (of-value MessageRoom) buf) λ _.
+    if (not (leb (length (f v)) (min longest_message (length buf)))) (refuse (of_value MessageRoom) buf) λ _.
     write_at_start (f v) buf
-after_judging f b buf (refused c l) = refuse (of-value (value_cause c (length b - l))) buf
+after_judging f b buf (refused c l) = refuse (of_value (value_cause c (length b - l))) buf
 
 -- write: 7; 11 at 0 for over_long octets, with no look at a node; then from the left; then 14
 unfoldable pub write_outcome : Table → ℕ → ℕ → List ℕ → List ℕ → Outcome
 write_outcome T n t b buf =
-    if (not (ltb t n)) (refuse (of-table Unknown) buf) λ _.
-    if (not (leb (length b) longest_value)) (refuse (of-value (value_cause ValueShape 0)) buf) λ _.
+    if (not (ltb t n)) (refuse (of_table Unknown) buf) λ _.
+    if (not (leb (length b) longest_value)) (refuse (of_value (value_cause ValueShape 0)) buf) λ _.
     after_judging (form_at T levels t) b buf (judge_whole T levels t b)
 
 -- 1 to 6 first, in every call; x is what follows for the records by number and their count
 unfoldable pub after_check : List ℕ → List ℕ → (Table → ℕ → Outcome) → Verdict → Outcome
 after_check b buf x Passed = x (look b (scan b).offsets) (length (scan b).offsets)
-after_check b buf x (Refused c p) = refuse (of-table (table_cause c p)) buf
+after_check b buf x (Refused c p) = refuse (of_table (table_cause c p)) buf
 
 -- write: the octets b of a table, a type, the octets v of a value, a buffer
 unfoldable pub whole_write : List ℕ → ℕ → List ℕ → List ℕ → Outcome
@@ -61,4 +61,4 @@ whole_read b t m buf = after_check b buf (λ T n. read_outcome T n t m buf) (ver
 -- check: nothing is written
 unfoldable pub check_answer : Verdict → Told
 check_answer Passed = done 0
-check_answer (Refused c p) = refusal (of-table (table_cause c p))
+check_answer (Refused c p) = refusal (of_table (table_cause c p))

@@ -7,7 +7,7 @@ use Rattle.dates.specs.declared.DateTime.{DateTime}
 use Rattle.dates.specs.declared.TimeKind.{TimeKind}
 use Rattle.dates.specs.declared.TimeKind.TheVariants.{Utc, Generalized}
 use Rattle.dates.specs.Century.{is_version, first_year, in_window, to_utc, to_generalized, Shortens}
-use Rattle.coding.specs.Outcome.{Unknown, value_cause, ValueRoom, Refusal, of-table, of-value, of_message, Outcome, refuse, write_at_start}
+use Rattle.coding.specs.Outcome.{Unknown, value_cause, ValueRoom, Refusal, of_table, of_value, of_message, Outcome, refuse, write_at_start}
 use Rattle.coding.specs.Reckoning.{is_lone, given, time_node, Stands}
 use Rattle.coding.specs.declared.Given.{Given}
 use Rattle.coding.specs.declared.Given.TheVariants.{Time, Refused as Wrong}
@@ -27,7 +27,7 @@ converted f k (Time t) = counterpart f k t
 
 -- the node of a time in the buffer, if that has room for its ten octets (27)
 unfoldable pub placed : TimeKind → List ℕ → Given → Outcome
-placed k buf (Wrong c) = refuse (of-value (value_cause c 0)) buf
+placed k buf (Wrong c) = refuse (of_value (value_cause c 0)) buf
 placed k buf (Time t) =
     if (not (leb 10 (length buf))) (refuse (of_message ValueRoom) buf) λ _.
     write_at_start (time_node k t) buf
@@ -35,7 +35,7 @@ placed k buf (Time t) =
 -- a time of kind k becomes one of the other: by a link version v (7), the octets s of its node, a buffer
 unfoldable pub whole_conversion : TimeKind → ℕ → List ℕ → List ℕ → Outcome
 whole_conversion k v s buf =
-    if (not (is_version v)) (refuse (of-table Unknown) buf) λ _.
+    if (not (is_version v)) (refuse (of_table Unknown) buf) λ _.
     placed (other_kind k) buf (converted (first_year v) k (given k s))
 
 abbrev pub whole_to_generalized : ℕ → List ℕ → List ℕ → Outcome
@@ -65,7 +65,7 @@ pub record Converts (k : TimeKind) (v : ℕ) (s buf : List ℕ) (x : Outcome) : 
 
 -- it is refused: 7, 11, 12, 27, in this order, and the place is 0
 pub data Refuses (k : TimeKind) (v : ℕ) (s buf : List ℕ) : Refusal → Type 0 where
-  no_version : is_version v ≡ false → Refuses k v s buf (of-table Unknown)
-  no_node : is_version v ≡ true → is_lone s ≡ false → Refuses k v s buf (of-value (value_cause ValueShape 0))
-  no_time : is_version v ≡ true → is_lone s ≡ true → ((from to : DateTime) → Counterparts k v s from to → ⊥) → Refuses k v s buf (of-value (value_cause IllTyped 0))
+  no_version : is_version v ≡ false → Refuses k v s buf (of_table Unknown)
+  no_node : is_version v ≡ true → is_lone s ≡ false → Refuses k v s buf (of_value (value_cause ValueShape 0))
+  no_time : is_version v ≡ true → is_lone s ≡ true → ((from to : DateTime) → Counterparts k v s from to → ⊥) → Refuses k v s buf (of_value (value_cause IllTyped 0))
   no_room : is_version v ≡ true → {from to : DateTime} → Counterparts k v s from to → length buf < 10 → Refuses k v s buf (of_message ValueRoom)

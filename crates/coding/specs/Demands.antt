@@ -18,12 +18,12 @@ use Rattle.coding.specs.Equivalent.{Equivalent}
 use Rattle.coding.specs.Form.{form_at}
 use Rattle.coding.specs.Judging.{judge_whole}
 use Rattle.coding.specs.Reading.{read_message}
-use Rattle.coding.specs.Outcome.{levels, longest_value, longest_message, TableCause, MessageRoom, Refusal, of-table, of-value, Told, done, refusal, Outcome, refuse, write_at_start}
+use Rattle.coding.specs.Outcome.{levels, longest_value, longest_message, TableCause, MessageRoom, Refusal, of_table, of_value, Told, done, refusal, Outcome, refuse, write_at_start}
 
 -- The answers of a call: done, a refusal of the table, or one of the call's own stage.
 pub data Answers {C : Type 0} (stage : C → Refusal) : Told → Type 0 where
   is_done : (k : ℕ) → Answers stage (done k)
-  of_the_table : (c : TableCause) → Answers stage (refusal (of-table c))
+  of_the_table : (c : TableCause) → Answers stage (refusal (of_table c))
   of_the_stage : (c : C) → Answers stage (refusal (stage c))
 
 -- A table that is not refused: b are the octets of the records rs, and none of the causes 1 to 6 holds of b.
@@ -121,5 +121,5 @@ pub record Received (T : Table) (t : ℕ) (v : Value) (m buf : List ℕ) (x : Ou
 -- length it tells, is that form, and one of the permitted encodings.
 pub record Sent (T : Table) (t : ℕ) (v : Value) (buf : List ℕ) (x : Outcome) : Type 0 where
   pub when_it_fits : length (form_at T levels t v) ≤ longest_message → length (form_at T levels t v) ≤ length buf → x ≡ write_at_start (form_at T levels t v) buf
-  pub else_14 : min longest_message (length buf) < length (form_at T levels t v) → x ≡ refuse (of-value MessageRoom) buf
+  pub else_14 : min longest_message (length buf) < length (form_at T levels t v) → x ≡ refuse (of_value MessageRoom) buf
   pub encodes : length (form_at T levels t v) ≤ longest_message → Encodes T t v (form_at T levels t v)

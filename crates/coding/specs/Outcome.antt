@@ -13,7 +13,7 @@ pub use Rattle.coding.specs.declared.ValueCause.TheVariants.{MessageRoom}
 pub use Rattle.coding.specs.declared.MessageCause.{MessageCause}
 pub use Rattle.coding.specs.declared.MessageCause.TheVariants.{MessageLength, ValueRoom}
 pub use Rattle.coding.specs.declared.Refusal.{Refusal}
-pub use Rattle.coding.specs.declared.Refusal.TheVariants.{Table as of-table, Value as of-value, Message as of_message}
+pub use Rattle.coding.specs.declared.Refusal.TheVariants.{Table as of_table, Value as of_value, Message as of_message}
 pub use Rattle.coding.specs.declared.Answer.{Answer as Told}
 pub use Rattle.coding.specs.declared.Answer.TheVariants.{Done as done, Refused as refusal}
 
@@ -81,8 +81,8 @@ message_report (MessageCause.MessageLevel p) = report 28 p
 message_report (MessageCause.LengthField p) = report 29 p
 
 abbrev pub report_of : Refusal → Report
-report_of (of-table c) = table_report c
-report_of (of-value c) = value_report c
+report_of (of_table c) = table_report c
+report_of (of_value c) = value_report c
 report_of (of_message c) = message_report c
 
 abbrev pub number_of : Refusal → ℕ

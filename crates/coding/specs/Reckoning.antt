@@ -14,7 +14,7 @@ use Rattle.dates.specs.Own.{time_at}
 use Rattle.dates.specs.Seconds.{order, elapsed}
 use Rattle.coding.specs.Value.{time_number, time, leaf_octets}
 use Rattle.coding.specs.Judging.{Node, a_leaf, a_sequence, a_set, a_sequence_of, a_set_of, a_choice, read_node}
-use Rattle.coding.specs.Outcome.{longest_value, value_cause, of-value}
+use Rattle.coding.specs.Outcome.{longest_value, value_cause, of_value}
 use Rattle.coding.specs.declared.Given.{Given}
 use Rattle.coding.specs.declared.Given.TheVariants.{Time, Refused as Wrong}
 use Rattle.coding.specs.declared.Reckoned.{Reckoned}
@@ -46,8 +46,8 @@ given k s =
 
 -- f of two that are given; the first is judged wholly before the second, and the place is 0
 unfoldable pub reckoned_by : (DateTime → DateTime → ℤ) → Given → Given → Reckoned
-reckoned_by f (Wrong c) y = Refused (of-value (value_cause c 0))
-reckoned_by f (Time a) (Wrong c) = Refused (of-value (value_cause c 0))
+reckoned_by f (Wrong c) y = Refused (of_value (value_cause c 0))
+reckoned_by f (Time a) (Wrong c) = Refused (of_value (value_cause c 0))
 reckoned_by f (Time a) (Time b) = Is (f a b)
 
 abbrev pub whole_order : List ℕ → List ℕ → Reckoned

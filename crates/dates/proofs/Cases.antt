@@ -21,7 +21,7 @@ unfolding leap
 leap_cases = (refl, refl, refl, refl, refl, refl)
 
 -- what is a time of its kind, and what is none
-pub range-cases :
+pub range_cases :
     (in_range Generalized (time 0 1 1 0 0 0) ≡ true)
     × (in_range Generalized (time 9999 12 31 23 59 59) ≡ true)
     × (in_range Generalized (time 10000 1 1 0 0 0) ≡ false)
@@ -43,10 +43,10 @@ pub range-cases :
     × (in_range Generalized (time 2026 1 1 0 60 0) ≡ false)
     × (in_range Generalized (time 2016 12 31 23 59 60) ≡ false)
 unfolding leap february month_days years is_date is_time_of_day in_range
-range-cases = (refl, refl, refl, refl, refl, refl, refl, refl, refl, refl, refl, refl, refl, refl, refl, refl, refl)
+range_cases = (refl, refl, refl, refl, refl, refl, refl, refl, refl, refl, refl, refl, refl, refl, refl, refl, refl)
 
 -- days, seconds, order
-pub second-cases :
+pub second_cases :
     (day_number (time 0 1 1 0 0 0) ≡ 0)
     × (day_number (time 0 3 1 0 0 0) ≡ 60)
     × (day_number (time 5 1 1 0 0 0) ≡ 1827)
@@ -59,17 +59,17 @@ pub second-cases :
     × (tomorrow (time 2000 2 29 5 6 7) ≡ time 2000 3 1 5 6 7)
     × (tomorrow (time 1999 12 31 5 6 7) ≡ time 2000 1 1 5 6 7)
 unfolding leap february month_days sum year_days day_number seconds_of elapsed ordered fields order tomorrow
-second-cases = (refl, refl, refl, refl, refl, refl, refl, refl, refl, refl, refl)
+second_cases = (refl, refl, refl, refl, refl, refl, refl, refl, refl, refl, refl)
 
 -- the octets of a node
-pub octet-cases :
+pub octet_cases :
     (time_octets (time 2026 11 16 17 50 3) ≡ 0x07 ∷ 0xEA ∷ 11 ∷ 16 ∷ 17 ∷ 50 ∷ 3 ∷ [])
     × (time_at (0x56 ∷ 0x07 ∷ 0xEA ∷ 11 ∷ 16 ∷ 17 ∷ 50 ∷ 3 ∷ []) 1 ≡ time 2026 11 16 17 50 3)
 unfolding time_octets time_at
-octet-cases = (refl, refl)
+octet_cases = (refl, refl)
 
 -- link versions, their windows, and times of both kinds by them
-pub century-cases :
+pub century_cases :
     (is_version 0 ≡ false)
     × (is_version 1 ≡ true)
     × (is_version 2 ≡ true)
@@ -89,4 +89,4 @@ pub century-cases :
     × (to_generalized (first_year 2) (time 0 2 29 3 4 5) ≡ time 2000 2 29 3 4 5)
     × (to_utc (time 1996 2 29 3 4 5) ≡ time 96 2 29 3 4 5)
 unfolding is_version first_year in_window in_year to_utc window_year to_generalized
-century-cases = (refl, refl, refl, refl, refl, refl, refl, refl, refl, refl, refl, refl, refl, refl, refl, refl, refl, refl)
+century_cases = (refl, refl, refl, refl, refl, refl, refl, refl, refl, refl, refl, refl, refl, refl, refl, refl, refl, refl)

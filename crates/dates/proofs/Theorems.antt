@@ -31,7 +31,7 @@ two_digit_leap y h =
 
 -- A leap year has 366 days, any other 365.
 pub year_days_lem : (y : ℕ) → year_days y ≡ if (leap y) 366 λ _. 365
-year_days_lem = days.year-days
+year_days_lem = days.year_days_lem
 
 -- 400 years have 146,097 days, wherever they begin.
 pub days_of_400_years : (y : ℕ) → sum year_days (y + 400) ≡ sum year_days y + 146097

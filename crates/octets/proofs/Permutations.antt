@@ -24,14 +24,15 @@ module _ {A : Type 0} where
       let (d, t', p') = perm_sel p t in
       let (e, u, w) = sel_swap s t' in
       (e, u, next w p')
+  perm_sel none s = elim s [ ]
 
   pub Perm_trans : {a b c : List A} → Perm a b → Perm b c → Perm a c
   Perm_trans p none = p
-  Perm_trans p (next s q) = let (d, s', p') = perm_sel p s in next s' (Perm_trans p' q)
+  Perm_trans p (next s q) = let (d, s', p') = perm_sel p s in next s' (Perm_trans {a = d} p' q)
 
   perm_insert : {x : A} {a b c : List A} → Sel x b c → Perm a c → Perm (x ∷ a) b
   perm_insert here p = next here p
-  perm_insert (there s) (next t p) = next (there t) (perm_insert s p)
+  perm_insert (there s) (next {l' = l'} t p) = next (there t) (perm_insert {a = l'} s p)
 
   pub Perm_sym : {a b : List A} → Perm a b → Perm b a
   Perm_sym none = none
@@ -68,13 +69,14 @@ module _ {A B : Type 0} where
   sel_each (cons {a = a} h t) (there s) =
       let (x, l', s', h', t') = sel_each t s in
       (x, a ∷ l', there s', h', cons h t')
+  sel_each nil s = elim s [ ]
 
   -- an order of the one list gives the same order of the other
   pub perm_each : {R : A → B → Type 0} {l : List A} {r r' : List B} → Each R l r → Perm r r' → (l' : List A) × Perm l l' × Each R l' r'
   perm_each nil none = ([], none, nil)
   perm_each t (next s p) =
       let (x, l₁, s', h, t₁) = sel_each t s in
-      let (l₂, p₂, t₂) = perm_each t₁ p in
+      let (l₂, p₂, t₂) = perm_each {l = l₁} t₁ p in
       (x ∷ l₂, next s' p₂, cons h t₂)
 
 module _ {A B : Type 0} {R : A → B → Type 0} where

@@ -10,7 +10,7 @@ use Rattle.x690.specs.declared.ReadingCause.{ReadingCause}
 use Rattle.x690.specs.declared.ReadingCause.TheVariants.{Trailing}
 use Rattle.octets.specs.Answer.{Answer, got, refused, then, behind}
 use Rattle.octets.proofs.Answer.{refused≢got, got_value, got_rest}
-use Rattle.x690.specs.Reading.{Mode, open-ended, closed, at_end}
+use Rattle.x690.specs.Reading.{Mode, open_ended, closed, at_end}
 use Rattle.reader.specs.Answers.{cap, told}
 use Rattle.reader.specs.Wraps.{ended, shut, closing, Around}
 use Rattle.reader.proofs.Items.{Ending, over, broken, more, ending}
@@ -33,7 +33,7 @@ module _ {A B : Type 0} (a : A) (b : B) where
   shut_alike : (m : List ℕ) (outer inner : ℕ) (k : Bool) (x : Answer ReadingCause A) (y : Answer ReadingCause B) → Alike a b x y
       → Alike a b (shut m outer inner k x) (shut m outer inner k y)
   unfolding shut then behind
-  shut_alike m outer inner true x y h = ended_alike open-ended x y h
+  shut_alike m outer inner true x y h = ended_alike open_ended x y h
   shut_alike m outer inner false x y h = go (ended_alike closed x y h)
     where
       go : Alike a b (ended closed x) (ended closed y)

@@ -16,14 +16,14 @@ use Rattle.x690.specs.declared.ReadingCause.TheVariants.{Cut, Forbidden, NotAwai
 use Rattle.octets.specs.Answer.{Answer, got, refused, then, if, none_left}
 use Rattle.octets.proofs.Answer.{Holds}
 use Rattle.octets.proofs.Tests.{test}
-use Rattle.x690.specs.Reading.{read_identifier, Mode, closed, open-ended, at_end}
+use Rattle.x690.specs.Reading.{read_identifier, Mode, closed, open_ended, at_end}
 use Rattle.table.specs.Syntax.{Member, Table}
 use Rattle.coding.specs.Value.{Value}
 use Rattle.coding.specs.Reading.{passes, begun, not_awaited}
 use Rattle.coding.specs.Awaited.{begins}
 use Rattle.coding.proofs.FirstTags.{Good, Proper, proper_begun}
 use Rattle.coding.proofs.Complete.{never}
-use Rattle.reader.specs.Items.{Holder, Manner, in-turn, each-once, repeated, single, manner, parts_of, Placed, pending, up_to_mandatory, within}
+use Rattle.reader.specs.Items.{Holder, Manner, in_turn_lem, each_once, repeated, single, manner, parts_of, Placed, pending, up_to_mandatory, within}
 use Rattle.reader.specs.Items.{left, awaits, remains, lacks, following, noted, is_single, first, Hand, read_part, next, read_items}
 
 -- lists
@@ -90,11 +90,11 @@ pub ending : (mode : Mode) (s : List ℕ) → Ending mode s
 unfolding at_end if none_left
 ending closed [] = over [] refl (λ A f x. refl)
 ending closed (b ∷ s) = more (λ A f x. refl)
-ending open-ended [] = broken Cut 0 refl (λ A f x. refl)
-ending open-ended (zero ∷ []) = broken Cut 1 refl (λ A f x. refl)
-ending open-ended (zero ∷ zero ∷ s) = over s refl (λ A f x. refl)
-ending open-ended (zero ∷ suc b ∷ s) = broken Forbidden (suc (suc (length s))) refl (λ A f x. rw (ne_eqb (suc b) 0 (λ e. omega arith)) refl)
-ending open-ended (suc b ∷ s) = more (λ A f x. rw (ne_eqb (suc b) 0 (λ e. omega arith)) refl)
+ending open_ended [] = broken Cut 0 refl (λ A f x. refl)
+ending open_ended (zero ∷ []) = broken Cut 1 refl (λ A f x. refl)
+ending open_ended (zero ∷ zero ∷ s) = over s refl (λ A f x. refl)
+ending open_ended (zero ∷ suc b ∷ s) = broken Forbidden (suc (suc (length s))) refl (λ A f x. rw (ne_eqb (suc b) 0 (λ e. omega arith)) refl)
+ending open_ended (suc b ∷ s) = more (λ A f x. rw (ne_eqb (suc b) 0 (λ e. omega arith)) refl)
 
 -- no item begins with 00
 no_zero : Proper (0 ∷ []) → ⊥
@@ -193,8 +193,8 @@ upto_first f (x ∷ l) P n p =
 
 within_first : (w : Manner) (f : Placed → Bool) (l : List Placed) (P : Option Placed → Type 0) → P none → P (first f l) → P (first f (within w l))
 unfolding within
-within_first in-turn f l P n p = upto_first f l P n p
-within_first each-once f l P n p = p
+within_first in_turn_lem f l P n p = upto_first f l P n p
+within_first each_once f l P n p = p
 within_first repeated f l P n p = p
 within_first single f l P n p = p
 

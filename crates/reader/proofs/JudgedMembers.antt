@@ -34,7 +34,7 @@ use Rattle.coding.specs.Reading.{begun, not_awaited, read_value}
 use Rattle.coding.proofs.Refusals.{value_shorter}
 use Rattle.coding.proofs.Sound.{value_sound}
 use Rattle.reader.specs.Answers.{cap, told, size}
-use Rattle.reader.specs.Items.{Holder, inside, message, Manner, in-turn, each-once, repeated, single, manner, parts_of, Placed}
+use Rattle.reader.specs.Items.{Holder, inside, message, Manner, in_turn_lem, each_once, repeated, single, manner, parts_of, Placed}
 use Rattle.reader.specs.Items.{up_to_mandatory, within, left, some_of, remains, lacks, since, following, noted, is_single, first, next}
 use Rattle.reader.specs.Items.{node_size, blank, read_held}
 use Rattle.reader.specs.Placing.{kind_of, onward, node_of}
@@ -98,15 +98,15 @@ notes_are (message t) came place last (inr x) = x.1
 
 noted_length : (v : Manner) (came : List ℕ) (p : ℕ) → length (noted v came p) ≡ length came
 unfolding noted
-noted_length in-turn came p = refl
-noted_length each-once came p = length-set came p 1
+noted_length in_turn_lem came p = refl
+noted_length each_once came p = length-set came p 1
 noted_length repeated came p = refl
 noted_length single came p = refl
 
-noted_clear : (v : Manner) (came : List ℕ) (p : ℕ) → (v ≡ each-once → ⊥) → noted v came p ≡ came
+noted_clear : (v : Manner) (came : List ℕ) (p : ℕ) → (v ≡ each_once → ⊥) → noted v came p ≡ came
 unfolding noted
-noted_clear in-turn came p n = refl
-noted_clear each-once came p n = absurd (n refl)
+noted_clear in_turn_lem came p n = refl
+noted_clear each_once came p n = absurd (n refl)
 noted_clear repeated came p n = refl
 noted_clear single came p n = refl
 
@@ -168,7 +168,7 @@ module _ (h : Holder) (i : ℕ) (came : List ℕ) where
 pub record Judging (b : List ℕ) (w : ℕ) (m : List ℕ) (indefinite : Bool) (level : ℕ) (came : List ℕ) (total at j : ℕ) : Type 0 where
   pub one : is_single (manner (held b w)) ≡ true → at < length m
   pub noted : length came ≡ 16
-  pub clear : (manner (held b w) ≡ each-once → ⊥) → (p : ℕ) → get_or came p 0 ≡ 0
+  pub clear : (manner (held b w) ≡ each_once → ⊥) → (p : ℕ) → get_or came p 0 ≡ 0
   pub going : Going (read_held (table_in b) (read_value (table_in b) level) (held b w) (mode indefinite) m) (table_in b) (read_value (table_in b) level) (held b w)
       (mode indefinite) m at (since (manner (held b w)) j) came total
 
@@ -193,8 +193,8 @@ within_some v f (y ∷ l) x e = refl
 within_some v f [] x e = absurd (none-ne-some x (sym (none_within v) ∙ e))
   where
     none_within : (v : Manner) → first f (within v []) ≡ none
-    none_within in-turn = refl
-    none_within each-once = refl
+    none_within in_turn_lem = refl
+    none_within each_once = refl
     none_within repeated = refl
     none_within single = refl
 
@@ -265,10 +265,10 @@ module _ (Q : Setting) where
     -- before the first item
     pub judging_first : (m : List ℕ) (indefinite : Bool) (level : ℕ) → (is_single (manner (H Q)) ≡ true → 0 < length m)
         → Judging Q.b Q.w m indefinite level blank n 0 0
-    judging_first m indefinite level one-item =
+    judging_first m indefinite level one_item =
         let q : n ≡ cap (node_size (H Q)) = omega (arith, node_total, node_few) in
         record {
-          one = one-item;
+          one = one_item;
           noted = refl;
           clear = λ _. blank_clear;
           going = rw (since_first (manner (H Q))) (going_first (T Q) (read_value (T Q) level) (H Q) (mode indefinite) m n no_plain few q);

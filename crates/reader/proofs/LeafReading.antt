@@ -13,7 +13,7 @@ use Rattle.x690.specs.declared.ReadingCause.TheVariants.{Contents}
 use Rattle.octets.specs.Answer.{Answer, got, refused, then, behind}
 use Rattle.octets.proofs.Answer.{got_holds, if_cases, refused≢got}
 use Rattle.octets.proofs.Lists.{same_refl}
-use Rattle.x690.specs.Reading.{Mode, closed, open-ended, Size, definite, indefinite, read_identifier, read_header, passes, inside as insideSize, read_constructed, contents, read_primitive}
+use Rattle.x690.specs.Reading.{Mode, closed, open_ended, Size, definite, indefinite, read_identifier, read_header, passes, inside as inside_size, read_constructed, contents, read_primitive}
 use Rattle.x690.specs.Segments.{Kind, Gathered, in_parts, in_either, heads, deepest, read_all, read_segment}
 use Rattle.x690.proofs.Segments.{all_rest, all_closed}
 use Rattle.ber.specs.Told.{mode}
@@ -166,9 +166,9 @@ module _ (T : Table) (f : ℕ → List ℕ → Answer ReadingCause Value) (o : L
     its_segments = rw (ey, ek, carried_parts k s o v e) refl
 
     -- contents that 00 00 closes
-    by_mark : (x : Answer ReadingCause Gathered) → All open-ended u ≡ x → Then (All open-ended u) ≡ leaf_end u u (then (behind 0 (then (All open-ended u) λ g w. got g.0 w)) λ d w. decode q (length s) d w)
+    by_mark : (x : Answer ReadingCause Gathered) → All open_ended u ≡ x → Then (All open_ended u) ≡ leaf_end u u (then (behind 0 (then (All open_ended u) λ g w. got g.0 w)) λ d w. decode q (length s) d w)
     unfolding then behind
-    by_mark (got g w) d = let (p, r) = got_holds (all_rest k deepest open-ended u) d in rw d (decode_leaf q (length s) g.0 w w u u (rest_at p w u r))
+    by_mark (got g w) d = let (p, r) = got_holds (all_rest k deepest open_ended u) d in rw d (decode_leaf q (length s) g.0 w w u u (rest_at p w u r))
     by_mark (refused c i) d = rw d (ap (refused c) (omega arith))
 
     -- contents of a size
@@ -183,7 +183,7 @@ module _ (T : Table) (f : ℕ → List ℕ → Answer ReadingCause Value) (o : L
     by_size (refused c i) d = rw d refl
 
     pub leaf_parts : read_kind T f o y s ≡ Read true
-    unfolding read_constructed insideSize then read_leaf read_segments
+    unfolding read_constructed inside_size then read_leaf read_segments
     leaf_parts = its_segments ∙ by z refl
       where
         by : (b : Bool) → z ≡ b → Then (read_constructed (in_parts o) All s) ≡ Read true
@@ -191,7 +191,7 @@ module _ (T : Table) (f : ℕ → List ℕ → Answer ReadingCause Value) (o : L
             let g = rw t at h in
             let i : n ≡ length u = all t in
             let j : length u - length u ≡ 0 = omega arith in
-            rw (t, g, ek, i, take-length u, j) (by_mark (All open-ended u) refl)
+            rw (t, g, ek, i, take-length u, j) (by_mark (All open_ended u) refl)
         by false t = let g = rw t at h in rw (t, g, ek) (by_size (All closed (take n u)) refl)
 
 own_read : (r : Record) (s v : List ℕ) → read_identifier s ≡ got (own_tag r) v → (own_either r.body && heads (in_parts (own_tag r)) s) ≡ false

@@ -17,7 +17,7 @@ use Rattle.table.specs.Reading.{table_in, count_in}
 use Rattle.records.specs.Entries.{unpacked}
 use Rattle.coding.specs.Reading.{read_value}
 use Rattle.coding.proofs.FirstTags.{good}
-use Rattle.reader.specs.Items.{Holder, inside, message, Manner, in-turn, each-once, repeated, single, manner, parts_of, since, next, blank}
+use Rattle.reader.specs.Items.{Holder, inside, message, Manner, in_turn_lem, each_once, repeated, single, manner, parts_of, since, next, blank}
 use Rattle.reader.specs.Records.{Ready, Known}
 use Rattle.reader.specs.Sought.{held, Sound, tabled_count, Sought}
 use Rattle.reader.specs.Placing.{end_at, Spotted}
@@ -35,21 +35,21 @@ passed_more ns j k f z i l h =
     test (eqb i k) (λ e. rw (eqb-true i k e) z) λ e. f i l (omega (arith, eqb-false i k e))
 
 -- what an entry of the kind of a SET stands for
-once_is : (k : Manner) → turns_by k ≡ false → by_member k ≡ true → k ≡ each-once
-once_is in-turn e f = absurd (true≢false e)
-once_is each-once e f = refl
+once_is : (k : Manner) → turns_by k ≡ false → by_member k ≡ true → k ≡ each_once
+once_is in_turn_lem e f = absurd (true≢false e)
+once_is each_once e f = refl
 once_is repeated e f = absurd (true≢false (sym f))
 once_is single e f = absurd (true≢false (sym f))
 
 -- it has members
-the_members : (h : Holder) → manner h ≡ each-once → (ms : List Member) × (h ≡ inside (Set ms))
+the_members : (h : Holder) → manner h ≡ each_once → (ms : List Member) × (h ≡ inside (Set ms))
 unfolding manner
 the_members (inside (Plain k)) e = absurd (true≢false (ap is_single_lem e))
   where
     is_single_lem : Manner → Bool
     is_single_lem single = true
-    is_single_lem in-turn = false
-    is_single_lem each-once = false
+    is_single_lem in_turn_lem = false
+    is_single_lem each_once = false
     is_single_lem repeated = false
 the_members (inside (Sequence ms)) e = absurd (true≢false (ap turns_by e))
 the_members (inside (Set ms)) e = (ms, refl)
@@ -62,7 +62,7 @@ module _ {b index : List ℕ} (R : Ready b index) {w : ℕ} (known : Known b ind
   its : EntryOf b (unpacked w)
   its = entry_of R w known
 
-  pub set_once : (unpacked w).kind ≡ 17 → manner (held b w) ≡ each-once
+  pub set_once : (unpacked w).kind ≡ 17 → manner (held b w) ≡ each_once
   set_once k =
       once_is (manner (held b w)) (sym its.sequence ∙ ap (λ (n : ℕ). eqb n 16) k) (sym its.members ∙ ap (λ (n : ℕ). eqb n 16 || eqb n 17) k)
 

@@ -19,7 +19,7 @@ use Rattle.octets.specs.Lists.{same}
 use Rattle.octets.specs.Numbers.{Octets}
 use Rattle.octets.proofs.Tests.{test, or_false}
 use Rattle.ber.specs.Codes.{code_of}
-use Rattle.x690.specs.Reading.{Mode, closed, open-ended, passes, read_identifier, read_length, read_header, inside, read_constructed, read_primitive, at_end}
+use Rattle.x690.specs.Reading.{Mode, closed, open_ended, passes, read_identifier, read_length, read_header, inside, read_constructed, read_primitive, at_end}
 use Rattle.x690.specs.Segments.{Kind, in_parts, in_either, heads, read_carried}
 use Rattle.ber.specs.Told.{told_length, mode}
 use Rattle.ber.specs.declared.length.Length.{Length}
@@ -33,9 +33,9 @@ use Rattle.coding.specs.Content.{segmented}
 use Rattle.coding.specs.Tags.{identifier_of, before, explicit_tags, own_tag, explicit}
 use Rattle.coding.specs.Value.{Value}
 use Rattle.coding.specs.Reading.{read_wrapped, read_kind}
-use Rattle.reader.specs.Codes.{own_either, either_at, either as firstEither}
+use Rattle.reader.specs.Codes.{own_either, either_at, either as first_either}
 use Rattle.reader.specs.Records.{Ready, record_in, IsRecord, read_record}
-use Rattle.reader.specs.Wraps.{ended, shut, closing, note_of, Around, identifiers, Headed, read_bare, sent_as, AwaitsTag, behind_last, is_tag, no_tag}
+use Rattle.reader.specs.Wraps.{ended, shut, closing, note_of, Around, identifiers, Headed, read_bare, sent_as, AwaitsTag, behind_last, is_tag, no_tag_lem}
 use Rattle.reader.specs.Wraps.{must_go_on, EntersTag, goes_on, is_over, Opens}
 use Rattle.reader.specs.declared.tags.Tag.{Tag as TagRead}
 use Rattle.reader.specs.declared.tags.Tag.TheVariants.{Read as ReadTag, Refused as NoTag}
@@ -132,7 +132,7 @@ module _ (A B : Type 0) (s : List ℕ) (l : ℕ) where
   either : (k : Mode) → Goes k ⊎ Stops k
   unfolding at_end if
   either closed = test (none_left s) (λ a. inr (NotAwaited, l, (λ x. rw a refl), λ y. rw a refl)) λ a. inl ((λ x. rw a refl), λ y. rw a refl)
-  either open-ended =
+  either open_ended =
       test (none_left s) (λ a. inr (Cut, 0, (λ x. rw a refl), λ y. rw a refl)) λ a.
       test (eqb (get_or s 0 0) 0)
       (λ d.
@@ -271,7 +271,7 @@ module _ (b : List ℕ) (r : Record) (F : Fit r) (m : List ℕ) (om : Octets m) 
       short true t l = let q = ap length (append-nil (explicit r)) in omega (arith, q)
       short false t l = false≢true t
 
-  pub open_none : (notes : List ℕ) (from : ℕ) → 0 < Count → Headed m first from (firstEither r) (first_code r) → Opening b r m first notes first from (length m) 0
+  pub open_none : (notes : List ℕ) (from : ℕ) → 0 < Count → Headed m first from (first_either r) (first_code r) → Opening b r m first notes first from (length m) 0
   unfolding Around closing read_record
   open_none notes from l h =
       let k : 0 < length r.tags = omega (arith, more_ids, count_identifiers r F) in
@@ -397,7 +397,7 @@ module _ (b : List ℕ) (r : Record) (F : Fit r) (m : List ℕ) (om : Octets m) 
           -- the identifier that is awaited next
           rest_refused : (c : ReadingCause) → AwaitsTag r (suc j) U (NoTag c) → (n : ℕ) → read_wrapped Rest (read_bare b n r) U ≡ refused c (length U)
           unfolding read_wrapped
-          rest_refused c (no_tag w e) n =
+          rest_refused c (no_tag_lem w e) n =
               test (ltb (suc j) Count)
               (λ t.
               let k = ltb-true (suc j) Count t in

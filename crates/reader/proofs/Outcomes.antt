@@ -26,7 +26,7 @@ use Rattle.coding.specs.declared.TableCause.TheVariants.{Unknown}
 use Rattle.coding.specs.declared.MessageCause.TheVariants.{MessageLength, ValueRoom}
 use Rattle.coding.specs.Outcome.{message_cause}
 use Rattle.coding.specs.Calls.{after_reading, read_outcome}
-use Rattle.coding.specs.declared.Refusal.TheVariants.{Table as of-table, Message as of_message}
+use Rattle.coding.specs.declared.Refusal.TheVariants.{Table as of_table, Message as of_message}
 use Rattle.coding.specs.declared.Answer.TheVariants.{Done as done, Refused as refusal}
 use Rattle.coding.proofs.Checked.{Says}
 use Rattle.coding.proofs.Refusals.{Within, answers, names, message_says}
@@ -60,7 +60,7 @@ within_low (got a r) answers c l e = absurd (refused≢got (sym e))
 within_low (refused d k) (names h) c l e = let q : k ≡ l = cc in omega arith
 
 module _ (T : Table) (n t : ℕ) (m buf : List ℕ) where
-  pub out_type : n ≤ t → Says (read_outcome T n t m buf) (refusal (of-table Unknown)) buf
+  pub out_type : n ≤ t → Says (read_outcome T n t m buf) (refusal (of_table Unknown)) buf
   unfolding read_outcome
   out_type h = let e : ltb t n ≡ false = le-ltb t n h in (simp (run, e), simp (run, e))
 

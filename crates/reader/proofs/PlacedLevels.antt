@@ -10,7 +10,7 @@ use lib.ListN.{take}
 use Rattle.x690.specs.declared.ReadingCause.{ReadingCause}
 use Rattle.octets.specs.Answer.{Answer, got, refused, then, if, behind}
 use Rattle.octets.proofs.Answer.{refused≢got}
-use Rattle.x690.specs.Reading.{Size, definite, indefinite, Mode, closed, open-ended, at_end, inside, read_constructed}
+use Rattle.x690.specs.Reading.{Size, definite, indefinite, Mode, closed, open_ended, at_end, inside, read_constructed}
 use Rattle.table.specs.Syntax.{Member, Body, Plain, Sequence, Set, SequenceOf, SetOf, Choice, Table}
 use Rattle.coding.specs.Value.{Value}
 use Rattle.coding.specs.Tags.{own_tag, explicit}
@@ -52,13 +52,13 @@ module _ {A : Type 0} where
       → Kept (at_end mode s f x) (at_end mode s g y)
   unfolding at_end
   end_kept closed s h k = if_kept _ (h []) k
-  end_kept open-ended s h k = if_kept _ same λ _. if_kept _ (k tt) λ _. if_kept _ same λ _. if_kept _ same λ _. h _
+  end_kept open_ended s h k = if_kept _ same λ _. if_kept _ (k tt) λ _. if_kept _ same λ _. if_kept _ same λ _. h _
 
   inside_kept : {f g : Mode → List ℕ → Answer ReadingCause A} → ((mode : Mode) (s : List ℕ) → Kept (f mode s) (g mode s)) → (z : Size) (s : List ℕ)
       → Kept (inside f z s) (inside g z s)
   unfolding inside
   inside_kept h (definite n) s = then_kept (behind_kept _ (h closed (take n s))) λ v r. same
-  inside_kept h indefinite s = h open-ended s
+  inside_kept h indefinite s = h open_ended s
 
   constructed_kept : (i : List ℕ) {f g : Mode → List ℕ → Answer ReadingCause A} → ((mode : Mode) (s : List ℕ) → Kept (f mode s) (g mode s)) → (s : List ℕ)
       → Kept (read_constructed i f s) (read_constructed i g s)

@@ -18,7 +18,7 @@ use Rattle.coding.specs.Reading.{nothing, read_value}
 use Rattle.coding.proofs.FirstTags.{Good}
 use Rattle.coding.proofs.Refusals.{value_shorter}
 use Rattle.ber.specs.Told.{mode}
-use Rattle.reader.specs.Items.{Holder, inside, manner, parts_of, Placed, since, Hand, next as nextPart, read_items, filled, assemble}
+use Rattle.reader.specs.Items.{Holder, inside, manner, parts_of, Placed, since, Hand, next as next_part, read_items, filled, assemble}
 use Rattle.reader.specs.Items.{node_size, blank}
 use Rattle.reader.specs.Ways.{wrapped}
 use Rattle.reader.specs.Placing.{kind_of, has_members, holds_one, onward, noted_in, absent_in, finished_in, said, way_octets}
@@ -52,7 +52,7 @@ pub record Comes (T : Table) (n : ℕ) (h : Holder) (m first : List ℕ) (to : �
   pub stands : Standing h first to hand [] j buf next
   pub least : j ≤ part.0
   pub most : part.0 < length (parts_of h)
-  pub found : nextPart T h (since (manner h) j) blank (drop at m) ≡ some part
+  pub found : next_part T h (since (manner h) j) blank (drop at m) ≡ some part
   pub alone : holds_one (kind_of h) ≡ true → hand ≡ []
   pub room : next + length (octets value) ≤ length buf
   pub low : at ≤ length m
@@ -208,7 +208,7 @@ pub record Ready (T : Table) (n : ℕ) (h : Holder) (m first : List ℕ) (to : �
 module _ {T : Table} {n : ℕ} {h : Holder} {m first : List ℕ} {to : ℕ} {After : List ℕ → ℕ → ℕ → ℕ → Type 0} {buf : List ℕ} {at next j : ℕ}
     (C : Comes T n h m first to After buf at next j) where
   -- the part that the search found, with the nodes of the way to the record; members between were told of
-  pub ready_found : (way : List ℕ) (d u : ℕ) (x : Placed) → nextPart T h (since (manner h) j) blank (drop at m) ≡ some x → d ≤ length way
+  pub ready_found : (way : List ℕ) (d u : ℕ) (x : Placed) → next_part T h (since (manner h) j) blank (drop at m) ≡ some x → d ≤ length way
       → read_value T n x.1.type (drop at m) ≡ (then (read_value T (n - d) u (drop at m)) λ v s₁. got (wrapped way d v) s₁)
       → (buf₁ buf₂ : List ℕ) → buf₁ ≡ sets buf next (way_octets (take d way)) → (has_members (kind_of h) ≡ true → buf₂ ≡ absent_in j x.0 buf₁ to)
       → (has_members (kind_of h) ≡ false → buf₂ ≡ buf₁)

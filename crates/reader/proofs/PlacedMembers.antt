@@ -23,17 +23,17 @@ use Rattle.records.specs.Entries.{unpacked, span_of}
 use Rattle.records.specs.declared.entry.Entry.{Entry}
 use Rattle.records.specs.declared.entry.Span.{Span}
 use Rattle.coding.specs.Value.{Value, octets}
-use Rattle.coding.specs.Value as Value-of
+use Rattle.coding.specs.Value as ValueOf
 use Rattle.coding.specs.Reading.{nothing, read_value}
 use Rattle.coding.proofs.FirstTags.{good}
 use Rattle.coding.proofs.Refusals.{value_shorter}
 use Rattle.reader.specs.Codes.{first_of, untagged, either}
-use Rattle.reader.specs.Items.{Holder, inside, message, manner, parts_of, since, Hand, next as nextPart, read_items, filled, assemble}
+use Rattle.reader.specs.Items.{Holder, inside, message, manner, parts_of, since, Hand, next as next_part, read_items, filled, assemble}
 use Rattle.reader.specs.Items.{node_size, blank, read_held}
 use Rattle.reader.specs.Records.{Ready, Known, record_in, read_record}
 use Rattle.reader.specs.Sought.{held, Sound, Sought, tabled_count}
 use Rattle.reader.specs.Ways.{wrapped}
-use Rattle.reader.specs.declared.search.Choice.{Choice as Choice-found}
+use Rattle.reader.specs.declared.search.Choice.{Choice as ChoiceFound}
 use Rattle.reader.specs.declared.search.Found.TheVariants.{Part}
 use Rattle.reader.specs.declared.node.Placed.{Placed as Spot}
 use Rattle.reader.specs.Placing.{kind_of, has_members, holds_one, onward, node_of, opening_of, absent_in, finished_in, noted_in, said}
@@ -96,18 +96,18 @@ node_fits (inside (Plain k)) hand n = absurd (n refl)
 node_fits (inside (Sequence ms)) hand n =
     let os = filled hand (nothing ms) in
     let l : length os ≡ length ms = ap (λ (z : List (Option Value)). length (filled hand z)) (nothing_is ms) ∙ row_length hand (length ms) in
-    omega (arith, length-append (Value-of.presence (Value-of.slots os)) (Value-of.slotOctets (Value-of.slots os)), presence_length os)
+    omega (arith, length-append (ValueOf.presence (ValueOf.slots os)) (ValueOf.slot_octets (ValueOf.slots os)), presence_length os)
 node_fits (inside (Set ms)) hand n =
     let os = filled hand (nothing ms) in
     let l : length os ≡ length ms = ap (λ (z : List (Option Value)). length (filled hand z)) (nothing_is ms) ∙ row_length hand (length ms) in
-    omega (arith, length-append (Value-of.presence (Value-of.slots os)) (Value-of.slotOctets (Value-of.slots os)), presence_length os)
+    omega (arith, length-append (ValueOf.presence (ValueOf.slots os)) (ValueOf.slot_octets (ValueOf.slots os)), presence_length os)
 node_fits (inside (SequenceOf t)) hand n = omega arith
 node_fits (inside (SetOf t)) hand n = omega arith
 node_fits (inside (Choice ts)) hand n = omega arith
 node_fits (message t) hand n = omega arith
 
 said_long : (h : Holder) → length (said h 0 []) ≤ node_size h
-unfolding said node_size flags filled Value-of.slots Value-of.presence
+unfolding said node_size flags filled ValueOf.slots ValueOf.presence
 said_long (inside (Plain k)) = omega arith
 said_long (inside (Sequence ms)) = omega arith
 said_long (inside (Set ms)) = omega arith
@@ -428,10 +428,10 @@ module _ {b index : List ℕ} {w : ℕ} {m : List ℕ} {indefinite : Bool} {firs
           (omega arith) refl (omega arith) (λ _. rw z refl) (λ _. refl)
 
     -- the part that the search found
-    abbrev pub FindsPart : Choice-found → List ℕ → Type 0
+    abbrev pub FindsPart : ChoiceFound → List ℕ → Type 0
     FindsPart x way = Sought b (held b w) (since (manner (held b w)) j) blank (drop at m) way (Part x)
 
-    module _ (x : Choice-found) (way : List ℕ) (ways : length way ≡ 128) (F : FindsPart x way) where
+    module _ (x : ChoiceFound) (way : List ℕ) (ways : length way ≡ 128) (F : FindsPart x way) where
       abbrev FoundItem : AtItem b (held b w) m at (since (manner (held b w)) j) blank way x.place x.record x.depth (at + x.from)
       FoundItem = item_sought x C.low F
 
@@ -448,7 +448,7 @@ module _ {b index : List ℕ} {w : ℕ} {m : List ℕ} {indefinite : Bool} {firs
       found_low = FoundItem.low
 
     -- it finds one
-    pub found_some : nextPart (table_in b) (held b w) (since (manner (held b w)) j) blank (drop at m) ≡ none → ⊥
+    pub found_some : next_part (table_in b) (held b w) (since (manner (held b w)) j) blank (drop at m) ≡ none → ⊥
     found_some z = none-ne-some C.part (sym z ∙ C.found)
 
     -- a part was found, and the nodes of the way stand there
@@ -464,7 +464,7 @@ module _ {b index : List ℕ} {w : ℕ} {m : List ℕ} {indefinite : Bool} {firs
         let z = members_size (held b w) (rw (its_kind X.given) at c) in
         omega (arith, C.room, C.stands.reaches)
 
-    pub picked : (x : Choice-found) (way : List ℕ) → length way ≡ 128 → FindsPart x way
+    pub picked : (x : ChoiceFound) (way : List ℕ) → length way ≡ 128 → FindsPart x way
         → {buf₁ : List ℕ} {next₁ place u from : ℕ} → buf₁ ≡ sets buf next (way_octets (take x.depth way)) → next₁ ≡ next + 4 * x.depth
         → place ≡ x.place → u ≡ x.record → from ≡ at + x.from → Picked buf₁ next₁ place u from
     picked x way ways F {buf₁} e₁ en ep eu ef =

@@ -12,7 +12,7 @@ use lib.Seq.{sets, length-sets, take-suc, take_all, drop-cons}
 use Rattle.octets.specs.Answer.{got}
 use Rattle.table.specs.Syntax.{Member, Set, Table}
 use Rattle.coding.specs.Value.{Value, slots, octets, slot_octets}
-use Rattle.coding.specs.Value as Value-of
+use Rattle.coding.specs.Value as ValueOf
 use Rattle.coding.specs.Reading.{nothing, read_value}
 use Rattle.reader.specs.Items.{inside, parts_of, Hand, filled, assemble, node_size}
 use Rattle.reader.specs.Placing.{Noted, over, free, came}
@@ -118,11 +118,11 @@ pub record Filling (T : Table) (n : ℕ) (ms : List Member) (m ns : List ℕ) (o
   pub noted : Noted T n m ms ns os
   pub stands : Standing (inside (Set ms)) first to hand [] j buf next
   pub so_far : filled hand (replicate j none) ≡ take j os
-  pub room : to + length (octets (Value-of.set (slots os))) ≤ length buf
+  pub room : to + length (octets (ValueOf.set (slots os))) ≤ length buf
 
 pub filling_first : {T : Table} {n : ℕ} {ms : List Member} {m ns : List ℕ} {os : List (Option Value)} {first : List ℕ} {to : ℕ} {buf : List ℕ} {next : ℕ}
     → Noted T n m ms ns os
-    → to + length (octets (Value-of.set (slots os))) ≤ length first → buf ≡ sets first to (said (inside (Set ms)) 0 []) → next ≡ to + node_size (inside (Set ms))
+    → to + length (octets (ValueOf.set (slots os))) ≤ length first → buf ≡ sets first to (said (inside (Set ms)) 0 []) → next ≡ to + node_size (inside (Set ms))
     → Filling T n ms m ns os first to buf next 0
 unfolding filled
 filling_first {ms = ms} {first = first} {to = to} N l eb en =
@@ -169,7 +169,7 @@ module _ {T : Table} {n : ℕ} {ms : List Member} {m ns : List ℕ} {os : List (
     filling_room =
         let x = some_parts os j t.value (omega (arith, noted_length S.noted)) t.has in
         let y : bodies S.hand ≡ slot_octets (slots (take j os)) = sym the_row.parts ∙ ap (λ (r : List (Option Value)). slot_octets (slots r)) S.so_far in
-        let z = length-append (Value-of.presence (slots os)) (slot_octets (slots os)) in
+        let z = length-append (ValueOf.presence (slots os)) (slot_octets (slots os)) in
         omega (arith, S.room, rw append-nil at S.stands.reaches, ap length y, presence_length os, noted_length S.noted)
 
     pub filling_next : {last : List ℕ} {next₁ : ℕ} → Standing (inside (Set ms)) first to (S.hand ++ ((j, t.value) ∷ [])) [] (suc j) last next₁
@@ -187,12 +187,12 @@ module _ {T : Table} {n : ℕ} {ms : List Member} {m ns : List ℕ} {os : List (
         }
 
   -- all were told of
-  pub filling_end : j ≡ length ms → (next ≡ to + length (octets (Value-of.set (slots os)))) × (buf ≡ sets first to (octets (Value-of.set (slots os))))
+  pub filling_end : j ≡ length ms → (next ≡ to + length (octets (ValueOf.set (slots os)))) × (buf ≡ sets first to (octets (ValueOf.set (slots os))))
   unfolding parts_of assemble
   filling_end e =
       let W = whole_members the_kind S.stands e in
       let z : filled S.hand (nothing ms) ≡ os =
       ap (filled S.hand) (nothing_is ms ∙ ap (λ (k : ℕ). replicate k none) (sym e)) ∙ S.so_far ∙ take_all j os
       (omega (arith, noted_length S.noted)) in
-      let o : assemble (inside (Set ms)) S.hand ≡ Value-of.set (slots os) = ap (λ (r : List (Option Value)). Value-of.set (slots r)) z in
+      let o : assemble (inside (Set ms)) S.hand ≡ ValueOf.set (slots os) = ap (λ (r : List (Option Value)). ValueOf.set (slots r)) z in
       (rw o at W.ends, rw o at W.buffer)

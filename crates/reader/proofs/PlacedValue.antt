@@ -17,7 +17,7 @@ use Rattle.octets.specs.Lists.{any}
 use Rattle.octets.specs.Numbers.{Octets, two}
 use Rattle.octets.specs.Permutations.{as_given}
 use Rattle.octets.proofs.Answer.{got_holds, refused≢got, got_value, got_rest}
-use Rattle.octets.proofs.Lists.{behind as behind-part, length_behind}
+use Rattle.octets.proofs.Lists.{behind as behind_part, length_behind}
 use Rattle.octets.proofs.Tests.{test}
 use Rattle.x690.specs.Integer.{minimal}
 use Rattle.x690.specs.Reading.{Mode, Size, read_length}
@@ -60,7 +60,7 @@ use Rattle.reader.proofs.ClosedAlike.{closing_through}
 use Rattle.reader.proofs.Opening.{its_count, its_few}
 use Rattle.reader.proofs.Tagging.{its_entry, its_record}
 use Rattle.reader.proofs.ValueParts.{Under, Within, Item, Filling, under_bare, under_tags, tags_refused, no_choice, item_unsized, contents_bare}
-use Rattle.reader.proofs.ValueParts.{contents_sized, Rest as Around-rest, C, S, size_c, is_plain, leaf_read, leaf_lead}
+use Rattle.reader.proofs.ValueParts.{contents_sized, Rest as AroundRest, C, S, size_c, is_plain, leaf_read, leaf_lead}
 use Rattle.reader.proofs.ValueParts.{Held, Fine, fine, reads}
 
 -- A leaf that was accepted, by the number of its kind.
@@ -337,13 +337,13 @@ module _ {b index : List ℕ} {w : ℕ} {m : List ℕ} {at from : ℕ} {buf : Li
           → Contents b w m at at₁ end Val U.left x.start x.end x.indefinite
       read_contents k x again =
           let n = no_choice item k in
-          let W = contents_sized item k (ReadLength x) (its_length n (read_length (length (Around-rest item)) (drop from₁ (take end m))) refl) x refl in
+          let W = contents_sized item k (ReadLength x) (its_length n (read_length (length (AroundRest item)) (drop from₁ (take end m))) refl) x refl in
           contents_at x.start x.end x.indefinite W (omega (arith, U.low, W.further n))
         where
-          its_length : is_choice R.body ≡ false → (y : Answer ReadingCause Size) → read_length (length (Around-rest item)) (drop from₁ (take end m)) ≡ y
-              → ReadLength x ≡ told_length (length (take end m)) (read_length (length (Around-rest item)) (drop from₁ (take end m)))
+          its_length : is_choice R.body ≡ false → (y : Answer ReadingCause Size) → read_length (length (AroundRest item)) (drop from₁ (take end m)) ≡ y
+              → ReadLength x ≡ told_length (length (take end m)) (read_length (length (AroundRest item)) (drop from₁ (take end m)))
           its_length n (got z u) e =
-              again_told (take end m) from₁ (length (Around-rest item)) x z u again e
+              again_told (take end m) from₁ (length (AroundRest item)) x z u again e
           its_length n (refused c l) e =
               refused≢got (sym (item_unsized item n c l e) ∙ U.is)
 
@@ -538,7 +538,7 @@ module _ {b index : List ℕ} {w : ℕ} {m : List ℕ} {at from : ℕ} {buf : Li
             = subst (λ (r : Record). read_record (table_in b) 24 r (drop at m) ≡ got Val Rest) same_record P.fits.is in
             let q = got_holds (value_sound as_given (table_in b) 25 P.type (drop at m)) e in
             let low : at ≤ length m = omega (arith, P.headed.further, P.headed.low) in
-            let f = behind-part m at q.piece Rest q.cut in
+            let f = behind_part m at q.piece Rest q.cut in
             let g = length_behind m at q.piece Rest low q.cut in
             let u : at + length q.piece ≡ length m - length Rest = omega (arith, length-drop (at + length q.piece) m, ap length f) in
             sym f ∙ ap (λ (i : ℕ). drop i m) u

@@ -22,7 +22,7 @@ use Rattle.records.specs.declared.entry.Entry.{Entry}
 use Rattle.records.specs.declared.entry.Span.{Span}
 use Rattle.coding.specs.Awaited.{types}
 use Rattle.reader.specs.Codes.{starts_with, search_in, hit}
-use Rattle.reader.specs.Items.{Holder, inside, message, Manner, in-turn, each-once, repeated, single, manner, parts_of, optionals, Placed, left}
+use Rattle.reader.specs.Items.{Holder, inside, message, Manner, in_turn_lem, each_once, repeated, single, manner, parts_of, optionals, Placed, left}
 use Rattle.reader.specs.Items.{awaits, remains, some_of, since, is_single, first}
 use Rattle.reader.specs.Records.{Ready, Known, of_record, of_message, holder_in, Begins, Finds}
 use Rattle.reader.specs.Sought.{held, Sound, place_of, tabled, tabled_count, direct, unfit_cause, Indirect}
@@ -86,13 +86,13 @@ some_any (x ∷ l) = refl
 
 not_single : (v : Manner) → by_member v ≡ true → is_single v ≡ false
 unfolding is_single
-not_single in-turn e = refl
-not_single each-once e = refl
+not_single in_turn_lem e = refl
+not_single each_once e = refl
 not_single repeated e = refl
 not_single single e = absurd (true≢false (sym e))
 
 module _ (i : ℕ) (came : List ℕ) (c : ReadingCause) where
-  unfit_of : (h : Holder) → ((manner h ≡ each-once → ⊥) → (p : ℕ) → get_or came p 0 ≡ 0) → by_member (manner h) ≡ false → since (manner h) i ≡ i
+  unfit_of : (h : Holder) → ((manner h ≡ each_once → ⊥) → (p : ℕ) → get_or came p 0 ≡ 0) → by_member (manner h) ≡ false → since (manner h) i ≡ i
       → unfit_cause h i came c ≡ c
   unfolding unfit_cause manner is_single parts_of since some_of if
   unfit_of (inside (Plain k)) clear n q = refl
@@ -100,11 +100,11 @@ module _ (i : ℕ) (came : List ℕ) (c : ReadingCause) where
   unfit_of (inside (Set ms)) clear n q = absurd (true≢false n)
   unfit_of (inside (SequenceOf t)) clear n q = rw (← q, pending_free came 0 (record { type = t; optional = true }) [] (clear repeated_not 0)) refl
     where
-      repeated_not : repeated ≡ each-once → ⊥
+      repeated_not : repeated ≡ each_once → ⊥
       repeated_not z = true≢false (sym (ap by_member z))
   unfit_of (inside (SetOf t)) clear n q = rw (← q, pending_free came 0 (record { type = t; optional = true }) [] (clear repeated_not 0)) refl
     where
-      repeated_not : repeated ≡ each-once → ⊥
+      repeated_not : repeated ≡ each_once → ⊥
       repeated_not z = true≢false (sym (ap by_member z))
   unfit_of (inside (Choice ts)) clear n q = refl
   unfit_of (message t) clear n q = refl
@@ -157,13 +157,13 @@ module _ {b index : List ℕ} {w : ℕ} {came : List ℕ} {e : Entry} {s : Span}
   pub near : (k : ℕ) → k < s.count → s.first + s.step * k < 8192
   near = spanned.near
 
-  is_turn : e.kind ≡ 16 → manner H ≡ in-turn
+  is_turn : e.kind ≡ 16 → manner H ≡ in_turn_lem
   is_turn q = turn_is (manner H) (sym (entry_of D.sound.ready w D.sound.known).sequence ∙ eq-eqb (unpacked w).kind 16 (sym kind_is ∙ q))
 
-  no_turn : (e.kind ≡ 16 → ⊥) → manner H ≡ in-turn → ⊥
+  no_turn : (e.kind ≡ 16 → ⊥) → manner H ≡ in_turn_lem → ⊥
   no_turn n = turn_not (manner H) (sym (entry_of D.sound.ready w D.sound.known).sequence ∙ ne_eqb (unpacked w).kind 16 (λ z. n (kind_is ∙ z)))
 
-  pub clear_turn : manner H ≡ in-turn → (p : ℕ) → get_or came p 0 ≡ 0
+  pub clear_turn : manner H ≡ in_turn_lem → (p : ℕ) → get_or came p 0 ≡ 0
   clear_turn q = D.sound.clear (λ z. true≢false (ap turns_by (sym q ∙ z)))
 
   -- the i-th part from which on others are left
@@ -172,9 +172,9 @@ module _ {b index : List ℕ} {w : ℕ} {came : List ℕ} {e : Entry} {s : Span}
   since_is i j (inl x) = rw (is_turn x.0) x.1
   since_is i j (inr x) = x.1 ∙ go (manner H) (no_turn x.0)
     where
-      go : (v : Manner) → (v ≡ in-turn → ⊥) → 0 ≡ since v j
-      go in-turn n = absurd (n refl)
-      go each-once n = refl
+      go : (v : Manner) → (v ≡ in_turn_lem → ⊥) → 0 ≡ since v j
+      go in_turn_lem n = absurd (n refl)
+      go each_once n = refl
       go repeated n = refl
       go single n = refl
 
@@ -183,8 +183,8 @@ module _ {b index : List ℕ} {w : ℕ} {came : List ℕ} {e : Entry} {s : Span}
   since_again i j q = go (manner H) q
     where
       go : (v : Manner) → i ≡ since v j → since v i ≡ i
-      go in-turn q = refl
-      go each-once q = sym q
+      go in_turn_lem q = refl
+      go each_once q = sym q
       go repeated q = sym q
       go single q = sym q
 
@@ -204,7 +204,7 @@ module _ {b index : List ℕ} {w : ℕ} {came : List ℕ} {e : Entry} {s : Span}
 
     -- a part that a SEQUENCE may pass over
     abbrev pub May : Type 0
-    May = manner H ≡ in-turn → AtK.part.optional ≡ true
+    May = manner H ≡ in_turn_lem → AtK.part.optional ≡ true
 
     pub may_optional : e.kind ≡ 16 → (o : Bool) → o ≡ eqb (get_or b (s.first + s.step * k + 1) 0) 1 → o ≡ true → May
     may_optional q o eo y = λ z. sym (optional_is q) ∙ sym eo ∙ y
@@ -336,7 +336,7 @@ module _ {b index : List ℕ} {w : ℕ} {came : List ℕ} {e : Entry} {s : Span}
             → first UnderIt (awaits H k came) ≡ none
         indirect_stop z q v o eo y = awaits_stop H came k UnderIt C.part C.is z (under_none q) (is_turn v) (sym (C.optional v) ∙ sym eo ∙ y)
 
-        skip : get_or came k 0 ≡ 0 → r ≡ Nothing → (manner H ≡ in-turn → C.part.optional ≡ true)
+        skip : get_or came k 0 ≡ 0 → r ≡ Nothing → (manner H ≡ in_turn_lem → C.part.optional ≡ true)
             → first UnderIt (awaits H k came) ≡ first UnderIt (awaits H (k + 1) came)
         skip z q y = awaits_skip H came k UnderIt C.part C.is z (under_none q) y
 

@@ -12,7 +12,7 @@ use lib.ListN.{length, take, drop}
 use Rattle.x690.specs.declared.ReadingCause.{ReadingCause}
 use Rattle.octets.specs.Answer.{Answer, got, refused, then, if, none_left}
 use Rattle.octets.proofs.Answer.{Holds, yields, refuses, then_holds, map_holds, behind_holds, if_holds, got_holds}
-use Rattle.x690.specs.Reading.{read_identifier, Size, definite, indefinite, read_length, open-ended, closed, at_end, read_header, inside, read_constructed}
+use Rattle.x690.specs.Reading.{read_identifier, Size, definite, indefinite, read_length, open_ended, closed, at_end, read_header, inside, read_constructed}
 use Rattle.x690.specs.Reading.{contents, read_primitive}
 use Rattle.x690.specs.Segments.{Kind, segment_tag, in_parts, deepest, Gathered, read_joined, read_segment, read_carried}
 use Rattle.x690.proofs.Identifiers.{identifier_sound}
@@ -48,15 +48,15 @@ pass_on {k = k} (jumps h e p) q = rw suc-add (jumps h e (rw suc-add at (pass_on 
 pass_on {k = k} (opens h e p) q = rw suc-add (opens h e (rw (suc-add, suc-add) at (pass_on p q)))
 
 -- an item in an indefinite one, and what follows it
-item_then : {k : ℕ} {s t w : List ℕ} → GoesOn open-ended s → Skips s t → Passed (suc k) t w → Passed (suc k) s w
+item_then : {k : ℕ} {s t w : List ℕ} → GoesOn open_ended s → Skips s t → Passed (suc k) t w → Passed (suc k) s w
 item_then (no_end h) (sized e) p = jumps h e p
 item_then {k = k} (no_end h) (unsized e q) p = let f : 1 + suc k ≡ suc (suc k) = omega arith in opens h e (rw f at (pass_on q p))
 
-ended : {s u : List ℕ} → Ends open-ended s u → Passed 1 s u
+ended : {s u : List ℕ} → Ends open_ended s u → Passed 1 s u
 ended mark = closes behind_all
 
-open_end_lem : {A : Type 0} {P : A → List ℕ → Type 0} (s : List ℕ) {f : List ℕ → Answer ReadingCause A} {x : Unit {0} → Answer ReadingCause A} → ((u : List ℕ) → Ends open-ended s u → Holds P (f u))
-    → (GoesOn open-ended s → (u : Unit {0}) → Holds P (x u)) → Holds P (at_end open-ended s f x)
+open_end_lem : {A : Type 0} {P : A → List ℕ → Type 0} (s : List ℕ) {f : List ℕ → Answer ReadingCause A} {x : Unit {0} → Answer ReadingCause A} → ((u : List ℕ) → Ends open_ended s u → Holds P (f u))
+    → (GoesOn open_ended s → (u : Unit {0}) → Holds P (x u)) → Holds P (at_end open_ended s f x)
 unfolding at_end if none_left
 open_end_lem [] h k = refuses
 open_end_lem (zero ∷ []) h k = refuses
@@ -70,7 +70,7 @@ passes_got f (got i w) e = (i, w, refl, e)
 passes_got f (refused c l) e = absurd (false≢true e)
 
 -- an item that begins a value of a table that passed is no end
-begun_on : (T : Table) → Good T → (t : ℕ) (s : List ℕ) → begun T t s ≡ true → GoesOn open-ended s
+begun_on : (T : Table) → Good T → (t : ℕ) (s : List ℕ) → begun T t s ≡ true → GoesOn open_ended s
 unfolding begun
 begun_on T good t s e =
     let (i, w, x, y) = passes_got (begins T t) (read_identifier s) e in
@@ -91,13 +91,13 @@ Inner f = (s : List ℕ) → Holds (λ v w. Passed 1 s w) (f s)
 abbrev Outer : {A : Type 0} → (List ℕ → Answer ReadingCause A) → Type 0
 Outer f = (s : List ℕ) → Holds (λ v w. Skips s w) (f s)
 
-inside_skips : {A : Type 0} (body : _ → List ℕ → Answer ReadingCause A) → Inner (body open-ended) → (s : List ℕ) (z : Size) (r : List ℕ) → headed s ≡ got z r
+inside_skips : {A : Type 0} (body : _ → List ℕ → Answer ReadingCause A) → Inner (body open_ended) → (s : List ℕ) (z : Size) (r : List ℕ) → headed s ≡ got z r
     → Holds (λ v w. Skips s w) (inside body z r)
 unfolding inside
 inside_skips body f s (definite n) r e = then_holds (behind_holds _ (itself (body closed (take n r)))) λ v u x. yields (sized e)
 inside_skips body f s indefinite r e = map_holds (f r) λ v w x. unsized e x
 
-constructed_skips : {A : Type 0} (i : List ℕ) (body : _ → List ℕ → Answer ReadingCause A) → Inner (body open-ended) → Outer (read_constructed i body)
+constructed_skips : {A : Type 0} (i : List ℕ) (body : _ → List ℕ → Answer ReadingCause A) → Inner (body open_ended) → Outer (read_constructed i body)
 unfolding read_constructed
 constructed_skips i body f s = then_holds (header_headed i s) (inside_skips body f s)
 
@@ -111,7 +111,7 @@ unfolding read_primitive
 primitive_skips i s = then_holds (header_headed i s) (contents_skips _ s)
 
 -- a string in segments is passed over by its header, or by theirs
-joined_skips : (k : Kind) (r : List ℕ → Answer ReadingCause Gathered) → Outer r → (n : ℕ) (c : List ℕ) (b : ℕ) → Inner (read_joined k r n c b open-ended)
+joined_skips : (k : Kind) (r : List ℕ → Answer ReadingCause Gathered) → Outer r → (n : ℕ) (c : List ℕ) (b : ℕ) → Inner (read_joined k r n c b open_ended)
 unfolding read_joined
 joined_skips k r f zero c b s = refuses
 joined_skips k r f (suc n) c b s =
@@ -146,7 +146,7 @@ wrapped_skips (i ∷ is) r f s =
     constructed_skips i _
     (λ u. open_end_lem u (λ y z. refuses) λ g _.
     then_holds (wrapped_skips is r f u) λ v w x.
-    at_end_holds open-ended w (λ y z. yields (item_then g x (ended z))) λ _. refuses)
+    at_end_holds open_ended w (λ y z. yields (item_then g x (ended z))) λ _. refuses)
     s
 
 unwanted_skips : {A : Type 0} {P : A → List ℕ → Type 0} (w : Bool) (s : List ℕ) → Holds P (unwanted w s)
@@ -155,7 +155,7 @@ unwanted_skips true s = not_awaited_lem s
 unwanted_skips false s = refuses
 
 module _ (T : Table) (good : Good T) (r : ℕ → List ℕ → Answer ReadingCause Value) (skips : (t : ℕ) → Outer (r t)) where
-  many_skips : (k t : ℕ) (vs : List Value) → Inner (read_many T r k t open-ended vs)
+  many_skips : (k t : ℕ) (vs : List Value) → Inner (read_many T r k t open_ended vs)
   unfolding read_many
   many_skips zero t vs s = refuses
   many_skips (suc k) t vs s =
@@ -164,7 +164,7 @@ module _ (T : Table) (good : Good T) (r : ℕ → List ℕ → Answer ReadingCau
       then_holds (skips t s) λ v s₁ x.
       map_holds (many_skips k t (vs ++ (v ∷ [])) s₁) λ ws w y. item_then g x y
 
-  sequence_skips : (ms : List Member) (os : List (Option Value)) (w : Bool) → Inner (read_sequence T r ms os w open-ended)
+  sequence_skips : (ms : List Member) (os : List (Option Value)) (w : Bool) → Inner (read_sequence T r ms os w open_ended)
   unfolding read_sequence
   sequence_skips [] os w s = open_end_lem s (λ u h. yields (ended h)) λ g _. unwanted_skips w s
   sequence_skips (m ∷ ms) os w s =
@@ -174,7 +174,7 @@ module _ (T : Table) (good : Good T) (r : ℕ → List ℕ → Answer ReadingCau
       map_holds (sequence_skips ms (os ++ (some v ∷ [])) false s₁) λ ws u y. item_then (begun_on T good m.type s b) x y)
       λ b _.
       if_holds _ (λ op. sequence_skips ms (os ++ (none ∷ [])) true s)
-      λ op _. at_end_holds open-ended s (λ u h. refuses) λ _. not_awaited_lem s
+      λ op _. at_end_holds open_ended s (λ u h. refuses) λ _. not_awaited_lem s
 
   place_skips : (ms : List Member) (os : List (Option Value)) → Outer (place_member T r ms os)
   unfolding place_member
@@ -184,7 +184,7 @@ module _ (T : Table) (good : Good T) (r : ℕ → List ℕ → Answer ReadingCau
       if_holds _ (λ b. then_holds (skips m.type s) λ v s₁ x. yields x) λ b _. then_holds (place_skips ms os s) λ us s₁ x. yields x
   place_skips (m ∷ ms) (some v ∷ os) s = then_holds (place_skips ms os s) λ us s₁ x. yields x
 
-  set_skips : (k : ℕ) (ms : List Member) (os : List (Option Value)) → Inner (read_set T r k ms os open-ended)
+  set_skips : (k : ℕ) (ms : List Member) (os : List (Option Value)) → Inner (read_set T r k ms os open_ended)
   unfolding read_set
   set_skips zero ms os s = refuses
   set_skips (suc k) ms os s =
@@ -198,7 +198,7 @@ module _ (T : Table) (good : Good T) (r : ℕ → List ℕ → Answer ReadingCau
   choose_skips [] n s = not_awaited_lem s
   choose_skips (t ∷ ts) n s = if_holds _ (λ b. then_holds (skips t s) λ v s₁ x. yields x) λ b _. choose_skips ts (suc n) s
 
-  body_skips : (k : Body) → Inner (read_body T r k open-ended)
+  body_skips : (k : Body) → Inner (read_body T r k open_ended)
   unfolding read_body
   body_skips (Plain k) s = refuses
   body_skips (Sequence ms) s = then_holds (sequence_skips ms [] false s) λ os u y. yields y

@@ -14,7 +14,7 @@ use Rattle.octets.specs.Answer.{got, refused, then, if}
 use Rattle.octets.specs.Lists.{same}
 use Rattle.octets.specs.Numbers.{Octets, two}
 use Rattle.octets.proofs.Tests.{test, and_left, and_right}
-use Rattle.ber.specs.Codes.{code_of, code as codeBy}
+use Rattle.ber.specs.Codes.{code_of, code as code_by}
 use Rattle.x690.specs.Identifier.{identifier}
 use Rattle.x690.specs.Reading.{read_identifier}
 use Rattle.x690.specs.Segments.{in_parts}
@@ -34,7 +34,7 @@ use Rattle.records.proofs.Promises.{entered_tags, entered_tag, entered_bit}
 use Rattle.coding.specs.Tags.{identifier_of, last, before, explicit_tags, own_tag, explicit}
 use Rattle.reader.specs.Codes.{own_either, either_at, coded}
 use Rattle.reader.specs.Records.{Ready, record_in, IsRecord}
-use Rattle.reader.specs.Wraps.{identifiers, sent_as, AwaitsTag, behind_last, is_tag, no_tag, EntersTag, goes_on, is_over}
+use Rattle.reader.specs.Wraps.{identifiers, sent_as, AwaitsTag, behind_last, is_tag, no_tag_lem, EntersTag, goes_on, is_over}
 use Rattle.reader.specs.declared.tags.Tag.{Tag as TagRead}
 use Rattle.reader.specs.declared.tags.Tag.TheVariants.{Read as ReadTag, Refused as NoTag}
 use Rattle.reader.proofs.Starts.{coded_one, coded_is, coded_parts, coded_other, either_entry, either_explicit}
@@ -150,7 +150,7 @@ module _ (r : Record) (F : Fit r) where
     identifier_at : get_or (identifiers r) j [] ≡ identifier_of Bit Its
     identifier_at = at_of r.tags r.body F.tagged j l
 
-    pub code_at : code_of (get_or (identifiers r) j []) ≡ codeBy Its.class Bit Its.number
+    pub code_at : code_of (get_or (identifiers r) j []) ≡ code_by Its.class Bit Its.number
     unfolding identifier_of
     code_at = ap code_of identifier_at ∙ code_of_identifier Its.class Bit Its.number (fine_at r.tags F.fine j l).1
 
@@ -181,11 +181,11 @@ module _ (r : Record) (F : Fit r) where
     parts_at t s i u o e =
         let f = fine_at r.tags F.fine j l in
         let z = plain_bit t in
-        let c = code_at ∙ ap (λ (k : Bool). codeBy Its.class k Its.number) z in
+        let c = code_at ∙ ap (λ (k : Bool). code_by Its.class k Its.number) z in
         ap (λ (x : List ℕ). same (in_parts x) i) (identifier_at ∙ ap (λ (k : Bool). identifier_of k Its) z)
         ∙ ap (λ (x : List ℕ). same x i) (parts_tag Its)
         ∙ code_awaited s i u o e Its.class true Its.number f.0 f.1
-        ∙ eqb_turn (code_of i) (codeBy Its.class true Its.number)
+        ∙ eqb_turn (code_of i) (code_by Its.class true Its.number)
         ∙ ap (λ (x : ℕ). eqb x (code_of i)) (code_parts Its.class Its.number ∙ ap (λ (x : ℕ). x + 32) (sym c))
 
     pub sent_at : (s i u : List ℕ) → Octets s → read_identifier s ≡ got i u
@@ -225,7 +225,7 @@ own_low r F n =
 
 -- and the first has the first code
 first_by : (gs : List Tag) (y : Body) → 0 < length gs
-    → outermost_code gs y ≡ codeBy (get_or gs 0 zeros).class (ltb (0 + 1) (length gs) || constructed y) (get_or gs 0 zeros).number
+    → outermost_code gs y ≡ code_by (get_or gs 0 zeros).class (ltb (0 + 1) (length gs) || constructed y) (get_or gs 0 zeros).number
 unfolding outermost_code
 first_by [] y l = absurd (omega arith)
 first_by (g ∷ []) y l = refl
@@ -270,10 +270,10 @@ module _ {b index : List ℕ} (R : Ready b index) {w : ℕ} (I : IsRecord b inde
 
       pub awaits_unread : (c : ReadingCause) → y ≡ NoIdentifier c → AwaitsTag r j m (NoTag c)
       unfolding then
-      awaits_unread c q = no_tag {c = c} within (rw (identifier_refused m y ey c q) refl)
+      awaits_unread c q = no_tag_lem {c = c} within (rw (identifier_refused m y ey c q) refl)
 
       module _ (code end : ℕ) (q : y ≡ Read code end) (k : ℕ)
-          (ek : k ≡ codeBy (get_or b (tag_place e j) 0) (ltb j e.explicit || not e.simple) (two b (tag_place e j + 1))) where
+          (ek : k ≡ code_by (get_or b (tag_place e j) 0) (ltb j e.explicit || not e.simple) (two b (tag_place e j + 1))) where
         abbrev Is : (a : List ℕ) × (read_identifier m ≡ got a (drop end m)) × (code_of a ≡ code) × (0 < end) × (end ≤ length m)
         Is = identifier_read m y ey code end q
 
@@ -287,9 +287,9 @@ module _ {b index : List ℕ} (R : Ready b index) {w : ℕ} (I : IsRecord b inde
             let g = entered_tag its_entry zeros j in_tags in
             rw its_record
             (ek
-            ∙ ap (λ (x : Entry). codeBy (get_or b (tag_place x j) 0) (ltb j x.explicit || not x.simple) (two b (tag_place x j + 1))) ee
-            ∙ ap (λ (x : Bool). codeBy (get_or b (tag_place (unpacked w) j) 0) x (two b (tag_place (unpacked w) j + 1))) (entered_bit its_entry j in_tags)
-            ∙ ap (λ (x : Tag). codeBy x.class (ltb (j + 1) (length t.tags) || constructed t.body) x.number) g
+            ∙ ap (λ (x : Entry). code_by (get_or b (tag_place x j) 0) (ltb j x.explicit || not x.simple) (two b (tag_place x j + 1))) ee
+            ∙ ap (λ (x : Bool). code_by (get_or b (tag_place (unpacked w) j) 0) x (two b (tag_place (unpacked w) j + 1))) (entered_bit its_entry j in_tags)
+            ∙ ap (λ (x : Tag). code_by x.class (ltb (j + 1) (length t.tags) || constructed t.body) x.number) g
             ∙ sym (code_at t F j in_tags))
 
         pub awaits_small : k < 16777216
@@ -311,7 +311,7 @@ module _ {b index : List ℕ} (R : Ready b index) {w : ℕ} (I : IsRecord b inde
 
         not_awaited_lem : coded (either_at r j) k code ≡ false → AwaitsTag r j m (NoTag NotAwaited)
         unfolding then if
-        not_awaited_lem z = no_tag {c = NotAwaited} within (rw (Is.1, its_sent, z) refl)
+        not_awaited_lem z = no_tag_lem {c = NotAwaited} within (rw (Is.1, its_sent, z) refl)
 
         pub awaits_tag : code ≡ k → AwaitsTag r j m (ReadTag end)
         awaits_tag z = is_awaited (coded_is (either_at r j) k code (sym z))

@@ -13,7 +13,7 @@ use Rattle.x690.specs.declared.ReadingCause.TheVariants.{NotAwaited}
 use Rattle.octets.specs.Answer.{Answer, got, refused, then, if, none_left}
 use Rattle.octets.specs.Permutations.{as_given}
 use Rattle.octets.proofs.Answer.{Holds, Taken, got_holds}
-use Rattle.x690.specs.Reading.{Mode, closed, open-ended, read_identifier}
+use Rattle.x690.specs.Reading.{Mode, closed, open_ended, read_identifier}
 use Rattle.x690.specs.Reading.{at_end}
 use Rattle.ber.specs.Told.{told_identifier}
 use Rattle.ber.specs.declared.identifier.Identifier.TheVariants.{Refused as NoIdentifier}
@@ -84,14 +84,14 @@ module _ {A : Type 0} {P : List ℕ → Type 0} where
       → ((u : Unit {0}) → Sane P s (x u)) → Sane P s (at_end k s f x)
   unfolding at_end
   sane_end closed s h i = sane_if s _ (λ e. h [] (length s, omega arith, sym (drop-length s)) (λ _. refl)) λ e. i
-  sane_end open-ended s h i =
+  sane_end open_ended s h i =
       sane_if s _ (λ e. stops {l = 0} (omega arith)) λ e _.
       sane_if s _ (λ e. i tt) λ e _.
       sane_if s _ (λ e. stops {l = length s} (omega arith)) λ f _.
       sane_if s _ (λ e. stops {l = length s} (omega arith)) λ g _.
       h (drop 2 s) (2, omega (arith, some_left (drop 1 s) f, length-drop 1 s), refl) λ q. absurd (open_not q)
     where
-      open_not : open-ended ≡ closed → ⊥
+      open_not : open_ended ≡ closed → ⊥
       open_not q = let z : ◌≡◌ {A = ℕ} 0 1 = cc in omega arith
 
 -- an item that is not awaited, and a value

@@ -15,7 +15,7 @@ use Rattle.octets.specs.Numbers.{Octets}
 use Rattle.octets.proofs.Answer.{got_holds}
 use Rattle.octets.proofs.Tests.{test}
 use Rattle.ber.specs.Codes.{code_of}
-use Rattle.x690.specs.Reading.{Mode, closed, open-ended, read_length, read_header, inside as insideSize}
+use Rattle.x690.specs.Reading.{Mode, closed, open_ended, read_length, read_header, inside as inside_size}
 use Rattle.x690.specs.Reading.{read_constructed, read_identifier}
 use Rattle.x690.specs.Segments.{in_either}
 use Rattle.x690.proofs.Identifiers.{identifier_sound, identifier_some}
@@ -76,12 +76,12 @@ pub record Within (r : Record) (p : List ℕ) (at end start stop : ℕ) (indefin
 -- the item of a constructed kind, by its header
 module _ (i : List ℕ) (s : List ℕ) (z : Bool) (n : ℕ) (u : List ℕ) (h : read_header i s ≡ got (size_of z n) u)
     (body : Mode → List ℕ → Answer ReadingCause Value) where
-  built_open : z ≡ true → read_constructed i body s ≡ body open-ended u
-  unfolding read_constructed then insideSize
+  built_open : z ≡ true → read_constructed i body s ≡ body open_ended u
+  unfolding read_constructed then inside_size
   built_open t = let g = rw t at h in rw g refl
 
   built_sized : z ≡ false → read_constructed i body s ≡ then (behind (length u - n) (body closed (take n u))) λ v w. got v (drop n u)
-  unfolding read_constructed then insideSize
+  unfolding read_constructed then inside_size
   built_sized t = let g = rw t at h in rw g refl
 
 -- the notes of the explicit tags of an entry
@@ -407,6 +407,6 @@ module _ {b index : List ℕ} {w : ℕ} {m : List ℕ} {first level : ℕ} (Y : 
         test Y.indefinite
         (λ t.
         let z = W.unsized t in
-        let i : HeldIn open-ended (drop Y.start P) ≡ Held = rw (all_c z) (ap (λ (t : Bool). HeldIn (mode t) C) (sym t) ∙ sym its_held) in
+        let i : HeldIn open_ended (drop Y.start P) ≡ Held = rw (all_c z) (ap (λ (t : Bool). HeldIn (mode t) C) (sym t) ∙ sym its_held) in
         reads_open z (kept_built.0 k ∙ built_open Own S Y.indefinite SizeOf (drop Y.start P) (own_lead k) HeldIn t ∙ i) x d y)
         λ t. reads_sized k t x d y

@@ -7,14 +7,14 @@ use Rattle.ber.specs.Codes.{code_of}
 use Rattle.x690.specs.Segments.{in_either}
 use Rattle.table.specs.Syntax.{Body, Plain, Sequence, Set, SequenceOf, SetOf, Choice, Record, Table}
 use Rattle.table.specs.Rules.{siblings}
-use Rattle.records.specs.Entries.{untagged as noTag, first_code, explicit_count}
+use Rattle.records.specs.Entries.{untagged as no_tag, first_code, explicit_count}
 use Rattle.coding.specs.Content.{segmented}
 use Rattle.reader.specs.declared.search.Under.{Under}
 use Rattle.reader.specs.declared.search.Under.TheVariants.{Nothing, At}
 
 -- of a CHOICE without tags, and where no identifier can be read
 abbrev pub untagged : ℕ
-untagged = noTag
+untagged = no_tag
 
 abbrev pub none : ℕ
 none = 67108865

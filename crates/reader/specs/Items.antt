@@ -19,12 +19,12 @@ pub data Holder : Type 0 where
 
 -- how they come: in the order of the parts, each part at most once in any order, one part again and again, or one item of any part
 pub data Manner : Type 0 where
-  in-turn each-once repeated single : Manner
+  in_turn_lem each_once repeated single : Manner
 
 unfoldable pub manner : Holder → Manner
 manner (inside (Plain k)) = single
-manner (inside (Sequence ms)) = in-turn
-manner (inside (Set ms)) = each-once
+manner (inside (Sequence ms)) = in_turn_lem
+manner (inside (Set ms)) = each_once
 manner (inside (SequenceOf t)) = repeated
 manner (inside (SetOf t)) = repeated
 manner (inside (Choice ts)) = single
@@ -61,8 +61,8 @@ up_to_mandatory [] = []
 up_to_mandatory (x ∷ l) = x ∷ if x.1.optional (up_to_mandatory l) λ _. []
 
 unfoldable pub within : Manner → List Placed → List Placed
-within in-turn l = up_to_mandatory l
-within each-once l = l
+within in_turn_lem l = up_to_mandatory l
+within each_once l = l
 within repeated l = l
 within single l = l
 
@@ -88,27 +88,27 @@ lacks h j came = any (λ x. not x.1.optional) (left h j came)
 
 -- from which part on others are left, if j parts were passed
 unfoldable pub since : Manner → ℕ → ℕ
-since in-turn j = j
-since each-once j = 0
+since in_turn_lem j = j
+since each_once j = 0
 since repeated j = 0
 since single j = 0
 
 -- after an item of the part at place p: from which part on others are left, and what is noted
 unfoldable pub following : Manner → ℕ → ℕ
-following in-turn p = suc p
-following each-once p = 0
+following in_turn_lem p = suc p
+following each_once p = 0
 following repeated p = 0
 following single p = 0
 
 unfoldable pub noted : Manner → List ℕ → ℕ → List ℕ
-noted in-turn came p = came
-noted each-once came p = set_at came p 1
+noted in_turn_lem came p = came
+noted each_once came p = set_at came p 1
 noted repeated came p = came
 noted single came p = came
 
 unfoldable pub is_single : Manner → Bool
-is_single in-turn = false
-is_single each-once = false
+is_single in_turn_lem = false
+is_single each_once = false
 is_single repeated = false
 is_single single = true
 

@@ -12,7 +12,7 @@ use Rattle.table.specs.Reading.{table_in}
 use Rattle.records.specs.Entries.{unpacked}
 use Rattle.coding.specs.Reading.{not_awaited}
 use Rattle.reader.specs.Codes.{starts_with, search_in, hit}
-use Rattle.reader.specs.Items.{Holder, inside, message, each-once, manner, parts_of, Placed, awaits, remains, is_single, first, next}
+use Rattle.reader.specs.Items.{Holder, inside, message, each_once, manner, parts_of, Placed, awaits, remains, is_single, first, next}
 use Rattle.reader.specs.Records.{Ready, Known, holder_in, Finds}
 use Rattle.reader.specs.declared.search.Under.TheVariants.{At}
 use Rattle.reader.specs.declared.search.Found.{Found}
@@ -27,7 +27,7 @@ pub record Sound (b index : List ℕ) (w : ℕ) (came : List ℕ) : Type 0 where
   pub ready : Ready b index
   pub known : Known b index w
   pub noted : length came ≡ 16
-  pub clear : (manner (held b w) ≡ each-once → ⊥) → (p : ℕ) → get_or came p 0 ≡ 0
+  pub clear : (manner (held b w) ≡ each_once → ⊥) → (p : ℕ) → get_or came p 0 ≡ 0
 
 -- the place of a part, and n if there is none
 abbrev pub place_of : ℕ → Option Placed → ℕ

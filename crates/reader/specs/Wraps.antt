@@ -8,14 +8,14 @@ use Rattle.octets.specs.Answer.{Answer, got, refused, then, if, behind}
 use Rattle.octets.specs.Lists.{same}
 use Rattle.ber.specs.Codes.{code_of}
 use Rattle.ber.specs.Told.{mode}
-use Rattle.x690.specs.Reading.{read_identifier, Mode, closed, open-ended, at_end}
+use Rattle.x690.specs.Reading.{read_identifier, Mode, closed, open_ended, at_end}
 use Rattle.x690.specs.Segments.{in_parts}
 use Rattle.table.specs.Syntax.{Record, is_choice}
 use Rattle.table.specs.Reading.{table_in}
 use Rattle.coding.specs.Tags.{own_tag, explicit}
 use Rattle.coding.specs.Value.{Value}
 use Rattle.coding.specs.Reading.{read_kind, read_value}
-use Rattle.reader.specs.Codes.{own_either, either_at, coded as codedAs}
+use Rattle.reader.specs.Codes.{own_either, either_at, coded as coded_as}
 use Rattle.reader.specs.Records.{read_record}
 use Rattle.reader.specs.declared.tags.Tag.{Tag}
 use Rattle.reader.specs.declared.tags.Tag.TheVariants.{Read as ReadTag, Refused as NoTag}
@@ -28,7 +28,7 @@ ended mode x = then x λ v w. at_end mode w (λ y. got v y) λ _. refused Traili
 
 -- the tag's item, where x is what was read in its contents: those end at `inner`, if they are definite
 unfoldable pub shut : {A : Type 0} → List ℕ → ℕ → ℕ → Bool → Answer ReadingCause A → Answer ReadingCause A
-shut m outer inner true x = ended open-ended x
+shut m outer inner true x = ended open_ended x
 shut m outer inner false x = then (behind (outer - inner) (ended closed x)) λ v r. got v (drop inner (take outer m))
 
 unfoldable pub inner_end : List ℕ → ℕ → ℕ
@@ -54,7 +54,7 @@ Around n (k ∷ ns) e = (k / 2 ≡ n) × (inner_end ns e ≤ n) × (k % 2 ≡ 1 
 pub record Headed (m : List ℕ) (at from : ℕ) (either : Bool) (code : ℕ) : Type 0 where
   pub identifier : List ℕ
   pub is : read_identifier (drop at m) ≡ got identifier (drop from m)
-  pub coded : codedAs either code (code_of identifier) ≡ true
+  pub coded : coded_as either code (code_of identifier) ≡ true
   pub further : at < from
   pub low : from ≤ length m
 
@@ -74,7 +74,7 @@ sent_as e o i = same o i || (e && same (in_parts o) i)
 pub data AwaitsTag (r : Record) (j : ℕ) (m : List ℕ) : Tag → Type 0 where
   behind_last : length (identifiers r) ≤ j → AwaitsTag r j m (ReadTag 0)
   is_tag : (end : ℕ) → j < length (identifiers r) → Headed m 0 end (either_at r j) (code_of (get_or (identifiers r) j [])) → AwaitsTag r j m (ReadTag end)
-  no_tag : {c : ReadingCause} → j < length (identifiers r)
+  no_tag_lem : {c : ReadingCause} → j < length (identifiers r)
       → then (read_identifier m) (λ i s. if (sent_as (either_at r j) (get_or (identifiers r) j []) i) (got i s) λ _. refused NotAwaited (length m)) ≡ refused c (length m)
       → AwaitsTag r j m (NoTag c)
 

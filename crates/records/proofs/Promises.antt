@@ -19,38 +19,38 @@ use Rattle.records.proofs.Entries as entries
 
 module _ {b : List ℕ} {e : Entry} {r : Record} (x : Entered b e r) where
   pub entered_kind : e.kind ≡ kind r.body
-  entered_kind = entries.entered-kind x
+  entered_kind = entries.entered_kind x
 
   pub kind_choice : eqb e.kind 50 ≡ is_choice r.body
-  kind_choice = entries.kind-choice x
+  kind_choice = entries.kind_choice x
 
   pub entered_span : let s = span_of b e.kind e.own in every_at s.step b s.first s.count ≡ references r.body
-  entered_span = entries.entered-span x
+  entered_span = entries.entered_span x
 
   pub part_inside : let s = span_of b e.kind e.own in (j : ℕ) → j < s.count → s.first + s.step * j < length b
   part_inside = entries.part_inside x
 
   pub entered_members : (ms : List Member) → (r.body ≡ Sequence ms) ⊎ (r.body ≡ Set ms) → WithMembers b e ms
-  entered_members = entries.entered-members x
+  entered_members = entries.entered_members x
 
   pub entered_choice : (ts : List ℕ) → r.body ≡ Choice ts → WithAlternatives b e ts
-  entered_choice = entries.entered-choice x
+  entered_choice = entries.entered_choice x
 
   pub entered_list : (t : ℕ) → (r.body ≡ SequenceOf t) ⊎ (r.body ≡ SetOf t) → WithElements b e t
-  entered_list = entries.entered-list x
+  entered_list = entries.entered_list x
 
   pub entered_enumerated : (ns : List ℕ) → r.body ≡ Plain (Enumerated ns) → WithNumbers b e ns
-  entered_enumerated = entries.entered-enumerated x
+  entered_enumerated = entries.entered_enumerated x
 
   -- Its tags: how many there are, each at its place, and which are constructed.
 
   pub entered_tags : tag_count e ≡ length r.tags
-  entered_tags = entries.entered-tags x
+  entered_tags = entries.entered_tags x
 
   pub entered_tag : (d : Tag) (j : ℕ) → j < length r.tags
       → record { class = get_or b (tag_place e j) 0; number = two b (tag_place e j + 1) } ≡ get_or r.tags j d
-  entered_tag = entries.entered-tag x
+  entered_tag = entries.entered_tag x
 
   pub entered_bit : (j : ℕ) → j < length r.tags
       → (ltb j e.explicit || not e.simple) ≡ (ltb (j + 1) (length r.tags) || constructed r.body)
-  entered_bit = entries.entered-bit x
+  entered_bit = entries.entered_bit x

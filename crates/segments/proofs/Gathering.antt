@@ -14,7 +14,7 @@ use Rattle.octets.proofs.Answer.{Holds, yields, refuses, then_holds, map_holds, 
 use Rattle.x690.specs.Identifier.{leading, identifier}
 use Rattle.x690.specs.Item.{Definite, sized}
 use Rattle.x690.specs.Length.{Length}
-use Rattle.x690.specs.Reading.{Size, definite, indefinite, read_length, Mode, closed, open-ended, inside, read_constructed}
+use Rattle.x690.specs.Reading.{Size, definite, indefinite, read_length, Mode, closed, open_ended, inside, read_constructed}
 use Rattle.x690.specs.Segments.{Kind, bit_string, octet_string, universal, segment_tag, empty, join, whole, Gathered, read_joined, read_all, read_segment}
 use Rattle.x690.proofs.Identifiers.{identifier_sound}
 use Rattle.x690.proofs.Segments.{all_closed}
@@ -71,7 +71,7 @@ Leads k n a s j d u = (c w : List ℕ) → Gathers k j d u c w → Gathers k n a
 -- how many are open behind contents
 abbrev after : Mode → ℕ → ℕ
 after closed n = suc n
-after open-ended n = n
+after open_ended n = n
 
 -- a segment behind a; t stands behind the octets that it is read from
 abbrev Adds : Kind → List ℕ → Gathered → List ℕ → Type 0
@@ -149,7 +149,7 @@ module _ (k : Kind) (body : Mode → List ℕ → Answer ReadingCause Gathered) 
       let i = rw (o, join_empty k a r) at (x n a (drop z w ++ t) r d y (rw none q)) in
       rw p (enter z (w ++ t) l h i))
   inside_adds {s} indefinite w e (is_indefinite f) =
-      map_holds (all open-ended w) λ g v x n a t r d y q.
+      map_holds (all open_ended w) λ g v x n a t r d y q.
       let p : s ++ t ≡ (universal k + 32) ∷ 128 ∷ (w ++ t) = ap (λ (l : List ℕ). l ++ t) (begins e f) in
       let i = rw (join_empty k a r) at (x (suc n) a t r d y q) in
       rw p (open_up i)
@@ -184,4 +184,4 @@ module _ (k : Kind) (d : ℕ) where
       over : (mode : Mode) → read_all k (read_segment k d) mode m ≡ got g u
           → Gathers k (after mode 0) (join k (empty k) g.0) (u ++ []) (join k (empty k) g.0) (u ++ [])
       over closed e = rw (got_holds (all_closed k d m) e) at_the_end
-      over open-ended e = behind_all
+      over open_ended e = behind_all

@@ -16,7 +16,7 @@ use Rattle.octets.specs.Lists.{same}
 use Rattle.octets.proofs.Answer.{Holds, yields, refuses}
 use Rattle.x690.specs.Identifier.{bit, leading, identifier}
 use Rattle.x690.specs.Item.{Definite, sized}
-use Rattle.x690.specs.Reading.{read_identifier, Size, definite, indefinite, read_length, Mode, closed, open-ended, at_end, read_header, inside}
+use Rattle.x690.specs.Reading.{read_identifier, Size, definite, indefinite, read_length, Mode, closed, open_ended, at_end, read_header, inside}
 use Rattle.x690.specs.Reading.{read_constructed, contents, read_primitive}
 use Rattle.x690.specs.Segments.{Kind, bit_string, octet_string, universal, segment_tag, empty, join, in_form, Gathered, read_joined, read_all, read_segment}
 use Rattle.x690.proofs.Identifiers.{identifier_sound}
@@ -74,11 +74,11 @@ at_end_within : {k : Kind} {o e b : ℕ} (mode : Mode) (s : List ℕ) {f : List 
 unfolding at_end if none_left
 at_end_within closed [] h g = h [] no_more
 at_end_within closed (x ∷ s) h g = g tt
-at_end_within open-ended [] h g = here
-at_end_within open-ended (zero ∷ []) h g = here
-at_end_within open-ended (zero ∷ zero ∷ s) h g = h s mark
-at_end_within open-ended (zero ∷ suc c ∷ s) h g = rw (ne_eqb (suc c) 0 (λ e. omega arith)) here
-at_end_within open-ended (suc c ∷ s) h g = rw (ne_eqb (suc c) 0 (λ e. omega arith)) (g tt)
+at_end_within open_ended [] h g = here
+at_end_within open_ended (zero ∷ []) h g = here
+at_end_within open_ended (zero ∷ zero ∷ s) h g = h s mark
+at_end_within open_ended (zero ∷ suc c ∷ s) h g = rw (ne_eqb (suc c) 0 (λ e. omega arith)) here
+at_end_within open_ended (suc c ∷ s) h g = rw (ne_eqb (suc c) 0 (λ e. omega arith)) (g tt)
 
 ends_cut : {mode : Mode} {s u : List ℕ} → Ends mode s u → (p : List ℕ) × (s ≡ p ++ u)
 ends_cut no_more = ([], refl)
@@ -159,7 +159,7 @@ inside_within k body s q w (definite n) h one e two room = part (h closed (take 
         let t = length-take-le n w room in
         let v = ap length e ∙ length-append q w in
         stops {l = l + (length w - n)} (omega arith)
-inside_within k body s q w indefinite h one e two room = all (h open-ended w)
+inside_within k body s q w indefinite h one e two room = all (h open_ended w)
   where
     all : {x : Answer ReadingCause Gathered} → Within k 0 (length (empty k)) 0 w x → Within k 1 0 0 s x
     all (takes {g = g} {u = u} p d o low high back) =

@@ -20,7 +20,7 @@ use Rattle.octets.proofs.Answer.{got_holds, got_value, refused≢got, run}
 use Rattle.octets.proofs.Lists.{same_refl, same_true}
 use Rattle.octets.proofs.Tests.{test, or_by}
 use Rattle.x690.specs.Identifier.{bit, leading, identifier}
-use Rattle.x690.specs.Reading.{read_identifier, definite, indefinite, read_length, closed, open-ended, passes, read_header, inside}
+use Rattle.x690.specs.Reading.{read_identifier, definite, indefinite, read_length, closed, open_ended, passes, read_header, inside}
 use Rattle.x690.specs.Reading.{read_constructed, contents, read_primitive}
 use Rattle.x690.specs.Segments.{Kind, bit_string, octet_string, universal, segment_tag, empty, join, in_form, whole, Gathered, read_joined, read_all}
 use Rattle.x690.specs.Segments.{read_segment}
@@ -307,7 +307,7 @@ module _ {k : Kind} {m : List ℕ} {d : ℕ} (B : Begun k m d) where
             let (o, f, n) = open_at t in
             let w : part m y ≡ drop y.start m = rw (← n) at (part_to_end m y.start) in
             let none : l + (length m - y.end) ≡ l = omega arith in
-            let r : read_all k (read_segment k (d - 1)) open-ended (drop y.start m) ≡ refused c l = rw (t, w) at p in
+            let r : read_all k (read_segment k (d - 1)) open_ended (drop y.start m) ≡ refused c l = rw (t, w) at p in
             rw (is_constructed q, o, r, none) refl
 
         refused_sized : {c : ReadingCause} {l : ℕ} → inner ≡ refused c l → y.indefinite ≡ false
@@ -343,7 +343,7 @@ module _ {k : Kind} {m : List ℕ} {d : ℕ} (B : Begun k m d) where
               let (o, f, n) = open_at t in
               let h = in_m in
               let u : part m y ≡ drop y.start m = rw (← n) at (part_to_end m y.start) in
-              let r : read_all k (read_segment k (d - 1)) open-ended (drop y.start m) ≡ got C.gathered (drop w.end (drop y.start m)) = rw (t, u) at C.is in
+              let r : read_all k (read_segment k (d - 1)) open_ended (drop y.start m) ≡ got C.gathered (drop w.end (drop y.start m)) = rw (t, u) at C.is in
               rw (is_constructed q, o, r, drop-drop w.end y.start m, left_at m (y.start + w.end) h, ← C.sized, ← C.left, ← C.back) refl
 
           read_sized : (C : Came k 0 (length (empty k)) (part m y) inner w) → y.indefinite ≡ false → Whole

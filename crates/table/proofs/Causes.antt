@@ -20,7 +20,7 @@ use Rattle.table.specs.Octets.{record_shaped, Spells, Misshapen, over_long}
 use Rattle.table.specs.Rules.{Dangling, Mistagged, Circular, Sharing, Infinite}
 use Rattle.table.specs.Reading.{scan, look}
 use Rattle.table.specs.Decide.{dangling as Decide·dangling, mistagged as Decide·mistagged, circular as Decide·circular, sharing as Decide·sharing}
-use Rattle.table.specs.Decide.{infinite as isInfinite}
+use Rattle.table.specs.Decide.{infinite as is_infinite}
 use Rattle.table.specs.Cause.{cause_number, Holds, Breaks, misshapen, dangling, mistagged, circular, sharing, infinite, FirstCause}
 use Rattle.table.specs.Verdict.{Test, in_turn, record_causes, judge, too_long, verdict}
 use Rattle.table.specs.Passes.{Passes}
@@ -78,8 +78,8 @@ Right b (Refused c p) = FirstCause b c p
 module _ (b : List ℕ) (T : Table) (n : ℕ) (beyond : (t : ℕ) → n ≤ t → T t ≡ absent)
     (to : (p : ℕ) (rule : Table → ℕ → Type 0) → p < n → rule T n → Holds b p rule)
     (from : (p : ℕ) (rule : Table → ℕ → Type 0) → Holds b p rule → (p < n) × rule T n) where
-  infinite_complete : (t : ℕ) → Infinite T t → isInfinite T n t ≡ true
-  infinite_complete t h = test (isInfinite T n t) (λ e. e) λ e. absurd (h (infinite_false T n t e))
+  infinite_complete : (t : ℕ) → Infinite T t → is_infinite T n t ≡ true
+  infinite_complete t h = test (is_infinite T n t) (λ e. e) λ e. absurd (h (infinite_false T n t e))
 
   -- the test of the cause with the number k agrees with its rule
   record Agrees (k : ℕ) (x : Test) : Type 0 where
@@ -127,14 +127,14 @@ module _ (b : List ℕ) (T : Table) (n : ℕ) (beyond : (t : ℕ) → n ≤ t �
       by : (p : ℕ) → Breaks b p SharedTag → (p < n) × (Decide·sharing T n p ≡ true)
       by p (sharing x) = let y = from p (λ T n. Sharing T p) x in (y.0, sharing_complete T n beyond p y.1)
 
-  infinite_agrees : Agrees 6 (NoValue, isInfinite)
+  infinite_agrees : Agrees 6 (NoValue, is_infinite)
   infinite_agrees = record {
     rank = refl;
     sound = λ p h e. infinite (to p (λ T n. Infinite T p) h (infinite_true T n beyond p e));
     complete = λ p x. by p x;
   }
     where
-      by : (p : ℕ) → Breaks b p NoValue → (p < n) × (isInfinite T n p ≡ true)
+      by : (p : ℕ) → Breaks b p NoValue → (p < n) × (is_infinite T n p ≡ true)
       by p (infinite x) = let y = from p (λ T n. Infinite T p) x in (y.0, infinite_complete p y.1)
 
   -- these are the causes from the number k to 6, in this order
@@ -250,7 +250,7 @@ module _ (b : List ℕ) (octets : Octets b) where
           tagged = named.tagged;
           ends = ends T n (below_there T n named) (λ t h y. none ChoiceLoop t (circular (held t (λ T n. Circular T t) h y)));
           distinct = λ t h y. none SharedTag t (sharing (held t (λ T n. Sharing T t) h y));
-          finite = λ t h. test (isInfinite T n t)
+          finite = λ t h. test (is_infinite T n t)
               (λ e. absurd (none NoValue t (infinite (held t (λ T n. Infinite T t) h (infinite_true T n beyond t e))))) λ e. infinite_false T n t e;
           tag_numbers = λ t h g i. omega (arith, tag_numbers octets x t h g i);
           listed_numbers = λ t h ns q k i. omega (arith, listed_numbers octets x t h ns q k i);

@@ -5,7 +5,7 @@ use mathlib.Core.List.Memᴰ.{head as in_head}
 use mathlib.Core.List.Memᴰ.{tail as in_Tail}
 use mathlib.Core.List.{List, [], ◌∷◌, ◌++◌, append_assoc, Memᴰ as In}
 use mathlib.Core.List.Memᴰ.{append_right as in_right}
-use mathlib.Core.List.Memᴰ.{not-nil as in-none}
+use mathlib.Core.List.Memᴰ.{not-nil as in_none}
 use mathlib.Core.Logic.{⊎_elim}
 use mathlib.Core.Path.{◌≡◌, refl, sym, ap, ◌∙◌}
 use Prim.Native.Nat.{ℕ, ◌≤◌, ◌<◌}
@@ -30,13 +30,13 @@ use Rattle.table.proofs.Runs.{some_pair, paired}
 -- if the marked records have a finite value, so has one that is found
 pub body_finite : (T : Table) (m : ℕ → Bool) → ((u : ℕ) → m u ≡ true → Finite T u) → (t : ℕ) (b : Body) → (T t).body ≡ b → finite_body m b ≡ true → Finite T t
 unfolding finite_body is_choice members
-body_finite T m h t (Plain k) q e = all_mandatory {t = t} (rw q) (λ x i o. absurd (in-none (rw q at i)))
+body_finite T m h t (Plain k) q e = all_mandatory {t = t} (rw q) (λ x i o. absurd (in_none (rw q at i)))
 body_finite T m h t (Sequence ms) q e =
     all_mandatory {t = t} (rw q) (λ x i o. h x.type (rw o at (all_each (λ (y : Member). y.optional || m y.type) e (rw q at i))))
 body_finite T m h t (Set ms) q e =
     all_mandatory {t = t} (rw q) (λ x i o. h x.type (rw o at (all_each (λ (y : Member). y.optional || m y.type) e (rw q at i))))
-body_finite T m h t (SequenceOf u) q e = all_mandatory {t = t} (rw q) (λ x i o. absurd (in-none (rw q at i)))
-body_finite T m h t (SetOf u) q e = all_mandatory {t = t} (rw q) (λ x i o. absurd (in-none (rw q at i)))
+body_finite T m h t (SequenceOf u) q e = all_mandatory {t = t} (rw q) (λ x i o. absurd (in_none (rw q at i)))
+body_finite T m h t (SetOf u) q e = all_mandatory {t = t} (rw q) (λ x i o. absurd (in_none (rw q at i)))
 body_finite T m h t (Choice ts) q e = let s = any_some m ts e in one_alternative ts s.element q s.among (h s.element s.has)
 
 member_found : (m : ℕ → Bool) (x : Member) → (x.optional ≡ false → m x.type ≡ true) → (x.optional || m x.type) ≡ true
@@ -64,10 +64,10 @@ same_tag_lem g h e =
     let d = eqb-true g.number h.number q.1 in
     ap (λ x. record { class = x; number = g.number }) c ∙ ap (λ x. record { class = h.class; number = x }) d
 
-first_begins : (T : Table) (g : Tag) (t : ℕ) (gs : List Tag) → (T t).tags ≡ gs → begins g gs ≡ true → First T g t
+first_begins_lem : (T : Table) (g : Tag) (t : ℕ) (gs : List Tag) → (T t).tags ≡ gs → begins g gs ≡ true → First T g t
 unfolding begins
-first_begins T g t [] q e = absurd (false≢true e)
-first_begins T g t (h ∷ gs) q e = outermost gs (q ∙ ap {B = List Tag} (λ x. x ∷ gs) (sym (same_tag_lem g h e)))
+first_begins_lem T g t [] q e = absurd (false≢true e)
+first_begins_lem T g t (h ∷ gs) q e = outermost gs (q ∙ ap {B = List Tag} (λ x. x ∷ gs) (sym (same_tag_lem g h e)))
 
 -- a first tag of both
 pub record Shared (T : Table) (a c : ℕ) : Type 0 where
@@ -128,7 +128,7 @@ choice_tag b g (h ∷ gs) c z = or_left (eqb g.class 0) _ (eq-eqb g.class 0 z)
 
 on_choices : (b : Body) {g : Tag} {gs : List Tag} → is_choice b ≡ true → g.class ≡ 0 → In g gs → wrong_tags b gs ≡ true
 on_choices b c z (in_head {x = h} {xs = gs} q) = choice_tag b h gs c (rw q at z)
-on_choices b c z (in_Tail {x = h} {xs = []} i) = absurd (in-none i)
+on_choices b c z (in_Tail {x = h} {xs = []} i) = absurd (in_none i)
 on_choices b c z (in_Tail {x = h} {xs = k ∷ gs} i) = wrong_after b (h ∷ []) k gs (on_choices b c z i)
 
 pub mistagged_complete : (T : Table) (t : ℕ) → Mistagged (T t) → mistagged T t ≡ true
@@ -169,7 +169,7 @@ module _ (T : Table) (n : ℕ) where
   pub first_sound : (g : Tag) (t : ℕ) → found (first_step T g) n t ≡ true → First T g t
   unfolding first_step
   first_sound g =
-      rounds_sound (first_step T g) n (First T g) (λ m h t e. ⊎_elim (λ (q : begins g (T t).tags ≡ true). first_begins T g t (T t).tags refl q)
+      rounds_sound (first_step T g) n (First T g) (λ m h t e. ⊎_elim (λ (q : begins g (T t).tags ≡ true). first_begins_lem T g t (T t).tags refl q)
       (λ (q : any m (below T t) ≡ true). let s = any_some m (below T t) q in inside s.element s.among (h s.element s.has))
       (or_cases (begins g (T t).tags) _ e))
 
@@ -206,7 +206,7 @@ module _ (T : Table) (n : ℕ) where
       alternative_there : (t : ℕ) (ts : List ℕ) (a : ℕ) → (T t).body ≡ Choice ts → In a ts → m a ≡ true → m t ≡ true
       unfolding finite_body
       alternative_there t ts a q i e =
-          there_or_absent t (λ l. closed t l (rw q (some_any m i e))) (λ z. let s : ts ≡ [] = cc in absurd (in-none (rw s at i)))
+          there_or_absent t (λ l. closed t l (rw q (some_any m i e))) (λ z. let s : ts ≡ [] = cc in absurd (in_none (rw s at i)))
 
       -- marks to which no record that is there has to be added are on all that have a finite value
       pub closed_finite : {t : ℕ} → Finite T t → m t ≡ true
@@ -228,7 +228,7 @@ module _ (T : Table) (n : ℕ) where
     reach_there u t a i e =
         there_or_absent t
         (λ l. rounds_closed (reach_step T u) n t l (or_right (eqb t u) _ (some_any (λ v. get_or (rounds (reach_step T u) n n) v false) i e)))
-        (λ z. absurd (in-none (rw z at i)))
+        (λ z. absurd (in_none (rw z at i)))
 
     reach_itself : (u : ℕ) → u < n → found (reach_step T u) n u ≡ true
     unfolding reach_step
@@ -257,7 +257,7 @@ module _ (T : Table) (n : ℕ) where
     first_there g t a i e =
         there_or_absent t
         (λ l. rounds_closed (first_step T g) n t l (or_right (begins g (T t).tags) _ (some_any (λ v. get_or (rounds (first_step T g) n n) v false) i e)))
-        (λ z. absurd (in-none (rw z at i)))
+        (λ z. absurd (in_none (rw z at i)))
 
     pub first_complete : {g : Tag} {t : ℕ} → First T g t → found (first_step T g) n t ≡ true
     first_complete {g} (outermost {t} gs e) = first_outermost g t gs e

@@ -2,7 +2,7 @@
 -- Assumes nothing.
 use mathlib.Core.Bool.{true}
 use mathlib.Core.List.Memᴰ.{head as first_of}
-use mathlib.Core.List.Memᴰ.{not-nil as not-in-nil}
+use mathlib.Core.List.Memᴰ.{not-nil as not_in_nil}
 use mathlib.Core.List.{List, [], ◌∷◌, Memᴰ as In}
 use mathlib.Core.Path.{◌≡◌, refl, ap, ◌∙◌}
 use Prim.Native.Nat.{ℕ, zero, suc, ◌≤◌, ◌<◌}
@@ -105,7 +105,7 @@ module _ (T : Table) (n : ℕ) (x : Straight T n) (there : (t a : ℕ) → t < n
 
   first_within : (d t : ℕ) → t < n → Nested T d t → (g : Tag) × First T g t
   unfolding Nested
-  first_within zero t h k = first_by t h (λ a i. absurd (not-in-nil (rw k at i)))
+  first_within zero t h k = first_by t h (λ a i. absurd (not_in_nil (rw k at i)))
   first_within (suc d) t h k = first_by t h (λ a i. first_within d a (there t a h i) (k a i))
 
   pub reached_there : {u t : ℕ} → t < n → Reaches T u t → u < n
@@ -130,12 +130,12 @@ module _ (T : Table) (n : ℕ) (x : Straight T n) (there : (t a : ℕ) → t < n
 below_named : (gs : List Tag) (b : Body) (a : ℕ) → In a (tags_below gs b) → In a (references b)
 unfolding tags_below body_below references
 below_named [] (Plain k) a i = i
-below_named [] (Sequence ms) a i = absurd (not-in-nil i)
-below_named [] (Set ms) a i = absurd (not-in-nil i)
-below_named [] (SequenceOf t) a i = absurd (not-in-nil i)
-below_named [] (SetOf t) a i = absurd (not-in-nil i)
+below_named [] (Sequence ms) a i = absurd (not_in_nil i)
+below_named [] (Set ms) a i = absurd (not_in_nil i)
+below_named [] (SequenceOf t) a i = absurd (not_in_nil i)
+below_named [] (SetOf t) a i = absurd (not_in_nil i)
 below_named [] (Choice ts) a i = i
-below_named (g ∷ gs) b a i = absurd (not-in-nil i)
+below_named (g ∷ gs) b a i = absurd (not_in_nil i)
 
 module _ (T : Table) (n : ℕ) (x : Named T n) where
   pub named_there : (t a : ℕ) → t < n → In a (references (T t).body) → a < n

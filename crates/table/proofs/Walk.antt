@@ -1,8 +1,8 @@
 -- Laws of the walk that gathers first tags.
 -- Assumes nothing.
-use mathlib.Core.List.Memᴰ.{cases_cons as in-cons}
+use mathlib.Core.List.Memᴰ.{cases_cons as in_cons}
 use mathlib.Core.List.Memᴰ.{head as first_of}
-use mathlib.Core.List.Memᴰ.{not-nil as not-in-nil}
+use mathlib.Core.List.Memᴰ.{not-nil as not_in_nil}
 use mathlib.Core.List.Memᴰ.{tail as later}
 use mathlib.Core.List.{List, [], ◌∷◌, ◌++◌, Memᴰ as In}
 use mathlib.Core.Logic.{◌⊎◌, inl, inr, ⊎_elim}
@@ -83,14 +83,14 @@ module _ {T : Table} {m : ℕ} where
 
   -- each record that was to be walked is marked
   pub walked : {v ks w : List ℕ} → Walks T m v ks w → (k : ℕ) → In k ks → get_or w (like T k) 0 ≡ m
-  walked done k i = absurd (not-in-nil i)
+  walked done k i = absurd (not_in_nil i)
   walked (seen {v = v} {w = w} {ks = ks} {k = a} e x) k i =
-      ⊎_elim (λ q. rw q (stays x (like T a) e)) (λ l. walked x k l) (in-cons i)
+      ⊎_elim (λ q. rw q (stays x (like T a) e)) (λ l. walked x k l) (in_cons i)
   walked (down {v = v} {u = u} {w = w} {ks = ks} {k = a} h e x y) k i =
       ⊎_elim
       (λ q. rw q (stays y (like T a) (stays x (like T a) (get_or-set_same v (like T a) m 0 h))))
       (λ l. walked y k l)
-      (in-cons i)
+      (in_cons i)
 
 -- what stands for the records under a record that j stands for
 abbrev pub Under : Table → ℕ → List ℕ → ℕ → Type 0

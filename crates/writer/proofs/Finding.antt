@@ -212,7 +212,7 @@ below_part b e v p i m h =
 
 -- the node of record t of a table that passes, at a place of its own part
 module _ (b : List ℕ) (o : Octets b) (e : Entry) (K : Known b e) (v : List ℕ) (p : ℕ) (shaped : 0 < own_end e.kind v p)
-    (ag : agrees (record_in b e).body (node_of e.kind v p) ≡ true) (built : constructed_of e.kind ≡ true) (in-v : own_end e.kind v p ≤ length v)
+    (ag : agrees (record_in b e).body (node_of e.kind v p) ≡ true) (built : constructed_of e.kind ≡ true) (in_v : own_end e.kind v p ≤ length v)
     (P : Passes b (table_in b) (count_in b)) (t : ℕ) (h : t < count_in b) (is : record_in b e ≡ table_in b t) where
   F : Found b o e v p shaped ag
   F = found b o e v p shaped ag built
@@ -237,7 +237,7 @@ module _ (b : List ℕ) (o : Octets b) (e : Entry) (K : Known b e) (v : List ℕ
   stand : Standing b v e p
   stand =
       record {
-        starts = rw F.start in-v;
+        starts = rw F.start in_v;
         part = λ i k m. part_inside K.entered (part_of e v p i) (F.part i k);
         types = λ i k l. known_type i k no_message l;
       }
@@ -269,15 +269,15 @@ module _ (b : List ℕ) (e : Entry) (K : Known b e) (v : List ℕ) (at : ℕ) (s
   end_is : own_end e.kind v (at + 3) ≡ end_at v at
   end_is = ap (λ (k : ℕ). own_end k v (at + 3)) at_kind ∙ sym (own_end_is v at shaped)
 
-  module _ (o : Octets b) (built : constructed_of (get_or v (at + 2) 0) ≡ true) (in-v : end_at v at ≤ length v) (P : Passes b (table_in b) (count_in b)) (h : t < count_in b) where
+  module _ (o : Octets b) (built : constructed_of (get_or v (at + 2) 0) ≡ true) (in_v : end_at v at ≤ length v) (P : Passes b (table_in b) (count_in b)) (h : t < count_in b) where
     pub at_stands : Standing b v e (at + 3)
-    at_stands = stand b o e K v (at + 3) at_shaped agreed_there (rw at_kind built) (rw end_is in-v) P t h is
+    at_stands = stand b o e K v (at + 3) at_shaped agreed_there (rw at_kind built) (rw end_is in_v) P t h is
 
     pub at_start : start_at e v (at + 3) ≡ end_at v at
-    at_start = stand_start b o e K v (at + 3) at_shaped agreed_there (rw at_kind built) (rw end_is in-v) P t h is ∙ end_is
+    at_start = stand_start b o e K v (at + 3) at_shaped agreed_there (rw at_kind built) (rw end_is in_v) P t h is ∙ end_is
 
     pub at_row : row_in b e v (at + 3) ≡ row_of (table_in b t).body (node_at v at)
-    at_row = stand_row b o e K v (at + 3) at_shaped agreed_there (rw at_kind built) (rw end_is in-v) P t h is
+    at_row = stand_row b o e K v (at + 3) at_shaped agreed_there (rw at_kind built) (rw end_is in_v) P t h is
         ∙ ap (λ (k : ℕ). row_of (table_in b t).body (node_of k v (at + 3))) at_kind
 
 -- a message of type t

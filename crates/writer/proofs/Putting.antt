@@ -153,7 +153,7 @@ module _ (T : Table) (n t : ℕ) (v : List ℕ) (at : ℕ) where
 
   module _ (A : Accepted T n t v at) (h : at ≤ length v) where
     below_is : judge_value T n t (drop at v) ≡ judge_below (λ u w. judge_value T (n - 1) u w) (T t).body (node_at v at) (drop (end_at v at) v)
-    below_is = below.value-below T t v at h n A.shaped A.level A.agreed
+    below_is = below.value_below T t v at h n A.shaped A.level A.agreed
 
     module _ (c : constructed (T t).body ≡ false) where
       leaf_is : judge_value T n t (drop at v) ≡ got (leaf (leaf_of (get_or v (at + 2) 0) v (at + 3))) (drop (end_at v at) v)

@@ -15,7 +15,7 @@ use Rattle.octets.specs.Lists.{same}
 use Rattle.octets.proofs.Answer.{Holds, yields, refuses, if_holds, then_holds, map_holds, behind_holds, run, Reads}
 use Rattle.octets.proofs.Permutations.{every_left, every_right}
 use Rattle.octets.proofs.Lists.{same_refl, same_true}
-use Rattle.x690.specs.Reading.{read_identifier, Size, definite, indefinite, read_length, Mode, closed, open-ended, at_end, read_header, inside, read_constructed, contents, read_primitive}
+use Rattle.x690.specs.Reading.{read_identifier, Size, definite, indefinite, read_length, Mode, closed, open_ended, at_end, read_header, inside, read_constructed, contents, read_primitive}
 use Rattle.x690.specs.Length.{longest_field, Length, short, long, length_octets}
 use Rattle.x690.specs.Item.{Definite, sized, Constructed, in_size, in_marks, item}
 use Rattle.x690.proofs.Identifiers.{identifier_sound, Begun}
@@ -37,12 +37,12 @@ marks_sent = in_marks refl
 -- behind contents stands `tail`: the contents end there, and r follows
 pub data Ends : Mode → List ℕ → List ℕ → Type 0 where
   no_more : Ends closed [] []
-  mark : {r : List ℕ} → Ends open-ended (0 ∷ 0 ∷ r) r
+  mark : {r : List ℕ} → Ends open_ended (0 ∷ 0 ∷ r) r
 
 ends_closed : {t r : List ℕ} → Ends closed t r → t ≡ []
 ends_closed no_more = refl
 
-ends_open : {t r : List ℕ} → Ends open-ended t r → t ≡ 0 ∷ 0 ∷ r
+ends_open : {t r : List ℕ} → Ends open_ended t r → t ≡ 0 ∷ 0 ∷ r
 ends_open mark = refl
 
 pub at_end_end : {A : Type 0} {mode : Mode} {t r : List ℕ} (f : List ℕ → Answer ReadingCause A) (x : Unit {0} → Answer ReadingCause A) → Ends mode t r → at_end mode t f x ≡ f r
@@ -55,16 +55,16 @@ pub at_end_holds : {A : Type 0} {P : A → List ℕ → Type 0} (mode : Mode) (s
 unfolding at_end if none_left
 at_end_holds closed [] h k = h [] no_more
 at_end_holds closed (b ∷ s) h k = k tt
-at_end_holds open-ended [] h k = refuses
-at_end_holds open-ended (zero ∷ []) h k = refuses
-at_end_holds open-ended (zero ∷ zero ∷ s) h k = h s mark
-at_end_holds open-ended (zero ∷ suc c ∷ s) h k = rw (ne_eqb (suc c) 0 (λ e. omega arith)) refuses
-at_end_holds open-ended (suc b ∷ s) h k = rw (ne_eqb (suc b) 0 (λ e. omega arith)) (k tt)
+at_end_holds open_ended [] h k = refuses
+at_end_holds open_ended (zero ∷ []) h k = refuses
+at_end_holds open_ended (zero ∷ zero ∷ s) h k = h s mark
+at_end_holds open_ended (zero ∷ suc c ∷ s) h k = rw (ne_eqb (suc c) 0 (λ e. omega arith)) refuses
+at_end_holds open_ended (suc b ∷ s) h k = rw (ne_eqb (suc b) 0 (λ e. omega arith)) (k tt)
 
 pub at_end_more : {A : Type 0} (mode : Mode) (b : ℕ) (s : List ℕ) (f : List ℕ → Answer ReadingCause A) (x : Unit {0} → Answer ReadingCause A) → 0 < b → at_end mode (b ∷ s) f x ≡ x tt
 unfolding at_end
 at_end_more closed b s f x h = simp run
-at_end_more open-ended b s f x h = simp (run, ne_eqb b 0 (λ e. omega arith))
+at_end_more open_ended b s f x h = simp (run, ne_eqb b 0 (λ e. omega arith))
 
 pub definite_octets : {i c m : List ℕ} → Definite i c m → AllOctets m → AllOctets c
 definite_octets {i = i} (sized ls l e) o = every_right ls (every_right i (rw e at o))
@@ -135,7 +135,7 @@ constructed_complete body {i = i} {c} s g b (in_size (sized ls l e)) =
       alike = x.alike;
     }
 constructed_complete body {i = i} {c} s g b (in_marks e) =
-    let x = b open-ended (0 ∷ 0 ∷ s) s mark in
+    let x = b open_ended (0 ∷ 0 ∷ s) s mark in
     record { value = x.value; answer = rw (e, whole_indefinite i c s) (simp (run, header_indefinite i (c ++ (0 ∷ 0 ∷ s)) g, inside, x.answer)); alike = x.alike }
 
 -- a refusal inside a part is at the same octet of the whole: what stands behind the part is left as well
@@ -208,7 +208,7 @@ module _ {A : Type 0} (C : A → List ℕ → Type 0) (body : Mode → List ℕ 
   inside_sound i s u (definite k) w e (is_definite m eu l t) =
       then_holds (behind_holds _ (sound closed (take k w))) (λ v r b. yields (in_frame (sized_item m w e eu l t (at_size b))))
   inside_sound i s u indefinite w e (is_indefinite eu) =
-      map_holds (sound open-ended w) (λ v r b.
+      map_holds (sound open_ended w) (λ v r b.
       record {
         item = i ++ (128 ∷ (b.content ++ (0 ∷ 0 ∷ [])));
         content = b.content;

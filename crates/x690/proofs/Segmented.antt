@@ -26,7 +26,7 @@ abbrev tagged : List ℕ → Answer ReadingCause (List ℕ)
 tagged m = read_carried (some octet_string) (0x80 ∷ []) m
 
 -- each case comes out as the readings say
-pub cases-read :
+pub cases_read :
     -- segments nest four deep, and no fifth
     (octets (0x24 ∷ 0x80 ∷ 0x24 ∷ 0x80 ∷ 0x24 ∷ 0x80 ∷ 0x24 ∷ 0x80 ∷ 0x04 ∷ 0x01 ∷ 0xAA ∷ 0x00 ∷ 0x00 ∷ 0x00 ∷ 0x00 ∷ 0x00 ∷ 0x00 ∷ 0x00 ∷ 0x00 ∷ []) ≡ got (0xAA ∷ []) [])
     × (octets (0x24 ∷ 0x80 ∷ 0x24 ∷ 0x80 ∷ 0x24 ∷ 0x80 ∷ 0x24 ∷ 0x80 ∷ 0x24 ∷ 0x80 ∷ 0x04 ∷ 0x01 ∷ 0xAA ∷ 0x00 ∷ 0x00 ∷ 0x00 ∷ 0x00 ∷ 0x00 ∷ 0x00 ∷ 0x00 ∷ 0x00 ∷ 0x00 ∷ 0x00 ∷ []) ≡ refused MessageLevel 13)
@@ -58,7 +58,7 @@ pub cases-read :
     × (octets (0x24 ∷ 0x02 ∷ 0x00 ∷ 0x00 ∷ []) ≡ refused NotAwaited 2)
 unfolding if then behind none_left same unused leading identifier segment_tag in_parts empty join in_form whole read_following read_identifier passes fit
     read_length at_end read_header inside read_constructed contents read_primitive read_joined read_segment read_carried
-cases-read = (refl, refl, refl, refl, refl, refl, refl, refl, refl, refl, refl, refl, refl, refl, refl, refl, refl, refl, refl, refl)
+cases_read = (refl, refl, refl, refl, refl, refl, refl, refl, refl, refl, refl, refl, refl, refl, refl, refl, refl, refl, refl, refl)
 
 -- the tests by which segments are told, on their own tags and on no segment
 pub awaits : (k : Kind) (t : Bool) → (same (segment_tag k false) (segment_tag k t) || same (segment_tag k true) (segment_tag k t)) ≡ true

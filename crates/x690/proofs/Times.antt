@@ -28,7 +28,7 @@ unfoldable is : TimeKind → String → Bool
 is k s = is_time k (octets s)
 
 -- texts on both sides of each border
-cases-told :
+cases_told :
     all (is Utc) ("991231235959Z" ∷ "000101000000Z" ∷ "000229000000Z" ∷ []) ≡ true
     × all (is Generalized) ("20000101000000Z" ∷ "00000229000000Z" ∷ "99991231235959Z" ∷ []) ≡ true
     -- no capital Z, or one that does not end it; no seconds, or a part of one; another zone; no digit
@@ -44,7 +44,7 @@ cases-told :
     × any (is Utc) ("991231240000Z" ∷ "991231236000Z" ∷ "991231235960Z" ∷ []) ≡ false
     × any (is Generalized) ("19000229000000Z" ∷ "20000001000000Z" ∷ "20000101240000Z" ∷ []) ≡ false
 unfolding any all octets is leap february month_days years is_date is_time_of_day in_range same two_digits year_digits later_digits time_digits spelled time_of is_time
-cases-told = (refl, refl, refl, refl, refl, refl, refl, refl, refl, refl, refl)
+cases_told = (refl, refl, refl, refl, refl, refl, refl, refl, refl, refl, refl)
 
 -- the digits of a time are read back as it, whatever its fields are
 two_back : (n : ℕ) → (0x30 + n / 10 - 0x30) * 10 + (0x30 + n % 10 - 0x30) ≡ n

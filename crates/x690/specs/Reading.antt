@@ -51,13 +51,13 @@ read_length l (b ∷ s) =
 
 -- contents that end where their octets do, or contents that 00 00 closes
 pub data Mode : Type 0 where
-  closed open-ended : Mode
+  closed open_ended : Mode
 
 -- Go on with f behind the end of the contents, with x where they go on.
 -- Contents of indefinite length end with 00 00: with no octet left, or none behind the first 00, it is 22; 00 with another octet behind it is 23.
 unfoldable pub at_end : {A : Type 0} → Mode → List ℕ → (List ℕ → Answer ReadingCause A) → (Unit {0} → Answer ReadingCause A) → Answer ReadingCause A
 at_end closed s f x = if (none_left s) (f []) x
-at_end open-ended s f x =
+at_end open_ended s f x =
     if (none_left s) (refused Cut 0) λ _.
     if (not (eqb (get_or s 0 0) 0)) (x tt) λ _.
     if (none_left (drop 1 s)) (refused Cut (length s)) λ _.
@@ -74,7 +74,7 @@ read_header i s =
 -- contents of definite length are read as a part of their own; a place inside counts what stands behind that part
 unfoldable pub inside : {A : Type 0} → (Mode → List ℕ → Answer ReadingCause A) → Size → List ℕ → Answer ReadingCause A
 inside body (definite n) s = then (behind (length s - n) (body closed (take n s))) λ v r. got v (drop n s)
-inside body indefinite s = body open-ended s
+inside body indefinite s = body open_ended s
 
 unfoldable pub read_constructed : {A : Type 0} → List ℕ → (Mode → List ℕ → Answer ReadingCause A) → List ℕ → Answer ReadingCause A
 read_constructed i body s = then (read_header i s) (inside body)

@@ -5,10 +5,10 @@ use borrow.Author.Rules.{rules}
 use Rattle.cases.proofs.main.Statement.{statement}
 use Rattle.cases.proofs.main.Tie as tie
 
-abbrev invariant-loop : tie.invariant-loop
+abbrev invariant-loop : tie.invariant-loop-number
 invariant-loop number₀ number = Unit {0}
 
-abbrev decreases-loop : tie.decreases-loop
+abbrev decreases-loop : tie.decreases-loop-number
 decreases-loop number₀ number = 18446744073709551615 - number
 
 pub main_spec : {M : Type 1} → statement M

@@ -7,8 +7,8 @@ use borrow.Author.Rules.{rules}
 use Rattle.cases.proofs.with_head.Statement.{statement}
 use Rattle.cases.proofs.with_head.Tie as tie
 
-pub with-head-spec : {M : Type 1} → statement M
-with-head-spec =
+pub with_head_spec : {M : Type 1} → statement M
+with_head_spec =
     tie.close
     (tie.spec
     (λ c κs. search rules)  -- known-requires

@@ -7,8 +7,8 @@ use borrow.Author.Rules.{rules}
 use Rattle.cases.proofs.with_table.Statement.{statement}
 use Rattle.cases.proofs.with_table.Tie as tie
 
-pub with-table-spec : {M : Type 1} → statement M
-with-table-spec =
+pub with_table_spec : {M : Type 1} → statement M
+with_table_spec =
     tie.close
     (tie.spec
     (λ c. search rules)  -- slice-aggregate-fill

@@ -8,42 +8,42 @@ use Rattle.checker.proofs.Judged.{ready, straight}
 use Rattle.checker.proofs.judge_choices.Statement.{statement}
 use Rattle.checker.proofs.judge_choices.Tie as tie
 
-pub judge-choices-spec : {M : Type 1} → statement M
+pub judge_choices_spec : {M : Type 1} → statement M
 unfolding judge_choices
-judge-choices-spec =
+judge_choices_spec =
     tie.close
     (tie.spec
     (λ c κs. search rules)  -- stand-ins-requires
-    (λ c κs. let x = c.before.before.before.before.requires in (x.0, ready _ _ x.1 c.before.stand-ins.ensures, x.1))  -- lowest-circular-requires
-    (λ c. rw (← c.before.lowest-circular.ensures, lt-ltb _ _ c.if1.true))  -- returns
+    (λ c κs. let x = c.before.before.before.before.requires in (x.0, ready _ _ x.1 c.before.stand_ins.ensures, x.1))  -- lowest-circular-requires
+    (λ c. rw (← c.before.lowest_circular-p.ensures, lt-ltb _ _ c.if-p-n.true))  -- returns
     (λ c κs. let x = c.before.before.before.before.before.before.before.requires in (
       x.0,
-      ready _ _ x.1 c.before.before.before.before.stand-ins.ensures,
+      ready _ _ x.1 c.before.before.before.before.stand_ins.ensures,
       straight _ _ x.1 (filled_beyond x.0) _
-          c.before.before.lowest-circular.ensures c.before.if1.false,
+          c.before.before.lowest_circular-p.ensures c.before.if-p-n.false,
     ))  -- lowest-sharing-requires
     (λ c. rw (
-      ← c.before.before.before.before.lowest-circular.ensures,
-      le-ltb _ _ c.before.before.before.if1.false,
-      ← c.before.lowest-sharing.ensures,
-      lt-ltb _ _ c.if2.true,
+      ← c.before.before.before.before.lowest_circular-p.ensures,
+      le-ltb _ _ c.before.before.before.if-p-n.false,
+      ← c.before.lowest_sharing-p.ensures,
+      lt-ltb _ _ c.if-p-n-2.true,
     ))  -- returns-2
     (λ c κs. search rules)  -- lowest-requires
     (λ c. rw (
-      ← c.before.before.before.before.before.before.lowest-circular.ensures,
+      ← c.before.before.before.before.before.before.lowest_circular-p.ensures,
       le-ltb _ _
-          c.before.before.before.before.before.if1.false,
-      ← c.before.before.before.lowest-sharing.ensures,
-      le-ltb _ _ c.before.before.if2.false,
-      ← c.before.lowest.ensures,
-      lt-ltb _ _ c.if3.true,
+          c.before.before.before.before.before.if-p-n.false,
+      ← c.before.before.before.lowest_sharing-p.ensures,
+      le-ltb _ _ c.before.before.if-p-n-2.false,
+      ← c.before.lowest-p.ensures,
+      lt-ltb _ _ c.if-p-n-3.true,
     ))  -- returns-3
     (λ c. rw (
-      ← c.before.before.before.before.before.before.lowest-circular.ensures,
+      ← c.before.before.before.before.before.before.lowest_circular-p.ensures,
       le-ltb _ _
-          c.before.before.before.before.before.if1.false,
-      ← c.before.before.before.lowest-sharing.ensures,
-      le-ltb _ _ c.before.before.if2.false,
-      ← c.before.lowest.ensures,
-      le-ltb _ _ c.if3.false,
+          c.before.before.before.before.before.if-p-n.false,
+      ← c.before.before.before.lowest_sharing-p.ensures,
+      le-ltb _ _ c.before.before.if-p-n-2.false,
+      ← c.before.lowest-p.ensures,
+      le-ltb _ _ c.if-p-n-3.false,
     )))  -- returns-4

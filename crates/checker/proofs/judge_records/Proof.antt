@@ -7,29 +7,29 @@ use Rattle.checker.proofs.Judged.{named}
 use Rattle.checker.proofs.judge_records.Statement.{statement}
 use Rattle.checker.proofs.judge_records.Tie as tie
 
-pub judge-records-spec : {M : Type 1} → statement M
+pub judge_records_spec : {M : Type 1} → statement M
 unfolding judge_choices judge
-judge-records-spec =
+judge_records_spec =
     tie.close
     (tie.spec
     (λ c κs. search rules)  -- lowest-requires
-    (λ c. rw (← c.before.lowest.ensures, lt-ltb _ _ c.if1.true))  -- returns
+    (λ c. rw (← c.before.lowest-p.ensures, lt-ltb _ _ c.if-p-n.true))  -- returns
     (λ c κs. search rules)  -- lowest-requires-2
     (λ c. rw (
-      ← c.before.before.before.lowest.ensures,
-      le-ltb _ _ c.before.before.if1.false,
-      ← c.before.lowest2.ensures,
+      ← c.before.before.before.lowest-p.ensures,
+      le-ltb _ _ c.before.before.if-p-n.false,
+      ← c.before.lowest-p-2.ensures,
       lt-ltb _ _
-          c.if2.true,
+          c.if-p-n-2.true,
     ))  -- returns-2
     (λ c κs. (
       c.before.before.before.before.before.requires,
       named _ _ _ _ c.before.before.before.before.before.requires.shaped
-          c.before.before.before.lowest.ensures c.before.before.if1.false c.before.lowest2.ensures c.if2.false,
+          c.before.before.before.lowest-p.ensures c.before.before.if-p-n.false c.before.lowest-p-2.ensures c.if-p-n-2.false,
     ))  -- judge-choices-requires
     (λ c. rw (
-      ← c.before.before.before.before.lowest.ensures,
-      le-ltb _ _ c.before.before.before.if1.false,
-      ← c.before.before.lowest2.ensures,
-      le-ltb _ _ c.before.if2.false,
-    ) c.judge-choices.ensures))  -- returns-3
+      ← c.before.before.before.before.lowest-p.ensures,
+      le-ltb _ _ c.before.before.before.if-p-n.false,
+      ← c.before.before.lowest-p-2.ensures,
+      le-ltb _ _ c.before.if-p-n-2.false,
+    ) c.judge_choices.ensures))  -- returns-3

@@ -5,12 +5,12 @@ use Rattle.coding.specs.Calls.{check_answer}
 use Rattle.engine.proofs.check.Statement.{statement}
 use Rattle.engine.proofs.check.Tie as tie
 
-pub check-spec : {M : Type 1} → statement M
+pub check_spec : {M : Type 1} → statement M
 unfolding check_answer
-check-spec = tie.close (tie.spec
+check_spec = tie.close (tie.spec
     (λ c κs. search rules)  -- check-requires
     (λ c. search rules)  -- enum_told
     (λ c. search rules)  -- enum-known-cause
     (λ c κs. search rules)  -- table-cause-requires
-    (λ c. rw (← c.before.before.check.ensures, c.enum_told.given.1))  -- returns
-    (λ c. rw (← c.before.before.before.before.check.ensures, c.before.before.cause.given.1, c.table-cause.ensures)))  -- returns-2
+    (λ c. rw (← c.before.before.check.ensures, c.enum_told-1.given.1))  -- returns
+    (λ c. rw (← c.before.before.before.before.check.ensures, c.before.before.cause-1.given.1, c.table_cause-cause.ensures)))  -- returns-2

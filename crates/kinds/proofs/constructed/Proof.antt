@@ -6,8 +6,8 @@ use Rattle.kinds.proofs.Identifiers.{constructed_table, constructed_beyond}
 use Rattle.kinds.proofs.constructed.Statement.{statement}
 use Rattle.kinds.proofs.constructed.Tie as tie
 
-pub constructed-spec : {M : Type 1} → statement M
-constructed-spec =
+pub constructed_spec : {M : Type 1} → statement M
+constructed_spec =
     tie.close
     (tie.spec
     (λ c. search rules)  -- array-read-result

@@ -4,8 +4,8 @@ use Rattle.octets.proofs.Search.{tests}
 use Rattle.kinds.proofs.holds_one.Statement.{statement}
 use Rattle.kinds.proofs.holds_one.Tie as tie
 
-pub holds-one-spec : {M : Type 1} → statement M
-holds-one-spec =
+pub holds_one_spec : {M : Type 1} → statement M
+holds_one_spec =
     tie.close
     (tie.spec
     (λ c. search tests)  -- returns

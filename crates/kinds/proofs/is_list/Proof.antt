@@ -4,8 +4,8 @@ use Rattle.octets.proofs.Search.{tests}
 use Rattle.kinds.proofs.is_list.Statement.{statement}
 use Rattle.kinds.proofs.is_list.Tie as tie
 
-pub is-list-spec : {M : Type 1} → statement M
-is-list-spec =
+pub is_list_spec : {M : Type 1} → statement M
+is_list_spec =
     tie.close
     (tie.spec
     (λ c. search tests)  -- returns

@@ -6,10 +6,10 @@ use Rattle.table.specs.Fields.{time_kind}
 use Rattle.kinds.proofs.time_kind.Statement.{statement}
 use Rattle.kinds.proofs.time_kind.Tie as tie
 
-pub time-kind-spec : {M : Type 1} → statement M
+pub time_kind_spec : {M : Type 1} → statement M
 unfolding time_kind
-time-kind-spec =
+time_kind_spec =
     tie.close
     (tie.spec
-    (λ c. rw (eq-eqb _ _ c.if1.true) refl)  -- returns
-    (λ c. rw (ne_eqb _ _ c.if1.false) refl))  -- returns-2
+    (λ c. rw (eq-eqb _ _ c.if-kind-eq-UTC_TIME.true) refl)  -- returns
+    (λ c. rw (ne_eqb _ _ c.if-kind-eq-UTC_TIME.false) refl))  -- returns-2

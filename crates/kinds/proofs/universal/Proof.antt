@@ -6,8 +6,8 @@ use Rattle.kinds.proofs.Identifiers.{universal_table, universal_beyond}
 use Rattle.kinds.proofs.universal.Statement.{statement}
 use Rattle.kinds.proofs.universal.Tie as tie
 
-pub universal-spec : {M : Type 1} → statement M
-universal-spec =
+pub universal_spec : {M : Type 1} → statement M
+universal_spec =
     tie.close
     (tie.spec
     (λ c. search rules)  -- array-read-result

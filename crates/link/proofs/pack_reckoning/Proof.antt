@@ -10,20 +10,20 @@ use borrow.Author.Rules.{rules}
 use Rattle.link.proofs.pack_reckoning.Statement.{statement}
 use Rattle.link.proofs.pack_reckoning.Tie as tie
 
-pub pack-reckoning-spec : {M : Type 1} → statement M
-pack-reckoning-spec =
+pub pack_reckoning_spec : {M : Type 1} → statement M
+pack_reckoning_spec =
     tie.close
     (tie.spec
     (λ c. search rules)  -- enum-known-a
     (λ c. search rules)  -- enum-known-a-2
     (λ c κs. search rules)  -- report-of-requires
-    (λ c. omega (arith, c.before.report-of.ensures.2))  -- mul
-    (λ c. record { sfits = omega (arith, c.before.report-of.ensures.2) })  -- cast-result
+    (λ c. omega (arith, c.before.report_of-p.ensures.2))  -- mul
+    (λ c. record { sfits = omega (arith, c.before.report_of-p.ensures.2) })  -- cast-result
     (λ c.
-    let z = c.before.a.given.0.0 in
-    let fits : SFits w64 z = record { sfits = c.known-told.given.0.1 } in
-    to_z-of_z w64 z fits ∙ rw c.before.a.given.1 refl)  -- returns
+    let z = c.before.a-1.given.0.0 in
+    let fits : SFits w64 z = record { sfits = c.known_told-1.given.0.1 } in
+    to_z-of_z w64 z fits ∙ rw c.before.a-1.given.1 refl)  -- returns
     (λ c.
-    let n = c.before.report-of.result.number in
-    to_z_pos w64 (n * 1099511627776) (omega (arith, c.before.report-of.ensures.2))
-    ∙ rw (c.before.before.before.a2.given.1, ← c.before.report-of.ensures.0) refl))  -- returns-2
+    let n = c.before.report_of-p.result.number in
+    to_z_pos w64 (n * 1099511627776) (omega (arith, c.before.report_of-p.ensures.2))
+    ∙ rw (c.before.before.before.a-in-Refused-1.given.1, ← c.before.report_of-p.ensures.0) refl))  -- returns-2

@@ -12,8 +12,8 @@ use Rattle.link.proofs.yinscarf_check.Lts as lts
 use Rattle.engine.proofs.check.Reads as check_reads
 use Rattle.link.proofs.pack.Reads as pack_reads
 
-pub yinscarf-check-spec : {M : Type 1} → statement M
-yinscarf-check-spec = tie.close (tie.spec
+pub yinscarf_check_spec : {M : Type 1} → statement M
+yinscarf_check_spec = tie.close (tie.spec
     (λ c κs. search rules)  -- check-requires
     (λ c κs. rw c.check.ensures (check_within c.before.before.args.table.now))  -- pack-requires
     (λ c. c.pack.ensures ∙ ap packed c.before.check.ensures))  -- returns

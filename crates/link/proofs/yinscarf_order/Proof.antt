@@ -8,10 +8,10 @@ use Rattle.link.specs.Pack.{packed_reckoning}
 use Rattle.link.proofs.yinscarf_order.Statement.{statement}
 use Rattle.link.proofs.yinscarf_order.Tie as tie
 
-pub yinscarf-order-spec : {M : Type 1} → statement M
-yinscarf-order-spec =
+pub yinscarf_order_spec : {M : Type 1} → statement M
+yinscarf_order_spec =
     tie.close
     (tie.spec
     (λ c κs. search rules)  -- order-requires
     (λ c κs. search rules)  -- pack-reckoning-requires
-    (λ c. to_z-of_z w64 _ (record { sfits = c.pack-reckoning.type-inv }) ∙ c.pack-reckoning.ensures ∙ ap packed_reckoning c.before.order.ensures))  -- returns
+    (λ c. to_z-of_z w64 _ (record { sfits = c.pack_reckoning.type-inv }) ∙ c.pack_reckoning.ensures ∙ ap packed_reckoning c.before.order.ensures))  -- returns

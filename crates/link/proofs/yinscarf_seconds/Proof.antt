@@ -8,10 +8,10 @@ use Rattle.link.specs.Pack.{packed_reckoning}
 use Rattle.link.proofs.yinscarf_seconds.Statement.{statement}
 use Rattle.link.proofs.yinscarf_seconds.Tie as tie
 
-pub yinscarf-seconds-spec : {M : Type 1} → statement M
-yinscarf-seconds-spec =
+pub yinscarf_seconds_spec : {M : Type 1} → statement M
+yinscarf_seconds_spec =
     tie.close
     (tie.spec
     (λ c κs. search rules)  -- elapsed-requires
     (λ c κs. search rules)  -- pack-reckoning-requires
-    (λ c. to_z-of_z w64 _ (record { sfits = c.pack-reckoning.type-inv }) ∙ c.pack-reckoning.ensures ∙ ap packed_reckoning c.before.elapsed.ensures))  -- returns
+    (λ c. to_z-of_z w64 _ (record { sfits = c.pack_reckoning.type-inv }) ∙ c.pack_reckoning.ensures ∙ ap packed_reckoning c.before.elapsed.ensures))  -- returns

@@ -8,14 +8,14 @@ use Rattle.link.proofs.Small.{conversion_small}
 use Rattle.link.proofs.yinscarf_to_generalized.Statement.{statement}
 use Rattle.link.proofs.yinscarf_to_generalized.Tie as tie
 
-pub yinscarf-to-generalized-spec : {M : Type 1} → statement M
-yinscarf-to-generalized-spec =
+pub yinscarf_to_generalized_spec : {M : Type 1} → statement M
+yinscarf_to_generalized_spec =
     tie.close
     (tie.spec
     (λ c κs. search rules)  -- to-generalized-requires
     (λ c κs.
     let t = c.before.before in
     let a = t.before.before.before.before.args in
-    rw t.to-generalized.ensures.0 (conversion_small Utc _ a.time.now a.buf.now (λ i. (t.before.before.before.shared-slice-known.given i).fits)))  -- pack-requires
+    rw t.to_generalized.ensures.0 (conversion_small Utc _ a.time.now a.buf-1.now (λ i. (t.before.before.before.shared_slice_known-1.given i).fits)))  -- pack-requires
     (λ c. search rules)  -- same-length
-    (λ c. let t = c.before.before.before in (c.pack.ensures ∙ ap packed t.to-generalized.ensures.0, t.to-generalized.ensures.1)))  -- returns
+    (λ c. let t = c.before.before.before in (c.pack.ensures ∙ ap packed t.to_generalized.ensures.0, t.to_generalized.ensures.1)))  -- returns

@@ -8,14 +8,14 @@ use Rattle.link.proofs.Small.{conversion_small}
 use Rattle.link.proofs.yinscarf_to_utc.Statement.{statement}
 use Rattle.link.proofs.yinscarf_to_utc.Tie as tie
 
-pub yinscarf-to-utc-spec : {M : Type 1} → statement M
-yinscarf-to-utc-spec =
+pub yinscarf_to_utc_spec : {M : Type 1} → statement M
+yinscarf_to_utc_spec =
     tie.close
     (tie.spec
     (λ c κs. search rules)  -- to-utc-requires
     (λ c κs.
     let t = c.before.before in
     let a = t.before.before.before.before.args in
-    rw t.to-utc.ensures.0 (conversion_small Generalized _ a.time.now a.buf.now (λ i. (t.before.before.before.shared-slice-known.given i).fits)))  -- pack-requires
+    rw t.to_utc.ensures.0 (conversion_small Generalized _ a.time.now a.buf-1.now (λ i. (t.before.before.before.shared_slice_known-1.given i).fits)))  -- pack-requires
     (λ c. search rules)  -- same-length
-    (λ c. let t = c.before.before.before in (c.pack.ensures ∙ ap packed t.to-utc.ensures.0, t.to-utc.ensures.1)))  -- returns
+    (λ c. let t = c.before.before.before in (c.pack.ensures ∙ ap packed t.to_utc.ensures.0, t.to_utc.ensures.1)))  -- returns

@@ -4,8 +4,8 @@ use borrow.Author.Rules.{rules}
 use Rattle.refusal.proofs.message_cause.Statement.{statement}
 use Rattle.refusal.proofs.message_cause.Tie as tie
 
-pub message-cause-spec : {M : Type 1} → statement M
-message-cause-spec =
+pub message_cause_spec : {M : Type 1} → statement M
+message_cause_spec =
     tie.close
     (tie.spec
     (λ c. search rules)  -- enum_told
@@ -15,10 +15,10 @@ message-cause-spec =
     (λ c. search rules)  -- enum-told-5
     (λ c. search rules)  -- enum-told-6
     (λ c. search rules)  -- enum-told-7
-    (λ c. rw c.enum_told.given.1)  -- returns
-    (λ c. rw c.enum-told2.given.1)  -- returns-2
-    (λ c. rw c.enum-told3.given.1)  -- returns-3
-    (λ c. rw c.enum-told4.given.1)  -- returns-4
-    (λ c. rw c.enum-told5.given.1)  -- returns-5
-    (λ c. rw c.enum-told6.given.1)  -- returns-6
-    (λ c. rw c.enum-told7.given.1))  -- returns-7
+    (λ c. rw c.enum_told-1.given.1)  -- returns
+    (λ c. rw c.enum_told-in-Forbidden-1.given.1)  -- returns-2
+    (λ c. rw c.enum_told-in-NotAwaited-1.given.1)  -- returns-3
+    (λ c. rw c.enum_told-in-Contents-1.given.1)  -- returns-4
+    (λ c. rw c.enum_told-in-Trailing-1.given.1)  -- returns-5
+    (λ c. rw c.enum_told-in-MessageLevel-1.given.1)  -- returns-6
+    (λ c. rw c.enum_told-in-LengthField-1.given.1))  -- returns-7

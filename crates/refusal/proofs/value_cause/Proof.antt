@@ -4,13 +4,13 @@ use borrow.Author.Rules.{rules}
 use Rattle.refusal.proofs.value_cause.Statement.{statement}
 use Rattle.refusal.proofs.value_cause.Tie as tie
 
-pub value-cause-spec : {M : Type 1} → statement M
-value-cause-spec =
+pub value_cause_spec : {M : Type 1} → statement M
+value_cause_spec =
     tie.close
     (tie.spec
     (λ c. search rules)  -- enum_told
     (λ c. search rules)  -- enum-told-2
     (λ c. search rules)  -- enum-told-3
-    (λ c. rw c.enum_told.given.1)  -- returns
-    (λ c. rw c.enum-told2.given.1)  -- returns-2
-    (λ c. rw c.enum-told3.given.1))  -- returns-3
+    (λ c. rw c.enum_told-1.given.1)  -- returns
+    (λ c. rw c.enum_told-in-IllTyped-1.given.1)  -- returns-2
+    (λ c. rw c.enum_told-in-ValueLevel-1.given.1))  -- returns-3

@@ -97,22 +97,22 @@ turned t c =
     let c13 = c11.before.before in
     let c14 = c13.before in
     let c15 = c14.before in
-    going_turn c14.loop.invariant.4 c13.read.ensures c11.enum_told.given.1 (rw part_to_end at c9.read-tag.ensures) c7.code.given.1
-    c5.if1.false (rw part_to_end at c4.segment.ensures) c15.least.ensures c.before.before.x.given.1
+    going_turn c14.loop.invariant.4 c13.read.ensures c11.enum_told.given.1 (rw part_to_end at c9.read-tag.ensures) c7.code-1.given.1
+    c5.if-bits.false (rw part_to_end at c4.segment.ensures) c15.least.ensures c.before.before.x.given.1
 
 -- where the identifier of a segment was read
-abbrev begun : (t : ℕ) (c : segment_lts.Else1 (segment-claims t) (segment-at t) segment.Post) →
+abbrev begun : (t : ℕ) (c : segment_lts.Else-bits (segment-claims t) (segment-at t) segment.Post) →
     let a = c.before.before.args in Begun (kind_of a.bits) a.m.now a.depth
 begun t c =
     record {
       from = c.before.before.args.from;
       constructed = c.before.before.args.constructed;
       is = c.before.before.requires.1;
-      deep = c.if1.false;
+      deep = c.if-bits.false;
     }
 
-pub +all-segment-spec : {M : Type 1} → statement M
-+all-segment-spec =
+pub +all_segment_spec : {M : Type 1} → statement M
++all_segment_spec =
     close
     μ-all
     μ-segment
@@ -131,7 +131,7 @@ pub +all-segment-spec : {M : Type 1} → statement M
     (λ c.
     let c4 = c.before.before.before.before in
     let c5 = c4.before in
-    c.refused.ensures ∙ going_broken c5.loop.invariant.4 c4.read.ensures c.before.before.cause.given.1)  -- all-returns
+    c.refused.ensures ∙ going_broken c5.loop.invariant.4 c4.read.ensures c.before.before.cause-1.given.1)  -- all-returns
     (λ c. search rules)  -- all-enum-known-end
     (λ c.
     let c3 = c.before.before.before in
@@ -142,7 +142,7 @@ pub +all-segment-spec : {M : Type 1} → statement M
     let c4 = c3.before in
     let c7 = c4.before.before.before in
     let x = going_over c4.loop.invariant.4 c3.read.ensures c4.loop.invariant.0 c.before.end.given.1 in
-    omega (arith, x.0, x.1, c4.loop.invariant.1, c7.well-formed))  -- all-add-t23
+    omega (arith, x.0, x.1, c4.loop.invariant.1, c7.well_formed))  -- all-add-t23
     (λ c.
     let c3 = c.before.before.before in
     let c4 = c3.before in
@@ -165,7 +165,7 @@ pub +all-segment-spec : {M : Type 1} → statement M
     (λ c.
     let c9 = c.before.before.before.before.before.before.before.before.before in
     let c12 = c9.before.before.before in
-    omega (arith, c9.loop.invariant.0, c9.loop.invariant.1, c12.well-formed))  -- all-add-refused
+    omega (arith, c9.loop.invariant.0, c9.loop.invariant.1, c12.well_formed))  -- all-add-refused
     (λ c κs. search rules)  -- all-refused-requires-3
     (λ c.
     let c3 = c.before.before.before in
@@ -174,12 +174,12 @@ pub +all-segment-spec : {M : Type 1} → statement M
     let c9 = c7.before.before in
     let c10 = c9.before in
     c.refused3.ensures ∙ going_unused c10.loop.invariant.4 c9.read.ensures c7.enum_told.given.1 (rw part_to_end at c5.read-tag.ensures)
-    c3.code.given.1 c.before.if1.true)  -- all-returns-4
+    c3.code-1.given.1 c.before.if-bits.true)  -- all-returns-4
     (λ c κs.
     let c4 = c.before.before.before.before in
     let c12 = c4.before.before.before.before.before.before.before.before in
     let x = rw part_to_end at c4.read-tag.ensures in
-    (omega (arith, c12.requires.0), rw part_to_end (tag_read (kind_of c12.args.bits) _ _ x _ _ c.before.before.code.given.1).0))  -- all-segment-requires
+    (omega (arith, c12.requires.0), rw part_to_end (tag_read (kind_of c12.args.bits) _ _ x _ _ c.before.before.code-1.given.1).0))  -- all-segment-requires
     (λ c. search rules)  -- all-enum-known-cause-3
     (λ c κs. search rules)  -- all-refused-requires-4
     (λ c.
@@ -191,12 +191,12 @@ pub +all-segment-spec : {M : Type 1} → statement M
     let c13 = c11.before.before in
     let c14 = c13.before in
     c.refused4.ensures ∙ going_refused c14.loop.invariant.4 c13.read.ensures c11.enum_told.given.1
-    (rw part_to_end at c9.read-tag.ensures) c7.code.given.1 c5.if1.false (rw part_to_end at c4.segment.ensures)
+    (rw part_to_end at c9.read-tag.ensures) c7.code-1.given.1 c5.if-bits.false (rw part_to_end at c4.segment.ensures)
     c.before.before.cause3.given.1)  -- all-returns-5
     (λ c. search rules)  -- all-enum-known-x
     (λ c.
     let c17 = c.before.before.before.before.before.before.before.before.before.before.before.before.before.before.before.before.before in
-    omega (arith, (turned t c).1, c17.well-formed))  -- all-add-at
+    omega (arith, (turned t c).1, c17.well_formed))  -- all-add-at
     (λ c.
     let c14 = c.before.before.before.before.before.before.before.before.before.before.before.before.before.before in
     c14.loop.invariant.2)  -- all-sub-size
@@ -204,7 +204,7 @@ pub +all-segment-spec : {M : Type 1} → statement M
     let c15 = c.before.before.before.before.before.before.before.before.before.before.before.before.before.before.before in
     let c18 = c15.before.before.before in
     let x = turned t c.before in
-    omega (arith, x.1, x.3, c15.loop.invariant.3, c18.well-formed))  -- all-add-size
+    omega (arith, x.1, x.3, c15.loop.invariant.3, c18.well_formed))  -- all-add-size
     (λ c. let x = turned t c.before in omega (arith, x.0, x.1))  -- all-loop-less
     (λ c.
     let c15 = c.before.before.before.before.before.before.before.before.before.before.before.before.before.before.before in
@@ -217,7 +217,7 @@ pub +all-segment-spec : {M : Type 1} → statement M
     (λ c κs. search rules)  -- segment-refused-requires
     (λ c.
     let c3 = c.before.before.before in
-    c.refused.ensures ∙ segment_deep (kind_of c3.args.bits) c3.args.m.now _ c.before.if1.true)  -- segment-returns
+    c.refused.ensures ∙ segment_deep (kind_of c3.args.bits) c3.args.m.now _ c.before.if-bits.true)  -- segment-returns
     (λ c κs. search rules)  -- segment-read-requires
     (λ c. search rules)  -- segment-enum-known-cause
     (λ c κs. search rules)  -- segment-refused-requires-2
@@ -239,18 +239,18 @@ pub +all-segment-spec : {M : Type 1} → statement M
     let c5 = c.before.before.before.before.before in
     let c7 = c5.before.before in
     let c8 = c7.before in
-    c.refused3.ensures ∙ segment_open (begun t c8) c7.read.ensures.0 c5.x.given.1 c.before.before.if2.true c.before.if3.true)  -- segment-returns-2
+    c.refused3.ensures ∙ segment_open (begun t c8) c7.read.ensures.0 c5.x.given.1 c.before.before.if-code-t-2.true c.before.if3.true)  -- segment-returns-2
     (λ c κs. search rules)  -- segment-primitive-requires
     (λ c.
     let c5 = c.before.before.before.before.before in
     let c7 = c5.before.before in
     let c8 = c7.before in
-    segment_whole (begun t c8) c7.read.ensures.0 c5.x.given.1 c.before.before.if2.true c.before.if3.false c.primitive.ensures)  -- segment-returns-3
-    (λ c. omega (arith, c.before.before.before.before.before.before.if1.false))  -- segment-sub-all
+    segment_whole (begun t c8) c7.read.ensures.0 c5.x.given.1 c.before.before.if-code-t-2.true c.before.if3.false c.primitive.ensures)  -- segment-returns-3
+    (λ c. omega (arith, c.before.before.before.before.before.before.if-bits.false))  -- segment-sub-all
     (λ c κs.
     let c6 = c.before.before.before.before.before.before in
     let c8 = c6.before.before in
-    (omega (arith, c8.requires.0, c6.if1.false), tt))  -- segment-all-requires
+    (omega (arith, c8.requires.0, c6.if-bits.false), tt))  -- segment-all-requires
     (λ c. search rules)  -- segment-enum-known-cause-2
     (λ c.
     let c7 = c.before.before.before.before.before.before.before in
@@ -266,9 +266,9 @@ pub +all-segment-spec : {M : Type 1} → statement M
     let c12 = c10.before.before in
     omega (
       arith,
-      (segment_refused (begun t c10) c9.read.ensures.0 c7.x.given.1 c4.if2.false c3.all.ensures
+      (segment_refused (begun t c10) c9.read.ensures.0 c7.x.given.1 c4.if-code-t-2.false c3.all.ensures
           c.before.cause2.given.1).0,
-      c12.well-formed,
+      c12.well_formed,
     ))  -- segment-add-refused
     (λ c κs. search rules)  -- segment-refused-requires-4
     (λ c. search rules)  -- segment-enum-known-y
@@ -281,21 +281,21 @@ pub +all-segment-spec : {M : Type 1} → statement M
     let c13 = c11.before.before in
     omega (
       arith,
-      (segment_read (begun t c11) c10.read.ensures.0 c8.x.given.1 c5.if2.false c4.all.ensures
+      (segment_read (begun t c11) c10.read.ensures.0 c8.x.given.1 c5.if-code-t-2.false c4.all.ensures
           c.before.before.y.given.1).0,
-      c13.well-formed,
+      c13.well_formed,
     ))  -- segment-add-t29
     (λ c.
     let c4 = c.before.before.before.before in
     let c5 = c4.before in
-    c.refused2.ensures ∙ segment_unread (begun t c5) c4.read.ensures.0 c.before.before.cause.given.1)  -- segment-returns-4
+    c.refused2.ensures ∙ segment_unread (begun t c5) c4.read.ensures.0 c.before.before.cause-1.given.1)  -- segment-returns-4
     (λ c.
     let c4 = c.before.before.before.before in
     let c5 = c4.before in
     let c8 = c5.before.before.before in
     let c10 = c8.before.before in
     let c11 = c10.before in
-    c.refused4.ensures ∙ (segment_refused (begun t c11) c10.read.ensures.0 c8.x.given.1 c5.if2.false c4.all.ensures
+    c.refused4.ensures ∙ (segment_refused (begun t c11) c10.read.ensures.0 c8.x.given.1 c5.if-code-t-2.false c4.all.ensures
     c.before.before.cause2.given.1).1)  -- segment-returns-5
     (λ c.
     let c4 = c.before.before.before.before in
@@ -303,4 +303,4 @@ pub +all-segment-spec : {M : Type 1} → statement M
     let c8 = c5.before.before.before in
     let c10 = c8.before.before in
     let c11 = c10.before in
-    (segment_read (begun t c11) c10.read.ensures.0 c8.x.given.1 c5.if2.false c4.all.ensures c.before.before.y.given.1).1)  -- segment-returns-6
+    (segment_read (begun t c11) c10.read.ensures.0 c8.x.given.1 c5.if-code-t-2.false c4.all.ensures c.before.before.y.given.1).1)  -- segment-returns-6

@@ -7,9 +7,9 @@ use Rattle.segments.proofs.in_form.Statement.{statement}
 use Rattle.segments.proofs.in_form.Tie as tie
 use Rattle.simple.proofs.bit_string.are_bits.Reads as are_bits_reads
 
-pub in-form-spec : {M : Type 1} → statement M
+pub in_form_spec : {M : Type 1} → statement M
 unfolding in_form
-in-form-spec = tie.close (tie.spec
+in_form_spec = tie.close (tie.spec
     (λ c κs. search rules)  -- are-bits-requires
-    (λ c. rw c.before.if1.true c.are-bits.ensures)  -- returns
-    (λ c. rw c.if1.false refl))  -- returns-2
+    (λ c. rw c.before.if-bits.true c.are_bits.ensures)  -- returns
+    (λ c. rw c.if-bits.false refl))  -- returns-2

@@ -5,8 +5,8 @@ use Rattle.x690.specs.Segments.{empty}
 use Rattle.segments.proofs.least.Statement.{statement}
 use Rattle.segments.proofs.least.Tie as tie
 
-pub least-spec : {M : Type 1} → statement M
+pub least_spec : {M : Type 1} → statement M
 unfolding empty
-least-spec = tie.close (tie.spec
-    (λ c. rw c.if1.true refl)  -- returns
-    (λ c. rw c.if1.false refl))  -- returns-2
+least_spec = tie.close (tie.spec
+    (λ c. rw c.if-bits.true refl)  -- returns
+    (λ c. rw c.if-bits.false refl))  -- returns-2

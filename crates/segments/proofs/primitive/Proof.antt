@@ -10,13 +10,13 @@ use Rattle.segments.proofs.in_form.Reads as in_form_reads
 use Rattle.segments.proofs.refused.Reads as refused_reads
 use Rattle.segments.proofs.unused_in.Reads as unused_in_reads
 
-pub primitive-spec : {M : Type 1} → statement M
+pub primitive_spec : {M : Type 1} → statement M
 unfolding told_primitive if
-primitive-spec =
+primitive_spec =
     tie.close
     (tie.spec
     (λ c κs. search rules)  -- in-form-requires
     (λ c κs. search rules)  -- refused-requires
-    (λ c. rw (← c.before.before.in-form.ensures, c.before.if1.true) c.refused.ensures)  -- returns
+    (λ c. rw (← c.before.before.in_form.ensures, c.before.if-not-in_form.true) c.refused.ensures)  -- returns
     (λ c κs. search rules)  -- unused-in-requires
-    (λ c. rw (← c.before.before.in-form.ensures, c.before.if1.false, ← c.unused-in.ensures) refl))  -- returns-2
+    (λ c. rw (← c.before.before.in_form.ensures, c.before.if-not-in_form.false, ← c.unused_in-unused.ensures) refl))  -- returns-2

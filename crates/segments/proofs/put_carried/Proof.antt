@@ -13,12 +13,12 @@ use Rattle.segments.proofs.least.Reads as least_reads
 use Rattle.octets.proofs.copy.Reads as copy_reads
 use Rattle.octets.proofs.holds.Reads as holds_reads
 
-pub put-carried-spec : {M : Type 1} → statement M
-put-carried-spec =
+pub put_carried_spec : {M : Type 1} → statement M
+put_carried_spec =
     tie.close
     (tie.spec
     (λ c κs. search rules)  -- least-requires
-    (λ c. carried_none (kind_of c.before.before.before.before.args.bits) _ _ c.before.least.ensures c.if1.true _ _)  -- returns
+    (λ c. carried_none (kind_of c.before.before.before.before.args.bits) _ _ c.before.least-one.ensures c.if-c-one.true _ _)  -- returns
     (λ c. search rules)  -- sub-d
     (λ c. search rules)  -- part-d-start
     (λ c. search rules)  -- part-d-end
@@ -26,28 +26,28 @@ put-carried-spec =
     (λ c. search rules)  -- same-length
     (λ c. let a = c.before.before.before.before.before.before.before.before.args in
     let k = kind_of a.bits in
-    put_nothing a.buf.now a.to (carried k a.c.now)
-    (no_room (carried k a.c.now) _ _ _ _ (ap length (carried_is k a.c.now _ c.before.before.before.before.before.least.ensures))
-    c.before.holds.ensures c.if2.true))  -- returns-2
+    put_nothing a.buf-1.now a.to (carried k a.c.now)
+    (no_room (carried k a.c.now) _ _ _ _ (ap length (carried_is k a.c.now _ c.before.before.before.before.before.least-one.ensures))
+    c.before.holds.ensures c.if-not-holds.true))  -- returns-2
     (λ c. let a = c.before.before.before.before.before.before.before.before.args in
     let k = kind_of a.bits in
-    let e = ap length (carried_is k a.c.now _ c.before.before.before.before.before.least.ensures) in
-    let h = room (carried k a.c.now) _ _ _ _ e c.before.holds.ensures c.if2.false in
-    omega (arith, c.before.before.before.before.before.before.before.before.well-formed))  -- add-end
+    let e = ap length (carried_is k a.c.now _ c.before.before.before.before.before.least-one.ensures) in
+    let h = room (carried k a.c.now) _ _ _ _ e c.before.holds.ensures c.if-not-holds.false in
+    omega (arith, c.before.before.before.before.before.before.before.before.well_formed))  -- add-end
     (λ c. search rules)  -- sub-part
     (λ c. search rules)  -- part-part-start
     (λ c. let a = c.before.before.before.before.before.before.before.before.args in
     let k = kind_of a.bits in
-    let e = ap length (carried_is k a.c.now _ c.before.before.before.before.before.least.ensures) in
-    let h = room (carried k a.c.now) _ _ _ _ e c.before.holds.ensures c.if2.false in
+    let e = ap length (carried_is k a.c.now _ c.before.before.before.before.before.least-one.ensures) in
+    let h = room (carried k a.c.now) _ _ _ _ e c.before.holds.ensures c.if-not-holds.false in
     omega arith)  -- part-part-end
     (λ c κs. search rules)  -- copy-requires
     (λ c. search rules)  -- same-length-2
     (λ c. let a = c.before.before.before.before.before.before.before.before.before.before.before.before.args in
     let k = kind_of a.bits in
-    let e = ap length (carried_is k a.c.now _ c.before.before.before.before.before.before.before.before.before.least.ensures) in
+    let e = ap length (carried_is k a.c.now _ c.before.before.before.before.before.before.before.before.before.least-one.ensures) in
     let h = room (carried k a.c.now) _ _ _ _ e c.before.before.before.before.before.holds.ensures
-    c.before.before.before.before.if2.false in
-    carried_put a.buf.now _ (carried k a.c.now) _ a.to
-    (carried_is k a.c.now _ c.before.before.before.before.before.before.before.before.before.least.ensures) h
+    c.before.before.before.before.if-not-holds.false in
+    carried_put a.buf-1.now _ (carried k a.c.now) _ a.to
+    (carried_is k a.c.now _ c.before.before.before.before.before.before.before.before.before.least-one.ensures) h
     c.before.before.copy.ensures))  -- returns-3

@@ -12,9 +12,9 @@ use Rattle.segments.proofs.read_tag.Tie as tie
 use Rattle.ber.proofs.identifier.read.Reads as read_reads
 use Rattle.segments.proofs.tag.Reads as tag_reads
 
-pub read-tag-spec : {M : Type 1} → statement M
+pub read_tag_spec : {M : Type 1} → statement M
 unfolding if
-read-tag-spec =
+read_tag_spec =
     tie.close
     (tie.spec
     (λ c κs. search rules)  -- tag-requires
@@ -24,22 +24,22 @@ read-tag-spec =
     (λ c.
     sym (tag_told (kind_of c.before.before.before.before.before.before.before.args.bits)
     c.before.before.before.before.before.before.before.args.m.now _ c.before.before.before.before.read.ensures
-    (λ i. omega (arith, c.before.before.before.before.before.before.shared-slice-known.given i)) _ _ c.before.before.code.given.1 _
-    c.before.before.before.before.before.tag.ensures.0 ∙ rw (eq-eqb _ _ c.if1.true)))  -- returns
-    (λ c. omega (arith, c.before.before.before.before.before.tag.ensures.1))  -- add-if2
+    (λ i. omega (arith, c.before.before.before.before.before.before.shared_slice_known-1.given i)) _ _ c.before.before.code-1.given.1 _
+    c.before.before.before.before.before.tag-t.ensures.0 ∙ rw (eq-eqb _ _ c.if-code-t.true)))  -- returns
+    (λ c. omega (arith, c.before.before.before.before.before.tag-t.ensures.1))  -- add-if2
     (λ c.
     sym (tag_told (kind_of c.before.before.before.before.before.before.before.before.args.bits)
     c.before.before.before.before.before.before.before.before.args.m.now _ c.before.before.before.before.before.read.ensures
-    (λ i. omega (arith, c.before.before.before.before.before.before.before.shared-slice-known.given i)) _ _
-    c.before.before.before.code.given.1 _ c.before.before.before.before.before.before.tag.ensures.0 ∙ rw
-    (ne_eqb _ _ c.before.if1.false, eq-eqb _ _ c.if2.true)))  -- returns-2
+    (λ i. omega (arith, c.before.before.before.before.before.before.before.shared_slice_known-1.given i)) _ _
+    c.before.before.before.code-1.given.1 _ c.before.before.before.before.before.before.tag-t.ensures.0 ∙ rw
+    (ne_eqb _ _ c.before.if-code-t.false, eq-eqb _ _ c.if-code-t-2.true)))  -- returns-2
     (λ c.
     let c3 = c.before.before.before in
     let c6 = c3.before.before.before in
-    tag_none (kind_of c6.args.bits) c6.args.m.now _ c3.read.ensures _ c.before.cause.given.1)  -- returns-3
+    tag_none (kind_of c6.args.bits) c6.args.m.now _ c3.read.ensures _ c.before.cause-1.given.1)  -- returns-3
     (λ c.
     sym (tag_told (kind_of c.before.before.before.before.before.before.before.before.args.bits)
     c.before.before.before.before.before.before.before.before.args.m.now _ c.before.before.before.before.before.read.ensures
-    (λ i. omega (arith, c.before.before.before.before.before.before.before.shared-slice-known.given i)) _ _
-    c.before.before.before.code.given.1 _ c.before.before.before.before.before.before.tag.ensures.0 ∙ rw
-    (ne_eqb _ _ c.before.if1.false, ne_eqb _ _ c.if2.false))))  -- returns-4
+    (λ i. omega (arith, c.before.before.before.before.before.before.before.shared_slice_known-1.given i)) _ _
+    c.before.before.before.code-1.given.1 _ c.before.before.before.before.before.before.tag-t.ensures.0 ∙ rw
+    (ne_eqb _ _ c.before.if-code-t.false, ne_eqb _ _ c.if-code-t-2.false))))  -- returns-4

@@ -7,9 +7,9 @@ use Rattle.segments.proofs.unused_in.Statement.{statement}
 use Rattle.segments.proofs.unused_in.Tie as tie
 use Rattle.octets.proofs.octet.Reads as octet_reads
 
-pub unused-in-spec : {M : Type 1} → statement M
+pub unused_in_spec : {M : Type 1} → statement M
 unfolding unused_in
-unused-in-spec = tie.close (tie.spec
+unused_in_spec = tie.close (tie.spec
     (λ c κs. search rules)  -- octet-requires
-    (λ c. rw c.before.if1.true c.octet.ensures.0)  -- returns
-    (λ c. rw c.if1.false refl))  -- returns-2
+    (λ c. rw c.before.if-bits.true c.octet.ensures.0)  -- returns
+    (λ c. rw c.if-bits.false refl))  -- returns-2

@@ -6,9 +6,9 @@ use borrow.Author.Rules.{rules}
 use Rattle.cases.proofs.case.case_line.Statement.{statement}
 use Rattle.cases.proofs.case.case_line.Tie as tie
 
-pub case-line-spec : {M : Type 1} → statement M
+pub case_line_spec : {M : Type 1} → statement M
 unfolding lent
-case-line-spec =
+case_line_spec =
     tie.close
     (tie.spec
     (λ c κs. search rules)  -- check-requires
@@ -18,7 +18,7 @@ case-line-spec =
     let c2 = c.before.before in
     let c5 = c2.before.before.before in
     let c6 = c5.before in
-    rw (checks _ _ _ _ _ c6.if1.true, ← c5.check.ensures) c2.Line-of.ensures)  -- returns
+    rw (checks _ _ _ _ _ c6.if-operation-eq0.true, ← c5.check.ensures) c2.Line-of.ensures)  -- returns
     (λ c. search rules)  -- slice-aggregate-write
     (λ c κs. search rules)  -- write-requires
     (λ c κs. search rules)  -- line-of-requires-2
@@ -28,7 +28,7 @@ case-line-spec =
     let c6 = c2.before.before.before.before in
     let c8 = c6.before.before in
     let c9 = c8.before in
-    rw (writes _ _ _ _ _ c9.if1.false c8.if2.true) (rw (c6.write.ensures.0, c6.write.ensures.1) at c2.line-of2.ensures))  -- returns-2
+    rw (writes _ _ _ _ _ c9.if-operation-eq0.false c8.if-operation-eq1.true) (rw (c6.write-a.ensures.0, c6.write-a.ensures.1) at c2.line_of-then-operation-eq1.ensures))  -- returns-2
     (λ c. search rules)  -- slice-aggregate-read
     (λ c κs. search rules)  -- read-requires
     (λ c κs. search rules)  -- line-of-requires-3
@@ -38,4 +38,4 @@ case-line-spec =
     let c6 = c2.before.before.before.before in
     let c8 = c6.before.before in
     let c9 = c8.before in
-    rw (reads _ _ _ _ _ c9.if1.false c8.if2.false) (rw (c6.read.ensures.0, c6.read.ensures.1) at c2.line-of3.ensures)))  -- returns-3
+    rw (reads _ _ _ _ _ c9.if-operation-eq0.false c8.if-operation-eq1.false) (rw (c6.read-a.ensures.0, c6.read-a.ensures.1) at c2.line_of-2.ensures)))  -- returns-3

@@ -6,10 +6,10 @@ use borrow.Author.Rules.{rules}
 use Rattle.cases.proofs.case.case_text.Statement.{statement}
 use Rattle.cases.proofs.case.case_text.Tie as tie
 
-pub case-text-spec : {M : Type 1} → statement M
-case-text-spec =
+pub case_text_spec : {M : Type 1} → statement M
+case_text_spec =
     tie.close
     (tie.spec
     (λ c κs. search rules)  -- case-line-requires
-    (λ c κs. put_within c.before.before.case-line.ensures)  -- front-requires
-    (λ c. c.front.ensures ∙ put_whole c.before.before.before.case-line.ensures))  -- returns
+    (λ c κs. put_within c.before.before.case_line-n.ensures)  -- front-requires
+    (λ c. c.front.ensures ∙ put_whole c.before.before.before.case_line-n.ensures))  -- returns

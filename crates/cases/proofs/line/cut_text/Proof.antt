@@ -6,8 +6,8 @@ use Rattle.cases.proofs.Lengths.{cut_room}
 use Rattle.cases.proofs.line.cut_text.Statement.{statement}
 use Rattle.cases.proofs.line.cut_text.Tie as tie
 
-pub cut-text-spec : {M : Type 1} → statement M
-cut-text-spec =
+pub cut_text_spec : {M : Type 1} → statement M
+cut_text_spec =
     tie.close
     (tie.spec
     (λ c κs. let at_start = c.before.before in cut_room _ _ at_start.ranges.number.fits at_start.requires)  -- cut-line-requires

@@ -6,8 +6,8 @@ use Rattle.cases.proofs.Placing.{one_room, room_1, room_2, room_3, put_3}
 use Rattle.cases.proofs.line.put_refusal.Statement.{statement}
 use Rattle.cases.proofs.line.put_refusal.Tie as tie
 
-pub put-refusal-spec : {M : Type 1} → statement M
-put-refusal-spec =
+pub put_refusal_spec : {M : Type 1} → statement M
+put_refusal_spec =
     tie.close
     (tie.spec
     (λ c κs. let at_start = c.before.before in room_1 (decimal at_start.args.n) space (decimal at_start.args.place) at_start.requires)  -- put-decimal-requires
@@ -15,22 +15,22 @@ put-refusal-spec =
     let c3 = c.before.before.before in
     let c6 = c3.before.before.before in
     let at_start = c6 in one_room (room_2 (decimal at_start.args.n) space (decimal at_start.args.place) at_start.requires
-    c3.put-decimal.ensures))  -- put-requires
+    c3.put_decimal-behind.ensures))  -- put-requires
     (λ c κs.
     let c3 = c.before.before.before in
     let c7 = c3.before.before.before.before in
     let c10 = c7.before.before.before in
     let at_start = c10 in room_3 (decimal at_start.args.n) space (decimal at_start.args.place) at_start.requires
-    c7.put-decimal.ensures c3.put.ensures)  -- put-decimal-requires-2
+    c7.put_decimal-behind.ensures c3.put-from.ensures)  -- put-decimal-requires-2
     (λ c.
     let c2 = c.before.before in
     let c6 = c2.before.before.before.before in
     let c10 = c6.before.before.before.before in
-    c2.put-decimal2.auto.0 ∙ c6.put.auto.0 ∙ c10.put-decimal.auto.0)  -- same-length
+    c2.put_decimal.auto.0 ∙ c6.put-from.auto.0 ∙ c10.put_decimal-behind.auto.0)  -- same-length
     (λ c.
     let c2 = c.before.before in
     let c6 = c2.before.before.before.before in
     let c10 = c6.before.before.before.before in
     let c13 = c10.before.before.before in
     let at_start = c13 in put_3 (decimal at_start.args.n) space (decimal at_start.args.place) at_start.requires
-    c10.put-decimal.ensures c6.put.ensures c2.put-decimal2.ensures))  -- returns
+    c10.put_decimal-behind.ensures c6.put-from.ensures c2.put_decimal.ensures))  -- returns

@@ -6,7 +6,7 @@ use borrow.Author.Rules.{rules}
 use Rattle.cases.proofs.text.front.Statement.{statement}
 use Rattle.cases.proofs.text.front.Tie as tie
 
-pub front-spec : {M : Type 1} → statement M
-front-spec = tie.close (tie.spec
+pub front_spec : {M : Type 1} → statement M
+front_spec = tie.close (tie.spec
     (λ c. sym (length-take-le _ _ c.before.before.requires))  -- slice-aggregate-result
     (λ c. search rules))  -- returns

@@ -13,15 +13,15 @@ use Rattle.cases.proofs.text.put_hexadecimal.Statement.{statement}
 use Rattle.cases.proofs.text.put_hexadecimal.Tie as tie
 
 -- the first i octets are spelled
-abbrev invariant-loop : tie.invariant-loop
+abbrev invariant-loop : tie.invariant-loop-i
 invariant-loop line₀ at octets end₀ i₀ line end i = (i ≤ length octets) × (length line ≡ length line₀) × Put (hexadecimal (take i octets)) at line₀ line end
 
-abbrev decreases-loop : tie.decreases-loop
+abbrev decreases-loop : tie.decreases-loop-i
 decreases-loop line₀ at octets end₀ i₀ line end i = length octets - i
 
-pub put-hexadecimal-spec : {M : Type 1} → statement M
+pub put_hexadecimal_spec : {M : Type 1} → statement M
 unfolding hexadecimal
-put-hexadecimal-spec =
+put_hexadecimal_spec =
     tie.close
     (tie.spec
     invariant-loop
@@ -32,8 +32,8 @@ put-hexadecimal-spec =
     let c2 = c.before.before in
     let c3 = c2.before in
     let c6 = c3.before.before.before in
-    let at_start = c6 in hexadecimal_room at_start.args.octets.now c3.loop.i c2.loop-test.true at_start.requires
-    c3.loop.invariant.2)  -- put-pair-requires
+    let at_start = c6 in hexadecimal_room at_start.args.octets.now c3.loop-i.i c2.loop-i-test.true at_start.requires
+    c3.loop-i.invariant.2)  -- put-pair-requires
     (λ c. search rules)  -- add-i
     (λ c. search rules)  -- loop-less
     (λ c.
@@ -43,9 +43,9 @@ put-hexadecimal-spec =
     let c9 = c6.before.before.before in
     let at_start = c9 in (
       search rules,
-      c2.put-pair.auto.0 ∙ c6.loop.invariant.1,
+      c2.put_pair-end.auto.0 ∙ c6.loop-i.invariant.1,
       rw add-one (hexadecimal_turn
-          at_start.args.octets.now c6.loop.i c5.loop-test.true at_start.requires c6.loop.invariant.2 c2.put-pair.ensures),
+          at_start.args.octets.now c6.loop-i.i c5.loop-i-test.true at_start.requires c6.loop-i.invariant.2 c2.put_pair-end.ensures),
     ))  -- loop-again
-    (λ c. c.before.loop.invariant.1)  -- same-length
-    (λ c. rw (take_all c.before.loop.i c.before.before.before.before.args.octets.now c.loop-test.false) at c.before.loop.invariant.2))  -- returns
+    (λ c. c.before.loop-i.invariant.1)  -- same-length
+    (λ c. rw (take_all c.before.loop-i.i c.before.before.before.before.args.octets.now c.loop-i-test.false) at c.before.loop-i.invariant.2))  -- returns

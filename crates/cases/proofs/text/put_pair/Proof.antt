@@ -9,9 +9,9 @@ use borrow.Author.Rules.{rules}
 use Rattle.cases.proofs.text.put_pair.Statement.{statement}
 use Rattle.cases.proofs.text.put_pair.Tie as tie
 
-pub put-pair-spec : {M : Type 1} → statement M
+pub put_pair_spec : {M : Type 1} → statement M
 unfolding pair
-put-pair-spec =
+put_pair_spec =
     tie.close
     (tie.spec
     (λ c κs. search rules)  -- digit-requires
@@ -21,4 +21,4 @@ put-pair-spec =
     (λ c. simp length-set (omega arith))  -- slice-write-line-2
     (λ c. search rules)  -- add-result
     (λ c. simp length-set)  -- same-length
-    (λ c. rw (c.before.digit.ensures, c.digit2.ensures, add-one) (put_stored c.before.before.before.requires)))  -- returns
+    (λ c. rw (c.before.digit-high.ensures, c.digit-low.ensures, add-one) (put_stored c.before.before.before.requires)))  -- returns

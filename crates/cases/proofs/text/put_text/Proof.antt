@@ -12,14 +12,14 @@ use Rattle.cases.proofs.text.put_text.Statement.{statement}
 use Rattle.cases.proofs.text.put_text.Tie as tie
 
 -- the first i octets are copied
-abbrev invariant-loop : tie.invariant-loop
+abbrev invariant-loop : tie.invariant-loop-i
 invariant-loop line₀ at text i₀ line i = (i ≤ length text) × (length line ≡ length line₀) × (line ≡ paste line₀ at text i)
 
-abbrev decreases-loop : tie.decreases-loop
+abbrev decreases-loop : tie.decreases-loop-i
 decreases-loop line₀ at text i₀ line i = length text - i
 
-pub put-text-spec : {M : Type 1} → statement M
-put-text-spec =
+pub put_text_spec : {M : Type 1} → statement M
+put_text_spec =
     tie.close
     (tie.spec
     invariant-loop
@@ -35,10 +35,10 @@ put-text-spec =
     let c3 = c2.before in
     let at_start = c3 in (
       search rules,
-      simp length-set c2.loop.invariant.1,
-      rw (c2.loop.invariant.2, add-one) (paste-suc
-          at_start.args.line.now at_start.args.at at_start.args.text.now c2.loop.i 0 (search rules) (search rules)),
+      simp length-set c2.loop-i.invariant.1,
+      rw (c2.loop-i.invariant.2, add-one) (paste-suc
+          at_start.args.line.now at_start.args.at at_start.args.text.now c2.loop-i.i 0 (search rules) (search rules)),
     ))  -- loop-again
     (λ c. search rules)  -- add-result
-    (λ c. c.before.loop.invariant.1)  -- same-length
-    (λ c. put_copied _ _ _ _ _ (omega arith) c.before.loop.invariant.2))  -- returns
+    (λ c. c.before.loop-i.invariant.1)  -- same-length
+    (λ c. put_copied _ _ _ _ _ (omega arith) c.before.loop-i.invariant.2))  -- returns

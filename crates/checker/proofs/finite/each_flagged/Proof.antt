@@ -12,15 +12,15 @@ use Rattle.checker.proofs.Marks.{present, present_stops, present_optional, prese
 use Rattle.checker.proofs.finite.each_flagged.Statement.{statement}
 use Rattle.checker.proofs.finite.each_flagged.Tie as tie
 
-abbrev invariant-loop : tie.invariant-loop
+abbrev invariant-loop : tie.invariant-loop-left
 invariant-loop table flags at₀ left₀ at left =
     (at + 2 * left ≡ at₀ + 2 * left₀) × (present (is_flagged flags) (members_at table at left) ≡ present (is_flagged flags) (members_at table at₀ left₀))
 
-abbrev decreases-loop : tie.decreases-loop
+abbrev decreases-loop : tie.decreases-loop-left
 decreases-loop table flags at₀ left₀ at left = left
 
-pub each-flagged-spec : {M : Type 1} → statement M
-each-flagged-spec =
+pub each_flagged_spec : {M : Type 1} → statement M
+each_flagged_spec =
     tie.close
     (tie.spec
     invariant-loop
@@ -29,20 +29,20 @@ each-flagged-spec =
     (λ c κs. search rules)  -- optional-requires
     (λ c κs. search rules)  -- octet-requires
     (λ c κs. search rules)  -- flagged-requires
-    (λ c. present_stops (is_flagged _) _ _ _ _ c.before.before.before.before.before.before.loop.invariant.1
-    c.before.before.before.before.before.loop-test.true (sym c.before.before.before.before.optional.ensures ∙
-    not-true _ c.before.before.before.if1.true)
-    (rw (← c.before.before.octet.ensures.0, ← c.before.flagged.ensures) (not-true _ c.if2.true)))  -- returns
+    (λ c. present_stops (is_flagged _) _ _ _ _ c.before.before.before.before.before.before.loop-left.invariant.1
+    c.before.before.before.before.before.loop-left-test.true (sym c.before.before.before.before.optional.ensures ∙
+    not-true _ c.before.before.before.if-not-optional.true)
+    (rw (← c.before.before.octet.ensures.0, ← c.before.flagged.ensures) (not-true _ c.if-not-flagged.true)))  -- returns
     (λ c. omega arith)  -- add-at
     (λ c. omega arith)  -- sub-left
     (λ c. omega arith)  -- loop-less
     (λ c. (
       omega arith,
       ⊎_elim
-          (λ w. present_flagged (is_flagged _) _ _ _ _ c.before.before.before.loop.invariant.1 c.before.before.loop-test.true
+          (λ w. present_flagged (is_flagged _) _ _ _ _ c.before.before.before.loop-left.invariant.1 c.before.before.loop-left-test.true
           (rw (← w.1.ensures.0, ← w.2.ensures) (not-false _ w.3.left)))
-          (λ w. present_optional (is_flagged _) _ _ _ _ c.before.before.before.loop.invariant.1 c.before.before.loop-test.true
+          (λ w. present_optional (is_flagged _) _ _ _ _ c.before.before.before.loop-left.invariant.1 c.before.before.loop-left-test.true
           (sym c.before.optional.ensures ∙ not-false _ w.left))
-          c.if1.branch,
+          c.if-not-optional.branch,
     ))  -- loop-again
-    (λ c. present_ends (is_flagged _) _ _ _ _ c.before.loop.invariant.1 (omega arith)))  -- returns-2
+    (λ c. present_ends (is_flagged _) _ _ _ _ c.before.loop-left.invariant.1 (omega arith)))  -- returns-2

@@ -8,9 +8,9 @@ use Rattle.checker.proofs.Marks.{flagged_beyond}
 use Rattle.checker.proofs.finite.flagged.Statement.{statement}
 use Rattle.checker.proofs.finite.flagged.Tie as tie
 
-pub flagged-spec : {M : Type 1} → statement M
+pub flagged_spec : {M : Type 1} → statement M
 unfolding is_flagged
-flagged-spec =
+flagged_spec =
     tie.close
     (tie.spec
     (λ c. search rules)  -- element-copy-out-result

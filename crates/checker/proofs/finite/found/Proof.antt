@@ -8,27 +8,27 @@ use Rattle.checker.proofs.Rules.{near_counted, near_span, finite_simple, finite_
 use Rattle.checker.proofs.finite.found.Statement.{statement}
 use Rattle.checker.proofs.finite.found.Tie as tie
 
-pub found-spec : {M : Type 1} → statement M
-found-spec =
+pub found_spec : {M : Type 1} → statement M
+found_spec =
     tie.close
     (tie.spec
-    (λ c. λ r x. finite_simple x _ c.if1.true)  -- returns
+    (λ c. λ r x. finite_simple x _ c.if-e.true)  -- returns
     (λ c κs. search rules)  -- has-members-requires
     (λ c κs. search rules)  -- parts-requires
     (λ c κs. (
-      rw c.parts.ensures (near_span _ _ _ (λ i. omega (arith, c.before.before.before.before.shared-slice-known.given i)) (omega arith)),
+      rw c.parts.ensures (near_span _ _ _ (λ i. omega (arith, c.before.before.before.before.shared_slice_known-1.given i)) (omega arith)),
       c.before.before.before.before.before.requires,
     ))  -- each-flagged-requires
-    (λ c. λ r x. rw c.before.parts.ensures at c.each-flagged.ensures ∙ finite_members x _
-    (sym c.before.before.before.has-members.ensures ∙ c.before.before.if2.true))  -- returns-2
+    (λ c. λ r x. rw c.before.parts.ensures at c.each_flagged.ensures ∙ finite_members x _
+    (sym c.before.before.before.has_members.ensures ∙ c.before.before.if-has_members.true))  -- returns-2
     (λ c κs. search rules)  -- alternatives-requires
     (λ c κs. (
       rw c.alternatives.ensures (near_counted c.before.before.before.before.before.before.before.args.table.now
           c.before.before.before.before.before.before.before.args.e.own 1
-          (λ i. omega (arith, c.before.before.before.before.before.before.shared-slice-known.given i)) (omega arith) (omega arith)),
+          (λ i. omega (arith, c.before.before.before.before.before.before.shared_slice_known-1.given i)) (omega arith) (omega arith)),
       c.before.before.before.before.before.before.before.requires,
     ))  -- one-flagged-requires
-    (λ c. λ r x. rw c.before.alternatives.ensures at c.one-flagged.ensures ∙ finite_choice x _
-    (eq-eqb _ _ c.before.before.if3.true))  -- returns-3
-    (λ c. λ r x. finite_other x _ (sym c.before.before.before.has-members.ensures ∙ c.before.before.if2.false)
-    (ne_eqb _ _ c.if3.false)))  -- returns-4
+    (λ c. λ r x. rw c.before.alternatives.ensures at c.one_flagged.ensures ∙ finite_choice x _
+    (eq-eqb _ _ c.before.before.if-e-eq-CHOICE.true))  -- returns-3
+    (λ c. λ r x. finite_other x _ (sym c.before.before.before.has_members.ensures ∙ c.before.before.if-has_members.false)
+    (ne_eqb _ _ c.if-e-eq-CHOICE.false)))  -- returns-4

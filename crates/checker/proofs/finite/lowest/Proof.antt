@@ -12,35 +12,35 @@ use Rattle.checker.proofs.Marks.{raised_on, raised_size, looked_closed, lowest_c
 use Rattle.checker.proofs.finite.lowest.Statement.{statement}
 use Rattle.checker.proofs.finite.lowest.Tie as tie
 
-abbrev invariant-loop : tie.invariant-loop
+abbrev invariant-loop : tie.invariant-loop-flags
 invariant-loop table index n flags₀ flags = (length flags ≡ 128) × Raised (table_in table) (replicate 128 0) flags
 
-abbrev decreases-loop : tie.decreases-loop
+abbrev decreases-loop : tie.decreases-loop-flags
 decreases-loop table index n flags₀ flags = free flags
 
-pub lowest-spec : {M : Type 1} → statement M
-lowest-spec =
+pub lowest_spec : {M : Type 1} → statement M
+lowest_spec =
     tie.close
     (tie.spec
     invariant-loop
     decreases-loop
     (λ c. (refl, same))  -- loop-holds
-    (λ c κs. (c.before.before.before.requires, c.before.loop.invariant.0))  -- round-requires
+    (λ c κs. (c.before.before.before.requires, c.before.loop-flags.invariant.0))  -- round-requires
     (λ c κs. (
-      raised_size _ c.before.round.ensures.raised ∙ c.before.before.before.loop.invariant.0,
+      raised_size _ c.before.round-more.ensures.raised ∙ c.before.before.before.loop-flags.invariant.0,
       c.before.before.before.before.before.requires.few,
     ))  -- lowest-without-requires
-    (λ c. sym c.if1.true ∙ c.before.lowest-without.ensures ∙ lowest_full _ _
+    (λ c. sym c.if-t-n.true ∙ c.before.lowest_without-t.ensures ∙ lowest_full _ _
     (filled_beyond c.before.before.before.before.before.before.before.requires) _ _ (zeros 128)
-    (raised_on _ c.before.before.before.before.before.loop.invariant.1 c.before.before.before.round.ensures.raised)
-    (sym c.before.lowest-without.ensures ∙ c.if1.true))  -- returns
-    (λ c. c.before.before.lowest-without.ensures ∙ lowest_closed _ _
+    (raised_on _ c.before.before.before.before.before.loop-flags.invariant.1 c.before.before.before.round-more.ensures.raised)
+    (sym c.before.lowest_without-t.ensures ∙ c.if-t-n.true))  -- returns
+    (λ c. c.before.before.lowest_without-t.ensures ∙ lowest_closed _ _
     (filled_beyond c.before.before.before.before.before.before.before.before.requires) _ _ (zeros 128)
-    (raised_on _ c.before.before.before.before.before.before.loop.invariant.1 c.before.before.before.before.round.ensures.raised)
-    (looked_closed _ _ c.before.before.before.before.round.ensures (not-true _ c.if2.true)))  -- returns-2
-    (λ c. c.before.before.before.before.round.ensures.fewer (not-false _ c.if2.false))  -- loop-less
+    (raised_on _ c.before.before.before.before.before.before.loop-flags.invariant.1 c.before.before.before.before.round-more.ensures.raised)
+    (looked_closed _ _ c.before.before.before.before.round-more.ensures (not-true _ c.if-not-more.true)))  -- returns-2
+    (λ c. c.before.before.before.before.round-more.ensures.fewer (not-false _ c.if-not-more.false))  -- loop-less
     (λ c. (
-      raised_size _ c.before.before.before.before.round.ensures.raised ∙ c.before.before.before.before.before.before.loop.invariant.0,
-      raised_on _ c.before.before.before.before.before.before.loop.invariant.1
-          c.before.before.before.before.round.ensures.raised,
+      raised_size _ c.before.before.before.before.round-more.ensures.raised ∙ c.before.before.before.before.before.before.loop-flags.invariant.0,
+      raised_on _ c.before.before.before.before.before.before.loop-flags.invariant.1
+          c.before.before.before.before.round-more.ensures.raised,
     )))  -- loop-again

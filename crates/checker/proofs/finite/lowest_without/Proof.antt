@@ -10,23 +10,23 @@ use Rattle.checker.specs.Marks.{is_flagged}
 use Rattle.checker.proofs.finite.lowest_without.Statement.{statement}
 use Rattle.checker.proofs.finite.lowest_without.Tie as tie
 
-abbrev invariant-loop : tie.invariant-loop
+abbrev invariant-loop : tie.invariant-loop-t
 invariant-loop flags n t₀ t = Rest (λ u. not (is_flagged flags u)) n t
 
-abbrev decreases-loop : tie.decreases-loop
+abbrev decreases-loop : tie.decreases-loop-t
 decreases-loop flags n t₀ t = n - t
 
-pub lowest-without-spec : {M : Type 1} → statement M
+pub lowest_without_spec : {M : Type 1} → statement M
 unfolding is_flagged
-lowest-without-spec =
+lowest_without_spec =
     tie.close
     (tie.spec
     invariant-loop
     decreases-loop
     (λ c. rest_first _ _)  -- loop-holds
     (λ c. search rules)  -- element-copy-out-if1
-    (λ c. rest_here _ _ _ c.before.before.before.loop.invariant c.before.before.loop-test.true (rw (eq-eqb _ _ c.if1.true)))  -- returns
+    (λ c. rest_here _ _ _ c.before.before.before.loop-t.invariant c.before.before.loop-t-test.true (rw (eq-eqb _ _ c.if-flags-t-eq0.true)))  -- returns
     (λ c. search rules)  -- add-t
     (λ c. omega arith)  -- loop-less
-    (λ c. rest_next _ _ _ c.before.before.before.loop.invariant c.before.before.loop-test.true (rw (ne_eqb _ _ c.if1.false)))  -- loop-again
-    (λ c. rest_none _ _ _ c.before.loop.invariant c.loop-test.false))  -- returns-2
+    (λ c. rest_next _ _ _ c.before.before.before.loop-t.invariant c.before.before.loop-t-test.true (rw (ne_eqb _ _ c.if-flags-t-eq0.false)))  -- loop-again
+    (λ c. rest_none _ _ _ c.before.loop-t.invariant c.loop-t-test.false))  -- returns-2

@@ -11,15 +11,15 @@ use Rattle.table.proofs.Loops.{any_stops, any_goes, any_ends}
 use Rattle.checker.proofs.finite.one_flagged.Statement.{statement}
 use Rattle.checker.proofs.finite.one_flagged.Tie as tie
 
-abbrev invariant-loop : tie.invariant-loop
+abbrev invariant-loop : tie.invariant-loop-left
 invariant-loop table flags at₀ left₀ at left =
     (at + left ≡ at₀ + left₀) × (any (is_flagged flags) (every_at 1 table at left) ≡ any (is_flagged flags) (every_at 1 table at₀ left₀))
 
-abbrev decreases-loop : tie.decreases-loop
+abbrev decreases-loop : tie.decreases-loop-left
 decreases-loop table flags at₀ left₀ at left = left
 
-pub one-flagged-spec : {M : Type 1} → statement M
-one-flagged-spec =
+pub one_flagged_spec : {M : Type 1} → statement M
+one_flagged_spec =
     tie.close
     (tie.spec
     invariant-loop
@@ -27,14 +27,14 @@ one-flagged-spec =
     (λ c. (refl, refl))  -- loop-holds
     (λ c κs. search rules)  -- octet-requires
     (λ c κs. search rules)  -- flagged-requires
-    (λ c. any_stops _ 1 _ _ _ _ c.before.before.before.before.loop.invariant.1 c.before.before.before.loop-test.true
-    (rw (← c.before.before.octet.ensures.0, ← c.before.flagged.ensures) c.if1.true))  -- returns
+    (λ c. any_stops _ 1 _ _ _ _ c.before.before.before.before.loop-left.invariant.1 c.before.before.before.loop-left-test.true
+    (rw (← c.before.before.octet.ensures.0, ← c.before.flagged.ensures) c.if-flagged.true))  -- returns
     (λ c. omega arith)  -- add-at
     (λ c. omega arith)  -- sub-left
     (λ c. omega arith)  -- loop-less
     (λ c. (
       omega arith,
-      any_goes _ 1 _ _ _ _ c.before.before.before.before.loop.invariant.1 c.before.before.before.loop-test.true
-          (rw (← c.before.before.octet.ensures.0, ← c.before.flagged.ensures) c.if1.false),
+      any_goes _ 1 _ _ _ _ c.before.before.before.before.loop-left.invariant.1 c.before.before.before.loop-left-test.true
+          (rw (← c.before.before.octet.ensures.0, ← c.before.flagged.ensures) c.if-flagged.false),
     ))  -- loop-again
-    (λ c. any_ends _ 1 _ _ _ _ c.before.loop.invariant.1 (omega arith)))  -- returns-2
+    (λ c. any_ends _ 1 _ _ _ _ c.before.loop-left.invariant.1 (omega arith)))  -- returns-2

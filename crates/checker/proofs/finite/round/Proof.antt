@@ -12,15 +12,15 @@ use Rattle.checker.proofs.Marks.{From, looked_none, looked_all, looked_flagged, 
 use Rattle.checker.proofs.finite.round.Statement.{statement}
 use Rattle.checker.proofs.finite.round.Tie as tie
 
-abbrev invariant-loop : tie.invariant-loop
+abbrev invariant-loop : tie.invariant-loop-t
 invariant-loop table index flags₀ n more₀ t₀ flags more t =
     (t ≤ n) × (length flags ≡ 128) × Looked (table_in table) (From t n) flags₀ more flags
 
-abbrev decreases-loop : tie.decreases-loop
+abbrev decreases-loop : tie.decreases-loop-t
 decreases-loop table index flags₀ n more₀ t₀ flags more t = t
 
-pub round-spec : {M : Type 1} → statement M
-round-spec =
+pub round_spec : {M : Type 1} → statement M
+round_spec =
     tie.close
     (tie.spec
     invariant-loop
@@ -31,32 +31,32 @@ round-spec =
     (λ c. omega (arith, c.before.before.before.before.before.requires.0.few))  -- mul-unpack
     (λ c. omega (arith, c.before.before.before.before.before.requires.0.few))  -- element-copy-out-unpack
     (λ c κs. search rules)  -- unpack-requires
-    (λ c κs. c.before.before.before.before.before.before.loop.invariant.1)  -- found-requires
+    (λ c κs. c.before.before.before.before.before.before.loop-t.invariant.1)  -- found-requires
     (λ c. omega (arith, c.before.before.before.before.before.before.before.before.before.before.requires.0.few))  -- element-write-flags
     (λ c. omega arith)  -- loop-less
     (λ c. (
       omega arith,
-      length-set c.before.before.before.before.before.before.before.before.loop.flags _ _ ∙
-          c.before.before.before.before.before.before.before.before.loop.invariant.1,
-      looked_more _ _ _ _ _ _ c.before.before.before.before.before.before.before.before.loop.invariant.2
+      length-set c.before.before.before.before.before.before.before.before.loop-t.flags _ _ ∙
+          c.before.before.before.before.before.before.before.before.loop-t.invariant.1,
+      looked_more _ _ _ _ _ _ c.before.before.before.before.before.before.before.before.loop-t.invariant.2
           (omega (arith, c.before.before.before.before.before.before.before.before.before.before.requires.0.few))
-          c.before.before.before.before.before.if1.true (sym (c.before.found.ensures _
+          c.before.before.before.before.before.if-flags-t-eq0.true (sym (c.before.found.ensures _
           (entry_at c.before.before.before.before.before.before.before.before.before.before.requires.0 _ (omega arith)
-          c.before.before.before.unpack.ensures)) ∙ c.if2.true),
+          c.before.before.before.unpack-e.ensures)) ∙ c.if-found.true),
     ))  -- loop-again
     (λ c. omega arith)  -- loop-less-2
     (λ c. (
       omega arith,
-      c.before.before.before.before.before.before.before.before.loop.invariant.1,
-      looked_idle _ _ _ _ _ _ c.before.before.before.before.before.before.before.before.loop.invariant.2
+      c.before.before.before.before.before.before.before.before.loop-t.invariant.1,
+      looked_idle _ _ _ _ _ _ c.before.before.before.before.before.before.before.before.loop-t.invariant.2
           (sym (c.before.found.ensures _ (entry_at c.before.before.before.before.before.before.before.before.before.before.requires.0 _
-          (omega arith) c.before.before.before.unpack.ensures)) ∙ c.if2.false),
+          (omega arith) c.before.before.before.unpack-e.ensures)) ∙ c.if-found.false),
     ))  -- loop-again-2
     (λ c. omega arith)  -- loop-less-3
     (λ c. (
       omega arith,
-      c.before.before.before.loop.invariant.1,
-      looked_flagged _ _ _ _ _ _ c.before.before.before.loop.invariant.2
-          c.if1.false,
+      c.before.before.before.loop-t.invariant.1,
+      looked_flagged _ _ _ _ _ _ c.before.before.before.loop-t.invariant.2
+          c.if-flags-t-eq0.false,
     ))  -- loop-again-3
-    (λ c. looked_all _ _ _ c.loop-test.false c.before.loop.invariant.2))  -- returns
+    (λ c. looked_all _ _ _ c.loop-t-test.false c.before.loop-t.invariant.2))  -- returns

@@ -54,8 +54,8 @@ gather-under-Inv-loop table index nodes flags₀ t at₀ left₀ flags at left =
 abbrev gather-under-μ-loop : gather_under_lts.decreases-loop
 gather-under-μ-loop table index nodes flags₀ t at₀ left₀ flags at left = left
 
-pub +gather-gather-under-spec : {M : Type 1} → statement M
-+gather-gather-under-spec =
+pub +gather_gather_under_spec : {M : Type 1} → statement M
++gather_gather_under_spec =
     close
     μ-gather
     μ-gather-under

@@ -6,33 +6,33 @@ use Rattle.checker.proofs.Runs.{Remaining, remaining_all, its_count, compares_ru
 use Rattle.checker.proofs.first_tags.clash_in_a_run.Statement.{statement}
 use Rattle.checker.proofs.first_tags.clash_in_a_run.Tie as tie
 
-abbrev invariant-loop : tie.invariant-loop
+abbrev invariant-loop : tie.invariant-loop-left
 invariant-loop table index nodes first₀ left₀ first left = Remaining table first₀ left₀ first left
 
-abbrev decreases-loop : tie.decreases-loop
+abbrev decreases-loop : tie.decreases-loop-left
 decreases-loop table index nodes first₀ left₀ first left = left
 
-pub clash-in-a-run-spec : {M : Type 1} → statement M
-clash-in-a-run-spec =
+pub clash_in_a_run_spec : {M : Type 1} → statement M
+clash_in_a_run_spec =
     tie.close
     (tie.spec
     invariant-loop
     decreases-loop
     (λ c. remaining_all c.before.requires.0 c.before.requires.1)  -- loop-holds
-    (λ c κs. (c.loop-test.true, c.before.loop.invariant.near))  -- run-length-requires
-    (λ c κs. compares_run c.before.before.loop.invariant c.before.loop-test.true c.run_length.ensures c.before.before.before.before.requires.0)  -- clash-requires
+    (λ c κs. (c.loop-left-test.true, c.before.loop-left.invariant.near))  -- run-length-requires
+    (λ c κs. compares_run c.before.before.loop-left.invariant c.before.loop-left-test.true c.run_length-count.ensures c.before.before.before.before.requires.0)  -- clash-requires
     (λ c. let l = c.before.before.before in (
-      λ _. remaining_clash l.before.loop.invariant l.loop-test.true c.before.before.run_length.ensures c.before.clash.ensures c.if1.true,
+      λ _. remaining_clash l.before.loop-left.invariant l.loop-left-test.true c.before.before.run_length-count.ensures c.before.clash.ensures c.if-clash.true,
       λ z. absurd (true≢false z),
     ))  -- returns
     (λ c. let l = c.before.before.before in
-    omega (arith, l.before.loop.invariant.few, (its_count l.before.loop.invariant l.loop-test.true c.before.before.run_length.ensures).0))  -- mul-first
+    omega (arith, l.before.loop-left.invariant.few, (its_count l.before.loop-left.invariant l.loop-left-test.true c.before.before.run_length-count.ensures).0))  -- mul-first
     (λ c. let l = c.before.before.before in
-    omega (arith, l.before.loop.invariant.near, (its_count l.before.loop.invariant l.loop-test.true c.before.before.run_length.ensures).0))  -- add-first
+    omega (arith, l.before.loop-left.invariant.near, (its_count l.before.loop-left.invariant l.loop-left-test.true c.before.before.run_length-count.ensures).0))  -- add-first
     (λ c. let l = c.before.before.before in
-    omega (arith, (its_count l.before.loop.invariant l.loop-test.true c.before.before.run_length.ensures).0))  -- sub-left
+    omega (arith, (its_count l.before.loop-left.invariant l.loop-left-test.true c.before.before.run_length-count.ensures).0))  -- sub-left
     (λ c. let l = c.before.before.before in
-    let n = its_count l.before.loop.invariant l.loop-test.true c.before.before.run_length.ensures in omega (arith, n.0, n.1))  -- loop-less
+    let n = its_count l.before.loop-left.invariant l.loop-left-test.true c.before.before.run_length-count.ensures in omega (arith, n.0, n.1))  -- loop-less
     (λ c. let l = c.before.before.before in
-    remaining_next l.before.loop.invariant l.loop-test.true c.before.before.run_length.ensures c.before.clash.ensures c.if1.false)  -- loop-again
-    (λ c. (λ z. absurd (false≢true z), λ _. remaining_none c.before.loop.invariant c.loop-test.false)))  -- returns-2
+    remaining_next l.before.loop-left.invariant l.loop-left-test.true c.before.before.run_length-count.ensures c.before.clash.ensures c.if-clash.false)  -- loop-again
+    (λ c. (λ z. absurd (false≢true z), λ _. remaining_none c.before.loop-left.invariant c.loop-left-test.false)))  -- returns-2

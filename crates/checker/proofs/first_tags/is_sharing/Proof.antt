@@ -6,8 +6,8 @@ use Rattle.checker.proofs.Shared.{compares, members_two_apart, of_sequence, of_o
 use Rattle.checker.proofs.first_tags.is_sharing.Statement.{statement}
 use Rattle.checker.proofs.first_tags.is_sharing.Tie as tie
 
-pub is-sharing-spec : {M : Type 1} → statement M
-is-sharing-spec =
+pub is_sharing_spec : {M : Type 1} → statement M
+is_sharing_spec =
     tie.close
     (tie.spec
     (λ c. let x = c.before.requires in omega (arith, x.3, x.0.few))  -- mul-unpack
@@ -16,17 +16,17 @@ is-sharing-spec =
     (λ c κs. search rules)  -- parts-requires
     (λ c κs. let u = c.before.before.before in
     let x = u.before.before.before.requires in (
-      compares x.0 x.3 u.unpack.ensures c.before.before.parts.ensures
-          (λ i. omega (arith, u.before.before.shared-slice-known.given i)) x.1 x.2,
-      members_two_apart x.0 x.3 u.unpack.ensures c.before.before.parts.ensures c.if1.true,
+      compares x.0 x.3 u.unpack-e.ensures c.before.before.parts-s.ensures
+          (λ i. omega (arith, u.before.before.shared_slice_known-1.given i)) x.1 x.2,
+      members_two_apart x.0 x.3 u.unpack-e.ensures c.before.before.parts-s.ensures c.if-e-eq-SEQUENCE.true,
     ))  -- clash-in-a-run-requires
     (λ c. let u = c.before.before.before.before in
     let x = u.before.before.before.requires in
-    of_sequence x.0 x.3 u.unpack.ensures c.before.before.before.parts.ensures c.before.if1.true c.clash-in-a-run.ensures)  -- returns
+    of_sequence x.0 x.3 u.unpack-e.ensures c.before.before.before.parts-s.ensures c.before.if-e-eq-SEQUENCE.true c.clash_in_a_run.ensures)  -- returns
     (λ c κs. let u = c.before.before.before in
     let x = u.before.before.before.requires in
-    compares x.0 x.3 u.unpack.ensures c.before.before.parts.ensures
-    (λ i. omega (arith, u.before.before.shared-slice-known.given i)) x.1 x.2)  -- clash-requires
+    compares x.0 x.3 u.unpack-e.ensures c.before.before.parts-s.ensures
+    (λ i. omega (arith, u.before.before.shared_slice_known-1.given i)) x.1 x.2)  -- clash-requires
     (λ c. let u = c.before.before.before.before in
     let x = u.before.before.before.requires in
-    of_other x.0 x.3 u.unpack.ensures c.before.before.before.parts.ensures c.before.if1.false c.clash.ensures))  -- returns-2
+    of_other x.0 x.3 u.unpack-e.ensures c.before.before.before.parts-s.ensures c.before.if-e-eq-SEQUENCE.false c.clash.ensures))  -- returns-2

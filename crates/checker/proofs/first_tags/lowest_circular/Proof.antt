@@ -16,14 +16,14 @@ use Rattle.checker.proofs.Shared.{no_circle}
 use Rattle.checker.proofs.first_tags.lowest_circular.Statement.{statement}
 use Rattle.checker.proofs.first_tags.lowest_circular.Tie as tie
 
-abbrev invariant-loop : tie.invariant-loop
+abbrev invariant-loop : tie.invariant-loop-t
 invariant-loop table index nodes n t₀ t = Rest (circular (table_in table) n) n t
 
-abbrev decreases-loop : tie.decreases-loop
+abbrev decreases-loop : tie.decreases-loop-t
 decreases-loop table index nodes n t₀ t = n - t
 
-pub lowest-circular-spec : {M : Type 1} → statement M
-lowest-circular-spec =
+pub lowest_circular_spec : {M : Type 1} → statement M
+lowest_circular_spec =
     tie.close
     (tie.spec
     invariant-loop
@@ -34,19 +34,19 @@ lowest-circular-spec =
     (λ c κs. search rules)  -- first-requires
     (λ c κs. (
       gathers_from c.before.before.before.before.before.before.requires.0 c.before.before.before.before.before.before.requires.1
-          c.before.before.before.before.before.before.requires.2 refl c.before.before.before.loop-test.true,
+          c.before.before.before.before.before.before.requires.2 refl c.before.before.before.loop-t-test.true,
       sym c.before.first.ensures ∙
-          c.if1.taken,
+          c.if-first-eq-UNTAGGED.taken,
     ))  -- is-circular-requires
-    (λ c. rest_here _ _ _ c.before.before.before.before.before.before.loop.invariant c.before.before.before.before.before.loop-test.true
+    (λ c. rest_here _ _ _ c.before.before.before.before.before.before.loop-t.invariant c.before.before.before.before.before.loop-t-test.true
     (circular_is _ _ (filled_beyond c.before.before.before.before.before.before.before.before.requires.0) _ _
-    c.before.before.before.before.before.loop-test.true c.before.is-circular.ensures ∙ c.if2.true))  -- returns
+    c.before.before.before.before.before.loop-t-test.true c.before.is_circular.ensures ∙ c.if-is_circular.true))  -- returns
     (λ c. search rules)  -- add-t
     (λ c. omega arith)  -- loop-less
-    (λ c. rest_next _ _ _ c.before.before.before.before.loop.invariant c.before.before.before.loop-test.true (⊎_elim
-    (λ w. circular_is _ _ (filled_beyond c.before.before.before.before.before.before.requires.0) _ _ c.before.before.before.loop-test.true
+    (λ c. rest_next _ _ _ c.before.before.before.before.loop-t.invariant c.before.before.before.loop-t-test.true (⊎_elim
+    (λ w. circular_is _ _ (filled_beyond c.before.before.before.before.before.before.requires.0) _ _ c.before.before.before.loop-t-test.true
     w.1.ensures ∙ w.2.left)
-    (λ w. no_circle _ _ _ (below_none (c.before.before.before.before.before.before.requires.0.entered _ c.before.before.before.loop-test.true)
+    (λ w. no_circle _ _ _ (below_none (c.before.before.before.before.before.before.requires.0.entered _ c.before.before.before.loop-t-test.true)
     (λ z. w.left (c.before.first.ensures ∙ z))))
-    c.if1.branch))  -- loop-again
-    (λ c. rest_none _ _ _ c.before.loop.invariant c.loop-test.false))  -- returns-2
+    c.if-first-eq-UNTAGGED.branch))  -- loop-again
+    (λ c. rest_none _ _ _ c.before.loop-t.invariant c.loop-t-test.false))  -- returns-2

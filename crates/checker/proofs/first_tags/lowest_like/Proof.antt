@@ -13,14 +13,14 @@ use Rattle.checker.proofs.Alike.{like_none, like_some}
 use Rattle.checker.proofs.first_tags.lowest_like.Statement.{statement}
 use Rattle.checker.proofs.first_tags.lowest_like.Tie as tie
 
-abbrev invariant-loop : tie.invariant-loop
+abbrev invariant-loop : tie.invariant-loop-u
 invariant-loop index t tag u₀ u = Rest (λ w. eqb (tag_of (unpacked (get_or index w 0)).code) tag) t u
 
-abbrev decreases-loop : tie.decreases-loop
+abbrev decreases-loop : tie.decreases-loop-u
 decreases-loop index t tag u₀ u = t - u
 
-pub lowest-like-spec : {M : Type 1} → statement M
-lowest-like-spec =
+pub lowest_like_spec : {M : Type 1} → statement M
+lowest_like_spec =
     tie.close
     (tie.spec
     invariant-loop
@@ -28,18 +28,18 @@ lowest-like-spec =
     (λ c. search rules)  -- mul-first-tag
     (λ c. search rules)  -- element-copy-out-first-tag
     (λ c κs. search rules)  -- first-tag-requires
-    (λ c. like_none c.before.before.before.args.index.now _ c.before.first-tag.ensures c.if1.true)  -- returns
+    (λ c. like_none c.before.before.before.args.index.now _ c.before.first_tag-tag.ensures c.if-tag-eq-UNTAGGED.true)  -- returns
     (λ c. rest_first _ _)  -- loop-holds
     (λ c. search rules)  -- mul-first-tag-2
     (λ c. search rules)  -- element-copy-out-first-tag-2
     (λ c κs. search rules)  -- first-tag-requires-2
     (λ c. like_some c.before.before.before.before.before.before.before.before.args.index.now _
-    c.before.before.before.before.before.before.first-tag.ensures c.before.before.before.before.before.if1.false
-    (rest_here _ _ _ c.before.before.before.before.loop.invariant c.before.before.before.loop-test.true
-    (rw (← c.before.first-tag2.ensures) (eq-eqb _ _ c.if2.true))))  -- returns-2
+    c.before.before.before.before.before.before.first_tag-tag.ensures c.before.before.before.before.before.if-tag-eq-UNTAGGED.false
+    (rest_here _ _ _ c.before.before.before.before.loop-u.invariant c.before.before.before.loop-u-test.true
+    (rw (← c.before.first_tag.ensures) (eq-eqb _ _ c.if-first_tag-tag.true))))  -- returns-2
     (λ c. search rules)  -- add-u
     (λ c. omega arith)  -- loop-less
-    (λ c. rest_next _ _ _ c.before.before.before.before.loop.invariant c.before.before.before.loop-test.true
-    (rw (← c.before.first-tag2.ensures) (ne_eqb _ _ c.if2.false)))  -- loop-again
-    (λ c. like_some c.before.before.before.before.before.args.index.now _ c.before.before.before.first-tag.ensures
-    c.before.before.if1.false (rest_none _ _ _ c.before.loop.invariant c.loop-test.false)))  -- returns-3
+    (λ c. rest_next _ _ _ c.before.before.before.before.loop-u.invariant c.before.before.before.loop-u-test.true
+    (rw (← c.before.first_tag.ensures) (ne_eqb _ _ c.if-first_tag-tag.false)))  -- loop-again
+    (λ c. like_some c.before.before.before.before.before.args.index.now _ c.before.before.before.first_tag-tag.ensures
+    c.before.before.if-tag-eq-UNTAGGED.false (rest_none _ _ _ c.before.loop-u.invariant c.loop-u-test.false)))  -- returns-3

@@ -15,14 +15,14 @@ use Rattle.checker.proofs.Shared.{no_sharing}
 use Rattle.checker.proofs.first_tags.lowest_sharing.Statement.{statement}
 use Rattle.checker.proofs.first_tags.lowest_sharing.Tie as tie
 
-abbrev invariant-loop : tie.invariant-loop
+abbrev invariant-loop : tie.invariant-loop-t
 invariant-loop table index nodes n t₀ t = Rest (sharing (table_in table) n) n t
 
-abbrev decreases-loop : tie.decreases-loop
+abbrev decreases-loop : tie.decreases-loop-t
 decreases-loop table index nodes n t₀ t = n - t
 
-pub lowest-sharing-spec : {M : Type 1} → statement M
-lowest-sharing-spec =
+pub lowest_sharing_spec : {M : Type 1} → statement M
+lowest_sharing_spec =
     tie.close
     (tie.spec
     invariant-loop
@@ -32,16 +32,16 @@ lowest-sharing-spec =
     (λ c. omega (arith, c.before.before.before.requires.0.few))  -- element-copy-out-unpack
     (λ c κs. search rules)  -- unpack-requires
     (λ c κs. let x = c.before.before.before.before.before.before.before.requires in
-    let n = x.0.count in (rw n at x.0, rw n at x.1, rw n at x.2, rw n at c.before.before.before.before.loop-test.true))  -- is-sharing-requires
-    (λ c. rest_here _ _ _ c.before.before.before.before.before.before.before.loop.invariant
-    c.before.before.before.before.before.before.loop-test.true
-    (sharing_is _ _ (filled_beyond c.before.before.before.before.before.before.before.before.before.requires.0) _ _ c.before.is-sharing.ensures ∙
-    c.if2.true))  -- returns
+    let n = x.0.count in (rw n at x.0, rw n at x.1, rw n at x.2, rw n at c.before.before.before.before.loop-t-test.true))  -- is-sharing-requires
+    (λ c. rest_here _ _ _ c.before.before.before.before.before.before.before.loop-t.invariant
+    c.before.before.before.before.before.before.loop-t-test.true
+    (sharing_is _ _ (filled_beyond c.before.before.before.before.before.before.before.before.before.requires.0) _ _ c.before.is_sharing.ensures ∙
+    c.if-is_sharing.true))  -- returns
     (λ c. search rules)  -- add-t
     (λ c. omega arith)  -- loop-less
-    (λ c. rest_next _ _ _ c.before.before.before.before.before.loop.invariant c.before.before.before.before.loop-test.true (⊎_elim
+    (λ c. rest_next _ _ _ c.before.before.before.before.before.loop-t.invariant c.before.before.before.before.loop-t-test.true (⊎_elim
     (λ w. sharing_is _ _ (filled_beyond c.before.before.before.before.before.before.before.requires.0) _ _ w.1.ensures ∙ w.2.left)
     (λ w. no_sharing _ _ _ (not-true _ (sym (entry_at c.before.before.before.before.before.before.before.requires.0 _
-    c.before.before.before.before.loop-test.true c.before.before.unpack.ensures).simple ∙ not-false _ w.left)))
-    c.if1.branch))  -- loop-again
-    (λ c. rest_none _ _ _ c.before.loop.invariant c.loop-test.false))  -- returns-2
+    c.before.before.before.before.loop-t-test.true c.before.before.unpack-e.ensures).simple ∙ not-false _ w.left)))
+    c.if-not-e.branch))  -- loop-again
+    (λ c. rest_none _ _ _ c.before.loop-t.invariant c.loop-t-test.false))  -- returns-2

@@ -10,26 +10,26 @@ use Rattle.checker.specs.Gathering.{optional_in}
 use Rattle.checker.proofs.first_tags.run_length.Statement.{statement}
 use Rattle.checker.proofs.first_tags.run_length.Tie as tie
 
-abbrev invariant-loop : tie.invariant-loop
+abbrev invariant-loop : tie.invariant-loop-k
 invariant-loop table at left last k₀ k = Rest (λ j. not (optional_in table at j)) last k
 
-abbrev decreases-loop : tie.decreases-loop
+abbrev decreases-loop : tie.decreases-loop-k
 decreases-loop table at left last k₀ k = last - k
 
-pub run-length-spec : {M : Type 1} → statement M
-run-length-spec =
+pub run_length_spec : {M : Type 1} → statement M
+run_length_spec =
     tie.close
     (tie.spec
     invariant-loop
     decreases-loop
     (λ c. search rules)  -- sub-last
     (λ c. rest_first _ _)  -- loop-holds
-    (λ c. omega (arith, c.before.before.before.requires.1, c.loop-test.true))  -- mul-optional
-    (λ c. omega (arith, c.before.before.before.requires.1, c.loop-test.true))  -- add-optional
+    (λ c. omega (arith, c.before.before.before.requires.1, c.loop-k-test.true))  -- mul-optional
+    (λ c. omega (arith, c.before.before.before.requires.1, c.loop-k-test.true))  -- add-optional
     (λ c κs. search rules)  -- optional-requires
-    (λ c. omega (arith, c.before.before.before.before.before.requires.1, c.before.before.loop-test.true))  -- add-result
-    (λ c. omega (arith, rest_here _ _ _ c.before.before.before.loop.invariant c.before.before.loop-test.true (ap not (sym c.before.optional.ensures) ∙ c.if1.true)))  -- returns
-    (λ c. omega (arith, c.before.before.before.before.before.requires.1, c.before.before.loop-test.true))  -- add-k
+    (λ c. omega (arith, c.before.before.before.before.before.requires.1, c.before.before.loop-k-test.true))  -- add-result
+    (λ c. omega (arith, rest_here _ _ _ c.before.before.before.loop-k.invariant c.before.before.loop-k-test.true (ap not (sym c.before.optional.ensures) ∙ c.if-not-optional.true)))  -- returns
+    (λ c. omega (arith, c.before.before.before.before.before.requires.1, c.before.before.loop-k-test.true))  -- add-k
     (λ c. omega arith)  -- loop-less
-    (λ c. rest_next _ _ _ c.before.before.before.loop.invariant c.before.before.loop-test.true (ap not (sym c.before.optional.ensures) ∙ c.if1.false))  -- loop-again
-    (λ c. omega (arith, c.before.before.before.requires.0, rest_none _ _ _ c.before.loop.invariant c.loop-test.false)))  -- returns-2
+    (λ c. rest_next _ _ _ c.before.before.before.loop-k.invariant c.before.before.loop-k-test.true (ap not (sym c.before.optional.ensures) ∙ c.if-not-optional.false))  -- loop-again
+    (λ c. omega (arith, c.before.before.before.requires.0, rest_none _ _ _ c.before.loop-k.invariant c.loop-k-test.false)))  -- returns-2

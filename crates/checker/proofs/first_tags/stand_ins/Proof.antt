@@ -13,15 +13,15 @@ use Rattle.checker.proofs.Alike.{like_in_lem, like_in_low}
 use Rattle.checker.proofs.first_tags.stand_ins.Statement.{statement}
 use Rattle.checker.proofs.first_tags.stand_ins.Tie as tie
 
-abbrev invariant-loop : tie.invariant-loop
+abbrev invariant-loop : tie.invariant-loop-t
 invariant-loop table index n nodes₀ t₀ nodes t =
     (t ≤ n) × (length nodes ≡ 128) × ((k : ℕ) → k < t → get_or nodes k 0 ≡ like (table_in table) k)
 
-abbrev decreases-loop : tie.decreases-loop
+abbrev decreases-loop : tie.decreases-loop-t
 decreases-loop table index n nodes₀ t₀ nodes t = n - t
 
-pub stand-ins-spec : {M : Type 1} → statement M
-stand-ins-spec =
+pub stand_ins_spec : {M : Type 1} → statement M
+stand_ins_spec =
     tie.close
     (tie.spec
     invariant-loop
@@ -30,19 +30,19 @@ stand-ins-spec =
     (λ c κs. omega (arith, c.before.before.before.requires.0.few))  -- lowest-like-requires
     (λ c. omega (
       arith,
-      c.lowest-like.ensures,
-      like_in_low c.before.before.before.before.args.index.now c.before.before.loop.t,
+      c.lowest_like.ensures,
+      like_in_low c.before.before.before.before.args.index.now c.before.before.loop-t.t,
       c.before.before.before.before.requires.0.few,
     ))  -- cast-nodes
     (λ c. omega (arith, c.before.before.before.before.requires.0.few))  -- element-write-nodes
     (λ c. search rules)  -- add-t
     (λ c. omega arith)  -- loop-less
-    (λ c. let l = c.before.before.loop in (
+    (λ c. let l = c.before.before.loop-t in (
       omega arith,
       length-set l.nodes l.t _ ∙ l.invariant.1,
       below_more _ l.t (λ k j. get_or-set_other l.nodes l.t k _ 0 (omega arith) ∙ l.invariant.2 k j)
-          (get_or-set_same l.nodes l.t _ 0 (omega (arith, c.before.before.before.before.requires.0.few)) ∙ c.lowest-like.ensures ∙ like_in_lem _ _ _
-          (λ i. omega (arith, c.before.before.before.shared-slice-known.given i)) c.before.before.before.before.requires.0 l.t
-          c.before.loop-test.true),
+          (get_or-set_same l.nodes l.t _ 0 (omega (arith, c.before.before.before.before.requires.0.few)) ∙ c.lowest_like.ensures ∙ like_in_lem _ _ _
+          (λ i. omega (arith, c.before.before.before.shared_slice_known-1.given i)) c.before.before.before.before.requires.0 l.t
+          c.before.loop-t-test.true),
     ))  -- loop-again
-    (λ c. λ t h. c.before.loop.invariant.2 t (omega (arith, c.loop-test.false, h))))  -- returns
+    (λ c. λ t h. c.before.loop-t.invariant.2 t (omega (arith, c.loop-t-test.false, h))))  -- returns

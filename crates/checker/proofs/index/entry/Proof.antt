@@ -42,7 +42,7 @@ entry_spec =
       (heads c.before.before.before.args.table.now c.before.before.before.args.o
           c.before.before.before.requires.1).1,
     ))  -- add-own
-    (λ c. omega (arith, c.before.shared-slice-known2.given (c.before.before.before.args.o + 2)))  -- cast-constructed
+    (λ c. omega (arith, c.before.shared_slice_known-2-1.given (c.before.before.before.args.o + 2)))  -- cast-constructed
     (λ c κs. search rules)  -- constructed-requires
     (λ c κs. omega (
       arith,
@@ -62,6 +62,6 @@ entry_spec =
     (λ c. rw (
       c.pack.ensures,
       c.before.explicit.ensures,
-      c.before.before.outermost.ensures,
-      c.before.before.before.constructed.ensures,
+      c.before.before.outermost-code.ensures,
+      c.before.before.before.constructed-simple.ensures,
     )))  -- returns

@@ -5,8 +5,8 @@ use Rattle.octets.proofs.Search.{tests}
 use Rattle.checker.proofs.index.explicit.Statement.{statement}
 use Rattle.checker.proofs.index.explicit.Tie as tie
 
-pub explicit-spec : {M : Type 1} → statement M
-explicit-spec =
+pub explicit_spec : {M : Type 1} → statement M
+explicit_spec =
     tie.close
     (tie.spec
     (λ c. search tests)  -- returns

@@ -8,10 +8,10 @@ use Rattle.checker.proofs.Entering.{Entering, entering_first, entering_stops, en
 use Rattle.checker.proofs.index.fill.Statement.{statement}
 use Rattle.checker.proofs.index.fill.Tie as tie
 
-abbrev invariant-loop : tie.invariant-loop
+abbrev invariant-loop : tie.invariant-loop-count
 invariant-loop table index₀ n₀ at₀ index n at = Entering table index n at
 
-abbrev decreases-loop : tie.decreases-loop
+abbrev decreases-loop : tie.decreases-loop-count
 decreases-loop table index₀ n₀ at₀ index n at = 128 - n
 
 pub fill_spec : {M : Type 1} → statement M
@@ -22,24 +22,24 @@ fill_spec =
     decreases-loop
     (λ c. entering_first _)  -- loop-holds
     (λ c κs. omega arith)  -- record-end-requires
-    (λ c. entering_stops _ _ _ _ c.before.before.before.loop.invariant c.before.before.loop-test.true (sym c.before.record-end.ensures ∙
-    c.if1.true))  -- returns
+    (λ c. entering_stops _ _ _ _ c.before.before.before.loop-count.invariant c.before.before.loop-count-test.true (sym c.before.record_end-end.ensures ∙
+    c.if-end-eq0.true))  -- returns
     (λ c κs. (
       c.before.before.before.before.before.before.requires,
-      let d = rw c.before.record-end.ensures at
-          c.if1.false in omega arith,
+      let d = rw c.before.record_end-end.ensures at
+          c.if-end-eq0.false in omega arith,
     ))  -- entry-requires
     (λ c. search rules)  -- mul-index
     (λ c. omega arith)  -- element-write-index
     (λ c. omega arith)  -- add-count
-    (λ c. entering_whole _ _ _ _ c.before.before.before.before.before.loop.invariant c.before.before.before.before.loop-test.true
-    (rw c.before.before.before.record-end.ensures at c.before.before.if1.false) _ c.before.entry.ensures
-    (sym c.before.before.before.record-end.ensures ∙ c.if2.true))  -- returns-2
+    (λ c. entering_whole _ _ _ _ c.before.before.before.before.before.loop-count.invariant c.before.before.before.before.loop-count-test.true
+    (rw c.before.before.before.record_end-end.ensures at c.before.before.if-end-eq0.false) _ c.before.entry.ensures
+    (sym c.before.before.before.record_end-end.ensures ∙ c.if-end-table.true))  -- returns-2
     (λ c. omega arith)  -- loop-less
-    (λ c. rw c.before.before.before.record-end.ensures
-    (entering_next _ _ _ _ c.before.before.before.before.before.loop.invariant c.before.before.before.before.loop-test.true
-    (rw c.before.before.before.record-end.ensures at c.before.before.if1.false) _ c.before.entry.ensures
-    (λ i. omega (arith, c.before.before.before.before.before.before.before.shared-slice-known.given i))
+    (λ c. rw c.before.before.before.record_end-end.ensures
+    (entering_next _ _ _ _ c.before.before.before.before.before.loop-count.invariant c.before.before.before.before.loop-count-test.true
+    (rw c.before.before.before.record_end-end.ensures at c.before.before.if-end-eq0.false) _ c.before.entry.ensures
+    (λ i. omega (arith, c.before.before.before.before.before.before.before.shared_slice_known-1.given i))
     c.before.before.before.before.before.before.before.before.requires
-    (rw c.before.before.before.record-end.ensures at c.if2.false)))  -- loop-again
-    (λ c. entering_ends _ _ _ _ c.before.loop.invariant c.loop-test.false))  -- returns-3
+    (rw c.before.before.before.record_end-end.ensures at c.if-end-table.false)))  -- loop-again
+    (λ c. entering_ends _ _ _ _ c.before.loop-count.invariant c.loop-count-test.false))  -- returns-3

@@ -6,12 +6,12 @@ use Rattle.records.specs.Entries.{outermost_in}
 use Rattle.checker.proofs.index.outermost.Statement.{statement}
 use Rattle.checker.proofs.index.outermost.Tie as tie
 
-pub outermost-spec : {M : Type 1} → statement M
+pub outermost_spec : {M : Type 1} → statement M
 unfolding outermost_in
-outermost-spec =
+outermost_spec =
     tie.close
     (tie.spec
-    (λ c. rw (eq-eqb _ _ c.if1.true))  -- returns
+    (λ c. rw (eq-eqb _ _ c.if-tags-eq0.true))  -- returns
     (λ c κs. search rules)  -- octet-requires
     (λ c. search rules)  -- cast-class
     (λ c. search rules)  -- add-number
@@ -19,19 +19,19 @@ outermost-spec =
     (λ c. search rules)  -- cast-n
     (λ c κs. search rules)  -- code-of-requires
     (λ c. rw (
-      ne_eqb _ _ c.before.before.before.before.if1.false,
+      ne_eqb _ _ c.before.before.before.before.if-tags-eq0.false,
       lt-ltb _ _
-          c.before.if2.true,
+          c.before.if-tags-gt1.true,
       c.code_of_lem.ensures.0,
-      c.before.before.before.octet.ensures.0,
-      c.before.before.two.ensures.0,
+      c.before.before.before.octet-class.ensures.0,
+      c.before.before.two-n.ensures.0,
     ))  -- returns-2
     (λ c κs. search rules)  -- code-of-requires-2
     (λ c. rw (
-      ne_eqb _ _ c.before.before.before.before.if1.false,
+      ne_eqb _ _ c.before.before.before.before.if-tags-eq0.false,
       le-ltb _ _
-          c.before.if2.false,
-      c.code-of2.ensures.0,
-      c.before.before.before.octet.ensures.0,
-      c.before.before.two.ensures.0,
+          c.before.if-tags-gt1.false,
+      c.code_of-2.ensures.0,
+      c.before.before.before.octet-class.ensures.0,
+      c.before.before.two-n.ensures.0,
     )))  -- returns-3

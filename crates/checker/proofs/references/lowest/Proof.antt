@@ -11,15 +11,15 @@ use Rattle.checker.proofs.Rules.{entry_at}
 use Rattle.checker.proofs.references.lowest.Statement.{statement}
 use Rattle.checker.proofs.references.lowest.Tie as tie
 
-abbrev invariant-loop : tie.invariant-loop
+abbrev invariant-loop : tie.invariant-loop-t
 invariant-loop table index n t₀ t = Rest (dangling (table_in table) n) n t
 
-abbrev decreases-loop : tie.decreases-loop
+abbrev decreases-loop : tie.decreases-loop-t
 decreases-loop table index n t₀ t = n - t
 
-pub lowest-spec : {M : Type 1} → statement M
+pub lowest_spec : {M : Type 1} → statement M
 unfolding dangling
-lowest-spec =
+lowest_spec =
     tie.close
     (tie.spec
     invariant-loop
@@ -31,12 +31,12 @@ lowest-spec =
     (λ c κs. search rules)  -- names-beyond-requires
     (λ c.
     let s = c.before.before.before.before in
-    let x = entry_at s.before.before.before.requires _ s.loop-test.true c.before.before.unpack.ensures in
-    rest_here _ _ _ s.before.loop.invariant s.loop-test.true (sym (c.before.names-beyond.ensures _ x) ∙ c.if1.true))  -- returns
+    let x = entry_at s.before.before.before.requires _ s.loop-t-test.true c.before.before.unpack-e.ensures in
+    rest_here _ _ _ s.before.loop-t.invariant s.loop-t-test.true (sym (c.before.names_beyond.ensures _ x) ∙ c.if-names_beyond.true))  -- returns
     (λ c. search rules)  -- add-t
     (λ c. omega arith)  -- loop-less
     (λ c.
     let s = c.before.before.before.before in
-    let x = entry_at s.before.before.before.requires _ s.loop-test.true c.before.before.unpack.ensures in
-    rest_next _ _ _ s.before.loop.invariant s.loop-test.true (sym (c.before.names-beyond.ensures _ x) ∙ c.if1.false))  -- loop-again
-    (λ c. rest_none _ _ _ c.before.loop.invariant c.loop-test.false))  -- returns-2
+    let x = entry_at s.before.before.before.requires _ s.loop-t-test.true c.before.before.unpack-e.ensures in
+    rest_next _ _ _ s.before.loop-t.invariant s.loop-t-test.true (sym (c.before.names_beyond.ensures _ x) ∙ c.if-names_beyond.false))  -- loop-again
+    (λ c. rest_none _ _ _ c.before.loop-t.invariant c.loop-t-test.false))  -- returns-2

@@ -8,17 +8,17 @@ use Rattle.table.proofs.Loops.{few_times}
 use Rattle.checker.proofs.shape.counted_end.Statement.{statement}
 use Rattle.checker.proofs.shape.counted_end.Tie as tie
 
-pub counted-end-spec : {M : Type 1} → statement M
+pub counted_end_spec : {M : Type 1} → statement M
 unfolding counted_end
-counted-end-spec =
+counted_end_spec =
     tie.close
     (tie.spec
     (λ c. search tests)  -- returns
     (λ c κs. search rules)  -- octet-requires
-    (λ c. rw (← c.before.octet.ensures.0) (search tests))  -- returns-2
-    (λ c. rw (← c.before.before.octet.ensures.0) (search tests))  -- returns-3
+    (λ c. rw (← c.before.octet-n.ensures.0) (search tests))  -- returns-2
+    (λ c. rw (← c.before.before.octet-n.ensures.0) (search tests))  -- returns-3
     (λ c. omega arith)  -- add-end
-    (λ c. omega (arith, few_times c.before.before.before.before.before.args.size c.before.before.octet.result (omega arith) (omega arith)))  -- mul-end
-    (λ c. omega (arith, few_times c.before.before.before.before.before.args.size c.before.before.octet.result (omega arith) (omega arith)))  -- add-end-2
-    (λ c. rw (← c.before.before.before.octet.ensures.0) (search tests))  -- returns-4
-    (λ c. rw (← c.before.before.before.octet.ensures.0) (search tests)))  -- returns-5
+    (λ c. omega (arith, few_times c.before.before.before.before.before.args.size c.before.before.octet-n.result (omega arith) (omega arith)))  -- mul-end
+    (λ c. omega (arith, few_times c.before.before.before.before.before.args.size c.before.before.octet-n.result (omega arith) (omega arith)))  -- add-end-2
+    (λ c. rw (← c.before.before.before.octet-n.ensures.0) (search tests))  -- returns-4
+    (λ c. rw (← c.before.before.before.octet-n.ensures.0) (search tests)))  -- returns-5

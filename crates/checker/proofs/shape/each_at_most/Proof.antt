@@ -12,24 +12,24 @@ use Rattle.table.proofs.Loops.{all_stops, all_goes, all_ends}
 use Rattle.checker.proofs.shape.each_at_most.Statement.{statement}
 use Rattle.checker.proofs.shape.each_at_most.Tie as tie
 
-abbrev invariant-loop : tie.invariant-loop
+abbrev invariant-loop : tie.invariant-loop-left
 invariant-loop table most step p n at₀ left₀ at left =
     (at + 4 * left ≤ p + 4 * n) × (all (λ x. leb x most) (every_at step table at left) ≡ all (λ x. leb x most) (every_at step table p n))
 
-abbrev decreases-loop : tie.decreases-loop
+abbrev decreases-loop : tie.decreases-loop-left
 decreases-loop table most step p n at₀ left₀ at left = left
 
-pub each-at-most-spec : {M : Type 1} → statement M
-each-at-most-spec =
+pub each_at_most_spec : {M : Type 1} → statement M
+each_at_most_spec =
     tie.close
     (tie.spec
     invariant-loop
     decreases-loop
     (λ c. (omega arith, refl))  -- loop-holds
     (λ c κs. search rules)  -- octet-requires
-    (λ c. all_stops _ _ _ _ _ _ c.before.before.before.loop.invariant.1 (omega arith) (rw (← c.before.octet.ensures.0) (lt-leb _ _ c.if1.true)))  -- returns
+    (λ c. all_stops _ _ _ _ _ _ c.before.before.before.loop-left.invariant.1 (omega arith) (rw (← c.before.octet-x.ensures.0) (lt-leb _ _ c.if-most-x.true)))  -- returns
     (λ c. omega arith)  -- add-at
     (λ c. omega arith)  -- sub-left
     (λ c. omega arith)  -- loop-less
-    (λ c. (omega arith, all_goes _ _ _ _ _ _ c.before.before.before.loop.invariant.1 (omega arith) (rw (← c.before.octet.ensures.0) (le-leb _ _ c.if1.false))))  -- loop-again
-    (λ c. all_ends _ _ _ _ _ _ c.before.loop.invariant.1 (omega arith)))  -- returns-2
+    (λ c. (omega arith, all_goes _ _ _ _ _ _ c.before.before.before.loop-left.invariant.1 (omega arith) (rw (← c.before.octet-x.ensures.0) (le-leb _ _ c.if-most-x.false))))  -- loop-again
+    (λ c. all_ends _ _ _ _ _ _ c.before.loop-left.invariant.1 (omega arith)))  -- returns-2

@@ -7,15 +7,15 @@ use Rattle.table.specs.Reading.{enumerated_end}
 use Rattle.checker.proofs.shape.enumerated_end.Statement.{statement}
 use Rattle.checker.proofs.shape.enumerated_end.Tie as tie
 
-pub enumerated-end-spec : {M : Type 1} → statement M
+pub enumerated_end_spec : {M : Type 1} → statement M
 unfolding enumerated_end
-enumerated-end-spec =
+enumerated_end_spec =
     tie.close
     (tie.spec
     (λ c κs. omega arith)  -- counted-end-requires
-    (λ c. rw (← c.before.counted-end.ensures) (search tests))  -- returns
+    (λ c. rw (← c.before.counted_end-end.ensures) (search tests))  -- returns
     (λ c. search rules)  -- add-rises
     (λ c κs. search rules)  -- octet-requires
     (λ c κs. search rules)  -- rises-requires
-    (λ c. rw (← c.before.before.before.before.counted-end.ensures, ← c.before.before.octet.ensures.0, ← c.before.rises.ensures, c.if2.true) (search tests))  -- returns-2
-    (λ c. rw (← c.before.before.before.before.counted-end.ensures, ← c.before.before.octet.ensures.0, ← c.before.rises.ensures, c.if2.false) (search tests)))  -- returns-3
+    (λ c. rw (← c.before.before.before.before.counted_end-end.ensures, ← c.before.before.octet.ensures.0, ← c.before.rises.ensures, c.if-not-rises.true) (search tests))  -- returns-2
+    (λ c. rw (← c.before.before.before.before.counted_end-end.ensures, ← c.before.before.octet.ensures.0, ← c.before.rises.ensures, c.if-not-rises.false) (search tests)))  -- returns-3

@@ -7,15 +7,15 @@ use Rattle.table.specs.Reading.{members_end}
 use Rattle.checker.proofs.shape.members_end.Statement.{statement}
 use Rattle.checker.proofs.shape.members_end.Tie as tie
 
-pub members-end-spec : {M : Type 1} → statement M
+pub members_end_spec : {M : Type 1} → statement M
 unfolding members_end
-members-end-spec =
+members_end_spec =
     tie.close
     (tie.spec
     (λ c κs. omega arith)  -- counted-end-requires
-    (λ c. rw (← c.before.counted-end.ensures) (search tests))  -- returns
+    (λ c. rw (← c.before.counted_end-end.ensures) (search tests))  -- returns
     (λ c. search rules)  -- add-each-at-most
     (λ c κs. search rules)  -- octet-requires
     (λ c κs. search rules)  -- each-at-most-requires
-    (λ c. rw (← c.before.before.before.before.counted-end.ensures, ← c.before.before.octet.ensures.0, ← c.before.each-at-most.ensures, c.if2.true) (search tests))  -- returns-2
-    (λ c. rw (← c.before.before.before.before.counted-end.ensures, ← c.before.before.octet.ensures.0, ← c.before.each-at-most.ensures, c.if2.false) (search tests)))  -- returns-3
+    (λ c. rw (← c.before.before.before.before.counted_end-end.ensures, ← c.before.before.octet.ensures.0, ← c.before.each_at_most.ensures, c.if-not-each_at_most.true) (search tests))  -- returns-2
+    (λ c. rw (← c.before.before.before.before.counted_end-end.ensures, ← c.before.before.octet.ensures.0, ← c.before.each_at_most.ensures, c.if-not-each_at_most.false) (search tests)))  -- returns-3

@@ -5,8 +5,8 @@ use Rattle.octets.proofs.Search.{tests}
 use Rattle.checker.proofs.shape.reference_end.Statement.{statement}
 use Rattle.checker.proofs.shape.reference_end.Tie as tie
 
-pub reference-end-spec : {M : Type 1} → statement M
-reference-end-spec =
+pub reference_end_spec : {M : Type 1} → statement M
+reference_end_spec =
     tie.close
     (tie.spec
     (λ c. search tests)  -- returns

@@ -10,27 +10,27 @@ use Rattle.table.proofs.Loops.{rising_stops, rising_goes, rising_ends}
 use Rattle.checker.proofs.shape.rises.Statement.{statement}
 use Rattle.checker.proofs.shape.rises.Tie as tie
 
-abbrev invariant-loop : tie.invariant-loop
+abbrev invariant-loop : tie.invariant-loop-left
 invariant-loop table p n low₀ at₀ left₀ low at left =
     (at + 2 * left ≤ p + 2 * n) × (rising low (numbers_at table at left) ≡ rising 0 (numbers_at table p n))
 
-abbrev decreases-loop : tie.decreases-loop
+abbrev decreases-loop : tie.decreases-loop-left
 decreases-loop table p n low₀ at₀ left₀ low at left = left
 
-pub rises-spec : {M : Type 1} → statement M
-rises-spec =
+pub rises_spec : {M : Type 1} → statement M
+rises_spec =
     tie.close
     (tie.spec
     invariant-loop
     decreases-loop
     (λ c. (omega arith, refl))  -- loop-holds
     (λ c κs. search rules)  -- two-requires
-    (λ c. rising_stops _ _ _ _ _ c.before.before.before.loop.invariant.1 (omega arith) (rw c.before.two.ensures.0 at c.if1.true))  -- returns
+    (λ c. rising_stops _ _ _ _ _ c.before.before.before.loop-left.invariant.1 (omega arith) (rw c.before.two-x.ensures.0 at c.if-x-low.true))  -- returns
     (λ c. omega arith)  -- add-low
     (λ c. omega arith)  -- add-at
     (λ c. omega arith)  -- sub-left
     (λ c. omega arith)  -- loop-less
     (λ c.
-    let e = c.before.two.ensures.0 in
-    (omega arith, rw e (rising_goes _ _ _ _ _ c.before.before.before.loop.invariant.1 (omega arith) (rw e at c.if1.false))))  -- loop-again
-    (λ c. rising_ends _ _ _ _ _ c.before.loop.invariant.1 (omega arith)))  -- returns-2
+    let e = c.before.two-x.ensures.0 in
+    (omega arith, rw e (rising_goes _ _ _ _ _ c.before.before.before.loop-left.invariant.1 (omega arith) (rw e at c.if-x-low.false))))  -- loop-again
+    (λ c. rising_ends _ _ _ _ _ c.before.loop-left.invariant.1 (omega arith)))  -- returns-2

@@ -12,29 +12,29 @@ use Rattle.table.proofs.Loops.{any_stops, any_goes, any_ends}
 use Rattle.checker.proofs.tags.any_universal.Statement.{statement}
 use Rattle.checker.proofs.tags.any_universal.Tie as tie
 
-abbrev invariant-loop : tie.invariant-loop
+abbrev invariant-loop : tie.invariant-loop-left
 invariant-loop table p n at₀ left₀ at left =
     (at + 3 * left ≡ p + 3 * n) × (any (λ x. eqb x 0) (every_at 3 table at left) ≡ any (λ x. eqb x 0) (every_at 3 table p n))
 
-abbrev decreases-loop : tie.decreases-loop
+abbrev decreases-loop : tie.decreases-loop-left
 decreases-loop table p n at₀ left₀ at left = left
 
-pub any-universal-spec : {M : Type 1} → statement M
-any-universal-spec =
+pub any_universal_spec : {M : Type 1} → statement M
+any_universal_spec =
     tie.close
     (tie.spec
     invariant-loop
     decreases-loop
     (λ c. (refl, refl))  -- loop-holds
     (λ c κs. search rules)  -- octet-requires
-    (λ c. any_stops _ _ _ _ _ _ c.before.before.before.loop.invariant.1 c.before.before.loop-test.true
-    (rw (← c.before.octet.ensures.0) (eq-eqb _ _ c.if1.true)))  -- returns
+    (λ c. any_stops _ _ _ _ _ _ c.before.before.before.loop-left.invariant.1 c.before.before.loop-left-test.true
+    (rw (← c.before.octet.ensures.0) (eq-eqb _ _ c.if-octet-eq0.true)))  -- returns
     (λ c. omega arith)  -- add-at
     (λ c. omega arith)  -- sub-left
     (λ c. omega arith)  -- loop-less
     (λ c. (
       omega arith,
-      any_goes _ _ _ _ _ _ c.before.before.before.loop.invariant.1 c.before.before.loop-test.true
-          (rw (← c.before.octet.ensures.0) (ne_eqb _ _ c.if1.false)),
+      any_goes _ _ _ _ _ _ c.before.before.before.loop-left.invariant.1 c.before.before.loop-left-test.true
+          (rw (← c.before.octet.ensures.0) (ne_eqb _ _ c.if-octet-eq0.false)),
     ))  -- loop-again
-    (λ c. any_ends _ _ _ _ _ _ c.before.loop.invariant.1 (omega arith)))  -- returns-2
+    (λ c. any_ends _ _ _ _ _ _ c.before.loop-left.invariant.1 (omega arith)))  -- returns-2

@@ -6,13 +6,13 @@ use Rattle.table.specs.Reading.{every_at}
 use Rattle.checker.proofs.tags.explicit_universal.Statement.{statement}
 use Rattle.checker.proofs.tags.explicit_universal.Tie as tie
 
-pub explicit-universal-spec : {M : Type 1} → statement M
+pub explicit_universal_spec : {M : Type 1} → statement M
 unfolding any every_at
-explicit-universal-spec =
+explicit_universal_spec =
     tie.close
     (tie.spec
     (λ c. search rules)  -- cast-n
-    (λ c. rw c.if1.true)  -- returns
+    (λ c. rw c.if-n-eq0.true)  -- returns
     (λ c κs. search rules)  -- tag-place-requires
     (λ c κs. search rules)  -- any-universal-requires
-    (λ c. rw (← c.before.tag-place.ensures.0) c.any-universal.ensures))  -- returns-2
+    (λ c. rw (← c.before.tag_place.ensures.0) c.any_universal.ensures))  -- returns-2

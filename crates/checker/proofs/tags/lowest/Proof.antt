@@ -10,14 +10,14 @@ use Rattle.checker.proofs.Rules.{entry_at}
 use Rattle.checker.proofs.tags.lowest.Statement.{statement}
 use Rattle.checker.proofs.tags.lowest.Tie as tie
 
-abbrev invariant-loop : tie.invariant-loop
+abbrev invariant-loop : tie.invariant-loop-t
 invariant-loop table index n t₀ t = Rest (mistagged (table_in table)) n t
 
-abbrev decreases-loop : tie.decreases-loop
+abbrev decreases-loop : tie.decreases-loop-t
 decreases-loop table index n t₀ t = n - t
 
-pub lowest-spec : {M : Type 1} → statement M
-lowest-spec =
+pub lowest_spec : {M : Type 1} → statement M
+lowest_spec =
     tie.close
     (tie.spec
     invariant-loop
@@ -27,12 +27,12 @@ lowest-spec =
     (λ c. omega (arith, c.before.before.before.requires.few))  -- element-copy-out-unpack
     (λ c κs. search rules)  -- unpack-requires
     (λ c κs. search rules)  -- wrong-requires
-    (λ c. rest_here _ _ _ c.before.before.before.before.before.loop.invariant c.before.before.before.before.loop-test.true
+    (λ c. rest_here _ _ _ c.before.before.before.before.before.loop-t.invariant c.before.before.before.before.loop-t-test.true
     (rw (← c.before.wrong.ensures _ (entry_at c.before.before.before.before.before.before.before.requires _
-    c.before.before.before.before.loop-test.true c.before.before.unpack.ensures)) c.if1.true))  -- returns
+    c.before.before.before.before.loop-t-test.true c.before.before.unpack-e.ensures)) c.if-wrong.true))  -- returns
     (λ c. search rules)  -- add-t
     (λ c. omega arith)  -- loop-less
-    (λ c. rest_next _ _ _ c.before.before.before.before.before.loop.invariant c.before.before.before.before.loop-test.true
+    (λ c. rest_next _ _ _ c.before.before.before.before.before.loop-t.invariant c.before.before.before.before.loop-t-test.true
     (rw (← c.before.wrong.ensures _ (entry_at c.before.before.before.before.before.before.before.requires _
-    c.before.before.before.before.loop-test.true c.before.before.unpack.ensures)) c.if1.false))  -- loop-again
-    (λ c. rest_none _ _ _ c.before.loop.invariant c.loop-test.false))  -- returns-2
+    c.before.before.before.before.loop-t-test.true c.before.before.unpack-e.ensures)) c.if-wrong.false))  -- loop-again
+    (λ c. rest_none _ _ _ c.before.loop-t.invariant c.loop-t-test.false))  -- returns-2

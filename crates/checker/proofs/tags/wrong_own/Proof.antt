@@ -5,18 +5,18 @@ use borrow.Author.Tests.{eq-eqb, ne_eqb}
 use Rattle.checker.proofs.tags.wrong_own.Statement.{statement}
 use Rattle.checker.proofs.tags.wrong_own.Tie as tie
 
-pub wrong-own-spec : {M : Type 1} → statement M
-wrong-own-spec =
+pub wrong_own_spec : {M : Type 1} → statement M
+wrong_own_spec =
     tie.close
     (tie.spec
     (λ c κs. search rules)  -- octet-requires
-    (λ c. rw (← c.before.octet.ensures.0, ne_eqb _ _ c.if1.true))  -- returns
+    (λ c. rw (← c.before.octet.ensures.0, ne_eqb _ _ c.if-octet-ne0.true))  -- returns
     (λ c. search rules)  -- add-number
     (λ c κs. search rules)  -- two-requires
     (λ c κs. search rules)  -- universal-requires
     (λ c. rw (
       ← c.before.before.before.octet.ensures.0,
-      eq-eqb _ _ c.before.before.if1.false,
+      eq-eqb _ _ c.before.before.if-octet-ne0.false,
       ← c.before.two.ensures.0,
       ← c.universal.ensures,
     )))  -- returns-2

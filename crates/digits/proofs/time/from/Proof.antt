@@ -5,9 +5,9 @@ use Rattle.digits.specs.Times.{time_from}
 use Rattle.digits.proofs.time.from.Statement.{statement}
 use Rattle.digits.proofs.time.from.Tie as tie
 
-pub from-spec : {M : Type 1} → statement M
+pub from_spec : {M : Type 1} → statement M
 unfolding time_from
-from-spec =
+from_spec =
     tie.close
     (tie.spec
     (λ c κs. search rules)  -- pair-requires
@@ -21,4 +21,4 @@ from-spec =
     (λ c κs. search rules)  -- pair-requires-5
     (λ c.
     let two = c.before.before.before in
-    rw (two.before.pair.ensures.0, two.pair2.ensures.0, c.before.before.pair3.ensures.0, c.before.pair4.ensures.0, c.pair5.ensures.0)))  -- returns
+    rw (two.before.pair.ensures.0, two.pair-2.ensures.0, c.before.before.pair-3.ensures.0, c.before.pair-4.ensures.0, c.pair-5.ensures.0)))  -- returns

@@ -5,9 +5,9 @@ use Rattle.digits.specs.Times.{is_digit}
 use Rattle.digits.proofs.time.is_digit.Statement.{statement}
 use Rattle.digits.proofs.time.is_digit.Tie as tie
 
-pub is-digit-spec : {M : Type 1} → statement M
+pub is_digit_spec : {M : Type 1} → statement M
 unfolding is_digit
-is-digit-spec =
+is_digit_spec =
     tie.close
     (tie.spec
     (λ c. search tests)  -- returns

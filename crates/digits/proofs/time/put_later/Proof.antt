@@ -9,8 +9,8 @@ use Rattle.digits.proofs.TimeCode.{later_put}
 use Rattle.digits.proofs.time.put_later.Statement.{statement}
 use Rattle.digits.proofs.time.put_later.Tie as tie
 
-pub put-later-spec : {M : Type 1} → statement M
-put-later-spec =
+pub put_later_spec : {M : Type 1} → statement M
+put_later_spec =
     tie.close
     (tie.spec
     (λ c. search rules)  -- add-day
@@ -31,9 +31,9 @@ put-later-spec =
     let two = three.before.before.before.before in
     let one = two.before.before.before.before in
     let a = one.before.before.before.args in
-    let e = later_put a.t a.part.now a.at one.put_two.ensures two.put-two2.ensures three.put-two3.ensures four.put-two4.ensures
-    five.put-two5.ensures in
-    ap length e ∙ length-sets a.part.now a.at (later_digits a.t))  -- same-length
+    let e = later_put a.t a.part-1.now a.at one.put_two.ensures two.put_two-2.ensures three.put_two-3.ensures four.put_two-4.ensures
+    five.put_two-5.ensures in
+    ap length e ∙ length-sets a.part-1.now a.at (later_digits a.t))  -- same-length
     (λ c.
     let five = c.before.before in
     let four = five.before.before.before.before in
@@ -41,5 +41,5 @@ put-later-spec =
     let two = three.before.before.before.before in
     let one = two.before.before.before.before in
     let a = one.before.before.before.args in
-    later_put a.t a.part.now a.at one.put_two.ensures two.put-two2.ensures three.put-two3.ensures four.put-two4.ensures
-    five.put-two5.ensures))  -- returns
+    later_put a.t a.part-1.now a.at one.put_two.ensures two.put_two-2.ensures three.put_two-3.ensures four.put_two-4.ensures
+    five.put_two-5.ensures))  -- returns

@@ -6,9 +6,9 @@ use Rattle.x690.specs.Time.{two_digits}
 use Rattle.digits.proofs.time.put_two.Statement.{statement}
 use Rattle.digits.proofs.time.put_two.Tie as tie
 
-pub put-two-spec : {M : Type 1} → statement M
+pub put_two_spec : {M : Type 1} → statement M
 unfolding two_digits
-put-two-spec =
+put_two_spec =
     tie.close
     (tie.spec
     (λ c. search rules)  -- add-next

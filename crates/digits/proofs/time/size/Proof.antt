@@ -5,12 +5,12 @@ use Rattle.x690.specs.Time.{time_size}
 use Rattle.digits.proofs.time.size.Statement.{statement}
 use Rattle.digits.proofs.time.size.Tie as tie
 
-pub size-spec : {M : Type 1} → statement M
+pub size_spec : {M : Type 1} → statement M
 unfolding time_size
-size-spec =
+size_spec =
     tie.close
     (tie.spec
     (λ c. search rules)  -- enum_told
     (λ c. search rules)  -- enum-told-2
-    (λ c. rw c.enum_told.given.1)  -- returns
-    (λ c. rw c.enum-told2.given.1))  -- returns-2
+    (λ c. rw c.enum_told-1.given.1)  -- returns
+    (λ c. rw c.enum_told-in-Generalized-1.given.1))  -- returns-2

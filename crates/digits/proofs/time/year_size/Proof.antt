@@ -5,12 +5,12 @@ use Rattle.digits.specs.Times.{year_size}
 use Rattle.digits.proofs.time.year_size.Statement.{statement}
 use Rattle.digits.proofs.time.year_size.Tie as tie
 
-pub year-size-spec : {M : Type 1} → statement M
+pub year_size_spec : {M : Type 1} → statement M
 unfolding year_size
-year-size-spec =
+year_size_spec =
     tie.close
     (tie.spec
     (λ c. search rules)  -- enum_told
     (λ c. search rules)  -- enum-told-2
-    (λ c. rw c.enum_told.given.1)  -- returns
-    (λ c. rw c.enum-told2.given.1))  -- returns-2
+    (λ c. rw c.enum_told-1.given.1)  -- returns
+    (λ c. rw c.enum_told-in-Generalized-1.given.1))  -- returns-2

@@ -15,21 +15,21 @@ use Rattle.reader.proofs.Spans.{span_few, span_near, lacks_any, lacks_come, lack
 use Rattle.reader.proofs.came.lacks.Statement.{statement}
 use Rattle.reader.proofs.came.lacks.Tie as tie
 
-abbrev invariant-loop : tie.invariant-loop
+abbrev invariant-loop : tie.invariant-loop-k
 invariant-loop table w i came any s k₀ k =
     Lists·any (λ x. any || not x.1.optional) (left (held table w) i came) ≡ Lists·any (λ x. any || not x.1.optional) (left (held table w) k came)
 
-abbrev decreases-loop : tie.decreases-loop
+abbrev decreases-loop : tie.decreases-loop-k
 decreases-loop table w i came any s k₀ k = s.count - k
 
 -- where its members are
-abbrev at-span : (c : tie.After-parts invariant-loop decreases-loop) →
-    let a = c.before.before.before.args in c.parts.result ≡ span_of a.table.now (unpacked a.w).kind (unpacked a.w).own
+abbrev at-span : (c : tie.After-parts-s invariant-loop decreases-loop) →
+    let a = c.before.before.before.args in c.parts-s.result ≡ span_of a.table.now (unpacked a.w).kind (unpacked a.w).own
 at-span c =
-    c.parts.ensures ∙ ap (λ (e : Entry). span_of c.before.before.before.args.table.now e.kind e.own) c.before.unpack.ensures
+    c.parts-s.ensures ∙ ap (λ (e : Entry). span_of c.before.before.before.args.table.now e.kind e.own) c.before.unpack.ensures
 
-pub lacks-spec : {M : Type 1} → statement M
-lacks-spec =
+pub lacks_spec : {M : Type 1} → statement M
+lacks_spec =
     tie.close
     (tie.spec
     invariant-loop
@@ -40,19 +40,19 @@ lacks-spec =
     (λ c.
     let c4 = c.before.before.before.before in
     let q = c4.before.before.before.requires in
-    omega (arith, span_near q.1.ready _ q.1.known _ (at-span c4) _ c.before.if1.true))  -- mul-p
+    omega (arith, span_near q.1.ready _ q.1.known _ (at-span c4) _ c.before.loop-k-test.true))  -- mul-p
     (λ c.
     let c5 = c.before.before.before.before.before in
     let q = c5.before.before.before.requires in
-    omega (arith, span_near q.1.ready _ q.1.known _ (at-span c5) _ c.before.before.if1.true))  -- add-p
+    omega (arith, span_near q.1.ready _ q.1.known _ (at-span c5) _ c.before.before.loop-k-test.true))  -- add-p
     (λ c.
     let c5 = c.before.before.before.before.before in
     let q = c5.before.before.before.requires in
-    omega (arith, span_few q.1.ready _ q.1.known _ (at-span c5), c.before.before.if1.true))  -- mul-if2
+    omega (arith, span_few q.1.ready _ q.1.known _ (at-span c5), c.before.before.loop-k-test.true))  -- mul-if2
     (λ c.
     let c5 = c.before.before.before.before.before in
     let q = c5.before.before.before.requires in
-    omega (arith, span_few q.1.ready _ q.1.known _ (at-span c5), c.before.before.if1.true))  -- element-copy-out-if2
+    omega (arith, span_few q.1.ready _ q.1.known _ (at-span c5), c.before.before.loop-k-test.true))  -- element-copy-out-if2
     (λ c.
     let c5 = c.before.before.before.before.before in
     let c7 = c5.before.before in
@@ -60,8 +60,8 @@ lacks-spec =
     let c11 = c8.before.before.before in
     let a = c11.args in
     let q = c11.requires in
-    sym (c7.loop.invariant ∙ lacks_any q.1.ready _ q.1.known _ (at-span c8) q.2 a.came.now _ a.any c5.if1.true
-    c.before.if2.true c.if3.true))  -- returns
+    sym (c7.loop-k.invariant ∙ lacks_any q.1.ready _ q.1.known _ (at-span c8) q.2 a.came.now _ a.any c5.loop-k-test.true
+    c.before.if-came-k-eq0.true c.if-any.true))  -- returns
     (λ c κs. tt)  -- optional-requires
     (λ c.
     let c3 = c.before.before.before in
@@ -71,14 +71,14 @@ lacks-spec =
     let c13 = c10.before.before.before in
     let a = c13.args in
     let q = c13.requires in
-    sym (c9.loop.invariant ∙ lacks_must q.1.ready _ q.1.known _ (at-span c10) q.2 a.came.now _ a.any c7.if1.true _
-    c.before.optional.ensures c3.if2.true (not-true _ c.if4.true)))  -- returns-2
+    sym (c9.loop-k.invariant ∙ lacks_must q.1.ready _ q.1.known _ (at-span c10) q.2 a.came.now _ a.any c7.loop-k-test.true _
+    c.before.optional.ensures c3.if-came-k-eq0.true (not-true _ c.if-not-optional.true)))  -- returns-2
     (λ c.
     let c4 = c.before.before.before.before in
     let c7 = c4.before.before.before in
     let q = c7.before.before.before.requires in
-    omega (arith, span_few q.1.ready _ q.1.known _ (at-span c7), c4.if1.true))  -- add-k
-    (λ c. omega (arith, c.before.before.before.before.if1.true))  -- loop-less
+    omega (arith, span_few q.1.ready _ q.1.known _ (at-span c7), c4.loop-k-test.true))  -- add-k
+    (λ c. omega (arith, c.before.before.before.before.loop-k-test.true))  -- loop-less
     (λ c.
     let c4 = c.before.before.before.before in
     let c6 = c4.before.before in
@@ -86,13 +86,13 @@ lacks-spec =
     let c10 = c7.before.before.before in
     let a = c10.args in
     let q = c10.requires in
-    c6.loop.invariant ∙ ⊎_elim (λ x. lacks_skip q.1.ready _ q.1.known _ (at-span c7) q.2 a.came.now _ a.any
-    c4.if1.true x.2.result x.2.ensures x.0.taken x.1.left (not-false _ x.3.left)) (λ x. lacks_come
-    q.1.ready _ q.1.known _ (at-span c7) q.2 a.came.now _ a.any c4.if1.true x.left) c.if2.branch)  -- loop-again
+    c6.loop-k.invariant ∙ ⊎_elim (λ x. lacks_skip q.1.ready _ q.1.known _ (at-span c7) q.2 a.came.now _ a.any
+    c4.loop-k-test.true x.2.result x.2.ensures x.0.taken x.1.left (not-false _ x.3.left)) (λ x. lacks_come
+    q.1.ready _ q.1.known _ (at-span c7) q.2 a.came.now _ a.any c4.loop-k-test.true x.left) c.if-came-k-eq0.branch)  -- loop-again
     (λ c.
     let c3 = c.before.before.before in
     let c6 = c3.before.before.before in
     let a = c6.args in
     let q = c6.requires in
-    sym (c.before.before.loop.invariant ∙ lacks_end q.1.ready _ q.1.known _ (at-span c3) q.2 a.came.now _ a.any
-    c.if1.false)))  -- returns-3
+    sym (c.before.before.loop-k.invariant ∙ lacks_end q.1.ready _ q.1.known _ (at-span c3) q.2 a.came.now _ a.any
+    c.loop-k-test.false)))  -- returns-3

@@ -11,77 +11,77 @@ use Rattle.reader.proofs.Weighing.{by_kind, by_others, by_whole, by_parts}
 use Rattle.reader.proofs.contents.contents_size.Statement.{statement}
 use Rattle.reader.proofs.contents.contents_size.Tie as tie
 
-pub contents-size-spec : {M : Type 1} → statement M
-contents-size-spec =
+pub contents_size_spec : {M : Type 1} → statement M
+contents_size_spec =
     tie.close
     (tie.spec
     (λ c.
     let s = c.before.before.before.before in
     let a = s.args in
-    (by_kind s.requires.1 _ _ c.before.if1.true refl (boolean_wrong _ a.e.kind a.e.own _ c.before.if1.true c.if2.true), omega arith))  -- returns
+    (by_kind s.requires.1 _ _ c.before.if-k-eq-BOOLEAN.true refl (boolean_wrong _ a.e.kind a.e.own _ c.before.if-k-eq-BOOLEAN.true c.if-n-ne1.true), omega arith))  -- returns
     (λ c.
     let s = c.before.before.before.before in
     let a = s.args in
-    (by_kind s.requires.1 _ _ c.before.if1.true refl (boolean_size _ a.e.kind a.e.own _ c.before.if1.true c.if2.false), omega arith))  -- returns-2
+    (by_kind s.requires.1 _ _ c.before.if-k-eq-BOOLEAN.true refl (boolean_size _ a.e.kind a.e.own _ c.before.if-k-eq-BOOLEAN.true c.if-n-ne1.false), omega arith))  -- returns-2
     (λ c κs. tt)  -- is-integer-requires
     (λ c.
     let s = c.before.before.before.before.before.before in
     let a = s.args in
-    let k = c.before.before.if3.true in (
-      by_kind s.requires.1 _ _ k refl (integer_size _ a.e.kind a.e.own _ k c.before.is-integer.ensures c.if4.true),
+    let k = c.before.before.if-k-eq-INTEGER.true in (
+      by_kind s.requires.1 _ _ k refl (integer_size _ a.e.kind a.e.own _ k c.before.is_integer.ensures c.if-is_integer.true),
       omega arith,
     ))  -- returns-3
     (λ c.
     let s = c.before.before.before.before.before.before in
     let a = s.args in
-    let k = c.before.before.if3.true in (
-      by_kind s.requires.1 _ _ k refl (integer_wrong _ a.e.kind a.e.own _ k c.before.is-integer.ensures c.if4.false),
+    let k = c.before.before.if-k-eq-INTEGER.true in (
+      by_kind s.requires.1 _ _ k refl (integer_wrong _ a.e.kind a.e.own _ k c.before.is_integer.ensures c.if-is_integer.false),
       omega arith,
     ))  -- returns-4
     (λ c κs. tt)  -- in-segments-requires
     (λ c.
     let s = c.before.before.before.before.before.before.before in
-    (by_parts s.requires.1 _ _ c.before.before.if5.true refl (sym c.before.in-segments.ensures ∙ c.if6.true), omega arith))  -- returns-5
+    (by_parts s.requires.1 _ _ c.before.before.if-k-eq-BIT_STRING.true refl (sym c.before.in_segments.ensures ∙ c.if-in_segments.true), omega arith))  -- returns-5
     (λ c κs. tt)  -- are-bits-requires
     (λ c. omega (arith, c.before.before.before.before.before.before.before.before.before.requires.2))  -- add-result
     (λ c.
     let s = c.before.before.before.before.before.before.before.before.before in
     let a = s.args in
-    let w = sym c.before.before.before.in-segments.ensures ∙ c.before.before.if6.false in (
-      by_whole s.requires.1 _ _ w (bits_size _ a.e.kind a.e.own _ c.before.before.before.before.if5.true c.before.are-bits.ensures c.if7.true),
+    let w = sym c.before.before.before.in_segments.ensures ∙ c.before.before.if-in_segments.false in (
+      by_whole s.requires.1 _ _ w (bits_size _ a.e.kind a.e.own _ c.before.before.before.before.if-k-eq-BIT_STRING.true c.before.are_bits.ensures c.if-are_bits.true),
       omega (arith, s.requires.2),
     ))  -- returns-6
     (λ c.
     let s = c.before.before.before.before.before.before.before.before.before in
     let a = s.args in
-    let w = sym c.before.before.before.in-segments.ensures ∙ c.before.before.if6.false in (
-      by_whole s.requires.1 _ _ w (bits_wrong _ a.e.kind a.e.own _ c.before.before.before.before.if5.true c.before.are-bits.ensures c.if7.false),
+    let w = sym c.before.before.before.in_segments.ensures ∙ c.before.before.if-in_segments.false in (
+      by_whole s.requires.1 _ _ w (bits_wrong _ a.e.kind a.e.own _ c.before.before.before.before.if-k-eq-BIT_STRING.true c.before.are_bits.ensures c.if-are_bits.false),
       omega arith,
     ))  -- returns-7
     (λ c κs. tt)  -- in-segments-requires-2
     (λ c.
     let s = c.before.before.before.before.before.before.before.before in
-    (by_parts s.requires.1 _ _ c.before.before.if8.true refl (sym c.before.in-segments2.ensures ∙ c.if9.true), omega arith))  -- returns-8
+    (by_parts s.requires.1 _ _ c.before.before.if-k-eq-OCTET_STRING.true refl (sym c.before.in_segments-then-k-eq-OCTET_STRING.ensures ∙ c.if-in_segments-2.true), omega arith))  -- returns-8
     (λ c. omega (arith, c.before.before.before.before.before.before.before.before.requires.2))  -- add-result-2
     (λ c.
     let s = c.before.before.before.before.before.before.before.before in
     let a = s.args in
-    let w = sym c.before.in-segments2.ensures ∙ c.if9.false in
-    (by_whole s.requires.1 _ _ w (string_size _ a.e.kind a.e.own _ c.before.before.if8.true), omega (arith, s.requires.2)))  -- returns-9
+    let w = sym c.before.in_segments-then-k-eq-OCTET_STRING.ensures ∙ c.if-in_segments-2.false in
+    (by_whole s.requires.1 _ _ w (string_size _ a.e.kind a.e.own _ c.before.before.if-k-eq-OCTET_STRING.true), omega (arith, s.requires.2)))  -- returns-9
     (λ c.
     let s = c.before.before.before.before.before.before.before.before in
     let a = s.args in
-    (by_kind s.requires.1 _ _ c.before.if10.true refl (null_wrong _ a.e.kind a.e.own _ c.before.if10.true c.if11.true), omega arith))  -- returns-10
+    (by_kind s.requires.1 _ _ c.before.if-k-eq-NULL.true refl (null_wrong _ a.e.kind a.e.own _ c.before.if-k-eq-NULL.true c.if-n-ne0.true), omega arith))  -- returns-10
     (λ c.
     let s = c.before.before.before.before.before.before.before.before in
     let a = s.args in
-    (by_kind s.requires.1 _ _ c.before.if10.true refl (null_size _ a.e.kind a.e.own _ c.before.if10.true c.if11.false), omega arith))  -- returns-11
+    (by_kind s.requires.1 _ _ c.before.if-k-eq-NULL.true refl (null_size _ a.e.kind a.e.own _ c.before.if-k-eq-NULL.true c.if-n-ne0.false), omega arith))  -- returns-11
     (λ c κs. tt)  -- is-integer-requires-2
     (λ c.
     let s = c.before.before.before.before.before.before.before.before.before.before in
     let a = s.args in
-    let k = c.before.before.if12.true in (
-      by_kind s.requires.1 _ _ k refl (number_wrong _ a.e.kind a.e.own _ k c.before.is-integer2.ensures (not-true _ c.if13.true)),
+    let k = c.before.before.if-k-eq-ENUMERATED.true in (
+      by_kind s.requires.1 _ _ k refl (number_wrong _ a.e.kind a.e.own _ k c.before.is_integer-then-k-eq-ENUMERATED.ensures (not-true _ c.if-not-is_integer.true)),
       omega arith,
     ))  -- returns-12
     (λ c κs. tt)  -- of-requires
@@ -93,9 +93,9 @@ contents-size-spec =
     let c5 = c4.before in
     let c13 = c5.before.before.before.before.before.before.before.before in
     let a = c13.args in
-    let k = c5.if12.true in (
-      by_kind c13.requires.1 _ _ k refl (number_size _ a.e.kind a.e.own _ k c4.is-integer2.ensures (not-false _ c3.if13.false) _
-          (to_z-of_z w64 _ (record { sfits = c2.of.type-inv }) ∙ c2.of.ensures) (lists_all c13.requires.1 k _ _ c.before.lists.ensures) c.if14.true),
+    let k = c5.if-k-eq-ENUMERATED.true in (
+      by_kind c13.requires.1 _ _ k refl (number_size _ a.e.kind a.e.own _ k c4.is_integer-then-k-eq-ENUMERATED.ensures (not-false _ c3.if-not-is_integer.false) _
+          (to_z-of_z w64 _ (record { sfits = c2.of-z.type-inv }) ∙ c2.of-z.ensures) (lists_all c13.requires.1 k _ _ c.before.lists.ensures) c.if-lists.true),
       omega arith,
     ))  -- returns-13
     (λ c.
@@ -105,23 +105,23 @@ contents-size-spec =
     let c5 = c4.before in
     let c13 = c5.before.before.before.before.before.before.before.before in
     let a = c13.args in
-    let k = c5.if12.true in (
-      by_kind c13.requires.1 _ _ k refl (number_unlisted _ a.e.kind a.e.own _ k c4.is-integer2.ensures (not-false _ c3.if13.false) _
-          (to_z-of_z w64 _ (record { sfits = c2.of.type-inv }) ∙ c2.of.ensures) (lists_all c13.requires.1 k _ _ c.before.lists.ensures) c.if14.false),
+    let k = c5.if-k-eq-ENUMERATED.true in (
+      by_kind c13.requires.1 _ _ k refl (number_unlisted _ a.e.kind a.e.own _ k c4.is_integer-then-k-eq-ENUMERATED.ensures (not-false _ c3.if-not-is_integer.false) _
+          (to_z-of_z w64 _ (record { sfits = c2.of-z.type-inv }) ∙ c2.of-z.ensures) (lists_all c13.requires.1 k _ _ c.before.lists.ensures) c.if-lists.false),
       omega arith,
     ))  -- returns-14
     (λ c.
     let s = c.before.before.before.before.before.before.before.before.before in
     let a = s.args in (
-      by_others s.requires.1 _ _ c.before.before.before.before.if5.false c.before.before.before.if8.false (other_wrong _ a.e.kind a.e.own _ c.before.before.before.before.before.before.if1.false c.before.before.before.before.before.if3.false
-          c.before.before.before.before.if5.false c.before.before.before.if8.false c.before.before.if10.false c.before.if12.false (λ k. omega (arith, c.if15.true)) (λ k. omega (arith, c.if15.true))),
+      by_others s.requires.1 _ _ c.before.before.before.before.if-k-eq-BIT_STRING.false c.before.before.before.if-k-eq-OCTET_STRING.false (other_wrong _ a.e.kind a.e.own _ c.before.before.before.before.before.before.if-k-eq-BOOLEAN.false c.before.before.before.before.before.if-k-eq-INTEGER.false
+          c.before.before.before.before.if-k-eq-BIT_STRING.false c.before.before.before.if-k-eq-OCTET_STRING.false c.before.before.if-k-eq-NULL.false c.before.if-k-eq-ENUMERATED.false (λ k. omega (arith, c.if-k-lt-UTC_TIME.true)) (λ k. omega (arith, c.if-k-lt-UTC_TIME.true))),
       omega arith,
     ))  -- returns-15
     (λ c.
     let s = c.before.before.before.before.before.before.before.before.before.before in
     let a = s.args in (
-      by_others s.requires.1 _ _ c.before.before.before.before.before.if5.false c.before.before.before.before.if8.false (other_wrong _ a.e.kind a.e.own _ c.before.before.before.before.before.before.before.if1.false c.before.before.before.before.before.before.if3.false
-          c.before.before.before.before.before.if5.false c.before.before.before.before.if8.false c.before.before.before.if10.false c.before.before.if12.false (λ k. omega (arith, c.if16.true)) (λ k. omega (arith, c.if16.true))),
+      by_others s.requires.1 _ _ c.before.before.before.before.before.if-k-eq-BIT_STRING.false c.before.before.before.before.if-k-eq-OCTET_STRING.false (other_wrong _ a.e.kind a.e.own _ c.before.before.before.before.before.before.before.if-k-eq-BOOLEAN.false c.before.before.before.before.before.before.if-k-eq-INTEGER.false
+          c.before.before.before.before.before.if-k-eq-BIT_STRING.false c.before.before.before.before.if-k-eq-OCTET_STRING.false c.before.before.before.if-k-eq-NULL.false c.before.before.if-k-eq-ENUMERATED.false (λ k. omega (arith, c.if-k-gt-GENERALIZED_TIME.true)) (λ k. omega (arith, c.if-k-gt-GENERALIZED_TIME.true))),
       omega arith,
     ))  -- returns-16
     (λ c κs. tt)  -- time-kind-requires
@@ -129,7 +129,7 @@ contents-size-spec =
     (λ c.
     let s = c.before.before.before.before.before.before.before.before.before.before.before.before in
     let a = s.args in
-    let k = time_number_lem a.e.kind c.before.before.before.if15.false c.before.before.if16.false c.before.time-kind.ensures in (
-      by_others s.requires.1 _ _ c.before.before.before.before.before.before.before.if5.false c.before.before.before.before.before.before.if8.false (of_time _ a.e.kind a.e.own _ _ k c.time-size.ensures.0),
-      c.time-size.ensures.1,
+    let k = time_number_lem a.e.kind c.before.before.before.if-k-lt-UTC_TIME.false c.before.before.if-k-gt-GENERALIZED_TIME.false c.before.time_kind.ensures in (
+      by_others s.requires.1 _ _ c.before.before.before.before.before.before.before.if-k-eq-BIT_STRING.false c.before.before.before.before.before.before.if-k-eq-OCTET_STRING.false (of_time _ a.e.kind a.e.own _ _ k c.time_size.ensures.0),
+      c.time_size.ensures.1,
     )))  -- returns-17

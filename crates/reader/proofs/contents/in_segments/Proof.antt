@@ -5,6 +5,6 @@ use Rattle.reader.specs.Leaves.{is_in_segments}
 use Rattle.reader.proofs.contents.in_segments.Statement.{statement}
 use Rattle.reader.proofs.contents.in_segments.Tie as tie
 
-pub in-segments-spec : {M : Type 1} → statement M
+pub in_segments_spec : {M : Type 1} → statement M
 unfolding is_in_segments
-in-segments-spec = tie.close (tie.spec (λ c. search rules))  -- returns
+in_segments_spec = tie.close (tie.spec (λ c. search rules))  -- returns

@@ -10,8 +10,8 @@ use borrow.Author.Rules.{rules}
 use Rattle.reader.proofs.contents.judge_segments.Statement.{statement}
 use Rattle.reader.proofs.contents.judge_segments.Tie as tie
 
-pub judge-segments-spec : {M : Type 1} → statement M
-judge-segments-spec =
+pub judge_segments_spec : {M : Type 1} → statement M
+judge_segments_spec =
     tie.close
     (tie.spec
     (λ c κs. search rules)  -- in-segments-requires
@@ -19,36 +19,36 @@ judge-segments-spec =
     (λ c. search rules)  -- enum-known-cause
     (λ c.
     let s = c.before.before.before.before.before.before.before.before.before in
-    let n = parts_left s.args.e.kind s.args.indefinite s.args.c.now c.before.before.before.read.ensures _ _ c.before.cause.given.1 in
+    let n = parts_left s.args.e.kind s.args.indefinite s.args.c.now c.before.before.before.read.ensures _ _ c.before.cause-1.given.1 in
     omega (arith, n, s.requires.3, s.requires.4))  -- add-t16
     (λ c. search rules)  -- enum-known-x
     (λ c κs.
     let s = c.before.before.before.before.before.before.before.before.before in
-    let n = parts_few s.args.e.kind s.args.indefinite s.args.c.now c.before.before.before.read.ensures _ c.before.x.given.1 in
+    let n = parts_few s.args.e.kind s.args.indefinite s.args.c.now c.before.before.before.read.ensures _ c.before.x-1.given.1 in
     omega (arith, n, s.requires.3))  -- string-size-requires
     (λ c.
     let s = c.before.before.before.before.before.before.before.before.before in
     let a = s.args in
-    let i : is_in_segments a.lead ≡ true = sym c.before.before.before.before.before.before.in-segments.ensures ∙ c.before.before.before.before.before.if1.true in
+    let i : is_in_segments a.lead ≡ true = sym c.before.before.before.before.before.before.in_segments.ensures ∙ c.before.before.before.before.before.if-in_segments.true in
     let r = c.before.before.before.read.ensures in
     rw i (parts_refused a.e.kind a.indefinite a.c.now r _ a.e.own a.left a.behind (s.requires.2 i) _ _
-    c.before.cause.given.1))  -- returns
+    c.before.cause-1.given.1))  -- returns
     (λ c.
     let s = c.before.before.before.before.before.before.before.before.before.before in
     let a = s.args in
-    let i : is_in_segments a.lead ≡ true = sym c.before.before.before.before.before.before.before.in-segments.ensures ∙ c.before.before.before.before.before.before.if1.true in
+    let i : is_in_segments a.lead ≡ true = sym c.before.before.before.before.before.before.before.in_segments.ensures ∙ c.before.before.before.before.before.before.if-in_segments.true in
     let r = c.before.before.before.before.read.ensures in
-    rw i (parts_done a.e.kind a.indefinite a.c.now r _ a.e.own a.left a.behind (s.requires.2 i) _ c.before.before.x.given.1 _
-    c.string-size.ensures s.requires.3))  -- returns-2
+    rw i (parts_done a.e.kind a.indefinite a.c.now r _ a.e.own a.left a.behind (s.requires.2 i) _ c.before.before.x-1.given.1 _
+    c.string_size.ensures s.requires.3))  -- returns-2
     (λ c.
     let s = c.before.before.before.before.before in
     let a = s.args in
-    let i : is_in_segments a.lead ≡ false = sym c.before.before.in-segments.ensures ∙ c.before.if1.false in
-    rw i (whole_open s.requires.1 s.requires.5 _ a.left a.behind a.c.now c.if2.true))  -- returns-3
+    let i : is_in_segments a.lead ≡ false = sym c.before.before.in_segments.ensures ∙ c.before.if-in_segments.false in
+    rw i (whole_open s.requires.1 s.requires.5 _ a.left a.behind a.c.now c.if-indefinite.true))  -- returns-3
     (λ c.
     let s = c.before.before.before.before.before in
     let a = s.args in
-    let z = c.if2.false in
-    let i : is_in_segments a.lead ≡ false = sym c.before.before.in-segments.ensures ∙ c.before.if1.false in
+    let z = c.if-indefinite.false in
+    let i : is_in_segments a.lead ≡ false = sym c.before.before.in_segments.ensures ∙ c.before.if-in_segments.false in
     let n = sym (s.requires.6 z) ∙ sym (by_whole s.requires.1 a.lead a.c.now i refl) in
     rw i (whole_wrong s.requires.1 s.requires.5 _ a.left a.behind a.c.now z n refl)))  -- returns-4

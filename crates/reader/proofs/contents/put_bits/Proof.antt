@@ -12,8 +12,8 @@ use borrow.Author.Rules.{rules}
 use Rattle.reader.proofs.contents.put_bits.Statement.{statement}
 use Rattle.reader.proofs.contents.put_bits.Tie as tie
 
-pub put-bits-spec : {M : Type 1} → statement M
-put-bits-spec =
+pub put_bits_spec : {M : Type 1} → statement M
+put_bits_spec =
     tie.close
     (tie.spec
     (λ c. search rules)  -- shared-slice-read-unused
@@ -32,7 +32,7 @@ put-bits-spec =
     let c8 = c.before.before.before.before.before.before.before.before in
     omega (
       arith,
-      simp length-sets at (ap length c.before.before.put-number.ensures),
+      simp length-sets at (ap length c.before.before.put_number.ensures),
       ap length (from_is 1 c8.args.c.now),
       c8.requires.4,
     ))  -- part-part-end
@@ -48,7 +48,7 @@ put-bits-spec =
     let q : u % 8 ≡ u = omega (arith, c12.requires.2) in
     rw from_is (
       refl,
-      number_filled a.buf.now c6.put-number.new.0 (masked u d) c2.copy-masked.new.1.1.0 a.to
-          (8 * length d - u) (length d) (rw from_is at c6.put-number.ensures) (sym (length_masked u d)) c12.requires.4 (rw (from_is, q) at
-          c2.copy-masked.ensures),
+      number_filled a.buf-1.now c6.put_number.new.0 (masked u d) c2.copy_masked.new.1.1.0 a.to
+          (8 * length d - u) (length d) (rw from_is at c6.put_number.ensures) (sym (length_masked u d)) c12.requires.4 (rw (from_is, q) at
+          c2.copy_masked.ensures),
     )))  -- returns

@@ -13,8 +13,8 @@ use borrow.Author.Rules.{rules}
 use Rattle.reader.proofs.contents.put_enumerated.Statement.{statement}
 use Rattle.reader.proofs.contents.put_enumerated.Tie as tie
 
-pub put-enumerated-spec : {M : Type 1} → statement M
-put-enumerated-spec =
+pub put_enumerated_spec : {M : Type 1} → statement M
+put_enumerated_spec =
     tie.close
     (tie.spec
     (λ c κs. search rules)  -- of-requires
@@ -44,4 +44,4 @@ put-enumerated-spec =
     let e : to_z w64 (of_z w64 c3.of.result) ≡ pos (natural (integer_of x)) = to_z-of_z {w = w64} {z = c3.of.result} (record {
       sfits = c3.of.type-inv;
     }) ∙ integer_is x c3.of.result q.1 c3.of.ensures ∙ q.3 in
-    (refl, rw e at c.before.before.put-number.ensures)))  -- returns
+    (refl, rw e at c.before.before.put_number.ensures)))  -- returns

@@ -7,8 +7,8 @@ use borrow.Author.Rules.{rules}
 use Rattle.reader.proofs.contents.put_flag.Statement.{statement}
 use Rattle.reader.proofs.contents.put_flag.Tie as tie
 
-pub put-flag-spec : {M : Type 1} → statement M
-put-flag-spec =
+pub put_flag_spec : {M : Type 1} → statement M
+put_flag_spec =
     tie.close
     (tie.spec
     (λ c. search rules)  -- shared-slice-read-one-if
@@ -18,4 +18,4 @@ put-flag-spec =
     (λ c. search rules)  -- same-length
     (λ c.
     let a = c.before.before.before.before.args in
-    (refl, ap (λ (x : ℕ). set a.buf.now a.to x) c.one-if.ensures)))  -- returns
+    (refl, ap (λ (x : ℕ). set a.buf.now a.to x) c.one_if.ensures)))  -- returns

@@ -11,8 +11,8 @@ use borrow.Author.Rules.{rules}
 use Rattle.reader.proofs.contents.put_integer.Statement.{statement}
 use Rattle.reader.proofs.contents.put_integer.Tie as tie
 
-pub put-integer-spec : {M : Type 1} → statement M
-put-integer-spec =
+pub put_integer_spec : {M : Type 1} → statement M
+put_integer_spec =
     tie.close
     (tie.spec
     (λ c. search rules)  -- add-end
@@ -29,8 +29,8 @@ put-integer-spec =
     let q = c7.requires in
     let a = c7.args in
     let z = integer_is a.c.now c3.of.result q.1 c3.of.ensures in
-    let e = rw (to_z-of_z {w = w64} {z = c3.of.result} (record { sfits = c3.of.type-inv }), z) at c2.put-eight.ensures in (
+    let e = rw (to_z-of_z {w = w64} {z = c3.of.result} (record { sfits = c3.of.type-inv }), z) at c2.put_eight.ensures in (
       refl,
-      part_filled a.buf.now (eight_of (integer_of a.c.now)) c2.put-eight.new.1.0 a.to 8 (sym (eight_length _))
+      part_filled a.buf-1.now (eight_of (integer_of a.c.now)) c2.put_eight.new.1.0 a.to 8 (sym (eight_length _))
           q.2 e,
     )))  -- returns

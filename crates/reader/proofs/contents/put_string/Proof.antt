@@ -7,8 +7,8 @@ use borrow.Author.Rules.{rules}
 use Rattle.reader.proofs.contents.put_string.Statement.{statement}
 use Rattle.reader.proofs.contents.put_string.Tie as tie
 
-pub put-string-spec : {M : Type 1} → statement M
-put-string-spec =
+pub put_string_spec : {M : Type 1} → statement M
+put_string_spec =
     tie.close
     (tie.spec
     (λ c κs. search rules)  -- put-number-requires
@@ -25,6 +25,6 @@ put-string-spec =
     let c10 = c6.before.before.before.before in
     let a = c10.args in (
       refl,
-      number_filled a.buf.now c6.put-number.new.0 a.c.now c2.copy.new.1.0 a.to (length a.c.now)
-          (length a.c.now) c6.put-number.ensures refl c10.requires.1 c2.copy.ensures,
+      number_filled a.buf-1.now c6.put_number.new.0 a.c.now c2.copy.new.1.0 a.to (length a.c.now)
+          (length a.c.now) c6.put_number.ensures refl c10.requires.1 c2.copy.ensures,
     )))  -- returns

@@ -8,9 +8,9 @@ use borrow.Author.Rules.{rules}
 use Rattle.reader.proofs.contents.put_time.Statement.{statement}
 use Rattle.reader.proofs.contents.put_time.Tie as tie
 
-pub put-time-spec : {M : Type 1} → statement M
+pub put_time_spec : {M : Type 1} → statement M
 unfolding time_octets
-put-time-spec =
+put_time_spec =
     tie.close
     (tie.spec
     (λ c. search rules)  -- add-end
@@ -28,5 +28,5 @@ put-time-spec =
     let a = c7.args in
     let e = rw (c3.of.ensures.1 q.0) at c2.put.ensures in (
       refl,
-      part_filled a.buf.now (time_octets (time_of a.kind a.c.now)) c2.put.new.1.0 a.to 7 refl q.1 e,
+      part_filled a.buf-1.now (time_octets (time_of a.kind a.c.now)) c2.put.new.1.0 a.to 7 refl q.1 e,
     )))  -- returns

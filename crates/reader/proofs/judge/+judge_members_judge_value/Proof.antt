@@ -77,11 +77,11 @@ abbrev judge-value-below : ℕ → In 4 judge_value_kinds.ps
 judge-value-below t =
     and 4 judge_value_kinds.ps (falls 4 judge_value_kinds.ps ◌<◌ μ-judge-value t) judge_value.Pre
 
-abbrev judge-members-Inv-loop : judge_members_lts.invariant-loop
+abbrev judge-members-Inv-loop : judge_members_lts.invariant-loop-j
 judge-members-Inv-loop table index w m indefinite level way₀ e s came₀ total₀ at₀ j₀ way came total at j =
     (at ≤ length m) × (length way ≡ 128) × Judging table w m indefinite level came total at j
 
-abbrev judge-members-μ-loop : judge_members_lts.decreases-loop
+abbrev judge-members-μ-loop : judge_members_lts.decreases-loop-j
 judge-members-μ-loop table index w m indefinite level way₀ e s came₀ total₀ at₀ j₀ way came total at j = length m - at
 
 abbrev judge-members-claims : ℕ → judge_members_lts.Claims
@@ -114,7 +114,7 @@ judge-members-claims t = (
 
 -- where the parts of an entry are known
 abbrev setting : (t : ℕ)
-    (c : judge_members_lts.After-parts (judge-members-claims t) (judge-members-at t) judge_members.Post judge-members-Inv-loop judge-members-μ-loop)
+    (c : judge_members_lts.After-parts-s (judge-members-claims t) (judge-members-at t) judge_members.Post judge-members-Inv-loop judge-members-μ-loop)
     → Setting
 setting t c =
     let a = c.before.before.before.before.args in
@@ -123,22 +123,22 @@ setting t c =
       b = a.table.now;
       index = a.index.now;
       w = a.w;
-      e = c.before.unpack.result;
-      s = c.parts.result;
+      e = c.before.unpack-e.result;
+      s = c.parts-s.result;
       ready = q.ready;
       known = q.known;
       holds = q.holds;
-      entry = c.before.unpack.ensures;
-      span = c.parts.ensures;
+      entry = c.before.unpack-e.ensures;
+      span = c.parts-s.ensures;
     }
 
 -- where it is known what stands at a place
 abbrev turn : (t : ℕ)
-    (c : judge_members_lts.After-next (judge-members-claims t) (judge-members-at t) judge_members.Post judge-members-Inv-loop judge-members-μ-loop)
+    (c : judge_members_lts.In-Read-enter-2 (judge-members-claims t) (judge-members-at t) judge_members.Post judge-members-Inv-loop judge-members-μ-loop)
     → Turn (setting t c.before.before.before.before)
 turn t c =
     let a = c.before.before.before.before.before.before.before.before.args in
-    let l = c.before.before.loop in
+    let l = c.before.before.loop-j in
     record {
       m = a.m.now;
       indefinite = a.indefinite;
@@ -147,13 +147,13 @@ turn t c =
       total = l.total;
       at = l.at;
       j = l.j;
-      octets = λ i. omega (arith, c.before.before.before.before.before.before.shared-slice-known2.given i);
+      octets = λ i. omega (arith, c.before.before.before.before.before.before.shared_slice_known-2-1.given i);
       short = c.before.before.before.before.before.before.before.before.requires.1.short;
       levels = c.before.before.before.before.before.before.before.before.requires.1.levels;
       low = l.invariant.0;
       so_far = l.invariant.2;
-      y = c.next.result;
-      stands = c.next.ensures;
+      y = c.next-1.result;
+      stands = c.next-1.ensures;
     }
 
 -- where an item is found to be of a part
@@ -162,8 +162,8 @@ abbrev comes : (t : ℕ)
     → Comes (turn t c.before.before.before.before.before)
 comes t c =
     let P = turn t c.before.before.before.before.before in
-    let i = c.before.before.before.enum_told.given.1 in
-    let x = c.if3 in
+    let i = c.before.before.before.enum_told-1.given.1 in
+    let x = c.if-k-eq-INTEGER in
     record {
       item = i;
       way = x.way;
@@ -180,11 +180,11 @@ comes t c =
           (λ u. item_same v.1 v.2 (v.3 ∙ u.6) v.4 v.5
           (item_here P i u.0.taken (eqb-true _ _ u.1.taken) _ _ u.2.ensures.0 u.4.ensures (eqb-true _ _ (sym u.7 ∙ y)) _))
           (λ u. absurd (true≢false (sym y ∙ u.2)))
-          c.before.if1.branch)
+          c.before.if-c-gt-OVER.branch)
           x.branch;
       ways =
           ⊎_elim (λ v. ap length v.9 ∙ v.4.ensures.0)
-          (λ v. ap length v.1 ∙ c.before.before.before.before.before.before.before.loop.invariant.1)
+          (λ v. ap length v.1 ∙ c.before.before.before.before.before.before.before.loop-j.invariant.1)
           x.branch;
     }
 
@@ -195,7 +195,7 @@ abbrev valued : (t : ℕ)
     → Valued (comes t c.before.before.before.before.before.before.before.before.before.before)
 valued t c =
     record {
-      deep = c.before.before.before.before.before.before.before.before.before.if4.false;
+      deep = c.before.before.before.before.before.before.before.before.before.if-is_integer.false;
       r = c.judge-value.result;
       said = c.judge-value.ensures.1;
     }
@@ -218,49 +218,49 @@ judge-members-half t =
     (λ c κs.
     let c3 = c.before.before.before in
     let c7 = c3.before.before.before.before in
-    (c7.args.index.now, judging_sound (setting t (c3)) c.before.loop.invariant.2, c7.requires.1.holds))  -- judge-members-next-requires
+    (c7.args.index.now, judging_sound (setting t (c3)) c.before.loop-j.invariant.2, c7.requires.1.holds))  -- judge-members-next-requires
     (λ c. search rules)  -- judge-members-enum-told
     (λ c. search rules)  -- judge-members-enum-known-end
     (λ c κs. search rules)  -- judge-members-done-requires
     (λ c.
     let c4 = c.before.before.before.before in (
-      c4.before.before.loop.invariant.1,
-      c.done.ensures ∙ judged_over (turn t (c4)) _ c.before.before.end.given.1,
+      c4.before.before.loop-j.invariant.1,
+      c.done.ensures ∙ judged_over (turn t (c4)) _ c.before.before.end-1.given.1,
     ))  -- judge-members-returns
     (λ c. search rules)  -- judge-members-enum-known-cause
     (λ c. omega arith)  -- judge-members-sub-refused
     (λ c κs. search rules)  -- judge-members-refused-requires
     (λ c.
     let c4 = c.before.before.before.before in (
-      c4.before.before.loop.invariant.1,
-      c.refused.ensures ∙ judged_stopped (turn t (c4)) _ c.before.before.cause.given.1,
+      c4.before.before.loop-j.invariant.1,
+      c.refused.ensures ∙ judged_stopped (turn t (c4)) _ c.before.before.cause-1.given.1,
     ))  -- judge-members-returns-2
     (λ c. omega arith)  -- judge-members-add-from
-    (λ c. omega (arith, part_few (turn t c.before.before.before.before) c.if1.true))  -- judge-members-mul-if2
-    (λ c. part_few (turn t c.before.before.before.before) c.if1.true)  -- judge-members-array-read-if2
+    (λ c. omega (arith, part_few (turn t c.before.before.before.before) c.if-c-gt-OVER.true))  -- judge-members-mul-if2
+    (λ c. part_few (turn t c.before.before.before.before) c.if-c-gt-OVER.true)  -- judge-members-array-read-if2
     (λ c κs.
     let T = turn t c.before.before.before.before.before in
-    (part_inside T c.before.if1.true, part_near T c.before.if1.true))  -- judge-members-part-requires
+    (part_inside T c.before.if-c-gt-OVER.true, part_near T c.before.if-c-gt-OVER.true))  -- judge-members-part-requires
     (λ c. omega (arith, c.part.ensures.1))  -- judge-members-mul-first
     (λ c.
     let c2 = c.before.before in
-    type_few (turn t c2.before.before.before.before) c2.if1.true _ c.part.ensures.0)  -- judge-members-element-copy-out-first
+    type_few (turn t c2.before.before.before.before) c2.if-c-gt-OVER.true _ c.part.ensures.0)  -- judge-members-element-copy-out-first
     (λ c κs. search rules)  -- judge-members-first-requires
     (λ c.
     let c7 = c.before.before.before.before.before.before.before in
-    item_there (turn t c7.before.before) c7.enum_told.given.1)  -- judge-members-shared-slice-read-fits
+    item_there (turn t c7.before.before) c7.enum_told-1.given.1)  -- judge-members-shared-slice-read-fits
     (λ c.
     omega (
       arith,
       c.shared-slice-known3.given
-          c.before.before.before.before.before.before.before.before.before.before.before.loop.at,
+          c.before.before.before.before.before.before.before.before.before.before.before.loop-j.at,
     ))  -- judge-members-cast-fits
     (λ c. omega arith)  -- judge-members-sub-rest
     (λ c. omega arith)  -- judge-members-part-rest-start
     (λ c. omega arith)  -- judge-members-part-rest-end
     (λ c κs.
     let c10 = c.before.before.before.before.before.before.before.before.before.before in
-    let l = c10.loop in
+    let l = c10.loop-j in
     (judging_sound (setting t c10.before.before) l.invariant.2, l.invariant.1))  -- judge-members-search-requires
     (λ c. search rules)  -- judge-members-enum-known-cause-2
     (λ c. omega arith)  -- judge-members-sub-refused-2
@@ -269,21 +269,21 @@ judge-members-half t =
     let c4 = c.before.before.before.before in
     let c11 = c4.before.before.before.before.before.before.before in (
       c4.search.ensures.0,
-      c.refused2.ensures ∙ judged_unfit (turn t c11.before.before) c11.enum_told.given.1 _ _ _ c4.search.ensures.1
-          c.before.before.cause2.given.1,
+      c.refused2.ensures ∙ judged_unfit (turn t c11.before.before) c11.enum_told-1.given.1 _ _ _ c4.search.ensures.1
+          c.before.before.cause-in-Refused-enter-1.given.1,
     ))  -- judge-members-returns-3
     (λ c. search rules)  -- judge-members-enum-known-x
     (λ c.
     let c4 = c.before.before.before.before in
     let c11 = c4.before.before.before.before.before.before.before in
-    let z = found_low (turn t c11.before.before) c11.enum_told.given.1 _ _ _ c4.search.ensures.1
-    c.before.before.x.given.1 in
+    let z = found_low (turn t c11.before.before) c11.enum_told-1.given.1 _ _ _ c4.search.ensures.1
+    c.before.before.x-1.given.1 in
     omega arith)  -- judge-members-add-from-2
     (λ c. omega arith)  -- judge-members-sub-refused-3
     (λ c κs. search rules)  -- judge-members-refused-requires-3
     (λ c.
     let c2 = c.before.before in
-    ((comes t (c2)).ways, c.refused3.ensures ∙ judged_level (comes t (c2)) c.before.if4.true))  -- judge-members-returns-4
+    ((comes t (c2)).ways, c.refused3.ensures ∙ judged_level (comes t (c2)) c.before.if-is_integer.true))  -- judge-members-returns-4
     (λ c. omega (arith, place_few (comes t c.before.before.before.before)))  -- judge-members-mul-came
     (λ c. place_few (comes t c.before.before.before.before))  -- judge-members-array-write-came
     (λ c. omega (arith, behind_few (comes t c.before.before.before.before.before)))  -- judge-members-add-j
@@ -324,7 +324,7 @@ judge-members-half t =
     let c7 = c5.before.before in (
       c7.judge-value.ensures.0,
       c.done2.ensures ∙ judged_one (valued t (c7)) _ _ c5.end2.given.1 _ c3.grow.ensures _
-          c.before.before.holds-one.ensures c.before.if6.true,
+          c.before.before.holds_one.ensures c.before.if-in_segments.true,
     ))  -- judge-members-returns-6
     (λ c.
     let c4 = c.before.before.before.before in
@@ -336,9 +336,9 @@ judge-members-half t =
     let Y = valued t (c6) in (
       value_low Y _ _ c4.end2.given.1,
       c6.judge-value.ensures.0,
-      judged_turn Y _ _ c4.end2.given.1 _ c.before.before.grow.ensures _ c.before.holds-one.ensures c.if6.false
+      judged_turn Y _ _ c4.end2.given.1 _ c.before.before.grow.ensures _ c.before.holds_one.ensures c.if-in_segments.false
           _ (⊎_elim (λ v. inl (v.0.taken, v.2)) (λ v. inr (v.0.left, v.1))
-          c6.before.before.before.before.before.before.before.if5.branch),
+          c6.before.before.before.before.before.before.before.if-k-eq-BIT_STRING.branch),
     ))  -- judge-members-loop-again
 
 abbrev judge-value-claims : ℕ → judge_value_lts.Claims
@@ -364,72 +364,72 @@ judge-value-claims t = (
 )
 
 -- where the tags are opened
-abbrev at-notes : (t : ℕ) (c : judge_value_lts.Joined1 (judge-value-claims t) (judge-value-at t) judge_value.Post) → length c.if1.notes ≡ 4
-at-notes t c = ⊎_elim (λ z. rw z.6 z.2.ensures.0) (λ z. rw z.1 refl) c.if1.branch
+abbrev at-notes : (t : ℕ) (c : judge_value_lts.Joined-e-eq-SEQUENCE (judge-value-claims t) (judge-value-at t) judge_value.Post) → length c.if-c-gt-OVER.notes ≡ 4
+at-notes t c = ⊎_elim (λ z. rw z.6 z.2.ensures.0) (λ z. rw z.1 refl) c.if-c-gt-OVER.branch
 
-abbrev at_under : (t : ℕ) (c : judge_value_lts.Joined1 (judge-value-claims t) (judge-value-at t) judge_value.Post) →
+abbrev at_under : (t : ℕ) (c : judge_value_lts.Joined-e-eq-SEQUENCE (judge-value-claims t) (judge-value-at t) judge_value.Post) →
     let a = c.before.before.before.before.before.args in
-    Under a.table.now (record_of a.table.now a.w) a.m.now a.at (take (unpacked a.w).explicit c.if1.notes)
-    c.if1.at c.if1.from c.if1.end
+    Under a.table.now (record_of a.table.now a.w) a.m.now a.at (take (unpacked a.w).explicit c.if-c-gt-OVER.notes)
+    c.if-c-gt-OVER.at c.if-c-gt-OVER.from c.if-c-gt-OVER.end-1
 at_under t c =
     let a = c.before.before.before.before.before.args in
     let q = c.before.before.before.before.before.requires.1 in
-    let u = c.before.before.unpack in
+    let u = c.before.before.unpack-e in
     ⊎_elim
     (λ z. rw (z.6, z.7, z.8, z.9)
     (under_tags q.ready q.is a.m.now a.at _ z.2.result z.2.ensures.1 z.4.given.0.0 z.4.given.1))
     (λ z. rw (z.1, z.2, z.3, z.4) (under_bare q.ready q.is u.result u.ensures a.m.now a.at a.from z.0.left q.headed _))
-    c.if1.branch
+    c.if-c-gt-OVER.branch
 
-abbrev at_item : (t : ℕ) (c : judge_value_lts.Joined1 (judge-value-claims t) (judge-value-at t) judge_value.Post) →
+abbrev at_item : (t : ℕ) (c : judge_value_lts.Joined-e-eq-SEQUENCE (judge-value-claims t) (judge-value-at t) judge_value.Post) →
     let a = c.before.before.before.before.before.args in Item a.table.now a.index.now a.w a.m.now a.at a.level
 at_item t c =
     let q = c.before.before.before.before.before.requires.1 in
-    let u = c.before.before.unpack in
+    let u = c.before.before.unpack-e in
     record {
       ready = q.ready;
       known = q.is;
-      all_octets = λ i. omega (arith, c.before.before.before.shared-slice-known2.given i);
+      all_octets = λ i. omega (arith, c.before.before.before.shared_slice_known-2-1.given i);
       short = q.short;
       entry = u.result;
       entered = u.ensures;
-      notes = c.if1.notes;
+      notes = c.if-c-gt-OVER.notes;
       four = at-notes t c;
-      at = c.if1.at;
-      from = c.if1.from;
-      end = c.if1.end;
+      at = c.if-c-gt-OVER.at;
+      from = c.if-c-gt-OVER.from;
+      end = c.if-c-gt-OVER.end-1;
       under = at_under t c;
     }
 
 -- where the length is read
-abbrev at-contents : (t : ℕ) (c : judge_value_lts.Joined2 (judge-value-claims t) (judge-value-at t) judge_value.Post) →
+abbrev at-contents : (t : ℕ) (c : judge_value_lts.Joined-e-eq-SEQUENCE (judge-value-claims t) (judge-value-at t) judge_value.Post) →
     let a = c.before.before.before.before.before.before.before.before.before.args in
-    let x = c.before.before.before.before.if1 in
-    Within (record_of a.table.now a.w) (take x.end a.m.now) x.at x.end c.if2.start c.if2.stop c.if2.indefinite
+    let x = c.before.before.before.before.if-c-gt-OVER in
+    Within (record_of a.table.now a.w) (take x.end-1 a.m.now) x.at x.end-1 c.if-n-ne1.start c.if-n-ne1.stop c.if-n-ne1.indefinite
 at-contents t c =
     let x = at_item t c.before.before.before.before in
     ⊎_elim
     (λ z. rw (z.5, z.6, z.7) (contents_sized x z.0.taken z.1.result (z.1.ensures.0 _) z.3.given.0.0 z.3.given.1))
     (λ z. rw (z.1, z.2, z.3) (contents_bare x z.0.left))
-    c.if2.branch
+    c.if-n-ne1.branch
 
-abbrev at-filling : (t : ℕ) (c : judge_value_lts.Joined2 (judge-value-claims t) (judge-value-at t) judge_value.Post) →
+abbrev at-filling : (t : ℕ) (c : judge_value_lts.Joined-e-eq-SEQUENCE (judge-value-claims t) (judge-value-at t) judge_value.Post) →
     let a = c.before.before.before.before.before.before.before.before.before.args in
     Filling a.table.now a.index.now a.w a.m.now a.at a.level
 at-filling t c =
     record {
       item = at_item t c.before.before.before.before;
-      start = c.if2.start;
-      stop = c.if2.stop;
-      indefinite = c.if2.indefinite;
+      start = c.if-n-ne1.start;
+      stop = c.if-n-ne1.stop;
+      indefinite = c.if-n-ne1.indefinite;
       within = at-contents t c;
     }
 
 -- where the contents are judged
 abbrev at_over : (t : ℕ) (c : judge_value_lts.Joined3 (judge-value-claims t) (judge-value-at t) judge_value.Post) →
     let a = c.before.before.before.before.before.before.before.before.before.before.args in
-    let x = c.before.before.before.before.before.if1 in
-    Over a.table.now (record_of a.table.now a.w) a.level (take x.end a.m.now) x.at x.end c.if3.stop c.if3.size
+    let x = c.before.before.before.before.before.if-c-gt-OVER in
+    Over a.table.now (record_of a.table.now a.w) a.level (take x.end-1 a.m.now) x.at x.end-1 c.if-k-eq-INTEGER.stop c.if-k-eq-INTEGER.size
 at_over t c =
     let y = at-filling t c.before in
     ⊎_elim
@@ -444,7 +444,7 @@ at_over t c =
     (λ z. rw (z.10, z.11)
     (over_items y z.0.left z.5.result z.5.ensures.1 z.7.given.0.0 z.7.given.0.1.0 z.7.given.1))
     v)
-    c.if3.branch
+    c.if-k-eq-INTEGER.branch
 
 abbrev at_ended : (t : ℕ) (c : judge_value_lts.Joined3 (judge-value-claims t) (judge-value-at t) judge_value.Post) →
     let a = c.before.before.before.before.before.before.before.before.before.before.args in
@@ -452,15 +452,15 @@ abbrev at_ended : (t : ℕ) (c : judge_value_lts.Joined3 (judge-value-claims t) 
 at_ended t c =
     record {
       item = at_item t c.before.before.before.before.before;
-      stop = c.if3.stop;
-      count = c.if3.size;
+      stop = c.if-k-eq-INTEGER.stop;
+      count = c.if-k-eq-INTEGER.size;
       over = at_over t c;
     }
 
-abbrev at-way : (t : ℕ) (c : judge_value_lts.Joined3 (judge-value-claims t) (judge-value-at t) judge_value.Post) → length c.if3.way ≡ 128
+abbrev at-way : (t : ℕ) (c : judge_value_lts.Joined3 (judge-value-claims t) (judge-value-at t) judge_value.Post) → length c.if-k-eq-INTEGER.way ≡ 128
 at-way t c =
     let w = c.before.before.before.before.before.before.before.before.before.before.requires.1.ways in
-    ⊎_elim (λ z. rw z.11 w) (λ v. ⊎_elim (λ z. rw z.6 w) (λ z. rw z.9 z.5.ensures.0) v) c.if3.branch
+    ⊎_elim (λ z. rw z.11 w) (λ v. ⊎_elim (λ z. rw z.6 w) (λ z. rw z.9 z.5.ensures.0) v) c.if-k-eq-INTEGER.branch
 
 -- the half of `judge_value`
 judge-value-half : {M : Type 1} (t : ℕ) → judge_value_lts.Closed (judge-value-claims t) (judge-value-at t) judge_value.Post M
@@ -477,7 +477,7 @@ judge-value-half t =
       c6.args.index.now,
       q.ready,
       q.is,
-      rw c3.unpack.ensures at c.before.if1.true,
+      rw c3.unpack-e.ensures at c.before.if-c-gt-OVER.true,
       q.headed,
       q.short,
       refl,
@@ -489,7 +489,7 @@ judge-value-half t =
     let c11 = c4.before.before.before.before.before.before.before in
     let q = c11.requires.1 in
     let o = c4.«open» in
-    let x = c.before.before.cause.given in (
+    let x = c.before.before.cause-1.given in (
       q.ways,
       c.refused.ensures ∙ value_unopened q.ready q.is _ _ _ o.result o.ensures.1 x.0.0 x.0.1.0 x.1
           c11.args.level,
@@ -504,9 +504,9 @@ judge-value-half t =
     let c4 = c.before.before.before.before in
     let c5 = c4.before in
     let c9 = c5.before.before.before.before in
-    let f = c.before.before.cause2.given in (
+    let f = c.before.before.cause-in-Refused-enter-1.given in (
       c9.before.before.before.before.before.requires.1.ways,
-      c.refused2.ensures ∙ value_unread (at_item t c9) c5.if2.true _ (c4.read.ensures.0 _) f.0.0 f.1,
+      c.refused2.ensures ∙ value_unread (at_item t c9) c5.if-n-ne1.true _ (c4.read.ensures.0 _) f.0.0 f.1,
     ))  -- judge-value-returns-2
     (λ c. search rules)  -- judge-value-enum-known-x-2
     (λ c. (contents_within (at-filling t c.before.before.before)).0)  -- judge-value-sub-c
@@ -519,7 +519,7 @@ judge-value-half t =
     let c15 = c12.before.before.before in
     let q = c15.requires.1 in (
       table_in c15.args.table.now q.is.0,
-      rw c12.unpack.ensures (its_entry q.ready q.is),
+      rw c12.unpack-e.ensures (its_entry q.ready q.is),
       contents_short (at-filling t (c6)),
     ))  -- judge-value-contents-size-requires
     (λ c. item_inside (at-filling t c.before.before.before.before.before.before.before).item)  -- judge-value-shared-slice-read-judge-segments
@@ -532,15 +532,15 @@ judge-value-half t =
     let q = c16.requires.1 in
     let y = at-filling t (c7) in (
       table_in c16.args.table.now q.is.0,
-      rw c13.unpack.ensures (its_entry q.ready q.is),
-      leaf_kind_lem y c6.if3.true,
+      rw c13.unpack-e.ensures (its_entry q.ready q.is),
+      leaf_kind_lem y c6.if-k-eq-INTEGER.true,
       contents_short y,
       omega (arith, q.short),
-      c6.if3.true,
+      c6.if-k-eq-INTEGER.true,
       λ h. ⊎_elim
-          (λ x. sym x.2.ensures.0 ∙ sym x.3 ∙ c.before.if5.true)
+          (λ x. sym x.2.ensures.0 ∙ sym x.3 ∙ c.before.if-k-eq-BIT_STRING.true)
           (λ x. absurd (true≢false (sym (not-false _ x.0.left) ∙ h)))
-          c.before.before.if4.branch,
+          c.before.before.if-is_integer.branch,
     ))  -- judge-value-judge-segments-requires
     (λ c. search rules)  -- judge-value-enum-known-cause-3
     (λ c κs. tt)  -- judge-value-refused-requires-3
@@ -552,7 +552,7 @@ judge-value-half t =
     let r = c4.judge-segments in
     let x = c.before.before.cause3.given in (
       c12.before.before.before.before.before.before.before.before.before.requires.1.ways,
-      c.refused3.ensures ∙ value_wrong y c11.if3.true r.result r.ensures x.0.0 x.0.1.0 x.1,
+      c.refused3.ensures ∙ value_wrong y c11.if-k-eq-INTEGER.true r.result r.ensures x.0.0 x.0.1.0 x.1,
     ))  -- judge-value-returns-3
     (λ c. search rules)  -- judge-value-enum-known-x-3
     (λ c.
@@ -561,7 +561,7 @@ judge-value-half t =
     let y = at-filling t c10.before in
     let r = c3.judge-segments in
     let x = c.before.x3.given in
-    omega (arith, leaf_high y c10.if3.true r.result r.ensures x.0.0 x.0.1.0 x.1))  -- judge-value-add-stop
+    omega (arith, leaf_high y c10.if-k-eq-INTEGER.true r.result r.ensures x.0.0 x.0.1.0 x.1))  -- judge-value-add-stop
     (λ c. (contents_within (at-filling t c.before.before.before)).0)  -- judge-value-sub-c-2
     (λ c. omega (arith, contents_within (at-filling t c.before.before.before)))  -- judge-value-part-c-start-2
     (λ c. (contents_within (at-filling t c.before.before.before)).1)  -- judge-value-part-c-end-2
@@ -571,7 +571,7 @@ judge-value-half t =
     let y = at-filling t (c5) in
     let p = c5.before.before.before.before.before.before.before.before.before.requires in
     let q = p.1 in
-    let n = c4.if3.false in
+    let n = c4.if-k-eq-INTEGER.false in
     let k = items_known y n in (
       omega (arith, p.0),
       record {
@@ -593,7 +593,7 @@ judge-value-half t =
     let y = at-filling t c8.before in
     let r = c3.judge-members in
     let x = c.before.cause4.given in
-    omega (arith, items_low y c8.if3.false r.result r.ensures.1 x.0.0 x.0.1.0 x.1))  -- judge-value-add-refused
+    omega (arith, items_low y c8.if-k-eq-INTEGER.false r.result r.ensures.1 x.0.0 x.0.1.0 x.1))  -- judge-value-add-refused
     (λ c κs. tt)  -- judge-value-refused-requires-4
     (λ c.
     let c4 = c.before.before.before.before in
@@ -602,7 +602,7 @@ judge-value-half t =
     let r = c4.judge-members in
     let x = c.before.before.cause4.given in (
       r.ensures.0,
-      c.refused4.ensures ∙ value_unheld y c9.if3.false r.result r.ensures.1 x.0.0 x.0.1.0 x.1,
+      c.refused4.ensures ∙ value_unheld y c9.if-k-eq-INTEGER.false r.result r.ensures.1 x.0.0 x.0.1.0 x.1,
     ))  -- judge-value-returns-4
     (λ c. search rules)  -- judge-value-enum-known-x-4
     (λ c.
@@ -611,7 +611,7 @@ judge-value-half t =
     let y = at-filling t c8.before in
     let r = c3.judge-members in
     let x = c.before.x4.given in
-    omega (arith, items_high y c8.if3.false r.result r.ensures.1 x.0.0 x.0.1.0 x.1))  -- judge-value-add-stop-2
+    omega (arith, items_high y c8.if-k-eq-INTEGER.false r.result r.ensures.1 x.0.0 x.0.1.0 x.1))  -- judge-value-add-stop-2
     (λ c. omega (arith, item_tags (at_ended t c.before.before.before.before)))  -- judge-value-cast-close
     (λ c κs. item_closes (at_ended t c.before.before.before.before))  -- judge-value-close-requires
     (λ c.
@@ -620,7 +620,7 @@ judge-value-half t =
     (λ c κs. tt)  -- judge-value-done-requires
     (λ c.
     let c3 = c.before.before.before in
-    (at-way t (c3), c.done.ensures ∙ value_over (at_ended t (c3)) c.before.if6.false))  -- judge-value-returns-6
+    (at-way t (c3), c.done.ensures ∙ value_over (at_ended t (c3)) c.before.if-in_segments.false))  -- judge-value-returns-6
 
-pub +judge-members-judge-value-spec : {M : Type 1} → statement M
-+judge-members-judge-value-spec = close μ-judge-members μ-judge-value judge-members-half judge-value-half
+pub +judge_members_judge_value_spec : {M : Type 1} → statement M
++judge_members_judge_value_spec = close μ-judge-members μ-judge-value judge-members-half judge-value-half

@@ -8,13 +8,13 @@ use Rattle.reader.proofs.JudgedValue.{message_known, message_empty, message_refu
 use Rattle.reader.proofs.judge.judge.Statement.{statement}
 use Rattle.reader.proofs.judge.judge.Tie as tie
 
-pub judge-spec : {M : Type 1} → statement M
-judge-spec =
+pub judge_spec : {M : Type 1} → statement M
+judge_spec =
     tie.close
     (tie.spec
     (λ c κs. tt)  -- refused-requires
     (λ c.
-    (c.before.before.before.before.requires.3, c.refused.ensures ∙ message_empty (table_in _) 24 _ _ c.before.if1.true))  -- returns
+    (c.before.before.before.before.requires.3, c.refused.ensures ∙ message_empty (table_in _) 24 _ _ c.before.if-m-eq0.true))  -- returns
     (λ c.
     let q = c.before.before.before.requires in
     omega (arith, q.1, q.0.filled.count, q.0.filled.few))  -- cast-whole
@@ -26,7 +26,7 @@ judge-spec =
       ready = q.0;
       known = k.0;
       holds = k.1;
-      some = λ _. omega (arith, c.before.before.if1.false);
+      some = λ _. omega (arith, c.before.before.if-m-eq0.false);
       short = q.2;
       levels = omega arith;
       ways = q.3;
@@ -34,28 +34,28 @@ judge-spec =
     (λ c. search rules)  -- enum-known-cause
     (λ c κs. tt)  -- refused-requires-2
     (λ c. search rules)  -- enum-known-end
-    (λ c. omega (arith, c.if2.true))  -- sub-refused
+    (λ c. omega (arith, c.if-end-m.true))  -- sub-refused
     (λ c κs. tt)  -- refused-requires-3
     (λ c.
     let c3 = c.before.before.before in
     let c5 = c3.before.before in
     let c7 = c5.before.before in
     let w = c7.whole in
-    let r = c5.judge-members in
-    let x = c3.end.given in (
+    let r = c5.judge_members in
+    let x = c3.end-1.given in (
       r.ensures.0,
-      c.refused3.ensures ∙ message_trailing _ _ 24 _ c7.before.if1.false w.result w.ensures r.result r.ensures.1
-          x.0.0 x.0.1.0 x.1 c.before.if2.true,
+      c.refused-then-end-m.ensures ∙ message_trailing _ _ 24 _ c7.before.if-m-eq0.false w.result w.ensures r.result r.ensures.1
+          x.0.0 x.0.1.0 x.1 c.before.if-end-m.true,
     ))  -- returns-2
     (λ c κs. tt)  -- done-requires
     (λ c.
     let c4 = c.before.before.before.before in
     let c6 = c4.before.before in
     let w = c6.whole in
-    let r = c4.judge-members in
-    let x = c.before.before.cause.given in (
+    let r = c4.judge_members in
+    let x = c.before.before.cause-1.given in (
       r.ensures.0,
-      c.refused2.ensures ∙ message_refused _ _ 24 _ c6.before.if1.false w.result w.ensures r.result r.ensures.1
+      c.refused-in-Refused.ensures ∙ message_refused _ _ 24 _ c6.before.if-m-eq0.false w.result w.ensures r.result r.ensures.1
           x.0.0 x.0.1.0 x.1,
     ))  -- returns-3
     (λ c.
@@ -63,9 +63,9 @@ judge-spec =
     let c5 = c3.before.before in
     let c7 = c5.before.before in
     let w = c7.whole in
-    let r = c5.judge-members in
-    let x = c3.end.given in (
+    let r = c5.judge_members in
+    let x = c3.end-1.given in (
       r.ensures.0,
-      c.done.ensures ∙ message_done _ _ 24 _ c7.before.if1.false w.result w.ensures r.result r.ensures.1
-          x.0.0 x.0.1.0 x.1 c.before.if2.false,
+      c.done.ensures ∙ message_done _ _ 24 _ c7.before.if-m-eq0.false w.result w.ensures r.result r.ensures.1
+          x.0.0 x.0.1.0 x.1 c.before.if-end-m.false,
     )))  -- returns-4

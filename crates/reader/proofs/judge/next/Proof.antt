@@ -12,23 +12,23 @@ use Rattle.reader.proofs.judge.next.Statement.{statement}
 use Rattle.reader.proofs.judge.next.Tie as tie
 
 -- from which part on others are left
-abbrev at-since : (c : tie.Joined2) →
+abbrev at-since : (c : tie.Joined-e-eq-SEQUENCE) →
     let a = c.before.before.before.before.before.before.before.args in
-    c.if2.i ≡ since (manner (held a.table.now a.w)) a.j
+    c.if-e-eq-SEQUENCE.i ≡ since (manner (held a.table.now a.w)) a.j
 at-since c =
     let c4 = c.before.before.before.before in
-    since_is (record { sound = c4.before.before.before.requires.1; entry = c4.unpack.ensures; span = refl }) _ _
-    (⊎_elim (λ x. inl (x.0.taken, x.1)) (λ x. inr (x.0.left, x.1)) c.if2.branch)
+    since_is (record { sound = c4.before.before.before.requires.1; entry = c4.unpack-e.ensures; span = refl }) _ _
+    (⊎_elim (λ x. inl (x.0.taken, x.1)) (λ x. inr (x.0.left, x.1)) c.if-e-eq-SEQUENCE.branch)
 
-pub next-spec : {M : Type 1} → statement M
-next-spec =
+pub next_spec : {M : Type 1} → statement M
+next_spec =
     tie.close
     (tie.spec
     (λ c κs. tt)  -- unpack-requires
     (λ c κs. tt)  -- holds-one-requires
     (λ c.
     let q = c.before.before.before.before.before.requires in
-    stands_one q.1 q.2 _ c.before.before.unpack.ensures _ c.before.holds-one.ensures _ _ c.if1.true)  -- returns
+    stands_one q.1 q.2 _ c.before.before.unpack-e.ensures _ c.before.holds_one.ensures _ _ c.if-holds_one.true)  -- returns
     (λ c κs. tt)  -- read-requires
     (λ c. search rules)  -- enum_told
     (λ c. search rules)  -- enum-known-cause
@@ -42,15 +42,15 @@ next-spec =
     let c9 = c8.before in
     let c10 = c9.before in
     let q = c10.before.before.before.requires in
-    rw (← (at-since c6)) (stands_list q.1 q.2 _ c10.unpack.ensures _ c9.holds-one.ensures _ _ c8.if1.false _
-    c5.read.ensures _ c3.end.given.1 _ c.before.has-members.ensures (not-true _ c.if3.true)))  -- returns-2
+    rw (← (at-since c6)) (stands_list q.1 q.2 _ c10.unpack-e.ensures _ c9.holds_one.ensures _ _ c8.if-holds_one.false _
+    c5.read.ensures _ c3.end-1.given.1 _ c.before.has_members.ensures (not-true _ c.if-not-has_members.true)))  -- returns-2
     (λ c κs.
     let c6 = c.before.before.before.before.before.before in
     let c10 = c6.before.before.before.before in
     let q = c10.before.before.before.requires in (
       q.0,
       q.1,
-      has_members_lem q.1 _ c10.unpack.ensures _ c.before.has-members.ensures c6.if2.i (not-false _ c.if3.false),
+      has_members_lem q.1 _ c10.unpack-e.ensures _ c.before.has_members.ensures c6.if-e-eq-SEQUENCE.i (not-false _ c.if-not-has_members.false),
     ))  -- lacks-requires
     (λ c.
     let c3 = c.before.before.before in
@@ -61,16 +61,16 @@ next-spec =
     let c11 = c10.before in
     let c12 = c11.before in
     let q = c12.before.before.before.requires in
-    rw (← (at-since c8)) (stands_lacking q.1 q.2 _ c12.unpack.ensures _ c11.holds-one.ensures _ _ c10.if1.false _
-    c7.read.ensures _ c5.end.given.1 _ c3.has-members.ensures _ c.before.lacks.ensures c.if4.true))  -- returns-3
+    rw (← (at-since c8)) (stands_lacking q.1 q.2 _ c12.unpack-e.ensures _ c11.holds_one.ensures _ _ c10.if-holds_one.false _
+    c7.read.ensures _ c5.end-1.given.1 _ c3.has_members.ensures _ c.before.lacks.ensures c.if-lacks.true))  -- returns-3
     (λ c.
     let c3 = c.before.before.before in
     let c5 = c3.before.before in
     let c6 = c5.before in
     let c7 = c6.before in
     let q = c7.before.before.before.requires in
-    rw (← (at-since c3)) (stands_more q.1 q.2 _ c7.unpack.ensures _ c6.holds-one.ensures _ _ c5.if1.false _
-    c.before.before.read.ensures c.enum_told.given.1))  -- returns-4
+    rw (← (at-since c3)) (stands_more q.1 q.2 _ c7.unpack-e.ensures _ c6.holds_one.ensures _ _ c5.if-holds_one.false _
+    c.before.before.read.ensures c.enum_told-1.given.1))  -- returns-4
     (λ c.
     let c3 = c.before.before.before in
     let c4 = c3.before in
@@ -78,8 +78,8 @@ next-spec =
     let c7 = c6.before in
     let c8 = c7.before in
     let q = c8.before.before.before.requires in
-    rw (← (at-since c4)) (stands_broken q.1 q.2 _ c8.unpack.ensures _ c7.holds-one.ensures _ _ c6.if1.false _
-    c3.read.ensures _ c.before.cause.given.1))  -- returns-5
+    rw (← (at-since c4)) (stands_broken q.1 q.2 _ c8.unpack-e.ensures _ c7.holds_one.ensures _ _ c6.if-holds_one.false _
+    c3.read.ensures _ c.before.cause-1.given.1))  -- returns-5
     (λ c.
     let c3 = c.before.before.before in
     let c5 = c3.before.before in
@@ -89,5 +89,5 @@ next-spec =
     let c11 = c10.before in
     let c12 = c11.before in
     let q = c12.before.before.before.requires in
-    rw (← (at-since c8)) (stands_over q.1 q.2 _ c12.unpack.ensures _ c11.holds-one.ensures _ _ c10.if1.false _
-    c7.read.ensures _ c5.end.given.1 _ c3.has-members.ensures _ c.before.lacks.ensures c.if4.false)))  -- returns-6
+    rw (← (at-since c8)) (stands_over q.1 q.2 _ c12.unpack-e.ensures _ c11.holds_one.ensures _ _ c10.if-holds_one.false _
+    c7.read.ensures _ c5.end-1.given.1 _ c3.has_members.ensures _ c.before.lacks.ensures c.if-lacks.false)))  -- returns-6

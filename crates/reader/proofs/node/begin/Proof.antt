@@ -10,19 +10,19 @@ use borrow.Author.Rules.{rules}
 use Rattle.reader.proofs.node.begin.Statement.{statement}
 use Rattle.reader.proofs.node.begin.Tie as tie
 
-pub begin-spec : {M : Type 1} → statement M
-begin-spec =
+pub begin_spec : {M : Type 1} → statement M
+begin_spec =
     tie.close
     (tie.spec
     (λ c.
     let a = c.before.before.args in
-    let z = opening_none a.kind a.n c.if1.true in
+    let z = opening_none a.kind a.n c.if-kind-eq-MESSAGE.true in
     (rw z.1 (omega arith), rw z.0 refl))  -- returns
     (λ c κs. search rules)  -- node-size-requires
     (λ c κs.
     let c4 = c.before.before.before.before in
     let a = c4.args in
-    omega (arith, c4.requires.1, opening_long a.kind a.n c.before.before.if1.false))  -- begin-node-requires
+    omega (arith, c4.requires.1, opening_long a.kind a.n c.before.before.if-kind-eq-MESSAGE.false))  -- begin-node-requires
     (λ c κs. search rules)  -- has-members-requires
     (λ c. search rules)  -- add-p
     (λ c. search rules)  -- cast-buf
@@ -34,28 +34,28 @@ begin-spec =
     omega (
       arith,
       c9.requires.1,
-      ap length (opening_members a.kind a.n c7.if1.false (sym c.before.has-members.ensures
-          ∙ c.if2.true)),
-      simp length-sets at (ap length c4.begin-node.ensures),
+      ap length (opening_members a.kind a.n c7.if-kind-eq-MESSAGE.false (sym c.before.has_members.ensures
+          ∙ c.if-has_members.true)),
+      simp length-sets at (ap length c4.begin_node.ensures),
     ))  -- slice-write-buf
     (λ c. search rules)  -- add-result
-    (λ c. simp length-set (simp length-sets at (ap length c.before.before.before.before.begin-node.ensures)))  -- same-length
+    (λ c. simp length-set (simp length-sets at (ap length c.before.before.before.before.begin_node.ensures)))  -- same-length
     (λ c.
     let c4 = c.before.before.before.before in
     let c6 = c4.before.before in
     let c7 = c6.before in
     let a = c7.before.before.args in (
-      ap (λ (k : ℕ). a.to + k) c6.node-size.ensures,
-      four_stores a.buf.now _ _ _ c4.begin-node.ensures ∙ ap (sets a.buf.now _) (sym (opening_members _ _
-          c7.if1.false (sym c.before.has-members.ensures ∙ c.if2.true))),
+      ap (λ (k : ℕ). a.to + k) c6.node_size-size.ensures,
+      four_stores a.buf-1.now _ _ _ c4.begin_node.ensures ∙ ap (sets a.buf-1.now _) (sym (opening_members _ _
+          c7.if-kind-eq-MESSAGE.false (sym c.before.has_members.ensures ∙ c.if-has_members.true))),
     ))  -- returns-2
     (λ c. search rules)  -- add-result-2
-    (λ c. simp length-sets at (ap length c.before.before.before.before.begin-node.ensures))  -- same-length-2
+    (λ c. simp length-sets at (ap length c.before.before.before.before.begin_node.ensures))  -- same-length-2
     (λ c.
     let c4 = c.before.before.before.before in
     let c6 = c4.before.before in
     let c7 = c6.before in (
-      ap (λ (k : ℕ). c7.before.before.args.to + k) c6.node-size.ensures,
-      c4.begin-node.ensures ∙ ap (sets _ _) (sym (opening_others _ _ c7.if1.false (sym c.before.has-members.ensures
-          ∙ c.if2.false))),
+      ap (λ (k : ℕ). c7.before.before.args.to + k) c6.node_size-size.ensures,
+      c4.begin_node.ensures ∙ ap (sets _ _) (sym (opening_others _ _ c7.if-kind-eq-MESSAGE.false (sym c.before.has_members.ensures
+          ∙ c.if-has_members.false))),
     )))  -- returns-3

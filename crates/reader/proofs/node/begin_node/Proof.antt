@@ -9,8 +9,8 @@ use borrow.Author.Rules.{rules}
 use Rattle.reader.proofs.node.begin_node.Statement.{statement}
 use Rattle.reader.proofs.node.begin_node.Tie as tie
 
-pub begin-node-spec : {M : Type 1} → statement M
-begin-node-spec =
+pub begin_node_spec : {M : Type 1} → statement M
+begin_node_spec =
     tie.close
     (tie.spec
     (λ c. search rules)  -- slice-write-buf

@@ -11,14 +11,14 @@ use borrow.Author.Rules.{rules}
 use Rattle.reader.proofs.node.put_absent.Statement.{statement}
 use Rattle.reader.proofs.node.put_absent.Tie as tie
 
-abbrev invariant-loop : tie.invariant-loop
+abbrev invariant-loop : tie.invariant-loop-i
 invariant-loop buf₀ to j k i₀ buf i = (j ≤ i) × (length buf ≡ length buf₀) × (absent_in j k buf₀ to ≡ sets buf (to + 4 + i) (replicate (k - i) 0))
 
-abbrev decreases-loop : tie.decreases-loop
+abbrev decreases-loop : tie.decreases-loop-i
 decreases-loop buf₀ to j k i₀ buf i = k - i
 
-pub put-absent-spec : {M : Type 1} → statement M
-put-absent-spec =
+pub put_absent_spec : {M : Type 1} → statement M
+put_absent_spec =
     tie.close
     (tie.spec
     invariant-loop
@@ -29,6 +29,6 @@ put-absent-spec =
     (λ c. omega arith)  -- slice-write-buf
     (λ c. search rules)  -- add-i
     (λ c. omega arith)  -- loop-less
-    (λ c. (omega arith, rw length-set c.before.loop.invariant.1, absent_turn _ _ _ _ c.loop-test.true c.before.loop.invariant.2))  -- loop-again
-    (λ c. c.before.loop.invariant.1)  -- same-length
-    (λ c. absent_end _ _ _ _ c.loop-test.false c.before.loop.invariant.2))  -- returns
+    (λ c. (omega arith, rw length-set c.before.loop-i.invariant.1, absent_turn _ _ _ _ c.loop-i-test.true c.before.loop-i.invariant.2))  -- loop-again
+    (λ c. c.before.loop-i.invariant.1)  -- same-length
+    (λ c. absent_end _ _ _ _ c.loop-i-test.false c.before.loop-i.invariant.2))  -- returns

@@ -91,13 +91,13 @@ abbrev place-value-below : ℕ → In 5 place_value_kinds.ps
 place-value-below t =
     and 5 place_value_kinds.ps (falls 5 place_value_kinds.ps ◌<◌ μ-place-value t) place_value.Pre
 
-abbrev place-members-Inv-loop : place_members_lts.invariant-loop
+abbrev place-members-Inv-loop : place_members_lts.invariant-loop-i
 place-members-Inv-loop table index w m indefinite buf₀ to way₀ e s none began last next₀ at₀ j₀ count₀ buf way next at j count =
     (length way ≡ 128)
     × (length buf ≡ length buf₀)
     × ((first : List ℕ) (X : Started table index w m indefinite first to e s began last buf₀) → State X buf at next j count)
 
-abbrev place-members-μ-loop : place_members_lts.decreases-loop
+abbrev place-members-μ-loop : place_members_lts.decreases-loop-i
 place-members-μ-loop table index w m indefinite buf₀ to way₀ e s none began last next₀ at₀ j₀ count₀ buf way next at j count =
     if (eqb e.kind 17) (s.count - j) λ _. length m - at
 
@@ -140,45 +140,45 @@ place-members-claims t = (
 )
 
 -- what is required, once the parts are known
-at-given : (t : ℕ) (c : place_members_lts.After-parts (place-members-claims t) (place-members-at t)
+at-given : (t : ℕ) (c : place_members_lts.After-parts-s (place-members-claims t) (place-members-at t)
     place_members.Post place-members-Inv-loop place-members-μ-loop) →
     let a = c.before.before.before.before.before.args in
-    Given a.table.now a.index.now a.w a.m.now a.indefinite a.buf.now a.to c.before.unpack.result c.parts.result
+    Given a.table.now a.index.now a.w a.m.now a.indefinite a.buf-1.now a.to c.before.unpack-e.result c.parts-s.result
 at-given t c =
     let p = c.before.before.before.before.before.requires.1 in
     record {
       ready = p.ready;
       known = p.known;
       holds = p.holds;
-      octets = λ k. omega (arith, c.before.before.before.shared-slice-known2.given k);
+      octets = λ k. omega (arith, c.before.before.before.shared_slice_known-2-1.given k);
       short = p.short;
       fits = p.fits;
-      entry = c.before.unpack.ensures;
-      span = c.parts.ensures;
+      entry = c.before.unpack-e.ensures;
+      span = c.parts-s.ensures;
     }
 
 -- where the members of a SET begin
-at-located : (t : ℕ) (c : place_members_lts.Joined1 (place-members-claims t) (place-members-at t)
+at-located : (t : ℕ) (c : place_members_lts.Joined-e-eq-SEQUENCE (place-members-claims t) (place-members-at t)
     place_members.Post place-members-Inv-loop place-members-μ-loop) →
     let a = c.before.before.before.before.before.before.before.args in
-    (length c.if1.way ≡ 128) × (length c.if1.began ≡ 16)
+    (length c.if-kind-eq-BOOLEAN.way ≡ 128) × (length c.if-kind-eq-BOOLEAN.began ≡ 16)
     × ((ms : List Member) → held a.table.now a.w ≡ inside (Set ms) → Spotted (table_in a.table.now) ms a.indefinite a.m.now
-    c.if1.began
-    c.if1.new)
+    c.if-kind-eq-BOOLEAN.began
+    c.if-kind-eq-BOOLEAN.new)
 at-located t c =
     let p = c.before.before.before.before.before.before.before.requires.1 in
     ⊎_elim
     (λ x. (rw x.4 x.3.ensures.1, rw x.5 x.3.ensures.0, rw (x.5, x.6) x.3.ensures.2))
     (λ x. (rw x.1 p.ways, rw x.2 refl, λ ms q. absurd (no_members (at-given t c.before.before) x.0.left ms q)))
-    c.if1.branch
+    c.if-kind-eq-BOOLEAN.branch
 
 -- what is known before the loop
 at-started : (t : ℕ) (c : place_members_lts.After-begin (place-members-claims t) (place-members-at t)
     place_members.Post place-members-Inv-loop place-members-μ-loop) →
     let a = c.before.before.before.before.before.before.before.before.before.args in
-    Started a.table.now a.index.now a.w a.m.now a.indefinite a.buf.now a.to
-    c.before.before.before.before.before.unpack.result c.before.before.before.before.parts.result c.before.before.if1.began
-    c.before.before.if1.new
+    Started a.table.now a.index.now a.w a.m.now a.indefinite a.buf-1.now a.to
+    c.before.before.before.before.before.unpack-e.result c.before.before.before.before.parts-s.result c.before.before.if-kind-eq-BOOLEAN.began
+    c.before.before.if-kind-eq-BOOLEAN.new
     c.begin.new.1.1.0
 at-started t c = record {
   given = at-given t c.before.before.before.before;
@@ -191,69 +191,69 @@ abbrev Starts : (t : ℕ) → place_members_lts.After-begin (place-members-claim
     place_members.Post place-members-Inv-loop place-members-μ-loop → List ℕ → Type 0
 Starts t c first = let a = c.before.before.before.before.before.before.before.before.before.args in
     Started a.table.now a.index.now a.w a.m.now a.indefinite first a.to
-    c.before.before.before.before.before.unpack.result c.before.before.before.before.parts.result c.before.before.if1.began
-    c.before.before.if1.new
+    c.before.before.before.before.before.unpack-e.result c.before.before.before.before.parts-s.result c.before.before.if-kind-eq-BOOLEAN.began
+    c.before.before.if-kind-eq-BOOLEAN.new
     c.begin.new.1.1.0
 
 -- a member that came
-at-came : (t : ℕ) (c : place_members_lts.Else3 (place-members-claims t) (place-members-at t)
+at-came : (t : ℕ) (c : place_members_lts.Else-kind-eq-BIT_STRING (place-members-claims t) (place-members-at t)
     place_members.Post place-members-Inv-loop place-members-μ-loop) →
     let k = c.before.before.before.before.before.before.following.result in
-    let x = c.before.before.before.before.before.before.before.before.before.before.before.before.before.before.before.if1 in
+    let x = c.before.before.before.before.before.before.before.before.before.before.before.before.before.before.before.if-kind-eq-BOOLEAN in
     (k < 16) × (1 ≤ get_or x.began k 0) × (get_or x.began k 0 ≤ 8193)
 at-came t c =
     let c4 = c.before.before.before.before in
     let c6 = c4.before.before in
     let c10 = c6.before.before.before.before in
     let X = at-started t c10.before.before.before in
-    let z = set_came X (c10.loop.invariant.2 _ X) c6.before.before.if2.true _ c6.following.ensures c4.put-absent.ensures c.if3.false in
+    let z = set_came X (c10.loop-i.invariant.2 _ X) c6.before.before.if-kind-eq-INTEGER.true _ c6.following.ensures c4.put_absent.ensures c.if-kind-eq-BIT_STRING.false in
     (omega (arith, z.0, its_few X.given), z.1, omega (arith, z.1, z.2, X.given.short))
 
 -- the item that comes
 at_item : (t : ℕ) (c : place_members_lts.Joined2 (place-members-claims t) (place-members-at t)
     place_members.Post place-members-Inv-loop place-members-μ-loop) {first : List ℕ} (X : Starts t
     c.before.before.before.before.before first) →
-    Coming X c.before.before.loop.count c.if2.buf c.if2.at c.before.before.loop.next c.if2.j
+    Coming X c.before.before.loop-i.count c.if-kind-eq-INTEGER.buf-1 c.if-kind-eq-INTEGER.at c.before.before.loop-i.next-1 c.if-kind-eq-INTEGER.j
 at_item t c X =
-    let L = c.before.before.loop.invariant.2 _ X in
+    let L = c.before.before.loop-i.invariant.2 _ X in
     ⊎_elim
     (λ x. rw (x.9, x.10, x.11) (set_comes X L x.0.taken _ x.2.ensures x.4.ensures x.8.left))
     (⊎_elim
     (λ x. rw (x.5, x.6, x.7) (other_comes X L x.0.left _ x.1.ensures (not-true _ x.2.taken) _ x.3.ensures x.4.left))
     λ x. rw (x.3, x.4, x.5) (one_comes X L x.0.left _ x.1.ensures (not-false _ x.2.left)))
-    c.if2.branch
+    c.if-kind-eq-INTEGER.branch
 
 -- how far it stands
 at_turn : (t : ℕ) (c : place_members_lts.Joined2 (place-members-claims t) (place-members-at t)
     place_members.Post place-members-Inv-loop place-members-μ-loop) →
-    let l = c.before.before.loop in
-    let e = c.before.before.before.before.before.before.before.before.before.before.unpack.result in
-    (length c.if2.buf ≡ length l.buf) × (e.kind ≡ 17 → l.j ≤ c.if2.j) × ((e.kind ≡ 17 → ⊥) → c.if2.at ≡ l.at)
+    let l = c.before.before.loop-i in
+    let e = c.before.before.before.before.before.before.before.before.before.before.unpack-e.result in
+    (length c.if-kind-eq-INTEGER.buf-1 ≡ length l.buf-1) × (e.kind ≡ 17 → l.j ≤ c.if-kind-eq-INTEGER.j) × ((e.kind ≡ 17 → ⊥) → c.if-kind-eq-INTEGER.at ≡ l.at)
 at_turn t c =
     ⊎_elim
     (λ x. (ap length x.9 ∙ x.4.kept.0, λ z. rw x.11 x.2.ensures.least, λ n. absurd (n x.0.taken)))
     (⊎_elim
     (λ x. (ap length x.5, λ z. absurd (x.0.left z), λ n. x.6))
     λ x. (ap length x.3, λ z. absurd (x.0.left z), λ n. x.4))
-    c.if2.branch
+    c.if-kind-eq-INTEGER.branch
 
 at_low : (t : ℕ) (c : place_members_lts.Joined2 (place-members-claims t) (place-members-at t)
     place_members.Post place-members-Inv-loop place-members-μ-loop) →
     let a = c.before.before.before.before.before.before.before.before.before.before.before.before.before.before.args in
-    (c.if2.at < length a.m.now) × (c.if2.at < 8192)
+    (c.if-kind-eq-INTEGER.at < length a.m.now) × (c.if-kind-eq-INTEGER.at < 8192)
 at_low t c =
     let X = at-started t c.before.before.before.before.before in
     let l = coming_low X _ (at_item t c X) in
     (l, omega (arith, l, X.given.short))
 
 -- the type of the part at hand
-at_type : (t : ℕ) (c : place_members_lts.After-part (place-members-claims t) (place-members-at t)
-    place_members.Post place-members-Inv-loop place-members-μ-loop) → c.part.result < 128
+at_type : (t : ℕ) (c : place_members_lts.After-part-1 (place-members-claims t) (place-members-at t)
+    place_members.Post place-members-Inv-loop place-members-μ-loop) → c.part-1.result < 128
 at_type t c =
     let X = at-started t c.before.before.before.before.before.before.before.before.before in
     omega (
       arith,
-      part_low X _ (at_item t c.before.before.before.before X) c.before.if6.true _ c.part.ensures.0,
+      part_low X _ (at_item t c.before.before.before.before X) c.before.if-kind-eq-ENUMERATED.true _ c.part-1.ensures.0,
       X.given.ready.passes.few,
     )
 
@@ -263,19 +263,19 @@ at-sought : (t : ℕ) (c : place_members_lts.After-search (place-members-claims 
     let x = c.before.before.before.before.before.before.before.before in
     let a = x.before.before.before.before.before.before.before.before.before.before.before.before.before.before.args in
     let b = a.table.now in
-    Sought b (held b a.w) (since (manner (held b a.w)) x.if2.j) blank (drop x.if2.at a.m.now)
+    Sought b (held b a.w) (since (manner (held b a.w)) x.if-kind-eq-INTEGER.j) blank (drop x.if-kind-eq-INTEGER.at a.m.now)
     c.search.new.1.1.1.1.1.1.0 c.search.result
 at-sought t c =
     let x = c.before.before.before.before.before.before.before.before in
     let a = x.before.before.before.before.before.before.before.before.before.before.before.before.before.before.args in
-    rw (part_to_end a.m.now x.if2.at) at c.search.ensures.1
+    rw (part_to_end a.m.now x.if-kind-eq-INTEGER.at) at c.search.ensures.1
 
 -- the part that the search found
 at-picked : (t : ℕ) (c : place_members_lts.At-match-branch (place-members-claims t) (place-members-at t)
     place_members.Post place-members-Inv-loop place-members-μ-loop) {first : List ℕ} (X : Starts t
     c.before.before.before.before.before.before.before.before.before.before.before.before.before.before first) →
-    Picked X _ (at_item t c.before.before.before.before.before.before.before.before.before X) c.match.buf c.match.next
-    c.match.place c.match.«record» c.match.from
+    Picked X _ (at_item t c.before.before.before.before.before.before.before.before.before X) c.in-Refused.buf-1 c.in-Refused.next-1
+    c.in-Refused.place c.in-Refused.«record» c.in-Refused.from
 at-picked t c X =
     let S = at-sought t c.before in
     let C = at_item t c.before.before.before.before.before.before.before.before.before X in
@@ -283,29 +283,29 @@ at-picked t c X =
     (λ x. absurd (found_some X _ C (rw x.1.given.1 at S).0))
     (λ x. picked X _ C x.1.given.0.0 _ c.before.search.ensures.0 (rw x.1.given.1 at S) (x.9 ∙ x.6.ensures.1)
     (x.10 ∙ x.6.ensures.0) x.11 x.12 x.13)
-    c.match.branch
+    c.in-Refused.branch
 
 -- the part at hand, if the item begins it with one octet
 at-fits : (t : ℕ) (c : place_members_lts.Joined6 (place-members-claims t) (place-members-at t)
-    place_members.Post place-members-Inv-loop place-members-μ-loop) → c.if6.ranges ≡ true →
-    let x = c.before.before.before.if2 in
+    place_members.Post place-members-Inv-loop place-members-μ-loop) → c.if-kind-eq-ENUMERATED.ranges ≡ true →
+    let x = c.before.before.before.if-kind-eq-INTEGER in
     let y = c.before.before.before.before.before.before.before.before.before.before.before.before in
     let a = y.before.before.before.before.before.args in
-    let s = y.parts.result in
-    (x.j < s.count) × (c.if6.«record» ≡ get_or a.table.now (s.first + s.step * x.j) 0)
-    × (get_or a.m.now x.at 0 ≡ (unpacked (get_or a.index.now c.if6.«record» 0)).code)
+    let s = y.parts-s.result in
+    (x.j < s.count) × (c.if-kind-eq-ENUMERATED.«record» ≡ get_or a.table.now (s.first + s.step * x.j) 0)
+    × (get_or a.m.now x.at 0 ≡ (unpacked (get_or a.index.now c.if-kind-eq-ENUMERATED.«record» 0)).code-1)
 at-fits t c z =
     ⊎_elim
     (λ x. (x.0.taken, x.5 ∙ x.1.ensures.0, rw x.5 (sym (eqb-true _ _ (sym x.6 ∙ z)) ∙ x.3.ensures)))
     (λ x. absurd (false≢true (sym x.2 ∙ z)))
-    c.if6.branch
+    c.if-kind-eq-ENUMERATED.branch
 
 -- the record that the item begins
 at-chosen : (t : ℕ) (c : place_members_lts.Joined7 (place-members-claims t) (place-members-at t)
     place_members.Post place-members-Inv-loop place-members-μ-loop) {first : List ℕ} (X : Starts t
     c.before.before.before.before.before.before.before.before.before first) →
-    Chosen X c.before.before.before.before.before.before.loop.count c.before.before.before.before.if2.j c.if7.buf
-    c.before.before.before.before.if2.at c.if7.next c.if7.place c.if7.«record» c.if7.from
+    Chosen X c.before.before.before.before.before.before.loop-i.count c.before.before.before.before.if-kind-eq-INTEGER.j c.if-kind-eq-UTC_TIME.buf-1
+    c.before.before.before.before.if-kind-eq-INTEGER.at c.if-kind-eq-UTC_TIME.next-1 c.if-kind-eq-UTC_TIME.place c.if-kind-eq-UTC_TIME.«record» c.if-kind-eq-UTC_TIME.from
 at-chosen t c X =
     ⊎_elim
     (λ x.
@@ -336,12 +336,12 @@ at-chosen t c X =
     λ x.
     let f = at-fits t c.before (not-false _ x.0.left) in
     rw (x.1, x.3, x.4, x.5, x.6) (chosen_here X _ (at_item t c.before.before.before.before X) f.0 _ f.1 _ f.2 refl))
-    c.if7.branch
+    c.if-kind-eq-UTC_TIME.branch
 
 -- lengths stay
 at-grown : (t : ℕ) (c : place_members_lts.Joined7 (place-members-claims t) (place-members-at t)
-    place_members.Post place-members-Inv-loop place-members-μ-loop) → (length c.if7.buf ≡ length
-    c.before.before.before.before.before.before.loop.buf) × (length c.if7.way ≡ 128)
+    place_members.Post place-members-Inv-loop place-members-μ-loop) → (length c.if-kind-eq-UTC_TIME.buf-1 ≡ length
+    c.before.before.before.before.before.before.loop-i.buf-1) × (length c.if-kind-eq-UTC_TIME.way ≡ 128)
 at-grown t c =
     let X = at-started t c.before.before.before.before.before.before.before.before.before in
     let l = (at_turn t c.before.before.before.before).0 in
@@ -373,8 +373,8 @@ at-grown t c =
       }) X).0 ∙ l,
       rw x.9 x.4.ensures.0,
     ))
-    λ x. (ap length x.1 ∙ l, rw x.2 c.before.before.before.before.before.before.loop.invariant.0))
-    c.if7.branch
+    λ x. (ap length x.1 ∙ l, rw x.2 c.before.before.before.before.before.before.loop-i.invariant.0))
+    c.if-kind-eq-UTC_TIME.branch
 
 abbrev place-value-claims : ℕ → place_value_lts.Claims
 place-value-claims t = (
@@ -397,55 +397,55 @@ place-value-claims t = (
 )
 
 -- under the tags
-at_under : (t : ℕ) (c : place_value_lts.Joined1 (place-value-claims t) (place-value-at t) place_value.Post) →
+at_under : (t : ℕ) (c : place_value_lts.Joined-e-eq-SEQUENCE (place-value-claims t) (place-value-at t) place_value.Post) →
     let s = c.before.before.before.before.before.before in
     let a = s.args in
-    Accepted a.table.now a.w a.m.now a.at s.requires.1.fits.value s.requires.1.fits.rest c.if1.notes c.if1.at
-    c.if1.from c.if1.end
+    Accepted a.table.now a.w a.m.now a.at s.requires.1.fits.value s.requires.1.fits.rest-1 c.if-kind-eq-BOOLEAN.notes c.if-kind-eq-BOOLEAN.at
+    c.if-kind-eq-BOOLEAN.from c.if-kind-eq-BOOLEAN.end-at
 at_under t c =
     let s = c.before.before.before.before.before.before in
     let P = s.requires.1 in
-    let e = c.before.before.unpack.ensures in
+    let e = c.before.before.unpack-e.ensures in
     ⊎_elim
     (λ x. absurd (must_open P _ _ x.2.ensures.1 _ _ x.4.given.1))
     (⊎_elim
     (λ x. accepted_as (under_open P _ _ x.2.ensures.1 x.2.ensures.0 _ x.4.given.1) x.6 x.7 x.9 x.8)
     λ x. accepted_as (under_none P (rw e at x.0.left) _ refl) x.1 x.2 x.4 x.3)
-    c.if1.branch
+    c.if-kind-eq-BOOLEAN.branch
 
 -- its contents
 at-contents : (t : ℕ) (c : place_value_lts.Joined2 (place-value-claims t) (place-value-at t) place_value.Post) →
     let j = c.before.before.before in
     let s = j.before.before.before.before.before.before in
     let a = s.args in
-    Contents a.table.now a.w a.m.now a.at j.if1.at j.if1.end s.requires.1.fits.value (at_under t j).left c.if2.start
-    c.if2.stop c.if2.indefinite
+    Contents a.table.now a.w a.m.now a.at j.if-kind-eq-BOOLEAN.at j.if-kind-eq-BOOLEAN.end-at s.requires.1.fits.value (at_under t j).left c.if-kind-eq-INTEGER.start
+    c.if-kind-eq-INTEGER.stop c.if-kind-eq-INTEGER.indefinite
 at-contents t c =
     let j = c.before.before.before in
     let s = j.before.before.before.before.before.before in
     let P = s.requires.1 in
-    let e = j.before.before.unpack.ensures in
+    let e = j.before.before.unpack-e.ensures in
     let U = at_under t j in
-    let o : Octets s.args.table.now = λ i. omega (arith, j.before.before.before.before.before.shared-slice-known.given i) in
-    let q : Octets s.args.m.now = λ i. omega (arith, j.before.before.before.before.shared-slice-known2.given i) in
+    let o : Octets s.args.table.now = λ i. omega (arith, j.before.before.before.before.before.shared_slice_known-1.given i) in
+    let q : Octets s.args.m.now = λ i. omega (arith, j.before.before.before.before.shared_slice_known-2-1.given i) in
     ⊎_elim
     (λ x.
     contents_as (read_contents P U q o (rw e at x.0.taken) x.1.result x.1.ensures) x.2 x.3 x.4)
     (λ x. contents_as (choice_contents P U q o (rw e at x.0.left)) x.1 x.2 x.3)
-    c.if2.branch
+    c.if-kind-eq-INTEGER.branch
 
 -- what was placed
 at_stored : (t : ℕ) (c : place_value_lts.Joined3 (place-value-claims t) (place-value-at t) place_value.Post) →
     let j = c.before.before.before.before in
     let s = j.before.before.before.before.before.before in
     let a = s.args in
-    Stored s.requires.1.fits.value a.m.now j.if1.end (at_under t j).left a.buf.now a.to c.if3.buf c.if3.stop
-    c.if3.next c.if3.way
+    Stored s.requires.1.fits.value a.m.now j.if-kind-eq-BOOLEAN.end-at (at_under t j).left a.buf-1.now a.to c.if-kind-eq-BIT_STRING.buf-1 c.if-kind-eq-BIT_STRING.stop
+    c.if-kind-eq-BIT_STRING.next-1 c.if-kind-eq-BIT_STRING.way
 at_stored t c =
     let j = c.before.before.before.before in
     let s = j.before.before.before.before.before.before in
     let P = s.requires.1 in
-    let e = j.before.before.unpack.ensures in
+    let e = j.before.before.unpack-e.ensures in
     let U = at_under t j in
     let X = at-contents t c.before in
     ⊎_elim
@@ -453,10 +453,10 @@ at_stored t c =
     (⊎_elim
     (λ x. stored_as (leaf_stored P U X _ e x.0.taken (sym x.5.ensures ∙ x.6.left) _ _ x.8.ensures.0 x.8.ensures.1) x.11 x.12 x.13 x.14)
     λ x. stored_as (items_stored P U X (rw e at x.0.left) _ _ x.6.ensures.1 _ x.6.ensures.0) x.10 x.11 x.12 x.13)
-    c.if3.branch
+    c.if-kind-eq-BIT_STRING.branch
 
-pub +place-members-place-value-spec : {M : Type 1} → statement M
-+place-members-place-value-spec = close μ-place-members μ-place-value (λ t. place_members_lts.spec (place-members-claims t)
+pub +place_members_place_value_spec : {M : Type 1} → statement M
++place_members_place_value_spec = close μ-place-members μ-place-value (λ t. place_members_lts.spec (place-members-claims t)
     (place-members-at t)
     place_members.Post
     place-members-Inv-loop
@@ -466,8 +466,8 @@ pub +place-members-place-value-spec : {M : Type 1} → statement M
     (λ c κs.
     let c5 = c.before.before.before.before.before in
     let p = c5.before.before.before.before.requires.1 in
-    let k = ap (λ (e : Entry). e.kind) c5.unpack.ensures in
-    (p.ready, p.known, sym k ∙ c.before.before.if1.true, p.short, refl, p.ways))  -- place-members-locate-requires
+    let k = ap (λ (e : Entry). e.kind) c5.unpack-e.ensures in
+    (p.ready, p.known, sym k ∙ c.before.before.if-kind-eq-BOOLEAN.true, p.short, refl, p.ways))  -- place-members-locate-requires
     (λ c κs. begin_room (at-given t c.before.before.before))  -- place-members-begin-requires
     (λ c. (
       (at-located t c.before.before.before.before).0,
@@ -478,7 +478,7 @@ pub +place-members-place-value-spec : {M : Type 1} → statement M
     let c3 = c.before.before.before in
     let c6 = c3.before.before.before in
     let X = at-started t (c6) in (
-      set_low X (c3.loop.invariant.2 _ X) c.before.if2.true,
+      set_low X (c3.loop-i.invariant.2 _ X) c.before.if-kind-eq-INTEGER.true,
       its_few X.given,
       (at-located t c6.before.before).1,
     ))  -- place-members-following-requires
@@ -486,20 +486,20 @@ pub +place-members-place-value-spec : {M : Type 1} → statement M
     let c3 = c.before.before.before in
     let c5 = c3.before.before in
     let X = at-started t c5.before.before.before in
-    set_room X (c5.loop.invariant.2 _ X) c3.if2.true _ c.before.following.ensures.most)  -- place-members-put-absent-requires
+    set_room X (c5.loop-i.invariant.2 _ X) c3.if-kind-eq-INTEGER.true _ c.before.following.ensures.most)  -- place-members-put-absent-requires
     (λ c.
     let c4 = c.before.before.before.before in
     let c10 = c4.before.before.before.before.before.before in
-    c4.put-absent.auto.0 ∙ c10.loop.invariant.1 ∙ c10.before.before.before.begin.auto.1.1.0)  -- place-members-same-length
+    c4.put_absent.auto.0 ∙ c10.loop-i.invariant.1 ∙ c10.before.before.before.begin.auto.1.1.0)  -- place-members-same-length
     (λ c.
     let c4 = c.before.before.before.before in
     let c6 = c4.before.before in
     let c8 = c6.before.before in
     let c10 = c8.before.before in
-    let l = c10.loop in
+    let l = c10.loop-i in
     let X = at-started t c10.before.before.before in (
       l.invariant.0,
-      set_over X (l.invariant.2 _ X) c8.if2.true _ c6.following.ensures c4.put-absent.ensures c.if3.true,
+      set_over X (l.invariant.2 _ X) c8.if-kind-eq-INTEGER.true _ c6.following.ensures c4.put_absent.ensures c.if-kind-eq-BIT_STRING.true,
     ))  -- place-members-returns
     (λ c. let z = at-came t c in omega arith)  -- place-members-mul-at
     (λ c. let z = at-came t c in omega arith)  -- place-members-array-read-at
@@ -513,17 +513,17 @@ pub +place-members-place-value-spec : {M : Type 1} → statement M
     let c5 = c4.before in
     let c7 = c5.before.before in
     let X = at-started t c7.before.before.before in
-    finish_room X (c7.loop.invariant.2 _ X) c5.if2.false _ c4.holds-one.ensures (not-true _ c3.if4.true) _
-    c.before.before.is-over.ensures)  -- place-members-finish-requires
+    finish_room X (c7.loop-i.invariant.2 _ X) c5.if-kind-eq-INTEGER.false _ c4.holds-one.ensures (not-true _ c3.if-kind-eq-OCTET_STRING.true) _
+    c.before.before.is_over.ensures)  -- place-members-finish-requires
     (λ c κs.
     let c8 = c.before.before.before.before.before.before.before.before in
     let c10 = c8.before.before in
     let X = at-started t c10.before.before.before in
-    omega (arith, other_low X (c10.loop.invariant.2 _ X) c8.if2.false, X.given.short))  -- place-members-behind-requires
+    omega (arith, other_low X (c10.loop-i.invariant.2 _ X) c8.if-kind-eq-INTEGER.false, X.given.short))  -- place-members-behind-requires
     (λ c.
     let c3 = c.before.before.before in
     let c11 = c3.before.before.before.before.before.before.before.before in
-    c3.finish.auto.1.1.1.1.0 ∙ c11.loop.invariant.1 ∙ c11.before.before.before.begin.auto.1.1.0)  -- place-members-same-length-2
+    c3.finish.auto.1.1.1.1.0 ∙ c11.loop-i.invariant.1 ∙ c11.before.before.before.begin.auto.1.1.0)  -- place-members-same-length-2
     (λ c.
     let c3 = c.before.before.before in
     let c5 = c3.before.before in
@@ -532,18 +532,18 @@ pub +place-members-place-value-spec : {M : Type 1} → statement M
     let c8 = c7.before in
     let c9 = c8.before in
     let c11 = c9.before.before in
-    let l = c11.loop in
+    let l = c11.loop-i in
     let X = at-started t c11.before.before.before in (
       l.invariant.0,
-      other_over X (l.invariant.2 _ X) c9.if2.false _ c8.holds-one.ensures (not-true _ c7.if4.true) _
-          c6.is-over.ensures c5.if5.true c3.finish.ensures c.behind.ensures,
+      other_over X (l.invariant.2 _ X) c9.if-kind-eq-INTEGER.false _ c8.holds-one.ensures (not-true _ c7.if-kind-eq-OCTET_STRING.true) _
+          c6.is_over.ensures c5.if-kind-eq-NULL.true c3.finish.ensures c.behind.ensures,
     ))  -- place-members-returns-2
     (λ c. let l = at_low t c.before in omega arith)  -- place-members-add-from
     (λ c κs.
     let c3 = c.before.before.before in
     let X = at-started t c3.before.before.before.before.before in
     let i = at_item t (c3) X in
-    (part_inside X _ i c.if6.true, part_near X _ i c.if6.true))  -- place-members-part-requires
+    (part_inside X _ i c.if-kind-eq-ENUMERATED.true, part_near X _ i c.if-kind-eq-ENUMERATED.true))  -- place-members-part-requires
     (λ c. let l = at_type t c in omega arith)  -- place-members-mul-first
     (λ c. at_type t c)  -- place-members-element-copy-out-first
     (λ c κs. tt)  -- place-members-first-requires
@@ -553,22 +553,22 @@ pub +place-members-place-value-spec : {M : Type 1} → statement M
     let c7 = c.before.before.before.before.before.before.before in
     omega (
       arith,
-      c7.before.before.before.before.before.before.before.before.before.before.before.before.shared-slice-known2.given
-          c7.if2.at,
+      c7.before.before.before.before.before.before.before.before.before.before.before.before.shared_slice_known-2-1.given
+          c7.if-kind-eq-INTEGER.at,
     ))  -- place-members-cast-fits
     (λ c. let l = at_low t c.before.before.before.before in omega arith)  -- place-members-sub-rest
     (λ c. let l = at_low t c.before.before.before.before in omega arith)  -- place-members-part-rest-start
     (λ c. let l = at_low t c.before.before.before.before in omega arith)  -- place-members-part-rest-end
     (λ c κs.
     let c9 = c.before.before.before.before.before.before.before.before.before in
-    (sound (at-started t c9.before.before.before) 0, c9.loop.invariant.0))  -- place-members-search-requires
+    (sound (at-started t c9.before.before.before) 0, c9.loop-i.invariant.0))  -- place-members-search-requires
     (λ c. search rules)  -- place-members-enum-told
     (λ c. search rules)  -- place-members-enum-known-x
     (λ c.
     let c4 = c.before.before.before.before in
     let c12 = c4.before.before.before.before.before.before.before.before in
     let X = at-started t c12.before.before.before.before.before in
-    let l = found_low X _ (at_item t (c12) X) _ _ c4.search.ensures.0 (rw c.before.before.x.given.1 at (at-sought t (c4)))
+    let l = found_low X _ (at_item t (c12) X) _ _ c4.search.ensures.0 (rw c.before.before.x-1.given.1 at (at-sought t (c4)))
     in
     omega (arith, l, X.given.short))  -- place-members-add-from-2
     (λ c κs.
@@ -576,7 +576,7 @@ pub +place-members-place-value-spec : {M : Type 1} → statement M
     let c6 = c4.before.before in
     let c14 = c6.before.before.before.before.before.before.before.before in
     let X = at-started t c14.before.before.before.before.before in
-    let F = rw c4.x.given.1 at (at-sought t (c6)) in
+    let F = rw c4.x-1.given.1 at (at-sought t (c6)) in
     let C = at_item t (c14) X in
     let w = c6.search.ensures.0 in
     (omega (arith, found_deep X _ C _ _ w F, w), w, found_room X _ C _ _ w F))  -- place-members-put-way-requires
@@ -585,7 +585,7 @@ pub +place-members-place-value-spec : {M : Type 1} → statement M
     let c3 = c.before.before.before in
     (at-picked t (c3) (at-started t
     c3.before.before.before.before.before.before.before.before.before.before.before.before.before.before)).1
-    (sym c.before.before.has-members.ensures ∙ c.before.if8.true))  -- place-members-put-absent-requires-2
+    (sym c.before.before.has_members.ensures ∙ c.before.if8.true))  -- place-members-put-absent-requires-2
     (λ c κs.
     let c10 = c.before.before.before.before.before.before.before.before.before.before in
     chosen_node (at-started t (c10)) _ (at-chosen t c.before (at-started t (c10))))  -- place-members-put-place-requires
@@ -612,14 +612,14 @@ pub +place-members-place-value-spec : {M : Type 1} → statement M
     (λ c.
     let c19 = c.before.before.before.before.before.before.before.before.before.before.before.before.before.before.before.before.before.before.before in
     let X = at-started t c19.before.before.before in
-    omega (arith, state_count X (c19.loop.invariant.2 _ X)))  -- place-members-add-count
+    omega (arith, state_count X (c19.loop-i.invariant.2 _ X)))  -- place-members-add-count
     (λ c κs. tt)  -- place-members-holds-one-requires-2
     (λ c.
     let c4 = c.before.before.before.before in
     let c13 = c4.before.before.before.before.before.before.before.before.before in
     let c15 = c13.before.before in
     let c21 = c15.before.before.before.before.before.before in
-    c4.place-value.auto.1.1.1.1.1.1.0 ∙ c13.put-place.auto.1.1.0 ∙ (at-grown t (c15)).0 ∙ c21.loop.invariant.1
+    c4.place-value.auto.1.1.1.1.1.1.0 ∙ c13.put-place.auto.1.1.0 ∙ (at-grown t (c15)).0 ∙ c21.loop-i.invariant.1
     ∙ c21.before.before.before.begin.auto.1.1.0)  -- place-members-same-length-3
     (λ c.
     let c4 = c.before.before.before.before in
@@ -644,7 +644,7 @@ pub +place-members-place-value-spec : {M : Type 1} → statement M
     let c15 = c13.before.before in (
       c4.place-value.ensures.0,
       c4.place-value.auto.1.1.1.1.1.1.0 ∙ c13.put-place.auto.1.1.0 ∙ (at-grown t (c15)).0
-          ∙ c15.before.before.before.before.before.before.loop.invariant.1,
+          ∙ c15.before.before.before.before.before.before.loop-i.invariant.1,
       λ first X. chosen_next X _ (at-chosen t (c15) X) c13.put-place.ensures c4.place-value.ensures.1 _
           c.before.holds-one2.ensures c.if9.false,
     )))  -- place-members-loop-again
@@ -654,7 +654,7 @@ pub +place-members-place-value-spec : {M : Type 1} → statement M
     (λ c κs. search rules)  -- place-value-unpack-requires
     (λ c κs.
     let P = c.before.before.before.before.before.before.before.requires.1 in
-    let e = rw c.before.before.before.unpack.ensures at c.before.if1.true in
+    let e = rw c.before.before.before.unpack-e.ensures at c.before.if-kind-eq-BOOLEAN.true in
     (_, P.ready, (P.type, P.low, P.entry), e, P.headed, P.short, refl))  -- place-value-open-requires
     (λ c. search rules)  -- place-value-enum-told
     (λ c. search rules)  -- place-value-enum-known-x
@@ -678,25 +678,25 @@ pub +place-members-place-value-spec : {M : Type 1} → statement M
     let x = c.before.before.before.before.before.before.before.before in
     let j = x.before.before.before in
     let s = j.before.before.before.before.before.before in
-    let e = j.before.before.unpack.ensures in
-    let f = c.before.before.before.before.before.before.before.if3.true in
-    parts_ask s.requires.1 (at_under t j) (at-contents t x) _ e f (sym c.before.before.in-segments.ensures ∙ c.before.if4.true))  -- place-value-place-segments-requires
+    let e = j.before.before.unpack-e.ensures in
+    let f = c.before.before.before.before.before.before.before.if-kind-eq-BIT_STRING.true in
+    parts_ask s.requires.1 (at_under t j) (at-contents t x) _ e f (sym c.before.before.in-segments.ensures ∙ c.before.if-kind-eq-OCTET_STRING.true))  -- place-value-place-segments-requires
     (λ c.
     let c5 = c.before.before.before.before.before in
     let x = c5.before.before.before.before.before.before.before in
     let j = x.before.before.before in
     let s = j.before.before.before.before.before.before in
-    let e = j.before.before.unpack.ensures in
-    let f = c5.before.before.before.before.before.before.if3.true in
-    let z = sym c5.before.in-segments.ensures ∙ c5.if4.true in
+    let e = j.before.before.unpack-e.ensures in
+    let f = c5.before.before.before.before.before.before.if-kind-eq-BIT_STRING.true in
+    let z = sym c5.before.in-segments.ensures ∙ c5.if-kind-eq-OCTET_STRING.true in
     omega (arith, parts_end s.requires.1 (at_under t j) (at-contents t x) _ e f z _ _ c.before.before.before.place-segments.ensures))  -- place-value-add-stop
     (λ c κs.
     let x = c.before.before.before.before.before.before.before.before in
     let j = x.before.before.before in
     let s = j.before.before.before.before.before.before in
-    let e = j.before.before.unpack.ensures in
-    let f = c.before.before.before.before.before.before.before.if3.true in
-    leaf_asks s.requires.1 (at_under t j) (at-contents t x) _ e f (sym c.before.before.in-segments.ensures ∙ c.before.if4.false))  -- place-value-place-contents-requires
+    let e = j.before.before.unpack-e.ensures in
+    let f = c.before.before.before.before.before.before.before.if-kind-eq-BIT_STRING.true in
+    leaf_asks s.requires.1 (at_under t j) (at-contents t x) _ e f (sym c.before.before.in-segments.ensures ∙ c.before.if-kind-eq-OCTET_STRING.false))  -- place-value-place-contents-requires
     (λ c. (at-contents t c.before.before.before).order)  -- place-value-sub-c-2
     (λ c. let h = (at-contents t c.before.before.before).order in search rules)  -- place-value-part-c-start-2
     (λ c.
@@ -709,7 +709,7 @@ pub +place-members-place-value-spec : {M : Type 1} → statement M
     let x = c.before.before.before.before.before.before in
     let j = x.before.before.before in
     let s = j.before.before.before.before.before.before in
-    let e = rw j.before.before.unpack.ensures at c.before.before.before.before.before.if3.false in (
+    let e = rw j.before.before.unpack-e.ensures at c.before.before.before.before.before.if-kind-eq-BIT_STRING.false in (
       omega (arith, s.requires.0, part_less s.requires.1 (at_under t j) (at-contents t x)),
       items_ask s.requires.1 (at_under t j) (at-contents t x) e,
     ))  -- place-value-place-members-requires
@@ -717,8 +717,8 @@ pub +place-members-place-value-spec : {M : Type 1} → statement M
     let x = c.before.before.before.before.before.before.before.before.before.before in
     let j = x.before.before.before in
     let s = j.before.before.before.before.before.before in
-    let f = c.before.before.before.before.before.before.before.before.before.if3.false in
-    let e = rw j.before.before.unpack.ensures at f in
+    let f = c.before.before.before.before.before.before.before.before.before.if-kind-eq-BIT_STRING.false in
+    let e = rw j.before.before.unpack-e.ensures at f in
     let q = c.before.before.before.place-members.ensures.1 in
     omega (arith, items_end s.requires.1 (at_under t j) (at-contents t x) e _ _ q))  -- place-value-add-stop-2
     (λ c. search rules)  -- place-value-cast-close
@@ -726,7 +726,7 @@ pub +place-members-place-value-spec : {M : Type 1} → statement M
     let x = c.before.before.before.before in
     let j = x.before.before.before.before in
     let s = j.before.before.before.before.before.before in
-    close_asks s.requires.1 (at_under t j) (at_stored t x) _ j.before.before.unpack.ensures)  -- place-value-close-requires
+    close_asks s.requires.1 (at_under t j) (at_stored t x) _ j.before.before.unpack-e.ensures)  -- place-value-close-requires
     (λ c. search rules)  -- place-value-enum-told-2
     (λ c. search rules)  -- place-value-enum-known-x-2
     (λ c.
@@ -738,7 +738,7 @@ pub +place-members-place-value-spec : {M : Type 1} → statement M
     let x = c.before.before.before.before.before.before.before in
     let j = x.before.before.before.before in
     let s = j.before.before.before.before.before.before in
-    let d = must_close s.requires.1 (at_under t j) (at_stored t x) _ j.before.before.unpack.ensures _ c.before.before.close.ensures in
+    let d = must_close s.requires.1 (at_under t j) (at_stored t x) _ j.before.before.unpack-e.ensures _ c.before.before.close.ensures in
     absurd (d _ _ c.enum-told2.given.1))  -- place-value-returns
     (λ c.
     let x = c.before.before.before.before.before.before.before.before in
@@ -749,7 +749,7 @@ pub +place-members-place-value-spec : {M : Type 1} → statement M
     let x = c.before.before.before.before.before.before.before.before in
     let j = x.before.before.before.before in
     let s = j.before.before.before.before.before.before in
-    let e = j.before.before.unpack.ensures in
+    let e = j.before.before.unpack-e.ensures in
     let d = closed_placed s.requires.1 (at_under t j) (at_stored t x) _ e _ c.before.before.before.close.ensures in
     ((at_stored t x).ways, d _ _ c.before.x2.given.1))  -- place-value-returns-2
     (λ c.
@@ -761,5 +761,5 @@ pub +place-members-place-value-spec : {M : Type 1} → statement M
     let x = c.before.before in
     let j = x.before.before.before.before in
     let s = j.before.before.before.before.before.before in
-    let e = rw j.before.before.unpack.ensures at c.if5.false in
+    let e = rw j.before.before.unpack-e.ensures at c.if-kind-eq-NULL.false in
     ((at_stored t x).ways, bare_placed s.requires.1 (at_under t j) (at_stored t x) e))  -- place-value-returns-3

@@ -6,8 +6,8 @@ use Rattle.reader.proofs.PlacedValue.{whole_asks, whole_placed}
 use Rattle.reader.proofs.place.place.Statement.{statement}
 use Rattle.reader.proofs.place.place.Tie as tie
 
-pub place-spec : {M : Type 1} → statement M
-place-spec =
+pub place_spec : {M : Type 1} → statement M
+place_spec =
     tie.close (tie.spec
     (λ c. omega (arith, c.before.before.before.requires.1, c.before.before.before.requires.0.filled.few))  -- cast-whole
     (λ c κs. search rules)  -- whole-requires
@@ -17,4 +17,4 @@ place-spec =
     (λ c. search rules)  -- same-length
     (λ c.
     let e = c.before.before.before.before.before.whole.ensures in
-    whole_placed _ _ _ e _ c.before.before.place-members.ensures.1))  -- returns
+    whole_placed _ _ _ e _ c.before.before.place_members.ensures.1))  -- returns

@@ -14,38 +14,38 @@ use Rattle.reader.proofs.Among.{fewer_under, fewer_beside, fewer_above, among_sm
 use Rattle.reader.proofs.search.among.Statement.{statement}
 use Rattle.reader.proofs.search.among.Tie as tie
 
-abbrev invariant-loop : tie.invariant-loop
+abbrev invariant-loop : tie.invariant-loop-j
 invariant-loop table index t code way₀ depth₀ choice₀ j₀ way depth choice j = (length way ≡ 128) × Amid table code way t depth choice j
 
-abbrev decreases-loop : tie.decreases-loop
+abbrev decreases-loop : tie.decreases-loop-j
 decreases-loop table index t code way₀ depth₀ choice₀ j₀ way depth choice j = turns_left (table_in table) (count_in table) way depth choice j
 
 -- where the alternatives of the CHOICE are known that is looked at
-abbrev turn : (c : tie.After-alternatives invariant-loop decreases-loop) →
-    let l = c.before.before.before.loop in
+abbrev turn : (c : tie.After-alternatives-s invariant-loop decreases-loop) →
+    let l = c.before.before.before.loop-j in
     let a = c.before.before.before.before.before.args in
-    Turn a.table.now a.index.now a.code l.way a.t l.depth l.choice l.j c.alternatives.result
+    Turn a.table.now a.index.now a.code l.way a.t l.depth l.choice l.j c.alternatives-s.result
 turn c =
     let c5 = c.before.before.before.before.before in
-    let l = c.before.before.before.loop in
+    let l = c.before.before.before.loop-j in
     record {
       ready = c5.requires.0;
       tag = c5.requires.3;
       wide = l.invariant.0;
       amid = l.invariant.1;
-      spans = c.alternatives.ensures ∙ ap (λ (e : Entry). counted c5.args.table.now e.own 1) c.before.unpack.ensures;
+      spans = c.alternatives-s.ensures ∙ ap (λ (e : Entry). counted c5.args.table.now e.own 1) c.before.unpack.ensures;
     }
 
 -- where one more is read
-abbrev one : (c : tie.After-octet invariant-loop decreases-loop) → Next (turn c.before.before.before.before) c.before.before.if1.true c.octet.ensures.0
-one c = next (turn c.before.before.before.before) c.before.before.if1.true c.octet.ensures.0
+abbrev one : (c : tie.After-octet-a invariant-loop decreases-loop) → Next (turn c.before.before.before.before) c.before.before.if-j-s.true c.octet-a.ensures.0
+one c = next (turn c.before.before.before.before) c.before.before.if-j-s.true c.octet-a.ensures.0
 
 -- how many records there are
-abbrev few : (c : tie.At-loop invariant-loop decreases-loop) → (c.loop.choice < 128) × (c.loop.depth ≤ 128)
-few c = let n = c.before.before.requires.0.passes.few in (omega (arith, c.loop.invariant.1.low, n), omega (arith, c.loop.invariant.1.deep, n))
+abbrev few : (c : tie.At-loop-j invariant-loop decreases-loop) → (c.loop-j.choice < 128) × (c.loop-j.depth ≤ 128)
+few c = let n = c.before.before.requires.0.passes.few in (omega (arith, c.loop-j.invariant.1.low, n), omega (arith, c.loop-j.invariant.1.deep, n))
 
-pub among-spec : {M : Type 1} → statement M
-among-spec =
+pub among_spec : {M : Type 1} → statement M
+among_spec =
     tie.close
     (tie.spec
     invariant-loop
@@ -57,14 +57,14 @@ among-spec =
     (λ c. (few c).0)  -- element-copy-out-unpack
     (λ c κs. tt)  -- unpack-requires
     (λ c κs. tt)  -- alternatives-requires
-    (λ c. omega (arith, (its (turn c.before.before.before)).near, c.before.if1.true))  -- add-octet
+    (λ c. omega (arith, (its (turn c.before.before.before)).near, c.before.if-j-s.true))  -- add-octet
     (λ c κs. tt)  -- octet-requires
     (λ c. omega (arith, (few c.before.before.before.before.before.before.before).0))  -- mul-way
     (λ c. omega (arith, (few c.before.before.before.before.before.before.before).0, (one c).few))  -- add-way
     (λ c. omega (arith, (few c.before.before.before.before.before.before.before).0, (one c).few))  -- cast-way
     (λ c. omega (arith, (one c).room))  -- mul-way-2
     (λ c. (one c).room)  -- element-write-way
-    (λ c. omega (arith, c.octet.ensures.1))  -- mul-begins
+    (λ c. omega (arith, c.octet-a.ensures.1))  -- mul-begins
     (λ c. omega (arith, (one c).small, c.before.before.before.before.before.before.before.before.before.requires.0.passes.few))  -- element-copy-out-begins
     (λ c κs.
     code_most c.before.before.before.before.before.before.before.before.before.before.requires.0 _ (one c.before).small)  -- begins-requires
@@ -72,10 +72,10 @@ among-spec =
     (λ c.
     let c3 = c.before.before.before in
     let c7 = c3.before.before.before.before in (
-      simp length-set c7.before.before.before.loop.invariant.0,
-      among_found (turn c7) c3.before.before.if1.true c3.octet.ensures.0 c.before.begins.ensures c.if2.true,
+      simp length-set c7.before.before.before.loop-j.invariant.0,
+      among_found (turn c7) c3.before.before.if-j-s.true c3.octet-a.ensures.0 c.before.begins.ensures c.if-begins.true,
     ))  -- returns
-    (λ c. omega (arith, c.before.before.before.octet.ensures.1))  -- mul-first
+    (λ c. omega (arith, c.before.before.before.octet-a.ensures.1))  -- mul-first
     (λ c.
     let c3 = c.before.before.before in
     omega (arith, (one c3).small, c3.before.before.before.before.before.before.before.before.before.requires.0.passes.few))  -- element-copy-out-first
@@ -83,36 +83,36 @@ among-spec =
     (λ c. omega (arith, (one c.before.before.before.before.before.before).room))  -- add-depth
     (λ c.
     let c6 = c.before.before.before.before.before.before in
-    fewer_under (turn c6.before.before.before.before) c6.before.before.if1.true c6.octet.ensures.0)  -- loop-less
+    fewer_under (turn c6.before.before.before.before) c6.before.before.if-j-s.true c6.octet-a.ensures.0)  -- loop-less
     (λ c.
     let c4 = c.before.before.before.before in
     let c6 = c4.before.before in
     let c10 = c6.before.before.before.before in (
-      simp length-set c10.before.before.before.loop.invariant.0,
-      among_down (turn c10) c6.before.before.if1.true c6.octet.ensures.0 c4.begins.ensures _ c.before.first.ensures
-          c.if3.true,
+      simp length-set c10.before.before.before.loop-j.invariant.0,
+      among_down (turn c10) c6.before.before.if-j-s.true c6.octet-a.ensures.0 c4.begins.ensures _ c.before.first.ensures
+          c.if-first-eq-UNTAGGED.true,
     ))  -- loop-again
     (λ c. omega (arith, (one c.before.before.before.before.before.before).few))  -- add-j
     (λ c.
     let c6 = c.before.before.before.before.before.before in
-    fewer_beside (turn c6.before.before.before.before) c6.before.before.if1.true c6.octet.ensures.0)  -- loop-less-2
+    fewer_beside (turn c6.before.before.before.before) c6.before.before.if-j-s.true c6.octet-a.ensures.0)  -- loop-less-2
     (λ c.
     let c4 = c.before.before.before.before in
     let c6 = c4.before.before in
     let c10 = c6.before.before.before.before in (
-      simp length-set c10.before.before.before.loop.invariant.0,
-      among_next (turn c10) c6.before.before.if1.true c6.octet.ensures.0 c4.begins.ensures c.before.before.before.if2.false _
-          c.before.first.ensures c.if3.false,
+      simp length-set c10.before.before.before.loop-j.invariant.0,
+      among_next (turn c10) c6.before.before.if-j-s.true c6.octet-a.ensures.0 c4.begins.ensures c.before.before.before.if-begins.false _
+          c.before.first.ensures c.if-first-eq-UNTAGGED.false,
     ))  -- loop-again-2
     (λ c.
     let c3 = c.before.before.before in
-    (c3.before.before.before.loop.invariant.0, among_none (turn c3) c.before.if1.false c.if4.true))  -- returns-2
-    (λ c. omega (arith, c.if4.false))  -- sub-depth
+    (c3.before.before.before.loop-j.invariant.0, among_none (turn c3) c.before.if-j-s.false c.if-depth-eq0.true))  -- returns-2
+    (λ c. omega (arith, c.if-depth-eq0.false))  -- sub-depth
     (λ c. omega (arith, (few c.before.before.before.before.before.before).1))  -- mul-n
-    (λ c. omega (arith, (few c.before.before.before.before.before.before).1, c.if4.false))  -- element-copy-out-n
-    (λ c. omega (arith, among_small (turn c.before.before.before.before) c.before.before.if1.false c.before.if4.false))  -- cast-n
+    (λ c. omega (arith, (few c.before.before.before.before.before.before).1, c.if-depth-eq0.false))  -- element-copy-out-n
+    (λ c. omega (arith, among_small (turn c.before.before.before.before) c.before.before.if-j-s.false c.before.if-depth-eq0.false))  -- cast-n
     (λ c. omega arith)  -- add-j-2
-    (λ c. fewer_above (turn c.before.before.before.before) c.before.before.if1.false c.before.if4.false)  -- loop-less-3
+    (λ c. fewer_above (turn c.before.before.before.before) c.before.before.if-j-s.false c.before.if-depth-eq0.false)  -- loop-less-3
     (λ c.
     let c4 = c.before.before.before.before in
-    (c4.before.before.before.loop.invariant.0, among_back (turn c4) c.before.before.if1.false c.before.if4.false)))  -- loop-again-3
+    (c4.before.before.before.loop-j.invariant.0, among_back (turn c4) c.before.before.if-j-s.false c.before.if-depth-eq0.false)))  -- loop-again-3

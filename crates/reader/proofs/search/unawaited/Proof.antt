@@ -8,8 +8,8 @@ use Rattle.reader.proofs.Searching.{has_members_lem, unfit_trailing, unfit_left,
 use Rattle.reader.proofs.search.unawaited.Statement.{statement}
 use Rattle.reader.proofs.search.unawaited.Tie as tie
 
-pub unawaited-spec : {M : Type 1} → statement M
-unawaited-spec =
+pub unawaited_spec : {M : Type 1} → statement M
+unawaited_spec =
     tie.close
     (tie.spec
     (λ c κs. tt)  -- unpack-requires
@@ -19,22 +19,22 @@ unawaited-spec =
     let q = c4.requires in (
       q.0,
       q.1,
-      has_members_lem q.1 _ c.before.before.unpack.ensures _ c.before.has-members.ensures c4.args.i c.if1.true,
+      has_members_lem q.1 _ c.before.before.unpack.ensures _ c.before.has_members.ensures c4.args.i c.if-has_members.true,
     ))  -- lacks-requires
     (λ c.
     let c3 = c.before.before.before in
     let c4 = c3.before in
     let c6 = c4.before.before in
-    ap (λ (x : ReadingCause). Refused x) (sym (unfit_trailing c6.requires.1 _ c4.unpack.ensures _ c3.has-members.ensures _ _
-    c.before.lacks.ensures c6.args.cause c.before.before.if1.true (not-true _ c.if2.true))))  -- returns
+    ap (λ (x : ReadingCause). Refused x) (sym (unfit_trailing c6.requires.1 _ c4.unpack.ensures _ c3.has_members.ensures _ _
+    c.before.lacks.ensures c6.args.cause c.before.before.if-has_members.true (not-true _ c.if-not-lacks.true))))  -- returns
     (λ c.
     let c3 = c.before.before.before in
     let c4 = c3.before in
     let c6 = c4.before.before in
-    ap (λ (x : ReadingCause). Refused x) (sym (unfit_left c6.requires.1 _ c4.unpack.ensures _ c3.has-members.ensures _ _
-    c.before.lacks.ensures c6.args.cause c.before.before.if1.true (not-false _ c.if2.false))))  -- returns-2
+    ap (λ (x : ReadingCause). Refused x) (sym (unfit_left c6.requires.1 _ c4.unpack.ensures _ c3.has_members.ensures _ _
+    c.before.lacks.ensures c6.args.cause c.before.before.if-has_members.true (not-false _ c.if-not-lacks.false))))  -- returns-2
     (λ c.
     let c4 = c.before.before.before.before in
     let q = c4.requires in
-    ap (λ (x : ReadingCause). Refused x) (sym (unfit_other q.1 _ c.before.before.unpack.ensures _ c.before.has-members.ensures _
-    c4.args.cause c.if1.false q.2))))  -- returns-3
+    ap (λ (x : ReadingCause). Refused x) (sym (unfit_other q.1 _ c.before.before.unpack.ensures _ c.before.has_members.ensures _
+    c4.args.cause c.if-has_members.false q.2))))  -- returns-3

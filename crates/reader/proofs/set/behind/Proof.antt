@@ -4,10 +4,10 @@ use native.Mathlib.Omega.{arith}
 use Rattle.reader.proofs.set.behind.Statement.{statement}
 use Rattle.reader.proofs.set.behind.Tie as tie
 
-pub behind-spec : {M : Type 1} → statement M
-behind-spec =
+pub behind_spec : {M : Type 1} → statement M
+behind_spec =
     tie.close
     (tie.spec
     (λ c. omega arith)  -- add-result
-    (λ c. rw c.if1.true)  -- returns
-    (λ c. rw c.if1.false))  -- returns-2
+    (λ c. rw c.if-indefinite.true)  -- returns
+    (λ c. rw c.if-indefinite.false))  -- returns-2

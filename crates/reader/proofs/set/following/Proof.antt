@@ -8,14 +8,14 @@ use Rattle.reader.proofs.set.following.Statement.{statement}
 use Rattle.reader.proofs.set.following.Tie as tie
 use Rattle.reader.proofs.Locating.{passed_more}
 
-abbrev invariant-loop : tie.invariant-loop
+abbrev invariant-loop : tie.invariant-loop-k
 invariant-loop began j n k₀ k = (j ≤ k) × (k ≤ n) × ((i : ℕ) → j ≤ i → i < k → get_or began i 0 ≡ 0)
 
-abbrev decreases-loop : tie.decreases-loop
+abbrev decreases-loop : tie.decreases-loop-k
 decreases-loop began j n k₀ k = n - k
 
-pub following-spec : {M : Type 1} → statement M
-following-spec =
+pub following_spec : {M : Type 1} → statement M
+following_spec =
     tie.close
     (tie.spec
     invariant-loop
@@ -24,14 +24,14 @@ following-spec =
     (λ c. omega arith)  -- mul-if1
     (λ c. omega arith)  -- element-copy-out-if1
     (λ c.
-    let v = c.before.before.before.loop.invariant in
-    record { least = v.0; most = v.1; none = v.2; came = λ l z. c.if1.true z })  -- returns
+    let v = c.before.before.before.loop-k.invariant in
+    record { least = v.0; most = v.1; none = v.2; came = λ l z. c.if-began-k-ne0.true z })  -- returns
     (λ c. omega arith)  -- add-k
     (λ c. omega arith)  -- loop-less
     (λ c.
     let c3 = c.before.before.before in
-    let v = c3.loop.invariant in
-    (omega arith, omega arith, passed_more c3.before.args.began.now _ _ v.2 c.if1.false))  -- loop-again
+    let v = c3.loop-k.invariant in
+    (omega arith, omega arith, passed_more c3.before.args.began.now _ _ v.2 c.if-began-k-ne0.false))  -- loop-again
     (λ c.
-    let v = c.before.loop.invariant in
+    let v = c.before.loop-k.invariant in
     record { least = c.before.before.requires.0; most = omega arith; none = λ i x y. v.2 i x (omega arith); came = λ l z. omega arith }))  -- returns-2

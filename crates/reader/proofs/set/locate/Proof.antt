@@ -18,16 +18,16 @@ use Rattle.reader.proofs.Locating.{set_sound, located_first, located_over, locat
 use Rattle.reader.proofs.set.locate.Statement.{statement}
 use Rattle.reader.proofs.set.locate.Tie as tie
 
-abbrev invariant-loop : tie.invariant-loop
+abbrev invariant-loop : tie.invariant-loop-w
 invariant-loop table index w m indefinite began₀ way₀ at₀ began way at =
     (at ≤ length m) × (length began ≡ 16) × (length way ≡ 128)
     × ((ms : List Member) → held table w ≡ inside (Set ms) → Spotting (table_in table) ms indefinite m began at)
 
-abbrev decreases-loop : tie.decreases-loop
+abbrev decreases-loop : tie.decreases-loop-w
 decreases-loop table index w m indefinite began₀ way₀ at₀ began way at = length m - at
 
-pub locate-spec : {M : Type 1} → statement M
-locate-spec =
+pub locate_spec : {M : Type 1} → statement M
+locate_spec =
     tie.close
     (tie.spec
     invariant-loop
@@ -42,11 +42,11 @@ locate-spec =
     let c3 = c.before.before.before in
     let c6 = c3.before.before.before in
     let p = c6.requires in
-    let v = c3.loop.invariant in (
+    let v = c3.loop-w.invariant in (
       v.1,
       v.2,
-      located_over p.0 p.1 _ c6.args.indefinite _ _ v.0 v.3 _ c.before.before.is-over.ensures
-          c.before.if1.true _ c.behind.ensures,
+      located_over p.0 p.1 _ c6.args.indefinite _ _ v.0 v.3 _ c.before.before.is_over.ensures
+          c.before.if-is_over.true _ c.behind.ensures,
     ))  -- returns
     (λ c. omega arith)  -- sub-rest
     (λ c. omega arith)  -- part-rest-start
@@ -54,7 +54,7 @@ locate-spec =
     (λ c κs.
     let c6 = c.before.before.before.before.before.before in
     let p = c6.before.before.before.requires in
-    let v = c6.loop.invariant in
+    let v = c6.loop-w.invariant in
     (set_sound p.0 p.1 p.2 _ v.1, v.2))  -- search-requires
     (λ c. search rules)  -- enum_told
     (λ c.
@@ -64,11 +64,11 @@ locate-spec =
     let c9 = c8.before in
     let c12 = c9.before.before.before in
     let p = c12.requires in
-    let v = c9.loop.invariant in (
+    let v = c9.loop-w.invariant in (
       v.1,
       c2.search.ensures.0,
-      located_none p.0 p.1 _ c12.args.indefinite _ _ v.0 v.3 _ c8.is-over.ensures c7.if1.false _ _ (rw from_is
-          at c2.search.ensures.1) _ c.enum_told.given.1 _,
+      located_none p.0 p.1 _ c12.args.indefinite _ _ v.0 v.3 _ c8.is_over.ensures c7.if-is_over.false _ _ (rw from_is
+          at c2.search.ensures.1) _ c.enum_told-1.given.1 _,
     ))  -- returns-2
     (λ c. search rules)  -- enum-known-x
     (λ c. omega arith)  -- add-began
@@ -77,33 +77,33 @@ locate-spec =
     let c3 = c.before.before.before in
     let c10 = c3.before.before.before.before.before.before.before in
     let c13 = c10.before.before.before in
-    let l = c10.loop in
+    let l = c10.loop-w in
     let p = c13.requires in
     let q = place_low p.0 p.1 l.began (drop l.at c13.args.m.now) _ _ (rw from_is at c3.search.ensures.1) _
-    c.before.x.given.1 p.2 in
+    c.before.x-1.given.1 p.2 in
     omega arith)  -- mul-began
     (λ c.
     let c3 = c.before.before.before in
     let c10 = c3.before.before.before.before.before.before.before in
     let c13 = c10.before.before.before in
-    let l = c10.loop in
+    let l = c10.loop-w in
     let p = c13.requires in
     place_low p.0 p.1 l.began (drop l.at c13.args.m.now) _ _ (rw from_is at c3.search.ensures.1) _
-    c.before.x.given.1 p.2)  -- element-write-began
+    c.before.x-1.given.1 p.2)  -- element-write-began
     (λ c κs. search rules)  -- end-requires
     (λ c.
     let c11 = c.before.before.before.before.before.before.before.before.before.before.before in
-    omega (arith, (item_ends _ _ (rw from_is at c.end.ensures)).1, length-drop c11.loop.at c11.before.before.before.args.m.now))  -- add-at
+    omega (arith, (item_ends _ _ (rw from_is at c.end-at.ensures)).1, length-drop c11.loop-w.at c11.before.before.before.args.m.now))  -- add-at
     (λ c.
     let c4 = c.before.before.before.before in
     let c11 = c4.before.before.before.before.before.before.before in
     let c14 = c11.before.before.before in
     let a = c14.args in
-    let l = c11.loop in
+    let l = c11.loop-w in
     let p = c14.requires in
     let q = end_further p.0 p.1 l.began (drop l.at a.m.now) _ _ (rw from_is at c4.search.ensures.1) _
-    c.before.before.x.given.1 _ (item_ends _ _ (rw from_is at c.end.ensures)).0 in
-    omega (arith, (item_ends _ _ (rw from_is at c.end.ensures)).1, length-drop l.at a.m.now))  -- loop-less
+    c.before.before.x-1.given.1 _ (item_ends _ _ (rw from_is at c.end-at.ensures)).0 in
+    omega (arith, (item_ends _ _ (rw from_is at c.end-at.ensures)).1, length-drop l.at a.m.now))  -- loop-less
     (λ c.
     let c4 = c.before.before.before.before in
     let c9 = c4.before.before.before.before.before in
@@ -111,12 +111,12 @@ locate-spec =
     let c11 = c10.before in
     let c14 = c11.before.before.before in
     let a = c14.args in
-    let l = c11.loop in
+    let l = c11.loop-w in
     let p = c14.requires in
     let v = l.invariant in (
-      omega (arith, (item_ends _ _ (rw from_is at c.end.ensures)).1, length-drop l.at a.m.now),
+      omega (arith, (item_ends _ _ (rw from_is at c.end-at.ensures)).1, length-drop l.at a.m.now),
       simp length-set v.1,
       c4.search.ensures.0,
-      located_turn p.0 p.1 a.m.now a.indefinite l.began l.at v.0 v.3 _ c10.is-over.ensures
-          c9.if1.false _ _ (rw from_is at c4.search.ensures.1) _ c.before.before.x.given.1 _ (item_ends _ _ (rw from_is at c.end.ensures)).2,
+      located_turn p.0 p.1 a.m.now a.indefinite l.began l.at v.0 v.3 _ c10.is_over.ensures
+          c9.if-is_over.false _ _ (rw from_is at c4.search.ensures.1) _ c.before.before.x-1.given.1 _ (item_ends _ _ (rw from_is at c.end-at.ensures)).2,
     )))  -- loop-again

@@ -6,15 +6,15 @@ use Rattle.reader.proofs.Tagging.{awaits_none, awaits_unread, awaits_small, awai
 use Rattle.reader.proofs.tags.awaited.Statement.{statement}
 use Rattle.reader.proofs.tags.awaited.Tie as tie
 
-pub awaited-spec : {M : Type 1} → statement M
-awaited-spec =
+pub awaited_spec : {M : Type 1} → statement M
+awaited_spec =
     tie.close
     (tie.spec
     (λ c κs. tt)  -- unpack-requires
     (λ c κs. tt)  -- tag-count-requires
     (λ c.
     let q = c.before.before.before.before.before.requires in
-    awaits_none q.1 q.2 _ c.before.before.unpack.ensures _ c.before.tag-count.ensures.0 _ _ c.if1.true)  -- returns
+    awaits_none q.1 q.2 _ c.before.before.unpack-e.ensures _ c.before.tag_count.ensures.0 _ _ c.if-tag_count-j.true)  -- returns
     (λ c κs. tt)  -- read-requires
     (λ c. search rules)  -- enum-known-cause
     (λ c. search rules)  -- enum-known-code
@@ -26,10 +26,10 @@ awaited-spec =
     let c3 = c2.before in
     let c4 = c3.before in
     let q = c4.before.before.requires in
-    awaits_tag q.1 q.2 _ c3.unpack.ensures _ c2.tag-count.ensures.0 _ _ c1.if1.false (λ n. omega (
+    awaits_tag q.1 q.2 _ c3.unpack-e.ensures _ c2.tag_count.ensures.0 _ _ c1.if-tag_count-j.false (λ n. omega (
       arith,
-      c4.shared-slice-known2.given n,
-    )) _ k.before.before.read.ensures _ _ k.code.given.1 _ c.before.tag-code.ensures c.if2.true)  -- returns-2
+      c4.shared_slice_known-2-1.given n,
+    )) _ k.before.before.read.ensures _ _ k.code-1.given.1 _ c.before.tag_code-awaited.ensures c.if-code-awaited.true)  -- returns-2
     (λ c.
     let k = c.before.before.before in
     let c1 = k.before.before.before in
@@ -40,9 +40,9 @@ awaited-spec =
     let q = c4.before.before.requires in
     omega (
       arith,
-      awaits_small q.1 q.2 _ c3.unpack.ensures _ c2.tag-count.ensures.0 _ a.m.now c1.if1.false
-          (λ n. omega (arith, c4.shared-slice-known2.given n)) _
-          k.before.before.read.ensures _ _ k.code.given.1 _ c.before.tag-code.ensures,
+      awaits_small q.1 q.2 _ c3.unpack-e.ensures _ c2.tag_count.ensures.0 _ a.m.now c1.if-tag_count-j.false
+          (λ n. omega (arith, c4.shared_slice_known-2-1.given n)) _
+          k.before.before.read.ensures _ _ k.code-1.given.1 _ c.before.tag_code-awaited.ensures,
     ))  -- add-if3
     (λ c. search rules)  -- cast-if4
     (λ c κs. tt)  -- is-string-requires
@@ -53,10 +53,10 @@ awaited-spec =
     let c3 = c2.before in
     let c4 = c3.before in
     let q = c4.before.before.requires in
-    awaits_string q.1 q.2 _ c3.unpack.ensures _ c2.tag-count.ensures.0 _ _ c1.if1.false (λ n. omega (
+    awaits_string q.1 q.2 _ c3.unpack-e.ensures _ c2.tag_count.ensures.0 _ _ c1.if-tag_count-j.false (λ n. omega (
       arith,
-      c4.shared-slice-known2.given n,
-    )) _ k.before.before.read.ensures _ _ k.code.given.1 _ c.before.before.before.before.before.before.tag-code.ensures c.before.before.before.before.before.if2.false c.before.before.if4.true _ c.before.is-string.ensures c.before.before.before.before.if3.true c.if5.true)  -- returns-3
+      c4.shared_slice_known-2-1.given n,
+    )) _ k.before.before.read.ensures _ _ k.code-1.given.1 _ c.before.before.before.before.before.before.tag_code-awaited.ensures c.before.before.before.before.before.if-code-awaited.false c.before.before.if-e-j.true _ c.before.is_string.ensures c.before.before.before.before.if-code-awaited-2.true c.if-is_string.true)  -- returns-3
     (λ c.
     let c3 = c.before.before.before in
     let c4 = c3.before in
@@ -64,10 +64,10 @@ awaited-spec =
     let c6 = c5.before in
     let c7 = c6.before in
     let q = c7.before.before.requires in
-    awaits_unread q.1 q.2 _ c6.unpack.ensures _ c5.tag-count.ensures.0 _ _ c4.if1.false (λ n. omega (
+    awaits_unread q.1 q.2 _ c6.unpack-e.ensures _ c5.tag_count.ensures.0 _ _ c4.if-tag_count-j.false (λ n. omega (
       arith,
-      c7.shared-slice-known2.given n,
-    )) _ c3.read.ensures _ c.before.cause.given.1)  -- returns-4
+      c7.shared_slice_known-2-1.given n,
+    )) _ c3.read.ensures _ c.before.cause-1.given.1)  -- returns-4
     (λ c.
     let k = c.before.before.before.before.before.before.before.before in
     let c1 = k.before.before.before in
@@ -75,10 +75,10 @@ awaited-spec =
     let c3 = c2.before in
     let c4 = c3.before in
     let q = c4.before.before.requires in
-    awaits_other q.1 q.2 _ c3.unpack.ensures _ c2.tag-count.ensures.0 _ _ c1.if1.false (λ n. omega (
+    awaits_other q.1 q.2 _ c3.unpack-e.ensures _ c2.tag_count.ensures.0 _ _ c1.if-tag_count-j.false (λ n. omega (
       arith,
-      c4.shared-slice-known2.given n,
-    )) _ k.before.before.read.ensures _ _ k.code.given.1 _ c.before.before.before.before.before.before.tag-code.ensures c.before.before.before.before.before.if2.false c.before.before.if4.true _ c.before.is-string.ensures c.if5.false)  -- returns-5
+      c4.shared_slice_known-2-1.given n,
+    )) _ k.before.before.read.ensures _ _ k.code-1.given.1 _ c.before.before.before.before.before.before.tag_code-awaited.ensures c.before.before.before.before.before.if-code-awaited.false c.before.before.if-e-j.true _ c.before.is_string.ensures c.if-is_string.false)  -- returns-5
     (λ c.
     let k = c.before.before.before.before.before.before in
     let c1 = k.before.before.before in
@@ -86,10 +86,10 @@ awaited-spec =
     let c3 = c2.before in
     let c4 = c3.before in
     let q = c4.before.before.requires in
-    awaits_explicit q.1 q.2 _ c3.unpack.ensures _ c2.tag-count.ensures.0 _ _ c1.if1.false (λ n. omega (
+    awaits_explicit q.1 q.2 _ c3.unpack-e.ensures _ c2.tag_count.ensures.0 _ _ c1.if-tag_count-j.false (λ n. omega (
       arith,
-      c4.shared-slice-known2.given n,
-    )) _ k.before.before.read.ensures _ _ k.code.given.1 _ c.before.before.before.before.tag-code.ensures c.before.before.before.if2.false c.if4.false)  -- returns-6
+      c4.shared_slice_known-2-1.given n,
+    )) _ k.before.before.read.ensures _ _ k.code-1.given.1 _ c.before.before.before.before.tag_code-awaited.ensures c.before.before.before.if-code-awaited.false c.if-e-j.false)  -- returns-6
     (λ c.
     let k = c.before.before.before.before in
     let c1 = k.before.before.before in
@@ -97,7 +97,7 @@ awaited-spec =
     let c3 = c2.before in
     let c4 = c3.before in
     let q = c4.before.before.requires in
-    awaits_neither q.1 q.2 _ c3.unpack.ensures _ c2.tag-count.ensures.0 _ _ c1.if1.false (λ n. omega (
+    awaits_neither q.1 q.2 _ c3.unpack-e.ensures _ c2.tag_count.ensures.0 _ _ c1.if-tag_count-j.false (λ n. omega (
       arith,
-      c4.shared-slice-known2.given n,
-    )) _ k.before.before.read.ensures _ _ k.code.given.1 _ c.before.before.tag-code.ensures c.before.if2.false c.if3.false))  -- returns-7
+      c4.shared_slice_known-2-1.given n,
+    )) _ k.before.before.read.ensures _ _ k.code-1.given.1 _ c.before.before.tag_code-awaited.ensures c.before.if-code-awaited.false c.if-code-awaited-2.false))  -- returns-7

@@ -16,11 +16,11 @@ enter_spec =
     (λ c κs. c.before.before.before.before.before.requires)  -- awaited-requires
     (λ c.
     enters_over _ _ _ c.before.before.before.before.before.args.indefinite _ c.before.before.read.ensures _
-    c.enum_told.given.1)  -- returns
+    c.enum_told-1.given.1)  -- returns
     (λ c.
     let c3 = c.before.before.before in
-    enters_broken _ _ _ c3.before.before.before.args.indefinite _ c3.read.ensures _ c.before.cause.given.1)  -- returns-2
+    enters_broken _ _ _ c3.before.before.before.args.indefinite _ c3.read.ensures _ c.before.cause-1.given.1)  -- returns-2
     (λ c.
     let c3 = c.before.before.before in
-    enters_more _ _ _ c3.before.before.before.args.indefinite _ c3.read.ensures c.before.enum-told2.given.1 _
+    enters_more _ _ _ c3.before.before.before.args.indefinite _ c3.read.ensures c.before.enum_told-in-More-1.given.1 _
     c.awaited.ensures))  -- returns-3

@@ -12,20 +12,20 @@ use Rattle.records.proofs.Listed.{natural, listed_stops, listed_goes, listed_end
 use Rattle.records.proofs.entry.lists.Statement.{statement}
 use Rattle.records.proofs.entry.lists.Tie as tie
 
-abbrev invariant-loop : tie.invariant-loop
+abbrev invariant-loop : tie.invariant-loop-left
 invariant-loop table z own left₀ at₀ k left at =
     (at + 2 * left ≤ length table) × (any (λ n. eqb n k) (numbers_at table at left) ≡ any (λ n. eqb n k) (numbers_at table at₀ left₀))
 
-abbrev decreases-loop : tie.decreases-loop
+abbrev decreases-loop : tie.decreases-loop-left
 decreases-loop table z own left₀ at₀ k left at = left
 
-pub lists-spec : {M : Type 1} → statement M
-lists-spec =
+pub lists_spec : {M : Type 1} → statement M
+lists_spec =
     tie.close
     (tie.spec
     invariant-loop
     decreases-loop
-    (λ c. let a = c.before.before in listed_negative a.args.table.now a.args.e.own a.args.z a.ranges.z c.if1.true)  -- returns
+    (λ c. let a = c.before.before in listed_negative a.args.table.now a.args.e.own a.args.z a.ranges.z c.if-z-lt0.true)  -- returns
     (λ c. search rules)  -- cast-own
     (λ c κs. search rules)  -- octet-requires
     (λ c. search rules)  -- add-at
@@ -33,44 +33,44 @@ lists-spec =
     (λ c κs. search rules)  -- holds-requires
     (λ c.
     let a = c.before.before.before.before.before.before in
-    listed_out a.args.table.now a.args.e.own _ c.before.before.octet.ensures.0 a.args.z _ c.before.holds.ensures
-    c.if2.true)  -- returns-2
+    listed_out a.args.table.now a.args.e.own _ c.before.before.octet-left.ensures.0 a.args.z _ c.before.holds.ensures
+    c.if-not-holds.true)  -- returns-2
     (λ c. natural c.before.before.before.before.before.before.args.z c.before.before.before.before.before.before.ranges.z
-    c.before.before.before.before.if1.false)  -- cast-k
+    c.before.before.before.before.if-z-lt0.false)  -- cast-k
     (λ c.
     let a = c.before.before.before.before.before.before in (
-      listed_room a.args.table.now a.args.e.own _ c.before.before.octet.ensures.0 a.args.z _ c.before.holds.ensures
-          c.if2.false,
+      listed_room a.args.table.now a.args.e.own _ c.before.before.octet-left.ensures.0 a.args.z _ c.before.holds.ensures
+          c.if-not-holds.false,
       refl,
     ))  -- loop-holds
     (λ c. omega arith)  -- add-second
     (λ c. omega arith)  -- shared-slice-read-if3
-    (λ c. omega (arith, c.shared-slice-known2.given c.before.before.loop.at))  -- cast-if3
-    (λ c. omega (arith, c.shared-slice-known2.given c.before.before.loop.at))  -- mul-if3
+    (λ c. omega (arith, c.shared_slice_known-in-loop-left-1.given c.before.before.loop-left.at))  -- cast-if3
+    (λ c. omega (arith, c.shared_slice_known-in-loop-left-1.given c.before.before.loop-left.at))  -- mul-if3
     (λ c. omega arith)  -- shared-slice-read-if3-2
-    (λ c. omega (arith, c.shared-slice-known3.given (c.before.before.before.loop.at + 1)))  -- cast-if3-2
+    (λ c. omega (arith, c.shared_slice_known-in-loop-left-2-1.given (c.before.before.before.loop-left.at + 1)))  -- cast-if3-2
     (λ c. omega (
       arith,
-      c.before.shared-slice-known2.given c.before.before.before.loop.at,
-      c.shared-slice-known3.given
-          (c.before.before.before.loop.at + 1),
+      c.before.shared_slice_known-in-loop-left-1.given c.before.before.before.loop-left.at,
+      c.shared_slice_known-in-loop-left-2-1.given
+          (c.before.before.before.loop-left.at + 1),
     ))  -- add-if3
     (λ c.
     let a = c.before.before.before.before.before.before.before.before.before.before.before in
-    listed_in a.args.table.now a.args.e.own _ c.before.before.before.before.before.before.before.octet.ensures.0 a.args.z _
-    c.before.before.before.before.before.before.holds.ensures c.before.before.before.before.before.if2.false a.ranges.z
-    c.before.before.before.before.before.before.before.before.before.if1.false _
-    (listed_stops _ _ _ _ _ c.before.before.before.before.loop.invariant.1 (omega arith) c.if3.true))  -- returns-3
+    listed_in a.args.table.now a.args.e.own _ c.before.before.before.before.before.before.before.octet-left.ensures.0 a.args.z _
+    c.before.before.before.before.before.before.holds.ensures c.before.before.before.before.before.if-not-holds.false a.ranges.z
+    c.before.before.before.before.before.before.before.before.before.if-z-lt0.false _
+    (listed_stops _ _ _ _ _ c.before.before.before.before.loop-left.invariant.1 (omega arith) c.if-table-at.true))  -- returns-3
     (λ c. omega arith)  -- add-at-2
     (λ c. omega arith)  -- sub-left
     (λ c. omega arith)  -- loop-less
     (λ c. (
       omega arith,
-      listed_goes _ _ _ _ _ c.before.before.before.before.loop.invariant.1 (omega arith)
-          c.if3.false,
+      listed_goes _ _ _ _ _ c.before.before.before.before.loop-left.invariant.1 (omega arith)
+          c.if-table-at.false,
     ))  -- loop-again
     (λ c.
     let a = c.before.before.before.before.before.before.before.before in
-    listed_in a.args.table.now a.args.e.own _ c.before.before.before.before.octet.ensures.0 a.args.z _
-    c.before.before.before.holds.ensures c.before.before.if2.false a.ranges.z c.before.before.before.before.before.before.if1.false _
-    (listed_ends _ _ _ _ _ c.before.loop.invariant.1 (omega arith))))  -- returns-4
+    listed_in a.args.table.now a.args.e.own _ c.before.before.before.before.octet-left.ensures.0 a.args.z _
+    c.before.before.before.holds.ensures c.before.before.if-not-holds.false a.ranges.z c.before.before.before.before.before.before.if-z-lt0.false _
+    (listed_ends _ _ _ _ _ c.before.loop-left.invariant.1 (omega arith))))  -- returns-4

@@ -7,8 +7,8 @@ use borrow.Author.Rules.{rules}
 use Rattle.records.proofs.entry.optional.Statement.{statement}
 use Rattle.records.proofs.entry.optional.Tie as tie
 
-pub optional-spec : {M : Type 1} → statement M
-optional-spec =
+pub optional_spec : {M : Type 1} → statement M
+optional_spec =
     tie.close
     (tie.spec
     (λ c. rw (get_or-eq_default c.before.before.args.table.now 0 {n = c.before.before.args.p + 1} (omega arith)))  -- returns

@@ -7,32 +7,32 @@ use Rattle.records.specs.Entries.{span_of}
 use Rattle.records.proofs.entry.parts.Statement.{statement}
 use Rattle.records.proofs.entry.parts.Tie as tie
 
-pub parts-spec : {M : Type 1} → statement M
+pub parts_spec : {M : Type 1} → statement M
 unfolding span_of
-parts-spec =
+parts_spec =
     tie.close
     (tie.spec
     (λ c. search rules)  -- cast-own
     (λ c κs. search rules)  -- has-members-requires
     (λ c κs. search rules)  -- counted-requires
-    (λ c. rw (sym c.before.before.has-members.ensures ∙ c.before.if1.true, c.counted.ensures))  -- returns
+    (λ c. rw (sym c.before.before.has_members.ensures ∙ c.before.if-has_members.true, c.counted.ensures))  -- returns
     (λ c κs. search rules)  -- counted-requires-2
     (λ c. rw (
-      sym c.before.before.before.has-members.ensures ∙ c.before.before.if1.false,
+      sym c.before.before.before.has_members.ensures ∙ c.before.before.if-has_members.false,
       eq-eqb _ _
-          c.before.if2.true,
-      c.counted2.ensures,
+          c.before.if-kind-eq-CHOICE.true,
+      c.counted-then-kind-eq-CHOICE.ensures,
     ))  -- returns-2
     (λ c κs. search rules)  -- is-list-requires
     (λ c. rw (
-      sym c.before.before.before.before.has-members.ensures ∙ c.before.before.before.if1.false,
+      sym c.before.before.before.before.has_members.ensures ∙ c.before.before.before.if-has_members.false,
       ne_eqb _ _
-          c.before.before.if2.false,
-      sym c.before.is-list.ensures ∙ c.if3.true,
+          c.before.before.if-kind-eq-CHOICE.false,
+      sym c.before.is_list.ensures ∙ c.if-is_list.true,
     ))  -- returns-3
     (λ c. rw (
-      sym c.before.before.before.before.has-members.ensures ∙ c.before.before.before.if1.false,
+      sym c.before.before.before.before.has_members.ensures ∙ c.before.before.before.if-has_members.false,
       ne_eqb _ _
-          c.before.before.if2.false,
-      sym c.before.is-list.ensures ∙ c.if3.false,
+          c.before.before.if-kind-eq-CHOICE.false,
+      sym c.before.is_list.ensures ∙ c.if-is_list.false,
     )))  -- returns-4

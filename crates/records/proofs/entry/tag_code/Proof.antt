@@ -9,8 +9,8 @@ use borrow.Author.Tests.{lt-ltb, le-ltb}
 use Rattle.records.proofs.entry.tag_code.Statement.{statement}
 use Rattle.records.proofs.entry.tag_code.Tie as tie
 
-pub tag-code-spec : {M : Type 1} → statement M
-tag-code-spec =
+pub tag_code_spec : {M : Type 1} → statement M
+tag_code_spec =
     tie.close
     (tie.spec
     (λ c κs. search rules)  -- tag-place-requires
@@ -23,13 +23,13 @@ tag-code-spec =
     (λ c κs. search rules)  -- code-of-requires
     (λ c.
     let a = c.before.before.before.before.before.before.before.args in
-    let e : c.before.if1.constructed ≡ (ltb a.j a.e.explicit || not a.e.simple) =
+    let e : c.before.if-j-e.constructed ≡ (ltb a.j a.e.explicit || not a.e.simple) =
     ⊎_elim (λ w. w.1 ∙ rw (lt-ltb a.j a.e.explicit w.0.taken)) (λ w. w.2 ∙ rw (le-ltb a.j a.e.explicit w.0.left))
-    c.before.if1.branch in
+    c.before.if-j-e.branch in
     rw (
       c.code_of_lem.ensures.0,
-      c.before.before.before.before.octet.ensures.0,
-      c.before.before.before.two.ensures.0,
-      c.before.before.before.before.before.tag-place.ensures.0,
+      c.before.before.before.before.octet-class.ensures.0,
+      c.before.before.before.two-n.ensures.0,
+      c.before.before.before.before.before.tag_place-p.ensures.0,
       e,
     )))  -- returns

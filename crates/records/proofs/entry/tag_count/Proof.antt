@@ -7,9 +7,9 @@ use Rattle.records.specs.Entries.{tag_count}
 use Rattle.records.proofs.entry.tag_count.Statement.{statement}
 use Rattle.records.proofs.entry.tag_count.Tie as tie
 
-pub tag-count-spec : {M : Type 1} → statement M
+pub tag_count_spec : {M : Type 1} → statement M
 unfolding tag_count
-tag-count-spec =
+tag_count_spec =
     tie.close
     (tie.spec
     (λ c. search rules)  -- cast-result

@@ -5,9 +5,9 @@ use Rattle.records.specs.Entries.{unpacked}
 use Rattle.records.proofs.entry.unpack.Statement.{statement}
 use Rattle.records.proofs.entry.unpack.Tie as tie
 
-pub unpack-spec : {M : Type 1} → statement M
+pub unpack_spec : {M : Type 1} → statement M
 unfolding unpacked
-unpack-spec =
+unpack_spec =
     tie.close
     (tie.spec
     (λ c κs. search rules)  -- first-requires

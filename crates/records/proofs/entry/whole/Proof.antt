@@ -10,9 +10,9 @@ use Rattle.records.proofs.Packing.{unpacks}
 use Rattle.records.proofs.entry.whole.Statement.{statement}
 use Rattle.records.proofs.entry.whole.Tie as tie
 
-pub whole-spec : {M : Type 1} → statement M
+pub whole_spec : {M : Type 1} → statement M
 unfolding packed
-whole-spec =
+whole_spec =
     tie.close
     (tie.spec
     (λ c. search rules)  -- cast-result

@@ -3,12 +3,12 @@ use Rattle.x690.proofs.BitString.{no_bits, bits_none, bits_some}
 use Rattle.simple.proofs.bit_string.are_bits.Statement.{statement}
 use Rattle.simple.proofs.bit_string.are_bits.Tie as tie
 
-pub are-bits-spec : {M : Type 1} → statement M
-are-bits-spec =
+pub are_bits_spec : {M : Type 1} → statement M
+are_bits_spec =
     tie.close
     (tie.spec
-    (λ c. no_bits _ c.if1.true)  -- returns
+    (λ c. no_bits _ c.if-c-eq0.true)  -- returns
     (λ c. search rules)  -- shared-slice-read-result
-    (λ c. bits_none _ c.before.if2.true)  -- returns-2
+    (λ c. bits_none _ c.before.if-c-eq1.true)  -- returns-2
     (λ c. search rules)  -- shared-slice-read-result-2
-    (λ c. bits_some _ c.before.before.if1.false c.before.if2.false))  -- returns-3
+    (λ c. bits_some _ c.before.before.if-c-eq0.false c.before.if-c-eq1.false))  -- returns-3

@@ -8,28 +8,28 @@ use Rattle.x690.proofs.BitString.{masked_stays, masked_none, masked_filled}
 use Rattle.simple.proofs.bit_string.copy_masked.Statement.{statement}
 use Rattle.simple.proofs.bit_string.copy_masked.Tie as tie
 
-pub copy-masked-spec : {M : Type 1} → statement M
-copy-masked-spec =
+pub copy_masked_spec : {M : Type 1} → statement M
+copy_masked_spec =
     tie.close
     (tie.spec
-    (λ c. let a = c.before.before.before.args in masked_stays _ a.c.now a.part.now c.if1.true)  -- returns
-    (λ c. let a = c.before.before.before.before.args in masked_none _ a.c.now a.part.now c.before.if1.false c.if2.true)  -- returns-2
+    (λ c. let a = c.before.before.before.args in masked_stays _ a.c.now a.part-1.now c.if-k-part.true)  -- returns
+    (λ c. let a = c.before.before.before.before.args in masked_none _ a.c.now a.part-1.now c.before.if-k-part.false c.if-k-eq0.true)  -- returns-2
     (λ c κs. search rules)  -- copy-requires
     (λ c. search rules)  -- sub-last
     (λ c κs. search rules)  -- unit-requires
     (λ c. search rules)  -- shared-slice-read-x
     (λ c.
     let a = c.before.before.before.before.before.before.before.before.before.before.args in
-    omega (arith, c.before.unit.ensures, pow_pos (a.n % 8)))  -- div-part
+    omega (arith, c.before.unit-p.ensures, pow_pos (a.n % 8)))  -- div-part
     (λ c.
     let s = c.before.before.before.before.before.before.before.before.before.before.args.c.now in
-    omega (arith, div-mul-le_self (get_or s (length s - 1) 0) c.before.unit.result, c.shared-slice-known2.given (length s - 1)))  -- mul-part
+    omega (arith, div-mul-le_self (get_or s (length s - 1) 0) c.before.unit-p.result, c.shared_slice_known-2-1.given (length s - 1)))  -- mul-part
     (λ c. search rules)  -- slice-write-part
     (λ c. search rules)  -- same-length
     (λ c.
     let a = c.before.before.before.before.before.before.before.before.before.before.args in
-    masked_filled (a.n % 8) c.before.unit.result a.c.now a.part.now _
-    c.before.before.before.before.before.before.before.if1.false
-    c.before.before.before.before.before.before.if2.false
+    masked_filled (a.n % 8) c.before.unit-p.result a.c.now a.part-1.now _
+    c.before.before.before.before.before.before.before.if-k-part.false
+    c.before.before.before.before.before.before.if-k-eq0.false
     c.before.before.before.before.copy.ensures
-    c.before.unit.ensures))  -- returns-3
+    c.before.unit-p.ensures))  -- returns-3

@@ -6,8 +6,8 @@ use Rattle.simple.proofs.IntegerCode.{top_cast, others_cast}
 use Rattle.simple.proofs.integer.bits.Statement.{statement}
 use Rattle.simple.proofs.integer.bits.Tie as tie
 
-pub bits-spec : {M : Type 1} → statement M
-bits-spec = tie.close (tie.spec
+pub bits_spec : {M : Type 1} → statement M
+bits_spec = tie.close (tie.spec
     (λ c. let t = top_cast c.args.z c.ranges.z in (t.0, t.1))  -- cast-result
     (λ c.
     let z = c.args.z in

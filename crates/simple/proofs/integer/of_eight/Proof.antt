@@ -7,11 +7,11 @@ use Rattle.simple.proofs.IntegerCode.{not_eight, read_halves}
 use Rattle.simple.proofs.integer.of_eight.Statement.{statement}
 use Rattle.simple.proofs.integer.of_eight.Tie as tie
 
-pub of-eight-spec : {M : Type 1} → statement M
-of-eight-spec =
+pub of_eight_spec : {M : Type 1} → statement M
+of_eight_spec =
     tie.close
     (tie.spec
-    (λ c. not_eight c.before.before.args.c.now c.if1.true)  -- returns
+    (λ c. not_eight c.before.before.args.c.now c.if-c-ne8.true)  -- returns
     (λ c. search rules)  -- shared-slice-read-wide
     (λ c κs. search rules)  -- wide-requires
     (λ c. search rules)  -- mul-high
@@ -46,18 +46,18 @@ of-eight-spec =
     (λ c.
     let b = c.before.before.before.before.before.before.before.before.before in
     let f : SFits w64 c.signed.result = record { sfits = c.signed.type-inv } in
-    let k = b.before.before.before.before.before.before.before.before.before.shared-slice-known in
+    let k = b.before.before.before.before.before.before.before.before.before.shared_slice_known-1 in
     rw (to_z-of_z w64 c.signed.result f)
     (read_halves b.before.before.before.before.before.before.before.before.before.before.args.c.now c.signed.result (λ i. (k.given i).fits)
-    b.before.before.before.before.before.before.before.before.if1.false
+    b.before.before.before.before.before.before.before.before.if-c-ne8.false
     f
     (c.signed.ensures ∙ rw (
       b.before.before.before.before.before.before.wide.ensures.0,
-      b.before.before.before.before.wide2.ensures.0,
-      b.before.before.wide3.ensures.0,
-      b.wide4.ensures.0,
-      c.before.before.before.before.before.before.before.wide5.ensures.0,
-      c.before.before.before.before.before.wide6.ensures.0,
-      c.before.before.before.wide7.ensures.0,
-      c.before.wide8.ensures.0,
+      b.before.before.before.before.wide-2.ensures.0,
+      b.before.before.wide-3.ensures.0,
+      b.wide-4.ensures.0,
+      c.before.before.before.before.before.before.before.wide-5.ensures.0,
+      c.before.before.before.before.before.wide-6.ensures.0,
+      c.before.before.before.wide-7.ensures.0,
+      c.before.wide-8.ensures.0,
     ) refl))))  -- returns-2

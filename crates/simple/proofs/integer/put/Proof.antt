@@ -13,11 +13,11 @@ use Rattle.simple.proofs.integer.put.Statement.{statement}
 use Rattle.simple.proofs.integer.put.Tie as tie
 
 -- what stands from left on, behind the last octets of u, is what is to be put
-abbrev invariant-loop : tie.invariant-loop
+abbrev invariant-loop : tie.invariant-loop-left
 invariant-loop z part₀ u₀ left₀ part u left =
     (left ≤ length part) × (length part ≡ length part₀) × (last_before left u (drop left part) ≡ last_octets (length part₀) u₀)
 
-abbrev decreases-loop : tie.decreases-loop
+abbrev decreases-loop : tie.decreases-loop-left
 decreases-loop z part₀ u₀ left₀ part u left = left
 
 pub put_spec : {M : Type 1} → statement M
@@ -33,11 +33,11 @@ put_spec =
     (λ c. search rules)  -- slice-write-part
     (λ c. search rules)  -- loop-less
     (λ c.
-    let l = c.before.loop in
+    let l = c.before.loop-left in
     (rw length-set (omega arith), rw length-set l.invariant.1, last_turn l.part l.u l.left (omega arith) l.invariant.0 l.invariant.2))  -- loop-again
-    (λ c. c.before.loop.invariant.1)  -- same-length
+    (λ c. c.before.loop-left.invariant.1)  -- same-length
     (λ c.
-    let l = c.before.loop in
+    let l = c.before.loop-left in
     let t = c.before.before.before.before in
     last_end l.part l.u l.left (omega arith) l.invariant.2
-    ∙ ap (last_octets (length t.args.part.now)) (c.before.before.bits.ensures ∙ ap (of_z w64) (to_z-of_z w64 t.args.z t.ranges.z))))  -- returns
+    ∙ ap (last_octets (length t.args.part.now)) (c.before.before.bits-u.ensures ∙ ap (of_z w64) (to_z-of_z w64 t.args.z t.ranges.z))))  -- returns

@@ -7,15 +7,15 @@ use Rattle.coding.proofs.Conversion.{version_refused, node_refused, time_refused
 use Rattle.times.proofs.conversion.convert.Statement.{statement}
 use Rattle.times.proofs.conversion.convert.Tie as tie
 
-pub convert-spec : {M : Type 1} → statement M
-convert-spec =
+pub convert_spec : {M : Type 1} → statement M
+convert_spec =
     tie.close
     (tie.spec
     (λ c κs. search rules)  -- is-version-requires
     (λ c.
     let v = c.before in
     let a = v.before.before.before.args in
-    outcome_is (version_refused a.kind a.version a.time.now a.buf.now v.is-version.ensures (not-true _ c.if1.true)) refl refl)  -- returns
+    outcome_is (version_refused a.kind a.version a.time.now a.buf-1.now v.is_version.ensures (not-true _ c.if-not-is_version.true)) refl refl)  -- returns
     (λ c κs. search rules)  -- given-requires
     (λ c. search rules)  -- enum-known-cause
     (λ c κs. search rules)  -- refuse-requires
@@ -30,16 +30,16 @@ convert-spec =
     let g = c.before.before.before.before in
     let v = g.before.before in
     let a = v.before.before.before.args in
-    outcome_is (node_refused a.kind a.version a.time.now a.buf.now v.is-version.ensures (not-false _ g.before.if1.false) g.given.ensures
-    c.before.before.cause.given.1) c.refuse.ensures refl)  -- returns-2
+    outcome_is (node_refused a.kind a.version a.time.now a.buf-1.now v.is_version.ensures (not-false _ g.before.if-not-is_version.false) g.given.ensures
+    c.before.before.cause-1.given.1) c.refuse.ensures refl)  -- returns-2
     (λ c.
     let d = c.before.before.before.before in
     let t = d.before.before in
     let g = t.before.before in
     let v = g.before.before in
     let a = v.before.before.before.args in
-    outcome_is (time_refused a.kind a.version a.time.now a.buf.now v.is-version.ensures (not-false _ g.before.if1.false) g.given.ensures
-    t.t.given.1 d.counterpart.ensures c.before.before.cause2.given.1) c.refuse2.ensures refl)  -- returns-3
+    outcome_is (time_refused a.kind a.version a.time.now a.buf-1.now v.is_version.ensures (not-false _ g.before.if-not-is_version.false) g.given.ensures
+    t.t-1.given.1 d.counterpart.ensures c.before.before.cause-in-Refused-counterpart-1.given.1) c.refuse-in-Refused-counterpart.ensures refl)  -- returns-3
     (λ c. search rules)  -- same-length
     (λ c.
     let p = c.before.before in
@@ -50,6 +50,6 @@ convert-spec =
     let g = t.before.before in
     let v = g.before.before in
     let a = v.before.before.before.args in
-    let w = rw o.other-kind.ensures at p.put.ensures in
-    outcome_is (counterpart_put a.kind a.version a.time.now a.buf.now v.is-version.ensures (not-false _ g.before.if1.false) g.given.ensures
-    t.t.given.1 d.counterpart.ensures u.u.given.1) w.0 w.1))  -- returns-4
+    let w = rw o.other_kind.ensures at p.put.ensures in
+    outcome_is (counterpart_put a.kind a.version a.time.now a.buf-1.now v.is_version.ensures (not-false _ g.before.if-not-is_version.false) g.given.ensures
+    t.t-1.given.1 d.counterpart.ensures u.u-1.given.1) w.0 w.1))  -- returns-4

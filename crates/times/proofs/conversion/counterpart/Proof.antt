@@ -8,18 +8,18 @@ use Rattle.coding.specs.declared.Given.TheVariants.{Time}
 use Rattle.times.proofs.conversion.counterpart.Statement.{statement}
 use Rattle.times.proofs.conversion.counterpart.Tie as tie
 
-pub counterpart-spec : {M : Type 1} → statement M
+pub counterpart_spec : {M : Type 1} → statement M
 unfolding counterpart
-counterpart-spec =
+counterpart_spec =
     tie.close
     (tie.spec
     (λ c. search rules)  -- enum_told
     (λ c κs. search rules)  -- to-generalized-requires
     (λ c. search rules)  -- enum-told-2
     (λ c κs. search rules)  -- in-window-requires
-    (λ c. let w = c.before.in_window in rw (c.before.before.enum-told2.given.1, ← w.ensures, not-true w.result c.if1.true))  -- returns
+    (λ c. let w = c.before.in_window in rw (c.before.before.enum_told-in-Generalized-1.given.1, ← w.ensures, not-true w.result c.if-not-in_window.true))  -- returns
     (λ c κs. search rules)  -- to-utc-requires
-    (λ c. rw c.before.enum_told.given.1 (ap Time c.to-generalized.ensures))  -- returns-2
+    (λ c. rw c.before.enum_told-1.given.1 (ap Time c.to_generalized.ensures))  -- returns-2
     (λ c.
     let w = c.before.before.in_window in
-    rw (c.before.before.before.enum-told2.given.1, ← w.ensures, not-false w.result c.before.if1.false) (ap Time c.to-utc.ensures)))  -- returns-3
+    rw (c.before.before.before.enum_told-in-Generalized-1.given.1, ← w.ensures, not-false w.result c.before.if-not-in_window.false) (ap Time c.to_utc.ensures)))  -- returns-3

@@ -9,8 +9,8 @@ use Rattle.coding.proofs.Reckoning.{first_refused, second_refused, both_given}
 use Rattle.times.proofs.reckoning.order.Statement.{statement}
 use Rattle.times.proofs.reckoning.order.Tie as tie
 
-pub order-spec : {M : Type 1} → statement M
-order-spec =
+pub order_spec : {M : Type 1} → statement M
+order_spec =
     tie.close
     (tie.spec
     (λ c κs. search rules)  -- given-requires
@@ -22,12 +22,12 @@ order-spec =
     (λ c κs. search rules)  -- refuse-requires-2
     (λ c. search rules)  -- enum-known-b
     (λ c κs. search rules)  -- order-requires
-    (λ c. let a = c.before.before.before.before.before.before.before.args in first_refused order a.first.now a.second.now c.before.before.before.before.given.ensures c.before.before.cause.given.1 c.refuse.ensures)  -- returns
+    (λ c. let a = c.before.before.before.before.before.before.before.args in first_refused order a.first.now a.second.now c.before.before.before.before.given.ensures c.before.before.cause-1.given.1 c.refuse.ensures)  -- returns
     (λ c.
     let x = c.before.before.before.before.before.before.before.before.given.ensures in
     let a = c.before.before.before.before.before.before.before.before.before.before.before.args in
-    second_refused order a.first.now a.second.now x c.before.before.before.before.before.before.a.given.1 c.before.before.before.before.given2.ensures c.before.before.cause2.given.1 c.refuse2.ensures)  -- returns-2
+    second_refused order a.first.now a.second.now x c.before.before.before.before.before.before.a-1.given.1 c.before.before.before.before.given-in-Time.ensures c.before.before.cause-in-Refused-given-2-1.given.1 c.refuse-in-Refused-given.ensures)  -- returns-2
     (λ c.
     let x = c.before.before.before.before.before.before.before.before.given.ensures in
     let a = c.before.before.before.before.before.before.before.before.before.before.before.args in
-    both_given order a.first.now a.second.now x c.before.before.before.before.before.before.a.given.1 c.before.before.before.before.given2.ensures c.before.before.b.given.1 (to_z-of_z w64 _ (record { sfits = c.order.type-inv }) ∙ c.order.ensures)))  -- returns-3
+    both_given order a.first.now a.second.now x c.before.before.before.before.before.before.a-1.given.1 c.before.before.before.before.given-in-Time.ensures c.before.before.b-1.given.1 (to_z-of_z w64 _ (record { sfits = c.order.type-inv }) ∙ c.order.ensures)))  -- returns-3

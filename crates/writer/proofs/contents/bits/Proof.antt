@@ -8,27 +8,27 @@ use borrow.Author.Rules.{rules}
 use Rattle.writer.proofs.contents.bits.Statement.{statement}
 use Rattle.writer.proofs.contents.bits.Tie as tie
 
-pub bits-spec : {M : Type 1} → statement M
-bits-spec =
+pub bits_spec : {M : Type 1} → statement M
+bits_spec =
     tie.close
     (tie.spec
     (λ c. search rules)  -- add-start
     (λ c κs. search rules)  -- none-requires
-    (λ c. let a = c.before.before.before.args in bits_short a.v.now a.p _ c.before.if1.true c.none.ensures)  -- returns
+    (λ c. let a = c.before.before.before.args in bits_short a.v.now a.p _ c.before.if-v-start.true c.none.ensures)  -- returns
     (λ c κs. search rules)  -- two-requires
     (λ c. search rules)  -- add-size
     (λ c. search rules)  -- add-end
     (λ c κs. search rules)  -- none-requires-2
     (λ c.
     let a = c.before.before.before.before.before.args in
-    bits_cut a.v.now a.p _ c.before.before.before.if1.false _ c.before.before.two.ensures.0 c.before.if2.true c.none2.ensures)  -- returns-2
-    (λ c κs. (omega arith, c.before.two.ensures.1, refl, c.if2.false))  -- clear-requires
+    bits_cut a.v.now a.p _ c.before.before.before.if-v-start.false _ c.before.before.two-n.ensures.0 c.before.if-v-end.true c.none-then-v-end.ensures)  -- returns-2
+    (λ c κs. (omega arith, c.before.two-n.ensures.1, refl, c.if-v-end.false))  -- clear-requires
     (λ c κs. search rules)  -- none-requires-3
     (λ c.
     let a = c.before.before.before.before.before.before.before.args in
-    bits_unclear a.v.now a.p _ c.before.before.before.before.before.if1.false _ c.before.before.before.before.two.ensures.0
-    c.before.before.before.if2.false _ c.before.before.clear.ensures (not-true _ c.before.if3.true) c.none3.ensures)  -- returns-3
+    bits_unclear a.v.now a.p _ c.before.before.before.before.before.if-v-start.false _ c.before.before.before.before.two-n.ensures.0
+    c.before.before.before.if-v-end.false _ c.before.before.clear.ensures (not-true _ c.before.if-not-clear.true) c.none-then-not-clear.ensures)  -- returns-3
     (λ c. search rules)  -- add-t7
     (λ c.
     let a = c.before.before.before.before.before.before.args in
-    bits_measured a.v.now a.p _ c.before.before.before.before.if1.false _ c.before.before.before.two.ensures.0 c.before.before.if2.false _ c.before.clear.ensures (not-false _ c.if3.false) c.before.before.before.two.ensures.1 refl refl))  -- returns-4
+    bits_measured a.v.now a.p _ c.before.before.before.before.if-v-start.false _ c.before.before.before.two-n.ensures.0 c.before.before.if-v-end.false _ c.before.clear.ensures (not-false _ c.if-not-clear.false) c.before.before.before.two-n.ensures.1 refl refl))  -- returns-4

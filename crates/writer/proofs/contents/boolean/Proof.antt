@@ -6,18 +6,18 @@ use borrow.Author.Rules.{rules}
 use Rattle.writer.proofs.contents.boolean.Statement.{statement}
 use Rattle.writer.proofs.contents.boolean.Tie as tie
 
-pub boolean-spec : {M : Type 1} → statement M
-boolean-spec =
+pub boolean_spec : {M : Type 1} → statement M
+boolean_spec =
     tie.close
     (tie.spec
     (λ c κs. search rules)  -- none-requires
-    (λ c. let a = c.before.before.before.args in boolean_short a.v.now a.p _ c.before.if1.true c.none.ensures)  -- returns
+    (λ c. let a = c.before.before.before.args in boolean_short a.v.now a.p _ c.before.if-v-p.true c.none.ensures)  -- returns
     (λ c. search rules)  -- shared-slice-read-if2
     (λ c κs. search rules)  -- none-requires-2
     (λ c.
     let a = c.before.before.before.before.before.args in
-    boolean_other a.v.now a.p _ c.before.before.before.if1.false c.before.if2.true c.none2.ensures)  -- returns-2
+    boolean_other a.v.now a.p _ c.before.before.before.if-v-p.false c.before.if-v-p-ge2.true c.none-then-v-p-ge2.ensures)  -- returns-2
     (λ c. search rules)  -- add-t3
     (λ c.
     let a = c.before.before.before.before.args in
-    boolean_measured a.v.now a.p _ c.before.before.if1.false c.if2.false refl refl))  -- returns-3
+    boolean_measured a.v.now a.p _ c.before.before.if-v-p.false c.if-v-p-ge2.false refl refl))  -- returns-3

@@ -8,8 +8,8 @@ use borrow.Author.Rules.{rules}
 use Rattle.writer.proofs.contents.eight.Statement.{statement}
 use Rattle.writer.proofs.contents.eight.Tie as tie
 
-pub eight-spec : {M : Type 1} → statement M
-eight-spec =
+pub eight_spec : {M : Type 1} → statement M
+eight_spec =
     tie.close
     (tie.spec
     (λ c. search rules)  -- add-end
@@ -18,4 +18,4 @@ eight-spec =
     (λ c. search rules)  -- part-of-eight-end
     (λ c κs. search rules)  -- of-eight-requires
     (λ c.
-    to_z-of_z w64 _ (record { sfits = c.of-eight.type-inv }) ∙ eight_is c.before.before.before.args.v.now c.before.before.before.args.p c.before.before.before.requires _ c.of-eight.ensures))  -- returns
+    to_z-of_z w64 _ (record { sfits = c.of_eight.type-inv }) ∙ eight_is c.before.before.before.args.v.now c.before.before.before.args.p c.before.before.before.requires _ c.of_eight.ensures))  -- returns

@@ -6,15 +6,15 @@ use borrow.Author.Rules.{rules}
 use Rattle.writer.proofs.contents.enumerated.Statement.{statement}
 use Rattle.writer.proofs.contents.enumerated.Tie as tie
 
-pub enumerated-spec : {M : Type 1} → statement M
-enumerated-spec =
+pub enumerated_spec : {M : Type 1} → statement M
+enumerated_spec =
     tie.close
     (tie.spec
     (λ c. search rules)  -- add-end
     (λ c κs. search rules)  -- none-requires
-    (λ c. let a = c.before.before.before.args in number_short a.v.now a.p _ c.before.if1.true c.none.ensures)  -- returns
+    (λ c. let a = c.before.before.before.args in number_short a.v.now a.p _ c.before.if-v-end.true c.none.ensures)  -- returns
     (λ c κs. search rules)  -- two-requires
     (λ c κs. search rules)  -- number-size-requires
     (λ c.
     let a = c.before.before.before.before.args in
-    number_measured a.v.now a.p _ c.before.before.if1.false _ _ c.before.two.ensures.0 c.number_size.ensures.0 c.number_size.ensures.1 refl refl))  -- returns-2
+    number_measured a.v.now a.p _ c.before.before.if-v-end.false _ _ c.before.two.ensures.0 c.number_size-size.ensures.0 c.number_size-size.ensures.1 refl refl))  -- returns-2

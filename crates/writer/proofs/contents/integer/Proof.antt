@@ -8,14 +8,14 @@ use borrow.Author.Rules.{rules}
 use Rattle.writer.proofs.contents.integer.Statement.{statement}
 use Rattle.writer.proofs.contents.integer.Tie as tie
 
-pub integer-spec : {M : Type 1} → statement M
-integer-spec =
+pub integer_spec : {M : Type 1} → statement M
+integer_spec =
     tie.close (tie.spec
     (λ c. search rules)  -- add-end
     (λ c κs. search rules)  -- none-requires
-    (λ c. let a = c.before.before.before.args in integer_short a.v.now a.p _ c.before.if1.true c.none.ensures)  -- returns
+    (λ c. let a = c.before.before.before.args in integer_short a.v.now a.p _ c.before.if-v-end.true c.none.ensures)  -- returns
     (λ c κs. search rules)  -- eight-requires
     (λ c κs. search rules)  -- size-requires
     (λ c.
     let a = c.before.before.before.before.args in
-    integer_measured a.v.now a.p _ c.before.before.if1.false _ _ _ (to_z-of_z w64 _ (record { sfits = c.before.eight.type-inv })) c.before.eight.ensures c.size.ensures.0 c.size.ensures.2 refl refl))  -- returns-2
+    integer_measured a.v.now a.p _ c.before.before.if-v-end.false _ _ _ (to_z-of_z w64 _ (record { sfits = c.before.eight.type-inv })) c.before.eight.ensures c.size-size.ensures.0 c.size-size.ensures.2 refl refl))  -- returns-2

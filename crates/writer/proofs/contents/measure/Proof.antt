@@ -6,33 +6,33 @@ use borrow.Author.Rules.{rules}
 use Rattle.writer.proofs.contents.measure.Statement.{statement}
 use Rattle.writer.proofs.contents.measure.Tie as tie
 
-pub measure-spec : {M : Type 1} → statement M
-measure-spec =
+pub measure_spec : {M : Type 1} → statement M
+measure_spec =
     tie.close
     (tie.spec
     (λ c κs. search rules)  -- boolean-requires
-    (λ c. let a = c.before.before.before.args in same_kind a.kind a.v.now a.p 1 _ c.before.if1.true c.boolean.ensures)  -- returns
+    (λ c. let a = c.before.before.before.args in same_kind a.kind a.v.now a.p 1 _ c.before.if-kind-eq-BOOLEAN.true c.boolean.ensures)  -- returns
     (λ c κs. search rules)  -- integer-requires
     (λ c.
     let a = c.before.before.before.before.args in
-    same_kind a.kind a.v.now a.p 2 _ c.before.if2.true c.integer.ensures)  -- returns-2
+    same_kind a.kind a.v.now a.p 2 _ c.before.if-kind-eq-INTEGER.true c.integer.ensures)  -- returns-2
     (λ c κs. search rules)  -- bits-requires
     (λ c.
     let a = c.before.before.before.before.before.args in
-    same_kind a.kind a.v.now a.p 3 _ c.before.if3.true c.bits.ensures)  -- returns-3
+    same_kind a.kind a.v.now a.p 3 _ c.before.if-kind-eq-BIT_STRING.true c.bits.ensures)  -- returns-3
     (λ c κs. search rules)  -- string-requires
     (λ c.
     let a = c.before.before.before.before.before.before.args in
-    same_kind a.kind a.v.now a.p 4 _ c.before.if4.true c.string.ensures)  -- returns-4
+    same_kind a.kind a.v.now a.p 4 _ c.before.if-kind-eq-OCTET_STRING.true c.string.ensures)  -- returns-4
     (λ c.
     let a = c.before.before.before.before.before.before.args in
-    null_measured a.v.now a.p _ a.kind c.if5.true refl refl)  -- returns-5
+    null_measured a.v.now a.p _ a.kind c.if-kind-eq-NULL.true refl refl)  -- returns-5
     (λ c κs. search rules)  -- enumerated-requires
     (λ c.
     let a = c.before.before.before.before.before.before.before.before.args in
-    same_kind a.kind a.v.now a.p 10 _ c.before.if6.true c.enumerated.ensures)  -- returns-6
+    same_kind a.kind a.v.now a.p 10 _ c.before.if-kind-eq-ENUMERATED.true c.enumerated.ensures)  -- returns-6
     (λ c κs. search rules)  -- time-kind-requires
     (λ c κs. search rules)  -- time-requires
     (λ c.
     let a = c.before.before.before.before.before.before.before.before.before.args in
-    same_kind a.kind a.v.now a.p _ _ (time_left a.kind c.before.before.before.before.before.before.before.before.before.requires.1 c.before.before.before.before.before.before.before.if1.false c.before.before.before.before.before.before.if2.false c.before.before.before.before.before.if3.false c.before.before.before.before.if4.false c.before.before.before.if5.false c.before.before.if6.false _ c.before.time-kind.ensures) c.time.ensures))  -- returns-7
+    same_kind a.kind a.v.now a.p _ _ (time_left a.kind c.before.before.before.before.before.before.before.before.before.requires.1 c.before.before.before.before.before.before.before.if-kind-eq-BOOLEAN.false c.before.before.before.before.before.before.if-kind-eq-INTEGER.false c.before.before.before.before.before.if-kind-eq-BIT_STRING.false c.before.before.before.before.if-kind-eq-OCTET_STRING.false c.before.before.before.if-kind-eq-NULL.false c.before.before.if-kind-eq-ENUMERATED.false _ c.before.time_kind.ensures) c.time.ensures))  -- returns-7

@@ -7,8 +7,8 @@ use borrow.Author.Rules.{rules}
 use Rattle.writer.proofs.contents.put_integer.Statement.{statement}
 use Rattle.writer.proofs.contents.put_integer.Tie as tie
 
-pub put-integer-spec : {M : Type 1} → statement M
-put-integer-spec =
+pub put_integer_spec : {M : Type 1} → statement M
+put_integer_spec =
     tie.close
     (tie.spec
     (λ c. search rules)  -- add-last
@@ -19,4 +19,4 @@ put-integer-spec =
     (λ c. search rules)  -- same-length
     (λ c.
     let a = c.before.before.before.before.before.args in
-    integer_put a.buf.now a.to a.size c.before.before.before.before.before.requires.1 a.z _ _ c.before.before.before.before.before.ranges.z (to_z-of_z w64 a.z c.before.before.before.before.before.ranges.z) c.before.before.before.before.before.requires.0 c.before.before.put.ensures))  -- returns
+    integer_put a.buf-1.now a.to a.size c.before.before.before.before.before.requires.1 a.z _ _ c.before.before.before.before.before.ranges.z (to_z-of_z w64 a.z c.before.before.before.before.before.ranges.z) c.before.before.before.before.before.requires.0 c.before.before.put.ensures))  -- returns

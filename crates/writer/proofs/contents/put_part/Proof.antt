@@ -5,8 +5,8 @@ use borrow.Author.Rules.{rules}
 use Rattle.writer.proofs.contents.put_part.Statement.{statement}
 use Rattle.writer.proofs.contents.put_part.Tie as tie
 
-pub put-part-spec : {M : Type 1} → statement M
-put-part-spec =
+pub put_part_spec : {M : Type 1} → statement M
+put_part_spec =
     tie.close
     (tie.spec
     (λ c. search rules)  -- add-end
@@ -21,4 +21,4 @@ put-part-spec =
     (λ c. search rules)  -- same-length
     (λ c.
     let a = c.before.before.before.before.before.before.before.args in
-    copy_put a.buf.now a.to a.n c.before.before.before.before.before.before.before.requires.1 a.v.now a.p _ c.before.before.before.before.before.before.before.requires.0 c.before.before.copy.ensures))  -- returns
+    copy_put a.buf-1.now a.to a.n c.before.before.before.before.before.before.before.requires.1 a.v.now a.p _ c.before.before.before.before.before.before.before.requires.0 c.before.before.copy.ensures))  -- returns

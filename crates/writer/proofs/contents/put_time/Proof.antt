@@ -5,8 +5,8 @@ use borrow.Author.Rules.{rules}
 use Rattle.writer.proofs.contents.put_time.Statement.{statement}
 use Rattle.writer.proofs.contents.put_time.Tie as tie
 
-pub put-time-spec : {M : Type 1} → statement M
-put-time-spec =
+pub put_time_spec : {M : Type 1} → statement M
+put_time_spec =
     tie.close
     (tie.spec
     (λ c κs. search rules)  -- seven-requires
@@ -19,4 +19,4 @@ put-time-spec =
     (λ c.
     let s = c.before.before.before.before.before.before.before in
     let a = s.args in
-    time_put a.buf.now a.to a.size s.requires.3 a.kind _ _ _ c.before.before.before.before.seven.ensures s.requires.1 s.requires.2 c.before.before.put.ensures.1))  -- returns
+    time_put a.buf-1.now a.to a.size s.requires.3 a.kind _ _ _ c.before.before.before.before.seven-t.ensures s.requires.1 s.requires.2 c.before.before.put.ensures.1))  -- returns

@@ -7,20 +7,20 @@ use borrow.Author.Rules.{rules}
 use Rattle.writer.proofs.contents.time.Statement.{statement}
 use Rattle.writer.proofs.contents.time.Tie as tie
 
-pub time-spec : {M : Type 1} → statement M
-time-spec =
+pub time_spec : {M : Type 1} → statement M
+time_spec =
     tie.close
     (tie.spec
     (λ c. search rules)  -- add-end
     (λ c κs. search rules)  -- none-requires
-    (λ c. let a = c.before.before.before.args in time_short a.v.now a.p _ a.kind c.before.if1.true c.none.ensures)  -- returns
+    (λ c. let a = c.before.before.before.args in time_short a.v.now a.p _ a.kind c.before.if-v-end.true c.none.ensures)  -- returns
     (λ c κs. search rules)  -- seven-requires
     (λ c κs. search rules)  -- in-range-requires
     (λ c κs. search rules)  -- none-requires-2
     (λ c.
     let a = c.before.before.before.before.before.before.args in
-    time_outside a.v.now a.p _ a.kind c.before.before.before.before.if1.false _ c.before.before.before.seven.ensures _ c.before.before.ranged_lem.ensures (not-true _ c.before.if2.true) c.none2.ensures)  -- returns-2
+    time_outside a.v.now a.p _ a.kind c.before.before.before.before.if-v-end.false _ c.before.before.before.seven.ensures _ c.before.before.ranged_lem.ensures (not-true _ c.before.if-not-in_range.true) c.none-then-not-in_range.ensures)  -- returns-2
     (λ c κs. search rules)  -- size-requires
     (λ c.
     let a = c.before.before.before.before.before.before.args in
-    time_measured a.v.now a.p _ a.kind c.before.before.before.before.if1.false _ c.before.before.before.seven.ensures _ c.before.before.ranged_lem.ensures (not-false _ c.before.if2.false) c.size.ensures refl))  -- returns-3
+    time_measured a.v.now a.p _ a.kind c.before.before.before.before.if-v-end.false _ c.before.before.before.seven.ensures _ c.before.before.ranged_lem.ensures (not-false _ c.before.if-not-in_range.false) c.size-size.ensures refl))  -- returns-3

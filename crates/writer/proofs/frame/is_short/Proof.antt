@@ -7,15 +7,15 @@ use borrow.Author.Rules.{rules}
 use Rattle.writer.proofs.frame.is_short.Statement.{statement}
 use Rattle.writer.proofs.frame.is_short.Tie as tie
 
-pub is-short-spec : {M : Type 1} → statement M
-is-short-spec = tie.close (tie.spec
+pub is_short_spec : {M : Type 1} → statement M
+is_short_spec = tie.close (tie.spec
     (λ c κs. search rules)  -- unpack-requires
     (λ c. λ e. absurd (false≢true e))  -- returns
     (λ c. λ e. absurd (false≢true e))  -- returns-2
     (λ c.
-    λ e. let z : Short c.before.before.before.before.unpack.result c.before.before.before.before.before.args.n = record {
-      one = c.before.before.if1.false;
-      low = c.if2.false;
+    λ e. let z : Short c.before.before.before.before.unpack-e.result c.before.before.before.before.before.args.n = record {
+      one = c.before.before.if-e-ne0.false;
+      low = c.if-e-ge256.false;
       little = ltb-true _ _ e;
     } in
-    rw c.before.before.before.before.unpack.ensures at z))  -- returns-3
+    rw c.before.before.before.before.unpack-e.ensures at z))  -- returns-3

@@ -10,15 +10,15 @@ use borrow.Author.Rules.{rules}
 use Rattle.writer.proofs.frame.put_all.Statement.{statement}
 use Rattle.writer.proofs.frame.put_all.Tie as tie
 
-abbrev invariant-loop : tie.invariant-loop
+abbrev invariant-loop : tie.invariant-loop-i
 invariant-loop table w n buf₀ to e count next₀ i₀ buf next i = (i ≤ tag_count (unpacked w)) × (length buf ≡ length buf₀) × Heads table (unpacked w) n buf₀ to buf i
     next
 
-abbrev decreases-loop : tie.decreases-loop
+abbrev decreases-loop : tie.decreases-loop-i
 decreases-loop table w n buf₀ to e count next₀ i₀ buf next i = count - i
 
-pub put-all-spec : {M : Type 1} → statement M
-put-all-spec =
+pub put_all_spec : {M : Type 1} → statement M
+put_all_spec =
     tie.close
     (tie.spec
     invariant-loop
@@ -30,7 +30,7 @@ put-all-spec =
     let a = s.args in
     let b = a.table.now in
     let u = unpacked a.w in
-    (omega arith, refl, heads_none b u a.n a.buf.now a.to))  -- loop-holds
+    (omega arith, refl, heads_none b u a.n a.buf-1.now a.to))  -- loop-holds
     (λ c κs. search rules)  -- tag-code-requires
     (λ c. omega arith)  -- add-i
     (λ c κs.
@@ -39,7 +39,7 @@ put-all-spec =
     let b = a.table.now in
     let u = unpacked a.w in
     (s.requires.0, s.requires.1))  -- size-from-requires
-    (λ c. omega (arith, c.size-from.ensures.1))  -- cast-put-header
+    (λ c. omega (arith, c.size_from-inner.ensures.1))  -- cast-put-header
     (λ c κs. search rules)  -- put-header-requires
     (λ c. omega arith)  -- loop-less
     (λ c.
@@ -47,18 +47,18 @@ put-all-spec =
     let a = s.args in
     let b = a.table.now in
     let u = unpacked a.w in
-    let q = rw c.before.before.before.before.before.before.before.before.before.unpack.ensures at c.before.before.before.before.before.before.before.before.tag-count.ensures.0 in (
+    let q = rw c.before.before.before.before.before.before.before.before.before.unpack-e.ensures at c.before.before.before.before.before.before.before.before.tag_count-count.ensures.0 in (
       omega arith,
-      c.before.before.put-header.auto.1.1.0 ∙ c.before.before.before.before.before.before.before.loop.invariant.1,
+      c.before.before.put_header-next.auto.1.1.0 ∙ c.before.before.before.before.before.before.before.loop-i.invariant.1,
       heads_turn b (λ
-          k. omega (arith, c.before.before.before.before.before.before.before.before.before.before.before.shared-slice-known.given k)) u s.requires.0 a.n a.buf.now a.to _ c.before.before.before.before.before.before.before.loop.i _ c.before.before.before.before.before.before.before.loop.invariant.2 (rw c.before.before.before.before.before.before.before.loop.invariant.1 s.requires.2) (omega arith) _ _ (rw c.before.before.before.before.before.before.before.before.before.unpack.ensures at c.before.before.before.before.before.tag-code.ensures) c.before.before.before.before.size-from.ensures.0 _ _ c.before.before.put-header.ensures.0 c.before.before.put-header.ensures.1,
+          k. omega (arith, c.before.before.before.before.before.before.before.before.before.before.before.shared_slice_known-1.given k)) u s.requires.0 a.n a.buf-1.now a.to _ c.before.before.before.before.before.before.before.loop-i.i _ c.before.before.before.before.before.before.before.loop-i.invariant.2 (rw c.before.before.before.before.before.before.before.loop-i.invariant.1 s.requires.2) (omega arith) _ _ (rw c.before.before.before.before.before.before.before.before.before.unpack-e.ensures at c.before.before.before.before.before.tag_code-code.ensures) c.before.before.before.before.size_from-inner.ensures.0 _ _ c.before.before.put_header-next.ensures.0 c.before.before.put_header-next.ensures.1,
     ))  -- loop-again
-    (λ c. c.before.loop.invariant.1)  -- same-length
+    (λ c. c.before.loop-i.invariant.1)  -- same-length
     (λ c.
     let s = c.before.before.before.before.before.before in
     let a = s.args in
     let b = a.table.now in
     let u = unpacked a.w in
-    let q = rw c.before.before.before.unpack.ensures at c.before.before.tag-count.ensures.0 in
-    heads_end b (λ k. omega (arith, c.before.before.before.before.before.shared-slice-known.given k)) u s.requires.0 a.n a.buf.now a.to
-    _ c.before.loop.i _ c.before.loop.invariant.2 (rw c.before.loop.invariant.1 s.requires.2) (omega arith)))  -- returns
+    let q = rw c.before.before.before.unpack-e.ensures at c.before.before.tag_count-count.ensures.0 in
+    heads_end b (λ k. omega (arith, c.before.before.before.before.before.shared_slice_known-1.given k)) u s.requires.0 a.n a.buf-1.now a.to
+    _ c.before.loop-i.i _ c.before.loop-i.invariant.2 (rw c.before.loop-i.invariant.1 s.requires.2) (omega arith)))  -- returns

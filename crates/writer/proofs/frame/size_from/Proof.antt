@@ -12,16 +12,16 @@ use borrow.Author.Rules.{rules}
 use Rattle.writer.proofs.frame.size_from.Statement.{statement}
 use Rattle.writer.proofs.frame.size_from.Tie as tie
 
-abbrev invariant-loop : tie.invariant-loop
+abbrev invariant-loop : tie.invariant-loop-i
 invariant-loop table w j n e i₀ total₀ i total =
     (i ≤ tag_count (unpacked w)) × (total < 8194) × (i < 257) × (framed (tags_from table (unpacked w) j) n ≡ framed (tags_at table (tag_place (unpacked w) j) (i -
     j)) total)
 
-abbrev decreases-loop : tie.decreases-loop
+abbrev decreases-loop : tie.decreases-loop-i
 decreases-loop table w j n e i₀ total₀ i total = i
 
-pub size-from-spec : {M : Type 1} → statement M
-size-from-spec =
+pub size_from_spec : {M : Type 1} → statement M
+size_from_spec =
     tie.close
     (tie.spec
     invariant-loop
@@ -33,11 +33,11 @@ size-from-spec =
     let a = s.args in
     let b = a.table.now in
     let u = unpacked a.w in
-    let q = rw c.before.unpack.ensures at c.tag-count.ensures.0 in
-    (omega arith, s.requires.1, c.tag-count.ensures.1, rw q refl))  -- loop-holds
+    let q = rw c.before.unpack-e.ensures at c.tag_count-i.ensures.0 in
+    (omega arith, s.requires.1, c.tag_count-i.ensures.1, rw q refl))  -- loop-holds
     (λ c. omega arith)  -- sub-i
     (λ c κs. search rules)  -- tag-code-requires
-    (λ c. omega (arith, c.before.before.loop.invariant.1))  -- cast-header-size
+    (λ c. omega (arith, c.before.before.loop-i.invariant.1))  -- cast-header-size
     (λ c κs. search rules)  -- header-size-requires
     (λ c κs.
     let s = c.before.before.before.before.before.before.before in
@@ -46,10 +46,10 @@ size-from-spec =
     let u = unpacked a.w in (
       omega (
         arith,
-        header_small b (λ k. omega (arith, c.before.before.before.before.before.before.shared-slice-known.given k)) u s.requires.0 (c.before.before.before.loop.i - 1) (omega (arith, c.before.before.before.loop.invariant.0)) _ _ _ (rw c.before.before.before.before.before.unpack.ensures at c.before.tag-code.ensures) c.header-size.ensures (omega (arith, c.before.before.before.loop.invariant.1)),
+        header_small b (λ k. omega (arith, c.before.before.before.before.before.before.shared_slice_known-1.given k)) u s.requires.0 (c.before.before.before.loop-i.i - 1) (omega (arith, c.before.before.before.loop-i.invariant.0)) _ _ _ (rw c.before.before.before.before.before.unpack-e.ensures at c.before.tag_code.ensures) c.header_size-head.ensures (omega (arith, c.before.before.before.loop-i.invariant.1)),
       ),
       omega
-          (arith, c.before.before.before.loop.invariant.1),
+          (arith, c.before.before.before.loop-i.invariant.1),
     ))  -- grow-requires
     (λ c. omega arith)  -- loop-less
     (λ c.
@@ -57,18 +57,18 @@ size-from-spec =
     let a = s.args in
     let b = a.table.now in
     let u = unpacked a.w in (
-      omega (arith, c.before.before.before.before.loop.invariant.0),
-      c.grow.ensures.1,
-      omega (arith, c.before.before.before.before.loop.invariant.2),
-      rw c.grow.ensures.0 (framed_turn b (λ k. omega (arith, c.before.before.before.before.before.before.before.shared-slice-known.given k))
-          u s.requires.0 _ c.before.before.before.before.loop.i a.j _ _ _ c.before.before.before.loop-test.true c.before.before.before.before.loop.invariant.0 c.before.before.before.before.loop.invariant.3 (rw c.before.before.before.before.before.before.unpack.ensures at
-          c.before.before.tag-code.ensures) c.before.header-size.ensures),
+      omega (arith, c.before.before.before.before.loop-i.invariant.0),
+      c.grow-total.ensures.1,
+      omega (arith, c.before.before.before.before.loop-i.invariant.2),
+      rw c.grow-total.ensures.0 (framed_turn b (λ k. omega (arith, c.before.before.before.before.before.before.before.shared_slice_known-1.given k))
+          u s.requires.0 _ c.before.before.before.before.loop-i.i a.j _ _ _ c.before.before.before.loop-i-test.true c.before.before.before.before.loop-i.invariant.0 c.before.before.before.before.loop-i.invariant.3 (rw c.before.before.before.before.before.before.unpack-e.ensures at
+          c.before.before.tag_code.ensures) c.before.header_size-head.ensures),
     ))  -- loop-again
     (λ c.
     let s = c.before.before.before.before.before in
     let a = s.args in
     let b = a.table.now in
     let u = unpacked a.w in (
-      framed_end b _ _ c.before.loop.i a.j c.before.loop.total c.loop-test.false c.before.loop.invariant.3,
-      c.before.loop.invariant.1,
+      framed_end b _ _ c.before.loop-i.i a.j c.before.loop-i.total c.loop-i-test.false c.before.loop-i.invariant.3,
+      c.before.loop-i.invariant.1,
     )))  -- returns

@@ -115,7 +115,7 @@ abbrev at-node : (t : ℕ) (c : judge_built_lts.After-own-end (judge-built-claim
 at-node t c =
     let q = c.before.before.before.before.requires.1 in
     record {
-      octets = λ k. omega (arith, c.before.before.before.shared-slice-known.given k);
+      octets = λ k. omega (arith, c.before.before.before.shared_slice_known-1.given k);
       ready = q.0;
       there = q.1;
       marked = q.2;
@@ -125,7 +125,7 @@ at-node t c =
     }
 
 -- where a value is there
-abbrev at-member : (t : ℕ) (c : judge_members_lts.Then1 (judge-members-claims t) (judge-members-at t) judge_members.Post judge-members-Inv-loop
+abbrev at-member : (t : ℕ) (c : judge_members_lts.Then-c-gt-OVER (judge-members-claims t) (judge-members-at t) judge_members.Post judge-members-Inv-loop
     judge-members-μ-loop) →
     let a = c.before.before.before.before.before.before.before.before.before.before.args in Member a.table.now a.index.now a.v.now
     (unpacked a.w) a.p a.level a.notes.now
@@ -141,21 +141,21 @@ at-member t c =
       one = rw c.before.before.before.before.before.before.before.unpack.ensures at (rw c.before.before.before.before.before.count.ensures.0 at c.before.before.loop-test.true);
       t = c.before.below.result;
       is = rw c.before.before.before.before.before.before.before.unpack.ensures at c.before.below.ensures;
-      there = c.if1.true;
+      there = c.if-c-gt-OVER.true;
     }
 
 -- where it is judged
 at-said : (t : ℕ) (c : judge_members_lts.Joined3 (judge-members-claims t) (judge-members-at t) judge_members.Post judge-members-Inv-loop judge-members-μ-loop) →
-    Said (at-member t c.before.before.before.before.before.before.before) c.if3.judged c.if3.notes
+    Said (at-member t c.before.before.before.before.before.before.before) c.if-not-suits.judged c.if-not-suits.notes
 at-said t c =
     let m = at-member t c.before.before.before.before.before.before.before in
     ⊎_elim
-    (λ w. leaf_said m c.before.before.before.unpack2.result c.before.before.before.unpack2.ensures (c.before.before.before.before.before.before.marked.ensures.yes (not-false _ c.before.before.before.before.before.if2.false)) _ _ _ _ c.before.is-simple.ensures w.0.taken w.1.ensures w.2 w.3)
+    (λ w. leaf_said m c.before.before.before.unpack2.result c.before.before.before.unpack2.ensures (c.before.before.before.before.before.before.marked.ensures.yes (not-false _ c.before.before.before.before.before.if-level-eq0.false)) _ _ _ _ c.before.is-simple.ensures w.0.taken w.1.ensures w.2 w.3)
     (λ w. built_said m _ _ _ _ w.2.ensures w.3 w.4)
-    c.if3.branch
+    c.if-not-suits.branch
 
-pub +judge-built-judge-members-spec : {M : Type 1} → statement M
-+judge-built-judge-members-spec = close μ-judge-built μ-judge-members (λ t. judge_built_lts.spec (judge-built-claims t)
+pub +judge_built_judge_members_spec : {M : Type 1} → statement M
++judge_built_judge_members_spec = close μ-judge-built μ-judge-members (λ t. judge_built_lts.spec (judge-built-claims t)
     (judge-built-at t)
     judge_built.Post
     (λ c. let s = c.before.before in let a = s.args in let q = s.requires.1 in omega (arith, q.2.0))  -- judge-built-add-mark
@@ -170,12 +170,12 @@ pub +judge-built-judge-members-spec : {M : Type 1} → statement M
     let s = c.before.before.before.before.before in
     let a = s.args in
     let q = s.requires.1 in
-    built_shape (at-node t c.before) a.level c.if1.true a.notes.now)  -- judge-built-returns
+    built_shape (at-node t c.before) a.level c.if-c-gt-OVER.true a.notes.now)  -- judge-built-returns
     (λ c.
     let s = c.before.before.before.before.before.before in
     let a = s.args in
     let q = s.requires.1 in
-    built_level (at-node t c.before.before) a.level c.before.if1.false c.if2.true a.notes.now)  -- judge-built-returns-2
+    built_level (at-node t c.before.before) a.level c.before.if-c-gt-OVER.false c.if-level-eq0.true a.notes.now)  -- judge-built-returns-2
     (λ c.
     let s = c.before.before.before.before.before.before in
     let a = s.args in
@@ -194,26 +194,26 @@ pub +judge-built-judge-members-spec : {M : Type 1} → statement M
     let m = (at-node t c.before.before.before.before) in (
       omega (arith, q.2.0, q.0.little),
       m.constructed,
-      own_there m a.level c.before.before.before.if1.false,
-      built_known m a.level c.before.before.before.if1.false _ c.unpack.ensures,
+      own_there m a.level c.before.before.before.if-c-gt-OVER.false,
+      built_known m a.level c.before.before.before.if-c-gt-OVER.false _ c.unpack.ensures,
     ))  -- judge-built-agrees-requires
     (λ c.
     let s = c.before.before.before.before.before.before.before.before.before.before in
     let a = s.args in
     let q = s.requires.1 in
-    built_ill (at-node t c.before.before.before.before.before.before) a.level c.before.before.before.before.before.if1.false (unpacked
-    (get_or a.index.now a.t 0)) refl c.before.before.before.before.if2.false _ (rw c.before.before.unpack.ensures at c.before.agrees.ensures) (not-true _ c.if3.true) a.notes.now)  -- judge-built-returns-3
-    (λ c. omega (arith, c.before.before.before.before.if2.false))  -- judge-built-sub-judge-members
+    built_ill (at-node t c.before.before.before.before.before.before) a.level c.before.before.before.before.before.if-c-gt-OVER.false (unpacked
+    (get_or a.index.now a.t 0)) refl c.before.before.before.before.if-level-eq0.false _ (rw c.before.before.unpack.ensures at c.before.agrees.ensures) (not-true _ c.if-not-suits.true) a.notes.now)  -- judge-built-returns-3
+    (λ c. omega (arith, c.before.before.before.before.if-level-eq0.false))  -- judge-built-sub-judge-members
     (λ c κs.
     let s = c.before.before.before.before.before.before.before.before.before.before.before in
     let a = s.args in
     let q = s.requires.1 in (
-      omega (arith, s.requires.0, c.before.before.before.before.before.if2.false),
+      omega (arith, s.requires.0, c.before.before.before.before.before.if-level-eq0.false),
       (
         q.0,
-        built_stands (at-node t c.before.before.before.before.before.before.before) a.level c.before.before.before.before.before.before.if1.false (unpacked (get_or a.index.now a.t 0)) refl
-            c.before.before.before.before.before.if2.false _ (rw c.before.before.before.unpack.ensures at c.before.before.agrees.ensures)
-            (not-false _ c.before.if3.false),
+        built_stands (at-node t c.before.before.before.before.before.before.before) a.level c.before.before.before.before.before.before.if-c-gt-OVER.false (unpacked (get_or a.index.now a.t 0)) refl
+            c.before.before.before.before.before.if-level-eq0.false _ (rw c.before.before.before.unpack.ensures at c.before.before.agrees.ensures)
+            (not-false _ c.before.if-not-suits.false),
         q.4,
       ),
     ))  -- judge-built-judge-members-requires
@@ -236,12 +236,12 @@ pub +judge-built-judge-members-spec : {M : Type 1} → statement M
     let s = c.before.before.before.before.before.before.before.before.before.before.before.before.before.before.before in
     let a = s.args in
     let q = s.requires.1 in
-    built_refused (at-node t c.before.before.before.before.before.before.before.before.before.before.before) a.level c.before.before.before.before.before.before.before.before.before.before.if1.false (unpacked (get_or a.index.now a.t 0)) refl c.before.before.before.before.before.before.before.before.before.if2.false _ (rw c.before.before.before.before.before.before.before.unpack.ensures at c.before.before.before.before.before.before.agrees.ensures) (not-false _ c.before.before.before.before.before.if3.false) _ a.notes.now _ c.before.before.before.judge-members.ensures _ _ c.before.place.given.1)  -- judge-built-returns-4
+    built_refused (at-node t c.before.before.before.before.before.before.before.before.before.before.before) a.level c.before.before.before.before.before.before.before.before.before.before.if-c-gt-OVER.false (unpacked (get_or a.index.now a.t 0)) refl c.before.before.before.before.before.before.before.before.before.if-level-eq0.false _ (rw c.before.before.before.before.before.before.before.unpack.ensures at c.before.before.before.before.before.before.agrees.ensures) (not-false _ c.before.before.before.before.before.if-not-suits.false) _ a.notes.now _ c.before.before.before.judge-members.ensures _ _ c.before.place.given.1)  -- judge-built-returns-4
     (λ c.
     let s = c.before.before.before.before.before.before.before.before.before.before.before.before.before.before.before in
     let a = s.args in
     let q = s.requires.1 in
-    built_done (at-node t c.before.before.before.before.before.before.before.before.before.before.before) a.level c.before.before.before.before.before.before.before.before.before.before.if1.false (unpacked (get_or a.index.now a.t 0)) refl c.before.before.before.before.before.before.before.before.before.if2.false _ (rw c.before.before.before.before.before.before.before.unpack.ensures at c.before.before.before.before.before.before.agrees.ensures) (not-false _ c.before.before.before.before.before.if3.false) _ a.notes.now _ c.before.before.before.judge-members.ensures _ _ c.before.end.given.1 q.4))  -- judge-built-returns-5
+    built_done (at-node t c.before.before.before.before.before.before.before.before.before.before.before) a.level c.before.before.before.before.before.before.before.before.before.before.if-c-gt-OVER.false (unpacked (get_or a.index.now a.t 0)) refl c.before.before.before.before.before.before.before.before.before.if-level-eq0.false _ (rw c.before.before.before.before.before.before.before.unpack.ensures at c.before.before.before.before.before.before.agrees.ensures) (not-false _ c.before.before.before.before.before.if-not-suits.false) _ a.notes.now _ c.before.before.before.judge-members.ensures _ _ c.before.end.given.1 q.4))  -- judge-built-returns-5
     λ t. judge_members_lts.spec (judge-members-claims t)
     (judge-members-at t)
     judge_members.Post
@@ -270,7 +270,7 @@ pub +judge-built-judge-members-spec : {M : Type 1} → statement M
     let s = c.before.before.before.before.before.before.before.before in
     let a = s.args in
     let q = s.requires.1 in (
-      c.before.before.before.before.parts.ensures,
+      c.before.before.before.before.parts-s.ensures,
       rw c.before.before.before.before.before.unpack.ensures q.1,
       omega (
         arith,
@@ -283,7 +283,7 @@ pub +judge-built-judge-members-spec : {M : Type 1} → statement M
     let a = s.args in
     let q = s.requires.1 in
     omega (arith, q.0.little, c.before.before.before.loop.invariant.1.within))  -- judge-members-marked-requires
-    (λ c. member_unmarked (at-member t c.before.before) _ c.before.marked.ensures (not-true _ c.if2.true))  -- judge-members-returns
+    (λ c. member_unmarked (at-member t c.before.before) _ c.before.marked.ensures (not-true _ c.if-level-eq0.true))  -- judge-members-returns
     (λ c. omega (arith, member_few (at-member t c.before.before)))  -- judge-members-mul-x
     (λ c. omega (arith, member_few (at-member t c.before.before)))  -- judge-members-element-copy-out-x
     (λ c κs. search rules)  -- judge-members-unpack-requires-2
@@ -291,11 +291,11 @@ pub +judge-built-judge-members-spec : {M : Type 1} → statement M
     let s = c.before.before.before.before.before.before.before.before.before.before.before.before.before.before in
     let a = s.args in
     let q = s.requires.1 in
-    omega (arith, (c.before.before.before.marked.ensures.yes (not-false _ c.before.before.if2.false)).0, q.0.little))  -- judge-members-add-mark
+    omega (arith, (c.before.before.before.marked.ensures.yes (not-false _ c.before.before.if-level-eq0.false)).0, q.0.little))  -- judge-members-add-mark
     (λ c.
     omega (
       arith,
-      (c.before.before.before.before.marked.ensures.yes (not-false _ c.before.before.before.if2.false)).0,
+      (c.before.before.before.before.marked.ensures.yes (not-false _ c.before.before.before.if-level-eq0.false)).0,
     ))  -- judge-members-shared-slice-read-is-simple
     (λ c κs.
     entry_simple (at-member t c.before.before.before.before.before) c.before.unpack2.result c.before.unpack2.ensures)  -- judge-members-is-simple-requires
@@ -304,8 +304,8 @@ pub +judge-built-judge-members-spec : {M : Type 1} → statement M
     let a = s.args in
     let q = s.requires.1 in (
       q.0.little,
-      (c.before.before.before.before.before.before.marked.ensures.yes (not-false _ c.before.before.before.before.before.if2.false)),
-      not-true _ (sym c.before.is-simple.ensures ∙ c.if3.true),
+      (c.before.before.before.before.before.before.marked.ensures.yes (not-false _ c.before.before.before.before.before.if-level-eq0.false)),
+      not-true _ (sym c.before.is-simple.ensures ∙ c.if-not-suits.true),
       entry_known (at-member t c.before.before.before.before.before.before.before) c.before.before.before.unpack2.result c.before.before.before.unpack2.ensures,
     ))  -- judge-members-judge-leaf-requires
     (λ c κs.
@@ -316,8 +316,8 @@ pub +judge-built-judge-members-spec : {M : Type 1} → statement M
       (
         q.0,
         member_there (at-member t c.before.before.before.before.before.before.before.before),
-        (c.before.before.before.before.before.before.before.marked.ensures.yes (not-false _ c.before.before.before.before.before.before.if2.false)),
-        not-false _ (sym c.before.before.is-simple.ensures ∙ c.before.if3.false),
+        (c.before.before.before.before.before.before.before.marked.ensures.yes (not-false _ c.before.before.before.before.before.before.if-level-eq0.false)),
+        not-false _ (sym c.before.before.is-simple.ensures ∙ c.before.if-not-suits.false),
         c.before.before.before.before.before.before.before.before.before.before.before.loop.invariant.1.going.long ∙ q.2,
       ),
     ))  -- judge-members-judge-built-requires
@@ -352,7 +352,7 @@ pub +judge-built-judge-members-spec : {M : Type 1} → statement M
         (rw c.before.before.before.before.before.before.before.before.before.before.before.before.before.before.before.before.before.before.before.unpack.ensures at c.before.before.before.before.before.before.before.before.before.before.before.before.before.before.before.before.before.count.ensures.0),
       ),
       member_done (at-member t c.before.before.before.before.before.before.before.before.before.before.before.before) c.before.before.before.before.before.before.before.before.unpack2.result c.before.before.before.before.before.before.before.before.unpack2.ensures _ _ (at-said t c.before.before.before.before.before) _ _ c.before.before.before.judged2.given.1 _ _ (rw (← c.before.before.before.before.before.before.before.before.unpack2.ensures) at c.before.size.ensures.0)
-          c.grow.ensures.0,
+          c.grow-size.ensures.0,
     ))  -- judge-members-loop-again
     (λ c. omega (arith, c.before.before.loop-test.true))  -- judge-members-loop-less-2
     (λ c.
@@ -364,7 +364,7 @@ pub +judge-built-judge-members-spec : {M : Type 1} → statement M
         c.before.before.loop-test.true,
         (rw c.before.before.before.before.before.before.before.unpack.ensures at c.before.before.before.before.before.count.ensures.0),
       ),
-      members_pass a.table.now a.v.now (unpacked a.w) a.p a.level a.notes.now c.before.before.before.loop.i c.before.before.before.loop.at c.before.before.before.loop.total _ c.before.before.before.loop.invariant.1 (rw (← (rw c.before.before.before.before.before.before.before.unpack.ensures at c.before.before.before.before.before.count.ensures.0)) c.before.before.loop-test.true) _ (rw c.before.before.before.before.before.before.before.unpack.ensures at c.before.below.ensures) c.if1.false,
+      members_pass a.table.now a.v.now (unpacked a.w) a.p a.level a.notes.now c.before.before.before.loop.i c.before.before.before.loop.at c.before.before.before.loop.total _ c.before.before.before.loop.invariant.1 (rw (← (rw c.before.before.before.before.before.before.before.unpack.ensures at c.before.before.before.before.before.count.ensures.0)) c.before.before.loop-test.true) _ (rw c.before.before.before.before.before.before.before.unpack.ensures at c.before.below.ensures) c.if-c-gt-OVER.false,
     ))  -- judge-members-loop-again-2
     (λ c.
     let s = c.before.before.before.before.before.before.before.before in

@@ -8,8 +8,8 @@ use borrow.Author.Rules.{rules}
 use Rattle.writer.proofs.judge.is_simple.Statement.{statement}
 use Rattle.writer.proofs.judge.is_simple.Tie as tie
 
-pub is-simple-spec : {M : Type 1} → statement M
-is-simple-spec = tie.close (tie.spec
-    (λ c. c.before.before.requires ∙ ap (λ (k : ℕ). not (constructed_of k)) (sym c.if1.true))  -- returns
+pub is_simple_spec : {M : Type 1} → statement M
+is_simple_spec = tie.close (tie.spec
+    (λ c. c.before.before.requires ∙ ap (λ (k : ℕ). not (constructed_of k)) (sym c.if-kind-r.true))  -- returns
     (λ c κs. search rules)  -- constructed-requires
     (λ c. ap not c.constructed.ensures))  -- returns-2

@@ -8,8 +8,8 @@ use borrow.Author.Rules.{rules}
 use Rattle.writer.proofs.judge.judge.Statement.{statement}
 use Rattle.writer.proofs.judge.judge.Tie as tie
 
-pub judge-spec : {M : Type 1} → statement M
-judge-spec = tie.close (tie.spec
+pub judge_spec : {M : Type 1} → statement M
+judge_spec = tie.close (tie.spec
     (λ c. search rules)  -- cast-whole
     (λ c κs. search rules)  -- whole-requires
     (λ c κs.
@@ -24,4 +24,4 @@ judge-spec = tie.close (tie.spec
     let s = c.before.before.before.before.before in
     let a = s.args in
     let q = s.requires in
-    whole_said a.table.now a.index.now a.v.now q.0 a.t q.1 (unpacked c.before.before.whole.result) (ap (λ (x : Entry). x.kind) c.before.before.whole.ensures) (ap (λ (x : Entry). x.own) c.before.before.whole.ensures) 24 a.notes.now _ _ c.judge-members.ensures))  -- returns
+    whole_said a.table.now a.index.now a.v.now q.0 a.t q.1 (unpacked c.before.before.whole.result) (ap (λ (x : Entry). x.kind) c.before.before.whole.ensures) (ap (λ (x : Entry). x.own) c.before.before.whole.ensures) 24 a.notes.now _ _ c.judge_members.ensures))  -- returns

@@ -5,15 +5,15 @@ use borrow.Author.Rules.{rules}
 use Rattle.writer.proofs.lone.no_member.Statement.{statement}
 use Rattle.writer.proofs.lone.no_member.Tie as tie
 
-pub no-member-spec : {M : Type 1} → statement M
-no-member-spec =
+pub no_member_spec : {M : Type 1} → statement M
+no_member_spec =
     tie.close
     (tie.spec
     (λ c κs. search rules)  -- octet-requires
     (λ c. search rules)  -- add-start
     (λ c. search rules)  -- add-if1
-    (λ c. let a = c.before.before.before.args in members_behind a.v.now a.p c.before.before.before.requires.1 _ c.before.octet.ensures.0 c.if1.true)  -- returns
+    (λ c. let a = c.before.before.before.args in members_behind a.v.now a.p c.before.before.before.requires.1 _ c.before.octet-n.ensures.0 c.if-v-start.true)  -- returns
     (λ c κs. search rules)  -- are-zero-requires
     (λ c.
     let a = c.before.before.before.before.args in
-    members_zero a.v.now a.p c.before.before.before.before.requires.1 _ c.before.before.octet.ensures.0 c.before.if1.false _ c.are-zero.ensures))  -- returns-2
+    members_zero a.v.now a.p c.before.before.before.before.requires.1 _ c.before.before.octet-n.ensures.0 c.before.if-v-start.false _ c.are_zero.ensures))  -- returns-2

@@ -8,8 +8,8 @@ use borrow.Author.Rules.{rules}
 use Rattle.writer.proofs.node.below.Statement.{statement}
 use Rattle.writer.proofs.node.below.Tie as tie
 
-pub below-spec : {M : Type 1} → statement M
-below-spec =
+pub below_spec : {M : Type 1} → statement M
+below_spec =
     tie.close
     (tie.spec
     (λ c κs. search rules)  -- has-members-requires
@@ -17,16 +17,16 @@ below-spec =
     let s = c.before.before.before.before in
     let a = s.args in
     let b = a.table.now in
-    omega (arith, start_members a.e a.v.now a.p _ c.before.has-members.ensures c.if1.true, s.requires.1.starts))  -- add-mark
+    omega (arith, start_members a.e a.v.now a.p _ c.before.has_members.ensures c.if-has_members.true, s.requires.1.starts))  -- add-mark
     (λ c.
     let s = c.before.before.before.before in
     let a = s.args in
     let b = a.table.now in
     omega (
       arith,
-      start_members a.e a.v.now a.p _ c.before.has-members.ensures c.if1.true,
+      start_members a.e a.v.now a.p _ c.before.has_members.ensures c.if-has_members.true,
       count_members a.e a.v.now a.p
-          _ c.before.has-members.ensures c.if1.true,
+          _ c.before.has_members.ensures c.if-has_members.true,
       s.requires.1.starts,
       s.requires.2,
     ))  -- add-mark-2
@@ -36,8 +36,8 @@ below-spec =
     let b = a.table.now in
     omega (
       arith,
-      start_members a.e a.v.now a.p _ c.before.before.has-members.ensures c.before.if1.true,
-      count_members a.e a.v.now a.p _ c.before.before.has-members.ensures c.before.if1.true,
+      start_members a.e a.v.now a.p _ c.before.before.has_members.ensures c.before.if-has_members.true,
+      count_members a.e a.v.now a.p _ c.before.before.has_members.ensures c.before.if-has_members.true,
       s.requires.1.starts,
       s.requires.2,
     ))  -- shared-slice-read-if2
@@ -45,60 +45,60 @@ below-spec =
     let s = c.before.before.before.before.before.before in
     let a = s.args in
     let b = a.table.now in
-    below_missing a.e a.v.now a.p _ c.before.before.before.has-members.ensures c.before.before.if1.true b a.i c.if2.true)  -- returns
+    below_missing a.e a.v.now a.p _ c.before.before.before.has_members.ensures c.before.before.if-has_members.true b a.i c.if-v-mark-ne1.true)  -- returns
     (λ c κs.
     let s = c.before.before.before.before.before.before in
     let a = s.args in
     let b = a.table.now in
-    rw (s.requires.0, part_members a.e a.v.now a.p _ c.before.before.before.has-members.ensures c.before.before.if1.true a.i) (s.requires.1.part a.i s.requires.2 (no_message a.e a.v.now a.p _ c.before.before.before.has-members.ensures c.before.before.if1.true)))  -- part-requires
+    rw (s.requires.0, part_members a.e a.v.now a.p _ c.before.before.before.has_members.ensures c.before.before.if-has_members.true a.i) (s.requires.1.part a.i s.requires.2 (no_message a.e a.v.now a.p _ c.before.before.before.has_members.ensures c.before.before.if-has_members.true)))  -- part-requires
     (λ c.
     let s = c.before.before.before.before.before.before.before in
     let a = s.args in
     let b = a.table.now in
-    rw s.requires.0 at c.part.ensures.0 ∙ below_member a.e a.v.now a.p _ c.before.before.before.before.has-members.ensures c.before.before.before.if1.true b a.i c.before.if2.false)  -- returns-2
+    rw s.requires.0 at c.part.ensures.0 ∙ below_member a.e a.v.now a.p _ c.before.before.before.before.has_members.ensures c.before.before.before.if-has_members.true b a.i c.before.if-v-mark-ne1.false)  -- returns-2
     (λ c.
     let s = c.before.before.before.before.before.before.before in
     let a = s.args in
     let b = a.table.now in
     omega (
       arith,
-      start_choice a.e a.v.now a.p _ c.before.before.before.before.has-members.ensures c.before.before.before.if1.false c.before.if3.true,
+      start_choice a.e a.v.now a.p _ c.before.before.before.before.has_members.ensures c.before.before.before.if-has_members.false c.before.if-e-eq-CHOICE.true,
       s.requires.1.starts,
     ))  -- shared-slice-read-part
     (λ c.
     let s = c.before.before.before.before.before.before.before in
     let a = s.args in
     let b = a.table.now in
-    omega (arith, c.shared-slice-known4.given a.p))  -- cast-part
+    omega (arith, c.shared_slice_known-then-e-eq-CHOICE-1.given a.p))  -- cast-part
     (λ c κs.
     let s = c.before.before.before.before.before.before.before in
     let a = s.args in
     let b = a.table.now in
     rw (
       s.requires.0,
-      part_choice a.e a.v.now a.p _ c.before.before.before.before.has-members.ensures c.before.before.before.if1.false c.before.if3.true a.i,
-    ) (s.requires.1.part a.i s.requires.2 (λ z. omega (arith, c.before.if3.true))))  -- part-requires-2
+      part_choice a.e a.v.now a.p _ c.before.before.before.before.has_members.ensures c.before.before.before.if-has_members.false c.before.if-e-eq-CHOICE.true a.i,
+    ) (s.requires.1.part a.i s.requires.2 (λ z. omega (arith, c.before.if-e-eq-CHOICE.true))))  -- part-requires-2
     (λ c.
     let s = c.before.before.before.before.before.before.before.before in
     let a = s.args in
     let b = a.table.now in
-    rw s.requires.0 at c.part2.ensures.0 ∙ below_choice a.e a.v.now a.p _ c.before.before.before.before.before.has-members.ensures c.before.before.before.before.if1.false c.before.before.if3.true b a.i)  -- returns-3
+    rw s.requires.0 at c.part-then-e-eq-CHOICE.ensures.0 ∙ below_choice a.e a.v.now a.p _ c.before.before.before.before.before.has_members.ensures c.before.before.before.before.if-has_members.false c.before.before.if-e-eq-CHOICE.true b a.i)  -- returns-3
     (λ c. search rules)  -- cast-result
     (λ c.
     let s = c.before.before.before.before.before.before.before.before.before in
     let a = s.args in
     let b = a.table.now in
-    below_message a.e a.v.now a.p _ c.before.before.before.before.before.before.has-members.ensures c.before.before.before.before.before.if1.false b a.i c.before.if4.true)  -- returns-4
+    below_message a.e a.v.now a.p _ c.before.before.before.before.before.before.has_members.ensures c.before.before.before.before.before.if-has_members.false b a.i c.before.if-e-eq-MESSAGE.true)  -- returns-4
     (λ c κs.
     let s = c.before.before.before.before.before.before.before.before in
     let a = s.args in
     let b = a.table.now in
     rw (
       s.requires.0,
-      part_list a.e a.v.now a.p _ c.before.before.before.before.before.has-members.ensures c.before.before.before.before.if1.false c.before.before.if3.false c.if4.false a.i,
-    ) (s.requires.1.part a.i s.requires.2 c.if4.false))  -- part-requires-3
+      part_list a.e a.v.now a.p _ c.before.before.before.before.before.has_members.ensures c.before.before.before.before.if-has_members.false c.before.before.if-e-eq-CHOICE.false c.if-e-eq-MESSAGE.false a.i,
+    ) (s.requires.1.part a.i s.requires.2 c.if-e-eq-MESSAGE.false))  -- part-requires-3
     (λ c.
     let s = c.before.before.before.before.before.before.before.before.before in
     let a = s.args in
     let b = a.table.now in
-    rw s.requires.0 at c.part3.ensures.0 ∙ below_list a.e a.v.now a.p _ c.before.before.before.before.before.before.has-members.ensures c.before.before.before.before.before.if1.false c.before.before.before.if3.false c.before.if4.false b a.i))  -- returns-5
+    rw s.requires.0 at c.part-2.ensures.0 ∙ below_list a.e a.v.now a.p _ c.before.before.before.before.before.before.has_members.ensures c.before.before.before.before.before.if-has_members.false c.before.before.before.if-e-eq-CHOICE.false c.before.if-e-eq-MESSAGE.false b a.i))  -- returns-5

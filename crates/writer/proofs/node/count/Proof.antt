@@ -17,40 +17,40 @@ count_spec =
     let a = s.args in
     omega (
       arith,
-      start_members a.e a.v.now a.p _ c.before.before.has-members.ensures c.before.if1.true,
+      start_members a.e a.v.now a.p _ c.before.before.has_members.ensures c.before.if-has_members.true,
       s.requires,
     ))  -- shared-slice-read-result
-    (λ c. let s = c.before.before.before.before in let a = s.args in omega (arith, c.shared-slice-known2.given a.p))  -- cast-result
+    (λ c. let s = c.before.before.before.before in let a = s.args in omega (arith, c.shared_slice_known-then-has_members-1.given a.p))  -- cast-result
     (λ c.
     let s = c.before.before.before.before in
     let a = s.args in (
-      count_members a.e a.v.now a.p _ c.before.before.has-members.ensures c.before.if1.true,
+      count_members a.e a.v.now a.p _ c.before.before.has_members.ensures c.before.if-has_members.true,
       omega (
         arith,
-        c.shared-slice-known2.given a.p,
+        c.shared_slice_known-then-has_members-1.given a.p,
       ),
     ))  -- returns
     (λ c κs. search rules)  -- holds-one-requires
     (λ c.
     let s = c.before.before.before.before.before in
     let a = s.args in (
-      count_one a.e a.v.now a.p _ c.before.before.before.has-members.ensures c.before.before.if1.false _ c.before.holds-one.ensures c.if2.true,
+      count_one a.e a.v.now a.p _ c.before.before.before.has_members.ensures c.before.before.if-has_members.false _ c.before.holds_one.ensures c.if-holds_one.true,
       omega arith,
     ))  -- returns-2
     (λ c κs.
     let s = c.before.before.before.before.before in
     let a = s.args in
-    let z = neither_kind a.e a.v.now a.p _ c.before.before.before.has-members.ensures c.before.before.if1.false _ c.before.holds-one.ensures c.if2.false in
+    let z = neither_kind a.e a.v.now a.p _ c.before.before.before.has_members.ensures c.before.before.if-has_members.false _ c.before.holds_one.ensures c.if-holds_one.false in
     omega (
       arith,
-      start_list a.e a.v.now a.p _ c.before.before.before.has-members.ensures c.before.before.if1.false z.0 z.1,
+      start_list a.e a.v.now a.p _ c.before.before.before.has_members.ensures c.before.before.if-has_members.false z.0 z.1,
       s.requires,
     ))  -- two-requires
     (λ c.
     let s = c.before.before.before.before.before.before in
     let a = s.args in
-    let z = neither_kind a.e a.v.now a.p _ c.before.before.before.before.has-members.ensures c.before.before.before.if1.false _
-    c.before.before.holds-one.ensures c.before.if2.false in (
-      c.two.ensures.0 ∙ count_list a.e a.v.now a.p _ c.before.before.before.before.has-members.ensures c.before.before.before.if1.false z.0 z.1,
+    let z = neither_kind a.e a.v.now a.p _ c.before.before.before.before.has_members.ensures c.before.before.before.if-has_members.false _
+    c.before.before.holds_one.ensures c.before.if-holds_one.false in (
+      c.two.ensures.0 ∙ count_list a.e a.v.now a.p _ c.before.before.before.before.has_members.ensures c.before.before.before.if-has_members.false z.0 z.1,
       c.two.ensures.1,
     )))  -- returns-3

@@ -6,8 +6,8 @@ use Rattle.writer.specs.Nodes.{fixed_end}
 use Rattle.writer.proofs.node.fixed_end.Statement.{statement}
 use Rattle.writer.proofs.node.fixed_end.Tie as tie
 
-pub fixed-end-spec : {M : Type 1} → statement M
+pub fixed_end_spec : {M : Type 1} → statement M
 unfolding fixed_end
-fixed-end-spec = tie.close (tie.spec
-    (λ c. rw (lt-ltb _ _ c.if1.true) refl)  -- returns
-    (λ c. rw (le-ltb _ _ c.if1.false) refl))  -- returns-2
+fixed_end_spec = tie.close (tie.spec
+    (λ c. rw (lt-ltb _ _ c.if-v-e.true) refl)  -- returns
+    (λ c. rw (le-ltb _ _ c.if-v-e.false) refl))  -- returns-2

@@ -12,42 +12,42 @@ use borrow.Author.Rules.{rules}
 use Rattle.writer.proofs.node.is_complete.Statement.{statement}
 use Rattle.writer.proofs.node.is_complete.Tie as tie
 
-abbrev invariant-loop : tie.invariant-loop
+abbrev invariant-loop : tie.invariant-loop-left
 invariant-loop table p n v q at₀ mark₀ left₀ at mark left =
     (left ≤ n) × (at + 2 * left ≡ p + 2 * n) × (mark + left ≡ q + n) × (agreeing (members_at table at left) (flags (every_at 1 v mark left)) ≡ agreeing
     (members_at table p n) (flags (every_at 1 v q n)))
 
-abbrev decreases-loop : tie.decreases-loop
+abbrev decreases-loop : tie.decreases-loop-left
 decreases-loop table p n v q at₀ mark₀ left₀ at mark left = left
 
-pub is-complete-spec : {M : Type 1} → statement M
-is-complete-spec =
+pub is_complete_spec : {M : Type 1} → statement M
+is_complete_spec =
     tie.close
     (tie.spec
     invariant-loop
     decreases-loop
     (λ c. (omega arith, refl, refl, refl))  -- loop-holds
-    (λ c. omega (arith, c.before.before.loop.invariant.2, c.before.before.before.before.before.requires.2))  -- shared-slice-read-if1
+    (λ c. omega (arith, c.before.before.loop-left.invariant.2, c.before.before.before.before.before.requires.2))  -- shared-slice-read-if1
     (λ c κs. search rules)  -- optional-requires
     (λ c.
     let a = c.before.before.before.before.before.before.before.before.args in
-    complete_stops a.table.now c.before.before.before.before.before.loop.at c.before.before.before.before.before.loop.left a.v.now c.before.before.before.before.before.loop.mark _ c.before.before.before.before.before.loop.invariant.3 c.before.before.before.before.loop-test.true c.before.before.if1.true _ c.before.optional.ensures (not-true _ c.if2.true))  -- returns
-    (λ c. omega (arith, c.before.before.before.loop.invariant.0, c.before.before.before.loop.invariant.1))  -- add-at
-    (λ c. omega (arith, c.before.before.before.loop.invariant.2, c.before.before.before.before.before.before.requires.2))  -- add-mark
+    complete_stops a.table.now c.before.before.before.before.before.loop-left.at c.before.before.before.before.before.loop-left.left a.v.now c.before.before.before.before.before.loop-left.mark _ c.before.before.before.before.before.loop-left.invariant.3 c.before.before.before.before.loop-left-test.true c.before.before.if-v-mark-ne1.true _ c.before.optional.ensures (not-true _ c.if-not-optional.true))  -- returns
+    (λ c. omega (arith, c.before.before.before.loop-left.invariant.0, c.before.before.before.loop-left.invariant.1))  -- add-at
+    (λ c. omega (arith, c.before.before.before.loop-left.invariant.2, c.before.before.before.before.before.before.requires.2))  -- add-mark
     (λ c. omega arith)  -- sub-left
     (λ c. omega arith)  -- loop-less
     (λ c.
     let a = c.before.before.before.before.before.before.args in (
-      omega (arith, c.before.before.before.loop.invariant.0),
-      omega (arith, c.before.before.before.loop.invariant.1),
+      omega (arith, c.before.before.before.loop-left.invariant.0),
+      omega (arith, c.before.before.before.loop-left.invariant.1),
       omega (
         arith,
-        c.before.before.before.loop.invariant.2,
+        c.before.before.before.loop-left.invariant.2,
       ),
-      ⊎_elim (λ w. complete_optional a.table.now c.before.before.before.loop.at c.before.before.before.loop.left
-          a.v.now c.before.before.before.loop.mark _ c.before.before.before.loop.invariant.3 c.before.before.loop-test.true w.0.taken
-          _ w.1.ensures (not-false _ w.2.left)) (λ w. complete_present a.table.now c.before.before.before.loop.at c.before.before.before.loop.left a.v.now c.before.before.before.loop.mark _ c.before.before.before.loop.invariant.3 c.before.before.loop-test.true w.left) c.if1.branch,
+      ⊎_elim (λ w. complete_optional a.table.now c.before.before.before.loop-left.at c.before.before.before.loop-left.left
+          a.v.now c.before.before.before.loop-left.mark _ c.before.before.before.loop-left.invariant.3 c.before.before.loop-left-test.true w.0.taken
+          _ w.1.ensures (not-false _ w.2.left)) (λ w. complete_present a.table.now c.before.before.before.loop-left.at c.before.before.before.loop-left.left a.v.now c.before.before.before.loop-left.mark _ c.before.before.before.loop-left.invariant.3 c.before.before.loop-left-test.true w.left) c.if-v-mark-ne1.branch,
     ))  -- loop-again
     (λ c.
     let a = c.before.before.before.before.args in
-    complete_ends a.table.now c.before.loop.at c.before.loop.left a.v.now c.before.loop.mark _ c.before.loop.invariant.3 c.loop-test.false))  -- returns-2
+    complete_ends a.table.now c.before.loop-left.at c.before.loop-left.left a.v.now c.before.loop-left.mark _ c.before.loop-left.invariant.3 c.loop-left-test.false))  -- returns-2

@@ -6,16 +6,16 @@ use borrow.Author.Rules.{rules}
 use Rattle.writer.proofs.node.members_end.Statement.{statement}
 use Rattle.writer.proofs.node.members_end.Tie as tie
 
-pub members-end-spec : {M : Type 1} → statement M
-members-end-spec =
+pub members_end_spec : {M : Type 1} → statement M
+members_end_spec =
     tie.close (tie.spec
     (λ c κs. search rules)  -- octet-requires
     (λ c. search rules)  -- add-start
     (λ c κs. search rules)  -- are-flags-requires
     (λ c.
     let a = c.before.before.before.before.args in
-    members_shapeless a.v.now a.p _ (rw c.before.before.octet.ensures.0 at c.before.are-flags.ensures) (not-true _ c.if1.true))  -- returns
+    members_shapeless a.v.now a.p _ (rw c.before.before.octet-n.ensures.0 at c.before.are_flags.ensures) (not-true _ c.if-not-are_flags.true))  -- returns
     (λ c. search rules)  -- add-result
     (λ c.
     let a = c.before.before.before.before.args in
-    rw c.before.before.octet.ensures.0 (members_shaped a.v.now a.p _ (rw c.before.before.octet.ensures.0 at c.before.are-flags.ensures) (not-false _ c.if1.false))))  -- returns-2
+    rw c.before.before.octet-n.ensures.0 (members_shaped a.v.now a.p _ (rw c.before.before.octet-n.ensures.0 at c.before.are_flags.ensures) (not-false _ c.if-not-are_flags.false))))  -- returns-2

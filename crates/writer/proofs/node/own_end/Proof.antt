@@ -6,8 +6,8 @@ use borrow.Author.Rules.{rules}
 use Rattle.writer.proofs.node.own_end.Statement.{statement}
 use Rattle.writer.proofs.node.own_end.Tie as tie
 
-pub own-end-spec : {M : Type 1} → statement M
-own-end-spec =
+pub own_end_spec : {M : Type 1} → statement M
+own_end_spec =
     tie.close
     (tie.spec
     (λ c κs. search rules)  -- has-members-requires
@@ -15,22 +15,22 @@ own-end-spec =
     (λ c.
     let s = c.before.before.before.before in
     let a = s.args in
-    c.members-end.ensures ∙ end_members a.v.now a.kind a.p s.requires.1 _ c.before.before.has-members.ensures c.before.if1.true)  -- returns
+    c.members_end.ensures ∙ end_members a.v.now a.kind a.p s.requires.1 _ c.before.before.has_members.ensures c.before.if-has_members.true)  -- returns
     (λ c κs. search rules)  -- is-list-requires
     (λ c. search rules)  -- add-fixed-end
     (λ c κs. search rules)  -- fixed-end-requires
     (λ c.
     let s = c.before.before.before.before.before.before in
     let a = s.args in
-    c.fixed-end.ensures ∙ end_list a.v.now a.kind a.p s.requires.1 _ c.before.before.before.before.has-members.ensures c.before.before.before.if1.false _ c.before.before.is-list.ensures c.before.if2.true)  -- returns-2
+    c.fixed_end.ensures ∙ end_list a.v.now a.kind a.p s.requires.1 _ c.before.before.before.before.has_members.ensures c.before.before.before.if-has_members.false _ c.before.before.is_list.ensures c.before.if-is_list.true)  -- returns-2
     (λ c. search rules)  -- add-fixed-end-2
     (λ c κs. search rules)  -- fixed-end-requires-2
     (λ c.
     let s = c.before.before.before.before.before.before.before in
     let a = s.args in
-    c.fixed-end2.ensures ∙ end_choice a.v.now a.kind a.p s.requires.1 _ c.before.before.before.before.before.has-members.ensures c.before.before.before.before.if1.false _ c.before.before.before.is-list.ensures c.before.before.if2.false c.before.if3.true)  -- returns-3
+    c.fixed_end-then-kind-eq-CHOICE.ensures ∙ end_choice a.v.now a.kind a.p s.requires.1 _ c.before.before.before.before.before.has_members.ensures c.before.before.before.before.if-has_members.false _ c.before.before.before.is_list.ensures c.before.before.if-is_list.false c.before.if-kind-eq-CHOICE.true)  -- returns-3
     (λ c.
     let s = c.before.before.before.before.before.before in
     let a = s.args in
-    end_none a.v.now a.kind a.p s.requires.1 _ c.before.before.before.before.has-members.ensures c.before.before.before.if1.false
-    _ c.before.before.is-list.ensures c.before.if2.false c.if3.false))  -- returns-4
+    end_none a.v.now a.kind a.p s.requires.1 _ c.before.before.before.before.has_members.ensures c.before.before.before.if-has_members.false
+    _ c.before.before.is_list.ensures c.before.if-is_list.false c.if-kind-eq-CHOICE.false))  -- returns-4

@@ -7,10 +7,10 @@ use borrow.Author.Rules.{rules}
 use Rattle.writer.proofs.node.part.Statement.{statement}
 use Rattle.writer.proofs.node.part.Tie as tie
 
-pub part-spec : {M : Type 1} → statement M
-part-spec = tie.close (tie.spec
+pub part_spec : {M : Type 1} → statement M
+part_spec = tie.close (tie.spec
     (λ c. search rules)  -- mul-q
     (λ c. search rules)  -- add-q
     (λ c. search rules)  -- shared-slice-read-result
-    (λ c. omega (arith, c.shared-slice-known.given (place_of c.before.before.before.args.s c.before.before.before.args.j)))  -- cast-result
-    (λ c. (refl, omega (arith, c.shared-slice-known.given (place_of c.before.before.before.args.s c.before.before.before.args.j)))))  -- returns
+    (λ c. omega (arith, c.shared_slice_known-1.given (place_of c.before.before.before.args.s c.before.before.before.args.j)))  -- cast-result
+    (λ c. (refl, omega (arith, c.shared_slice_known-1.given (place_of c.before.before.before.args.s c.before.before.before.args.j)))))  -- returns

@@ -10,51 +10,51 @@ pub start_spec : {M : Type 1} → statement M
 start_spec =
     tie.close
     (tie.spec
-    (λ c. let s = c.before.before.before in let a = s.args in start_message a.e a.v.now a.p c.if1.true)  -- returns
+    (λ c. let s = c.before.before.before in let a = s.args in start_message a.e a.v.now a.p c.if-e-eq-MESSAGE.true)  -- returns
     (λ c κs. search rules)  -- has-members-requires
     (λ c.
     let s = c.before.before.before.before.before in
     let a = s.args in
-    omega (arith, start_members a.e a.v.now a.p _ c.before.has-members.ensures c.if2.true, s.requires))  -- add-result
+    omega (arith, start_members a.e a.v.now a.p _ c.before.has_members.ensures c.if-has_members.true, s.requires))  -- add-result
     (λ c.
     let s = c.before.before.before.before.before.before in
     let a = s.args in
     omega (
       arith,
-      start_members a.e a.v.now a.p _ c.before.before.has-members.ensures c.before.if2.true,
+      start_members a.e a.v.now a.p _ c.before.before.has_members.ensures c.before.if-has_members.true,
       s.requires,
     ))  -- shared-slice-read-result
-    (λ c. let s = c.before.before.before.before.before.before in let a = s.args in omega (arith, c.shared-slice-known2.given a.p))  -- cast-result
+    (λ c. let s = c.before.before.before.before.before.before in let a = s.args in omega (arith, c.shared_slice_known-then-has_members-1.given a.p))  -- cast-result
     (λ c.
     let s = c.before.before.before.before.before.before in
     let a = s.args in
-    omega (arith, start_members a.e a.v.now a.p _ c.before.before.has-members.ensures c.before.if2.true, s.requires))  -- add-result-2
+    omega (arith, start_members a.e a.v.now a.p _ c.before.before.has_members.ensures c.before.if-has_members.true, s.requires))  -- add-result-2
     (λ c.
     let s = c.before.before.before.before.before.before in
     let a = s.args in
-    start_members a.e a.v.now a.p _ c.before.before.has-members.ensures c.before.if2.true)  -- returns-2
+    start_members a.e a.v.now a.p _ c.before.before.has_members.ensures c.before.if-has_members.true)  -- returns-2
     (λ c.
     let s = c.before.before.before.before.before.before.before in
     let a = s.args in
     omega (
       arith,
-      start_choice a.e a.v.now a.p _ c.before.before.before.has-members.ensures c.before.before.if2.false c.if3.true,
+      start_choice a.e a.v.now a.p _ c.before.before.before.has_members.ensures c.before.before.if-has_members.false c.if-e-eq-CHOICE.true,
       s.requires,
     ))  -- add-result-3
     (λ c.
     let s = c.before.before.before.before.before.before.before in
     let a = s.args in
-    start_choice a.e a.v.now a.p _ c.before.before.before.has-members.ensures c.before.before.if2.false c.if3.true)  -- returns-3
+    start_choice a.e a.v.now a.p _ c.before.before.before.has_members.ensures c.before.before.if-has_members.false c.if-e-eq-CHOICE.true)  -- returns-3
     (λ c.
     let s = c.before.before.before.before.before.before.before in
     let a = s.args in
     omega (
       arith,
-      start_list a.e a.v.now a.p _ c.before.before.before.has-members.ensures c.before.before.if2.false c.if3.false
-          c.before.before.before.before.if1.false,
+      start_list a.e a.v.now a.p _ c.before.before.before.has_members.ensures c.before.before.if-has_members.false c.if-e-eq-CHOICE.false
+          c.before.before.before.before.if-e-eq-MESSAGE.false,
       s.requires,
     ))  -- add-result-4
     (λ c.
     let s = c.before.before.before.before.before.before.before in
     let a = s.args in
-    start_list a.e a.v.now a.p _ c.before.before.before.has-members.ensures c.before.before.if2.false c.if3.false c.before.before.before.before.if1.false))  -- returns-4
+    start_list a.e a.v.now a.p _ c.before.before.before.has_members.ensures c.before.before.if-has_members.false c.if-e-eq-CHOICE.false c.before.before.before.before.if-e-eq-MESSAGE.false))  -- returns-4

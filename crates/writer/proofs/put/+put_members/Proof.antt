@@ -79,40 +79,40 @@ put-members-claims t = (
 abbrev at-member : (t : ℕ) (c : put_members_lts.After-unpack2 (put-members-claims t) (put-members-at t) put_members.Post put-members-Inv-loop
     put-members-μ-loop) →
     let a = c.before.before.before.before.before.before.before.before.before.before.before.before.before.args in
-    (X : Puts a.table.now a.index.now a.v.now a.notes.now (unpacked a.w) a.p a.to a.buf.now) → Member X
+    (X : Puts a.table.now a.index.now a.v.now a.notes.now (unpacked a.w) a.p a.to a.buf-1.now) → Member X
 at-member t c X =
     record {
       i = c.before.before.before.before.before.loop.i;
       at = c.before.before.before.before.before.loop.at;
       next = c.before.before.before.before.before.loop.next;
-      buf = c.before.before.before.before.before.loop.buf;
+      buf = c.before.before.before.before.before.loop.buf-1;
       still = c.before.before.before.before.before.loop.invariant.4 X;
       within = c.before.before.before.before.before.loop.invariant.2;
       same = c.before.before.before.before.before.loop.invariant.3;
       one = rw c.before.before.before.before.before.before.before.before.before.unpack.ensures at (rw c.before.before.before.before.before.before.before.count.ensures.0 at c.before.before.before.before.loop-test.true);
       t = c.before.before.before.below.result;
       is = rw c.before.before.before.before.before.before.before.before.before.unpack.ensures at c.before.before.before.below.ensures;
-      there = c.before.before.if1.true;
+      there = c.before.before.if-kind-eq-BOOLEAN.true;
       x = c.unpack2.result;
       entry = c.unpack2.ensures;
     }
 
-at-sized : (t : ℕ) (c : put_members_lts.Joined2 (put-members-claims t) (put-members-at t) put_members.Post put-members-Inv-loop put-members-μ-loop) →
+at-sized : (t : ℕ) (c : put_members_lts.Joined-v-p-eq1 (put-members-claims t) (put-members-at t) put_members.Post put-members-Inv-loop put-members-μ-loop) →
     let a = c.before.before.before.before.before.before.before.before.before.before.before.before.before.before.args in
-    (X : Puts a.table.now a.index.now a.v.now a.notes.now (unpacked a.w) a.p a.to a.buf.now) →
-    Sized (at-member t c.before X) c.if2.size
+    (X : Puts a.table.now a.index.now a.v.now a.notes.now (unpacked a.w) a.p a.to a.buf-1.now) →
+    Sized (at-member t c.before X) c.if-v-p-eq1.size
 at-sized t c X =
     let m = at-member t c.before X in
-    ⊎_elim (λ w. sized_leaf m w.0.taken _ _ w.1.ensures.0 w.2) (λ w. sized_built m w.0.left _ w.2) c.if2.branch
+    ⊎_elim (λ w. sized_leaf m w.0.taken _ _ w.1.ensures.0 w.2) (λ w. sized_built m w.0.left _ w.2) c.if-v-p-eq1.branch
 
-abbrev at_front : (t : ℕ) (c : put_members_lts.After-slice-known2 (put-members-claims t) (put-members-at t) put_members.Post put-members-Inv-loop
+abbrev at_front : (t : ℕ) (c : put_members_lts.After-slice_known-then-kind-eq-INTEGER-1 (put-members-claims t) (put-members-at t) put_members.Post put-members-Inv-loop
     put-members-μ-loop) →
     let a = c.before.before.before.before.before.before.before.before.before.before.before.before.before.before.before.before.before.before.args in
-    (X : Puts a.table.now a.index.now a.v.now a.notes.now (unpacked a.w) a.p a.to a.buf.now) →
+    (X : Puts a.table.now a.index.now a.v.now a.notes.now (unpacked a.w) a.p a.to a.buf-1.now) →
     Fronted (at-member t c.before.before.before.before.before X)
 at_front t c X =
     record {
-      size = c.before.before.before.before.if2.size;
+      size = c.before.before.before.before.if-v-p-eq1.size;
       sized = at-sized t c.before.before.before.before X;
       next = c.before.before.put.result;
       buf = _;
@@ -121,8 +121,8 @@ at_front t c X =
       same = c.before.before.put.auto.1.1.1.0;
     }
 
-pub +put-members-spec : {M : Type 1} → statement M
-+put-members-spec = close μ-put-members λ t. put_members_lts.spec (put-members-claims t)
+pub +put_members_spec : {M : Type 1} → statement M
++put_members_spec = close μ-put-members λ t. put_members_lts.spec (put-members-claims t)
     (put-members-at t)
     put_members.Post
     put-members-Inv-loop
@@ -168,7 +168,7 @@ pub +put-members-spec : {M : Type 1} → statement M
     let X = s.requires.1 in
     omega (
       arith,
-      put_few X _ _ (rw (← (rw c.before.before.before.before.before.before.before.unpack.ensures at c.before.before.before.before.before.count.ensures.0)) c.before.before.loop-test.true) (rw c.before.before.before.before.before.before.before.unpack.ensures at c.before.below.ensures) c.if1.true,
+      put_few X _ _ (rw (← (rw c.before.before.before.before.before.before.before.unpack.ensures at c.before.before.before.before.before.count.ensures.0)) c.before.before.loop-test.true) (rw c.before.before.before.before.before.before.before.unpack.ensures at c.before.below.ensures) c.if-kind-eq-BOOLEAN.true,
     ))  -- put-members-mul-x
     (λ c.
     let s = c.before.before.before.before.before.before.before.before.before.before.before in
@@ -176,7 +176,7 @@ pub +put-members-spec : {M : Type 1} → statement M
     let X = s.requires.1 in
     omega (
       arith,
-      put_few X _ _ (rw (← (rw c.before.before.before.before.before.before.before.unpack.ensures at c.before.before.before.before.before.count.ensures.0)) c.before.before.loop-test.true) (rw c.before.before.before.before.before.before.before.unpack.ensures at c.before.below.ensures) c.if1.true,
+      put_few X _ _ (rw (← (rw c.before.before.before.before.before.before.before.unpack.ensures at c.before.before.before.before.before.count.ensures.0)) c.before.before.loop-test.true) (rw c.before.before.before.before.before.before.before.unpack.ensures at c.before.below.ensures) c.if-kind-eq-BOOLEAN.true,
     ))  -- put-members-element-copy-out-x
     (λ c κs. search rules)  -- put-members-unpack-requires-2
     (λ c.
@@ -189,7 +189,7 @@ pub +put-members-spec : {M : Type 1} → statement M
     let a = s.args in
     let X = s.requires.1 in
     let m = (at-member t c.before X) in
-    ((put_near m).1, put_simple m c.if2.true, put_own m))  -- put-members-size-requires
+    ((put_near m).1, put_simple m c.if-v-p-eq1.true, put_own m))  -- put-members-size-requires
     (λ c.
     let s = c.before.before.before.before.before.before.before.before.before.before.before.before.before.before in
     let a = s.args in
@@ -204,7 +204,7 @@ pub +put-members-spec : {M : Type 1} → statement M
     let s = c.before.before.before.before.before.before.before.before.before.before.before.before.before.before.before in
     let a = s.args in
     let X = s.requires.1 in
-    omega (arith, put_note (at-member t c.before.before X) c.before.if2.false))  -- put-members-cast-size
+    omega (arith, put_note (at-member t c.before.before X) c.before.if-v-p-eq1.false))  -- put-members-cast-size
     (λ c κs.
     let s = c.before.before.before.before.before.before.before.before.before.before.before.before.before.before.before in
     let a = s.args in
@@ -220,15 +220,15 @@ pub +put-members-spec : {M : Type 1} → statement M
     let a = s.args in
     let X = s.pre.1 in
     let m = (at-member t c.before.before.before.before.before.before.before X) in
-    let z = put_room (at_front t c.before.before X) c.before.if3.true in
-    ((put_near m).1, put_simple m c.before.if3.true, put_own m, z.0, z.1))  -- put-members-put-requires-2
+    let z = put_room (at_front t c.before.before X) c.before.if-kind-eq-INTEGER.true in
+    ((put_near m).1, put_simple m c.before.if-kind-eq-INTEGER.true, put_own m, z.0, z.1))  -- put-members-put-requires-2
     (λ c.
     let s = c.before.before.before.before.before.before.before.before.before.before.before.before.before.before.before.before.before.before.before.before.before.before.before.before in
     let a = s.args in
     let X = s.pre.1 in
     omega (
       arith,
-      (put_room (at_front t c.before.before.before.before.before.before X) c.before.before.before.before.before.if3.true).1,
+      (put_room (at_front t c.before.before.before.before.before.before X) c.before.before.before.before.before.if-kind-eq-INTEGER.true).1,
       c.before.before.before.before.before.before.before.before.put.auto.1.1.1.0,
       c.before.before.before.before.before.before.before.before.before.before.before.before.before.before.before.before.loop.invariant.3,
       s.good.1.1.1.1.1.1.0,
@@ -242,7 +242,7 @@ pub +put-members-spec : {M : Type 1} → statement M
     let s = c.before.before.before.before.before.before.before.before.before.before.before.before.before.before.before.before.before.before.before.before.before.before.before.before in
     let a = s.args in
     let X = s.pre.1 in
-    let z = put_leaf (at_front t c.before.before.before.before.before.before X) c.before.before.before.before.before.if3.true _ _ c.before.before.before.put2.ensures.0 c.before.before.before.put2.ensures.1 in (
+    let z = put_leaf (at_front t c.before.before.before.before.before.before X) c.before.before.before.before.before.if-kind-eq-INTEGER.true _ _ c.before.before.before.put2.ensures.0 c.before.before.before.put2.ensures.1 in (
       omega (
         arith,
         c.before.before.before.before.before.before.before.before.before.before.before.before.before.before.before.loop-test.true,
@@ -255,7 +255,7 @@ pub +put-members-spec : {M : Type 1} → statement M
       ),
       z.1,
       c.before.before.before.put2.auto.1.1.1.1.0 ∙ c.before.before.before.before.before.before.before.before.put.auto.1.1.1.0 ∙ c.before.before.before.before.before.before.before.before.before.before.before.before.before.before.before.before.loop.invariant.3,
-      λ X. (put_leaf (at_front t c.before.before.before.before.before.before X) c.before.before.before.before.before.if3.true _ _ c.before.before.before.put2.ensures.0 c.before.before.before.put2.ensures.1).2,
+      λ X. (put_leaf (at_front t c.before.before.before.before.before.before X) c.before.before.before.before.before.if-kind-eq-INTEGER.true _ _ c.before.before.before.put2.ensures.0 c.before.before.before.put2.ensures.1).2,
     ))  -- put-members-loop-again
     (λ c κs.
     let s = c.before.before.before.before.before.before.before.before.before.before.before.before.before.before.before.before.before.before.before.before in
@@ -269,8 +269,8 @@ pub +put-members-spec : {M : Type 1} → statement M
       ),
       rw (← c.before.before.before.before.before.before.before.unpack2.ensures) (put_under (at_front t c.before.before X) (λ k. omega (
         arith,
-        c.before.before.before.before.before.before.before.before.before.before.before.before.before.before.before.before.before.before.before.shared-slice-known.given k,
-      )) c.before.if3.false),
+        c.before.before.before.before.before.before.before.before.before.before.before.before.before.before.before.before.before.before.before.shared_slice_known-1.given k,
+      )) c.before.if-kind-eq-INTEGER.false),
     ))  -- put-members-put-members-requires
     (λ c.
     omega (
@@ -284,11 +284,11 @@ pub +put-members-spec : {M : Type 1} → statement M
     let e = rw (← c.before.before.before.before.before.before.before.before.before.before.unpack2.ensures) at c.before.before.put-members.ensures in
     let z = put_built (at_front t c.before.before.before.before.before X) (λ k. omega (
       arith,
-      c.before.before.before.before.before.before.before.before.before.before.before.before.before.before.before.before.before.before.before.before.before.before.shared-slice-known.given k,
-    )) c.before.before.before.before.if3.false _ _ (e (put_under (at_front t c.before.before.before.before.before X) (λ k. omega (
+      c.before.before.before.before.before.before.before.before.before.before.before.before.before.before.before.before.before.before.before.before.before.before.shared_slice_known-1.given k,
+    )) c.before.before.before.before.if-kind-eq-INTEGER.false _ _ (e (put_under (at_front t c.before.before.before.before.before X) (λ k. omega (
       arith,
-      c.before.before.before.before.before.before.before.before.before.before.before.before.before.before.before.before.before.before.before.before.before.before.shared-slice-known.given k,
-    )) c.before.before.before.before.if3.false)) in (
+      c.before.before.before.before.before.before.before.before.before.before.before.before.before.before.before.before.before.before.before.before.before.before.shared_slice_known-1.given k,
+    )) c.before.before.before.before.if-kind-eq-INTEGER.false)) in (
       omega (
         arith,
         c.before.before.before.before.before.before.before.before.before.before.before.before.before.before.loop-test.true,
@@ -303,12 +303,12 @@ pub +put-members-spec : {M : Type 1} → statement M
       c.before.before.put-members.auto.1.1.1.1.1.1.0 ∙ c.before.before.before.before.before.before.before.put.auto.1.1.1.0 ∙ c.before.before.before.before.before.before.before.before.before.before.before.before.before.before.before.loop.invariant.3,
       λ X. (put_built (at_front t c.before.before.before.before.before X) (λ k. omega (
         arith,
-        c.before.before.before.before.before.before.before.before.before.before.before.before.before.before.before.before.before.before.before.before.before.before.shared-slice-known.given k,
-      )) c.before.before.before.before.if3.false _ _ (e (put_under (at_front t
+        c.before.before.before.before.before.before.before.before.before.before.before.before.before.before.before.before.before.before.before.before.before.before.shared_slice_known-1.given k,
+      )) c.before.before.before.before.if-kind-eq-INTEGER.false _ _ (e (put_under (at_front t
           c.before.before.before.before.before X) (λ k. omega (
             arith,
-            c.before.before.before.before.before.before.before.before.before.before.before.before.before.before.before.before.before.before.before.before.before.before.shared-slice-known.given k,
-          )) c.before.before.before.before.if3.false))).2,
+            c.before.before.before.before.before.before.before.before.before.before.before.before.before.before.before.before.before.before.before.before.before.before.shared_slice_known-1.given k,
+          )) c.before.before.before.before.if-kind-eq-INTEGER.false))).2,
     ))  -- put-members-loop-again-2
     (λ c. omega (arith, c.before.before.loop-test.true))  -- put-members-loop-less-3
     (λ c.
@@ -325,7 +325,7 @@ pub +put-members-spec : {M : Type 1} → statement M
       c.before.before.before.loop.invariant.3,
       λ X. put_pass X _ _ _ _ (c.before.before.before.loop.invariant.4 X) (rw (← (rw c.before.before.before.before.before.before.before.unpack.ensures at c.before.before.before.before.before.count.ensures.0)) c.before.before.loop-test.true)
           _ (rw c.before.before.before.before.before.before.before.unpack.ensures at c.before.below.ensures)
-          c.if1.false,
+          c.if-kind-eq-BOOLEAN.false,
     ))  -- put-members-loop-again-3
     (λ c. c.before.loop.invariant.3)  -- put-members-same-length
     (λ c.
