@@ -95,7 +95,7 @@ contents_size_spec =
     let a = c13.args in
     let k = c5.if-k-eq-ENUMERATED.true in (
       by_kind c13.requires.1 _ _ k refl (number_size _ a.e.kind a.e.own _ k c4.is_integer-then-k-eq-ENUMERATED.ensures (not-false _ c3.if-not-is_integer.false) _
-          (to_z-of_z w64 _ (record { sfits = c2.of-z.type-inv }) ∙ c2.of-z.ensures) (lists_all c13.requires.1 k _ _ c.before.lists.ensures) c.if-lists.true),
+          (to_z-of_z w64 _ (record { sfits = c2.of-z.type_inv }) ∙ c2.of-z.ensures) (lists_all c13.requires.1 k _ _ c.before.lists.ensures) c.if-lists.true),
       omega arith,
     ))  -- returns-13
     (λ c.
@@ -107,7 +107,7 @@ contents_size_spec =
     let a = c13.args in
     let k = c5.if-k-eq-ENUMERATED.true in (
       by_kind c13.requires.1 _ _ k refl (number_unlisted _ a.e.kind a.e.own _ k c4.is_integer-then-k-eq-ENUMERATED.ensures (not-false _ c3.if-not-is_integer.false) _
-          (to_z-of_z w64 _ (record { sfits = c2.of-z.type-inv }) ∙ c2.of-z.ensures) (lists_all c13.requires.1 k _ _ c.before.lists.ensures) c.if-lists.false),
+          (to_z-of_z w64 _ (record { sfits = c2.of-z.type_inv }) ∙ c2.of-z.ensures) (lists_all c13.requires.1 k _ _ c.before.lists.ensures) c.if-lists.false),
       omega arith,
     ))  -- returns-14
     (λ c.

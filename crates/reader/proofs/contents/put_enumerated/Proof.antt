@@ -23,7 +23,7 @@ put_enumerated_spec =
     let q = c4.requires in
     let x = c4.args.c.now in
     let e : to_z w64 (of_z w64 c.of.result) ≡ pos (natural (integer_of x)) = to_z-of_z {w = w64} {z = c.of.result} (record {
-      sfits = c.of.type-inv;
+      sfits = c.of.type_inv;
     }) ∙ integer_is x c.of.result q.1 c.of.ensures ∙ q.3 in
     rw e (tt, omega (arith, q.4)))  -- cast-put-number
     (λ c κs.
@@ -31,7 +31,7 @@ put_enumerated_spec =
     let q = c4.requires in
     let x = c4.args.c.now in
     let e : to_z w64 (of_z w64 c.of.result) ≡ pos (natural (integer_of x)) = to_z-of_z {w = w64} {z = c.of.result} (record {
-      sfits = c.of.type-inv;
+      sfits = c.of.type_inv;
     }) ∙ integer_is x c.of.result q.1 c.of.ensures ∙ q.3 in
     rw e (q.2, q.4))  -- put-number-requires
     (λ c. search rules)  -- add-result
@@ -42,6 +42,6 @@ put_enumerated_spec =
     let q = c7.requires in
     let x = c7.args.c.now in
     let e : to_z w64 (of_z w64 c3.of.result) ≡ pos (natural (integer_of x)) = to_z-of_z {w = w64} {z = c3.of.result} (record {
-      sfits = c3.of.type-inv;
+      sfits = c3.of.type_inv;
     }) ∙ integer_is x c3.of.result q.1 c3.of.ensures ∙ q.3 in
     (refl, rw e at c.before.before.put_number.ensures)))  -- returns

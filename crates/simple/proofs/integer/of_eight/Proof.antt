@@ -45,7 +45,7 @@ of_eight_spec =
     (λ c κs. search rules)  -- signed-requires
     (λ c.
     let b = c.before.before.before.before.before.before.before.before.before in
-    let f : SFits w64 c.signed.result = record { sfits = c.signed.type-inv } in
+    let f : SFits w64 c.signed.result = record { sfits = c.signed.type_inv } in
     let k = b.before.before.before.before.before.before.before.before.before.shared_slice_known-1 in
     rw (to_z-of_z w64 c.signed.result f)
     (read_halves b.before.before.before.before.before.before.before.before.before.before.args.c.now c.signed.result (λ i. (k.given i).fits)

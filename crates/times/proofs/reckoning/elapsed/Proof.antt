@@ -30,4 +30,4 @@ elapsed_spec =
     (λ c.
     let x = c.before.before.before.before.before.before.before.before.given.ensures in
     let a = c.before.before.before.before.before.before.before.before.before.before.before.args in
-    both_given elapsed a.first.now a.second.now x c.before.before.before.before.before.before.a-1.given.1 c.before.before.before.before.given-in-Time.ensures c.before.before.b-1.given.1 (to_z-of_z w64 _ (record { sfits = c.elapsed.type-inv }) ∙ c.elapsed.ensures)))  -- returns-3
+    both_given elapsed a.first.now a.second.now x c.before.before.before.before.before.before.a-1.given.1 c.before.before.before.before.given-in-Time.ensures c.before.before.b-1.given.1 (to_z-of_z w64 _ (record { sfits = c.elapsed.type_inv }) ∙ c.elapsed.ensures)))  -- returns-3

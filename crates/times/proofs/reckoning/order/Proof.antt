@@ -30,4 +30,4 @@ order_spec =
     (λ c.
     let x = c.before.before.before.before.before.before.before.before.given.ensures in
     let a = c.before.before.before.before.before.before.before.before.before.before.before.args in
-    both_given order a.first.now a.second.now x c.before.before.before.before.before.before.a-1.given.1 c.before.before.before.before.given-in-Time.ensures c.before.before.b-1.given.1 (to_z-of_z w64 _ (record { sfits = c.order.type-inv }) ∙ c.order.ensures)))  -- returns-3
+    both_given order a.first.now a.second.now x c.before.before.before.before.before.before.a-1.given.1 c.before.before.before.before.given-in-Time.ensures c.before.before.b-1.given.1 (to_z-of_z w64 _ (record { sfits = c.order.type_inv }) ∙ c.order.ensures)))  -- returns-3

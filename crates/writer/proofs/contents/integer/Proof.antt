@@ -18,4 +18,4 @@ integer_spec =
     (λ c κs. search rules)  -- size-requires
     (λ c.
     let a = c.before.before.before.before.args in
-    integer_measured a.v.now a.p _ c.before.before.if-v-end.false _ _ _ (to_z-of_z w64 _ (record { sfits = c.before.eight.type-inv })) c.before.eight.ensures c.size-size.ensures.0 c.size-size.ensures.2 refl refl))  -- returns-2
+    integer_measured a.v.now a.p _ c.before.before.if-v-end.false _ _ _ (to_z-of_z w64 _ (record { sfits = c.before.eight.type_inv })) c.before.eight.ensures c.size-size.ensures.0 c.size-size.ensures.2 refl refl))  -- returns-2

@@ -42,7 +42,7 @@ put_spec =
     let s = c.before.before.before.before.before.before in
     let a = s.args in (
       s.requires.3 ∙ sym (ap length (encode_integer a.kind a.v.now a.p s.requires.2 c.before.before.if-kind-eq-INTEGER.true _ _ (to_z-of_z w64 _ (record {
-        sfits = c.before.eight.type-inv;
+        sfits = c.before.eight.type_inv;
       })) c.before.eight.ensures)),
       s.requires.4,
     ))  -- put-integer-requires
@@ -53,7 +53,7 @@ put_spec =
     let a = s.args in (
       integer_end a.kind a.v.now a.p s.requires.2 c.before.before.before.before.before.if-kind-eq-INTEGER.true,
       c.before.before.put_integer.ensures ∙ rw (encode_integer a.kind a.v.now a.p s.requires.2 c.before.before.before.before.before.if-kind-eq-INTEGER.true _ _ (to_z-of_z w64 _
-          (record { sfits = c.before.before.before.before.eight.type-inv })) c.before.before.before.before.eight.ensures) refl,
+          (record { sfits = c.before.before.before.before.eight.type_inv })) c.before.before.before.before.eight.ensures) refl,
     ))  -- returns-2
     (λ c κs.
     let s = c.before.before.before.before.before in

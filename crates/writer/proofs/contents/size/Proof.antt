@@ -22,7 +22,7 @@ size_spec =
     (λ c κs. search rules)  -- size-requires
     (λ c.
     let a = c.before.before.before.before.before.args in (
-      c.size.ensures.0 ∙ ap length (encode_integer a.kind a.v.now a.p c.before.before.before.before.before.requires.2 c.before.before.if-kind-eq-INTEGER.true _ _ (to_z-of_z w64 _ (record { sfits = c.before.eight.type-inv })) c.before.eight.ensures),
+      c.size.ensures.0 ∙ ap length (encode_integer a.kind a.v.now a.p c.before.before.before.before.before.requires.2 c.before.before.if-kind-eq-INTEGER.true _ _ (to_z-of_z w64 _ (record { sfits = c.before.eight.type_inv })) c.before.eight.ensures),
       omega (arith, c.size.ensures.2),
     ))  -- returns-2
     (λ c κs.
