@@ -53,11 +53,11 @@ module _ (n : ℕ) where
 
 -- whether octets have room, by the code's test
 module _ (w : List ℕ) (to k n : ℕ) (t : Bool) (sized : n ≡ length w) (tested : t ≡ leb (to + n) k) where
-  pub room : not t ≡ false → to + length w ≤ k
-  room h = rw sized at (leb-true (to + n) k (sym tested ∙ not-false t h))
+  pub room : t ≡ true → to + length w ≤ k
+  room h = rw sized at (leb-true (to + n) k (sym tested ∙ h))
 
-  pub no_room : not t ≡ true → leb (to + length w) k ≡ false
-  no_room h = rw (← sized, ← tested) (not-true t h)
+  pub no_room : t ≡ false → leb (to + length w) k ≡ false
+  no_room h = rw (← sized, ← tested) h
 
 pub put_nothing : (buf : List ℕ) (to : ℕ) (w : List ℕ) → leb (to + length w) (length buf) ≡ false → (to ≡ put_end buf to w) × (buf ≡ put buf to w)
 put_nothing buf to w h = (rw h refl, rw h refl)

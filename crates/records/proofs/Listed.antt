@@ -65,11 +65,11 @@ listed_negative b p (negsuc n) f h = and_false (leb (p + 1 + 2 * get_or b p 0) (
 
 -- the numbers are all there, or not, where their count was read
 module _ (b : List ℕ) (p n : ℕ) (e : n ≡ get_or b p 0) (z : ℤ) (r : Bool) (h : r ≡ leb (p + 1 + 2 * n) (length b)) where
-  pub listed_out : not r ≡ true → Found b p z false
-  listed_out g = rw (← e, ← h, not-true r g)
+  pub listed_out : r ≡ false → Found b p z false
+  listed_out g = rw (← e, ← h, g)
 
-  pub listed_room : not r ≡ false → p + 1 + 2 * n ≤ length b
-  listed_room g = leb-true (p + 1 + 2 * n) (length b) (sym h ∙ not-false r g)
+  pub listed_room : r ≡ true → p + 1 + 2 * n ≤ length b
+  listed_room g = leb-true (p + 1 + 2 * n) (length b) (sym h ∙ g)
 
-  pub listed_in : not r ≡ false → SFits w64 z → Negative z false → (w : Bool) → w ≡ any (λ m. eqb m (size z)) (numbers_at b (p + 1) n) → Found b p z w
-  listed_in g f y w x = rw (← e, ← h, not-false r g) (x ∙ listed_natural (numbers_at b (p + 1) n) z f y)
+  pub listed_in : r ≡ true → SFits w64 z → Negative z false → (w : Bool) → w ≡ any (λ m. eqb m (size z)) (numbers_at b (p + 1) n) → Found b p z w
+  listed_in g f y w x = rw (← e, ← h, g) (x ∙ listed_natural (numbers_at b (p + 1) n) z f y)

@@ -47,12 +47,12 @@ body_at b k p =
     Choice (every_at 1 b (p + 1) (get_or b p 0))
 
 -- where the own part of the record at o begins
-abbrev pub field_own : List ℕ → ℕ → ℕ
-field_own b o = o + 4 + 3 * get_or b (o + 3) 0
+abbrev pub own_at : List ℕ → ℕ → ℕ
+own_at b o = o + 4 + 3 * get_or b (o + 3) 0
 
 -- the record at o
 unfoldable pub record_at : List ℕ → ℕ → Record
-record_at b o = record { tags = tags_at b (o + 4) (get_or b (o + 3) 0); body = body_at b (get_or b (o + 2) 0) (field_own b o) }
+record_at b o = record { tags = tags_at b (o + 4) (get_or b (o + 3) 0); body = body_at b (get_or b (o + 2) 0) (own_at b o) }
 
 -- where a counted own part ends that has items of `size` octets, from `least` to `most` of them; 0 if it does not fit
 unfoldable pub counted_end : ℕ → ℕ → ℕ → List ℕ → ℕ → ℕ
@@ -103,9 +103,9 @@ record_end b o =
     if (not (eqb (get_or b o 0) 0x54)) 0 λ _.
     if (not (eqb (get_or b (o + 1) 0) 0x59)) 0 λ _.
     if (not (leb (get_or b (o + 3) 0) 4)) 0 λ _.
-    if (not (leb (field_own b o) (length b))) 0 λ _.
+    if (not (leb (own_at b o) (length b))) 0 λ _.
     if (not (all (λ x. leb x 3) (every_at 3 b (o + 4) (get_or b (o + 3) 0)))) 0 λ _.
-    own_end b (get_or b (o + 2) 0) (field_own b o)
+    own_end b (get_or b (o + 2) 0) (own_at b o)
 
 -- the places where the records begin; whole if nothing is left behind them, else they are those before the first that is not shaped
 pub record Scan : Type 0 where

@@ -86,11 +86,11 @@ eight_back z f = read_eight (of_z w64 z) (Fits-of_z {w = w64} {z = z} f).fits �
 -- an octet in front that only repeats the sign says nothing
 spare_pos : (b : ℕ) (s : List ℕ) → ltb b 128 ≡ true → integer_of (0 ∷ b ∷ s) ≡ integer_of (b ∷ s)
 unfolding integer_of negative pile
-spare_pos b s h = rw h
+spare_pos b s h = sym (ap (λ (t : Bool). signed (not t) (pile (not t) (0 * 256 + digit (not t) b) s)) h)
 
 spare_neg : (b : ℕ) (s : List ℕ) → ltb b 128 ≡ false → integer_of (255 ∷ b ∷ s) ≡ integer_of (b ∷ s)
 unfolding integer_of negative pile
-spare_neg b s h = rw h
+spare_neg b s h = sym (ap (λ (t : Bool). signed (not t) (pile (not t) (0 * 256 + digit (not t) b) s)) h)
 
 spare_says : (p q t : Bool) → ((p && t) || (q && not t)) ≡ true → ((p ≡ true) × (t ≡ true)) ⊎ ((q ≡ true) × (t ≡ false))
 spare_says true q true e = inl (refl, refl)

@@ -14,8 +14,8 @@ is_over_spec =
     (tie.spec
     (λ c. over_none c.before.args.m.now c.before.args.at c.before.args.indefinite c.if-m-at.true)  -- returns
     (λ c. over_closed c.before.before.args.m.now c.before.before.args.at c.before.before.args.indefinite
-    c.before.if-m-at.false (not-true _ c.if-not-indefinite.true))  -- returns-2
+    c.before.if-m-at.false c.if-not-indefinite.true)  -- returns-2
     (λ c. search rules)  -- shared-slice-read-result
     (λ c. let at_start = c.before.before.before in
     over_octet at_start.args.m.now at_start.args.at at_start.args.indefinite c.before.before.if-m-at.false
-    (not-false _ c.before.if-not-indefinite.false)))  -- returns-3
+    c.before.if-not-indefinite.false))  -- returns-3

@@ -31,8 +31,8 @@ each_flagged_spec =
     (λ c κs. search rules)  -- flagged-requires
     (λ c. present_stops (is_flagged _) _ _ _ _ c.before.before.before.before.before.before.loop-left.invariant.1
     c.before.before.before.before.before.loop-left-test.true (sym c.before.before.before.before.optional.ensures ∙
-    not-true _ c.before.before.before.if-not-optional.true)
-    (rw (← c.before.before.octet.ensures.0, ← c.before.flagged.ensures) (not-true _ c.if-not-flagged.true)))  -- returns
+    c.before.before.before.if-not-optional.true)
+    (rw (← c.before.before.octet.ensures.0, ← c.before.flagged.ensures) c.if-not-flagged.true))  -- returns
     (λ c. omega arith)  -- add-at
     (λ c. omega arith)  -- sub-left
     (λ c. omega arith)  -- loop-less

@@ -37,8 +37,8 @@ lowest_spec =
     (λ c. c.before.before.lowest_without-t.ensures ∙ lowest_closed _ _
     (filled_beyond c.before.before.before.before.before.before.before.before.requires) _ _ (zeros 128)
     (raised_on _ c.before.before.before.before.before.before.loop-flags.invariant.1 c.before.before.before.before.round-more.ensures.raised)
-    (looked_closed _ _ c.before.before.before.before.round-more.ensures (not-true _ c.if-not-more.true)))  -- returns-2
-    (λ c. c.before.before.before.before.round-more.ensures.fewer (not-false _ c.if-not-more.false))  -- loop-less
+    (looked_closed _ _ c.before.before.before.before.round-more.ensures c.if-not-more.true))  -- returns-2
+    (λ c. c.before.before.before.before.round-more.ensures.fewer c.if-not-more.false)  -- loop-less
     (λ c. (
       raised_size _ c.before.before.before.before.round-more.ensures.raised ∙ c.before.before.before.before.before.before.loop-flags.invariant.0,
       raised_on _ c.before.before.before.before.before.before.loop-flags.invariant.1

@@ -18,9 +18,9 @@ in_range_spec =
     (λ c.
     let y = c.before.before.before.before.years_of in
     let d = c.before.is_date in
-    rw (← y.ensures, ← d.ensures, not-true d.result c.if-not-is_date.true) (search tests))  -- returns-2
+    rw (← y.ensures, ← d.ensures, c.if-not-is_date.true) (search tests))  -- returns-2
     (λ c κs. search rules)  -- is-time-of-day-requires
     (λ c.
     let y = c.before.before.before.before.before.years_of in
     let d = c.before.before.is_date in
-    rw (← y.ensures, ← d.ensures, not-false d.result c.before.if-not-is_date.false, ← c.is_time_of_day.ensures) (search tests)))  -- returns-3
+    rw (← y.ensures, ← d.ensures, c.before.if-not-is_date.false, ← c.is_time_of_day.ensures) (search tests)))  -- returns-3

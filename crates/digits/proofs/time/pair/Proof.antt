@@ -18,11 +18,11 @@ use Rattle.digits.proofs.time.is_digit.Reads as is_digit_reads
 -- both octets are digits
 first : (c : lts.Else-not-is_digit-2 (is_digit_reads.Asked, is_digit_reads.Learnt) reads.Pre reads.Post)
     → (let a = c.before.before.before.before.before.before.before.args in is_digit (get_or a.c.now a.at 0)) ≡ true
-first c = let one = c.before.before.before.before in sym one.is_digit.ensures ∙ not-false one.is_digit.result c.before.before.before.if-not-is_digit.false
+first c = let one = c.before.before.before.before in sym one.is_digit.ensures ∙ c.before.before.before.if-not-is_digit.false
 
 second : (c : lts.Else-not-is_digit-2 (is_digit_reads.Asked, is_digit_reads.Learnt) reads.Pre reads.Post)
     → (let a = c.before.before.before.before.before.before.before.args in is_digit (get_or a.c.now (a.at + 1) 0)) ≡ true
-second c = sym c.before.is_digit-2.ensures ∙ not-false c.before.is_digit-2.result c.if-not-is_digit-2.false
+second c = sym c.before.is_digit-2.ensures ∙ c.if-not-is_digit-2.false
 
 pub pair_spec : {M : Type 1} → statement M
 pair_spec =
@@ -32,7 +32,7 @@ pair_spec =
     (λ c κs. search rules)  -- is-digit-requires
     (λ c.
     let a = c.before.before.before.before.args in
-    let e = sym c.before.is_digit.ensures ∙ not-true c.before.is_digit.result c.if-not-is_digit.true in
+    let e = sym c.before.is_digit.ensures ∙ c.if-not-is_digit.true in
     (sym (pair_first a.c.now a.at e), omega arith))  -- returns
     (λ c. search rules)  -- add-next
     (λ c. search rules)  -- shared-slice-read-b
@@ -40,8 +40,8 @@ pair_spec =
     (λ c.
     let one = c.before.before.before.before in
     let a = one.before.before.before.args in
-    let e = sym one.is_digit.ensures ∙ not-false one.is_digit.result c.before.before.before.if-not-is_digit.false in
-    let f = sym c.before.is_digit-2.ensures ∙ not-true c.before.is_digit-2.result c.if-not-is_digit-2.true in
+    let e = sym one.is_digit.ensures ∙ c.before.before.before.if-not-is_digit.false in
+    let f = sym c.before.is_digit-2.ensures ∙ c.if-not-is_digit-2.true in
     (sym (pair_second a.c.now a.at e f), omega arith))  -- returns-2
     (λ c. let (a, b) = digit_true _ (first c) in a)  -- sub-result
     (λ c. let (a, b) = digit_true _ (first c) in record { fits = omega arith })  -- mul-result

@@ -72,7 +72,7 @@ lacks_spec =
     let a = c13.args in
     let q = c13.requires in
     sym (c9.loop-k.invariant ∙ lacks_must q.1.ready _ q.1.known _ (at-span c10) q.2 a.came.now _ a.any c7.loop-k-test.true _
-    c.before.optional.ensures c3.if-came-k-eq0.true (not-true _ c.if-not-optional.true)))  -- returns-2
+    c.before.optional.ensures c3.if-came-k-eq0.true c.if-not-optional.true))  -- returns-2
     (λ c.
     let c4 = c.before.before.before.before in
     let c7 = c4.before.before.before in

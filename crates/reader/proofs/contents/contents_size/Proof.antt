@@ -81,7 +81,7 @@ contents_size_spec =
     let s = c.before.before.before.before.before.before.before.before.before.before in
     let a = s.args in
     let k = c.before.before.if-k-eq-ENUMERATED.true in (
-      by_kind s.requires.1 _ _ k refl (number_wrong _ a.e.kind a.e.own _ k c.before.is_integer-then-k-eq-ENUMERATED.ensures (not-true _ c.if-not-is_integer.true)),
+      by_kind s.requires.1 _ _ k refl (number_wrong _ a.e.kind a.e.own _ k c.before.is_integer-then-k-eq-ENUMERATED.ensures c.if-not-is_integer.true),
       omega arith,
     ))  -- returns-12
     (λ c κs. tt)  -- of-requires
@@ -94,7 +94,7 @@ contents_size_spec =
     let c13 = c5.before.before.before.before.before.before.before.before in
     let a = c13.args in
     let k = c5.if-k-eq-ENUMERATED.true in (
-      by_kind c13.requires.1 _ _ k refl (number_size _ a.e.kind a.e.own _ k c4.is_integer-then-k-eq-ENUMERATED.ensures (not-false _ c3.if-not-is_integer.false) _
+      by_kind c13.requires.1 _ _ k refl (number_size _ a.e.kind a.e.own _ k c4.is_integer-then-k-eq-ENUMERATED.ensures c3.if-not-is_integer.false _
           (to_z-of_z w64 _ (record { sfits = c2.of-z.type_inv }) ∙ c2.of-z.ensures) (lists_all c13.requires.1 k _ _ c.before.lists.ensures) c.if-lists.true),
       omega arith,
     ))  -- returns-13
@@ -106,7 +106,7 @@ contents_size_spec =
     let c13 = c5.before.before.before.before.before.before.before.before in
     let a = c13.args in
     let k = c5.if-k-eq-ENUMERATED.true in (
-      by_kind c13.requires.1 _ _ k refl (number_unlisted _ a.e.kind a.e.own _ k c4.is_integer-then-k-eq-ENUMERATED.ensures (not-false _ c3.if-not-is_integer.false) _
+      by_kind c13.requires.1 _ _ k refl (number_unlisted _ a.e.kind a.e.own _ k c4.is_integer-then-k-eq-ENUMERATED.ensures c3.if-not-is_integer.false _
           (to_z-of_z w64 _ (record { sfits = c2.of-z.type_inv }) ∙ c2.of-z.ensures) (lists_all c13.requires.1 k _ _ c.before.lists.ensures) c.if-lists.false),
       omega arith,
     ))  -- returns-14

@@ -43,14 +43,14 @@ next_spec =
     let c10 = c9.before in
     let q = c10.before.before.before.requires in
     rw (← (at-since c6)) (stands_list q.1 q.2 _ c10.unpack-e.ensures _ c9.holds_one.ensures _ _ c8.if-holds_one.false _
-    c5.read.ensures _ c3.end-1.given.1 _ c.before.has_members.ensures (not-true _ c.if-not-has_members.true)))  -- returns-2
+    c5.read.ensures _ c3.end-1.given.1 _ c.before.has_members.ensures c.if-not-has_members.true))  -- returns-2
     (λ c κs.
     let c6 = c.before.before.before.before.before.before in
     let c10 = c6.before.before.before.before in
     let q = c10.before.before.before.requires in (
       q.0,
       q.1,
-      has_members_lem q.1 _ c10.unpack-e.ensures _ c.before.has_members.ensures c6.if-e-eq-SEQUENCE.i (not-false _ c.if-not-has_members.false),
+      has_members_lem q.1 _ c10.unpack-e.ensures _ c.before.has_members.ensures c6.if-e-eq-SEQUENCE.i c.if-not-has_members.false,
     ))  -- lacks-requires
     (λ c.
     let c3 = c.before.before.before in

@@ -134,7 +134,7 @@ indirect_spec =
       c9.seek.ensures.0,
       indirect_none (at-parts c18) _ _ _ _ (c15.loop-k.invariant.1 ∙ indirect_stop (at-parts c18) _ _ _ (at-candidate c11) _ _
           c9.seek.ensures.1 c12.if-came-k-eq0.true c7.enum_told-1.given.1 c5.if-e-eq-SEQUENCE.true _ c.before.before.optional.ensures
-          (not-true _ c.before.if-not-optional.true)) _ c.unawaited.ensures,
+          c.before.if-not-optional.true) _ c.unawaited.ensures,
     ))  -- returns-2
     (λ c.
     let c4 = c.before.before.before.before in

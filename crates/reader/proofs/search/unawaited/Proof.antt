@@ -26,13 +26,13 @@ unawaited_spec =
     let c4 = c3.before in
     let c6 = c4.before.before in
     ap (λ (x : ReadingCause). Refused x) (sym (unfit_trailing c6.requires.1 _ c4.unpack.ensures _ c3.has_members.ensures _ _
-    c.before.lacks.ensures c6.args.cause c.before.before.if-has_members.true (not-true _ c.if-not-lacks.true))))  -- returns
+    c.before.lacks.ensures c6.args.cause c.before.before.if-has_members.true c.if-not-lacks.true)))  -- returns
     (λ c.
     let c3 = c.before.before.before in
     let c4 = c3.before in
     let c6 = c4.before.before in
     ap (λ (x : ReadingCause). Refused x) (sym (unfit_left c6.requires.1 _ c4.unpack.ensures _ c3.has_members.ensures _ _
-    c.before.lacks.ensures c6.args.cause c.before.before.if-has_members.true (not-false _ c.if-not-lacks.false))))  -- returns-2
+    c.before.lacks.ensures c6.args.cause c.before.before.if-has_members.true c.if-not-lacks.false)))  -- returns-2
     (λ c.
     let c4 = c.before.before.before.before in
     let q = c4.requires in

@@ -15,7 +15,7 @@ convert_spec =
     (λ c.
     let v = c.before in
     let a = v.before.before.before.args in
-    outcome_is (version_refused a.kind a.version a.time.now a.buf-1.now v.is_version.ensures (not-true _ c.if-not-is_version.true)) refl refl)  -- returns
+    outcome_is (version_refused a.kind a.version a.time.now a.buf-1.now v.is_version.ensures c.if-not-is_version.true) refl refl)  -- returns
     (λ c κs. search rules)  -- given-requires
     (λ c. search rules)  -- enum-known-cause
     (λ c κs. search rules)  -- refuse-requires
@@ -30,7 +30,7 @@ convert_spec =
     let g = c.before.before.before.before in
     let v = g.before.before in
     let a = v.before.before.before.args in
-    outcome_is (node_refused a.kind a.version a.time.now a.buf-1.now v.is_version.ensures (not-false _ g.before.if-not-is_version.false) g.given.ensures
+    outcome_is (node_refused a.kind a.version a.time.now a.buf-1.now v.is_version.ensures g.before.if-not-is_version.false g.given.ensures
     c.before.before.cause-1.given.1) c.refuse.ensures refl)  -- returns-2
     (λ c.
     let d = c.before.before.before.before in
@@ -38,7 +38,7 @@ convert_spec =
     let g = t.before.before in
     let v = g.before.before in
     let a = v.before.before.before.args in
-    outcome_is (time_refused a.kind a.version a.time.now a.buf-1.now v.is_version.ensures (not-false _ g.before.if-not-is_version.false) g.given.ensures
+    outcome_is (time_refused a.kind a.version a.time.now a.buf-1.now v.is_version.ensures g.before.if-not-is_version.false g.given.ensures
     t.t-1.given.1 d.counterpart.ensures c.before.before.cause-in-Refused-counterpart-1.given.1) c.refuse-in-Refused-counterpart.ensures refl)  -- returns-3
     (λ c. search rules)  -- same-length
     (λ c.
@@ -51,5 +51,5 @@ convert_spec =
     let v = g.before.before in
     let a = v.before.before.before.args in
     let w = rw o.other_kind.ensures at p.put.ensures in
-    outcome_is (counterpart_put a.kind a.version a.time.now a.buf-1.now v.is_version.ensures (not-false _ g.before.if-not-is_version.false) g.given.ensures
+    outcome_is (counterpart_put a.kind a.version a.time.now a.buf-1.now v.is_version.ensures g.before.if-not-is_version.false g.given.ensures
     t.t-1.given.1 d.counterpart.ensures u.u-1.given.1) w.0 w.1))  -- returns-4

@@ -27,8 +27,8 @@ bits_spec =
     (λ c.
     let a = c.before.before.before.before.before.before.before.args in
     bits_unclear a.v.now a.p _ c.before.before.before.before.before.if-v-start.false _ c.before.before.before.before.two-n.ensures.0
-    c.before.before.before.if-v-end.false _ c.before.before.clear.ensures (not-true _ c.before.if-not-clear.true) c.none-then-not-clear.ensures)  -- returns-3
+    c.before.before.before.if-v-end.false _ c.before.before.clear.ensures c.before.if-not-clear.true c.none-then-not-clear.ensures)  -- returns-3
     (λ c. search rules)  -- add-t7
     (λ c.
     let a = c.before.before.before.before.before.before.args in
-    bits_measured a.v.now a.p _ c.before.before.before.before.if-v-start.false _ c.before.before.before.two-n.ensures.0 c.before.before.if-v-end.false _ c.before.clear.ensures (not-false _ c.if-not-clear.false) c.before.before.before.two-n.ensures.1 refl refl))  -- returns-4
+    bits_measured a.v.now a.p _ c.before.before.before.before.if-v-start.false _ c.before.before.before.two-n.ensures.0 c.before.before.if-v-end.false _ c.before.clear.ensures c.if-not-clear.false c.before.before.before.two-n.ensures.1 refl refl))  -- returns-4

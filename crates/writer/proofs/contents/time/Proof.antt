@@ -19,8 +19,8 @@ time_spec =
     (λ c κs. search rules)  -- none-requires-2
     (λ c.
     let a = c.before.before.before.before.before.before.args in
-    time_outside a.v.now a.p _ a.kind c.before.before.before.before.if-v-end.false _ c.before.before.before.seven.ensures _ c.before.before.ranged_lem.ensures (not-true _ c.before.if-not-in_range.true) c.none-then-not-in_range.ensures)  -- returns-2
+    time_outside a.v.now a.p _ a.kind c.before.before.before.before.if-v-end.false _ c.before.before.before.seven.ensures _ c.before.before.ranged_lem.ensures c.before.if-not-in_range.true c.none-then-not-in_range.ensures)  -- returns-2
     (λ c κs. search rules)  -- size-requires
     (λ c.
     let a = c.before.before.before.before.before.before.args in
-    time_measured a.v.now a.p _ a.kind c.before.before.before.before.if-v-end.false _ c.before.before.before.seven.ensures _ c.before.before.ranged_lem.ensures (not-false _ c.before.if-not-in_range.false) c.size-size.ensures refl))  -- returns-3
+    time_measured a.v.now a.p _ a.kind c.before.before.before.before.if-v-end.false _ c.before.before.before.seven.ensures _ c.before.before.ranged_lem.ensures c.before.if-not-in_range.false c.size-size.ensures refl))  -- returns-3

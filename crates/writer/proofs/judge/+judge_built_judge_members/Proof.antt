@@ -202,7 +202,7 @@ pub +judge_built_judge_members_spec : {M : Type 1} → statement M
     let a = s.args in
     let q = s.requires.1 in
     built_ill (at-node t c.before.before.before.before.before.before) a.level c.before.before.before.before.before.if-c-gt-OVER.false (unpacked
-    (get_or a.index.now a.t 0)) refl c.before.before.before.before.if-level-eq0.false _ (rw c.before.before.unpack.ensures at c.before.agrees.ensures) (not-true _ c.if-not-suits.true) a.notes.now)  -- judge-built-returns-3
+    (get_or a.index.now a.t 0)) refl c.before.before.before.before.if-level-eq0.false _ (rw c.before.before.unpack.ensures at c.before.agrees.ensures) c.if-not-suits.true a.notes.now)  -- judge-built-returns-3
     (λ c. omega (arith, c.before.before.before.before.if-level-eq0.false))  -- judge-built-sub-judge-members
     (λ c κs.
     let s = c.before.before.before.before.before.before.before.before.before.before.before in
@@ -213,7 +213,7 @@ pub +judge_built_judge_members_spec : {M : Type 1} → statement M
         q.0,
         built_stands (at-node t c.before.before.before.before.before.before.before) a.level c.before.before.before.before.before.before.if-c-gt-OVER.false (unpacked (get_or a.index.now a.t 0)) refl
             c.before.before.before.before.before.if-level-eq0.false _ (rw c.before.before.before.unpack.ensures at c.before.before.agrees.ensures)
-            (not-false _ c.before.if-not-suits.false),
+            c.before.if-not-suits.false,
         q.4,
       ),
     ))  -- judge-built-judge-members-requires
@@ -236,12 +236,12 @@ pub +judge_built_judge_members_spec : {M : Type 1} → statement M
     let s = c.before.before.before.before.before.before.before.before.before.before.before.before.before.before.before in
     let a = s.args in
     let q = s.requires.1 in
-    built_refused (at-node t c.before.before.before.before.before.before.before.before.before.before.before) a.level c.before.before.before.before.before.before.before.before.before.before.if-c-gt-OVER.false (unpacked (get_or a.index.now a.t 0)) refl c.before.before.before.before.before.before.before.before.before.if-level-eq0.false _ (rw c.before.before.before.before.before.before.before.unpack.ensures at c.before.before.before.before.before.before.agrees.ensures) (not-false _ c.before.before.before.before.before.if-not-suits.false) _ a.notes.now _ c.before.before.before.judge-members.ensures _ _ c.before.place.given.1)  -- judge-built-returns-4
+    built_refused (at-node t c.before.before.before.before.before.before.before.before.before.before.before) a.level c.before.before.before.before.before.before.before.before.before.before.if-c-gt-OVER.false (unpacked (get_or a.index.now a.t 0)) refl c.before.before.before.before.before.before.before.before.before.if-level-eq0.false _ (rw c.before.before.before.before.before.before.before.unpack.ensures at c.before.before.before.before.before.before.agrees.ensures) c.before.before.before.before.before.if-not-suits.false _ a.notes.now _ c.before.before.before.judge-members.ensures _ _ c.before.place.given.1)  -- judge-built-returns-4
     (λ c.
     let s = c.before.before.before.before.before.before.before.before.before.before.before.before.before.before.before in
     let a = s.args in
     let q = s.requires.1 in
-    built_done (at-node t c.before.before.before.before.before.before.before.before.before.before.before) a.level c.before.before.before.before.before.before.before.before.before.before.if-c-gt-OVER.false (unpacked (get_or a.index.now a.t 0)) refl c.before.before.before.before.before.before.before.before.before.if-level-eq0.false _ (rw c.before.before.before.before.before.before.before.unpack.ensures at c.before.before.before.before.before.before.agrees.ensures) (not-false _ c.before.before.before.before.before.if-not-suits.false) _ a.notes.now _ c.before.before.before.judge-members.ensures _ _ c.before.end.given.1 q.4))  -- judge-built-returns-5
+    built_done (at-node t c.before.before.before.before.before.before.before.before.before.before.before) a.level c.before.before.before.before.before.before.before.before.before.before.if-c-gt-OVER.false (unpacked (get_or a.index.now a.t 0)) refl c.before.before.before.before.before.before.before.before.before.if-level-eq0.false _ (rw c.before.before.before.before.before.before.before.unpack.ensures at c.before.before.before.before.before.before.agrees.ensures) c.before.before.before.before.before.if-not-suits.false _ a.notes.now _ c.before.before.before.judge-members.ensures _ _ c.before.end.given.1 q.4))  -- judge-built-returns-5
     λ t. judge_members_lts.spec (judge-members-claims t)
     (judge-members-at t)
     judge_members.Post

@@ -27,10 +27,10 @@ judge_leaf_spec =
     let s = c.before.before.before.before.before.before.before.before in
     let a = s.args in
     λ T t same. leaf_ill a.table.now a.e a.v.now a.at a.level s.requires.1 _ c.before.before.before.before.measure-x.ensures T t
-    same c.before.before.before.if-end-eq0.false c.before.before.if-level-eq0.false _ c.before.suits.ensures (not-true _ c.if-not-suits.true))  -- returns-3
+    same c.before.before.before.if-end-eq0.false c.before.before.if-level-eq0.false _ c.before.suits.ensures c.if-not-suits.true)  -- returns-3
     (λ c κs. search rules)  -- grow-requires
     (λ c.
     let s = c.before.before.before.before.before.before.before.before.before in
     let a = s.args in
     λ T t same. leaf_done a.table.now a.e a.v.now a.at a.level s.requires.1 _ c.before.before.before.before.before.measure-x.ensures T t same c.before.before.before.before.if-end-eq0.false c.before.before.before.if-level-eq0.false _ c.before.before.suits.ensures
-    (not-false _ c.before.if-not-suits.false) s.requires.2 _ c.grow-size.ensures.0))  -- returns-4
+    c.before.if-not-suits.false s.requires.2 _ c.grow-size.ensures.0))  -- returns-4

@@ -31,7 +31,7 @@ is_complete_spec =
     (λ c κs. search rules)  -- optional-requires
     (λ c.
     let a = c.before.before.before.before.before.before.before.before.args in
-    complete_stops a.table.now c.before.before.before.before.before.loop-left.at c.before.before.before.before.before.loop-left.left a.v.now c.before.before.before.before.before.loop-left.mark _ c.before.before.before.before.before.loop-left.invariant.3 c.before.before.before.before.loop-left-test.true c.before.before.if-v-mark-ne1.true _ c.before.optional.ensures (not-true _ c.if-not-optional.true))  -- returns
+    complete_stops a.table.now c.before.before.before.before.before.loop-left.at c.before.before.before.before.before.loop-left.left a.v.now c.before.before.before.before.before.loop-left.mark _ c.before.before.before.before.before.loop-left.invariant.3 c.before.before.before.before.loop-left-test.true c.before.before.if-v-mark-ne1.true _ c.before.optional.ensures c.if-not-optional.true)  -- returns
     (λ c. omega (arith, c.before.before.before.loop-left.invariant.0, c.before.before.before.loop-left.invariant.1))  -- add-at
     (λ c. omega (arith, c.before.before.before.loop-left.invariant.2, c.before.before.before.before.before.before.requires.2))  -- add-mark
     (λ c. omega arith)  -- sub-left
