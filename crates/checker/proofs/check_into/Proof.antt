@@ -13,19 +13,19 @@ pub check_into_spec : {M : Type 1} → statement M
 check_into_spec =
     tie.close
     (tie.spec
-    (λ c. into_long c.before.before.args.table.now _ c.if-table-gt-LONGEST_TABLE.true)  -- returns
+    (λ c. into_long c.args.table.now _ c.if-table-gt-LONGEST_TABLE.true)  -- returns
     (λ c κs. search rules)  -- fill-requires
     (λ c.
-    let a = c.before.before.before.before.before.before.args in
-    let f = c.before.before.fill-made.ensures in
-    into_misshapen a.table.now _ _ _ c.before.before.before.before.if-table-gt-LONGEST_TABLE.false f.1 f.2 (sym c.if-not-made.true ∙ f.0))  -- returns-2
+    let a = c.args in
+    let f = c.fill-made.ensures in
+    into_misshapen a.table.now _ _ _ c.if-table-gt-LONGEST_TABLE.false f.1 f.2 (sym c.if-not-made.true ∙ f.0))  -- returns-2
     (λ c κs.
-    let a = c.before.before.before.before.before.before.before.args in
-    let f = c.before.before.before.fill-made.ensures in
-    index_filled a.table.now (λ k. omega (arith, c.before.before.before.before.before.before.shared_slice_known-1.given k))
-    c.before.before.before.before.before.if-table-gt-LONGEST_TABLE.false _ _ f.1 f.2)  -- judge-records-requires
+    let a = c.args in
+    let f = c.fill-made.ensures in
+    index_filled a.table.now (λ k. omega (arith, c.shared_slice_known-1.given k))
+    c.if-table-gt-LONGEST_TABLE.false _ _ f.1 f.2)  -- judge-records-requires
     (λ c.
-    let a = c.before.before.before.before.before.before.before.before.args in
-    let f = c.before.before.before.before.fill-made.ensures in
-    into_judged a.table.now _ _ _ c.before.before.before.before.before.before.if-table-gt-LONGEST_TABLE.false f.1 f.2 _
-    (sym c.before.before.if-not-made.false ∙ f.0) c.judge_records-verdict.ensures))  -- returns-3
+    let a = c.args in
+    let f = c.fill-made.ensures in
+    into_judged a.table.now _ _ _ c.if-table-gt-LONGEST_TABLE.false f.1 f.2 _
+    (sym c.if-not-made.false ∙ f.0) c.judge_records-verdict.ensures))  -- returns-3

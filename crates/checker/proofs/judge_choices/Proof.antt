@@ -14,36 +14,36 @@ judge_choices_spec =
     tie.close
     (tie.spec
     (λ c κs. search rules)  -- stand-ins-requires
-    (λ c κs. let x = c.before.before.before.before.requires in (x.0, ready _ _ x.1 c.before.stand_ins.ensures, x.1))  -- lowest-circular-requires
-    (λ c. rw (← c.before.lowest_circular-p.ensures, lt-ltb _ _ c.if-p-n.true))  -- returns
-    (λ c κs. let x = c.before.before.before.before.before.before.before.requires in (
+    (λ c κs. let x = c.requires in (x.0, ready _ _ x.1 c.stand_ins.ensures, x.1))  -- lowest-circular-requires
+    (λ c. rw (← c.lowest_circular-p.ensures, lt-ltb _ _ c.if-p-n.true))  -- returns
+    (λ c κs. let x = c.requires in (
       x.0,
-      ready _ _ x.1 c.before.before.before.before.stand_ins.ensures,
+      ready _ _ x.1 c.stand_ins.ensures,
       straight _ _ x.1 (filled_beyond x.0) _
-          c.before.before.lowest_circular-p.ensures c.before.if-p-n.false,
+          c.lowest_circular-p.ensures c.if-p-n.false,
     ))  -- lowest-sharing-requires
     (λ c. rw (
-      ← c.before.before.before.before.lowest_circular-p.ensures,
-      le-ltb _ _ c.before.before.before.if-p-n.false,
-      ← c.before.lowest_sharing-p.ensures,
+      ← c.lowest_circular-p.ensures,
+      le-ltb _ _ c.if-p-n.false,
+      ← c.lowest_sharing-p.ensures,
       lt-ltb _ _ c.if-p-n-2.true,
     ))  -- returns-2
     (λ c κs. search rules)  -- lowest-requires
     (λ c. rw (
-      ← c.before.before.before.before.before.before.lowest_circular-p.ensures,
+      ← c.lowest_circular-p.ensures,
       le-ltb _ _
-          c.before.before.before.before.before.if-p-n.false,
-      ← c.before.before.before.lowest_sharing-p.ensures,
-      le-ltb _ _ c.before.before.if-p-n-2.false,
-      ← c.before.lowest-p.ensures,
+          c.if-p-n.false,
+      ← c.lowest_sharing-p.ensures,
+      le-ltb _ _ c.if-p-n-2.false,
+      ← c.lowest-p.ensures,
       lt-ltb _ _ c.if-p-n-3.true,
     ))  -- returns-3
     (λ c. rw (
-      ← c.before.before.before.before.before.before.lowest_circular-p.ensures,
+      ← c.lowest_circular-p.ensures,
       le-ltb _ _
-          c.before.before.before.before.before.if-p-n.false,
-      ← c.before.before.before.lowest_sharing-p.ensures,
-      le-ltb _ _ c.before.before.if-p-n-2.false,
-      ← c.before.lowest-p.ensures,
+          c.if-p-n.false,
+      ← c.lowest_sharing-p.ensures,
+      le-ltb _ _ c.if-p-n-2.false,
+      ← c.lowest-p.ensures,
       le-ltb _ _ c.if-p-n-3.false,
     )))  -- returns-4

@@ -13,23 +13,23 @@ judge_records_spec =
     tie.close
     (tie.spec
     (λ c κs. search rules)  -- lowest-requires
-    (λ c. rw (← c.before.lowest-p.ensures, lt-ltb _ _ c.if-p-n.true))  -- returns
+    (λ c. rw (← c.lowest-p.ensures, lt-ltb _ _ c.if-p-n.true))  -- returns
     (λ c κs. search rules)  -- lowest-requires-2
     (λ c. rw (
-      ← c.before.before.before.lowest-p.ensures,
-      le-ltb _ _ c.before.before.if-p-n.false,
-      ← c.before.lowest-p-2.ensures,
+      ← c.lowest-p.ensures,
+      le-ltb _ _ c.if-p-n.false,
+      ← c.lowest-p-2.ensures,
       lt-ltb _ _
           c.if-p-n-2.true,
     ))  -- returns-2
     (λ c κs. (
-      c.before.before.before.before.before.requires,
-      named _ _ _ _ c.before.before.before.before.before.requires.shaped
-          c.before.before.before.lowest-p.ensures c.before.before.if-p-n.false c.before.lowest-p-2.ensures c.if-p-n-2.false,
+      c.requires,
+      named _ _ _ _ c.requires.shaped
+          c.lowest-p.ensures c.if-p-n.false c.lowest-p-2.ensures c.if-p-n-2.false,
     ))  -- judge-choices-requires
     (λ c. rw (
-      ← c.before.before.before.before.lowest-p.ensures,
-      le-ltb _ _ c.before.before.before.if-p-n.false,
-      ← c.before.before.lowest-p-2.ensures,
-      le-ltb _ _ c.before.if-p-n-2.false,
+      ← c.lowest-p.ensures,
+      le-ltb _ _ c.if-p-n.false,
+      ← c.lowest-p-2.ensures,
+      le-ltb _ _ c.if-p-n-2.false,
     ) c.judge_choices.ensures))  -- returns-3

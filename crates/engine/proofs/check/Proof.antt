@@ -12,5 +12,5 @@ check_spec = tie.close (tie.spec
     (λ c. search rules)  -- enum_told
     (λ c. search rules)  -- enum-known-cause
     (λ c κs. search rules)  -- table-cause-requires
-    (λ c. rw (← c.before.before.check.ensures, c.enum_told-1.given.1))  -- returns
-    (λ c. rw (← c.before.before.before.before.check.ensures, c.before.before.cause-1.given.1, c.table_cause-cause.ensures)))  -- returns-2
+    (λ c. rw (← c.check.ensures, c.in-Passed.is))  -- returns
+    (λ c. rw (← c.check.ensures, c.in-Refused.is, c.table_cause-cause.ensures)))  -- returns-2

@@ -11,5 +11,5 @@ constructed_spec =
     tie.close
     (tie.spec
     (λ c. search rules)  -- array-read-result
-    (λ c. constructed_table c.before.args.kind (omega arith))  -- returns
-    (λ c. constructed_beyond c.before.args.kind (omega arith)))  -- returns-2
+    (λ c. constructed_table c.args.kind (omega arith))  -- returns
+    (λ c. constructed_beyond c.args.kind (omega arith)))  -- returns-2

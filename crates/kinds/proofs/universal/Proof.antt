@@ -12,5 +12,5 @@ universal_spec =
     (tie.spec
     (λ c. search rules)  -- array-read-result
     (λ c. search rules)  -- cast-result
-    (λ c. universal_table c.before.args.kind (omega arith))  -- returns
-    (λ c. universal_beyond c.before.args.kind (omega arith)))  -- returns-2
+    (λ c. universal_table c.args.kind (omega arith))  -- returns
+    (λ c. universal_beyond c.args.kind (omega arith)))  -- returns-2

@@ -17,13 +17,13 @@ pack_reckoning_spec =
     (λ c. search rules)  -- enum-known-a
     (λ c. search rules)  -- enum-known-a-2
     (λ c κs. search rules)  -- report-of-requires
-    (λ c. omega (arith, c.before.report_of-p.ensures.2))  -- mul
-    (λ c. record { sfits = omega (arith, c.before.report_of-p.ensures.2) })  -- cast-result
+    (λ c. omega (arith, c.report_of-p.ensures.2))  -- mul
+    (λ c. record { sfits = omega (arith, c.report_of-p.ensures.2) })  -- cast-result
     (λ c.
-    let z = c.before.a-1.given.0.0 in
+    let z = c.in-Is.z in
     let fits : SFits w64 z = record { sfits = c.known_told-1.given.0.1 } in
-    to_z-of_z w64 z fits ∙ rw c.before.a-1.given.1 refl)  -- returns
+    to_z-of_z w64 z fits ∙ rw c.in-Is.is refl)  -- returns
     (λ c.
-    let n = c.before.report_of-p.result.number in
-    to_z_pos w64 (n * 1099511627776) (omega (arith, c.before.report_of-p.ensures.2))
-    ∙ rw (c.before.before.before.a-in-Refused-1.given.1, ← c.before.report_of-p.ensures.0) refl))  -- returns-2
+    let n = c.report_of-p.result.number in
+    to_z_pos w64 (n * 1099511627776) (omega (arith, c.report_of-p.ensures.2))
+    ∙ rw (c.in-Refused.is, ← c.report_of-p.ensures.0) refl))  -- returns-2

@@ -15,5 +15,5 @@ use Rattle.link.proofs.pack.Reads as pack_reads
 pub yinscarf_check_spec : {M : Type 1} → statement M
 yinscarf_check_spec = tie.close (tie.spec
     (λ c κs. search rules)  -- check-requires
-    (λ c κs. rw c.check.ensures (check_within c.before.before.args.table.now))  -- pack-requires
-    (λ c. c.pack.ensures ∙ ap packed c.before.check.ensures))  -- returns
+    (λ c κs. rw c.check.ensures (check_within c.args.table.now))  -- pack-requires
+    (λ c. c.pack.ensures ∙ ap packed c.check.ensures))  -- returns

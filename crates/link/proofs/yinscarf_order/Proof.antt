@@ -14,4 +14,4 @@ yinscarf_order_spec =
     (tie.spec
     (λ c κs. search rules)  -- order-requires
     (λ c κs. search rules)  -- pack-reckoning-requires
-    (λ c. to_z-of_z w64 _ (record { sfits = c.pack_reckoning.type_inv }) ∙ c.pack_reckoning.ensures ∙ ap packed_reckoning c.before.order.ensures))  -- returns
+    (λ c. to_z-of_z w64 _ (record { sfits = c.pack_reckoning.type_inv }) ∙ c.pack_reckoning.ensures ∙ ap packed_reckoning c.order.ensures))  -- returns

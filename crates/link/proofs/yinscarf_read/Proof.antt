@@ -14,8 +14,8 @@ use Rattle.link.proofs.pack.Reads as pack_reads
 pub yinscarf_read_spec : {M : Type 1} → statement M
 yinscarf_read_spec = tie.close (tie.spec
     (λ c κs. search rules)  -- read-requires
-    (λ c κs. let a = c.before.before.before.before.before.before.before.args in rw c.before.before.read.ensures.0 (read_small
-    a.table.now a.t a.message.now a.buf-1.now
-    (λ i. (c.before.before.before.before.before.shared_slice_known-2-1.given i).fits)))  -- pack-requires
-    (λ c. c.before.before.before.read.auto.1.1.1.0)  -- same-length
-    (λ c. (c.pack.ensures ∙ ap packed c.before.before.before.read.ensures.0, c.before.before.before.read.ensures.1)))  -- returns
+    (λ c κs. let a = c.args in rw c.read.ensures.0 (read_small
+    a.table.now a.t a.message.now a.buf.now
+    (λ i. (c.shared_slice_known-2-1.given i).fits)))  -- pack-requires
+    (λ c. c.read.auto.1.1.1.0)  -- same-length
+    (λ c. (c.pack.ensures ∙ ap packed c.read.ensures.0, c.read.ensures.1)))  -- returns

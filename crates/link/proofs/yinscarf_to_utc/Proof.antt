@@ -14,8 +14,7 @@ yinscarf_to_utc_spec =
     (tie.spec
     (λ c κs. search rules)  -- to-utc-requires
     (λ c κs.
-    let t = c.before.before in
-    let a = t.before.before.before.before.args in
-    rw t.to_utc.ensures.0 (conversion_small Generalized _ a.time.now a.buf-1.now (λ i. (t.before.before.before.shared_slice_known-1.given i).fits)))  -- pack-requires
+    let a = c.args in
+    rw c.to_utc.ensures.0 (conversion_small Generalized _ a.time.now a.buf.now (λ i. (c.shared_slice_known-1.given i).fits)))  -- pack-requires
     (λ c. search rules)  -- same-length
-    (λ c. let t = c.before.before.before in (c.pack.ensures ∙ ap packed t.to_utc.ensures.0, t.to_utc.ensures.1)))  -- returns
+    (λ c. (c.pack.ensures ∙ ap packed c.to_utc.ensures.0, c.to_utc.ensures.1)))  -- returns

@@ -14,8 +14,8 @@ use Rattle.link.proofs.pack.Reads as pack_reads
 pub yinscarf_write_spec : {M : Type 1} → statement M
 yinscarf_write_spec = tie.close (tie.spec
     (λ c κs. search rules)  -- write-requires
-    (λ c κs. let a = c.before.before.before.before.before.before.before.args in rw c.before.before.write.ensures.0 (write_small
-    a.table.now a.t a.value.now a.buf-1.now
-    (λ i. (c.before.before.before.before.before.shared_slice_known-2-1.given i).fits)))  -- pack-requires
-    (λ c. c.before.before.before.write.auto.1.1.1.0)  -- same-length
-    (λ c. (c.pack.ensures ∙ ap packed c.before.before.before.write.ensures.0, c.before.before.before.write.ensures.1)))  -- returns
+    (λ c κs. let a = c.args in rw c.write.ensures.0 (write_small
+    a.table.now a.t a.value.now a.buf.now
+    (λ i. (c.shared_slice_known-2-1.given i).fits)))  -- pack-requires
+    (λ c. c.write.auto.1.1.1.0)  -- same-length
+    (λ c. (c.pack.ensures ∙ ap packed c.write.ensures.0, c.write.ensures.1)))  -- returns

@@ -19,26 +19,21 @@ read_spec =
     (λ c κs. search rules)  -- table-cause-requires
     (λ c. search rules)  -- enum_told
     (λ c κs.
-    let c4 = c.before.before.before.before in
-    let c8 = c4.before.before.before.before in
-    let b = c8.before.args.table.now in
-    let o : Octets b = λ k. omega (arith, c8.shared_slice_known-1.given k) in
-    let e = c4.check_into-c.ensures in
-    table_ready b _ e.0 c.before.before.enum_told-1.given.1 _ (filled_after b _ _ _ o e.1 e.2) (λ f. f.count) o)  -- read-passed-requires
+    let b = c.args.table.now in
+    let o : Octets b = λ k. omega (arith, c.shared_slice_known-1.given k) in
+    let e = c.check_into-c.ensures in
+    table_ready b _ e.0 c.in-Passed.is _ (filled_after b _ _ _ o e.1 e.2) (λ f. f.count) o)  -- read-passed-requires
     (λ c.
-    let c3 = c.before.before.before.before in
-    let a = c3.before.before.before.before.before.args in
+    let a = c.args in
     let b = a.table.now in
-    let v = a.buf-1.now in
-    rw c.table_cause-cause.ensures (out_table b _ c3.check_into-c.ensures.0 v (λ T n. read_outcome T n _ _ v) _ _ c.before.before.verdict-1.given.1))  -- returns
+    let v = a.buf.now in
+    rw c.table_cause-cause.ensures (out_table b _ c.check_into-c.ensures.0 v (λ T n. read_outcome T n _ _ v) _ _ c.in-Refused.is))  -- returns
     (λ c. search rules)  -- same-length
     (λ c.
-    let c5 = c.before.before.before.before.before in
-    let c7 = c5.before.before in
-    let a = c7.before.before.before.before.before.args in
+    let a = c.args in
     let b = a.table.now in
-    let v = a.buf-1.now in
-    let o : Octets b = λ k. omega (arith, c7.before.before.before.before.shared_slice_known-1.given k) in
-    let e = c7.check_into-c.ensures in
-    out_passed b _ e.0 c5.enum_told-1.given.1 _ (filled_after b _ _ _ o e.1 e.2) (λ f. f.count) v
-    (λ T n. read_outcome T n _ _ v) _ _ c.before.before.read_passed.ensures))  -- returns-2
+    let v = a.buf.now in
+    let o : Octets b = λ k. omega (arith, c.shared_slice_known-1.given k) in
+    let e = c.check_into-c.ensures in
+    out_passed b _ e.0 c.in-Passed.is _ (filled_after b _ _ _ o e.1 e.2) (λ f. f.count) v
+    (λ T n. read_outcome T n _ _ v) _ _ c.read_passed.ensures))  -- returns-2

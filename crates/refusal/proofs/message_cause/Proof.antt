@@ -15,10 +15,10 @@ message_cause_spec =
     (λ c. search rules)  -- enum-told-5
     (λ c. search rules)  -- enum-told-6
     (λ c. search rules)  -- enum-told-7
-    (λ c. rw c.enum_told-1.given.1)  -- returns
-    (λ c. rw c.enum_told-in-Forbidden-1.given.1)  -- returns-2
-    (λ c. rw c.enum_told-in-NotAwaited-1.given.1)  -- returns-3
-    (λ c. rw c.enum_told-in-Contents-1.given.1)  -- returns-4
-    (λ c. rw c.enum_told-in-Trailing-1.given.1)  -- returns-5
-    (λ c. rw c.enum_told-in-MessageLevel-1.given.1)  -- returns-6
-    (λ c. rw c.enum_told-in-LengthField-1.given.1))  -- returns-7
+    (λ c. rw c.in-Cut.is)  -- returns
+    (λ c. rw c.in-Forbidden.is)  -- returns-2
+    (λ c. rw c.in-NotAwaited.is)  -- returns-3
+    (λ c. rw c.in-Contents.is)  -- returns-4
+    (λ c. rw c.in-Trailing.is)  -- returns-5
+    (λ c. rw c.in-MessageLevel.is)  -- returns-6
+    (λ c. rw c.in-LengthField.is))  -- returns-7

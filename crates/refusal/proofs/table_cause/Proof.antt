@@ -14,9 +14,9 @@ table_cause_spec =
     (λ c. search rules)  -- enum-told-4
     (λ c. search rules)  -- enum-told-5
     (λ c. search rules)  -- enum-told-6
-    (λ c. rw c.enum_told-1.given.1)  -- returns
-    (λ c. rw c.enum_told-in-NoRecord-1.given.1)  -- returns-2
-    (λ c. rw c.enum_told-in-WrongTag-1.given.1)  -- returns-3
-    (λ c. rw c.enum_told-in-ChoiceLoop-1.given.1)  -- returns-4
-    (λ c. rw c.enum_told-in-SharedTag-1.given.1)  -- returns-5
-    (λ c. rw c.enum_told-in-NoValue-1.given.1))  -- returns-6
+    (λ c. rw c.in-TableShape.is)  -- returns
+    (λ c. rw c.in-NoRecord.is)  -- returns-2
+    (λ c. rw c.in-WrongTag.is)  -- returns-3
+    (λ c. rw c.in-ChoiceLoop.is)  -- returns-4
+    (λ c. rw c.in-SharedTag.is)  -- returns-5
+    (λ c. rw c.in-NoValue.is))  -- returns-6

@@ -11,6 +11,6 @@ value_cause_spec =
     (λ c. search rules)  -- enum_told
     (λ c. search rules)  -- enum-told-2
     (λ c. search rules)  -- enum-told-3
-    (λ c. rw c.enum_told-1.given.1)  -- returns
-    (λ c. rw c.enum_told-in-IllTyped-1.given.1)  -- returns-2
-    (λ c. rw c.enum_told-in-ValueLevel-1.given.1))  -- returns-3
+    (λ c. rw c.in-ValueShape.is)  -- returns
+    (λ c. rw c.in-IllTyped.is)  -- returns-2
+    (λ c. rw c.in-ValueLevel.is))  -- returns-3

@@ -44,11 +44,11 @@ segment-at t = and 1 segment_kinds.ps (is 1 segment_kinds.ps μ-segment t) segme
 abbrev segment-below : ℕ → In 1 segment_kinds.ps
 segment-below t = and 1 segment_kinds.ps (falls 1 segment_kinds.ps ◌<◌ μ-segment t) segment.Pre
 
-abbrev all-Inv-loop : all_lts.invariant-loop
+abbrev all-Inv-loop : all_lts.invariant-loop-cause
 all-Inv-loop m indefinite bits depth one at₀ size₀ unused₀ back₀ at size unused back =
     (at ≤ length m) × (back ≤ at) × (one ≤ size) × (size ≤ one + at) × Going (kind_of bits) depth indefinite m at size unused back
 
-abbrev all-μ-loop : all_lts.decreases-loop
+abbrev all-μ-loop : all_lts.decreases-loop-cause
 all-μ-loop m indefinite bits depth one at₀ size₀ unused₀ back₀ at size unused back = length m - at
 
 abbrev all-claims : ℕ → all_lts.Claims
@@ -78,37 +78,25 @@ segment-claims t = (
 )
 
 -- where a segment was read
-turned : (t : ℕ) (c : all_lts.After-struct-known (all-claims t) (all_at t) all.Post all-Inv-loop all-μ-loop) →
-    let c14 = c.before.before.before.before.before.before.before.before.before.before.before.before.before.before in
-    let c15 = c14.before in
-    let c17 = c15.before.before in
-    let l = c14 in
-    let a = c17.args in
-    let y = c.before.before.x.given.0.0 in
-    let one = c15.least.result in
-    (1 ≤ y.end) × (l.loop.at + y.end ≤ length a.m.now) × (one ≤ y.size) × (y.size ≤ y.end) × (y.back ≤ y.end)
-    × Going (kind_of a.bits) a.depth a.indefinite a.m.now (l.loop.at + y.end) (l.loop.size - one + y.size) y.unused y.back
+turned : (t : ℕ) (c : all_lts.After-struct_known-1 (all-claims t) (all_at t) all.Post all-Inv-loop all-μ-loop) →
+    let a = c.args in
+    let y = c.in-Read-segment.x in
+    let one = c.least-one.result in
+    (1 ≤ y.end) × (c.loop-cause.at + y.end ≤ length a.m.now) × (one ≤ y.size) × (y.size ≤ y.end) × (y.back ≤ y.end)
+    × Going (kind_of a.bits) a.depth a.indefinite a.m.now (c.loop-cause.at + y.end) (c.loop-cause.size - one + y.size) y.unused y.back
 turned t c =
-    let c4 = c.before.before.before.before in
-    let c5 = c4.before in
-    let c7 = c5.before.before in
-    let c9 = c7.before.before in
-    let c11 = c9.before.before in
-    let c13 = c11.before.before in
-    let c14 = c13.before in
-    let c15 = c14.before in
-    going_turn c14.loop.invariant.4 c13.read.ensures c11.enum_told.given.1 (rw part_to_end at c9.read-tag.ensures) c7.code-1.given.1
-    c5.if-bits.false (rw part_to_end at c4.segment.ensures) c15.least.ensures c.before.before.x.given.1
+    going_turn c.loop-cause.invariant.4 c.read.ensures c.in-More.is (rw part_to_end at c.read_tag.ensures) c.in-Read.is
+    c.if-unused-gt0.false (rw part_to_end at c.segment.ensures) c.least-one.ensures c.in-Read-segment.is
 
 -- where the identifier of a segment was read
-abbrev begun : (t : ℕ) (c : segment_lts.Else-bits (segment-claims t) (segment-at t) segment.Post) →
-    let a = c.before.before.args in Begun (kind_of a.bits) a.m.now a.depth
+abbrev begun : (t : ℕ) (c : segment_lts.Else-depth-eq0 (segment-claims t) (segment-at t) segment.Post) →
+    let a = c.args in Begun (kind_of a.bits) a.m.now a.depth
 begun t c =
     record {
-      from = c.before.before.args.from;
-      constructed = c.before.before.args.constructed;
-      is = c.before.before.requires.1;
-      deep = c.if-bits.false;
+      from = c.args.from;
+      constructed = c.args.constructed;
+      is = c.requires.1;
+      deep = c.if-unused-gt0.false;
     }
 
 pub +all_segment_spec : {M : Type 1} → statement M
@@ -123,184 +111,108 @@ pub +all_segment_spec : {M : Type 1} → statement M
     all-Inv-loop
     all-μ-loop
     (λ c κs. search rules)  -- all-least-requires
-    (λ c. (omega arith, omega arith, omega arith, omega arith, going_first _ _ _ _ _ c.least.ensures))  -- all-loop-holds
-    (λ c. c.loop.invariant.0)  -- all-sub-left
+    (λ c. (omega arith, omega arith, omega arith, omega arith, going_first _ _ _ _ _ c.least-one.ensures))  -- all-loop-holds
+    (λ c. c.loop-cause.invariant.0)  -- all-sub-left
     (λ c κs. search rules)  -- all-read-requires
     (λ c. search rules)  -- all-enum-known-cause
     (λ c κs. search rules)  -- all-refused-requires
     (λ c.
-    let c4 = c.before.before.before.before in
-    let c5 = c4.before in
-    c.refused.ensures ∙ going_broken c5.loop.invariant.4 c4.read.ensures c.before.before.cause-1.given.1)  -- all-returns
+    c.refused.ensures ∙ going_broken c.loop-cause.invariant.4 c.read.ensures c.in-Broken.is)  -- all-returns
     (λ c. search rules)  -- all-enum-known-end
     (λ c.
-    let c3 = c.before.before.before in
-    let c4 = c3.before in
-    (going_over c4.loop.invariant.4 c3.read.ensures c4.loop.invariant.0 c.before.end.given.1).0)  -- all-sub-t22
+    (going_over c.loop-cause.invariant.4 c.read.ensures c.loop-cause.invariant.0 c.in-Over.is).0)  -- all-sub-t22
     (λ c.
-    let c3 = c.before.before.before in
-    let c4 = c3.before in
-    let c7 = c4.before.before.before in
-    let x = going_over c4.loop.invariant.4 c3.read.ensures c4.loop.invariant.0 c.before.end.given.1 in
-    omega (arith, x.0, x.1, c4.loop.invariant.1, c7.well_formed))  -- all-add-t23
+    let x = going_over c.loop-cause.invariant.4 c.read.ensures c.loop-cause.invariant.0 c.in-Over.is in
+    omega (arith, x.0, x.1, c.loop-cause.invariant.1, c.well_formed))  -- all-add-t23
     (λ c.
-    let c3 = c.before.before.before in
-    let c4 = c3.before in
-    (going_over c4.loop.invariant.4 c3.read.ensures c4.loop.invariant.0 c.before.end.given.1).2)  -- all-returns-2
+    (going_over c.loop-cause.invariant.4 c.read.ensures c.loop-cause.invariant.0 c.in-Over.is).2)  -- all-returns-2
     (λ c. search rules)  -- all-enum-told
-    (λ c. c.before.before.before.loop.invariant.0)  -- all-sub-rest
-    (λ c. omega (arith, c.before.before.before.loop.invariant.0))  -- all-part-rest-start
+    (λ c. c.loop-cause.invariant.0)  -- all-sub-rest
+    (λ c. omega (arith, c.loop-cause.invariant.0))  -- all-part-rest-start
     (λ c. omega arith)  -- all-part-rest-end
     (λ c κs. search rules)  -- all-read-tag-requires
     (λ c. search rules)  -- all-enum-known-cause-2
     (λ c κs. search rules)  -- all-refused-requires-2
     (λ c.
-    let c4 = c.before.before.before.before in
-    let c6 = c4.before.before in
-    let c8 = c6.before.before in
-    let c9 = c8.before in
-    c.refused2.ensures ∙ going_untagged c9.loop.invariant.4 c8.read.ensures c6.enum_told.given.1 (rw part_to_end at c4.read-tag.ensures)
-    c.before.before.cause2.given.1)  -- all-returns-3
+    c.refused-in-Refused.ensures ∙ going_untagged c.loop-cause.invariant.4 c.read.ensures c.in-More.is (rw part_to_end at c.read_tag.ensures)
+    c.in-Refused.is)  -- all-returns-3
     (λ c. search rules)  -- all-enum-known-code
     (λ c.
-    let c9 = c.before.before.before.before.before.before.before.before.before in
-    let c12 = c9.before.before.before in
-    omega (arith, c9.loop.invariant.0, c9.loop.invariant.1, c12.well_formed))  -- all-add-refused
+    omega (arith, c.loop-cause.invariant.0, c.loop-cause.invariant.1, c.well_formed))  -- all-add-refused
     (λ c κs. search rules)  -- all-refused-requires-3
     (λ c.
-    let c3 = c.before.before.before in
-    let c5 = c3.before.before in
-    let c7 = c5.before.before in
-    let c9 = c7.before.before in
-    let c10 = c9.before in
-    c.refused3.ensures ∙ going_unused c10.loop.invariant.4 c9.read.ensures c7.enum_told.given.1 (rw part_to_end at c5.read-tag.ensures)
-    c3.code-1.given.1 c.before.if-bits.true)  -- all-returns-4
+    c.refused-then-unused-gt0.ensures ∙ going_unused c.loop-cause.invariant.4 c.read.ensures c.in-More.is (rw part_to_end at c.read_tag.ensures)
+    c.in-Read.is c.if-unused-gt0.true)  -- all-returns-4
     (λ c κs.
-    let c4 = c.before.before.before.before in
-    let c12 = c4.before.before.before.before.before.before.before.before in
-    let x = rw part_to_end at c4.read-tag.ensures in
-    (omega (arith, c12.requires.0), rw part_to_end (tag_read (kind_of c12.args.bits) _ _ x _ _ c.before.before.code-1.given.1).0))  -- all-segment-requires
+    let x = rw part_to_end at c.read_tag.ensures in
+    (omega (arith, c.requires.0), rw part_to_end (tag_read (kind_of c.args.bits) _ _ x _ _ c.in-Read.is).0))  -- all-segment-requires
     (λ c. search rules)  -- all-enum-known-cause-3
     (λ c κs. search rules)  -- all-refused-requires-4
     (λ c.
-    let c4 = c.before.before.before.before in
-    let c5 = c4.before in
-    let c7 = c5.before.before in
-    let c9 = c7.before.before in
-    let c11 = c9.before.before in
-    let c13 = c11.before.before in
-    let c14 = c13.before in
-    c.refused4.ensures ∙ going_refused c14.loop.invariant.4 c13.read.ensures c11.enum_told.given.1
-    (rw part_to_end at c9.read-tag.ensures) c7.code-1.given.1 c5.if-bits.false (rw part_to_end at c4.segment.ensures)
-    c.before.before.cause3.given.1)  -- all-returns-5
+    c.refused-in-Refused-segment.ensures ∙ going_refused c.loop-cause.invariant.4 c.read.ensures c.in-More.is
+    (rw part_to_end at c.read_tag.ensures) c.in-Read.is c.if-unused-gt0.false (rw part_to_end at c.segment.ensures)
+    c.in-Refused-segment.is)  -- all-returns-5
     (λ c. search rules)  -- all-enum-known-x
     (λ c.
-    let c17 = c.before.before.before.before.before.before.before.before.before.before.before.before.before.before.before.before.before in
-    omega (arith, (turned t c).1, c17.well_formed))  -- all-add-at
+    omega (arith, (turned t c).1, c.well_formed))  -- all-add-at
     (λ c.
-    let c14 = c.before.before.before.before.before.before.before.before.before.before.before.before.before.before in
-    c14.loop.invariant.2)  -- all-sub-size
+    c.loop-cause.invariant.2)  -- all-sub-size
     (λ c.
-    let c15 = c.before.before.before.before.before.before.before.before.before.before.before.before.before.before.before in
-    let c18 = c15.before.before.before in
     let x = turned t c.before in
-    omega (arith, x.1, x.3, c15.loop.invariant.3, c18.well_formed))  -- all-add-size
+    omega (arith, x.1, x.3, c.loop-cause.invariant.3, c.well_formed))  -- all-add-size
     (λ c. let x = turned t c.before in omega (arith, x.0, x.1))  -- all-loop-less
     (λ c.
-    let c15 = c.before.before.before.before.before.before.before.before.before.before.before.before.before.before.before in
     let x = turned t c.before in
-    (x.1, omega (arith, x.4), omega (arith, x.2), omega (arith, x.3, c15.loop.invariant.3), x.5)))  -- all-loop-again
+    (x.1, omega (arith, x.4), omega (arith, x.2), omega (arith, x.3, c.loop-cause.invariant.3), x.5)))  -- all-loop-again
     λ t. segment_lts.spec
     (segment-claims t)
     (segment-at t)
     segment.Post
     (λ c κs. search rules)  -- segment-refused-requires
     (λ c.
-    let c3 = c.before.before.before in
-    c.refused.ensures ∙ segment_deep (kind_of c3.args.bits) c3.args.m.now _ c.before.if-bits.true)  -- segment-returns
+    c.refused.ensures ∙ segment_deep (kind_of c.args.bits) c.args.m.now _ c.if-unused-gt0.true)  -- segment-returns
     (λ c κs. search rules)  -- segment-read-requires
     (λ c. search rules)  -- segment-enum-known-cause
     (λ c κs. search rules)  -- segment-refused-requires-2
     (λ c. search rules)  -- segment-enum-known-x
     (λ c.
-    let c3 = c.before.before.before in
-    let c4 = c3.before in
-    (segment_part (begun t c4) c3.read.ensures.0 c.before.x.given.1).0)  -- segment-sub-c
+    (segment_part (begun t c.before.before.before.before) c.read.ensures.0 c.in-Read-segment.is).0)  -- segment-sub-c
     (λ c.
-    let c3 = c.before.before.before in
-    let c4 = c3.before in
-    omega (arith, segment_part (begun t c4) c3.read.ensures.0 c.before.x.given.1))  -- segment-part-c-start
+    omega (arith, segment_part (begun t c.before.before.before.before) c.read.ensures.0 c.in-Read-segment.is))  -- segment-part-c-start
     (λ c.
-    let c3 = c.before.before.before in
-    let c4 = c3.before in
-    (segment_part (begun t c4) c3.read.ensures.0 c.before.x.given.1).1)  -- segment-part-c-end
+    (segment_part (begun t c.before.before.before.before) c.read.ensures.0 c.in-Read-segment.is).1)  -- segment-part-c-end
     (λ c κs. search rules)  -- segment-refused-requires-3
     (λ c.
-    let c5 = c.before.before.before.before.before in
-    let c7 = c5.before.before in
-    let c8 = c7.before in
-    c.refused3.ensures ∙ segment_open (begun t c8) c7.read.ensures.0 c5.x.given.1 c.before.before.if-code-t-2.true c.before.if3.true)  -- segment-returns-2
+    c.refused-then-unused-gt0.ensures ∙ segment_open (begun t c.before.before.before.before.before.before.before.before) c.read.ensures.0 c.in-Read-segment.is c.if-not-constructed.true c.if-x.true)  -- segment-returns-2
     (λ c κs. search rules)  -- segment-primitive-requires
     (λ c.
-    let c5 = c.before.before.before.before.before in
-    let c7 = c5.before.before in
-    let c8 = c7.before in
-    segment_whole (begun t c8) c7.read.ensures.0 c5.x.given.1 c.before.before.if-code-t-2.true c.before.if3.false c.primitive.ensures)  -- segment-returns-3
-    (λ c. omega (arith, c.before.before.before.before.before.before.if-bits.false))  -- segment-sub-all
+    segment_whole (begun t c.before.before.before.before.before.before.before.before) c.read.ensures.0 c.in-Read-segment.is c.if-not-constructed.true c.if-x.false c.primitive.ensures)  -- segment-returns-3
+    (λ c. omega (arith, c.if-unused-gt0.false))  -- segment-sub-all
     (λ c κs.
-    let c6 = c.before.before.before.before.before.before in
-    let c8 = c6.before.before in
-    (omega (arith, c8.requires.0, c6.if-bits.false), tt))  -- segment-all-requires
+    (omega (arith, c.requires.0, c.if-unused-gt0.false), tt))  -- segment-all-requires
     (λ c. search rules)  -- segment-enum-known-cause-2
     (λ c.
-    let c7 = c.before.before.before.before.before.before.before in
-    let c9 = c7.before.before in
-    let c10 = c9.before in
-    (segment_part (begun t c10) c9.read.ensures.0 c7.x.given.1).1)  -- segment-sub-refused
+    (segment_part (begun t c.before.before.before.before.before.before.before.before.before.before) c.read.ensures.0 c.in-Read-segment.is).1)  -- segment-sub-refused
     (λ c.
-    let c3 = c.before.before.before in
-    let c4 = c3.before in
-    let c7 = c4.before.before.before in
-    let c9 = c7.before.before in
-    let c10 = c9.before in
-    let c12 = c10.before.before in
     omega (
       arith,
-      (segment_refused (begun t c10) c9.read.ensures.0 c7.x.given.1 c4.if-code-t-2.false c3.all.ensures
-          c.before.cause2.given.1).0,
-      c12.well_formed,
+      (segment_refused (begun t c.before.before.before.before.before.before.before.before.before.before) c.read.ensures.0 c.in-Read-segment.is c.if-not-constructed.false c.all.ensures
+          c.in-Refused.is).0,
+      c.well_formed,
     ))  -- segment-add-refused
     (λ c κs. search rules)  -- segment-refused-requires-4
     (λ c. search rules)  -- segment-enum-known-y
     (λ c.
-    let c4 = c.before.before.before.before in
-    let c5 = c4.before in
-    let c8 = c5.before.before.before in
-    let c10 = c8.before.before in
-    let c11 = c10.before in
-    let c13 = c11.before.before in
     omega (
       arith,
-      (segment_read (begun t c11) c10.read.ensures.0 c8.x.given.1 c5.if-code-t-2.false c4.all.ensures
-          c.before.before.y.given.1).0,
-      c13.well_formed,
+      (segment_read (begun t c.before.before.before.before.before.before.before.before.before.before.before) c.read.ensures.0 c.in-Read-segment.is c.if-not-constructed.false c.all.ensures
+          c.in-Read-all.is).0,
+      c.well_formed,
     ))  -- segment-add-t29
     (λ c.
-    let c4 = c.before.before.before.before in
-    let c5 = c4.before in
-    c.refused2.ensures ∙ segment_unread (begun t c5) c4.read.ensures.0 c.before.before.cause-1.given.1)  -- segment-returns-4
+    c.refused-in-Refused.ensures ∙ segment_unread (begun t c.before.before.before.before.before) c.read.ensures.0 c.in-Broken.is)  -- segment-returns-4
     (λ c.
-    let c4 = c.before.before.before.before in
-    let c5 = c4.before in
-    let c8 = c5.before.before.before in
-    let c10 = c8.before.before in
-    let c11 = c10.before in
-    c.refused4.ensures ∙ (segment_refused (begun t c11) c10.read.ensures.0 c8.x.given.1 c5.if-code-t-2.false c4.all.ensures
-    c.before.before.cause2.given.1).1)  -- segment-returns-5
+    c.refused-in-Refused-segment.ensures ∙ (segment_refused (begun t c.before.before.before.before.before.before.before.before.before.before.before) c.read.ensures.0 c.in-Read-segment.is c.if-not-constructed.false c.all.ensures
+    c.in-Refused.is).1)  -- segment-returns-5
     (λ c.
-    let c4 = c.before.before.before.before in
-    let c5 = c4.before in
-    let c8 = c5.before.before.before in
-    let c10 = c8.before.before in
-    let c11 = c10.before in
-    (segment_read (begun t c11) c10.read.ensures.0 c8.x.given.1 c5.if-code-t-2.false c4.all.ensures c.before.before.y.given.1).1)  -- segment-returns-6
+    (segment_read (begun t c.before.before.before.before.before.before.before.before.before.before.before) c.read.ensures.0 c.in-Read-segment.is c.if-not-constructed.false c.all.ensures c.in-Read-all.is).1)  -- segment-returns-6

@@ -11,5 +11,5 @@ pub in_form_spec : {M : Type 1} → statement M
 unfolding in_form
 in_form_spec = tie.close (tie.spec
     (λ c κs. search rules)  -- are-bits-requires
-    (λ c. rw c.before.if-bits.true c.are_bits.ensures)  -- returns
+    (λ c. rw c.if-bits.true c.are_bits.ensures)  -- returns
     (λ c. rw c.if-bits.false refl))  -- returns-2

@@ -17,6 +17,6 @@ primitive_spec =
     (tie.spec
     (λ c κs. search rules)  -- in-form-requires
     (λ c κs. search rules)  -- refused-requires
-    (λ c. rw (← c.before.before.in_form.ensures, c.before.if-not-in_form.true) c.refused.ensures)  -- returns
+    (λ c. rw (← c.in_form.ensures, c.if-not-in_form.true) c.refused.ensures)  -- returns
     (λ c κs. search rules)  -- unused-in-requires
-    (λ c. rw (← c.before.before.in_form.ensures, c.before.if-not-in_form.false, ← c.unused_in-unused.ensures) refl))  -- returns-2
+    (λ c. rw (← c.in_form.ensures, c.if-not-in_form.false, ← c.unused_in-unused.ensures) refl))  -- returns-2

@@ -18,36 +18,36 @@ put_carried_spec =
     tie.close
     (tie.spec
     (λ c κs. search rules)  -- least-requires
-    (λ c. carried_none (kind_of c.before.before.before.before.args.bits) _ _ c.before.least-one.ensures c.if-c-one.true _ _)  -- returns
+    (λ c. carried_none (kind_of c.args.bits) _ _ c.least-one.ensures c.if-c-one.true _ _)  -- returns
     (λ c. search rules)  -- sub-d
     (λ c. search rules)  -- part-d-start
     (λ c. search rules)  -- part-d-end
     (λ c κs. search rules)  -- holds-requires
     (λ c. search rules)  -- same-length
-    (λ c. let a = c.before.before.before.before.before.before.before.before.args in
+    (λ c. let a = c.args in
     let k = kind_of a.bits in
-    put_nothing a.buf-1.now a.to (carried k a.c.now)
-    (no_room (carried k a.c.now) _ _ _ _ (ap length (carried_is k a.c.now _ c.before.before.before.before.before.least-one.ensures))
-    c.before.holds.ensures c.if-not-holds.true))  -- returns-2
-    (λ c. let a = c.before.before.before.before.before.before.before.before.args in
+    put_nothing a.buf.now a.to (carried k a.c.now)
+    (no_room (carried k a.c.now) _ _ _ _ (ap length (carried_is k a.c.now _ c.least-one.ensures))
+    c.holds.ensures c.if-not-holds.true))  -- returns-2
+    (λ c. let a = c.args in
     let k = kind_of a.bits in
-    let e = ap length (carried_is k a.c.now _ c.before.before.before.before.before.least-one.ensures) in
-    let h = room (carried k a.c.now) _ _ _ _ e c.before.holds.ensures c.if-not-holds.false in
-    omega (arith, c.before.before.before.before.before.before.before.before.well_formed))  -- add-end
+    let e = ap length (carried_is k a.c.now _ c.least-one.ensures) in
+    let h = room (carried k a.c.now) _ _ _ _ e c.holds.ensures c.if-not-holds.false in
+    omega (arith, c.well_formed))  -- add-end
     (λ c. search rules)  -- sub-part
     (λ c. search rules)  -- part-part-start
-    (λ c. let a = c.before.before.before.before.before.before.before.before.args in
+    (λ c. let a = c.args in
     let k = kind_of a.bits in
-    let e = ap length (carried_is k a.c.now _ c.before.before.before.before.before.least-one.ensures) in
-    let h = room (carried k a.c.now) _ _ _ _ e c.before.holds.ensures c.if-not-holds.false in
+    let e = ap length (carried_is k a.c.now _ c.least-one.ensures) in
+    let h = room (carried k a.c.now) _ _ _ _ e c.holds.ensures c.if-not-holds.false in
     omega arith)  -- part-part-end
     (λ c κs. search rules)  -- copy-requires
     (λ c. search rules)  -- same-length-2
-    (λ c. let a = c.before.before.before.before.before.before.before.before.before.before.before.before.args in
+    (λ c. let a = c.args in
     let k = kind_of a.bits in
-    let e = ap length (carried_is k a.c.now _ c.before.before.before.before.before.before.before.before.before.least-one.ensures) in
-    let h = room (carried k a.c.now) _ _ _ _ e c.before.before.before.before.before.holds.ensures
-    c.before.before.before.before.if-not-holds.false in
-    carried_put a.buf-1.now _ (carried k a.c.now) _ a.to
-    (carried_is k a.c.now _ c.before.before.before.before.before.before.before.before.before.least-one.ensures) h
-    c.before.before.copy.ensures))  -- returns-3
+    let e = ap length (carried_is k a.c.now _ c.least-one.ensures) in
+    let h = room (carried k a.c.now) _ _ _ _ e c.holds.ensures
+    c.if-not-holds.false in
+    carried_put a.buf.now _ (carried k a.c.now) _ a.to
+    (carried_is k a.c.now _ c.least-one.ensures) h
+    c.copy.ensures))  -- returns-3

@@ -22,24 +22,22 @@ read_tag_spec =
     (λ c. search rules)  -- enum-known-cause
     (λ c. search rules)  -- enum-known-code
     (λ c.
-    sym (tag_told (kind_of c.before.before.before.before.before.before.before.args.bits)
-    c.before.before.before.before.before.before.before.args.m.now _ c.before.before.before.before.read.ensures
-    (λ i. omega (arith, c.before.before.before.before.before.before.shared_slice_known-1.given i)) _ _ c.before.before.code-1.given.1 _
-    c.before.before.before.before.before.tag-t.ensures.0 ∙ rw (eq-eqb _ _ c.if-code-t.true)))  -- returns
-    (λ c. omega (arith, c.before.before.before.before.before.tag-t.ensures.1))  -- add-if2
+    sym (tag_told (kind_of c.args.bits)
+    c.args.m.now _ c.read.ensures
+    (λ i. omega (arith, c.shared_slice_known-1.given i)) _ _ c.in-Read.is _
+    c.tag-t.ensures.0 ∙ rw (eq-eqb _ _ c.if-code-t.true)))  -- returns
+    (λ c. omega (arith, c.tag-t.ensures.1))  -- add-if2
     (λ c.
-    sym (tag_told (kind_of c.before.before.before.before.before.before.before.before.args.bits)
-    c.before.before.before.before.before.before.before.before.args.m.now _ c.before.before.before.before.before.read.ensures
-    (λ i. omega (arith, c.before.before.before.before.before.before.before.shared_slice_known-1.given i)) _ _
-    c.before.before.before.code-1.given.1 _ c.before.before.before.before.before.before.tag-t.ensures.0 ∙ rw
-    (ne_eqb _ _ c.before.if-code-t.false, eq-eqb _ _ c.if-code-t-2.true)))  -- returns-2
+    sym (tag_told (kind_of c.args.bits)
+    c.args.m.now _ c.read.ensures
+    (λ i. omega (arith, c.shared_slice_known-1.given i)) _ _
+    c.in-Read.is _ c.tag-t.ensures.0 ∙ rw
+    (ne_eqb _ _ c.if-code-t.false, eq-eqb _ _ c.if-code-t-2.true)))  -- returns-2
     (λ c.
-    let c3 = c.before.before.before in
-    let c6 = c3.before.before.before in
-    tag_none (kind_of c6.args.bits) c6.args.m.now _ c3.read.ensures _ c.before.cause-1.given.1)  -- returns-3
+    tag_none (kind_of c.args.bits) c.args.m.now _ c.read.ensures _ c.in-Refused.is)  -- returns-3
     (λ c.
-    sym (tag_told (kind_of c.before.before.before.before.before.before.before.before.args.bits)
-    c.before.before.before.before.before.before.before.before.args.m.now _ c.before.before.before.before.before.read.ensures
-    (λ i. omega (arith, c.before.before.before.before.before.before.before.shared_slice_known-1.given i)) _ _
-    c.before.before.before.code-1.given.1 _ c.before.before.before.before.before.before.tag-t.ensures.0 ∙ rw
-    (ne_eqb _ _ c.before.if-code-t.false, ne_eqb _ _ c.if-code-t-2.false))))  -- returns-4
+    sym (tag_told (kind_of c.args.bits)
+    c.args.m.now _ c.read.ensures
+    (λ i. omega (arith, c.shared_slice_known-1.given i)) _ _
+    c.in-Read.is _ c.tag-t.ensures.0 ∙ rw
+    (ne_eqb _ _ c.if-code-t.false, ne_eqb _ _ c.if-code-t-2.false))))  -- returns-4

@@ -11,5 +11,5 @@ pub unused_in_spec : {M : Type 1} → statement M
 unfolding unused_in
 unused_in_spec = tie.close (tie.spec
     (λ c κs. search rules)  -- octet-requires
-    (λ c. rw c.before.if-bits.true c.octet.ensures.0)  -- returns
+    (λ c. rw c.if-bits.true c.octet.ensures.0)  -- returns
     (λ c. rw c.if-bits.false refl))  -- returns-2

@@ -21,48 +21,47 @@ write_spec =
     (λ c. search rules)  -- enum_told
     (λ c. search rules)  -- slice-relend-prefix-room
     (λ c.
-    let s = c.before.before.before.before.before.before.before.before.before in
-    front_count s.args.buf-1.now c.before.if-buf-gt-LONGEST_MESSAGE.true)  -- slice-aggregate-room
+    front_count c.args.buf.now c.if-buf-gt-LONGEST_MESSAGE.true)  -- slice-aggregate-room
     (λ c κs.
-    let a = c.before.before.before.before.before.before.before.before.before.before.args in
+    let a = c.args in
     let b = a.table.now in
-    let w = a.buf-1.now in
+    let w = a.buf.now in
     let o : Octets b =
-    λ k. omega (arith, c.before.before.before.before.before.before.before.before.before.shared_slice_known-1.given k) in
-    let e = c.before.before.before.before.before.check_into-c.ensures in
-    let x = table_ready b _ e.0 c.before.before.before.enum_told-1.given.1 _ (filled_after b _ _ _ o e.1 e.2) (λ f. f.count) o in
-    (x.0, x.1, front_room w c.before.before.if-buf-gt-LONGEST_MESSAGE.true))  -- write-passed-requires
+    λ k. omega (arith, c.shared_slice_known-1.given k) in
+    let e = c.check_into-c.ensures in
+    let x = table_ready b _ e.0 c.in-Passed.is _ (filled_after b _ _ _ o e.1 e.2) (λ f. f.count) o in
+    (x.0, x.1, front_room w c.if-buf-gt-LONGEST_MESSAGE.true))  -- write-passed-requires
     (λ c. search rules)  -- same-length
     (λ c.
-    let a = c.before.before.before.before.before.before.before.before.before.before.before.before.before.args in
+    let a = c.args in
     let b = a.table.now in
-    let w = a.buf-1.now in
+    let w = a.buf.now in
     let o : Octets b =
-    λ k. omega (arith, c.before.before.before.before.before.before.before.before.before.before.before.before.shared_slice_known-1.given k) in
-    let e = c.before.before.before.before.before.before.before.before.check_into-c.ensures in
-    out_passed b _ e.0 c.before.before.before.before.before.before.enum_told-1.given.1 _ (filled_after b _ _ _ o e.1 e.2) (λ f. f.count) w
-    (λ T n. write_outcome T n a.t a.value.now w) _ _ (out_front w c.before.before.before.before.before.if-buf-gt-LONGEST_MESSAGE.true _ _ _ _ _ _ c.before.before.write_passed.ensures))  -- returns
+    λ k. omega (arith, c.shared_slice_known-1.given k) in
+    let e = c.check_into-c.ensures in
+    out_passed b _ e.0 c.in-Passed.is _ (filled_after b _ _ _ o e.1 e.2) (λ f. f.count) w
+    (λ T n. write_outcome T n a.t a.value.now w) _ _ (out_front w c.if-buf-gt-LONGEST_MESSAGE.true _ _ _ _ _ _ c.write_passed.ensures))  -- returns
     (λ c κs.
-    let a = c.before.before.before.before.before.before.before.before.before.before.args in
+    let a = c.args in
     let b = a.table.now in
-    let w = a.buf-1.now in
+    let w = a.buf.now in
     let o : Octets b =
-    λ k. omega (arith, c.before.before.before.before.before.before.before.before.before.shared_slice_known-1.given k) in
-    let e = c.before.before.before.before.before.check_into-c.ensures in
-    let x = table_ready b _ e.0 c.before.before.before.enum_told-1.given.1 _ (filled_after b _ _ _ o e.1 e.2) (λ f. f.count) o in
-    (x.0, x.1, c.before.before.if-buf-gt-LONGEST_MESSAGE.false))  -- write-passed-requires-2
+    λ k. omega (arith, c.shared_slice_known-1.given k) in
+    let e = c.check_into-c.ensures in
+    let x = table_ready b _ e.0 c.in-Passed.is _ (filled_after b _ _ _ o e.1 e.2) (λ f. f.count) o in
+    (x.0, x.1, c.if-buf-gt-LONGEST_MESSAGE.false))  -- write-passed-requires-2
     (λ c.
-    let a = c.before.before.before.before.before.before.before.before.before.args in
+    let a = c.args in
     let b = a.table.now in
-    let w = a.buf-1.now in
-    rw c.table_cause-cause.ensures (out_table b _ c.before.before.before.before.check_into-c.ensures.0 w (λ T n. write_outcome T n a.t a.value.now w) _ _ c.before.before.verdict-1.given.1))  -- returns-2
+    let w = a.buf.now in
+    rw c.table_cause-cause.ensures (out_table b _ c.check_into-c.ensures.0 w (λ T n. write_outcome T n a.t a.value.now w) _ _ c.in-Refused.is))  -- returns-2
     (λ c. search rules)  -- same-length-2
     (λ c.
-    let a = c.before.before.before.before.before.before.before.before.before.before.before.before.before.args in
+    let a = c.args in
     let b = a.table.now in
-    let w = a.buf-1.now in
+    let w = a.buf.now in
     let o : Octets b =
-    λ k. omega (arith, c.before.before.before.before.before.before.before.before.before.before.before.before.shared_slice_known-1.given k) in
-    let e = c.before.before.before.before.before.before.before.before.check_into-c.ensures in
-    out_passed b _ e.0 c.before.before.before.before.before.before.enum_told-1.given.1 _ (filled_after b _ _ _ o e.1 e.2) (λ f. f.count) w
-    (λ T n. write_outcome T n a.t a.value.now w) _ _ c.before.before.write_passed-in-Passed.ensures))  -- returns-3
+    λ k. omega (arith, c.shared_slice_known-1.given k) in
+    let e = c.check_into-c.ensures in
+    out_passed b _ e.0 c.in-Passed.is _ (filled_after b _ _ _ o e.1 e.2) (λ f. f.count) w
+    (λ T n. write_outcome T n a.t a.value.now w) _ _ c.write_passed-in-Passed.ensures))  -- returns-3

@@ -15,27 +15,24 @@ write_passed_spec =
     tie.close
     (tie.spec
     (λ c.
-    let s = c.before.before.before.before in
-    let a = s.args in
-    let q = s.requires in
+    let a = c.args in
+    let q = c.requires in
     let b = a.table.now in
     let v = a.value.now in
-    out_type (table_in b) a.n a.t v a.buf-1.now c.if-n-t.true)  -- returns
+    out_type (table_in b) a.n a.t v a.buf.now c.if-n-t.true)  -- returns
     (λ c.
-    let s = c.before.before.before.before.before in
-    let a = s.args in
-    let q = s.requires in
+    let a = c.args in
+    let q = c.requires in
     let b = a.table.now in
     let v = a.value.now in
-    out_long (table_in b) a.n a.t v a.buf-1.now c.before.if-n-t.false c.if-value-gt-LONGEST_VALUE.true)  -- returns-2
+    out_long (table_in b) a.n a.t v a.buf.now c.if-n-t.false c.if-value-gt-LONGEST_VALUE.true)  -- returns-2
     (λ c κs.
-    let s = c.before.before.before.before.before.before in
-    let a = s.args in
-    let q = s.requires in
+    let a = c.args in
+    let q = c.requires in
     let b = a.table.now in
     let v = a.value.now in (
-      ready b a.index.now v a.n q.0 q.1 c.before.if-value-gt-LONGEST_VALUE.false,
-      omega (arith, c.before.before.if-n-t.false, q.0.count),
+      ready b a.index.now v a.n q.0 q.1 c.if-value-gt-LONGEST_VALUE.false,
+      omega (arith, c.if-n-t.false, q.0.count),
       length-replicate
           {A = ℕ} 4096 1,
     ))  -- judge-requires
@@ -43,45 +40,40 @@ write_passed_spec =
     (λ c κs. search rules)  -- value-cause-requires
     (λ c. search rules)  -- enum-known-end
     (λ c.
-    let s = c.before.before.before.before.before.before.before.before.before.before.before in
-    let a = s.args in
-    let q = s.requires in
+    let a = c.args in
+    let q = c.requires in
     let b = a.table.now in
     let v = a.value.now in
-    out_left (table_in b) a.n a.t v a.buf-1.now c.before.before.before.before.before.before.before.if-n-t.false c.before.before.before.before.before.before.if-value-gt-LONGEST_VALUE.false _ c.before.before.before.before.judge.ensures.0 _ _ c.before.before.end-1.given.1 c.if-end-value.true)  -- returns-3
+    out_left (table_in b) a.n a.t v a.buf.now c.if-n-t.false c.if-value-gt-LONGEST_VALUE.false _ c.judge.ensures.0 _ _ c.in-Done.is c.if-end-value.true)  -- returns-3
     (λ c.
-    let s = c.before.before.before.before.before.before.before.before.before.before.before.before in
-    let a = s.args in
-    let q = s.requires in
+    let a = c.args in
+    let q = c.requires in
     let b = a.table.now in
     let v = a.value.now in
-    out_room (table_in b) a.n a.t v a.buf-1.now c.before.before.before.before.before.before.before.before.if-n-t.false c.before.before.before.before.before.before.before.if-value-gt-LONGEST_VALUE.false _ c.before.before.before.before.before.judge.ensures.0 _ _ c.before.before.before.end-1.given.1 c.before.if-end-value.false q.2 c.if-buf-size.true)  -- returns-4
+    out_room (table_in b) a.n a.t v a.buf.now c.if-n-t.false c.if-value-gt-LONGEST_VALUE.false _ c.judge.ensures.0 _ _ c.in-Done.is c.if-end-value.false q.2 c.if-buf-size.true)  -- returns-4
     (λ c κs.
-    let s = c.before.before.before.before.before.before.before.before.before.before.before.before.before.before in
-    let a = s.args in
-    let q = s.requires in
+    let a = c.args in
+    let q = c.requires in
     let b = a.table.now in
     let v = a.value.now in (
-      ready b a.index.now v a.n q.0 q.1 c.before.before.before.before.before.before.before.before.before.if-value-gt-LONGEST_VALUE.false,
+      ready b a.index.now v a.n q.0 q.1 c.if-value-gt-LONGEST_VALUE.false,
       omega
-          (arith, c.before.before.before.before.before.before.before.before.before.before.if-n-t.false, q.0.count),
-      c.before.before.before.before.before.before.before.judge.ensures.1.long ∙ length-replicate {A = ℕ} 4096 1,
-      c.before.before.before.before.before.before.before.judge.ensures.1.noted _ _ c.before.before.before.before.before.end-1.given.1 _ (λ i x y. refl),
-      fits (table_in b) a.n a.t v a.buf-1.now
-          c.before.before.before.before.before.before.before.before.before.before.if-n-t.false c.before.before.before.before.before.before.before.before.before.if-value-gt-LONGEST_VALUE.false _ c.before.before.before.before.before.before.before.judge.ensures.0 _ _ c.before.before.before.before.before.end-1.given.1 c.before.before.before.if-end-value.false q.2 c.before.before.if-buf-size.false,
+          (arith, c.if-n-t.false, q.0.count),
+      c.judge.ensures.1.long ∙ length-replicate {A = ℕ} 4096 1,
+      c.judge.ensures.1.noted _ _ c.in-Done.is _ (λ i x y. refl),
+      fits (table_in b) a.n a.t v a.buf.now
+          c.if-n-t.false c.if-value-gt-LONGEST_VALUE.false _ c.judge.ensures.0 _ _ c.in-Done.is c.if-end-value.false q.2 c.if-buf-size.false,
     ))  -- put-requires
     (λ c.
-    let s = c.before.before.before.before.before.before.before.before.before.before.before in
-    let a = s.args in
-    let q = s.requires in
+    let a = c.args in
+    let q = c.requires in
     let b = a.table.now in
     let v = a.value.now in
-    rw c.value_cause.ensures (out_refused (table_in b) a.n a.t v a.buf-1.now c.before.before.before.before.before.before.before.if-n-t.false c.before.before.before.before.before.before.if-value-gt-LONGEST_VALUE.false _ c.before.before.before.before.judge.ensures.0 _ _ c.before.before.place-1.given.1))  -- returns-5
+    rw c.value_cause.ensures (out_refused (table_in b) a.n a.t v a.buf.now c.if-n-t.false c.if-value-gt-LONGEST_VALUE.false _ c.judge.ensures.0 _ _ c.in-Refused.is))  -- returns-5
     (λ c. search rules)  -- same-length
     (λ c.
-    let s = c.before.before.before.before.before.before.before.before.before.before.before.before.before.before.before.before.before in
-    let a = s.args in
-    let q = s.requires in
+    let a = c.args in
+    let q = c.requires in
     let b = a.table.now in
     let v = a.value.now in
-    out_done (table_in b) a.n a.t v a.buf-1.now c.before.before.before.before.before.before.before.before.before.before.before.before.before.if-n-t.false c.before.before.before.before.before.before.before.before.before.before.before.before.if-value-gt-LONGEST_VALUE.false _ c.before.before.before.before.before.before.before.before.before.before.judge.ensures.0 _ _ c.before.before.before.before.before.before.before.before.end-1.given.1 c.before.before.before.before.before.before.if-end-value.false q.2 c.before.before.before.before.before.if-buf-size.false _ _ c.before.before.put.ensures))  -- returns-6
+    out_done (table_in b) a.n a.t v a.buf.now c.if-n-t.false c.if-value-gt-LONGEST_VALUE.false _ c.judge.ensures.0 _ _ c.in-Done.is c.if-end-value.false q.2 c.if-buf-size.false _ _ c.put.ensures))  -- returns-6

@@ -12,10 +12,9 @@ pub is_over_spec : {M : Type 1} → statement M
 is_over_spec =
     tie.close
     (tie.spec
-    (λ c. over_none c.before.args.m.now c.before.args.at c.before.args.indefinite c.if-m-at.true)  -- returns
-    (λ c. over_closed c.before.before.args.m.now c.before.before.args.at c.before.before.args.indefinite
-    c.before.if-m-at.false c.if-not-indefinite.true)  -- returns-2
+    (λ c. over_none c.args.m.now c.args.at c.args.indefinite c.if-m-at.true)  -- returns
+    (λ c. over_closed c.args.m.now c.args.at c.args.indefinite
+    c.if-m-at.false c.if-not-indefinite.true)  -- returns-2
     (λ c. search rules)  -- shared-slice-read-result
-    (λ c. let at_start = c.before.before.before in
-    over_octet at_start.args.m.now at_start.args.at at_start.args.indefinite c.before.before.if-m-at.false
-    c.before.if-not-indefinite.false))  -- returns-3
+    (λ c. over_octet c.args.m.now c.args.at c.args.indefinite c.if-m-at.false
+    c.if-not-indefinite.false))  -- returns-3

@@ -17,8 +17,7 @@ read_spec =
     tie.close
     (tie.spec
     (λ c κs. search rules)  -- indefinite-end-requires
-    (λ c. let at_start = c.before.before.before in
-    let m = at_start.args.m.now in
-    c.indefinite_end.ensures ∙ ap (λ (k : Bool). end_of k (length m) (drop at_start.args.at m)) (sym c.before.if-indefinite.true))  -- returns
-    (λ c. rw c.before.if-indefinite.false (ends_closed c.before.before.before.args.m.now _ c.if-m-at.true))  -- returns-2
-    (λ c. rw c.before.if-indefinite.false (ends_not c.before.before.before.args.m.now _ c.if-m-at.false)))  -- returns-3
+    (λ c. let m = c.args.m.now in
+    c.indefinite_end.ensures ∙ ap (λ (k : Bool). end_of k (length m) (drop c.args.at m)) (sym c.if-indefinite.true))  -- returns
+    (λ c. rw c.if-indefinite.false (ends_closed c.args.m.now _ c.if-m-at.true))  -- returns-2
+    (λ c. rw c.if-indefinite.false (ends_not c.args.m.now _ c.if-m-at.false)))  -- returns-3

@@ -13,7 +13,7 @@ use Rattle.ber.proofs.identifier.code_of.Reads as reads
 use Rattle.ber.proofs.identifier.code_of.Lts as lts
 
 -- the leading octet without the number
-lead_is : (c : tie.Joined-constructed) → let a = c.before.args in c.if-constructed.lead ≡ a.class * 64 + bit a.constructed * 32
+lead_is : (c : tie.Joined-constructed) → let a = c.args in c.if-constructed.lead ≡ a.class * 64 + bit a.constructed * 32
 lead_is c = ⊎_elim (λ w. rw w.0.taken w.1) (λ w. rw w.0.left (w.1 ∙ omega arith)) c.if-constructed.branch
 
 pub code_of_spec : {M : Type 1} → statement M
@@ -23,17 +23,17 @@ code_of_spec =
     (λ c. search rules)  -- mul-lead
     (λ c. search rules)  -- add-lead
     (λ c. search rules)  -- mul-lead-2
-    (λ c. omega (arith, lead_is c.before.before, bit_small c.before.before.before.args.constructed))  -- add-result
-    (λ c. let at_start = c.before.before.before in (
-      rw (code_short _ _ _ c.before.if-number-lt31.true) (omega (arith, lead_is c.before.before)),
+    (λ c. omega (arith, lead_is c.before.before, bit_small c.args.constructed))  -- add-result
+    (λ c. (
+      rw (code_short _ _ _ c.if-number-lt31.true) (omega (arith, lead_is c.before.before)),
       omega
-          (arith, lead_is c.before.before, bit_small at_start.args.constructed),
+          (arith, lead_is c.before.before, bit_small c.args.constructed),
     ))  -- returns
-    (λ c. omega (arith, lead_is c.before.before, bit_small c.before.before.before.args.constructed))  -- add-result-2
+    (λ c. omega (arith, lead_is c.before.before, bit_small c.args.constructed))  -- add-result-2
     (λ c. search rules)  -- mul-result
-    (λ c. omega (arith, lead_is c.before.before, bit_small c.before.before.before.args.constructed))  -- add-result-3
-    (λ c. let at_start = c.before.before.before in (
-      rw (code_long _ _ _ c.before.if-number-lt31.false) (omega (arith, lead_is c.before.before)),
+    (λ c. omega (arith, lead_is c.before.before, bit_small c.args.constructed))  -- add-result-3
+    (λ c. (
+      rw (code_long _ _ _ c.if-number-lt31.false) (omega (arith, lead_is c.before.before)),
       omega
-          (arith, lead_is c.before.before, bit_small at_start.args.constructed),
+          (arith, lead_is c.before.before, bit_small c.args.constructed),
     )))  -- returns-2

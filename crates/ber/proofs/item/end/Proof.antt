@@ -18,16 +18,9 @@ end_spec =
     (λ c κs. search rules)  -- read-requires
     (λ c. search rules)  -- enum_told
     (λ c. search rules)  -- enum-known-x
-    (λ c κs. let at_read = c.before.before.before.before in
-    let at_start = at_read.before.before in
-    (length_indefinite at_start.args.m.now at_start.args.from 0 _ (at_read.read.ensures.0 0) _
-    c.before.before.x-1.given.1 c.if-x.true).2)  -- open-end-requires
-    (λ c. let at_x = c.before.before.before in
-    let at_read = at_x.before.before in
-    c.open_end.ensures ∙ skip_indefinite at_read.before.before.args.m.now _ _ at_read.read.ensures.0 _ at_x.x-1.given.1
-    c.before.if-x.true)  -- returns
-    (λ c. let at_read = c.before.before in
-    skip_none at_read.before.before.args.m.now _ _ at_read.read.ensures.0 _ c.enum_told-1.given.1)  -- returns-2
-    (λ c. let at_x = c.before.before in
-    let at_read = at_x.before.before in
-    skip_sized at_read.before.before.args.m.now _ _ at_read.read.ensures.0 _ at_x.x-1.given.1 c.if-x.false))  -- returns-3
+    (λ c κs. (length_indefinite c.args.m.now c.args.from 0 _ (c.read.ensures.0 0) _
+    c.in-Read.is c.if-x.true).2)  -- open-end-requires
+    (λ c. c.open_end.ensures ∙ skip_indefinite c.args.m.now _ _ c.read.ensures.0 _ c.in-Read.is
+    c.if-x.true)  -- returns
+    (λ c. skip_none c.args.m.now _ _ c.read.ensures.0 _ c.in-Refused.is)  -- returns-2
+    (λ c. skip_sized c.args.m.now _ _ c.read.ensures.0 _ c.in-Read.is c.if-x.false))  -- returns-3

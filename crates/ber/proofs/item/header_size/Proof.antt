@@ -16,4 +16,4 @@ header_size_spec =
     (λ c κs. search rules)  -- size-requires
     (λ c κs. search rules)  -- size-requires-2
     (λ c. search rules)  -- add-result
-    (λ c. rw (length-append, c.before.size.ensures.0, c.size-2.ensures.0)))  -- returns
+    (λ c. rw (length-append, c.size.ensures.0, c.size-2.ensures.0)))  -- returns

@@ -22,20 +22,14 @@ put_header_spec =
     (λ c κs. search rules)  -- header-size-requires
     (λ c κs. search rules)  -- holds-requires
     (λ c. search rules)  -- same-length
-    (λ c. let at_start = c.before.before.before.before.before in
-    let w = code_octets at_start.args.code ++ length_octets at_start.args.n in
-    put_nothing at_start.args.buf-1.now at_start.args.to w
-    (no_room w _ _ _ _ c.before.before.header_size.ensures c.before.holds.ensures c.if-not-holds.true))  -- returns
+    (λ c. let w = code_octets c.args.code ++ length_octets c.args.n in
+    put_nothing c.args.buf.now c.args.to w
+    (no_room w _ _ _ _ c.header_size.ensures c.holds.ensures c.if-not-holds.true))  -- returns
     (λ c κs. search rules)  -- put-requires
     (λ c κs. search rules)  -- put-requires-2
     (λ c. search rules)  -- same-length-2
-    (λ c. let at_put = c.before.before.before.before.before.before in
-    let at_if1 = at_put.before.before in
-    let at_holds = at_if1.before in
-    let at_header_size = at_holds.before in
-    let at_start = at_header_size.before.before.before in
-    let v = code_octets at_start.args.code in let w = length_octets at_start.args.n in
-    let (p, q) = put_behind at_start.args.buf-1.now at_start.args.to v w
-    (room (v ++ w) _ _ _ _ at_header_size.header_size.ensures at_holds.holds.ensures at_if1.if-not-holds.false) _ _ at_put.put-next.ensures.0
-    at_put.put-next.ensures.1 in
-    (c.before.before.put.ensures.0 ∙ p, c.before.before.put.ensures.1 ∙ q)))  -- returns-2
+    (λ c. let v = code_octets c.args.code in let w = length_octets c.args.n in
+    let (p, q) = put_behind c.args.buf.now c.args.to v w
+    (room (v ++ w) _ _ _ _ c.header_size.ensures c.holds.ensures c.if-not-holds.false) _ _ c.put-next.ensures.0
+    c.put-next.ensures.1 in
+    (c.put.ensures.0 ∙ p, c.put.ensures.1 ∙ q)))  -- returns-2

@@ -16,30 +16,23 @@ pub read_spec : {M : Type 1} → statement M
 read_spec =
     tie.close
     (tie.spec
-    (λ c. let at_start = c.before.before in
-    length_ruled at_start.args.m.now _ _ (all_octets at_start.args.m.now (λ i. omega (arith, c.before.shared_slice_known-1.given i)))
-    (length_none at_start.args.m.now _ c.if-m-at.true))  -- returns
+    (λ c. length_ruled c.args.m.now _ _ (all_octets c.args.m.now (λ i. omega (arith, c.shared_slice_known-1.given i)))
+    (length_none c.args.m.now _ c.if-m-at.true))  -- returns
     (λ c. search rules)  -- shared-slice-read-first
-    (λ c. omega (arith, c.shared_slice_known-2-1.given c.before.before.before.args.at))  -- cast-first
+    (λ c. omega (arith, c.shared_slice_known-2-1.given c.args.at))  -- cast-first
     (λ c. search rules)  -- add-start
     (λ c. search rules)  -- add-end
-    (λ c. let at_if1 = c.before.before.before in
-    let at_start = at_if1.before.before in
-    length_ruled at_start.args.m.now _ _ (all_octets at_start.args.m.now (λ i. omega (arith, at_if1.before.shared_slice_known-1.given i)))
-    (length_short_no at_start.args.m.now _ at_if1.if-m-at.false c.before.if-first-lt128.true c.if-m-end.true))  -- returns-2
-    (λ c. let at_if1 = c.before.before.before in
-    let at_start = at_if1.before.before in
-    length_ruled at_start.args.m.now _ _ (all_octets at_start.args.m.now (λ i. omega (arith, at_if1.before.shared_slice_known-1.given i)))
-    (length_short at_start.args.m.now _ at_if1.if-m-at.false c.before.if-first-lt128.true c.if-m-end.false))  -- returns-3
-    (λ c κs. let at_start = c.before.before.before.before in (
+    (λ c. length_ruled c.args.m.now _ _ (all_octets c.args.m.now (λ i. omega (arith, c.shared_slice_known-1.given i)))
+    (length_short_no c.args.m.now _ c.if-m-at.false c.if-first-lt128.true c.if-m-end.true))  -- returns-2
+    (λ c. length_ruled c.args.m.now _ _ (all_octets c.args.m.now (λ i. omega (arith, c.shared_slice_known-1.given i)))
+    (length_short c.args.m.now _ c.if-m-at.false c.if-first-lt128.true c.if-m-end.false))  -- returns-3
+    (λ c κs. (
       omega arith,
-      omega (arith, c.before.before.if-m-at.false),
+      omega (arith, c.if-m-at.false),
       rw one_back refl,
       c.if-first-lt128.false,
       omega
-          (arith, c.before.shared_slice_known-2-1.given at_start.args.at),
+          (arith, c.shared_slice_known-2-1.given c.args.at),
     ))  -- read-other-requires
-    (λ c. let at_if1 = c.before.before.before in
-    let at_start = at_if1.before.before in
-    length_ruled at_start.args.m.now _ _ (all_octets at_start.args.m.now (λ i. omega (arith, at_if1.before.shared_slice_known-1.given i)))
+    (λ c. length_ruled c.args.m.now _ _ (all_octets c.args.m.now (λ i. omega (arith, c.shared_slice_known-1.given i)))
     (λ l. rw one_back at (c.read_other.ensures l))))  -- returns-4

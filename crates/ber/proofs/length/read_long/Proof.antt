@@ -23,22 +23,20 @@ abbrev Turn : Type 0
 Turn = lts.After-shared_slice_known-1 reads.Pre reads.Post invariant-loop decreases-loop
 
 one_more : (c : Turn)
-    → let a = c.before.before.before.before.args in
-    let p = c.before.before.loop-p.p in
-    Digits a.m.now a.at a.k (c.before.before.loop-p.n * 256 + get_or a.m.now p 0) (p + 1)
-one_more c = let at_start = c.before.before.before.before in
-    one_digit at_start.args.m.now _ _ _ _ c.before.loop-p-test.true (omega (arith, c.before.loop-p-test.true, c.before.before.before.if-m-start.false))
-    c.before.before.loop-p.invariant.2
+    → let a = c.args in
+    let p = c.loop-p.p in
+    Digits a.m.now a.at a.k (c.loop-p.n * 256 + get_or a.m.now p 0) (p + 1)
+one_more c = one_digit c.args.m.now _ _ _ _ c.loop-p-test.true (omega (arith, c.loop-p-test.true, c.if-m-start.false))
+    c.loop-p.invariant.2
 
 small : (c : Turn)
-    → c.before.before.loop-p.n * 256 + get_or c.before.before.before.before.args.m.now c.before.before.loop-p.p 0 < 4294967296
-small c = let at_start = c.before.before.before.before in
-    digits_small at_start.args.m.now at_start.args.at _ _ (c.before.before.loop-p.p + 1) at_start.requires.3
-    (all_octets at_start.args.m.now (λ i. omega (arith, c.shared_slice_known-1.given i))) (one_more c)
+    → c.loop-p.n * 256 + get_or c.args.m.now c.loop-p.p 0 < 4294967296
+small c = digits_small c.args.m.now c.args.at _ _ (c.loop-p.p + 1) c.requires.3
+    (all_octets c.args.m.now (λ i. omega (arith, c.shared_slice_known-1.given i))) (one_more c)
 
 whole : (c : lts.After-loop-p reads.Pre reads.Post invariant-loop decreases-loop)
-    → let a = c.before.before.before.args in unsigned 0 (take a.k (drop a.at a.m.now)) ≡ c.before.loop-p.n
-whole c = let a = c.before.before.before.args in all_digits a.m.now a.at _ _ _ c.loop-p-test.false c.before.loop-p.invariant.2
+    → let a = c.args in unsigned 0 (take a.k (drop a.at a.m.now)) ≡ c.loop-p.n
+whole c = let a = c.args in all_digits a.m.now a.at _ _ _ c.loop-p-test.false c.loop-p.invariant.2
 
 pub read_long_spec : {M : Type 1} → statement M
 read_long_spec =
@@ -47,21 +45,18 @@ read_long_spec =
     invariant-loop
     decreases-loop
     (λ c. omega (arith, c.requires.1, c.requires.3, c.well_formed))  -- add-start
-    (λ c. let at_start = c.before in
-    length_few at_start.args.m.now _ at_start.requires.0 at_start.requires.1 _ at_start.requires.2 at_start.requires.3 at_start.requires.4
+    (λ c. length_few c.args.m.now _ c.requires.0 c.requires.1 _ c.requires.2 c.requires.3 c.requires.4
     c.if-m-start.true)  -- returns
-    (λ c. (omega arith, omega arith, no_digit c.before.args.m.now c.before.args.at c.before.args.k))  -- loop-holds
-    (λ c. omega (arith, c.before.loop-p-test.true, c.before.before.before.if-m-start.false))  -- shared-slice-read-d
+    (λ c. (omega arith, omega arith, no_digit c.args.m.now c.args.at c.args.k))  -- loop-holds
+    (λ c. omega (arith, c.loop-p-test.true, c.if-m-start.false))  -- shared-slice-read-d
     (λ c. omega (arith, small c))  -- cast-d
     (λ c. omega (arith, small c))  -- mul-n
     (λ c. omega (arith, small c))  -- add-n
-    (λ c. omega (arith, c.before.loop-p-test.true, c.before.before.before.if-m-start.false, c.before.before.before.before.well_formed))  -- add-p
-    (λ c. omega (arith, c.before.loop-p-test.true))  -- loop-less
-    (λ c. (omega (arith, c.before.loop-p-test.true), small c, one_more c))  -- loop-again
-    (λ c. omega (arith, c.before.loop-p.invariant.1, c.before.before.if-m-start.false, c.before.before.before.well_formed))  -- add-end
-    (λ c. let at_start = c.before.before.before.before in
-    length_long_no at_start.args.m.now _ at_start.requires.0 at_start.requires.1 _ at_start.requires.2 at_start.requires.3 at_start.requires.4
-    c.before.before.before.if-m-start.false _ (whole c.before) c.if-m-end.true)  -- returns-2
-    (λ c. let at_start = c.before.before.before.before in
-    length_long at_start.args.m.now _ at_start.requires.0 at_start.requires.1 _ at_start.requires.2 at_start.requires.3 at_start.requires.4
-    c.before.before.before.if-m-start.false _ (whole c.before) c.if-m-end.false))  -- returns-3
+    (λ c. omega (arith, c.loop-p-test.true, c.if-m-start.false, c.well_formed))  -- add-p
+    (λ c. omega (arith, c.loop-p-test.true))  -- loop-less
+    (λ c. (omega (arith, c.loop-p-test.true), small c, one_more c))  -- loop-again
+    (λ c. omega (arith, c.loop-p.invariant.1, c.if-m-start.false, c.well_formed))  -- add-end
+    (λ c. length_long_no c.args.m.now _ c.requires.0 c.requires.1 _ c.requires.2 c.requires.3 c.requires.4
+    c.if-m-start.false _ (whole c.before) c.if-m-end.true)  -- returns-2
+    (λ c. length_long c.args.m.now _ c.requires.0 c.requires.1 _ c.requires.2 c.requires.3 c.requires.4
+    c.if-m-start.false _ (whole c.before) c.if-m-end.false))  -- returns-3

@@ -10,6 +10,6 @@ pub size_spec : {M : Type 1} → statement M
 size_spec =
     tie.close
     (tie.spec
-    (λ c. (rw (length_three c.before.args.n (omega (arith, c.if-n-gt255.true)) (omega (arith, c.before.ranges.n))) refl, omega arith))  -- returns
-    (λ c. (rw (length_two c.before.before.args.n (omega (arith, c.if-n-gt127.true)) (omega (arith, c.before.if-n-gt255.false))) refl, omega arith))  -- returns-2
-    (λ c. (rw (length_one c.before.before.args.n (omega (arith, c.if-n-gt127.false))) refl, omega arith)))  -- returns-3
+    (λ c. (rw (length_three c.args.n (omega (arith, c.if-n-gt255.true)) (omega (arith, c.ranges.n))) refl, omega arith))  -- returns
+    (λ c. (rw (length_two c.args.n (omega (arith, c.if-n-gt127.true)) (omega (arith, c.if-n-gt255.false))) refl, omega arith))  -- returns-2
+    (λ c. (rw (length_one c.args.n (omega (arith, c.if-n-gt127.false))) refl, omega arith)))  -- returns-3

@@ -11,5 +11,5 @@ case_text_spec =
     tie.close
     (tie.spec
     (λ c κs. search rules)  -- case-line-requires
-    (λ c κs. put_within c.before.before.case_line-n.ensures)  -- front-requires
-    (λ c. c.front.ensures ∙ put_whole c.before.before.before.case_line-n.ensures))  -- returns
+    (λ c κs. put_within c.case_line-n.ensures)  -- front-requires
+    (λ c. c.front.ensures ∙ put_whole c.case_line-n.ensures))  -- returns

@@ -10,14 +10,9 @@ pub begin_spec : {M : Type 1} → statement M
 begin_spec =
     tie.close
     (tie.spec
-    (λ c κs. let at_start = c.before.before.before in first_room (decimal at_start.args.number) at_start.args.text.now at_start.requires)  -- put-decimal-requires
+    (λ c κs. first_room (decimal c.args.number) c.args.text.now c.requires)  -- put-decimal-requires
     (λ c κs.
-    let c3 = c.before.before.before in
-    let c7 = c3.before.before.before.before in
-    let at_start = c7 in next_room at_start.args.text.now c3.put_decimal-at.ensures at_start.requires)  -- put-text-requires
-    (λ c. c.before.before.put_text.auto.0 ∙ c.before.before.before.before.before.before.put_decimal-at.auto.0)  -- same-length
+    next_room c.args.text.now c.put_decimal-at.ensures c.requires)  -- put-text-requires
+    (λ c. c.put_text.auto.0 ∙ c.put_decimal-at.auto.0)  -- same-length
     (λ c.
-    let c2 = c.before.before in
-    let c6 = c2.before.before.before.before in
-    let c10 = c6.before.before.before.before in
-    put_joined c6.put_decimal-at.ensures c2.put_text.ensures c10.requires))  -- returns
+    put_joined c.put_decimal-at.ensures c.put_text.ensures c.requires))  -- returns

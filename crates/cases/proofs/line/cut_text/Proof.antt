@@ -10,6 +10,6 @@ pub cut_text_spec : {M : Type 1} → statement M
 cut_text_spec =
     tie.close
     (tie.spec
-    (λ c κs. let at_start = c.before.before in cut_room _ _ at_start.ranges.number.fits at_start.requires)  -- cut-line-requires
-    (λ c κs. put_within c.before.before.cut-Line.ensures)  -- front-requires
-    (λ c. c.front.ensures ∙ put_whole c.before.before.before.cut-Line.ensures))  -- returns
+    (λ c κs. cut_room _ _ c.ranges.number.fits c.requires)  -- cut-line-requires
+    (λ c κs. put_within c.cut-Line.ensures)  -- front-requires
+    (λ c. c.front.ensures ∙ put_whole c.cut-Line.ensures))  -- returns

@@ -14,27 +14,15 @@ done_line_spec =
     tie.close
     (tie.spec
     (λ c. search rules)  -- slice-aggregate-begin
-    (λ c κs. let at_start = c.before.before.before.before in room_1 (decimal at_start.args.number ++ ok) (shown at_start.args.res.now) feed at_start.requires)  -- begin-requires
+    (λ c κs. room_1 (decimal c.args.number ++ ok) (shown c.args.res.now) feed c.requires)  -- begin-requires
     (λ c κs.
-    let c3 = c.before.before.before in
-    let c8 = c3.before.before.before.before.before in
-    let at_start = c8 in room_2 (decimal at_start.args.number ++ ok) (shown at_start.args.res.now) feed at_start.requires
-    c3.begin-at.ensures)  -- put-shown-requires
+    room_2 (decimal c.args.number ++ ok) (shown c.args.res.now) feed c.requires
+    c.begin-at.ensures)  -- put-shown-requires
     (λ c κs.
-    let c3 = c.before.before.before in
-    let c7 = c3.before.before.before.before in
-    let c12 = c7.before.before.before.before.before in
-    let at_start = c12 in one_room (room_3 (decimal at_start.args.number ++ ok) (shown at_start.args.res.now) feed
-    at_start.requires c7.begin-at.ensures c3.put_shown-end.ensures))  -- put-requires
+    one_room (room_3 (decimal c.args.number ++ ok) (shown c.args.res.now) feed
+    c.requires c.begin-at.ensures c.put_shown-end.ensures))  -- put-requires
     (λ c.
-    let c2 = c.before.before in
-    let c6 = c2.before.before.before.before in
-    let c10 = c6.before.before.before.before in
-    c2.put.auto.0 ∙ c6.put_shown-end.auto.0 ∙ c10.begin-at.auto.1.1.0)  -- same-length
+    c.put.auto.0 ∙ c.put_shown-end.auto.0 ∙ c.begin-at.auto.1.1.0)  -- same-length
     (λ c.
-    let c2 = c.before.before in
-    let c6 = c2.before.before.before.before in
-    let c10 = c6.before.before.before.before in
-    let c15 = c10.before.before.before.before.before in
-    let at_start = c15 in put_3 (decimal at_start.args.number ++ ok) (shown at_start.args.res.now) feed at_start.requires
-    c10.begin-at.ensures c6.put_shown-end.ensures c2.put.ensures))  -- returns
+    put_3 (decimal c.args.number ++ ok) (shown c.args.res.now) feed c.requires
+    c.begin-at.ensures c.put_shown-end.ensures c.put.ensures))  -- returns

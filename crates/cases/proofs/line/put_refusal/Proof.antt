@@ -10,27 +10,15 @@ pub put_refusal_spec : {M : Type 1} → statement M
 put_refusal_spec =
     tie.close
     (tie.spec
-    (λ c κs. let at_start = c.before.before in room_1 (decimal at_start.args.n) space (decimal at_start.args.place) at_start.requires)  -- put-decimal-requires
+    (λ c κs. room_1 (decimal c.args.n) space (decimal c.args.place) c.requires)  -- put-decimal-requires
     (λ c κs.
-    let c3 = c.before.before.before in
-    let c6 = c3.before.before.before in
-    let at_start = c6 in one_room (room_2 (decimal at_start.args.n) space (decimal at_start.args.place) at_start.requires
-    c3.put_decimal-behind.ensures))  -- put-requires
+    one_room (room_2 (decimal c.args.n) space (decimal c.args.place) c.requires
+    c.put_decimal-behind.ensures))  -- put-requires
     (λ c κs.
-    let c3 = c.before.before.before in
-    let c7 = c3.before.before.before.before in
-    let c10 = c7.before.before.before in
-    let at_start = c10 in room_3 (decimal at_start.args.n) space (decimal at_start.args.place) at_start.requires
-    c7.put_decimal-behind.ensures c3.put-from.ensures)  -- put-decimal-requires-2
+    room_3 (decimal c.args.n) space (decimal c.args.place) c.requires
+    c.put_decimal-behind.ensures c.put-from.ensures)  -- put-decimal-requires-2
     (λ c.
-    let c2 = c.before.before in
-    let c6 = c2.before.before.before.before in
-    let c10 = c6.before.before.before.before in
-    c2.put_decimal.auto.0 ∙ c6.put-from.auto.0 ∙ c10.put_decimal-behind.auto.0)  -- same-length
+    c.put_decimal.auto.0 ∙ c.put-from.auto.0 ∙ c.put_decimal-behind.auto.0)  -- same-length
     (λ c.
-    let c2 = c.before.before in
-    let c6 = c2.before.before.before.before in
-    let c10 = c6.before.before.before.before in
-    let c13 = c10.before.before.before in
-    let at_start = c13 in put_3 (decimal at_start.args.n) space (decimal at_start.args.place) at_start.requires
-    c10.put_decimal-behind.ensures c6.put-from.ensures c2.put_decimal.ensures))  -- returns
+    put_3 (decimal c.args.n) space (decimal c.args.place) c.requires
+    c.put_decimal-behind.ensures c.put-from.ensures c.put_decimal.ensures))  -- returns

@@ -15,29 +15,16 @@ refused_line_spec =
     (tie.spec
     (λ c. search rules)  -- slice-aggregate-begin
     (λ c κs.
-    let c3 = c.before.before.before in
-    let at_start = c3 in room_1 (decimal at_start.args.number ++ no) (decimal at_start.args.n ++ space ++ decimal
-    at_start.args.place) feed at_start.requires)  -- begin-requires
+    room_1 (decimal c.args.number ++ no) (decimal c.args.n ++ space ++ decimal
+    c.args.place) feed c.requires)  -- begin-requires
     (λ c κs.
-    let c3 = c.before.before.before in
-    let c7 = c3.before.before.before.before in
-    let at_start = c7 in room_2 (decimal at_start.args.number ++ no) (decimal at_start.args.n ++ space ++ decimal
-    at_start.args.place) feed at_start.requires c3.begin-at.ensures)  -- put-refusal-requires
+    room_2 (decimal c.args.number ++ no) (decimal c.args.n ++ space ++ decimal
+    c.args.place) feed c.requires c.begin-at.ensures)  -- put-refusal-requires
     (λ c κs.
-    let c3 = c.before.before.before in
-    let c7 = c3.before.before.before.before in
-    let c11 = c7.before.before.before.before in
-    let at_start = c11 in one_room (room_3 (decimal at_start.args.number ++ no) (decimal at_start.args.n ++ space ++ decimal
-    at_start.args.place) feed at_start.requires c7.begin-at.ensures c3.put_refusal-end.ensures))  -- put-requires
+    one_room (room_3 (decimal c.args.number ++ no) (decimal c.args.n ++ space ++ decimal
+    c.args.place) feed c.requires c.begin-at.ensures c.put_refusal-end.ensures))  -- put-requires
     (λ c.
-    let c2 = c.before.before in
-    let c6 = c2.before.before.before.before in
-    let c10 = c6.before.before.before.before in
-    c2.put.auto.0 ∙ c6.put_refusal-end.auto.0 ∙ c10.begin-at.auto.1.1.0)  -- same-length
+    c.put.auto.0 ∙ c.put_refusal-end.auto.0 ∙ c.begin-at.auto.1.1.0)  -- same-length
     (λ c.
-    let c2 = c.before.before in
-    let c6 = c2.before.before.before.before in
-    let c10 = c6.before.before.before.before in
-    let c14 = c10.before.before.before.before in
-    let at_start = c14 in put_3 (decimal at_start.args.number ++ no) (decimal at_start.args.n ++ space ++ decimal
-    at_start.args.place) feed at_start.requires c10.begin-at.ensures c6.put_refusal-end.ensures c2.put.ensures))  -- returns
+    put_3 (decimal c.args.number ++ no) (decimal c.args.n ++ space ++ decimal
+    c.args.place) feed c.requires c.begin-at.ensures c.put_refusal-end.ensures c.put.ensures))  -- returns

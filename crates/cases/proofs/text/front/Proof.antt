@@ -8,5 +8,5 @@ use Rattle.cases.proofs.text.front.Tie as tie
 
 pub front_spec : {M : Type 1} → statement M
 front_spec = tie.close (tie.spec
-    (λ c. sym (length-take-le _ _ c.before.before.requires))  -- slice-aggregate-result
+    (λ c. sym (length-take-le _ _ c.requires))  -- slice-aggregate-result
     (λ c. search rules))  -- returns

@@ -29,23 +29,16 @@ put_hexadecimal_spec =
     (λ c. (search rules, refl, put_none _ _))  -- loop-holds
     (λ c. search rules)  -- shared-slice-read-put-pair
     (λ c κs.
-    let c2 = c.before.before in
-    let c3 = c2.before in
-    let c6 = c3.before.before.before in
-    let at_start = c6 in hexadecimal_room at_start.args.octets.now c3.loop-i.i c2.loop-i-test.true at_start.requires
-    c3.loop-i.invariant.2)  -- put-pair-requires
+    hexadecimal_room c.args.octets.now c.loop-i.i c.loop-i-test.true c.requires
+    c.loop-i.invariant.2)  -- put-pair-requires
     (λ c. search rules)  -- add-i
     (λ c. search rules)  -- loop-less
     (λ c.
-    let c2 = c.before.before in
-    let c5 = c2.before.before.before in
-    let c6 = c5.before in
-    let c9 = c6.before.before.before in
-    let at_start = c9 in (
+    (
       search rules,
-      c2.put_pair-end.auto.0 ∙ c6.loop-i.invariant.1,
+      c.put_pair-end.auto.0 ∙ c.loop-i.invariant.1,
       rw add-one (hexadecimal_turn
-          at_start.args.octets.now c6.loop-i.i c5.loop-i-test.true at_start.requires c6.loop-i.invariant.2 c2.put_pair-end.ensures),
+          c.args.octets.now c.loop-i.i c.loop-i-test.true c.requires c.loop-i.invariant.2 c.put_pair-end.ensures),
     ))  -- loop-again
-    (λ c. c.before.loop-i.invariant.1)  -- same-length
-    (λ c. rw (take_all c.before.loop-i.i c.before.before.before.before.args.octets.now c.loop-i-test.false) at c.before.loop-i.invariant.2))  -- returns
+    (λ c. c.loop-i.invariant.1)  -- same-length
+    (λ c. rw (take_all c.loop-i.i c.args.octets.now c.loop-i-test.false) at c.loop-i.invariant.2))  -- returns

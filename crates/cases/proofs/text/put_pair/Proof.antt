@@ -21,4 +21,4 @@ put_pair_spec =
     (λ c. simp length-set (omega arith))  -- slice-write-line-2
     (λ c. search rules)  -- add-result
     (λ c. simp length-set)  -- same-length
-    (λ c. rw (c.before.digit-high.ensures, c.digit-low.ensures, add-one) (put_stored c.before.before.before.requires)))  -- returns
+    (λ c. rw (c.digit-high.ensures, c.digit-low.ensures, add-one) (put_stored c.requires)))  -- returns

@@ -31,14 +31,12 @@ put_text_spec =
     (λ c. search rules)  -- add-i
     (λ c. search rules)  -- loop-less
     (λ c.
-    let c2 = c.before.before in
-    let c3 = c2.before in
-    let at_start = c3 in (
+    (
       search rules,
-      simp length-set c2.loop-i.invariant.1,
-      rw (c2.loop-i.invariant.2, add-one) (paste-suc
-          at_start.args.line.now at_start.args.at at_start.args.text.now c2.loop-i.i 0 (search rules) (search rules)),
+      simp length-set c.loop-i.invariant.1,
+      rw (c.loop-i.invariant.2, add-one) (paste-suc
+          c.args.line.now c.args.at c.args.text.now c.loop-i.i 0 (search rules) (search rules)),
     ))  -- loop-again
     (λ c. search rules)  -- add-result
-    (λ c. c.before.loop-i.invariant.1)  -- same-length
-    (λ c. put_copied _ _ _ _ _ (omega arith) c.before.loop-i.invariant.2))  -- returns
+    (λ c. c.loop-i.invariant.1)  -- same-length
+    (λ c. put_copied _ _ _ _ _ (omega arith) c.loop-i.invariant.2))  -- returns

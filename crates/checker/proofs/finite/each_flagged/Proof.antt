@@ -29,20 +29,20 @@ each_flagged_spec =
     (λ c κs. search rules)  -- optional-requires
     (λ c κs. search rules)  -- octet-requires
     (λ c κs. search rules)  -- flagged-requires
-    (λ c. present_stops (is_flagged _) _ _ _ _ c.before.before.before.before.before.before.loop-left.invariant.1
-    c.before.before.before.before.before.loop-left-test.true (sym c.before.before.before.before.optional.ensures ∙
-    c.before.before.before.if-not-optional.true)
-    (rw (← c.before.before.octet.ensures.0, ← c.before.flagged.ensures) c.if-not-flagged.true))  -- returns
+    (λ c. present_stops (is_flagged _) _ _ _ _ c.loop-left.invariant.1
+    c.loop-left-test.true (sym c.optional.ensures ∙
+    c.if-not-optional.true)
+    (rw (← c.octet.ensures.0, ← c.flagged.ensures) c.if-not-flagged.true))  -- returns
     (λ c. omega arith)  -- add-at
     (λ c. omega arith)  -- sub-left
     (λ c. omega arith)  -- loop-less
     (λ c. (
       omega arith,
       ⊎_elim
-          (λ w. present_flagged (is_flagged _) _ _ _ _ c.before.before.before.loop-left.invariant.1 c.before.before.loop-left-test.true
+          (λ w. present_flagged (is_flagged _) _ _ _ _ c.loop-left.invariant.1 c.loop-left-test.true
           (rw (← w.1.ensures.0, ← w.2.ensures) (not-false _ w.3.left)))
-          (λ w. present_optional (is_flagged _) _ _ _ _ c.before.before.before.loop-left.invariant.1 c.before.before.loop-left-test.true
-          (sym c.before.optional.ensures ∙ not-false _ w.left))
+          (λ w. present_optional (is_flagged _) _ _ _ _ c.loop-left.invariant.1 c.loop-left-test.true
+          (sym c.optional.ensures ∙ not-false _ w.left))
           c.if-not-optional.branch,
     ))  -- loop-again
-    (λ c. present_ends (is_flagged _) _ _ _ _ c.before.loop-left.invariant.1 (omega arith)))  -- returns-2
+    (λ c. present_ends (is_flagged _) _ _ _ _ c.loop-left.invariant.1 (omega arith)))  -- returns-2

@@ -15,4 +15,4 @@ flagged_spec =
     (tie.spec
     (λ c. search rules)  -- element-copy-out-result
     (λ c. refl)  -- returns
-    (λ c. sym (flagged_beyond c.before.args.flags.now c.before.args.t (omega arith))))  -- returns-2
+    (λ c. sym (flagged_beyond c.args.flags.now c.args.t (omega arith))))  -- returns-2

@@ -16,19 +16,19 @@ found_spec =
     (λ c κs. search rules)  -- has-members-requires
     (λ c κs. search rules)  -- parts-requires
     (λ c κs. (
-      rw c.parts.ensures (near_span _ _ _ (λ i. omega (arith, c.before.before.before.before.shared_slice_known-1.given i)) (omega arith)),
-      c.before.before.before.before.before.requires,
+      rw c.parts.ensures (near_span _ _ _ (λ i. omega (arith, c.shared_slice_known-1.given i)) (omega arith)),
+      c.requires,
     ))  -- each-flagged-requires
-    (λ c. λ r x. rw c.before.parts.ensures at c.each_flagged.ensures ∙ finite_members x _
-    (sym c.before.before.before.has_members.ensures ∙ c.before.before.if-has_members.true))  -- returns-2
+    (λ c. λ r x. rw c.parts.ensures at c.each_flagged.ensures ∙ finite_members x _
+    (sym c.has_members.ensures ∙ c.if-has_members.true))  -- returns-2
     (λ c κs. search rules)  -- alternatives-requires
     (λ c κs. (
-      rw c.alternatives.ensures (near_counted c.before.before.before.before.before.before.before.args.table.now
-          c.before.before.before.before.before.before.before.args.e.own 1
-          (λ i. omega (arith, c.before.before.before.before.before.before.shared_slice_known-1.given i)) (omega arith) (omega arith)),
-      c.before.before.before.before.before.before.before.requires,
+      rw c.alternatives.ensures (near_counted c.args.table.now
+          c.args.e.own 1
+          (λ i. omega (arith, c.shared_slice_known-1.given i)) (omega arith) (omega arith)),
+      c.requires,
     ))  -- one-flagged-requires
-    (λ c. λ r x. rw c.before.alternatives.ensures at c.one_flagged.ensures ∙ finite_choice x _
-    (eq-eqb _ _ c.before.before.if-e-eq-CHOICE.true))  -- returns-3
-    (λ c. λ r x. finite_other x _ (sym c.before.before.before.has_members.ensures ∙ c.before.before.if-has_members.false)
+    (λ c. λ r x. rw c.alternatives.ensures at c.one_flagged.ensures ∙ finite_choice x _
+    (eq-eqb _ _ c.if-e-eq-CHOICE.true))  -- returns-3
+    (λ c. λ r x. finite_other x _ (sym c.has_members.ensures ∙ c.if-has_members.false)
     (ne_eqb _ _ c.if-e-eq-CHOICE.false)))  -- returns-4

@@ -25,22 +25,22 @@ lowest_spec =
     invariant-loop
     decreases-loop
     (λ c. (refl, same))  -- loop-holds
-    (λ c κs. (c.before.before.before.requires, c.before.loop-flags.invariant.0))  -- round-requires
+    (λ c κs. (c.requires, c.loop-flags.invariant.0))  -- round-requires
     (λ c κs. (
-      raised_size _ c.before.round-more.ensures.raised ∙ c.before.before.before.loop-flags.invariant.0,
-      c.before.before.before.before.before.requires.few,
+      raised_size _ c.round-more.ensures.raised ∙ c.loop-flags.invariant.0,
+      c.requires.few,
     ))  -- lowest-without-requires
-    (λ c. sym c.if-t-n.true ∙ c.before.lowest_without-t.ensures ∙ lowest_full _ _
-    (filled_beyond c.before.before.before.before.before.before.before.requires) _ _ (zeros 128)
-    (raised_on _ c.before.before.before.before.before.loop-flags.invariant.1 c.before.before.before.round-more.ensures.raised)
-    (sym c.before.lowest_without-t.ensures ∙ c.if-t-n.true))  -- returns
-    (λ c. c.before.before.lowest_without-t.ensures ∙ lowest_closed _ _
-    (filled_beyond c.before.before.before.before.before.before.before.before.requires) _ _ (zeros 128)
-    (raised_on _ c.before.before.before.before.before.before.loop-flags.invariant.1 c.before.before.before.before.round-more.ensures.raised)
-    (looked_closed _ _ c.before.before.before.before.round-more.ensures c.if-not-more.true))  -- returns-2
-    (λ c. c.before.before.before.before.round-more.ensures.fewer c.if-not-more.false)  -- loop-less
+    (λ c. sym c.if-t-n.true ∙ c.lowest_without-t.ensures ∙ lowest_full _ _
+    (filled_beyond c.requires) _ _ (zeros 128)
+    (raised_on _ c.loop-flags.invariant.1 c.round-more.ensures.raised)
+    (sym c.lowest_without-t.ensures ∙ c.if-t-n.true))  -- returns
+    (λ c. c.lowest_without-t.ensures ∙ lowest_closed _ _
+    (filled_beyond c.requires) _ _ (zeros 128)
+    (raised_on _ c.loop-flags.invariant.1 c.round-more.ensures.raised)
+    (looked_closed _ _ c.round-more.ensures c.if-not-more.true))  -- returns-2
+    (λ c. c.round-more.ensures.fewer c.if-not-more.false)  -- loop-less
     (λ c. (
-      raised_size _ c.before.before.before.before.round-more.ensures.raised ∙ c.before.before.before.before.before.before.loop-flags.invariant.0,
-      raised_on _ c.before.before.before.before.before.before.loop-flags.invariant.1
-          c.before.before.before.before.round-more.ensures.raised,
+      raised_size _ c.round-more.ensures.raised ∙ c.loop-flags.invariant.0,
+      raised_on _ c.loop-flags.invariant.1
+          c.round-more.ensures.raised,
     )))  -- loop-again

@@ -25,8 +25,8 @@ lowest_without_spec =
     decreases-loop
     (λ c. rest_first _ _)  -- loop-holds
     (λ c. search rules)  -- element-copy-out-if1
-    (λ c. rest_here _ _ _ c.before.before.before.loop-t.invariant c.before.before.loop-t-test.true (rw (eq-eqb _ _ c.if-flags-t-eq0.true)))  -- returns
+    (λ c. rest_here _ _ _ c.loop-t.invariant c.loop-t-test.true (rw (eq-eqb _ _ c.if-flags-t-eq0.true)))  -- returns
     (λ c. search rules)  -- add-t
     (λ c. omega arith)  -- loop-less
-    (λ c. rest_next _ _ _ c.before.before.before.loop-t.invariant c.before.before.loop-t-test.true (rw (ne_eqb _ _ c.if-flags-t-eq0.false)))  -- loop-again
-    (λ c. rest_none _ _ _ c.before.loop-t.invariant c.loop-t-test.false))  -- returns-2
+    (λ c. rest_next _ _ _ c.loop-t.invariant c.loop-t-test.true (rw (ne_eqb _ _ c.if-flags-t-eq0.false)))  -- loop-again
+    (λ c. rest_none _ _ _ c.loop-t.invariant c.loop-t-test.false))  -- returns-2

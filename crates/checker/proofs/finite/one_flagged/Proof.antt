@@ -27,14 +27,14 @@ one_flagged_spec =
     (λ c. (refl, refl))  -- loop-holds
     (λ c κs. search rules)  -- octet-requires
     (λ c κs. search rules)  -- flagged-requires
-    (λ c. any_stops _ 1 _ _ _ _ c.before.before.before.before.loop-left.invariant.1 c.before.before.before.loop-left-test.true
-    (rw (← c.before.before.octet.ensures.0, ← c.before.flagged.ensures) c.if-flagged.true))  -- returns
+    (λ c. any_stops _ 1 _ _ _ _ c.loop-left.invariant.1 c.loop-left-test.true
+    (rw (← c.octet.ensures.0, ← c.flagged.ensures) c.if-flagged.true))  -- returns
     (λ c. omega arith)  -- add-at
     (λ c. omega arith)  -- sub-left
     (λ c. omega arith)  -- loop-less
     (λ c. (
       omega arith,
-      any_goes _ 1 _ _ _ _ c.before.before.before.before.loop-left.invariant.1 c.before.before.before.loop-left-test.true
-          (rw (← c.before.before.octet.ensures.0, ← c.before.flagged.ensures) c.if-flagged.false),
+      any_goes _ 1 _ _ _ _ c.loop-left.invariant.1 c.loop-left-test.true
+          (rw (← c.octet.ensures.0, ← c.flagged.ensures) c.if-flagged.false),
     ))  -- loop-again
-    (λ c. any_ends _ 1 _ _ _ _ c.before.loop-left.invariant.1 (omega arith)))  -- returns-2
+    (λ c. any_ends _ 1 _ _ _ _ c.loop-left.invariant.1 (omega arith)))  -- returns-2

@@ -25,38 +25,38 @@ round_spec =
     (tie.spec
     invariant-loop
     decreases-loop
-    (λ c. (omega arith, c.before.requires.1, looked_none _ _ _))  -- loop-holds
+    (λ c. (omega arith, c.requires.1, looked_none _ _ _))  -- loop-holds
     (λ c. omega arith)  -- sub-t
-    (λ c. omega (arith, c.before.before.before.requires.0.few))  -- element-copy-out-if1
-    (λ c. omega (arith, c.before.before.before.before.before.requires.0.few))  -- mul-unpack
-    (λ c. omega (arith, c.before.before.before.before.before.requires.0.few))  -- element-copy-out-unpack
+    (λ c. omega (arith, c.requires.0.few))  -- element-copy-out-if1
+    (λ c. omega (arith, c.requires.0.few))  -- mul-unpack
+    (λ c. omega (arith, c.requires.0.few))  -- element-copy-out-unpack
     (λ c κs. search rules)  -- unpack-requires
-    (λ c κs. c.before.before.before.before.before.before.loop-t.invariant.1)  -- found-requires
-    (λ c. omega (arith, c.before.before.before.before.before.before.before.before.before.before.requires.0.few))  -- element-write-flags
+    (λ c κs. c.loop-t.invariant.1)  -- found-requires
+    (λ c. omega (arith, c.requires.0.few))  -- element-write-flags
     (λ c. omega arith)  -- loop-less
     (λ c. (
       omega arith,
-      length-set c.before.before.before.before.before.before.before.before.loop-t.flags _ _ ∙
-          c.before.before.before.before.before.before.before.before.loop-t.invariant.1,
-      looked_more _ _ _ _ _ _ c.before.before.before.before.before.before.before.before.loop-t.invariant.2
-          (omega (arith, c.before.before.before.before.before.before.before.before.before.before.requires.0.few))
-          c.before.before.before.before.before.if-flags-t-eq0.true (sym (c.before.found.ensures _
-          (entry_at c.before.before.before.before.before.before.before.before.before.before.requires.0 _ (omega arith)
-          c.before.before.before.unpack-e.ensures)) ∙ c.if-found.true),
+      length-set c.loop-t.flags _ _ ∙
+          c.loop-t.invariant.1,
+      looked_more _ _ _ _ _ _ c.loop-t.invariant.2
+          (omega (arith, c.requires.0.few))
+          c.if-flags-t-eq0.true (sym (c.found.ensures _
+          (entry_at c.requires.0 _ (omega arith)
+          c.unpack-e.ensures)) ∙ c.if-found.true),
     ))  -- loop-again
     (λ c. omega arith)  -- loop-less-2
     (λ c. (
       omega arith,
-      c.before.before.before.before.before.before.before.before.loop-t.invariant.1,
-      looked_idle _ _ _ _ _ _ c.before.before.before.before.before.before.before.before.loop-t.invariant.2
-          (sym (c.before.found.ensures _ (entry_at c.before.before.before.before.before.before.before.before.before.before.requires.0 _
-          (omega arith) c.before.before.before.unpack-e.ensures)) ∙ c.if-found.false),
+      c.loop-t.invariant.1,
+      looked_idle _ _ _ _ _ _ c.loop-t.invariant.2
+          (sym (c.found.ensures _ (entry_at c.requires.0 _
+          (omega arith) c.unpack-e.ensures)) ∙ c.if-found.false),
     ))  -- loop-again-2
     (λ c. omega arith)  -- loop-less-3
     (λ c. (
       omega arith,
-      c.before.before.before.loop-t.invariant.1,
-      looked_flagged _ _ _ _ _ _ c.before.before.before.loop-t.invariant.2
+      c.loop-t.invariant.1,
+      looked_flagged _ _ _ _ _ _ c.loop-t.invariant.2
           c.if-flags-t-eq0.false,
     ))  -- loop-again-3
-    (λ c. looked_all _ _ _ c.loop-t-test.false c.before.loop-t.invariant.2))  -- returns
+    (λ c. looked_all _ _ _ c.loop-t-test.false c.loop-t.invariant.2))  -- returns

@@ -46,12 +46,12 @@ gather-under-at t = and 4 gather_under_kinds.ps (is 4 gather_under_kinds.ps μ-g
 abbrev gather-under-below : ℕ → In 4 gather_under_kinds.ps
 gather-under-below t = and 4 gather_under_kinds.ps (falls 4 gather_under_kinds.ps ◌<◌ μ-gather-under t) gather_under.Pre
 
-abbrev gather-under-Inv-loop : gather_under_lts.invariant-loop
+abbrev gather-under-Inv-loop : gather_under_lts.invariant-loop-left
 gather-under-Inv-loop table index nodes flags₀ t at₀ left₀ flags at left =
     (length flags ≡ 129) × (free flags ≤ free flags₀) × (at + left ≤ 80000)
     × Going (table_in table) (get_or flags₀ 128 0) flags₀ (below (table_in table) t) flags (every_at 1 table at left)
 
-abbrev gather-under-μ-loop : gather_under_lts.decreases-loop
+abbrev gather-under-μ-loop : gather_under_lts.decreases-loop-left
 gather-under-μ-loop table index nodes flags₀ t at₀ left₀ flags at left = left
 
 pub +gather_gather_under_spec : {M : Type 1} → statement M
@@ -63,34 +63,34 @@ pub +gather_gather_under_spec : {M : Type 1} → statement M
     (first_reads.Asked, first_reads.Learnt, gather-under-below t, gather_under.Post)
     (gather-at t)
     gather.Post
-    (λ c. omega (arith, c.before.requires.1.there, c.before.requires.1.filled.few))  -- gather-element-copy-out-q
-    (λ c. omega (arith, stand_in_small c.before.before.requires.1))  -- gather-cast-q
-    (λ c. omega (arith, stand_in_small c.before.before.requires.1))  -- gather-element-copy-out-f
+    (λ c. omega (arith, c.requires.1.there, c.requires.1.filled.few))  -- gather-element-copy-out-q
+    (λ c. omega (arith, stand_in_small c.requires.1))  -- gather-cast-q
+    (λ c. omega (arith, stand_in_small c.requires.1))  -- gather-element-copy-out-f
     (λ c. search rules)  -- gather-element-copy-out-mark
-    (λ c. gathered_seen _ _ _ _ _ (stand_in c.before.before.before.before.before.requires.1) c.if1.true)  -- gather-returns
-    (λ c. gathered_met _ _ _ _ _ (stand_in c.before.before.before.before.before.before.requires.1) c.if2.true
-    c.before.if1.false)  -- gather-returns-2
-    (λ c. omega (arith, stand_in_small c.before.before.before.before.before.before.requires.1))  -- gather-element-write-flags
-    (λ c. let x = c.before.before.before.before.before.before.requires.1 in omega (arith, x.there, x.filled.few))  -- gather-mul-first
-    (λ c. let x = c.before.before.before.before.before.before.requires.1 in omega (arith, x.there, x.filled.few))  -- gather-element-copy-out-first
+    (λ c. gathered_seen _ _ _ _ _ (stand_in c.requires.1) c.if-f-mark.true)  -- gather-returns
+    (λ c. gathered_met _ _ _ _ _ (stand_in c.requires.1) c.if-f-ne0.true
+    c.if-f-mark.false)  -- gather-returns-2
+    (λ c. omega (arith, stand_in_small c.requires.1))  -- gather-element-write-flags
+    (λ c. let x = c.requires.1 in omega (arith, x.there, x.filled.few))  -- gather-mul-first
+    (λ c. let x = c.requires.1 in omega (arith, x.there, x.filled.few))  -- gather-element-copy-out-first
     (λ c κs. search rules)  -- gather-first-requires
-    (λ c. let x = c.before.before.before.before.before.before.before.before.before.requires.1 in
-    gathered_alone _ _ _ _ _ (stand_in x) (stand_in_within x) c.before.before.before.if2.false
-    (λ z. c.before.before.before.before.if1.false (c.before.before.before.if2.false ∙ sym z))
-    (below_none (x.filled.entered _ x.there) (λ z. c.if3.true (c.before.first.ensures ∙ z))))  -- gather-returns-3
-    (λ c κs. let x = c.before.before.before.before.before.before.before.before.before.before.requires.1 in (
+    (λ c. let x = c.requires.1 in
+    gathered_alone _ _ _ _ _ (stand_in x) (stand_in_within x) c.if-f-ne0.false
+    (λ z. c.if-f-mark.false (c.if-f-ne0.false ∙ sym z))
+    (below_none (x.filled.entered _ x.there) (λ z. c.if-first-ne-UNTAGGED.true (c.first.ensures ∙ z))))  -- gather-returns-3
+    (λ c κs. let x = c.requires.1 in (
       omega (
         arith,
-        put_fewer x c.before.before.before.before.if2.false
-            (λ z. c.before.before.before.before.before.if1.false (c.before.before.before.before.if2.false ∙ sym z)),
-        c.before.before.before.before.before.before.before.before.before.before.requires.0,
+        put_fewer x c.if-f-ne0.false
+            (λ z. c.if-f-mark.false (c.if-f-ne0.false ∙ sym z)),
+        c.requires.0,
       ),
-      (put_gathers x, sym c.before.before.first.ensures ∙ c.before.if3.false),
+      (put_gathers x, sym c.first.ensures ∙ c.if-first-ne-UNTAGGED.false),
     ))  -- gather-gather-under-requires
-    (λ c. let x = c.before.before.before.before.before.before.before.before.before.before.before.requires.1 in
-    gathered_under _ _ _ _ _ (stand_in x) (stand_in_within x) c.before.before.before.before.before.if2.false
-    (λ z. c.before.before.before.before.before.before.if1.false (c.before.before.before.before.before.if2.false ∙ sym z))
-    (rw (put_mark x) at c.gather-under.ensures)))  -- gather-returns-4
+    (λ c. let x = c.requires.1 in
+    gathered_under _ _ _ _ _ (stand_in x) (stand_in_within x) c.if-f-ne0.false
+    (λ z. c.if-f-mark.false (c.if-f-ne0.false ∙ sym z))
+    (rw (put_mark x) at c.gather_under.ensures)))  -- gather-returns-4
     λ t. gather_under_lts.spec (
       unpack_reads.Asked,
       unpack_reads.Learnt,
@@ -105,38 +105,38 @@ pub +gather_gather_under_spec : {M : Type 1} → statement M
     gather_under.Post
     gather-under-Inv-loop
     gather-under-μ-loop
-    (λ c. omega (arith, c.before.requires.1.0.there, c.before.requires.1.0.filled.few))  -- gather-under-mul-unpack
-    (λ c. omega (arith, c.before.requires.1.0.there, c.before.requires.1.0.filled.few))  -- gather-under-element-copy-out-unpack
+    (λ c. omega (arith, c.requires.1.0.there, c.requires.1.0.filled.few))  -- gather-under-mul-unpack
+    (λ c. omega (arith, c.requires.1.0.there, c.requires.1.0.filled.few))  -- gather-under-element-copy-out-unpack
     (λ c κs. search rules)  -- gather-under-unpack-requires
     (λ c κs. search rules)  -- gather-under-alternatives-requires
-    (λ c. let s = alternatives_near c.before.before.before.before.requires.1.0 c.before.unpack.ensures c.alternatives.ensures
-    (λ i. omega (arith, c.before.before.before.shared-slice-known.given i)) in (
-      c.before.before.before.before.requires.1.0.marks,
+    (λ c. let s = alternatives_near c.requires.1.0 c.unpack.ensures c.alternatives-s.ensures
+    (λ i. omega (arith, c.shared_slice_known-1.given i)) in (
+      c.requires.1.0.marks,
       omega arith,
       omega (arith, s.near, s.few),
-      going_from _ (alternatives_below c.before.before.before.before.requires.1.0 c.before.unpack.ensures c.alternatives.ensures
-          (λ i. omega (arith, c.before.before.before.shared-slice-known.given i)) c.before.before.before.before.requires.1.1),
+      going_from _ (alternatives_below c.requires.1.0 c.unpack.ensures c.alternatives-s.ensures
+          (λ i. omega (arith, c.shared_slice_known-1.given i)) c.requires.1.1),
     ))  -- gather-under-loop-holds
     (λ c κs. search rules)  -- gather-under-octet-requires
     (λ c κs. (
-      omega (arith, c.before.before.before.loop.invariant.1, c.before.before.before.before.before.before.before.before.requires.0),
-      gathers_at c.before.before.before.before.before.before.before.before.requires.1.0 _ c.before.before.before.loop.invariant.0
-          (c.before.before.before.before.before.before.before.before.requires.1.0.ready.closed _ _
-          c.before.before.before.before.before.before.before.before.requires.1.0.there
-          (next_in 1 _ _ _ _ c.before.before.before.loop.invariant.3 c.before.before.loop-test.true c.before.octet.ensures.0)),
+      omega (arith, c.loop-left.invariant.1, c.requires.0),
+      gathers_at c.requires.1.0 _ c.loop-left.invariant.0
+          (c.requires.1.0.ready.closed _ _
+          c.requires.1.0.there
+          (next_in 1 _ _ _ _ c.loop-left.invariant.3 c.loop-left-test.true c.octet-a.ensures.0)),
     ))  -- gather-under-gather-requires
-    (λ c. under_met _ _ _ _ _ _ _ c.before.before.before.before.before.loop.invariant.3 _ c.before.before.before.before.loop-test.true
-    c.before.before.before.octet.ensures.0 c.before.before.before.before.before.loop.invariant.1
-    (rw (going_mark c.before.before.before.before.before.loop.invariant.3) at c.before.gather.ensures) c.if1.true)  -- gather-under-returns
-    (λ c. omega (arith, c.before.before.before.before.before.loop.invariant.2))  -- gather-under-add-at
-    (λ c. omega (arith, c.before.before.before.before.loop-test.true))  -- gather-under-sub-left
-    (λ c. omega (arith, c.before.before.before.before.loop-test.true))  -- gather-under-loop-less
+    (λ c. under_met _ _ _ _ _ _ _ c.loop-left.invariant.3 _ c.loop-left-test.true
+    c.octet-a.ensures.0 c.loop-left.invariant.1
+    (rw (going_mark c.loop-left.invariant.3) at c.gather.ensures) c.if-f-mark.true)  -- gather-under-returns
+    (λ c. omega (arith, c.loop-left.invariant.2))  -- gather-under-add-at
+    (λ c. omega (arith, c.loop-left-test.true))  -- gather-under-sub-left
+    (λ c. omega (arith, c.loop-left-test.true))  -- gather-under-loop-less
     (λ c. (
-      same_size (c.before.gather.ensures.walked c.if1.false) ∙ c.before.before.before.before.before.loop.invariant.0,
-      omega (arith, c.before.before.before.before.before.loop.invariant.1, c.before.gather.ensures.fewer),
-      omega (arith, c.before.before.before.before.before.loop.invariant.2, c.before.before.before.before.loop-test.true),
-      next_turn 1 _ _ _ _ c.before.before.before.before.before.loop.invariant.3 c.before.before.before.before.loop-test.true
-          c.before.before.before.octet.ensures.0
-          (rw (going_mark c.before.before.before.before.before.loop.invariant.3) at c.before.gather.ensures) c.if1.false,
+      same_size (c.gather.ensures.walked c.if-f-mark.false) ∙ c.loop-left.invariant.0,
+      omega (arith, c.loop-left.invariant.1, c.gather.ensures.fewer),
+      omega (arith, c.loop-left.invariant.2, c.loop-left-test.true),
+      next_turn 1 _ _ _ _ c.loop-left.invariant.3 c.loop-left-test.true
+          c.octet-a.ensures.0
+          (rw (going_mark c.loop-left.invariant.3) at c.gather.ensures) c.if-f-mark.false,
     ))  -- gather-under-loop-again
-    (λ c. under_done _ _ _ _ _ _ _ c.before.loop.invariant.3 c.loop-test.false c.before.loop.invariant.1)  -- gather-under-returns-2
+    (λ c. under_done _ _ _ _ _ _ _ c.loop-left.invariant.3 c.loop-left-test.false c.loop-left.invariant.1)  -- gather-under-returns-2

@@ -31,35 +31,34 @@ clash_spec =
     invariant-loop
     decreases-loop
     (λ c. (λ z. absurd (false≢true z), λ _. lone_part _ _ _ _ c.if-s-lt2.true))  -- returns
-    (λ c. let x = c.before.before.before.requires in (refl, x.near, omega (arith, x.few), owned_start _ (zeros 128) refl))  -- loop-holds
+    (λ c. let x = c.requires in (refl, x.near, omega (arith, x.few), owned_start _ (zeros 128) refl))  -- loop-holds
     (λ c κs. search rules)  -- octet-requires
     (λ c. search rules)  -- array-write-flags
-    (λ c κs. let x = c.before.before.before.before.before.before.before.requires in
-    let l = c.before.before.before.loop-left in
-    gathers_from x.filled x.ready x.straight.named (length-set l.flags-1 128 l.mark ∙ l.invariant.0)
-    (x.there _ (owned_in (owned_next _ _ _ _ _ l.invariant.3 c.before.before.loop-left-test.true c.before.octet-a.ensures.0))))  -- gather-requires
-    (λ c. let x = c.before.before.before.before.before.before.before.before.before.requires in
-    let l = c.before.before.before.before.before.loop-left in (
+    (λ c κs. let x = c.requires in
+    let l = c.loop-left in
+    gathers_from x.filled x.ready x.straight.named (length-set l.flags 128 l.mark ∙ l.invariant.0)
+    (x.there _ (owned_in (owned_next _ _ _ _ _ l.invariant.3 c.loop-left-test.true c.octet-a.ensures.0))))  -- gather-requires
+    (λ c. let x = c.requires in
+    let l = c.loop-left in (
       λ _. owned_met _ _ x.straight x.ready.closed _ x.there _ _
-          (owned_next _ _ _ _ _ l.invariant.3 c.before.before.before.before.loop-left-test.true c.before.before.before.octet-a.ensures.0)
-          (met_low l.flags-1 l.mark l.invariant.0 (c.before.gather.ensures.met c.if-gather.true)),
+          (owned_next _ _ _ _ _ l.invariant.3 c.loop-left-test.true c.octet-a.ensures.0)
+          (met_low l.flags l.mark l.invariant.0 (c.gather.ensures.met c.if-gather.true)),
       λ z. absurd (true≢false z),
     ))  -- returns-2
-    (λ c. omega (arith, c.before.before.before.before.before.loop-left.invariant.2, c.before.before.before.before.loop-left-test.true))  -- add-mark
-    (λ c. let l = c.before.before.before.before.before in
-    omega (arith, l.before.loop-left.invariant.1, l.before.before.before.before.before.requires.close, l.loop-left-test.true))  -- add-at
-    (λ c. omega (arith, c.before.before.before.before.before.loop-left-test.true))  -- sub-left
-    (λ c. omega (arith, c.before.before.before.before.before.loop-left-test.true))  -- loop-less
-    (λ c. let x = c.before.before.before.before.before.before.before.before.before.before.requires in
-    let l = c.before.before.before.before.before.before.loop-left in
-    let o = owned_next _ _ _ _ _ l.invariant.3 c.before.before.before.before.before.loop-left-test.true c.before.before.before.before.octet-a.ensures.0 in
-    let w = c.before.before.gather.ensures.walked c.before.if-gather.false in (
-      same_size w ∙ length-set l.flags-1 128 l.mark ∙ l.invariant.0,
-      omega (arith, l.invariant.1, x.close, c.before.before.before.before.before.loop-left-test.true),
-      omega (arith, l.invariant.2, c.before.before.before.before.before.loop-left-test.true),
-      owned_turn _ _ _ _ _ _ _ o (walked_one l.flags-1 l.mark l.invariant.0 x.filled.few x.ready.closed (x.there _ (owned_in o)) w),
+    (λ c. omega (arith, c.loop-left.invariant.2, c.loop-left-test.true))  -- add-mark
+    (λ c. omega (arith, c.loop-left.invariant.1, c.requires.close, c.loop-left-test.true))  -- add-at
+    (λ c. omega (arith, c.loop-left-test.true))  -- sub-left
+    (λ c. omega (arith, c.loop-left-test.true))  -- loop-less
+    (λ c. let x = c.requires in
+    let l = c.loop-left in
+    let o = owned_next _ _ _ _ _ l.invariant.3 c.loop-left-test.true c.octet-a.ensures.0 in
+    let w = c.gather.ensures.walked c.if-gather.false in (
+      same_size w ∙ length-set l.flags 128 l.mark ∙ l.invariant.0,
+      omega (arith, l.invariant.1, x.close, c.loop-left-test.true),
+      omega (arith, l.invariant.2, c.loop-left-test.true),
+      owned_turn _ _ _ _ _ _ _ o (walked_one l.flags l.mark l.invariant.0 x.filled.few x.ready.closed (x.there _ (owned_in o)) w),
     ))  -- loop-again
     (λ c. (
       λ z. absurd (false≢true z),
-      λ _. owned_end _ _ _ _ (rw (every_none _ _ _ _ c.loop-left-test.false) at c.before.loop-left.invariant.3),
+      λ _. owned_end _ _ _ _ (rw (every_none _ _ _ _ c.loop-left-test.false) at c.loop-left.invariant.3),
     )))  -- returns-3

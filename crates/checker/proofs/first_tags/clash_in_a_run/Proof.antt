@@ -18,21 +18,16 @@ clash_in_a_run_spec =
     (tie.spec
     invariant-loop
     decreases-loop
-    (λ c. remaining_all c.before.requires.0 c.before.requires.1)  -- loop-holds
-    (λ c κs. (c.loop-left-test.true, c.before.loop-left.invariant.near))  -- run-length-requires
-    (λ c κs. compares_run c.before.before.loop-left.invariant c.before.loop-left-test.true c.run_length-count.ensures c.before.before.before.before.requires.0)  -- clash-requires
-    (λ c. let l = c.before.before.before in (
-      λ _. remaining_clash l.before.loop-left.invariant l.loop-left-test.true c.before.before.run_length-count.ensures c.before.clash.ensures c.if-clash.true,
+    (λ c. remaining_all c.requires.0 c.requires.1)  -- loop-holds
+    (λ c κs. (c.loop-left-test.true, c.loop-left.invariant.near))  -- run-length-requires
+    (λ c κs. compares_run c.loop-left.invariant c.loop-left-test.true c.run_length-count.ensures c.requires.0)  -- clash-requires
+    (λ c. (
+      λ _. remaining_clash c.loop-left.invariant c.loop-left-test.true c.run_length-count.ensures c.clash.ensures c.if-clash.true,
       λ z. absurd (true≢false z),
     ))  -- returns
-    (λ c. let l = c.before.before.before in
-    omega (arith, l.before.loop-left.invariant.few, (its_count l.before.loop-left.invariant l.loop-left-test.true c.before.before.run_length-count.ensures).0))  -- mul-first
-    (λ c. let l = c.before.before.before in
-    omega (arith, l.before.loop-left.invariant.near, (its_count l.before.loop-left.invariant l.loop-left-test.true c.before.before.run_length-count.ensures).0))  -- add-first
-    (λ c. let l = c.before.before.before in
-    omega (arith, (its_count l.before.loop-left.invariant l.loop-left-test.true c.before.before.run_length-count.ensures).0))  -- sub-left
-    (λ c. let l = c.before.before.before in
-    let n = its_count l.before.loop-left.invariant l.loop-left-test.true c.before.before.run_length-count.ensures in omega (arith, n.0, n.1))  -- loop-less
-    (λ c. let l = c.before.before.before in
-    remaining_next l.before.loop-left.invariant l.loop-left-test.true c.before.before.run_length-count.ensures c.before.clash.ensures c.if-clash.false)  -- loop-again
-    (λ c. (λ z. absurd (false≢true z), λ _. remaining_none c.before.loop-left.invariant c.loop-left-test.false)))  -- returns-2
+    (λ c. omega (arith, c.loop-left.invariant.few, (its_count c.loop-left.invariant c.loop-left-test.true c.run_length-count.ensures).0))  -- mul-first
+    (λ c. omega (arith, c.loop-left.invariant.near, (its_count c.loop-left.invariant c.loop-left-test.true c.run_length-count.ensures).0))  -- add-first
+    (λ c. omega (arith, (its_count c.loop-left.invariant c.loop-left-test.true c.run_length-count.ensures).0))  -- sub-left
+    (λ c. let n = its_count c.loop-left.invariant c.loop-left-test.true c.run_length-count.ensures in omega (arith, n.0, n.1))  -- loop-less
+    (λ c. remaining_next c.loop-left.invariant c.loop-left-test.true c.run_length-count.ensures c.clash.ensures c.if-clash.false)  -- loop-again
+    (λ c. (λ z. absurd (false≢true z), λ _. remaining_none c.loop-left.invariant c.loop-left-test.false)))  -- returns-2

@@ -15,7 +15,7 @@ is_circular_spec =
     tie.close
     (tie.spec
     (λ c. search rules)  -- array-write-flags
-    (λ c κs. (gathers_at c.before.before.requires.0 _ refl c.before.before.requires.0.there, c.before.before.requires.1))  -- gather-under-requires
-    (λ c. omega (arith, c.before.before.before.requires.0.there, c.before.before.before.requires.0.filled.few))  -- array-read-result
-    (λ c. let x = c.before.before.before.requires.0 in
+    (λ c κs. (gathers_at c.requires.0 _ refl c.requires.0.there, c.requires.1))  -- gather-under-requires
+    (λ c. omega (arith, c.requires.0.there, c.requires.0.filled.few))  -- array-read-result
+    (λ c. let x = c.requires.0 in
     circle_end x.filled.few x.ready.closed _ x.there (replicate 129 0) refl (zeros 128) c.gather_under.ensures _ refl))  -- returns

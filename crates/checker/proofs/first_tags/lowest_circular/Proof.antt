@@ -29,24 +29,24 @@ lowest_circular_spec =
     invariant-loop
     decreases-loop
     (λ c. rest_first _ _)  -- loop-holds
-    (λ c. omega (arith, c.before.before.before.requires.0.few))  -- mul-first
-    (λ c. omega (arith, c.before.before.before.requires.0.few))  -- element-copy-out-first
+    (λ c. omega (arith, c.requires.0.few))  -- mul-first
+    (λ c. omega (arith, c.requires.0.few))  -- element-copy-out-first
     (λ c κs. search rules)  -- first-requires
     (λ c κs. (
-      gathers_from c.before.before.before.before.before.before.requires.0 c.before.before.before.before.before.before.requires.1
-          c.before.before.before.before.before.before.requires.2 refl c.before.before.before.loop-t-test.true,
-      sym c.before.first.ensures ∙
+      gathers_from c.requires.0 c.requires.1
+          c.requires.2 refl c.loop-t-test.true,
+      sym c.first.ensures ∙
           c.if-first-eq-UNTAGGED.taken,
     ))  -- is-circular-requires
-    (λ c. rest_here _ _ _ c.before.before.before.before.before.before.loop-t.invariant c.before.before.before.before.before.loop-t-test.true
-    (circular_is _ _ (filled_beyond c.before.before.before.before.before.before.before.before.requires.0) _ _
-    c.before.before.before.before.before.loop-t-test.true c.before.is_circular.ensures ∙ c.if-is_circular.true))  -- returns
+    (λ c. rest_here _ _ _ c.loop-t.invariant c.loop-t-test.true
+    (circular_is _ _ (filled_beyond c.requires.0) _ _
+    c.loop-t-test.true c.is_circular.ensures ∙ c.if-is_circular.true))  -- returns
     (λ c. search rules)  -- add-t
     (λ c. omega arith)  -- loop-less
-    (λ c. rest_next _ _ _ c.before.before.before.before.loop-t.invariant c.before.before.before.loop-t-test.true (⊎_elim
-    (λ w. circular_is _ _ (filled_beyond c.before.before.before.before.before.before.requires.0) _ _ c.before.before.before.loop-t-test.true
+    (λ c. rest_next _ _ _ c.loop-t.invariant c.loop-t-test.true (⊎_elim
+    (λ w. circular_is _ _ (filled_beyond c.requires.0) _ _ c.loop-t-test.true
     w.1.ensures ∙ w.2.left)
-    (λ w. no_circle _ _ _ (below_none (c.before.before.before.before.before.before.requires.0.entered _ c.before.before.before.loop-t-test.true)
-    (λ z. w.left (c.before.first.ensures ∙ z))))
+    (λ w. no_circle _ _ _ (below_none (c.requires.0.entered _ c.loop-t-test.true)
+    (λ z. w.left (c.first.ensures ∙ z))))
     c.if-first-eq-UNTAGGED.branch))  -- loop-again
-    (λ c. rest_none _ _ _ c.before.loop-t.invariant c.loop-t-test.false))  -- returns-2
+    (λ c. rest_none _ _ _ c.loop-t.invariant c.loop-t-test.false))  -- returns-2

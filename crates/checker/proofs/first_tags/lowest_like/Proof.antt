@@ -28,18 +28,18 @@ lowest_like_spec =
     (λ c. search rules)  -- mul-first-tag
     (λ c. search rules)  -- element-copy-out-first-tag
     (λ c κs. search rules)  -- first-tag-requires
-    (λ c. like_none c.before.before.before.args.index.now _ c.before.first_tag-tag.ensures c.if-tag-eq-UNTAGGED.true)  -- returns
+    (λ c. like_none c.args.index.now _ c.first_tag-tag.ensures c.if-tag-eq-UNTAGGED.true)  -- returns
     (λ c. rest_first _ _)  -- loop-holds
     (λ c. search rules)  -- mul-first-tag-2
     (λ c. search rules)  -- element-copy-out-first-tag-2
     (λ c κs. search rules)  -- first-tag-requires-2
-    (λ c. like_some c.before.before.before.before.before.before.before.before.args.index.now _
-    c.before.before.before.before.before.before.first_tag-tag.ensures c.before.before.before.before.before.if-tag-eq-UNTAGGED.false
-    (rest_here _ _ _ c.before.before.before.before.loop-u.invariant c.before.before.before.loop-u-test.true
-    (rw (← c.before.first_tag.ensures) (eq-eqb _ _ c.if-first_tag-tag.true))))  -- returns-2
+    (λ c. like_some c.args.index.now _
+    c.first_tag-tag.ensures c.if-tag-eq-UNTAGGED.false
+    (rest_here _ _ _ c.loop-u.invariant c.loop-u-test.true
+    (rw (← c.first_tag.ensures) (eq-eqb _ _ c.if-first_tag-tag.true))))  -- returns-2
     (λ c. search rules)  -- add-u
     (λ c. omega arith)  -- loop-less
-    (λ c. rest_next _ _ _ c.before.before.before.before.loop-u.invariant c.before.before.before.loop-u-test.true
-    (rw (← c.before.first_tag.ensures) (ne_eqb _ _ c.if-first_tag-tag.false)))  -- loop-again
-    (λ c. like_some c.before.before.before.before.before.args.index.now _ c.before.before.before.first_tag-tag.ensures
-    c.before.before.if-tag-eq-UNTAGGED.false (rest_none _ _ _ c.before.loop-u.invariant c.loop-u-test.false)))  -- returns-3
+    (λ c. rest_next _ _ _ c.loop-u.invariant c.loop-u-test.true
+    (rw (← c.first_tag.ensures) (ne_eqb _ _ c.if-first_tag-tag.false)))  -- loop-again
+    (λ c. like_some c.args.index.now _ c.first_tag-tag.ensures
+    c.if-tag-eq-UNTAGGED.false (rest_none _ _ _ c.loop-u.invariant c.loop-u-test.false)))  -- returns-3

@@ -28,20 +28,20 @@ lowest_sharing_spec =
     invariant-loop
     decreases-loop
     (λ c. rest_first _ _)  -- loop-holds
-    (λ c. omega (arith, c.before.before.before.requires.0.few))  -- mul-unpack
-    (λ c. omega (arith, c.before.before.before.requires.0.few))  -- element-copy-out-unpack
+    (λ c. omega (arith, c.requires.0.few))  -- mul-unpack
+    (λ c. omega (arith, c.requires.0.few))  -- element-copy-out-unpack
     (λ c κs. search rules)  -- unpack-requires
-    (λ c κs. let x = c.before.before.before.before.before.before.before.requires in
-    let n = x.0.count in (rw n at x.0, rw n at x.1, rw n at x.2, rw n at c.before.before.before.before.loop-t-test.true))  -- is-sharing-requires
-    (λ c. rest_here _ _ _ c.before.before.before.before.before.before.before.loop-t.invariant
-    c.before.before.before.before.before.before.loop-t-test.true
-    (sharing_is _ _ (filled_beyond c.before.before.before.before.before.before.before.before.before.requires.0) _ _ c.before.is_sharing.ensures ∙
+    (λ c κs. let x = c.requires in
+    let n = x.0.count in (rw n at x.0, rw n at x.1, rw n at x.2, rw n at c.loop-t-test.true))  -- is-sharing-requires
+    (λ c. rest_here _ _ _ c.loop-t.invariant
+    c.loop-t-test.true
+    (sharing_is _ _ (filled_beyond c.requires.0) _ _ c.is_sharing.ensures ∙
     c.if-is_sharing.true))  -- returns
     (λ c. search rules)  -- add-t
     (λ c. omega arith)  -- loop-less
-    (λ c. rest_next _ _ _ c.before.before.before.before.before.loop-t.invariant c.before.before.before.before.loop-t-test.true (⊎_elim
-    (λ w. sharing_is _ _ (filled_beyond c.before.before.before.before.before.before.before.requires.0) _ _ w.1.ensures ∙ w.2.left)
-    (λ w. no_sharing _ _ _ (not-true _ (sym (entry_at c.before.before.before.before.before.before.before.requires.0 _
-    c.before.before.before.before.loop-t-test.true c.before.before.unpack-e.ensures).simple ∙ not-false _ w.left)))
+    (λ c. rest_next _ _ _ c.loop-t.invariant c.loop-t-test.true (⊎_elim
+    (λ w. sharing_is _ _ (filled_beyond c.requires.0) _ _ w.1.ensures ∙ w.2.left)
+    (λ w. no_sharing _ _ _ (not-true _ (sym (entry_at c.requires.0 _
+    c.loop-t-test.true c.unpack-e.ensures).simple ∙ not-false _ w.left)))
     c.if-not-e.branch))  -- loop-again
-    (λ c. rest_none _ _ _ c.before.loop-t.invariant c.loop-t-test.false))  -- returns-2
+    (λ c. rest_none _ _ _ c.loop-t.invariant c.loop-t-test.false))  -- returns-2

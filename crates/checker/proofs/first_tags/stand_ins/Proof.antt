@@ -26,23 +26,23 @@ stand_ins_spec =
     (tie.spec
     invariant-loop
     decreases-loop
-    (λ c. (omega arith, c.before.requires.1, λ k h. absurd (omega arith)))  -- loop-holds
-    (λ c κs. omega (arith, c.before.before.before.requires.0.few))  -- lowest-like-requires
+    (λ c. (omega arith, c.requires.1, λ k h. absurd (omega arith)))  -- loop-holds
+    (λ c κs. omega (arith, c.requires.0.few))  -- lowest-like-requires
     (λ c. omega (
       arith,
       c.lowest_like.ensures,
-      like_in_low c.before.before.before.before.args.index.now c.before.before.loop-t.t,
-      c.before.before.before.before.requires.0.few,
+      like_in_low c.args.index.now c.loop-t.t,
+      c.requires.0.few,
     ))  -- cast-nodes
-    (λ c. omega (arith, c.before.before.before.before.requires.0.few))  -- element-write-nodes
+    (λ c. omega (arith, c.requires.0.few))  -- element-write-nodes
     (λ c. search rules)  -- add-t
     (λ c. omega arith)  -- loop-less
-    (λ c. let l = c.before.before.loop-t in (
+    (λ c. let l = c.loop-t in (
       omega arith,
       length-set l.nodes l.t _ ∙ l.invariant.1,
       below_more _ l.t (λ k j. get_or-set_other l.nodes l.t k _ 0 (omega arith) ∙ l.invariant.2 k j)
-          (get_or-set_same l.nodes l.t _ 0 (omega (arith, c.before.before.before.before.requires.0.few)) ∙ c.lowest_like.ensures ∙ like_in_lem _ _ _
-          (λ i. omega (arith, c.before.before.before.shared_slice_known-1.given i)) c.before.before.before.before.requires.0 l.t
-          c.before.loop-t-test.true),
+          (get_or-set_same l.nodes l.t _ 0 (omega (arith, c.requires.0.few)) ∙ c.lowest_like.ensures ∙ like_in_lem _ _ _
+          (λ i. omega (arith, c.shared_slice_known-1.given i)) c.requires.0 l.t
+          c.loop-t-test.true),
     ))  -- loop-again
-    (λ c. λ t h. c.before.loop-t.invariant.2 t (omega (arith, c.loop-t-test.false, h))))  -- returns
+    (λ c. λ t h. c.loop-t.invariant.2 t (omega (arith, c.loop-t-test.false, h))))  -- returns

@@ -14,54 +14,53 @@ unfolding entry_at
 entry_spec =
     tie.close
     (tie.spec
-    (λ c. omega (arith, (heads c.before.args.table.now c.before.args.o c.before.requires.1).1))  -- add-a
-    (λ c. omega (arith, (heads c.before.args.table.now c.before.args.o c.before.requires.1).1))  -- add-b
-    (λ c. omega (arith, (heads c.before.before.args.table.now c.before.before.args.o c.before.before.requires.1).1))  -- shared-slice-read-kind
+    (λ c. omega (arith, (heads c.args.table.now c.args.o c.requires.1).1))  -- add-a
+    (λ c. omega (arith, (heads c.args.table.now c.args.o c.requires.1).1))  -- add-b
+    (λ c. omega (arith, (heads c.args.table.now c.args.o c.requires.1).1))  -- shared-slice-read-kind
     (λ c. omega (
       arith,
-      (heads c.before.before.before.args.table.now c.before.before.before.args.o
-          c.before.before.before.requires.1).1,
+      (heads c.args.table.now c.args.o
+          c.requires.1).1,
     ))  -- shared-slice-read-tags
     (λ c. omega (
       arith,
-      (heads c.before.before.before.args.table.now c.before.before.before.args.o
-          c.before.before.before.requires.1).1,
+      (heads c.args.table.now c.args.o
+          c.requires.1).1,
     ))  -- add-p
     (λ c. omega (
       arith,
-      (heads c.before.before.before.args.table.now c.before.before.before.args.o
-          c.before.before.before.requires.1).0,
+      (heads c.args.table.now c.args.o
+          c.requires.1).0,
     ))  -- cast-own
     (λ c. omega (
       arith,
-      (heads c.before.before.before.args.table.now c.before.before.before.args.o
-          c.before.before.before.requires.1).0,
+      (heads c.args.table.now c.args.o
+          c.requires.1).0,
     ))  -- mul-own
     (λ c. omega (
       arith,
-      (heads c.before.before.before.args.table.now c.before.before.before.args.o
-          c.before.before.before.requires.1).1,
+      (heads c.args.table.now c.args.o
+          c.requires.1).1,
     ))  -- add-own
-    (λ c. omega (arith, c.before.shared_slice_known-2-1.given (c.before.before.before.args.o + 2)))  -- cast-constructed
+    (λ c. omega (arith, c.shared_slice_known-2-1.given (c.args.o + 2)))  -- cast-constructed
     (λ c κs. search rules)  -- constructed-requires
     (λ c κs. omega (
       arith,
-      (heads c.before.before.before.before.args.table.now c.before.before.before.before.args.o
-          c.before.before.before.before.requires.1).1,
+      (heads c.args.table.now c.args.o
+          c.requires.1).1,
     ))  -- outermost-requires
     (λ c. omega (
       arith,
-      (heads c.before.before.before.before.before.args.table.now c.before.before.before.before.before.args.o
-          c.before.before.before.before.before.requires.1).1,
+      (heads c.args.table.now c.args.o
+          c.requires.1).1,
     ))  -- cast-pack
     (λ c κs. search rules)  -- explicit-requires
     (λ c κs.
-    let a = c.before.before.before.before.before.before in
-    rw c.explicit.ensures (explicit_small (get_or a.args.table.now (a.args.o + 2) 0) _
-    (heads a.args.table.now a.args.o a.requires.1).0))  -- pack-requires
+    rw c.explicit.ensures (explicit_small (get_or c.args.table.now (c.args.o + 2) 0) _
+    (heads c.args.table.now c.args.o c.requires.1).0))  -- pack-requires
     (λ c. rw (
       c.pack.ensures,
-      c.before.explicit.ensures,
-      c.before.before.outermost-code.ensures,
-      c.before.before.before.constructed-simple.ensures,
+      c.explicit.ensures,
+      c.outermost-code.ensures,
+      c.constructed-simple.ensures,
     )))  -- returns

@@ -22,24 +22,24 @@ fill_spec =
     decreases-loop
     (λ c. entering_first _)  -- loop-holds
     (λ c κs. omega arith)  -- record-end-requires
-    (λ c. entering_stops _ _ _ _ c.before.before.before.loop-count.invariant c.before.before.loop-count-test.true (sym c.before.record_end-end.ensures ∙
+    (λ c. entering_stops _ _ _ _ c.loop-count.invariant c.loop-count-test.true (sym c.record_end-end.ensures ∙
     c.if-end-eq0.true))  -- returns
     (λ c κs. (
-      c.before.before.before.before.before.before.requires,
-      let d = rw c.before.record_end-end.ensures at
+      c.requires,
+      let d = rw c.record_end-end.ensures at
           c.if-end-eq0.false in omega arith,
     ))  -- entry-requires
     (λ c. search rules)  -- mul-index
     (λ c. omega arith)  -- element-write-index
     (λ c. omega arith)  -- add-count
-    (λ c. entering_whole _ _ _ _ c.before.before.before.before.before.loop-count.invariant c.before.before.before.before.loop-count-test.true
-    (rw c.before.before.before.record_end-end.ensures at c.before.before.if-end-eq0.false) _ c.before.entry.ensures
-    (sym c.before.before.before.record_end-end.ensures ∙ c.if-end-table.true))  -- returns-2
+    (λ c. entering_whole _ _ _ _ c.loop-count.invariant c.loop-count-test.true
+    (rw c.record_end-end.ensures at c.if-end-eq0.false) _ c.entry.ensures
+    (sym c.record_end-end.ensures ∙ c.if-end-table.true))  -- returns-2
     (λ c. omega arith)  -- loop-less
-    (λ c. rw c.before.before.before.record_end-end.ensures
-    (entering_next _ _ _ _ c.before.before.before.before.before.loop-count.invariant c.before.before.before.before.loop-count-test.true
-    (rw c.before.before.before.record_end-end.ensures at c.before.before.if-end-eq0.false) _ c.before.entry.ensures
-    (λ i. omega (arith, c.before.before.before.before.before.before.before.shared_slice_known-1.given i))
-    c.before.before.before.before.before.before.before.before.requires
-    (rw c.before.before.before.record_end-end.ensures at c.if-end-table.false)))  -- loop-again
-    (λ c. entering_ends _ _ _ _ c.before.loop-count.invariant c.loop-count-test.false))  -- returns-3
+    (λ c. rw c.record_end-end.ensures
+    (entering_next _ _ _ _ c.loop-count.invariant c.loop-count-test.true
+    (rw c.record_end-end.ensures at c.if-end-eq0.false) _ c.entry.ensures
+    (λ i. omega (arith, c.shared_slice_known-1.given i))
+    c.requires
+    (rw c.record_end-end.ensures at c.if-end-table.false)))  -- loop-again
+    (λ c. entering_ends _ _ _ _ c.loop-count.invariant c.loop-count-test.false))  -- returns-3

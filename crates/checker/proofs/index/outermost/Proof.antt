@@ -19,19 +19,19 @@ outermost_spec =
     (λ c. search rules)  -- cast-n
     (λ c κs. search rules)  -- code-of-requires
     (λ c. rw (
-      ne_eqb _ _ c.before.before.before.before.if-tags-eq0.false,
+      ne_eqb _ _ c.if-tags-eq0.false,
       lt-ltb _ _
-          c.before.if-tags-gt1.true,
+          c.if-tags-gt1.true,
       c.code_of_lem.ensures.0,
-      c.before.before.before.octet-class.ensures.0,
-      c.before.before.two-n.ensures.0,
+      c.octet-class.ensures.0,
+      c.two-n.ensures.0,
     ))  -- returns-2
     (λ c κs. search rules)  -- code-of-requires-2
     (λ c. rw (
-      ne_eqb _ _ c.before.before.before.before.if-tags-eq0.false,
+      ne_eqb _ _ c.if-tags-eq0.false,
       le-ltb _ _
-          c.before.if-tags-gt1.false,
+          c.if-tags-gt1.false,
       c.code_of-2.ensures.0,
-      c.before.before.before.octet-class.ensures.0,
-      c.before.before.two-n.ensures.0,
+      c.octet-class.ensures.0,
+      c.two-n.ensures.0,
     )))  -- returns-3

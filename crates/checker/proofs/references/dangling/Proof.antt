@@ -27,15 +27,15 @@ dangling_spec =
     decreases-loop
     (λ c. (omega arith, refl))  -- loop-holds
     (λ c κs. search rules)  -- octet-requires
-    (λ c. any_stops _ _ _ _ _ _ c.before.before.before.loop-left.invariant.1 c.before.before.loop-left-test.true
-    (rw (← c.before.octet.ensures.0) (le-leb _ _ c.if-n-octet.true)))  -- returns
-    (λ c. omega (arith, c.before.before.before.before.before.before.requires.close))  -- add-at
+    (λ c. any_stops _ _ _ _ _ _ c.loop-left.invariant.1 c.loop-left-test.true
+    (rw (← c.octet.ensures.0) (le-leb _ _ c.if-n-octet.true)))  -- returns
+    (λ c. omega (arith, c.requires.close))  -- add-at
     (λ c. omega arith)  -- sub-left
     (λ c. omega arith)  -- loop-less
     (λ c. (
-      omega (arith, c.before.before.before.before.before.before.requires.close),
+      omega (arith, c.requires.close),
       any_goes _ _ _ _ _ _
-          c.before.before.before.before.loop-left.invariant.1 c.before.before.before.loop-left-test.true
-          (rw (← c.before.before.octet.ensures.0) (lt-leb _ _ c.before.if-n-octet.false)),
+          c.loop-left.invariant.1 c.loop-left-test.true
+          (rw (← c.octet.ensures.0) (lt-leb _ _ c.if-n-octet.false)),
     ))  -- loop-again
-    (λ c. any_ends _ _ _ _ _ _ c.before.loop-left.invariant.1 (omega arith)))  -- returns-2
+    (λ c. any_ends _ _ _ _ _ _ c.loop-left.invariant.1 (omega arith)))  -- returns-2

@@ -26,17 +26,15 @@ lowest_spec =
     decreases-loop
     (λ c. rest_first _ _)  -- loop-holds
     (λ c. search rules)  -- mul-unpack
-    (λ c. omega (arith, c.before.before.before.requires.few))  -- element-copy-out-unpack
+    (λ c. omega (arith, c.requires.few))  -- element-copy-out-unpack
     (λ c κs. search rules)  -- unpack-requires
     (λ c κs. search rules)  -- names-beyond-requires
     (λ c.
-    let s = c.before.before.before.before in
-    let x = entry_at s.before.before.before.requires _ s.loop-t-test.true c.before.before.unpack-e.ensures in
-    rest_here _ _ _ s.before.loop-t.invariant s.loop-t-test.true (sym (c.before.names_beyond.ensures _ x) ∙ c.if-names_beyond.true))  -- returns
+    let x = entry_at c.requires _ c.loop-t-test.true c.unpack-e.ensures in
+    rest_here _ _ _ c.loop-t.invariant c.loop-t-test.true (sym (c.names_beyond.ensures _ x) ∙ c.if-names_beyond.true))  -- returns
     (λ c. search rules)  -- add-t
     (λ c. omega arith)  -- loop-less
     (λ c.
-    let s = c.before.before.before.before in
-    let x = entry_at s.before.before.before.requires _ s.loop-t-test.true c.before.before.unpack-e.ensures in
-    rest_next _ _ _ s.before.loop-t.invariant s.loop-t-test.true (sym (c.before.names_beyond.ensures _ x) ∙ c.if-names_beyond.false))  -- loop-again
-    (λ c. rest_none _ _ _ c.before.loop-t.invariant c.loop-t-test.false))  -- returns-2
+    let x = entry_at c.requires _ c.loop-t-test.true c.unpack-e.ensures in
+    rest_next _ _ _ c.loop-t.invariant c.loop-t-test.true (sym (c.names_beyond.ensures _ x) ∙ c.if-names_beyond.false))  -- loop-again
+    (λ c. rest_none _ _ _ c.loop-t.invariant c.loop-t-test.false))  -- returns-2

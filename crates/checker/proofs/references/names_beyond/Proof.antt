@@ -16,10 +16,10 @@ parts-requires : tie.Need-parts-requires
 parts-requires c κs = search rules
 
 dangling-requires : tie.Need-dangling-requires
-dangling-requires c κs = rw c.parts.ensures (near_span _ _ _ (λ i. omega (arith, c.before.before.shared_slice_known-1.given i)) (omega arith))
+dangling-requires c κs = rw c.parts.ensures (near_span _ _ _ (λ i. omega (arith, c.shared_slice_known-1.given i)) (omega arith))
 
 returns-2 : tie.Need-returns
-returns-2 c = λ r x. c.dangling.ensures ∙ ap (any _) (rw c.before.parts.ensures (entered_span x))
+returns-2 c = λ r x. c.dangling.ensures ∙ ap (any _) (rw c.parts.ensures (entered_span x))
 
 pub names_beyond_spec : {M : Type 1} → statement M
 names_beyond_spec = tie.close (tie.spec returns parts-requires dangling-requires returns-2)

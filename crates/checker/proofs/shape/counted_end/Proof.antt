@@ -15,10 +15,10 @@ counted_end_spec =
     (tie.spec
     (λ c. search tests)  -- returns
     (λ c κs. search rules)  -- octet-requires
-    (λ c. rw (← c.before.octet-n.ensures.0) (search tests))  -- returns-2
-    (λ c. rw (← c.before.before.octet-n.ensures.0) (search tests))  -- returns-3
+    (λ c. rw (← c.octet-n.ensures.0) (search tests))  -- returns-2
+    (λ c. rw (← c.octet-n.ensures.0) (search tests))  -- returns-3
     (λ c. omega arith)  -- add-end
-    (λ c. omega (arith, few_times c.before.before.before.before.before.args.size c.before.before.octet-n.result (omega arith) (omega arith)))  -- mul-end
-    (λ c. omega (arith, few_times c.before.before.before.before.before.args.size c.before.before.octet-n.result (omega arith) (omega arith)))  -- add-end-2
-    (λ c. rw (← c.before.before.before.octet-n.ensures.0) (search tests))  -- returns-4
-    (λ c. rw (← c.before.before.before.octet-n.ensures.0) (search tests)))  -- returns-5
+    (λ c. omega (arith, few_times c.args.size c.octet-n.result (omega arith) (omega arith)))  -- mul-end
+    (λ c. omega (arith, few_times c.args.size c.octet-n.result (omega arith) (omega arith)))  -- add-end-2
+    (λ c. rw (← c.octet-n.ensures.0) (search tests))  -- returns-4
+    (λ c. rw (← c.octet-n.ensures.0) (search tests)))  -- returns-5

@@ -27,9 +27,9 @@ each_at_most_spec =
     decreases-loop
     (λ c. (omega arith, refl))  -- loop-holds
     (λ c κs. search rules)  -- octet-requires
-    (λ c. all_stops _ _ _ _ _ _ c.before.before.before.loop-left.invariant.1 (omega arith) (rw (← c.before.octet-x.ensures.0) (lt-leb _ _ c.if-most-x.true)))  -- returns
+    (λ c. all_stops _ _ _ _ _ _ c.loop-left.invariant.1 (omega arith) (rw (← c.octet-x.ensures.0) (lt-leb _ _ c.if-most-x.true)))  -- returns
     (λ c. omega arith)  -- add-at
     (λ c. omega arith)  -- sub-left
     (λ c. omega arith)  -- loop-less
-    (λ c. (omega arith, all_goes _ _ _ _ _ _ c.before.before.before.loop-left.invariant.1 (omega arith) (rw (← c.before.octet-x.ensures.0) (le-leb _ _ c.if-most-x.false))))  -- loop-again
-    (λ c. all_ends _ _ _ _ _ _ c.before.loop-left.invariant.1 (omega arith)))  -- returns-2
+    (λ c. (omega arith, all_goes _ _ _ _ _ _ c.loop-left.invariant.1 (omega arith) (rw (← c.octet-x.ensures.0) (le-leb _ _ c.if-most-x.false))))  -- loop-again
+    (λ c. all_ends _ _ _ _ _ _ c.loop-left.invariant.1 (omega arith)))  -- returns-2

@@ -13,9 +13,9 @@ enumerated_end_spec =
     tie.close
     (tie.spec
     (λ c κs. omega arith)  -- counted-end-requires
-    (λ c. rw (← c.before.counted_end-end.ensures) (search tests))  -- returns
+    (λ c. rw (← c.counted_end-end.ensures) (search tests))  -- returns
     (λ c. search rules)  -- add-rises
     (λ c κs. search rules)  -- octet-requires
     (λ c κs. search rules)  -- rises-requires
-    (λ c. rw (← c.before.before.before.before.counted_end-end.ensures, ← c.before.before.octet.ensures.0, ← c.before.rises.ensures, c.if-not-rises.true) (search tests))  -- returns-2
-    (λ c. rw (← c.before.before.before.before.counted_end-end.ensures, ← c.before.before.octet.ensures.0, ← c.before.rises.ensures, c.if-not-rises.false) (search tests)))  -- returns-3
+    (λ c. rw (← c.counted_end-end.ensures, ← c.octet.ensures.0, ← c.rises.ensures, c.if-not-rises.true) (search tests))  -- returns-2
+    (λ c. rw (← c.counted_end-end.ensures, ← c.octet.ensures.0, ← c.rises.ensures, c.if-not-rises.false) (search tests)))  -- returns-3

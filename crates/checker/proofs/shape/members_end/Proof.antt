@@ -13,9 +13,9 @@ members_end_spec =
     tie.close
     (tie.spec
     (λ c κs. omega arith)  -- counted-end-requires
-    (λ c. rw (← c.before.counted_end-end.ensures) (search tests))  -- returns
+    (λ c. rw (← c.counted_end-end.ensures) (search tests))  -- returns
     (λ c. search rules)  -- add-each-at-most
     (λ c κs. search rules)  -- octet-requires
     (λ c κs. search rules)  -- each-at-most-requires
-    (λ c. rw (← c.before.before.before.before.counted_end-end.ensures, ← c.before.before.octet.ensures.0, ← c.before.each_at_most.ensures, c.if-not-each_at_most.true) (search tests))  -- returns-2
-    (λ c. rw (← c.before.before.before.before.counted_end-end.ensures, ← c.before.before.octet.ensures.0, ← c.before.each_at_most.ensures, c.if-not-each_at_most.false) (search tests)))  -- returns-3
+    (λ c. rw (← c.counted_end-end.ensures, ← c.octet.ensures.0, ← c.each_at_most.ensures, c.if-not-each_at_most.true) (search tests))  -- returns-2
+    (λ c. rw (← c.counted_end-end.ensures, ← c.octet.ensures.0, ← c.each_at_most.ensures, c.if-not-each_at_most.false) (search tests)))  -- returns-3

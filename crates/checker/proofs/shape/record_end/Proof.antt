@@ -15,42 +15,42 @@ record_end_spec =
     (λ c. search rules)  -- add-if1
     (λ c. search tests)  -- returns
     (λ c κs. search rules)  -- octet-requires
-    (λ c. rw (← c.before.octet.ensures.0) (search tests))  -- returns-2
+    (λ c. rw (← c.octet.ensures.0) (search tests))  -- returns-2
     (λ c. search rules)  -- add-octet
     (λ c κs. search rules)  -- octet-requires-2
-    (λ c. rw (← c.before.before.before.octet.ensures.0, ← c.before.octet-2.ensures.0) (search tests))  -- returns-3
+    (λ c. rw (← c.octet.ensures.0, ← c.octet-2.ensures.0) (search tests))  -- returns-3
     (λ c. search rules)  -- add-octet-2
     (λ c κs. search rules)  -- octet-requires-3
     (λ c. rw (
-      ← c.before.before.before.before.before.octet.ensures.0,
-      ← c.before.before.before.octet-2.ensures.0,
-      ← c.before.octet-tags.ensures.0,
+      ← c.octet.ensures.0,
+      ← c.octet-2.ensures.0,
+      ← c.octet-tags.ensures.0,
     ) (search tests))  -- returns-4
     (λ c. search rules)  -- add-own
     (λ c. search rules)  -- mul-own
     (λ c. search rules)  -- add-own-2
     (λ c. rw (
-      ← c.before.before.before.before.before.before.octet.ensures.0,
-      ← c.before.before.before.before.octet-2.ensures.0,
-      ← c.before.before.octet-tags.ensures.0,
+      ← c.octet.ensures.0,
+      ← c.octet-2.ensures.0,
+      ← c.octet-tags.ensures.0,
     ) (search tests))  -- returns-5
     (λ c. search rules)  -- add-each-at-most
     (λ c κs. omega arith)  -- each-at-most-requires
     (λ c. rw (
-      ← c.before.before.before.before.before.before.before.before.octet.ensures.0,
-      ← c.before.before.before.before.before.before.octet-2.ensures.0,
-      ← c.before.before.before.before.octet-tags.ensures.0,
-      ← c.before.each_at_most.ensures,
+      ← c.octet.ensures.0,
+      ← c.octet-2.ensures.0,
+      ← c.octet-tags.ensures.0,
+      ← c.each_at_most.ensures,
       c.if-not-each_at_most.true,
     ) (search tests))  -- returns-6
     (λ c. search rules)  -- add-a
     (λ c. search rules)  -- shared-slice-read-own-end
     (λ c κs. omega arith)  -- own-end-requires
     (λ c. rw (
-      ← c.before.before.before.before.before.before.before.before.before.before.octet.ensures.0,
-      ← c.before.before.before.before.before.before.before.before.octet-2.ensures.0,
-      ← c.before.before.before.before.before.before.octet-tags.ensures.0,
-      ← c.before.before.before.each_at_most.ensures,
-      c.before.before.if-not-each_at_most.false,
+      ← c.octet.ensures.0,
+      ← c.octet-2.ensures.0,
+      ← c.octet-tags.ensures.0,
+      ← c.each_at_most.ensures,
+      c.if-not-each_at_most.false,
       ← c.own_end.ensures,
     ) (search tests)))  -- returns-7

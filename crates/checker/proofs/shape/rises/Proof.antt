@@ -25,12 +25,12 @@ rises_spec =
     decreases-loop
     (λ c. (omega arith, refl))  -- loop-holds
     (λ c κs. search rules)  -- two-requires
-    (λ c. rising_stops _ _ _ _ _ c.before.before.before.loop-left.invariant.1 (omega arith) (rw c.before.two-x.ensures.0 at c.if-x-low.true))  -- returns
+    (λ c. rising_stops _ _ _ _ _ c.loop-left.invariant.1 (omega arith) (rw c.two-x.ensures.0 at c.if-x-low.true))  -- returns
     (λ c. omega arith)  -- add-low
     (λ c. omega arith)  -- add-at
     (λ c. omega arith)  -- sub-left
     (λ c. omega arith)  -- loop-less
     (λ c.
-    let e = c.before.two-x.ensures.0 in
-    (omega arith, rw e (rising_goes _ _ _ _ _ c.before.before.before.loop-left.invariant.1 (omega arith) (rw e at c.if-x-low.false))))  -- loop-again
-    (λ c. rising_ends _ _ _ _ _ c.before.loop-left.invariant.1 (omega arith)))  -- returns-2
+    let e = c.two-x.ensures.0 in
+    (omega arith, rw e (rising_goes _ _ _ _ _ c.loop-left.invariant.1 (omega arith) (rw e at c.if-x-low.false))))  -- loop-again
+    (λ c. rising_ends _ _ _ _ _ c.loop-left.invariant.1 (omega arith)))  -- returns-2

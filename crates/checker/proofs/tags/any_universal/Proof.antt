@@ -27,14 +27,14 @@ any_universal_spec =
     decreases-loop
     (λ c. (refl, refl))  -- loop-holds
     (λ c κs. search rules)  -- octet-requires
-    (λ c. any_stops _ _ _ _ _ _ c.before.before.before.loop-left.invariant.1 c.before.before.loop-left-test.true
-    (rw (← c.before.octet.ensures.0) (eq-eqb _ _ c.if-octet-eq0.true)))  -- returns
+    (λ c. any_stops _ _ _ _ _ _ c.loop-left.invariant.1 c.loop-left-test.true
+    (rw (← c.octet.ensures.0) (eq-eqb _ _ c.if-octet-eq0.true)))  -- returns
     (λ c. omega arith)  -- add-at
     (λ c. omega arith)  -- sub-left
     (λ c. omega arith)  -- loop-less
     (λ c. (
       omega arith,
-      any_goes _ _ _ _ _ _ c.before.before.before.loop-left.invariant.1 c.before.before.loop-left-test.true
-          (rw (← c.before.octet.ensures.0) (ne_eqb _ _ c.if-octet-eq0.false)),
+      any_goes _ _ _ _ _ _ c.loop-left.invariant.1 c.loop-left-test.true
+          (rw (← c.octet.ensures.0) (ne_eqb _ _ c.if-octet-eq0.false)),
     ))  -- loop-again
-    (λ c. any_ends _ _ _ _ _ _ c.before.loop-left.invariant.1 (omega arith)))  -- returns-2
+    (λ c. any_ends _ _ _ _ _ _ c.loop-left.invariant.1 (omega arith)))  -- returns-2

@@ -15,4 +15,4 @@ explicit_universal_spec =
     (λ c. rw c.if-n-eq0.true)  -- returns
     (λ c κs. search rules)  -- tag-place-requires
     (λ c κs. search rules)  -- any-universal-requires
-    (λ c. rw (← c.before.tag_place.ensures.0) c.any_universal.ensures))  -- returns-2
+    (λ c. rw (← c.tag_place.ensures.0) c.any_universal.ensures))  -- returns-2

@@ -24,15 +24,15 @@ lowest_spec =
     decreases-loop
     (λ c. rest_first _ _)  -- loop-holds
     (λ c. search rules)  -- mul-unpack
-    (λ c. omega (arith, c.before.before.before.requires.few))  -- element-copy-out-unpack
+    (λ c. omega (arith, c.requires.few))  -- element-copy-out-unpack
     (λ c κs. search rules)  -- unpack-requires
     (λ c κs. search rules)  -- wrong-requires
-    (λ c. rest_here _ _ _ c.before.before.before.before.before.loop-t.invariant c.before.before.before.before.loop-t-test.true
-    (rw (← c.before.wrong.ensures _ (entry_at c.before.before.before.before.before.before.before.requires _
-    c.before.before.before.before.loop-t-test.true c.before.before.unpack-e.ensures)) c.if-wrong.true))  -- returns
+    (λ c. rest_here _ _ _ c.loop-t.invariant c.loop-t-test.true
+    (rw (← c.wrong.ensures _ (entry_at c.requires _
+    c.loop-t-test.true c.unpack-e.ensures)) c.if-wrong.true))  -- returns
     (λ c. search rules)  -- add-t
     (λ c. omega arith)  -- loop-less
-    (λ c. rest_next _ _ _ c.before.before.before.before.before.loop-t.invariant c.before.before.before.before.loop-t-test.true
-    (rw (← c.before.wrong.ensures _ (entry_at c.before.before.before.before.before.before.before.requires _
-    c.before.before.before.before.loop-t-test.true c.before.before.unpack-e.ensures)) c.if-wrong.false))  -- loop-again
-    (λ c. rest_none _ _ _ c.before.loop-t.invariant c.loop-t-test.false))  -- returns-2
+    (λ c. rest_next _ _ _ c.loop-t.invariant c.loop-t-test.true
+    (rw (← c.wrong.ensures _ (entry_at c.requires _
+    c.loop-t-test.true c.unpack-e.ensures)) c.if-wrong.false))  -- loop-again
+    (λ c. rest_none _ _ _ c.loop-t.invariant c.loop-t-test.false))  -- returns-2

@@ -14,12 +14,11 @@ universal-requires : tie.Need-explicit_universal-requires
 universal-requires c κs = search rules
 
 returns-2 : tie.Need-returns-then-explicit_universal
-returns-2 c = λ r x. wrong_explicit x c.before.before.if-e-eq-LACKING.false (sym c.before.explicit_universal.ensures ∙ c.if-explicit_universal.true)
+returns-2 c = λ r x. wrong_explicit x c.if-e-eq-LACKING.false (sym c.explicit_universal.ensures ∙ c.if-explicit_universal.true)
 
 returns-3 : tie.Need-returns-then-e-eq-CHOICE
 returns-3 c = λ r x.
-    let s = c.before.before in
-    wrong_none x s.before.before.if-e-eq-LACKING.false (sym s.before.explicit_universal.ensures ∙ s.if-explicit_universal.false) (eq-eqb _ _ c.if-e-eq-CHOICE.true)
+    wrong_none x c.if-e-eq-LACKING.false (sym c.explicit_universal.ensures ∙ c.if-explicit_universal.false) (eq-eqb _ _ c.if-e-eq-CHOICE.true)
 
 cast-place : tie.Need-overflow_cast-e
 cast-place c = search rules
@@ -32,10 +31,10 @@ own-requires c κs = search rules
 
 returns-4 : tie.Need-returns
 returns-4 c = λ r x.
-    rw c.before.tag_place.ensures.0 at c.wrong_own.ensures
-    ∙ wrong_own_lem x c.before.before.before.before.before.before.before.if-e-eq-LACKING.false
-    (sym c.before.before.before.before.before.before.explicit_universal.ensures ∙ c.before.before.before.before.before.if-explicit_universal.false)
-    (ne_eqb _ _ c.before.before.before.if-e-eq-CHOICE.false)
+    rw c.tag_place.ensures.0 at c.wrong_own.ensures
+    ∙ wrong_own_lem x c.if-e-eq-LACKING.false
+    (sym c.explicit_universal.ensures ∙ c.if-explicit_universal.false)
+    (ne_eqb _ _ c.if-e-eq-CHOICE.false)
 
 pub wrong_spec : {M : Type 1} → statement M
 wrong_spec =

@@ -10,13 +10,13 @@ wrong_own_spec =
     tie.close
     (tie.spec
     (λ c κs. search rules)  -- octet-requires
-    (λ c. rw (← c.before.octet.ensures.0, ne_eqb _ _ c.if-octet-ne0.true))  -- returns
+    (λ c. rw (← c.octet.ensures.0, ne_eqb _ _ c.if-octet-ne0.true))  -- returns
     (λ c. search rules)  -- add-number
     (λ c κs. search rules)  -- two-requires
     (λ c κs. search rules)  -- universal-requires
     (λ c. rw (
-      ← c.before.before.before.octet.ensures.0,
-      eq-eqb _ _ c.before.before.if-octet-ne0.false,
-      ← c.before.two.ensures.0,
+      ← c.octet.ensures.0,
+      eq-eqb _ _ c.if-octet-ne0.false,
+      ← c.two.ensures.0,
       ← c.universal.ensures,
     )))  -- returns-2

@@ -11,5 +11,5 @@ february_spec =
     tie.close
     (tie.spec
     (λ c κs. search rules)  -- is-leap-requires
-    (λ c. rw (← c.before.is_leap.ensures, c.if-is_leap.true))  -- returns
-    (λ c. rw (← c.before.is_leap.ensures, c.if-is_leap.false)))  -- returns-2
+    (λ c. rw (← c.is_leap.ensures, c.if-is_leap.true))  -- returns
+    (λ c. rw (← c.is_leap.ensures, c.if-is_leap.false)))  -- returns-2

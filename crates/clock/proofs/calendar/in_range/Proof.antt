@@ -13,14 +13,14 @@ in_range_spec =
     tie.close
     (tie.spec
     (λ c κs. search rules)  -- years-of-requires
-    (λ c. rw (← c.before.before.years_of.ensures) (search tests))  -- returns
+    (λ c. rw (← c.years_of.ensures) (search tests))  -- returns
     (λ c κs. search rules)  -- is-date-requires
     (λ c.
-    let y = c.before.before.before.before.years_of in
-    let d = c.before.is_date in
+    let y = c.years_of in
+    let d = c.is_date in
     rw (← y.ensures, ← d.ensures, c.if-not-is_date.true) (search tests))  -- returns-2
     (λ c κs. search rules)  -- is-time-of-day-requires
     (λ c.
-    let y = c.before.before.before.before.before.years_of in
-    let d = c.before.before.is_date in
-    rw (← y.ensures, ← d.ensures, c.before.if-not-is_date.false, ← c.is_time_of_day.ensures) (search tests)))  -- returns-3
+    let y = c.years_of in
+    let d = c.is_date in
+    rw (← y.ensures, ← d.ensures, c.if-not-is_date.false, ← c.is_time_of_day.ensures) (search tests)))  -- returns-3

@@ -15,4 +15,4 @@ is_date_spec =
     (λ c. search tests)  -- returns-2
     (λ c. search tests)  -- returns-3
     (λ c κs. search rules)  -- month-days-requires
-    (λ c. rw (← c.before.month_days.ensures) (search tests)))  -- returns-4
+    (λ c. rw (← c.month_days.ensures) (search tests)))  -- returns-4

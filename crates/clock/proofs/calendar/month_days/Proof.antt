@@ -12,6 +12,6 @@ month_days_spec =
     (tie.spec
     (λ c. sym (no_month _ _ c.if-month-gt12.true))  -- returns
     (λ c κs. search rules)  -- february-requires
-    (λ c. second_month _ _ _ c.before.if-month-eq2.true c.february.ensures)  -- returns-2
+    (λ c. second_month _ _ _ c.if-month-eq2.true c.february.ensures)  -- returns-2
     (λ c. search rules)  -- array-read-result
     (λ c. plain_month _ _ c.if-month-eq2.false))  -- returns-3

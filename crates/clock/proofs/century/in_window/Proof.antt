@@ -16,8 +16,7 @@ in_window_spec =
     tie.close
     (tie.spec
     (λ c κs. search rules)  -- first-year-requires
-    (λ c. let s = c.before in subst (λ (f : ℕ). false ≡ in_window f s.before.args.year) s.first_year-from.ensures.0 (search tests))  -- returns
+    (λ c. subst (λ (f : ℕ). false ≡ in_window f c.args.year) c.first_year-from.ensures.0 (search tests))  -- returns
     (λ c. search rules)  -- add-result
     (λ c.
-    let s = c.before in
-    subst (λ (f : ℕ). ltb s.before.args.year (s.first_year-from.result + 100) ≡ in_window f s.before.args.year) s.first_year-from.ensures.0 (search tests)))  -- returns-2
+    subst (λ (f : ℕ). ltb c.args.year (c.first_year-from.result + 100) ≡ in_window f c.args.year) c.first_year-from.ensures.0 (search tests)))  -- returns-2

@@ -17,4 +17,4 @@ to_generalized_spec =
     (λ c. search rules)  -- add-in-year
     (λ c. search rules)  -- cast-in-year
     (λ c κs. search rules)  -- in-year-requires
-    (λ c. rw (← c.before.before.first_year-first.ensures.0) c.in_year.ensures))  -- returns
+    (λ c. rw (← c.first_year-first.ensures.0) c.in_year.ensures))  -- returns

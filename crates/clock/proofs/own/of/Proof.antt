@@ -22,6 +22,5 @@ of_spec =
     (λ c κs. search rules)  -- octet-requires-5
     (λ c. search rules)  -- cast-t13
     (λ c.
-    let s = c.before.before.before.before.before in
-    time_of_lem s.before.before.args.o.now s.two.ensures.0 c.before.before.before.before.octet.ensures.0
-    c.before.before.before.octet-2.ensures.0 c.before.before.octet-3.ensures.0 c.before.octet-4.ensures.0 c.octet-5.ensures.0))  -- returns
+    time_of_lem c.args.o.now c.two.ensures.0 c.octet.ensures.0
+    c.octet-2.ensures.0 c.octet-3.ensures.0 c.octet-4.ensures.0 c.octet-5.ensures.0))  -- returns

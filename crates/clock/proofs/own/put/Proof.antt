@@ -13,7 +13,7 @@ unfolding time_octets
 put_spec =
     tie.close
     (tie.spec
-    (λ c. time_stays c.before.args.t c.before.args.part.now c.if-part-ne7.true)  -- returns
+    (λ c. time_stays c.args.t c.args.part.now c.if-part-ne7.true)  -- returns
     (λ c. search rules)  -- cast-part
     (λ c. search rules)  -- slice-write-part
     (λ c. search rules)  -- cast-part-2
@@ -24,4 +24,4 @@ put_spec =
     (λ c. simp length-set (omega arith))  -- slice-write-part-6
     (λ c. simp length-set (omega arith))  -- slice-write-part-7
     (λ c. simp length-set)  -- same-length
-    (λ c. let s = c.before.before.before in time_filled s.args.t s.args.part.now c.before.before.if-part-ne7.false))  -- returns-2
+    (λ c. time_filled c.args.t c.args.part.now c.if-part-ne7.false))  -- returns-2

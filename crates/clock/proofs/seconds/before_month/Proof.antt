@@ -11,19 +11,14 @@ before_month_spec =
     tie.close
     (tie.spec
     (λ c κs. search rules)  -- year-days-requires
-    (λ c. (rw (whole_year _ _ c.before.if-month-gt12.true) c.year_days.ensures.0, c.year_days.ensures.1))  -- returns
+    (λ c. (rw (whole_year _ _ c.if-month-gt12.true) c.year_days.ensures.0, c.year_days.ensures.1))  -- returns
     (λ c. search rules)  -- mul-days
     (λ c. search rules)  -- array-read-days
-    (λ c. let s = c.before.before in before_early s.args.year s.args.month c.if-month-lt3.true)  -- returns-2
+    (λ c. before_early c.args.year c.args.month c.if-month-lt3.true)  -- returns-2
     (λ c κs. search rules)  -- is-leap-requires
     (λ c.
-    let l = c.before.before in
-    let s = l.before.before in
-    omega (arith, (before_leap s.args.year s.args.month l.if-month-lt3.false l.before.if-month-gt12.false c.before.is_leap.ensures c.if-is_leap.true).1))  -- add-result
+    omega (arith, (before_leap c.args.year c.args.month c.if-month-lt3.false c.if-month-gt12.false c.is_leap.ensures c.if-is_leap.true).1))  -- add-result
     (λ c.
-    let l = c.before.before in
-    let s = l.before.before in
-    before_leap s.args.year s.args.month l.if-month-lt3.false l.before.if-month-gt12.false c.before.is_leap.ensures c.if-is_leap.true)  -- returns-3
+    before_leap c.args.year c.args.month c.if-month-lt3.false c.if-month-gt12.false c.is_leap.ensures c.if-is_leap.true)  -- returns-3
     (λ c.
-    let l = c.before.before.before in
-    before_plain l.before.args.year l.before.args.month l.if-month-gt12.false c.before.is_leap.ensures c.if-is_leap.false))  -- returns-4
+    before_plain c.args.year c.args.month c.if-month-gt12.false c.is_leap.ensures c.if-is_leap.false))  -- returns-4

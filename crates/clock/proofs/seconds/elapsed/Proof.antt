@@ -15,7 +15,7 @@ elapsed_spec =
     (λ c. search rules)  -- cast-result
     (λ c κs. search rules)  -- seconds-requires-2
     (λ c. search rules)  -- cast-result-2
-    (λ c. difference_fits c.before.seconds.result c.seconds-2.result c.before.seconds.ensures.1 c.seconds-2.ensures.1)  -- sub-result
+    (λ c. difference_fits c.seconds.result c.seconds-2.result c.seconds.ensures.1 c.seconds-2.ensures.1)  -- sub-result
     (λ c.
-    rw (← c.before.seconds.ensures.0, ← c.seconds-2.ensures.0)
-    (difference c.before.seconds.result c.seconds-2.result c.before.seconds.ensures.1 c.seconds-2.ensures.1)))  -- returns
+    rw (← c.seconds.ensures.0, ← c.seconds-2.ensures.0)
+    (difference c.seconds.result c.seconds-2.result c.seconds.ensures.1 c.seconds-2.ensures.1)))  -- returns

@@ -33,17 +33,12 @@ order_spec =
     (λ c κs. search rules)  -- compare-requires-5
     (λ c κs. search rules)  -- compare-requires-6
     (λ c.
-    let c₅ = c.before in
-    let c₄ = c₅.before.before.before in
-    let c₃ = c₄.before.before.before in
-    let c₂ = c₃.before.before.before in
-    let c₁ = c₂.before.before.before in
-    let a = c₁.before.before.before.args.a in
-    let b = c₁.before.before.before.args.b in
-    let seconds = before_others a.second b.second [] [] (record { sfits = omega arith }) (sym (ordered_self [])) c₁.compare-seconds.ensures in
-    let minutes = before_others a.minute b.minute _ _ (record { sfits = c₁.compare-seconds.type_inv }) seconds c₂.compare-minutes.ensures in
-    let hours = before_others a.hour b.hour _ _ (record { sfits = c₂.compare-minutes.type_inv }) minutes c₃.compare-hours.ensures in
-    let days = before_others a.day b.day _ _ (record { sfits = c₃.compare-hours.type_inv }) hours c₄.compare-days.ensures in
-    let months = before_others a.month b.month _ _ (record { sfits = c₄.compare-days.type_inv }) days c₅.compare-months.ensures in
-    let years = before_others a.year b.year _ _ (record { sfits = c₅.compare-months.type_inv }) months c.compare.ensures in
+    let a = c.args.a in
+    let b = c.args.b in
+    let seconds = before_others a.second b.second [] [] (record { sfits = omega arith }) (sym (ordered_self [])) c.compare-seconds.ensures in
+    let minutes = before_others a.minute b.minute _ _ (record { sfits = c.compare-seconds.type_inv }) seconds c.compare-minutes.ensures in
+    let hours = before_others a.hour b.hour _ _ (record { sfits = c.compare-minutes.type_inv }) minutes c.compare-hours.ensures in
+    let days = before_others a.day b.day _ _ (record { sfits = c.compare-hours.type_inv }) hours c.compare-days.ensures in
+    let months = before_others a.month b.month _ _ (record { sfits = c.compare-days.type_inv }) days c.compare-months.ensures in
+    let years = before_others a.year b.year _ _ (record { sfits = c.compare-months.type_inv }) months c.compare.ensures in
     to_z-of_z w64 c.compare.result (record { sfits = c.compare.type_inv }) ∙ years))  -- returns

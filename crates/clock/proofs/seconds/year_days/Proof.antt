@@ -11,5 +11,5 @@ year_days_spec =
     tie.close
     (tie.spec
     (λ c κs. search rules)  -- is-leap-requires
-    (λ c. (rw (year_days_lem, ← c.before.is_leap.ensures, c.if-is_leap.true), omega arith))  -- returns
-    (λ c. (rw (year_days_lem, ← c.before.is_leap.ensures, c.if-is_leap.false), omega arith)))  -- returns-2
+    (λ c. (rw (year_days_lem, ← c.is_leap.ensures, c.if-is_leap.true), omega arith))  -- returns
+    (λ c. (rw (year_days_lem, ← c.is_leap.ensures, c.if-is_leap.false), omega arith)))  -- returns-2

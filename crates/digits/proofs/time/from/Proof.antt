@@ -20,5 +20,4 @@ from_spec =
     (λ c. search rules)  -- add-pair-4
     (λ c κs. search rules)  -- pair-requires-5
     (λ c.
-    let two = c.before.before.before in
-    rw (two.before.pair.ensures.0, two.pair-2.ensures.0, c.before.before.pair-3.ensures.0, c.before.pair-4.ensures.0, c.pair-5.ensures.0)))  -- returns
+    rw (c.pair.ensures.0, c.pair-2.ensures.0, c.pair-3.ensures.0, c.pair-4.ensures.0, c.pair-5.ensures.0)))  -- returns

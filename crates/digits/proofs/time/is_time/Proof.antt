@@ -15,18 +15,16 @@ is_time_spec =
     tie.close
     (tie.spec
     (λ c κs. search rules)  -- size-requires
-    (λ c. let a = c.before.before.before.args in no_length a.kind a.c.now (λ e. c.if-c-n.true (e ∙ sym c.before.size-n.ensures)))  -- returns
-    (λ c. omega (arith, c.before.size-n.ensures, size_sum c.before.before.before.args.kind))  -- sub-last
-    (λ c. omega (arith, c.before.if-c-n.false, c.before.before.size-n.ensures, size_sum c.before.before.before.before.args.kind))  -- shared-slice-read-if2
+    (λ c. let a = c.args in no_length a.kind a.c.now (λ e. c.if-c-n.true (e ∙ sym c.size-n.ensures)))  -- returns
+    (λ c. omega (arith, c.size-n.ensures, size_sum c.args.kind))  -- sub-last
+    (λ c. omega (arith, c.if-c-n.false, c.size-n.ensures, size_sum c.args.kind))  -- shared-slice-read-if2
     (λ c.
-    let at_size = c.before.before.before in
-    let a = at_size.before.before.args in
-    no_z a.kind a.c.now (λ e. c.if-c-last-ne90.true (ap (λ (i : ℕ). get_or a.c.now (i - 1) 0) at_size.size-n.ensures ∙ e)))  -- returns-2
+    let a = c.args in
+    no_z a.kind a.c.now (λ e. c.if-c-last-ne90.true (ap (λ (i : ℕ). get_or a.c.now (i - 1) 0) c.size-n.ensures ∙ e)))  -- returns-2
     (λ c κs. search rules)  -- of-requires
     (λ c κs. search rules)  -- in-range-requires
     (λ c.
-    let at_if = c.before.before.before.before in
-    let size = at_if.before.size-n.ensures in
-    let a = at_if.before.before.before.args in
-    let z = ap (λ (i : ℕ). get_or a.c.now (i - 1) 0) (sym size) ∙ c.before.before.if-c-last-ne90.false in
-    c.ranged_lem.ensures ∙ ap (in_range a.kind) c.before.of.ensures.0 ∙ told a.kind a.c.now (at_if.if-c-n.false ∙ size) z))  -- returns-3
+    let size = c.size-n.ensures in
+    let a = c.args in
+    let z = ap (λ (i : ℕ). get_or a.c.now (i - 1) 0) (sym size) ∙ c.if-c-last-ne90.false in
+    c.ranged_lem.ensures ∙ ap (in_range a.kind) c.of.ensures.0 ∙ told a.kind a.c.now (c.if-c-n.false ∙ size) z))  -- returns-3

@@ -13,17 +13,15 @@ of_spec =
     (tie.spec
     (λ c κs. search rules)  -- size-requires
     (λ c.
-    let a = c.before.before.before.args in
-    let q = none_read a.kind a.c.now (λ e. c.if-c-size.true (e ∙ sym c.before.size.ensures)) in
+    let a = c.args in
+    let q = none_read a.kind a.c.now (λ e. c.if-c-size.true (e ∙ sym c.size.ensures)) in
     (q, λ h. q ∙ its_read a.kind a.c.now h))  -- returns
-    (λ c κs. c.if-c-size.false ∙ c.before.size.ensures)  -- year-requires
+    (λ c κs. c.if-c-size.false ∙ c.size.ensures)  -- year-requires
     (λ c κs. search rules)  -- year-size-requires
     (λ c κs.
-    let at_if = c.before.before in
-    omega (arith, at_if.if-c-size.false, at_if.before.size.ensures, c.year_size.ensures, size_sum at_if.before.before.before.args.kind))  -- from-requires
+    omega (arith, c.if-c-size.false, c.size.ensures, c.year_size.ensures, size_sum c.args.kind))  -- from-requires
     (λ c.
-    let at_if = c.before.before.before in
-    let a = at_if.before.before.before.args in
-    let l = at_if.if-c-size.false ∙ at_if.before.size.ensures in
-    let q = c.from.ensures ∙ from_read a.kind a.c.now l c.before.before.year.ensures c.before.year_size.ensures in
+    let a = c.args in
+    let l = c.if-c-size.false ∙ c.size.ensures in
+    let q = c.from.ensures ∙ from_read a.kind a.c.now l c.year.ensures c.year_size.ensures in
     (q, λ h. q ∙ its_read a.kind a.c.now h)))  -- returns-2

@@ -17,12 +17,12 @@ use Rattle.digits.proofs.time.is_digit.Reads as is_digit_reads
 
 -- both octets are digits
 first : (c : lts.Else-not-is_digit-2 (is_digit_reads.Asked, is_digit_reads.Learnt) reads.Pre reads.Post)
-    → (let a = c.before.before.before.before.before.before.before.args in is_digit (get_or a.c.now a.at 0)) ≡ true
-first c = let one = c.before.before.before.before in sym one.is_digit.ensures ∙ c.before.before.before.if-not-is_digit.false
+    → (let a = c.args in is_digit (get_or a.c.now a.at 0)) ≡ true
+first c = sym c.is_digit.ensures ∙ c.if-not-is_digit.false
 
 second : (c : lts.Else-not-is_digit-2 (is_digit_reads.Asked, is_digit_reads.Learnt) reads.Pre reads.Post)
-    → (let a = c.before.before.before.before.before.before.before.args in is_digit (get_or a.c.now (a.at + 1) 0)) ≡ true
-second c = sym c.before.is_digit-2.ensures ∙ c.if-not-is_digit-2.false
+    → (let a = c.args in is_digit (get_or a.c.now (a.at + 1) 0)) ≡ true
+second c = sym c.is_digit-2.ensures ∙ c.if-not-is_digit-2.false
 
 pub pair_spec : {M : Type 1} → statement M
 pair_spec =
@@ -31,24 +31,23 @@ pair_spec =
     (λ c. search rules)  -- shared-slice-read-a
     (λ c κs. search rules)  -- is-digit-requires
     (λ c.
-    let a = c.before.before.before.before.args in
-    let e = sym c.before.is_digit.ensures ∙ c.if-not-is_digit.true in
+    let a = c.args in
+    let e = sym c.is_digit.ensures ∙ c.if-not-is_digit.true in
     (sym (pair_first a.c.now a.at e), omega arith))  -- returns
     (λ c. search rules)  -- add-next
     (λ c. search rules)  -- shared-slice-read-b
     (λ c κs. search rules)  -- is-digit-requires-2
     (λ c.
-    let one = c.before.before.before.before in
-    let a = one.before.before.before.args in
-    let e = sym one.is_digit.ensures ∙ c.before.before.before.if-not-is_digit.false in
-    let f = sym c.before.is_digit-2.ensures ∙ c.if-not-is_digit-2.true in
+    let a = c.args in
+    let e = sym c.is_digit.ensures ∙ c.if-not-is_digit.false in
+    let f = sym c.is_digit-2.ensures ∙ c.if-not-is_digit-2.true in
     (sym (pair_second a.c.now a.at e f), omega arith))  -- returns-2
     (λ c. let (a, b) = digit_true _ (first c) in a)  -- sub-result
     (λ c. let (a, b) = digit_true _ (first c) in record { fits = omega arith })  -- mul-result
     (λ c. let (a, b) = digit_true _ (second c) in a)  -- sub-result-2
     (λ c. let (a, b) = digit_true _ (first c) in let (d, e) = digit_true _ (second c) in record { fits = omega arith })  -- add-result
     (λ c.
-    let a = c.before.before.before.before.before.before.before.args in
+    let a = c.args in
     let p = pair_digits a.c.now a.at (first c) (second c) in
     let m = pair_most a.c.now a.at in
     (sym p, omega arith)))  -- returns-3

@@ -21,22 +21,18 @@ put_spec =
     (tie.spec
     (λ c κs. search rules)  -- size-requires
     (λ c.
-    let a = c.before.before.before.args in
-    let other : length a.part-1.now ≡ time_size a.kind → ⊥ = λ e. c.if-part-size.true (e ∙ sym c.before.size.ensures) in
-    (time_stays a.kind (last_digits a.kind a.t) a.part-1.now other, λ h. time_stays a.kind a.t a.part-1.now other))  -- returns
-    (λ c κs. omega (arith, c.before.if-part-size.false, c.before.before.size.ensures, size_sum c.before.before.before.before.args.kind))  -- put-year-requires
+    let a = c.args in
+    let other : length a.part.now ≡ time_size a.kind → ⊥ = λ e. c.if-part-size.true (e ∙ sym c.size.ensures) in
+    (time_stays a.kind (last_digits a.kind a.t) a.part.now other, λ h. time_stays a.kind a.t a.part.now other))  -- returns
+    (λ c κs. omega (arith, c.if-part-size.false, c.size.ensures, size_sum c.args.kind))  -- put-year-requires
     (λ c κs. search rules)  -- year-size-requires
     (λ c κs.
-    let at_year = c.before.before.before.before in
-    let at_if = at_year.before.before in
-    let a = at_if.before.before.before.args in
-    let l = ap length at_year.put_year.ensures ∙ length-sets a.part-1.now 0 (year_digits a.kind (a.t.year % years a.kind)) in
-    omega (arith, at_if.if-part-size.false, at_if.before.size.ensures, c.year_size.ensures, size_sum a.kind))  -- put-later-requires
+    let a = c.args in
+    let l = ap length c.put_year.ensures ∙ length-sets a.part.now 0 (year_digits a.kind (a.t.year % years a.kind)) in
+    omega (arith, c.if-part-size.false, c.size.ensures, c.year_size.ensures, size_sum a.kind))  -- put-later-requires
     (λ c. search rules)  -- same-length
     (λ c.
-    let at_year = c.before.before.before.before.before.before.before in
-    let at_if = at_year.before.before in
-    let a = at_if.before.before.before.args in
-    let l = at_if.if-part-size.false ∙ at_if.before.size.ensures in
-    let q = time_put a.kind a.t a.part-1.now l c.before.before.before.year_size.ensures at_year.put_year.ensures c.before.before.put_later.ensures in
-    (q, λ h. q ∙ ap (λ (t : DateTime). filled a.part-1.now (time_digits a.kind t)) (all_digits a.kind a.t h))))  -- returns-2
+    let a = c.args in
+    let l = c.if-part-size.false ∙ c.size.ensures in
+    let q = time_put a.kind a.t a.part.now l c.year_size.ensures c.put_year.ensures c.put_later.ensures in
+    (q, λ h. q ∙ ap (λ (t : DateTime). filled a.part.now (time_digits a.kind t)) (all_digits a.kind a.t h))))  -- returns-2

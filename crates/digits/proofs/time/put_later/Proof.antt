@@ -25,21 +25,11 @@ put_later_spec =
     (λ c κs. search rules)  -- put-two-requires-5
     (λ c. search rules)  -- slice-write-part
     (λ c.
-    let five = c.before.before in
-    let four = five.before.before.before.before in
-    let three = four.before.before.before.before in
-    let two = three.before.before.before.before in
-    let one = two.before.before.before.before in
-    let a = one.before.before.before.args in
-    let e = later_put a.t a.part-1.now a.at one.put_two.ensures two.put_two-2.ensures three.put_two-3.ensures four.put_two-4.ensures
-    five.put_two-5.ensures in
-    ap length e ∙ length-sets a.part-1.now a.at (later_digits a.t))  -- same-length
+    let a = c.args in
+    let e = later_put a.t a.part.now a.at c.put_two.ensures c.put_two-2.ensures c.put_two-3.ensures c.put_two-4.ensures
+    c.put_two-5.ensures in
+    ap length e ∙ length-sets a.part.now a.at (later_digits a.t))  -- same-length
     (λ c.
-    let five = c.before.before in
-    let four = five.before.before.before.before in
-    let three = four.before.before.before.before in
-    let two = three.before.before.before.before in
-    let one = two.before.before.before.before in
-    let a = one.before.before.before.args in
-    later_put a.t a.part-1.now a.at one.put_two.ensures two.put_two-2.ensures three.put_two-3.ensures four.put_two-4.ensures
-    five.put_two-5.ensures))  -- returns
+    let a = c.args in
+    later_put a.t a.part.now a.at c.put_two.ensures c.put_two-2.ensures c.put_two-3.ensures c.put_two-4.ensures
+    c.put_two-5.ensures))  -- returns

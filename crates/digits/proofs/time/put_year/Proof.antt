@@ -19,24 +19,19 @@ put_year_spec =
     (tie.spec
     (λ c. search rules)  -- cast-low
     (λ c. search rules)  -- enum_told
-    (λ c κs. omega (arith, c.before.before.before.before.requires, ap year_size c.before.enum_told-1.given.1))  -- put-two-requires
+    (λ c κs. omega (arith, c.requires, ap year_size c.in-Utc.is))  -- put-two-requires
     (λ c. search rules)  -- enum-told-2
     (λ c. search rules)  -- cast-put-two
-    (λ c κs. omega (arith, c.before.before.before.before.requires, ap year_size c.before.enum_told-in-Generalized-1.given.1))  -- put-two-requires-2
+    (λ c κs. omega (arith, c.requires, ap year_size c.in-Generalized.is))  -- put-two-requires-2
     (λ c κs.
-    let told = c.before.before.before.before.before in
-    let at_start = told.before.before.before in
-    let a = at_start.args in
-    let l = ap length c.before.before.before.put_two-in-Generalized.ensures ∙ length-sets a.part-1.now 0 (two_digits (a.year / 100 % 100)) in
-    omega (arith, at_start.requires, ap year_size told.enum_told-in-Generalized-1.given.1))  -- put-two-requires-3
+    let a = c.args in
+    let l = ap length c.put_two-in-Generalized.ensures ∙ length-sets a.part.now 0 (two_digits (a.year / 100 % 100)) in
+    omega (arith, c.requires, ap year_size c.in-Generalized.is))  -- put-two-requires-3
     (λ c. search rules)  -- same-length
     (λ c.
-    let told = c.before.before.before.before in
-    let a = told.before.before.before.args in
-    year_two_put a.part-1.now a.year told.enum_told-1.given.1 c.before.before.put_two.ensures)  -- returns
+    let a = c.args in
+    year_two_put a.part.now a.year c.in-Utc.is c.put_two.ensures)  -- returns
     (λ c. search rules)  -- same-length-2
     (λ c.
-    let high = c.before.before.before.before.before.before in
-    let told = high.before.before in
-    let a = told.before.before.before.args in
-    year_four_put a.part-1.now a.year told.enum_told-in-Generalized-1.given.1 high.put_two-in-Generalized.ensures c.before.before.put_two-in-Generalized-2.ensures))  -- returns-2
+    let a = c.args in
+    year_four_put a.part.now a.year c.in-Generalized.is c.put_two-in-Generalized.ensures c.put_two-in-Generalized-2.ensures))  -- returns-2

@@ -12,5 +12,5 @@ size_spec =
     (tie.spec
     (λ c. search rules)  -- enum_told
     (λ c. search rules)  -- enum-told-2
-    (λ c. rw c.enum_told-1.given.1)  -- returns
-    (λ c. rw c.enum_told-in-Generalized-1.given.1))  -- returns-2
+    (λ c. rw c.in-Utc.is)  -- returns
+    (λ c. rw c.in-Generalized.is))  -- returns-2

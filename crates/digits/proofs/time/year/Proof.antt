@@ -14,20 +14,18 @@ year_spec =
     tie.close
     (tie.spec
     (λ c. search rules)  -- enum_told
-    (λ c κs. omega (arith, c.before.before.before.requires ∙ ap time_size c.enum_told-1.given.1))  -- pair-requires
+    (λ c κs. omega (arith, c.requires ∙ ap time_size c.in-Utc.is))  -- pair-requires
     (λ c. search rules)  -- cast-result
     (λ c. search rules)  -- enum-told-2
-    (λ c κs. omega (arith, c.before.before.before.requires ∙ ap time_size c.enum_told-in-Generalized-1.given.1))  -- pair-requires-2
+    (λ c κs. omega (arith, c.requires ∙ ap time_size c.in-Generalized.is))  -- pair-requires-2
     (λ c. search rules)  -- cast-low
     (λ c.
-    let told = c.before.before in
-    year_wrong told.before.before.before.args.c.now told.enum_told-in-Generalized-1.given.1 (sym c.before.pair-low.ensures.0 ∙ c.if-low-eq100.true))  -- returns
-    (λ c κs. omega (arith, c.before.before.before.before.before.requires ∙ ap time_size c.before.before.enum_told-in-Generalized-1.given.1))  -- pair-requires-3
+    year_wrong c.args.c.now c.in-Generalized.is (sym c.pair-low.ensures.0 ∙ c.if-low-eq100.true))  -- returns
+    (λ c κs. omega (arith, c.requires ∙ ap time_size c.in-Generalized.is))  -- pair-requires-3
     (λ c. search rules)  -- cast-result-2
     (λ c. search rules)  -- mul-result
     (λ c. search rules)  -- add-result
-    (λ c. c.pair.ensures.0 ∙ year_two c.before.before.before.before.args.c.now c.before.enum_told-1.given.1)  -- returns-2
+    (λ c. c.pair.ensures.0 ∙ year_two c.args.c.now c.in-Utc.is)  -- returns-2
     (λ c.
-    let told = c.before.before.before in
-    let low = c.before.before.pair-low.ensures.0 in
-    rw (low, c.pair-in-Generalized.ensures.0) (year_four told.before.before.before.args.c.now told.enum_told-in-Generalized-1.given.1 (λ e. c.before.if-low-eq100.false (low ∙ e)))))  -- returns-3
+    let low = c.pair-low.ensures.0 in
+    rw (low, c.pair-in-Generalized.ensures.0) (year_four c.args.c.now c.in-Generalized.is (λ e. c.if-low-eq100.false (low ∙ e)))))  -- returns-3

@@ -24,9 +24,9 @@ decreases-loop table w i came any s k₀ k = s.count - k
 
 -- where its members are
 abbrev at-span : (c : tie.After-parts-s invariant-loop decreases-loop) →
-    let a = c.before.before.before.args in c.parts-s.result ≡ span_of a.table.now (unpacked a.w).kind (unpacked a.w).own
+    let a = c.args in c.parts-s.result ≡ span_of a.table.now (unpacked a.w).kind (unpacked a.w).own
 at-span c =
-    c.parts-s.ensures ∙ ap (λ (e : Entry). span_of c.before.before.before.args.table.now e.kind e.own) c.before.unpack.ensures
+    c.parts-s.ensures ∙ ap (λ (e : Entry). span_of c.args.table.now e.kind e.own) c.unpack.ensures
 
 pub lacks_spec : {M : Type 1} → statement M
 lacks_spec =
@@ -38,61 +38,40 @@ lacks_spec =
     (λ c κs. tt)  -- parts-requires
     (λ c. refl)  -- loop-holds
     (λ c.
-    let c4 = c.before.before.before.before in
-    let q = c4.before.before.before.requires in
-    omega (arith, span_near q.1.ready _ q.1.known _ (at-span c4) _ c.before.loop-k-test.true))  -- mul-p
+    let q = c.requires in
+    omega (arith, span_near q.1.ready _ q.1.known _ (at-span c.before.before.before.before) _ c.loop-k-test.true))  -- mul-p
     (λ c.
-    let c5 = c.before.before.before.before.before in
-    let q = c5.before.before.before.requires in
-    omega (arith, span_near q.1.ready _ q.1.known _ (at-span c5) _ c.before.before.loop-k-test.true))  -- add-p
+    let q = c.requires in
+    omega (arith, span_near q.1.ready _ q.1.known _ (at-span c.before.before.before.before.before) _ c.loop-k-test.true))  -- add-p
     (λ c.
-    let c5 = c.before.before.before.before.before in
-    let q = c5.before.before.before.requires in
-    omega (arith, span_few q.1.ready _ q.1.known _ (at-span c5), c.before.before.loop-k-test.true))  -- mul-if2
+    let q = c.requires in
+    omega (arith, span_few q.1.ready _ q.1.known _ (at-span c.before.before.before.before.before), c.loop-k-test.true))  -- mul-if2
     (λ c.
-    let c5 = c.before.before.before.before.before in
-    let q = c5.before.before.before.requires in
-    omega (arith, span_few q.1.ready _ q.1.known _ (at-span c5), c.before.before.loop-k-test.true))  -- element-copy-out-if2
+    let q = c.requires in
+    omega (arith, span_few q.1.ready _ q.1.known _ (at-span c.before.before.before.before.before), c.loop-k-test.true))  -- element-copy-out-if2
     (λ c.
-    let c5 = c.before.before.before.before.before in
-    let c7 = c5.before.before in
-    let c8 = c7.before in
-    let c11 = c8.before.before.before in
-    let a = c11.args in
-    let q = c11.requires in
-    sym (c7.loop-k.invariant ∙ lacks_any q.1.ready _ q.1.known _ (at-span c8) q.2 a.came.now _ a.any c5.loop-k-test.true
-    c.before.if-came-k-eq0.true c.if-any.true))  -- returns
+    let a = c.args in
+    let q = c.requires in
+    sym (c.loop-k.invariant ∙ lacks_any q.1.ready _ q.1.known _ (at-span c.before.before.before.before.before.before.before.before) q.2 a.came.now _ a.any c.loop-k-test.true
+    c.if-came-k-eq0.true c.if-any.true))  -- returns
     (λ c κs. tt)  -- optional-requires
     (λ c.
-    let c3 = c.before.before.before in
-    let c7 = c3.before.before.before.before in
-    let c9 = c7.before.before in
-    let c10 = c9.before in
-    let c13 = c10.before.before.before in
-    let a = c13.args in
-    let q = c13.requires in
-    sym (c9.loop-k.invariant ∙ lacks_must q.1.ready _ q.1.known _ (at-span c10) q.2 a.came.now _ a.any c7.loop-k-test.true _
-    c.before.optional.ensures c3.if-came-k-eq0.true c.if-not-optional.true))  -- returns-2
+    let a = c.args in
+    let q = c.requires in
+    sym (c.loop-k.invariant ∙ lacks_must q.1.ready _ q.1.known _ (at-span c.before.before.before.before.before.before.before.before.before.before) q.2 a.came.now _ a.any c.loop-k-test.true _
+    c.optional.ensures c.if-came-k-eq0.true c.if-not-optional.true))  -- returns-2
     (λ c.
-    let c4 = c.before.before.before.before in
-    let c7 = c4.before.before.before in
-    let q = c7.before.before.before.requires in
-    omega (arith, span_few q.1.ready _ q.1.known _ (at-span c7), c4.loop-k-test.true))  -- add-k
-    (λ c. omega (arith, c.before.before.before.before.loop-k-test.true))  -- loop-less
+    let q = c.requires in
+    omega (arith, span_few q.1.ready _ q.1.known _ (at-span c.before.before.before.before.before.before.before), c.loop-k-test.true))  -- add-k
+    (λ c. omega (arith, c.loop-k-test.true))  -- loop-less
     (λ c.
-    let c4 = c.before.before.before.before in
-    let c6 = c4.before.before in
-    let c7 = c6.before in
-    let c10 = c7.before.before.before in
-    let a = c10.args in
-    let q = c10.requires in
-    c6.loop-k.invariant ∙ ⊎_elim (λ x. lacks_skip q.1.ready _ q.1.known _ (at-span c7) q.2 a.came.now _ a.any
-    c4.loop-k-test.true x.2.result x.2.ensures x.0.taken x.1.left (not-false _ x.3.left)) (λ x. lacks_come
-    q.1.ready _ q.1.known _ (at-span c7) q.2 a.came.now _ a.any c4.loop-k-test.true x.left) c.if-came-k-eq0.branch)  -- loop-again
+    let a = c.args in
+    let q = c.requires in
+    c.loop-k.invariant ∙ ⊎_elim (λ x. lacks_skip q.1.ready _ q.1.known _ (at-span c.before.before.before.before.before.before.before) q.2 a.came.now _ a.any
+    c.loop-k-test.true x.2.result x.2.ensures x.0.taken x.1.left (not-false _ x.3.left)) (λ x. lacks_come
+    q.1.ready _ q.1.known _ (at-span c.before.before.before.before.before.before.before) q.2 a.came.now _ a.any c.loop-k-test.true x.left) c.if-came-k-eq0.branch)  -- loop-again
     (λ c.
-    let c3 = c.before.before.before in
-    let c6 = c3.before.before.before in
-    let a = c6.args in
-    let q = c6.requires in
-    sym (c.before.before.loop-k.invariant ∙ lacks_end q.1.ready _ q.1.known _ (at-span c3) q.2 a.came.now _ a.any
+    let a = c.args in
+    let q = c.requires in
+    sym (c.loop-k.invariant ∙ lacks_end q.1.ready _ q.1.known _ (at-span c.before.before.before) q.2 a.came.now _ a.any
     c.loop-k-test.false)))  -- returns-3

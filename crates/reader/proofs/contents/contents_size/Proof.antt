@@ -16,120 +16,95 @@ contents_size_spec =
     tie.close
     (tie.spec
     (λ c.
-    let s = c.before.before.before.before in
-    let a = s.args in
-    (by_kind s.requires.1 _ _ c.before.if-k-eq-BOOLEAN.true refl (boolean_wrong _ a.e.kind a.e.own _ c.before.if-k-eq-BOOLEAN.true c.if-n-ne1.true), omega arith))  -- returns
+    let a = c.args in
+    (by_kind c.requires.1 _ _ c.if-k-eq-BOOLEAN.true refl (boolean_wrong _ a.e.kind a.e.own _ c.if-k-eq-BOOLEAN.true c.if-n-ne1.true), omega arith))  -- returns
     (λ c.
-    let s = c.before.before.before.before in
-    let a = s.args in
-    (by_kind s.requires.1 _ _ c.before.if-k-eq-BOOLEAN.true refl (boolean_size _ a.e.kind a.e.own _ c.before.if-k-eq-BOOLEAN.true c.if-n-ne1.false), omega arith))  -- returns-2
+    let a = c.args in
+    (by_kind c.requires.1 _ _ c.if-k-eq-BOOLEAN.true refl (boolean_size _ a.e.kind a.e.own _ c.if-k-eq-BOOLEAN.true c.if-n-ne1.false), omega arith))  -- returns-2
     (λ c κs. tt)  -- is-integer-requires
     (λ c.
-    let s = c.before.before.before.before.before.before in
-    let a = s.args in
-    let k = c.before.before.if-k-eq-INTEGER.true in (
-      by_kind s.requires.1 _ _ k refl (integer_size _ a.e.kind a.e.own _ k c.before.is_integer.ensures c.if-is_integer.true),
+    let a = c.args in
+    let k = c.if-k-eq-INTEGER.true in (
+      by_kind c.requires.1 _ _ k refl (integer_size _ a.e.kind a.e.own _ k c.is_integer.ensures c.if-is_integer.true),
       omega arith,
     ))  -- returns-3
     (λ c.
-    let s = c.before.before.before.before.before.before in
-    let a = s.args in
-    let k = c.before.before.if-k-eq-INTEGER.true in (
-      by_kind s.requires.1 _ _ k refl (integer_wrong _ a.e.kind a.e.own _ k c.before.is_integer.ensures c.if-is_integer.false),
+    let a = c.args in
+    let k = c.if-k-eq-INTEGER.true in (
+      by_kind c.requires.1 _ _ k refl (integer_wrong _ a.e.kind a.e.own _ k c.is_integer.ensures c.if-is_integer.false),
       omega arith,
     ))  -- returns-4
     (λ c κs. tt)  -- in-segments-requires
     (λ c.
-    let s = c.before.before.before.before.before.before.before in
-    (by_parts s.requires.1 _ _ c.before.before.if-k-eq-BIT_STRING.true refl (sym c.before.in_segments.ensures ∙ c.if-in_segments.true), omega arith))  -- returns-5
+    (by_parts c.requires.1 _ _ c.if-k-eq-BIT_STRING.true refl (sym c.in_segments.ensures ∙ c.if-in_segments.true), omega arith))  -- returns-5
     (λ c κs. tt)  -- are-bits-requires
-    (λ c. omega (arith, c.before.before.before.before.before.before.before.before.before.requires.2))  -- add-result
+    (λ c. omega (arith, c.requires.2))  -- add-result
     (λ c.
-    let s = c.before.before.before.before.before.before.before.before.before in
-    let a = s.args in
-    let w = sym c.before.before.before.in_segments.ensures ∙ c.before.before.if-in_segments.false in (
-      by_whole s.requires.1 _ _ w (bits_size _ a.e.kind a.e.own _ c.before.before.before.before.if-k-eq-BIT_STRING.true c.before.are_bits.ensures c.if-are_bits.true),
-      omega (arith, s.requires.2),
+    let a = c.args in
+    let w = sym c.in_segments.ensures ∙ c.if-in_segments.false in (
+      by_whole c.requires.1 _ _ w (bits_size _ a.e.kind a.e.own _ c.if-k-eq-BIT_STRING.true c.are_bits.ensures c.if-are_bits.true),
+      omega (arith, c.requires.2),
     ))  -- returns-6
     (λ c.
-    let s = c.before.before.before.before.before.before.before.before.before in
-    let a = s.args in
-    let w = sym c.before.before.before.in_segments.ensures ∙ c.before.before.if-in_segments.false in (
-      by_whole s.requires.1 _ _ w (bits_wrong _ a.e.kind a.e.own _ c.before.before.before.before.if-k-eq-BIT_STRING.true c.before.are_bits.ensures c.if-are_bits.false),
+    let a = c.args in
+    let w = sym c.in_segments.ensures ∙ c.if-in_segments.false in (
+      by_whole c.requires.1 _ _ w (bits_wrong _ a.e.kind a.e.own _ c.if-k-eq-BIT_STRING.true c.are_bits.ensures c.if-are_bits.false),
       omega arith,
     ))  -- returns-7
     (λ c κs. tt)  -- in-segments-requires-2
     (λ c.
-    let s = c.before.before.before.before.before.before.before.before in
-    (by_parts s.requires.1 _ _ c.before.before.if-k-eq-OCTET_STRING.true refl (sym c.before.in_segments-then-k-eq-OCTET_STRING.ensures ∙ c.if-in_segments-2.true), omega arith))  -- returns-8
-    (λ c. omega (arith, c.before.before.before.before.before.before.before.before.requires.2))  -- add-result-2
+    (by_parts c.requires.1 _ _ c.if-k-eq-OCTET_STRING.true refl (sym c.in_segments-then-k-eq-OCTET_STRING.ensures ∙ c.if-in_segments-2.true), omega arith))  -- returns-8
+    (λ c. omega (arith, c.requires.2))  -- add-result-2
     (λ c.
-    let s = c.before.before.before.before.before.before.before.before in
-    let a = s.args in
-    let w = sym c.before.in_segments-then-k-eq-OCTET_STRING.ensures ∙ c.if-in_segments-2.false in
-    (by_whole s.requires.1 _ _ w (string_size _ a.e.kind a.e.own _ c.before.before.if-k-eq-OCTET_STRING.true), omega (arith, s.requires.2)))  -- returns-9
+    let a = c.args in
+    let w = sym c.in_segments-then-k-eq-OCTET_STRING.ensures ∙ c.if-in_segments-2.false in
+    (by_whole c.requires.1 _ _ w (string_size _ a.e.kind a.e.own _ c.if-k-eq-OCTET_STRING.true), omega (arith, c.requires.2)))  -- returns-9
     (λ c.
-    let s = c.before.before.before.before.before.before.before.before in
-    let a = s.args in
-    (by_kind s.requires.1 _ _ c.before.if-k-eq-NULL.true refl (null_wrong _ a.e.kind a.e.own _ c.before.if-k-eq-NULL.true c.if-n-ne0.true), omega arith))  -- returns-10
+    let a = c.args in
+    (by_kind c.requires.1 _ _ c.if-k-eq-NULL.true refl (null_wrong _ a.e.kind a.e.own _ c.if-k-eq-NULL.true c.if-n-ne0.true), omega arith))  -- returns-10
     (λ c.
-    let s = c.before.before.before.before.before.before.before.before in
-    let a = s.args in
-    (by_kind s.requires.1 _ _ c.before.if-k-eq-NULL.true refl (null_size _ a.e.kind a.e.own _ c.before.if-k-eq-NULL.true c.if-n-ne0.false), omega arith))  -- returns-11
+    let a = c.args in
+    (by_kind c.requires.1 _ _ c.if-k-eq-NULL.true refl (null_size _ a.e.kind a.e.own _ c.if-k-eq-NULL.true c.if-n-ne0.false), omega arith))  -- returns-11
     (λ c κs. tt)  -- is-integer-requires-2
     (λ c.
-    let s = c.before.before.before.before.before.before.before.before.before.before in
-    let a = s.args in
-    let k = c.before.before.if-k-eq-ENUMERATED.true in (
-      by_kind s.requires.1 _ _ k refl (number_wrong _ a.e.kind a.e.own _ k c.before.is_integer-then-k-eq-ENUMERATED.ensures c.if-not-is_integer.true),
+    let a = c.args in
+    let k = c.if-k-eq-ENUMERATED.true in (
+      by_kind c.requires.1 _ _ k refl (number_wrong _ a.e.kind a.e.own _ k c.is_integer-then-k-eq-ENUMERATED.ensures c.if-not-is_integer.true),
       omega arith,
     ))  -- returns-12
     (λ c κs. tt)  -- of-requires
     (λ c κs. tt)  -- lists-requires
     (λ c.
-    let c2 = c.before.before in
-    let c3 = c2.before in
-    let c4 = c3.before in
-    let c5 = c4.before in
-    let c13 = c5.before.before.before.before.before.before.before.before in
-    let a = c13.args in
-    let k = c5.if-k-eq-ENUMERATED.true in (
-      by_kind c13.requires.1 _ _ k refl (number_size _ a.e.kind a.e.own _ k c4.is_integer-then-k-eq-ENUMERATED.ensures c3.if-not-is_integer.false _
-          (to_z-of_z w64 _ (record { sfits = c2.of-z.type_inv }) ∙ c2.of-z.ensures) (lists_all c13.requires.1 k _ _ c.before.lists.ensures) c.if-lists.true),
+    let a = c.args in
+    let k = c.if-k-eq-ENUMERATED.true in (
+      by_kind c.requires.1 _ _ k refl (number_size _ a.e.kind a.e.own _ k c.is_integer-then-k-eq-ENUMERATED.ensures c.if-not-is_integer.false _
+          (to_z-of_z w64 _ (record { sfits = c.of-z.type_inv }) ∙ c.of-z.ensures) (lists_all c.requires.1 k _ _ c.lists.ensures) c.if-lists.true),
       omega arith,
     ))  -- returns-13
     (λ c.
-    let c2 = c.before.before in
-    let c3 = c2.before in
-    let c4 = c3.before in
-    let c5 = c4.before in
-    let c13 = c5.before.before.before.before.before.before.before.before in
-    let a = c13.args in
-    let k = c5.if-k-eq-ENUMERATED.true in (
-      by_kind c13.requires.1 _ _ k refl (number_unlisted _ a.e.kind a.e.own _ k c4.is_integer-then-k-eq-ENUMERATED.ensures c3.if-not-is_integer.false _
-          (to_z-of_z w64 _ (record { sfits = c2.of-z.type_inv }) ∙ c2.of-z.ensures) (lists_all c13.requires.1 k _ _ c.before.lists.ensures) c.if-lists.false),
+    let a = c.args in
+    let k = c.if-k-eq-ENUMERATED.true in (
+      by_kind c.requires.1 _ _ k refl (number_unlisted _ a.e.kind a.e.own _ k c.is_integer-then-k-eq-ENUMERATED.ensures c.if-not-is_integer.false _
+          (to_z-of_z w64 _ (record { sfits = c.of-z.type_inv }) ∙ c.of-z.ensures) (lists_all c.requires.1 k _ _ c.lists.ensures) c.if-lists.false),
       omega arith,
     ))  -- returns-14
     (λ c.
-    let s = c.before.before.before.before.before.before.before.before.before in
-    let a = s.args in (
-      by_others s.requires.1 _ _ c.before.before.before.before.if-k-eq-BIT_STRING.false c.before.before.before.if-k-eq-OCTET_STRING.false (other_wrong _ a.e.kind a.e.own _ c.before.before.before.before.before.before.if-k-eq-BOOLEAN.false c.before.before.before.before.before.if-k-eq-INTEGER.false
-          c.before.before.before.before.if-k-eq-BIT_STRING.false c.before.before.before.if-k-eq-OCTET_STRING.false c.before.before.if-k-eq-NULL.false c.before.if-k-eq-ENUMERATED.false (λ k. omega (arith, c.if-k-lt-UTC_TIME.true)) (λ k. omega (arith, c.if-k-lt-UTC_TIME.true))),
+    let a = c.args in (
+      by_others c.requires.1 _ _ c.if-k-eq-BIT_STRING.false c.if-k-eq-OCTET_STRING.false (other_wrong _ a.e.kind a.e.own _ c.if-k-eq-BOOLEAN.false c.if-k-eq-INTEGER.false
+          c.if-k-eq-BIT_STRING.false c.if-k-eq-OCTET_STRING.false c.if-k-eq-NULL.false c.if-k-eq-ENUMERATED.false (λ k. omega (arith, c.if-k-lt-UTC_TIME.true)) (λ k. omega (arith, c.if-k-lt-UTC_TIME.true))),
       omega arith,
     ))  -- returns-15
     (λ c.
-    let s = c.before.before.before.before.before.before.before.before.before.before in
-    let a = s.args in (
-      by_others s.requires.1 _ _ c.before.before.before.before.before.if-k-eq-BIT_STRING.false c.before.before.before.before.if-k-eq-OCTET_STRING.false (other_wrong _ a.e.kind a.e.own _ c.before.before.before.before.before.before.before.if-k-eq-BOOLEAN.false c.before.before.before.before.before.before.if-k-eq-INTEGER.false
-          c.before.before.before.before.before.if-k-eq-BIT_STRING.false c.before.before.before.before.if-k-eq-OCTET_STRING.false c.before.before.before.if-k-eq-NULL.false c.before.before.if-k-eq-ENUMERATED.false (λ k. omega (arith, c.if-k-gt-GENERALIZED_TIME.true)) (λ k. omega (arith, c.if-k-gt-GENERALIZED_TIME.true))),
+    let a = c.args in (
+      by_others c.requires.1 _ _ c.if-k-eq-BIT_STRING.false c.if-k-eq-OCTET_STRING.false (other_wrong _ a.e.kind a.e.own _ c.if-k-eq-BOOLEAN.false c.if-k-eq-INTEGER.false
+          c.if-k-eq-BIT_STRING.false c.if-k-eq-OCTET_STRING.false c.if-k-eq-NULL.false c.if-k-eq-ENUMERATED.false (λ k. omega (arith, c.if-k-gt-GENERALIZED_TIME.true)) (λ k. omega (arith, c.if-k-gt-GENERALIZED_TIME.true))),
       omega arith,
     ))  -- returns-16
     (λ c κs. tt)  -- time-kind-requires
     (λ c κs. tt)  -- time-size-requires
     (λ c.
-    let s = c.before.before.before.before.before.before.before.before.before.before.before.before in
-    let a = s.args in
-    let k = time_number_lem a.e.kind c.before.before.before.if-k-lt-UTC_TIME.false c.before.before.if-k-gt-GENERALIZED_TIME.false c.before.time_kind.ensures in (
-      by_others s.requires.1 _ _ c.before.before.before.before.before.before.before.if-k-eq-BIT_STRING.false c.before.before.before.before.before.before.if-k-eq-OCTET_STRING.false (of_time _ a.e.kind a.e.own _ _ k c.time_size.ensures.0),
+    let a = c.args in
+    let k = time_number_lem a.e.kind c.if-k-lt-UTC_TIME.false c.if-k-gt-GENERALIZED_TIME.false c.time_kind.ensures in (
+      by_others c.requires.1 _ _ c.if-k-eq-BIT_STRING.false c.if-k-eq-OCTET_STRING.false (of_time _ a.e.kind a.e.own _ _ k c.time_size.ensures.0),
       c.time_size.ensures.1,
     )))  -- returns-17

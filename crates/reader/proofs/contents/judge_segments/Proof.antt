@@ -18,37 +18,31 @@ judge_segments_spec =
     (λ c κs. search rules)  -- read-requires
     (λ c. search rules)  -- enum-known-cause
     (λ c.
-    let s = c.before.before.before.before.before.before.before.before.before in
-    let n = parts_left s.args.e.kind s.args.indefinite s.args.c.now c.before.before.before.read.ensures _ _ c.before.cause-1.given.1 in
-    omega (arith, n, s.requires.3, s.requires.4))  -- add-t16
+    let n = parts_left c.args.e.kind c.args.indefinite c.args.c.now c.read.ensures _ _ c.in-Refused.is in
+    omega (arith, n, c.requires.3, c.requires.4))  -- add-t16
     (λ c. search rules)  -- enum-known-x
     (λ c κs.
-    let s = c.before.before.before.before.before.before.before.before.before in
-    let n = parts_few s.args.e.kind s.args.indefinite s.args.c.now c.before.before.before.read.ensures _ c.before.x-1.given.1 in
-    omega (arith, n, s.requires.3))  -- string-size-requires
+    let n = parts_few c.args.e.kind c.args.indefinite c.args.c.now c.read.ensures _ c.in-Read.is in
+    omega (arith, n, c.requires.3))  -- string-size-requires
     (λ c.
-    let s = c.before.before.before.before.before.before.before.before.before in
-    let a = s.args in
-    let i : is_in_segments a.lead ≡ true = sym c.before.before.before.before.before.before.in_segments.ensures ∙ c.before.before.before.before.before.if-in_segments.true in
-    let r = c.before.before.before.read.ensures in
-    rw i (parts_refused a.e.kind a.indefinite a.c.now r _ a.e.own a.left a.behind (s.requires.2 i) _ _
-    c.before.cause-1.given.1))  -- returns
+    let a = c.args in
+    let i : is_in_segments a.lead ≡ true = sym c.in_segments.ensures ∙ c.if-in_segments.true in
+    let r = c.read.ensures in
+    rw i (parts_refused a.e.kind a.indefinite a.c.now r _ a.e.own a.left a.behind (c.requires.2 i) _ _
+    c.in-Refused.is))  -- returns
     (λ c.
-    let s = c.before.before.before.before.before.before.before.before.before.before in
-    let a = s.args in
-    let i : is_in_segments a.lead ≡ true = sym c.before.before.before.before.before.before.before.in_segments.ensures ∙ c.before.before.before.before.before.before.if-in_segments.true in
-    let r = c.before.before.before.before.read.ensures in
-    rw i (parts_done a.e.kind a.indefinite a.c.now r _ a.e.own a.left a.behind (s.requires.2 i) _ c.before.before.x-1.given.1 _
-    c.string_size.ensures s.requires.3))  -- returns-2
+    let a = c.args in
+    let i : is_in_segments a.lead ≡ true = sym c.in_segments.ensures ∙ c.if-in_segments.true in
+    let r = c.read.ensures in
+    rw i (parts_done a.e.kind a.indefinite a.c.now r _ a.e.own a.left a.behind (c.requires.2 i) _ c.in-Read.is _
+    c.string_size.ensures c.requires.3))  -- returns-2
     (λ c.
-    let s = c.before.before.before.before.before in
-    let a = s.args in
-    let i : is_in_segments a.lead ≡ false = sym c.before.before.in_segments.ensures ∙ c.before.if-in_segments.false in
-    rw i (whole_open s.requires.1 s.requires.5 _ a.left a.behind a.c.now c.if-indefinite.true))  -- returns-3
+    let a = c.args in
+    let i : is_in_segments a.lead ≡ false = sym c.in_segments.ensures ∙ c.if-in_segments.false in
+    rw i (whole_open c.requires.1 c.requires.5 _ a.left a.behind a.c.now c.if-indefinite.true))  -- returns-3
     (λ c.
-    let s = c.before.before.before.before.before in
-    let a = s.args in
+    let a = c.args in
     let z = c.if-indefinite.false in
-    let i : is_in_segments a.lead ≡ false = sym c.before.before.in_segments.ensures ∙ c.before.if-in_segments.false in
-    let n = sym (s.requires.6 z) ∙ sym (by_whole s.requires.1 a.lead a.c.now i refl) in
-    rw i (whole_wrong s.requires.1 s.requires.5 _ a.left a.behind a.c.now z n refl)))  -- returns-4
+    let i : is_in_segments a.lead ≡ false = sym c.in_segments.ensures ∙ c.if-in_segments.false in
+    let n = sym (c.requires.6 z) ∙ sym (by_whole c.requires.1 a.lead a.c.now i refl) in
+    rw i (whole_wrong c.requires.1 c.requires.5 _ a.left a.behind a.c.now z n refl)))  -- returns-4

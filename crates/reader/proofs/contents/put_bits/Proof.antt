@@ -22,33 +22,29 @@ put_bits_spec =
     (λ c. search rules)  -- part-bits-start
     (λ c. search rules)  -- part-bits-end
     (λ c. search rules)  -- mul-put-number
-    (λ c. rw from_is c.before.before.before.before.before.requires.3)  -- sub-put-number
+    (λ c. rw from_is c.requires.3)  -- sub-put-number
     (λ c κs. search rules)  -- put-number-requires
     (λ c. search rules)  -- add-start
     (λ c. search rules)  -- add-end
     (λ c. search rules)  -- sub-part
     (λ c. search rules)  -- part-part-start
     (λ c.
-    let c8 = c.before.before.before.before.before.before.before.before in
     omega (
       arith,
-      simp length-sets at (ap length c.before.before.put_number.ensures),
-      ap length (from_is 1 c8.args.c.now),
-      c8.requires.4,
+      simp length-sets at (ap length c.put_number.ensures),
+      ap length (from_is 1 c.args.c.now),
+      c.requires.4,
     ))  -- part-part-end
     (λ c κs. search rules)  -- copy-masked-requires
     (λ c. search rules)  -- same-length
     (λ c.
-    let c2 = c.before.before in
-    let c6 = c2.before.before.before.before in
-    let c12 = c6.before.before.before.before.before.before in
-    let a = c12.args in
+    let a = c.args in
     let d = drop 1 a.c.now in
     let u = get_or a.c.now 0 0 in
-    let q : u % 8 ≡ u = omega (arith, c12.requires.2) in
+    let q : u % 8 ≡ u = omega (arith, c.requires.2) in
     rw from_is (
       refl,
-      number_filled a.buf-1.now c6.put_number.new.0 (masked u d) c2.copy_masked.new.1.1.0 a.to
-          (8 * length d - u) (length d) (rw from_is at c6.put_number.ensures) (sym (length_masked u d)) c12.requires.4 (rw (from_is, q) at
-          c2.copy_masked.ensures),
+      number_filled a.buf.now c.put_number.new.0 (masked u d) c.copy_masked.new.1.1.0 a.to
+          (8 * length d - u) (length d) (rw from_is at c.put_number.ensures) (sym (length_masked u d)) c.requires.4 (rw (from_is, q) at
+          c.copy_masked.ensures),
     )))  -- returns

@@ -19,17 +19,15 @@ put_enumerated_spec =
     (tie.spec
     (λ c κs. search rules)  -- of-requires
     (λ c.
-    let c4 = c.before.before.before.before in
-    let q = c4.requires in
-    let x = c4.args.c.now in
+    let q = c.requires in
+    let x = c.args.c.now in
     let e : to_z w64 (of_z w64 c.of.result) ≡ pos (natural (integer_of x)) = to_z-of_z {w = w64} {z = c.of.result} (record {
       sfits = c.of.type_inv;
     }) ∙ integer_is x c.of.result q.1 c.of.ensures ∙ q.3 in
     rw e (tt, omega (arith, q.4)))  -- cast-put-number
     (λ c κs.
-    let c4 = c.before.before.before.before in
-    let q = c4.requires in
-    let x = c4.args.c.now in
+    let q = c.requires in
+    let x = c.args.c.now in
     let e : to_z w64 (of_z w64 c.of.result) ≡ pos (natural (integer_of x)) = to_z-of_z {w = w64} {z = c.of.result} (record {
       sfits = c.of.type_inv;
     }) ∙ integer_is x c.of.result q.1 c.of.ensures ∙ q.3 in
@@ -37,11 +35,9 @@ put_enumerated_spec =
     (λ c. search rules)  -- add-result
     (λ c. search rules)  -- same-length
     (λ c.
-    let c3 = c.before.before.before in
-    let c7 = c3.before.before.before.before in
-    let q = c7.requires in
-    let x = c7.args.c.now in
-    let e : to_z w64 (of_z w64 c3.of.result) ≡ pos (natural (integer_of x)) = to_z-of_z {w = w64} {z = c3.of.result} (record {
-      sfits = c3.of.type_inv;
-    }) ∙ integer_is x c3.of.result q.1 c3.of.ensures ∙ q.3 in
-    (refl, rw e at c.before.before.put_number.ensures)))  -- returns
+    let q = c.requires in
+    let x = c.args.c.now in
+    let e : to_z w64 (of_z w64 c.of.result) ≡ pos (natural (integer_of x)) = to_z-of_z {w = w64} {z = c.of.result} (record {
+      sfits = c.of.type_inv;
+    }) ∙ integer_is x c.of.result q.1 c.of.ensures ∙ q.3 in
+    (refl, rw e at c.put_number.ensures)))  -- returns

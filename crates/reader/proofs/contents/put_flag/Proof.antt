@@ -17,5 +17,5 @@ put_flag_spec =
     (λ c. search rules)  -- add-result
     (λ c. search rules)  -- same-length
     (λ c.
-    let a = c.before.before.before.before.args in
+    let a = c.args in
     (refl, ap (λ (x : ℕ). set a.buf.now a.to x) c.one_if.ensures)))  -- returns

@@ -23,14 +23,11 @@ put_integer_spec =
     (λ c κs. search rules)  -- put-eight-requires
     (λ c. search rules)  -- same-length
     (λ c.
-    let c2 = c.before.before in
-    let c3 = c2.before in
-    let c7 = c3.before.before.before.before in
-    let q = c7.requires in
-    let a = c7.args in
-    let z = integer_is a.c.now c3.of.result q.1 c3.of.ensures in
-    let e = rw (to_z-of_z {w = w64} {z = c3.of.result} (record { sfits = c3.of.type_inv }), z) at c2.put_eight.ensures in (
+    let q = c.requires in
+    let a = c.args in
+    let z = integer_is a.c.now c.of.result q.1 c.of.ensures in
+    let e = rw (to_z-of_z {w = w64} {z = c.of.result} (record { sfits = c.of.type_inv }), z) at c.put_eight.ensures in (
       refl,
-      part_filled a.buf-1.now (eight_of (integer_of a.c.now)) c2.put_eight.new.1.0 a.to 8 (sym (eight_length _))
+      part_filled a.buf.now (eight_of (integer_of a.c.now)) c.put_eight.new.1.0 a.to 8 (sym (eight_length _))
           q.2 e,
     )))  -- returns

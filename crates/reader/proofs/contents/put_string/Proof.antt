@@ -20,11 +20,8 @@ put_string_spec =
     (λ c κs. search rules)  -- copy-requires
     (λ c. search rules)  -- same-length
     (λ c.
-    let c2 = c.before.before in
-    let c6 = c2.before.before.before.before in
-    let c10 = c6.before.before.before.before in
-    let a = c10.args in (
+    let a = c.args in (
       refl,
-      number_filled a.buf-1.now c6.put_number.new.0 a.c.now c2.copy.new.1.0 a.to (length a.c.now)
-          (length a.c.now) c6.put_number.ensures refl c10.requires.1 c2.copy.ensures,
+      number_filled a.buf.now c.put_number.new.0 a.c.now c.copy.new.1.0 a.to (length a.c.now)
+          (length a.c.now) c.put_number.ensures refl c.requires.1 c.copy.ensures,
     )))  -- returns

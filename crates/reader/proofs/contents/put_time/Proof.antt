@@ -21,12 +21,9 @@ put_time_spec =
     (λ c κs. search rules)  -- put-requires
     (λ c. search rules)  -- same-length
     (λ c.
-    let c2 = c.before.before in
-    let c3 = c2.before in
-    let c7 = c3.before.before.before.before in
-    let q = c7.requires in
-    let a = c7.args in
-    let e = rw (c3.of.ensures.1 q.0) at c2.put.ensures in (
+    let q = c.requires in
+    let a = c.args in
+    let e = rw (c.of.ensures.1 q.0) at c.put.ensures in (
       refl,
-      part_filled a.buf-1.now (time_octets (time_of a.kind a.c.now)) c2.put.new.1.0 a.to 7 refl q.1 e,
+      part_filled a.buf.now (time_octets (time_of a.kind a.c.now)) c.put.new.1.0 a.to 7 refl q.1 e,
     )))  -- returns

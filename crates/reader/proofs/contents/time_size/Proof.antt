@@ -11,5 +11,5 @@ time_size_spec =
     tie.close
     (tie.spec
     (λ c κs. tt)  -- is-time-requires
-    (λ c. (time_size_lem _ _ (sym c.before.is_time.ensures ∙ c.if-is_time.true), omega arith))  -- returns
-    (λ c. (time_wrong _ _ (sym c.before.is_time.ensures ∙ c.if-is_time.false), omega arith)))  -- returns-2
+    (λ c. (time_size_lem _ _ (sym c.is_time.ensures ∙ c.if-is_time.true), omega arith))  -- returns
+    (λ c. (time_wrong _ _ (sym c.is_time.ensures ∙ c.if-is_time.false), omega arith)))  -- returns-2

@@ -77,11 +77,11 @@ abbrev judge-value-below : ℕ → In 4 judge_value_kinds.ps
 judge-value-below t =
     and 4 judge_value_kinds.ps (falls 4 judge_value_kinds.ps ◌<◌ μ-judge-value t) judge_value.Pre
 
-abbrev judge-members-Inv-loop : judge_members_lts.invariant-loop-j
+abbrev judge-members-Inv-loop : judge_members_lts.invariant-loop-end
 judge-members-Inv-loop table index w m indefinite level way₀ e s came₀ total₀ at₀ j₀ way came total at j =
     (at ≤ length m) × (length way ≡ 128) × Judging table w m indefinite level came total at j
 
-abbrev judge-members-μ-loop : judge_members_lts.decreases-loop-j
+abbrev judge-members-μ-loop : judge_members_lts.decreases-loop-end
 judge-members-μ-loop table index w m indefinite level way₀ e s came₀ total₀ at₀ j₀ way came total at j = length m - at
 
 abbrev judge-members-claims : ℕ → judge_members_lts.Claims
@@ -117,28 +117,28 @@ abbrev setting : (t : ℕ)
     (c : judge_members_lts.After-parts-s (judge-members-claims t) (judge-members-at t) judge_members.Post judge-members-Inv-loop judge-members-μ-loop)
     → Setting
 setting t c =
-    let a = c.before.before.before.before.args in
-    let q = c.before.before.before.before.requires.1 in
+    let a = c.args in
+    let q = c.requires.1 in
     record {
       b = a.table.now;
       index = a.index.now;
       w = a.w;
-      e = c.before.unpack-e.result;
+      e = c.unpack-e.result;
       s = c.parts-s.result;
       ready = q.ready;
       known = q.known;
       holds = q.holds;
-      entry = c.before.unpack-e.ensures;
+      entry = c.unpack-e.ensures;
       span = c.parts-s.ensures;
     }
 
 -- where it is known what stands at a place
 abbrev turn : (t : ℕ)
-    (c : judge_members_lts.In-Read-enter-2 (judge-members-claims t) (judge-members-at t) judge_members.Post judge-members-Inv-loop judge-members-μ-loop)
+    (c : judge_members_lts.After-next (judge-members-claims t) (judge-members-at t) judge_members.Post judge-members-Inv-loop judge-members-μ-loop)
     → Turn (setting t c.before.before.before.before)
 turn t c =
-    let a = c.before.before.before.before.before.before.before.before.args in
-    let l = c.before.before.loop-j in
+    let a = c.args in
+    let l = c.loop-end in
     record {
       m = a.m.now;
       indefinite = a.indefinite;
@@ -147,23 +147,23 @@ turn t c =
       total = l.total;
       at = l.at;
       j = l.j;
-      octets = λ i. omega (arith, c.before.before.before.before.before.before.shared_slice_known-2-1.given i);
-      short = c.before.before.before.before.before.before.before.before.requires.1.short;
-      levels = c.before.before.before.before.before.before.before.before.requires.1.levels;
+      octets = λ i. omega (arith, c.shared_slice_known-2-1.given i);
+      short = c.requires.1.short;
+      levels = c.requires.1.levels;
       low = l.invariant.0;
       so_far = l.invariant.2;
-      y = c.next-1.result;
-      stands = c.next-1.ensures;
+      y = c.next.result;
+      stands = c.next.ensures;
     }
 
 -- where an item is found to be of a part
 abbrev comes : (t : ℕ)
-    (c : judge_members_lts.Joined3 (judge-members-claims t) (judge-members-at t) judge_members.Post judge-members-Inv-loop judge-members-μ-loop)
+    (c : judge_members_lts.Joined-not-fits (judge-members-claims t) (judge-members-at t) judge_members.Post judge-members-Inv-loop judge-members-μ-loop)
     → Comes (turn t c.before.before.before.before.before)
 comes t c =
     let P = turn t c.before.before.before.before.before in
-    let i = c.before.before.before.enum_told-1.given.1 in
-    let x = c.if-k-eq-INTEGER in
+    let i = c.in-Item.is in
+    let x = c.if-not-fits in
     record {
       item = i;
       way = x.way;
@@ -180,24 +180,24 @@ comes t c =
           (λ u. item_same v.1 v.2 (v.3 ∙ u.6) v.4 v.5
           (item_here P i u.0.taken (eqb-true _ _ u.1.taken) _ _ u.2.ensures.0 u.4.ensures (eqb-true _ _ (sym u.7 ∙ y)) _))
           (λ u. absurd (true≢false (sym y ∙ u.2)))
-          c.before.if-c-gt-OVER.branch)
+          c.if-j-s.branch)
           x.branch;
       ways =
           ⊎_elim (λ v. ap length v.9 ∙ v.4.ensures.0)
-          (λ v. ap length v.1 ∙ c.before.before.before.before.before.before.before.loop-j.invariant.1)
+          (λ v. ap length v.1 ∙ c.loop-end.invariant.1)
           x.branch;
     }
 
 -- where its value is judged
 abbrev valued : (t : ℕ)
-    (c : judge_members_lts.After-judge-value (judge-members-claims t)
+    (c : judge_members_lts.After-judge_value (judge-members-claims t)
     (judge-members-at t) judge_members.Post judge-members-Inv-loop judge-members-μ-loop)
     → Valued (comes t c.before.before.before.before.before.before.before.before.before.before)
 valued t c =
     record {
-      deep = c.before.before.before.before.before.before.before.before.before.if-is_integer.false;
-      r = c.judge-value.result;
-      said = c.judge-value.ensures.1;
+      deep = c.if-level-depth.false;
+      r = c.judge_value.result;
+      said = c.judge_value.ensures.1;
     }
 
 -- the items in an entry
@@ -213,77 +213,68 @@ judge-members-half t =
     (λ c κs. search rules)  -- judge-members-parts-requires
     (λ c κs. omega (arith, count_few (setting t c)))  -- judge-members-node-size-requires
     (λ c.
-    let q = c.before.before.before.before.before.requires in
-    (omega arith, q.1.ways, judging_first (setting t c.before) _ c.node-size.ensures _ _ _ q.1.some))  -- judge-members-loop-holds
+    let q = c.requires in
+    (omega arith, q.1.ways, judging_first (setting t c.before) _ c.node_size-total.ensures _ _ _ q.1.some))  -- judge-members-loop-holds
     (λ c κs.
-    let c3 = c.before.before.before in
-    let c7 = c3.before.before.before.before in
-    (c7.args.index.now, judging_sound (setting t (c3)) c.before.loop-j.invariant.2, c7.requires.1.holds))  -- judge-members-next-requires
+    (c.args.index.now, judging_sound (setting t (c.before.before.before)) c.loop-end.invariant.2, c.requires.1.holds))  -- judge-members-next-requires
     (λ c. search rules)  -- judge-members-enum-told
     (λ c. search rules)  -- judge-members-enum-known-end
     (λ c κs. search rules)  -- judge-members-done-requires
     (λ c.
-    let c4 = c.before.before.before.before in (
-      c4.before.before.loop-j.invariant.1,
-      c.done.ensures ∙ judged_over (turn t (c4)) _ c.before.before.end-1.given.1,
+    (
+      c.loop-end.invariant.1,
+      c.done.ensures ∙ judged_over (turn t (c.before.before.before.before)) _ c.in-Over.is,
     ))  -- judge-members-returns
     (λ c. search rules)  -- judge-members-enum-known-cause
     (λ c. omega arith)  -- judge-members-sub-refused
     (λ c κs. search rules)  -- judge-members-refused-requires
     (λ c.
-    let c4 = c.before.before.before.before in (
-      c4.before.before.loop-j.invariant.1,
-      c.refused.ensures ∙ judged_stopped (turn t (c4)) _ c.before.before.cause-1.given.1,
+    (
+      c.loop-end.invariant.1,
+      c.refused.ensures ∙ judged_stopped (turn t (c.before.before.before.before)) _ c.in-Refused.is,
     ))  -- judge-members-returns-2
     (λ c. omega arith)  -- judge-members-add-from
-    (λ c. omega (arith, part_few (turn t c.before.before.before.before) c.if-c-gt-OVER.true))  -- judge-members-mul-if2
-    (λ c. part_few (turn t c.before.before.before.before) c.if-c-gt-OVER.true)  -- judge-members-array-read-if2
+    (λ c. omega (arith, part_few (turn t c.before.before.before.before) c.if-j-s.true))  -- judge-members-mul-if2
+    (λ c. part_few (turn t c.before.before.before.before) c.if-j-s.true)  -- judge-members-array-read-if2
     (λ c κs.
     let T = turn t c.before.before.before.before.before in
-    (part_inside T c.before.if-c-gt-OVER.true, part_near T c.before.if-c-gt-OVER.true))  -- judge-members-part-requires
-    (λ c. omega (arith, c.part.ensures.1))  -- judge-members-mul-first
+    (part_inside T c.if-j-s.true, part_near T c.if-j-s.true))  -- judge-members-part-requires
+    (λ c. omega (arith, c.part-record.ensures.1))  -- judge-members-mul-first
     (λ c.
-    let c2 = c.before.before in
-    type_few (turn t c2.before.before.before.before) c2.if-c-gt-OVER.true _ c.part.ensures.0)  -- judge-members-element-copy-out-first
+    type_few (turn t c.before.before.before.before.before.before) c.if-j-s.true _ c.part-record.ensures.0)  -- judge-members-element-copy-out-first
     (λ c κs. search rules)  -- judge-members-first-requires
     (λ c.
-    let c7 = c.before.before.before.before.before.before.before in
-    item_there (turn t c7.before.before) c7.enum_told-1.given.1)  -- judge-members-shared-slice-read-fits
+    item_there (turn t c.before.before.before.before.before.before.before.before.before) c.in-Item.is)  -- judge-members-shared-slice-read-fits
     (λ c.
     omega (
       arith,
-      c.shared-slice-known3.given
-          c.before.before.before.before.before.before.before.before.before.before.before.loop-j.at,
+      c.shared_slice_known-then-came-j-eq0-1.given
+          c.loop-end.at,
     ))  -- judge-members-cast-fits
     (λ c. omega arith)  -- judge-members-sub-rest
     (λ c. omega arith)  -- judge-members-part-rest-start
     (λ c. omega arith)  -- judge-members-part-rest-end
     (λ c κs.
-    let c10 = c.before.before.before.before.before.before.before.before.before.before in
-    let l = c10.loop-j in
-    (judging_sound (setting t c10.before.before) l.invariant.2, l.invariant.1))  -- judge-members-search-requires
+    let l = c.loop-end in
+    (judging_sound (setting t c.before.before.before.before.before.before.before.before.before.before.before.before) l.invariant.2, l.invariant.1))  -- judge-members-search-requires
     (λ c. search rules)  -- judge-members-enum-known-cause-2
     (λ c. omega arith)  -- judge-members-sub-refused-2
     (λ c κs. search rules)  -- judge-members-refused-requires-2
     (λ c.
-    let c4 = c.before.before.before.before in
-    let c11 = c4.before.before.before.before.before.before.before in (
-      c4.search.ensures.0,
-      c.refused2.ensures ∙ judged_unfit (turn t c11.before.before) c11.enum_told-1.given.1 _ _ _ c4.search.ensures.1
-          c.before.before.cause-in-Refused-enter-1.given.1,
+    (
+      c.search.ensures.0,
+      c.refused-in-Refused-search.ensures ∙ judged_unfit (turn t c.before.before.before.before.before.before.before.before.before.before.before.before.before) c.in-Item.is _ _ _ c.search.ensures.1
+          c.in-Refused-search.is,
     ))  -- judge-members-returns-3
     (λ c. search rules)  -- judge-members-enum-known-x
     (λ c.
-    let c4 = c.before.before.before.before in
-    let c11 = c4.before.before.before.before.before.before.before in
-    let z = found_low (turn t c11.before.before) c11.enum_told-1.given.1 _ _ _ c4.search.ensures.1
-    c.before.before.x-1.given.1 in
+    let z = found_low (turn t c.before.before.before.before.before.before.before.before.before.before.before.before.before) c.in-Item.is _ _ _ c.search.ensures.1
+    c.in-Part.is in
     omega arith)  -- judge-members-add-from-2
     (λ c. omega arith)  -- judge-members-sub-refused-3
     (λ c κs. search rules)  -- judge-members-refused-requires-3
     (λ c.
-    let c2 = c.before.before in
-    ((comes t (c2)).ways, c.refused3.ensures ∙ judged_level (comes t (c2)) c.before.if-is_integer.true))  -- judge-members-returns-4
+    ((comes t (c.before.before)).ways, c.refused-then-level-depth.ensures ∙ judged_level (comes t (c.before.before)) c.if-level-depth.true))  -- judge-members-returns-4
     (λ c. omega (arith, place_few (comes t c.before.before.before.before)))  -- judge-members-mul-came
     (λ c. place_few (comes t c.before.before.before.before))  -- judge-members-array-write-came
     (λ c. omega (arith, behind_few (comes t c.before.before.before.before.before)))  -- judge-members-add-j
@@ -292,9 +283,8 @@ judge-members-half t =
     (λ c. omega arith)  -- judge-members-sub-below
     (λ c. omega arith)  -- judge-members-sub-below-2
     (λ c κs.
-    let c9 = c.before.before.before.before.before.before.before.before.before in
-    let q = c9.before.before.before.before.before.before.before.before.before.before.before.before.before.requires in
-    let X = comes t (c9) in (
+    let q = c.requires in
+    let X = comes t (c.before.before.before.before.before.before.before.before.before) in (
       omega (arith, q.0),
       record {
         ready = q.1.ready;
@@ -308,37 +298,32 @@ judge-members-half t =
     (λ c. search rules)  -- judge-members-enum-known-cause-3
     (λ c κs. search rules)  -- judge-members-refused-requires-4
     (λ c.
-    let c4 = c.before.before.before.before in (
-      c4.judge-value.ensures.0,
-      c.refused4.ensures ∙ judged_refused (valued t (c4)) _ _ c.before.before.cause3.given.1,
+    (
+      c.judge_value.ensures.0,
+      c.refused-in-Refused-judge_value.ensures ∙ judged_refused (valued t (c.before.before.before.before)) _ _ c.in-Refused-judge_value.is,
     ))  -- judge-members-returns-5
     (λ c. search rules)  -- judge-members-enum-known-end-2
     (λ c. omega (arith, depth_few (valued t c.before.before.before)))  -- judge-members-mul-grow
-    (λ c. omega (arith, (sizes_few (valued t c.before.before.before) _ _ c.before.end2.given.1).1))  -- judge-members-add-grow
-    (λ c κs. sizes_few (valued t c.before.before.before) _ _ c.before.end2.given.1)  -- judge-members-grow-requires
+    (λ c. omega (arith, (sizes_few (valued t c.before.before.before) _ _ c.in-Done.is).1))  -- judge-members-add-grow
+    (λ c κs. sizes_few (valued t c.before.before.before) _ _ c.in-Done.is)  -- judge-members-grow-requires
     (λ c κs. search rules)  -- judge-members-holds-one-requires
     (λ c κs. search rules)  -- judge-members-done-requires-2
     (λ c.
-    let c3 = c.before.before.before in
-    let c5 = c3.before.before in
-    let c7 = c5.before.before in (
-      c7.judge-value.ensures.0,
-      c.done2.ensures ∙ judged_one (valued t (c7)) _ _ c5.end2.given.1 _ c3.grow.ensures _
-          c.before.before.holds_one.ensures c.before.if-in_segments.true,
+    (
+      c.judge_value.ensures.0,
+      c.done-then-holds_one.ensures ∙ judged_one (valued t (c.before.before.before.before.before.before.before)) _ _ c.in-Done.is _ c.grow-total.ensures _
+          c.holds_one.ensures c.if-holds_one.true,
     ))  -- judge-members-returns-6
     (λ c.
-    let c4 = c.before.before.before.before in
-    let Y = valued t c4.before.before in
-    omega (arith, value_further Y _ _ c4.end2.given.1, value_low Y _ _ c4.end2.given.1))  -- judge-members-loop-less
+    let Y = valued t c.before.before.before.before.before.before in
+    omega (arith, value_further Y _ _ c.in-Done.is, value_low Y _ _ c.in-Done.is))  -- judge-members-loop-less
     (λ c.
-    let c4 = c.before.before.before.before in
-    let c6 = c4.before.before in
-    let Y = valued t (c6) in (
-      value_low Y _ _ c4.end2.given.1,
-      c6.judge-value.ensures.0,
-      judged_turn Y _ _ c4.end2.given.1 _ c.before.before.grow.ensures _ c.before.holds_one.ensures c.if-in_segments.false
+    let Y = valued t (c.before.before.before.before.before.before) in (
+      value_low Y _ _ c.in-Done.is,
+      c.judge_value.ensures.0,
+      judged_turn Y _ _ c.in-Done.is _ c.grow-total.ensures _ c.holds_one.ensures c.if-holds_one.false
           _ (⊎_elim (λ v. inl (v.0.taken, v.2)) (λ v. inr (v.0.left, v.1))
-          c6.before.before.before.before.before.before.before.if-k-eq-BIT_STRING.branch),
+          c.if-e-eq-SET.branch),
     ))  -- judge-members-loop-again
 
 abbrev judge-value-claims : ℕ → judge_value_lts.Claims
@@ -364,72 +349,72 @@ judge-value-claims t = (
 )
 
 -- where the tags are opened
-abbrev at-notes : (t : ℕ) (c : judge_value_lts.Joined-e-eq-SEQUENCE (judge-value-claims t) (judge-value-at t) judge_value.Post) → length c.if-c-gt-OVER.notes ≡ 4
-at-notes t c = ⊎_elim (λ z. rw z.6 z.2.ensures.0) (λ z. rw z.1 refl) c.if-c-gt-OVER.branch
+abbrev at-notes : (t : ℕ) (c : judge_value_lts.Joined-e-gt0 (judge-value-claims t) (judge-value-at t) judge_value.Post) → length c.if-j-s.notes ≡ 4
+at-notes t c = ⊎_elim (λ z. rw z.6 z.2.ensures.0) (λ z. rw z.1 refl) c.if-j-s.branch
 
-abbrev at_under : (t : ℕ) (c : judge_value_lts.Joined-e-eq-SEQUENCE (judge-value-claims t) (judge-value-at t) judge_value.Post) →
-    let a = c.before.before.before.before.before.args in
-    Under a.table.now (record_of a.table.now a.w) a.m.now a.at (take (unpacked a.w).explicit c.if-c-gt-OVER.notes)
-    c.if-c-gt-OVER.at c.if-c-gt-OVER.from c.if-c-gt-OVER.end-1
+abbrev at_under : (t : ℕ) (c : judge_value_lts.Joined-e-gt0 (judge-value-claims t) (judge-value-at t) judge_value.Post) →
+    let a = c.args in
+    Under a.table.now (record_of a.table.now a.w) a.m.now a.at (take (unpacked a.w).explicit c.if-j-s.notes)
+    c.if-j-s.at c.if-j-s.from c.if-j-s.end
 at_under t c =
-    let a = c.before.before.before.before.before.args in
-    let q = c.before.before.before.before.before.requires.1 in
-    let u = c.before.before.unpack-e in
+    let a = c.args in
+    let q = c.requires.1 in
+    let u = c.unpack-e in
     ⊎_elim
     (λ z. rw (z.6, z.7, z.8, z.9)
     (under_tags q.ready q.is a.m.now a.at _ z.2.result z.2.ensures.1 z.4.given.0.0 z.4.given.1))
     (λ z. rw (z.1, z.2, z.3, z.4) (under_bare q.ready q.is u.result u.ensures a.m.now a.at a.from z.0.left q.headed _))
-    c.if-c-gt-OVER.branch
+    c.if-j-s.branch
 
-abbrev at_item : (t : ℕ) (c : judge_value_lts.Joined-e-eq-SEQUENCE (judge-value-claims t) (judge-value-at t) judge_value.Post) →
-    let a = c.before.before.before.before.before.args in Item a.table.now a.index.now a.w a.m.now a.at a.level
+abbrev at_item : (t : ℕ) (c : judge_value_lts.Joined-e-gt0 (judge-value-claims t) (judge-value-at t) judge_value.Post) →
+    let a = c.args in Item a.table.now a.index.now a.w a.m.now a.at a.level
 at_item t c =
-    let q = c.before.before.before.before.before.requires.1 in
-    let u = c.before.before.unpack-e in
+    let q = c.requires.1 in
+    let u = c.unpack-e in
     record {
       ready = q.ready;
       known = q.is;
-      all_octets = λ i. omega (arith, c.before.before.before.shared_slice_known-2-1.given i);
+      all_octets = λ i. omega (arith, c.shared_slice_known-2-1.given i);
       short = q.short;
       entry = u.result;
       entered = u.ensures;
-      notes = c.if-c-gt-OVER.notes;
+      notes = c.if-j-s.notes;
       four = at-notes t c;
-      at = c.if-c-gt-OVER.at;
-      from = c.if-c-gt-OVER.from;
-      end = c.if-c-gt-OVER.end-1;
+      at = c.if-j-s.at;
+      from = c.if-j-s.from;
+      end = c.if-j-s.end;
       under = at_under t c;
     }
 
 -- where the length is read
-abbrev at-contents : (t : ℕ) (c : judge_value_lts.Joined-e-eq-SEQUENCE (judge-value-claims t) (judge-value-at t) judge_value.Post) →
-    let a = c.before.before.before.before.before.before.before.before.before.args in
-    let x = c.before.before.before.before.if-c-gt-OVER in
-    Within (record_of a.table.now a.w) (take x.end-1 a.m.now) x.at x.end-1 c.if-n-ne1.start c.if-n-ne1.stop c.if-n-ne1.indefinite
+abbrev at-contents : (t : ℕ) (c : judge_value_lts.Joined-e-ne-CHOICE (judge-value-claims t) (judge-value-at t) judge_value.Post) →
+    let a = c.args in
+    let x = c.if-j-s in
+    Within (record_of a.table.now a.w) (take x.end a.m.now) x.at x.end c.if-came-j-eq0.start c.if-came-j-eq0.stop c.if-came-j-eq0.indefinite
 at-contents t c =
     let x = at_item t c.before.before.before.before in
     ⊎_elim
     (λ z. rw (z.5, z.6, z.7) (contents_sized x z.0.taken z.1.result (z.1.ensures.0 _) z.3.given.0.0 z.3.given.1))
     (λ z. rw (z.1, z.2, z.3) (contents_bare x z.0.left))
-    c.if-n-ne1.branch
+    c.if-came-j-eq0.branch
 
-abbrev at-filling : (t : ℕ) (c : judge_value_lts.Joined-e-eq-SEQUENCE (judge-value-claims t) (judge-value-at t) judge_value.Post) →
-    let a = c.before.before.before.before.before.before.before.before.before.args in
+abbrev at-filling : (t : ℕ) (c : judge_value_lts.Joined-e-ne-CHOICE (judge-value-claims t) (judge-value-at t) judge_value.Post) →
+    let a = c.args in
     Filling a.table.now a.index.now a.w a.m.now a.at a.level
 at-filling t c =
     record {
       item = at_item t c.before.before.before.before;
-      start = c.if-n-ne1.start;
-      stop = c.if-n-ne1.stop;
-      indefinite = c.if-n-ne1.indefinite;
+      start = c.if-came-j-eq0.start;
+      stop = c.if-came-j-eq0.stop;
+      indefinite = c.if-came-j-eq0.indefinite;
       within = at-contents t c;
     }
 
 -- where the contents are judged
-abbrev at_over : (t : ℕ) (c : judge_value_lts.Joined3 (judge-value-claims t) (judge-value-at t) judge_value.Post) →
-    let a = c.before.before.before.before.before.before.before.before.before.before.args in
-    let x = c.before.before.before.before.before.if-c-gt-OVER in
-    Over a.table.now (record_of a.table.now a.w) a.level (take x.end-1 a.m.now) x.at x.end-1 c.if-k-eq-INTEGER.stop c.if-k-eq-INTEGER.size
+abbrev at_over : (t : ℕ) (c : judge_value_lts.Joined-e (judge-value-claims t) (judge-value-at t) judge_value.Post) →
+    let a = c.args in
+    let x = c.if-j-s in
+    Over a.table.now (record_of a.table.now a.w) a.level (take x.end a.m.now) x.at x.end c.if-not-fits.stop c.if-not-fits.size
 at_over t c =
     let y = at-filling t c.before in
     ⊎_elim
@@ -444,23 +429,23 @@ at_over t c =
     (λ z. rw (z.10, z.11)
     (over_items y z.0.left z.5.result z.5.ensures.1 z.7.given.0.0 z.7.given.0.1.0 z.7.given.1))
     v)
-    c.if-k-eq-INTEGER.branch
+    c.if-not-fits.branch
 
-abbrev at_ended : (t : ℕ) (c : judge_value_lts.Joined3 (judge-value-claims t) (judge-value-at t) judge_value.Post) →
-    let a = c.before.before.before.before.before.before.before.before.before.before.args in
+abbrev at_ended : (t : ℕ) (c : judge_value_lts.Joined-e (judge-value-claims t) (judge-value-at t) judge_value.Post) →
+    let a = c.args in
     Ended a.table.now a.index.now a.w a.m.now a.at a.level
 at_ended t c =
     record {
       item = at_item t c.before.before.before.before.before;
-      stop = c.if-k-eq-INTEGER.stop;
-      count = c.if-k-eq-INTEGER.size;
+      stop = c.if-not-fits.stop;
+      count = c.if-not-fits.size;
       over = at_over t c;
     }
 
-abbrev at-way : (t : ℕ) (c : judge_value_lts.Joined3 (judge-value-claims t) (judge-value-at t) judge_value.Post) → length c.if-k-eq-INTEGER.way ≡ 128
+abbrev at-way : (t : ℕ) (c : judge_value_lts.Joined-e (judge-value-claims t) (judge-value-at t) judge_value.Post) → length c.if-not-fits.way ≡ 128
 at-way t c =
-    let w = c.before.before.before.before.before.before.before.before.before.before.requires.1.ways in
-    ⊎_elim (λ z. rw z.11 w) (λ v. ⊎_elim (λ z. rw z.6 w) (λ z. rw z.9 z.5.ensures.0) v) c.if-k-eq-INTEGER.branch
+    let w = c.requires.1.ways in
+    ⊎_elim (λ z. rw z.11 w) (λ v. ⊎_elim (λ z. rw z.6 w) (λ z. rw z.9 z.5.ensures.0) v) c.if-not-fits.branch
 
 -- the half of `judge_value`
 judge-value-half : {M : Type 1} (t : ℕ) → judge_value_lts.Closed (judge-value-claims t) (judge-value-at t) judge_value.Post M
@@ -471,13 +456,11 @@ judge-value-half t =
     judge_value.Post
     (λ c κs. tt)  -- judge-value-unpack-requires
     (λ c κs.
-    let c3 = c.before.before.before in
-    let c6 = c3.before.before.before in
-    let q = c6.requires.1 in (
-      c6.args.index.now,
+    let q = c.requires.1 in (
+      c.args.index.now,
       q.ready,
       q.is,
-      rw c3.unpack-e.ensures at c.before.if-c-gt-OVER.true,
+      rw c.unpack-e.ensures at c.if-j-s.true,
       q.headed,
       q.short,
       refl,
@@ -485,14 +468,12 @@ judge-value-half t =
     (λ c. search rules)  -- judge-value-enum-known-cause
     (λ c κs. tt)  -- judge-value-refused-requires
     (λ c.
-    let c4 = c.before.before.before.before in
-    let c11 = c4.before.before.before.before.before.before.before in
-    let q = c11.requires.1 in
-    let o = c4.«open» in
-    let x = c.before.before.cause-1.given in (
+    let q = c.requires.1 in
+    let o = c.«open» in
+    let x = c.cause-1.given in (
       q.ways,
       c.refused.ensures ∙ value_unopened q.ready q.is _ _ _ o.result o.ensures.1 x.0.0 x.0.1.0 x.1
-          c11.args.level,
+          c.args.level,
     ))  -- judge-value-returns
     (λ c. search rules)  -- judge-value-enum-known-x
     (λ c. item_within (at_item t c.before))  -- judge-value-sub-left
@@ -501,12 +482,9 @@ judge-value-half t =
     (λ c. search rules)  -- judge-value-enum-known-cause-2
     (λ c κs. tt)  -- judge-value-refused-requires-2
     (λ c.
-    let c4 = c.before.before.before.before in
-    let c5 = c4.before in
-    let c9 = c5.before.before.before.before in
-    let f = c.before.before.cause-in-Refused-enter-1.given in (
-      c9.before.before.before.before.before.requires.1.ways,
-      c.refused2.ensures ∙ value_unread (at_item t c9) c5.if-n-ne1.true _ (c4.read.ensures.0 _) f.0.0 f.1,
+    let f = c.cause-in-Refused-search-1.given in (
+      c.requires.1.ways,
+      c.refused-in-Refused-search.ensures ∙ value_unread (at_item t c.before.before.before.before.before.before.before.before.before) c.if-came-j-eq0.true _ (c.read.ensures.0 _) f.0.0 f.1,
     ))  -- judge-value-returns-2
     (λ c. search rules)  -- judge-value-enum-known-x-2
     (λ c. (contents_within (at-filling t c.before.before.before)).0)  -- judge-value-sub-c
@@ -514,64 +492,50 @@ judge-value-half t =
     (λ c. (contents_within (at-filling t c.before.before.before)).1)  -- judge-value-part-c-end
     (λ c. item_inside (at-filling t c.before.before.before.before.before.before).item)  -- judge-value-shared-slice-read-contents-size
     (λ c κs.
-    let c6 = c.before.before.before.before.before.before in
-    let c12 = c6.before.before.before.before.before.before in
-    let c15 = c12.before.before.before in
-    let q = c15.requires.1 in (
-      table_in c15.args.table.now q.is.0,
-      rw c12.unpack-e.ensures (its_entry q.ready q.is),
-      contents_short (at-filling t (c6)),
+    let q = c.requires.1 in (
+      table_in c.args.table.now q.is.0,
+      rw c.unpack-e.ensures (its_entry q.ready q.is),
+      contents_short (at-filling t (c.before.before.before.before.before.before)),
     ))  -- judge-value-contents-size-requires
     (λ c. item_inside (at-filling t c.before.before.before.before.before.before.before).item)  -- judge-value-shared-slice-read-judge-segments
     (λ c. (contents_within (at-filling t c.before.before.before.before.before.before.before)).1)  -- judge-value-sub-judge-segments
     (λ c κs.
-    let c6 = c.before.before.before.before.before.before in
-    let c7 = c6.before in
-    let c13 = c7.before.before.before.before.before.before in
-    let c16 = c13.before.before.before in
-    let q = c16.requires.1 in
-    let y = at-filling t (c7) in (
-      table_in c16.args.table.now q.is.0,
-      rw c13.unpack-e.ensures (its_entry q.ready q.is),
-      leaf_kind_lem y c6.if-k-eq-INTEGER.true,
+    let q = c.requires.1 in
+    let y = at-filling t (c.before.before.before.before.before.before.before) in (
+      table_in c.args.table.now q.is.0,
+      rw c.unpack-e.ensures (its_entry q.ready q.is),
+      leaf_kind_lem y c.if-not-fits.true,
       contents_short y,
       omega (arith, q.short),
-      c6.if-k-eq-INTEGER.true,
+      c.if-not-fits.true,
       λ h. ⊎_elim
-          (λ x. sym x.2.ensures.0 ∙ sym x.3 ∙ c.before.if-k-eq-BIT_STRING.true)
+          (λ x. sym x.2.ensures.0 ∙ sym x.3 ∙ c.if-e-eq-SET.true)
           (λ x. absurd (true≢false (sym (not-false _ x.0.left) ∙ h)))
-          c.before.before.if-is_integer.branch,
+          c.if-level-depth.branch,
     ))  -- judge-value-judge-segments-requires
     (λ c. search rules)  -- judge-value-enum-known-cause-3
     (λ c κs. tt)  -- judge-value-refused-requires-3
     (λ c.
-    let c4 = c.before.before.before.before in
-    let c11 = c4.before.before.before.before.before.before.before in
-    let c12 = c11.before in
-    let y = at-filling t (c12) in
-    let r = c4.judge-segments in
-    let x = c.before.before.cause3.given in (
-      c12.before.before.before.before.before.before.before.before.before.requires.1.ways,
-      c.refused3.ensures ∙ value_wrong y c11.if-k-eq-INTEGER.true r.result r.ensures x.0.0 x.0.1.0 x.1,
+    let y = at-filling t (c.before.before.before.before.before.before.before.before.before.before.before.before) in
+    let r = c.judge_segments in
+    let x = c.cause-in-Refused-judge_value-1.given in (
+      c.requires.1.ways,
+      c.refused-then-level-depth.ensures ∙ value_wrong y c.if-not-fits.true r.result r.ensures x.0.0 x.0.1.0 x.1,
     ))  -- judge-value-returns-3
     (λ c. search rules)  -- judge-value-enum-known-x-3
     (λ c.
-    let c3 = c.before.before.before in
-    let c10 = c3.before.before.before.before.before.before.before in
-    let y = at-filling t c10.before in
-    let r = c3.judge-segments in
-    let x = c.before.x3.given in
-    omega (arith, leaf_high y c10.if-k-eq-INTEGER.true r.result r.ensures x.0.0 x.0.1.0 x.1))  -- judge-value-add-stop
+    let y = at-filling t c.before.before.before.before.before.before.before.before.before.before.before in
+    let r = c.judge_segments in
+    let x = c.x-in-Done-1.given in
+    omega (arith, leaf_high y c.if-not-fits.true r.result r.ensures x.0.0 x.0.1.0 x.1))  -- judge-value-add-stop
     (λ c. (contents_within (at-filling t c.before.before.before)).0)  -- judge-value-sub-c-2
     (λ c. omega (arith, contents_within (at-filling t c.before.before.before)))  -- judge-value-part-c-start-2
     (λ c. (contents_within (at-filling t c.before.before.before)).1)  -- judge-value-part-c-end-2
     (λ c κs.
-    let c4 = c.before.before.before.before in
-    let c5 = c4.before in
-    let y = at-filling t (c5) in
-    let p = c5.before.before.before.before.before.before.before.before.before.requires in
+    let y = at-filling t (c.before.before.before.before.before) in
+    let p = c.requires in
     let q = p.1 in
-    let n = c4.if-k-eq-INTEGER.false in
+    let n = c.if-not-fits.false in
     let k = items_known y n in (
       omega (arith, p.0),
       record {
@@ -588,39 +552,31 @@ judge-value-half t =
     (λ c.
     (contents_within (at-filling t c.before.before.before.before.before.before.before.before.before)).1)  -- judge-value-sub-refused
     (λ c.
-    let c3 = c.before.before.before in
-    let c8 = c3.before.before.before.before.before in
-    let y = at-filling t c8.before in
-    let r = c3.judge-members in
-    let x = c.before.cause4.given in
-    omega (arith, items_low y c8.if-k-eq-INTEGER.false r.result r.ensures.1 x.0.0 x.0.1.0 x.1))  -- judge-value-add-refused
+    let y = at-filling t c.before.before.before.before.before.before.before.before.before in
+    let r = c.judge_members in
+    let x = c.cause-in-Refused-judge_members-1.given in
+    omega (arith, items_low y c.if-not-fits.false r.result r.ensures.1 x.0.0 x.0.1.0 x.1))  -- judge-value-add-refused
     (λ c κs. tt)  -- judge-value-refused-requires-4
     (λ c.
-    let c4 = c.before.before.before.before in
-    let c9 = c4.before.before.before.before.before in
-    let y = at-filling t c9.before in
-    let r = c4.judge-members in
-    let x = c.before.before.cause4.given in (
+    let y = at-filling t c.before.before.before.before.before.before.before.before.before.before in
+    let r = c.judge_members in
+    let x = c.cause-in-Refused-judge_members-1.given in (
       r.ensures.0,
-      c.refused4.ensures ∙ value_unheld y c9.if-k-eq-INTEGER.false r.result r.ensures.1 x.0.0 x.0.1.0 x.1,
+      c.refused-in-Refused-judge_value.ensures ∙ value_unheld y c.if-not-fits.false r.result r.ensures.1 x.0.0 x.0.1.0 x.1,
     ))  -- judge-value-returns-4
     (λ c. search rules)  -- judge-value-enum-known-x-4
     (λ c.
-    let c3 = c.before.before.before in
-    let c8 = c3.before.before.before.before.before in
-    let y = at-filling t c8.before in
-    let r = c3.judge-members in
-    let x = c.before.x4.given in
-    omega (arith, items_high y c8.if-k-eq-INTEGER.false r.result r.ensures.1 x.0.0 x.0.1.0 x.1))  -- judge-value-add-stop-2
+    let y = at-filling t c.before.before.before.before.before.before.before.before.before in
+    let r = c.judge_members in
+    let x = c.x-in-Done-judge_members-1.given in
+    omega (arith, items_high y c.if-not-fits.false r.result r.ensures.1 x.0.0 x.0.1.0 x.1))  -- judge-value-add-stop-2
     (λ c. omega (arith, item_tags (at_ended t c.before.before.before.before)))  -- judge-value-cast-close
     (λ c κs. item_closes (at_ended t c.before.before.before.before))  -- judge-value-close-requires
     (λ c.
-    let c5 = c.before.before.before.before.before in
-    (at-way t (c5), value_closed (at_ended t (c5)) _ c.close.ensures))  -- judge-value-returns-5
+    (at-way t (c.before.before.before.before.before), value_closed (at_ended t (c.before.before.before.before.before)) _ c.close.ensures))  -- judge-value-returns-5
     (λ c κs. tt)  -- judge-value-done-requires
     (λ c.
-    let c3 = c.before.before.before in
-    (at-way t (c3), c.done.ensures ∙ value_over (at_ended t (c3)) c.before.if-in_segments.false))  -- judge-value-returns-6
+    (at-way t (c.before.before.before), c.done.ensures ∙ value_over (at_ended t (c.before.before.before)) c.if-holds_one.false))  -- judge-value-returns-6
 
 pub +judge_members_judge_value_spec : {M : Type 1} → statement M
 +judge_members_judge_value_spec = close μ-judge-members μ-judge-value judge-members-half judge-value-half

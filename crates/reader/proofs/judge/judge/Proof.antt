@@ -14,19 +14,19 @@ judge_spec =
     (tie.spec
     (λ c κs. tt)  -- refused-requires
     (λ c.
-    (c.before.before.before.before.requires.3, c.refused.ensures ∙ message_empty (table_in _) 24 _ _ c.before.if-m-eq0.true))  -- returns
+    (c.requires.3, c.refused.ensures ∙ message_empty (table_in _) 24 _ _ c.if-m-eq0.true))  -- returns
     (λ c.
-    let q = c.before.before.before.requires in
+    let q = c.requires in
     omega (arith, q.1, q.0.filled.count, q.0.filled.few))  -- cast-whole
     (λ c κs. tt)  -- whole-requires
     (λ c κs.
-    let q = c.before.before.before.before.before.requires in
-    let k = message_known _ _ q.1 c.before.whole.ensures in
+    let q = c.requires in
+    let k = message_known _ _ q.1 c.whole.ensures in
     record {
       ready = q.0;
       known = k.0;
       holds = k.1;
-      some = λ _. omega (arith, c.before.before.if-m-eq0.false);
+      some = λ _. omega (arith, c.if-m-eq0.false);
       short = q.2;
       levels = omega arith;
       ways = q.3;
@@ -37,35 +37,27 @@ judge_spec =
     (λ c. omega (arith, c.if-end-m.true))  -- sub-refused
     (λ c κs. tt)  -- refused-requires-3
     (λ c.
-    let c3 = c.before.before.before in
-    let c5 = c3.before.before in
-    let c7 = c5.before.before in
-    let w = c7.whole in
-    let r = c5.judge_members in
-    let x = c3.end-1.given in (
+    let w = c.whole in
+    let r = c.judge_members in
+    let x = c.end-1.given in (
       r.ensures.0,
-      c.refused-then-end-m.ensures ∙ message_trailing _ _ 24 _ c7.before.if-m-eq0.false w.result w.ensures r.result r.ensures.1
-          x.0.0 x.0.1.0 x.1 c.before.if-end-m.true,
+      c.refused-then-end-m.ensures ∙ message_trailing _ _ 24 _ c.if-m-eq0.false w.result w.ensures r.result r.ensures.1
+          x.0.0 x.0.1.0 x.1 c.if-end-m.true,
     ))  -- returns-2
     (λ c κs. tt)  -- done-requires
     (λ c.
-    let c4 = c.before.before.before.before in
-    let c6 = c4.before.before in
-    let w = c6.whole in
-    let r = c4.judge_members in
-    let x = c.before.before.cause-1.given in (
+    let w = c.whole in
+    let r = c.judge_members in
+    let x = c.cause-1.given in (
       r.ensures.0,
-      c.refused-in-Refused.ensures ∙ message_refused _ _ 24 _ c6.before.if-m-eq0.false w.result w.ensures r.result r.ensures.1
+      c.refused-in-Refused.ensures ∙ message_refused _ _ 24 _ c.if-m-eq0.false w.result w.ensures r.result r.ensures.1
           x.0.0 x.0.1.0 x.1,
     ))  -- returns-3
     (λ c.
-    let c3 = c.before.before.before in
-    let c5 = c3.before.before in
-    let c7 = c5.before.before in
-    let w = c7.whole in
-    let r = c5.judge_members in
-    let x = c3.end-1.given in (
+    let w = c.whole in
+    let r = c.judge_members in
+    let x = c.end-1.given in (
       r.ensures.0,
-      c.done.ensures ∙ message_done _ _ 24 _ c7.before.if-m-eq0.false w.result w.ensures r.result r.ensures.1
-          x.0.0 x.0.1.0 x.1 c.before.if-end-m.false,
+      c.done.ensures ∙ message_done _ _ 24 _ c.if-m-eq0.false w.result w.ensures r.result r.ensures.1
+          x.0.0 x.0.1.0 x.1 c.if-end-m.false,
     )))  -- returns-4

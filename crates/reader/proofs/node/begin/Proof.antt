@@ -15,47 +15,38 @@ begin_spec =
     tie.close
     (tie.spec
     (λ c.
-    let a = c.before.before.args in
+    let a = c.args in
     let z = opening_none a.kind a.n c.if-kind-eq-MESSAGE.true in
     (rw z.1 (omega arith), rw z.0 refl))  -- returns
     (λ c κs. search rules)  -- node-size-requires
     (λ c κs.
-    let c4 = c.before.before.before.before in
-    let a = c4.args in
-    omega (arith, c4.requires.1, opening_long a.kind a.n c.before.before.if-kind-eq-MESSAGE.false))  -- begin-node-requires
+    let a = c.args in
+    omega (arith, c.requires.1, opening_long a.kind a.n c.if-kind-eq-MESSAGE.false))  -- begin-node-requires
     (λ c κs. search rules)  -- has-members-requires
     (λ c. search rules)  -- add-p
     (λ c. search rules)  -- cast-buf
     (λ c.
-    let c4 = c.before.before.before.before in
-    let c7 = c4.before.before.before in
-    let c9 = c7.before.before in
-    let a = c9.args in
+    let a = c.args in
     omega (
       arith,
-      c9.requires.1,
-      ap length (opening_members a.kind a.n c7.if-kind-eq-MESSAGE.false (sym c.before.has_members.ensures
+      c.requires.1,
+      ap length (opening_members a.kind a.n c.if-kind-eq-MESSAGE.false (sym c.has_members.ensures
           ∙ c.if-has_members.true)),
-      simp length-sets at (ap length c4.begin_node.ensures),
+      simp length-sets at (ap length c.begin_node.ensures),
     ))  -- slice-write-buf
     (λ c. search rules)  -- add-result
-    (λ c. simp length-set (simp length-sets at (ap length c.before.before.before.before.begin_node.ensures)))  -- same-length
+    (λ c. simp length-set (simp length-sets at (ap length c.begin_node.ensures)))  -- same-length
     (λ c.
-    let c4 = c.before.before.before.before in
-    let c6 = c4.before.before in
-    let c7 = c6.before in
-    let a = c7.before.before.args in (
-      ap (λ (k : ℕ). a.to + k) c6.node_size-size.ensures,
-      four_stores a.buf-1.now _ _ _ c4.begin_node.ensures ∙ ap (sets a.buf-1.now _) (sym (opening_members _ _
-          c7.if-kind-eq-MESSAGE.false (sym c.before.has_members.ensures ∙ c.if-has_members.true))),
+    let a = c.args in (
+      ap (λ (k : ℕ). a.to + k) c.node_size-size.ensures,
+      four_stores a.buf.now _ _ _ c.begin_node.ensures ∙ ap (sets a.buf.now _) (sym (opening_members _ _
+          c.if-kind-eq-MESSAGE.false (sym c.has_members.ensures ∙ c.if-has_members.true))),
     ))  -- returns-2
     (λ c. search rules)  -- add-result-2
-    (λ c. simp length-sets at (ap length c.before.before.before.before.begin_node.ensures))  -- same-length-2
+    (λ c. simp length-sets at (ap length c.begin_node.ensures))  -- same-length-2
     (λ c.
-    let c4 = c.before.before.before.before in
-    let c6 = c4.before.before in
-    let c7 = c6.before in (
-      ap (λ (k : ℕ). c7.before.before.args.to + k) c6.node_size-size.ensures,
-      c4.begin_node.ensures ∙ ap (sets _ _) (sym (opening_others _ _ c7.if-kind-eq-MESSAGE.false (sym c.before.has_members.ensures
+    (
+      ap (λ (k : ℕ). c.args.to + k) c.node_size-size.ensures,
+      c.begin_node.ensures ∙ ap (sets _ _) (sym (opening_others _ _ c.if-kind-eq-MESSAGE.false (sym c.has_members.ensures
           ∙ c.if-has_members.false))),
     )))  -- returns-3

@@ -13,18 +13,16 @@ finish_spec =
     (tie.spec
     (λ c κs. search rules)  -- has-members-requires
     (λ c κs.
-    c.before.before.before.before.requires.0 (sym c.before.before.has_members.ensures ∙ c.before.if-has_members.true))  -- put-absent-requires
+    c.requires.0 (sym c.has_members.ensures ∙ c.if-has_members.true))  -- put-absent-requires
     (λ c. search rules)  -- same-length
     (λ c.
-    let c4 = c.before.before.before.before in
-    c.before.before.put_absent.ensures ∙ sym (finished_members _ _ _ _ _ _ (sym c4.before.has_members.ensures
-    ∙ c4.if-has_members.true)))  -- returns
+    c.put_absent.ensures ∙ sym (finished_members _ _ _ _ _ _ (sym c.has_members.ensures
+    ∙ c.if-has_members.true)))  -- returns
     (λ c.
-    omega (arith, c.before.before.before.before.requires.1 (sym c.before.before.has_members.ensures ∙ c.before.if-has_members.false)))  -- add-put-number
+    omega (arith, c.requires.1 (sym c.has_members.ensures ∙ c.if-has_members.false)))  -- add-put-number
     (λ c κs.
-    let h = c.before.before.before.before.requires.1 (sym c.before.before.has_members.ensures ∙ c.before.if-has_members.false) in
+    let h = c.requires.1 (sym c.has_members.ensures ∙ c.if-has_members.false) in
     (omega (arith, h.0), h.1))  -- put-number-requires
     (λ c. search rules)  -- same-length-2
     (λ c.
-    let c4 = c.before.before.before.before in
-    c.before.before.put_number.ensures ∙ sym (finished_list _ _ _ _ _ _ (sym c4.before.has_members.ensures ∙ c4.if-has_members.false))))  -- returns-2
+    c.put_number.ensures ∙ sym (finished_list _ _ _ _ _ _ (sym c.has_members.ensures ∙ c.if-has_members.false))))  -- returns-2

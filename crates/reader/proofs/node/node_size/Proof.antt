@@ -12,16 +12,14 @@ node_size_spec =
     (tie.spec
     (λ c κs. search rules)  -- has-members-requires
     (λ c. search rules)  -- add-result
-    (λ c. sym (node_members _ _ (sym c.before.has_members.ensures ∙ c.if-has_members.true)))  -- returns
+    (λ c. sym (node_members _ _ (sym c.has_members.ensures ∙ c.if-has_members.true)))  -- returns
     (λ c κs. search rules)  -- is-list-requires
     (λ c.
-    sym (node_list _ _ (sym c.before.before.before.has_members.ensures ∙ c.before.before.if-has_members.false)
-    (sym c.before.is_list.ensures ∙ c.if-is_list.true)))  -- returns-2
+    sym (node_list _ _ (sym c.has_members.ensures ∙ c.if-has_members.false)
+    (sym c.is_list.ensures ∙ c.if-is_list.true)))  -- returns-2
     (λ c.
-    let c3 = c.before.before.before in
-    sym (node_choice _ _ (sym c3.before.has_members.ensures ∙ c3.if-has_members.false) (sym c.before.before.is_list.ensures
-    ∙ c.before.if-is_list.false) c.if-kind-eq-CHOICE.true))  -- returns-3
+    sym (node_choice _ _ (sym c.has_members.ensures ∙ c.if-has_members.false) (sym c.is_list.ensures
+    ∙ c.if-is_list.false) c.if-kind-eq-CHOICE.true))  -- returns-3
     (λ c.
-    let c3 = c.before.before.before in
-    sym (node_none _ _ (sym c3.before.has_members.ensures ∙ c3.if-has_members.false) (sym c.before.before.is_list.ensures
-    ∙ c.before.if-is_list.false) c.if-kind-eq-CHOICE.false)))  -- returns-4
+    sym (node_none _ _ (sym c.has_members.ensures ∙ c.if-has_members.false) (sym c.is_list.ensures
+    ∙ c.if-is_list.false) c.if-kind-eq-CHOICE.false)))  -- returns-4

@@ -29,6 +29,6 @@ put_absent_spec =
     (λ c. omega arith)  -- slice-write-buf
     (λ c. search rules)  -- add-i
     (λ c. omega arith)  -- loop-less
-    (λ c. (omega arith, rw length-set c.before.loop-i.invariant.1, absent_turn _ _ _ _ c.loop-i-test.true c.before.loop-i.invariant.2))  -- loop-again
-    (λ c. c.before.loop-i.invariant.1)  -- same-length
-    (λ c. absent_end _ _ _ _ c.loop-i-test.false c.before.loop-i.invariant.2))  -- returns
+    (λ c. (omega arith, rw length-set c.loop-i.invariant.1, absent_turn _ _ _ _ c.loop-i-test.true c.loop-i.invariant.2))  -- loop-again
+    (λ c. c.loop-i.invariant.1)  -- same-length
+    (λ c. absent_end _ _ _ _ c.loop-i-test.false c.loop-i.invariant.2))  -- returns

@@ -12,14 +12,14 @@ put_place_spec =
     tie.close
     (tie.spec
     (λ c κs. search rules)  -- has-members-requires
-    (λ c. omega (arith, c.before.before.before.requires.0 (sym c.before.has_members.ensures ∙ c.if-has_members.true)))  -- add-p
-    (λ c. omega (arith, c.before.before.before.requires.0 (sym c.before.has_members.ensures ∙ c.if-has_members.true)))  -- add-p-2
-    (λ c. omega (arith, c.before.before.before.requires.0 (sym c.before.has_members.ensures ∙ c.if-has_members.true)))  -- slice-write-buf
+    (λ c. omega (arith, c.requires.0 (sym c.has_members.ensures ∙ c.if-has_members.true)))  -- add-p
+    (λ c. omega (arith, c.requires.0 (sym c.has_members.ensures ∙ c.if-has_members.true)))  -- add-p-2
+    (λ c. omega (arith, c.requires.0 (sym c.has_members.ensures ∙ c.if-has_members.true)))  -- slice-write-buf
     (λ c. search rules)  -- same-length
-    (λ c. sym (noted_member _ _ _ _ (sym c.before.has_members.ensures ∙ c.if-has_members.true)))  -- returns
-    (λ c. omega (arith, c.before.before.before.before.requires.1 c.if-kind-eq-CHOICE.true))  -- add-p-3
-    (λ c. omega (arith, c.before.before.before.before.requires.1 c.if-kind-eq-CHOICE.true))  -- cast-buf
-    (λ c. omega (arith, c.before.before.before.before.requires.1 c.if-kind-eq-CHOICE.true))  -- slice-write-buf-2
+    (λ c. sym (noted_member _ _ _ _ (sym c.has_members.ensures ∙ c.if-has_members.true)))  -- returns
+    (λ c. omega (arith, c.requires.1 c.if-kind-eq-CHOICE.true))  -- add-p-3
+    (λ c. omega (arith, c.requires.1 c.if-kind-eq-CHOICE.true))  -- cast-buf
+    (λ c. omega (arith, c.requires.1 c.if-kind-eq-CHOICE.true))  -- slice-write-buf-2
     (λ c. search rules)  -- same-length-2
-    (λ c. sym (noted_choice _ _ _ _ (sym c.before.before.has_members.ensures ∙ c.before.if-has_members.false) c.if-kind-eq-CHOICE.true))  -- returns-2
-    (λ c. sym (noted_others _ _ _ _ (sym c.before.before.has_members.ensures ∙ c.before.if-has_members.false) c.if-kind-eq-CHOICE.false)))  -- returns-3
+    (λ c. sym (noted_choice _ _ _ _ (sym c.has_members.ensures ∙ c.if-has_members.false) c.if-kind-eq-CHOICE.true))  -- returns-2
+    (λ c. sym (noted_others _ _ _ _ (sym c.has_members.ensures ∙ c.if-has_members.false) c.if-kind-eq-CHOICE.false)))  -- returns-3

@@ -23,35 +23,29 @@ put_way_spec =
     (tie.spec
     invariant-loop
     decreases-loop
-    (λ c. (omega arith, omega arith, refl, way_none c.before.args.buf-1.now _ c.before.args.way.now))  -- loop-holds
+    (λ c. (omega arith, omega arith, refl, way_none c.args.buf.now _ c.args.way.now))  -- loop-holds
     (λ c. search rules)  -- mul-x
-    (λ c. omega (arith, c.before.before.before.requires.0))  -- element-copy-out-x
-    (λ c κs. omega (arith, c.before.before.before.before.before.requires.2, c.before.before.before.loop-i.invariant))  -- begin-node-requires
+    (λ c. omega (arith, c.requires.0))  -- element-copy-out-x
+    (λ c κs. omega (arith, c.requires.2, c.loop-i.invariant))  -- begin-node-requires
     (λ c.
-    let c6 = c.before.before.before.before.before.before in
-    omega (arith, c6.before.before.requires.2, c6.loop-i.invariant))  -- add-p
+    omega (arith, c.requires.2, c.loop-i.invariant))  -- add-p
     (λ c. omega arith)  -- cast-buf
     (λ c.
-    let c6 = c.before.before.before.before.before.before in
-    omega (arith, c6.before.before.requires.2, c6.loop-i.invariant, simp length-sets at (ap length c.before.before.begin_node.ensures)))  -- slice-write-buf
+    omega (arith, c.requires.2, c.loop-i.invariant, simp length-sets at (ap length c.begin_node.ensures)))  -- slice-write-buf
     (λ c.
-    let c6 = c.before.before.before.before.before.before in
-    omega (arith, c6.before.before.requires.2, c6.loop-i.invariant))  -- add-next
+    omega (arith, c.requires.2, c.loop-i.invariant))  -- add-next
     (λ c. search rules)  -- add-i
     (λ c. omega arith)  -- loop-less
     (λ c.
-    let c2 = c.before.before in
-    let c5 = c2.before.before.before in
-    let c6 = c5.before in
-    let l = c6.loop-i in (
+    let l = c.loop-i in (
       omega arith,
       omega (arith, l.invariant.1),
-      simp length-set (simp length-sets at (ap length c2.begin_node.ensures)) ∙ l.invariant.2,
-      way_step _ _ _ _ _ (omega (arith, c6.before.before.requires.0, c5.loop-i-test.true)) l.invariant.1 l.invariant.3
-          c2.begin_node.ensures,
+      simp length-set (simp length-sets at (ap length c.begin_node.ensures)) ∙ l.invariant.2,
+      way_step _ _ _ _ _ (omega (arith, c.requires.0, c.loop-i-test.true)) l.invariant.1 l.invariant.3
+          c.begin_node.ensures,
     ))  -- loop-again
-    (λ c. c.before.loop-i.invariant.2)  -- same-length
+    (λ c. c.loop-i.invariant.2)  -- same-length
     (λ c.
-    let l = c.before.loop-i in
-    let e : l.i ≡ c.before.before.before.args.depth = omega (arith, l.invariant.0, c.loop-i-test.false) in
+    let l = c.loop-i in
+    let e : l.i ≡ c.args.depth = omega (arith, l.invariant.0, c.loop-i-test.false) in
     (rw e at l.invariant.1, rw e at l.invariant.3)))  -- returns

@@ -91,13 +91,13 @@ abbrev place-value-below : ℕ → In 5 place_value_kinds.ps
 place-value-below t =
     and 5 place_value_kinds.ps (falls 5 place_value_kinds.ps ◌<◌ μ-place-value t) place_value.Pre
 
-abbrev place-members-Inv-loop : place_members_lts.invariant-loop-i
+abbrev place-members-Inv-loop : place_members_lts.invariant-loop-began
 place-members-Inv-loop table index w m indefinite buf₀ to way₀ e s none began last next₀ at₀ j₀ count₀ buf way next at j count =
     (length way ≡ 128)
     × (length buf ≡ length buf₀)
     × ((first : List ℕ) (X : Started table index w m indefinite first to e s began last buf₀) → State X buf at next j count)
 
-abbrev place-members-μ-loop : place_members_lts.decreases-loop-i
+abbrev place-members-μ-loop : place_members_lts.decreases-loop-began
 place-members-μ-loop table index w m indefinite buf₀ to way₀ e s none began last next₀ at₀ j₀ count₀ buf way next at j count =
     if (eqb e.kind 17) (s.count - j) λ _. length m - at
 
@@ -142,170 +142,164 @@ place-members-claims t = (
 -- what is required, once the parts are known
 at-given : (t : ℕ) (c : place_members_lts.After-parts-s (place-members-claims t) (place-members-at t)
     place_members.Post place-members-Inv-loop place-members-μ-loop) →
-    let a = c.before.before.before.before.before.args in
-    Given a.table.now a.index.now a.w a.m.now a.indefinite a.buf-1.now a.to c.before.unpack-e.result c.parts-s.result
+    let a = c.args in
+    Given a.table.now a.index.now a.w a.m.now a.indefinite a.buf.now a.to c.unpack-e.result c.parts-s.result
 at-given t c =
-    let p = c.before.before.before.before.before.requires.1 in
+    let p = c.requires.1 in
     record {
       ready = p.ready;
       known = p.known;
       holds = p.holds;
-      octets = λ k. omega (arith, c.before.before.before.shared_slice_known-2-1.given k);
+      octets = λ k. omega (arith, c.shared_slice_known-2-1.given k);
       short = p.short;
       fits = p.fits;
-      entry = c.before.unpack-e.ensures;
+      entry = c.unpack-e.ensures;
       span = c.parts-s.ensures;
     }
 
 -- where the members of a SET begin
-at-located : (t : ℕ) (c : place_members_lts.Joined-e-eq-SEQUENCE (place-members-claims t) (place-members-at t)
+at-located : (t : ℕ) (c : place_members_lts.Joined-e-eq-SET (place-members-claims t) (place-members-at t)
     place_members.Post place-members-Inv-loop place-members-μ-loop) →
-    let a = c.before.before.before.before.before.before.before.args in
-    (length c.if-kind-eq-BOOLEAN.way ≡ 128) × (length c.if-kind-eq-BOOLEAN.began ≡ 16)
+    let a = c.args in
+    (length c.if-e-eq-SET.way ≡ 128) × (length c.if-e-eq-SET.began ≡ 16)
     × ((ms : List Member) → held a.table.now a.w ≡ inside (Set ms) → Spotted (table_in a.table.now) ms a.indefinite a.m.now
-    c.if-kind-eq-BOOLEAN.began
-    c.if-kind-eq-BOOLEAN.new)
+    c.if-e-eq-SET.began
+    c.if-e-eq-SET.new)
 at-located t c =
-    let p = c.before.before.before.before.before.before.before.requires.1 in
+    let p = c.requires.1 in
     ⊎_elim
     (λ x. (rw x.4 x.3.ensures.1, rw x.5 x.3.ensures.0, rw (x.5, x.6) x.3.ensures.2))
     (λ x. (rw x.1 p.ways, rw x.2 refl, λ ms q. absurd (no_members (at-given t c.before.before) x.0.left ms q)))
-    c.if-kind-eq-BOOLEAN.branch
+    c.if-e-eq-SET.branch
 
 -- what is known before the loop
-at-started : (t : ℕ) (c : place_members_lts.After-begin (place-members-claims t) (place-members-at t)
+at-started : (t : ℕ) (c : place_members_lts.After-begin-next (place-members-claims t) (place-members-at t)
     place_members.Post place-members-Inv-loop place-members-μ-loop) →
-    let a = c.before.before.before.before.before.before.before.before.before.args in
-    Started a.table.now a.index.now a.w a.m.now a.indefinite a.buf-1.now a.to
-    c.before.before.before.before.before.unpack-e.result c.before.before.before.before.parts-s.result c.before.before.if-kind-eq-BOOLEAN.began
-    c.before.before.if-kind-eq-BOOLEAN.new
-    c.begin.new.1.1.0
+    let a = c.args in
+    Started a.table.now a.index.now a.w a.m.now a.indefinite a.buf.now a.to
+    c.unpack-e.result c.parts-s.result c.if-e-eq-SET.began
+    c.if-e-eq-SET.new
+    c.begin-next.new.1.1.0
 at-started t c = record {
   given = at-given t c.before.before.before.before;
   spotted = (at-located t
       c.before.before).2;
-  opening = c.begin.ensures.1;
+  opening = c.begin-next.ensures.1;
 }
 
-abbrev Starts : (t : ℕ) → place_members_lts.After-begin (place-members-claims t) (place-members-at t)
+abbrev Starts : (t : ℕ) → place_members_lts.After-begin-next (place-members-claims t) (place-members-at t)
     place_members.Post place-members-Inv-loop place-members-μ-loop → List ℕ → Type 0
-Starts t c first = let a = c.before.before.before.before.before.before.before.before.before.args in
+Starts t c first = let a = c.args in
     Started a.table.now a.index.now a.w a.m.now a.indefinite first a.to
-    c.before.before.before.before.before.unpack-e.result c.before.before.before.before.parts-s.result c.before.before.if-kind-eq-BOOLEAN.began
-    c.before.before.if-kind-eq-BOOLEAN.new
-    c.begin.new.1.1.0
+    c.unpack-e.result c.parts-s.result c.if-e-eq-SET.began
+    c.if-e-eq-SET.new
+    c.begin-next.new.1.1.0
 
 -- a member that came
-at-came : (t : ℕ) (c : place_members_lts.Else-kind-eq-BIT_STRING (place-members-claims t) (place-members-at t)
+at-came : (t : ℕ) (c : place_members_lts.Else-k-s (place-members-claims t) (place-members-at t)
     place_members.Post place-members-Inv-loop place-members-μ-loop) →
-    let k = c.before.before.before.before.before.before.following.result in
-    let x = c.before.before.before.before.before.before.before.before.before.before.before.before.before.before.before.if-kind-eq-BOOLEAN in
+    let k = c.following-k.result in
+    let x = c.if-e-eq-SET in
     (k < 16) × (1 ≤ get_or x.began k 0) × (get_or x.began k 0 ≤ 8193)
 at-came t c =
-    let c4 = c.before.before.before.before in
-    let c6 = c4.before.before in
-    let c10 = c6.before.before.before.before in
-    let X = at-started t c10.before.before.before in
-    let z = set_came X (c10.loop-i.invariant.2 _ X) c6.before.before.if-kind-eq-INTEGER.true _ c6.following.ensures c4.put_absent.ensures c.if-kind-eq-BIT_STRING.false in
+    let X = at-started t c.before.before.before.before.before.before.before.before.before.before.before.before.before in
+    let z = set_came X (c.loop-began.invariant.2 _ X) c.if-e-eq-SET-2.true _ c.following-k.ensures c.put_absent.ensures c.if-k-s.false in
     (omega (arith, z.0, its_few X.given), z.1, omega (arith, z.1, z.2, X.given.short))
 
 -- the item that comes
-at_item : (t : ℕ) (c : place_members_lts.Joined2 (place-members-claims t) (place-members-at t)
+at_item : (t : ℕ) (c : place_members_lts.Joined-e-eq-SET-2 (place-members-claims t) (place-members-at t)
     place_members.Post place-members-Inv-loop place-members-μ-loop) {first : List ℕ} (X : Starts t
     c.before.before.before.before.before first) →
-    Coming X c.before.before.loop-i.count c.if-kind-eq-INTEGER.buf-1 c.if-kind-eq-INTEGER.at c.before.before.loop-i.next-1 c.if-kind-eq-INTEGER.j
+    Coming X c.loop-began.count c.if-e-eq-SET-2.buf c.if-e-eq-SET-2.at c.loop-began.next c.if-e-eq-SET-2.j
 at_item t c X =
-    let L = c.before.before.loop-i.invariant.2 _ X in
+    let L = c.loop-began.invariant.2 _ X in
     ⊎_elim
     (λ x. rw (x.9, x.10, x.11) (set_comes X L x.0.taken _ x.2.ensures x.4.ensures x.8.left))
     (⊎_elim
     (λ x. rw (x.5, x.6, x.7) (other_comes X L x.0.left _ x.1.ensures (not-true _ x.2.taken) _ x.3.ensures x.4.left))
     λ x. rw (x.3, x.4, x.5) (one_comes X L x.0.left _ x.1.ensures (not-false _ x.2.left)))
-    c.if-kind-eq-INTEGER.branch
+    c.if-e-eq-SET-2.branch
 
 -- how far it stands
-at_turn : (t : ℕ) (c : place_members_lts.Joined2 (place-members-claims t) (place-members-at t)
+at_turn : (t : ℕ) (c : place_members_lts.Joined-e-eq-SET-2 (place-members-claims t) (place-members-at t)
     place_members.Post place-members-Inv-loop place-members-μ-loop) →
-    let l = c.before.before.loop-i in
-    let e = c.before.before.before.before.before.before.before.before.before.before.unpack-e.result in
-    (length c.if-kind-eq-INTEGER.buf-1 ≡ length l.buf-1) × (e.kind ≡ 17 → l.j ≤ c.if-kind-eq-INTEGER.j) × ((e.kind ≡ 17 → ⊥) → c.if-kind-eq-INTEGER.at ≡ l.at)
+    let l = c.loop-began in
+    let e = c.unpack-e.result in
+    (length c.if-e-eq-SET-2.buf ≡ length l.buf) × (e.kind ≡ 17 → l.j ≤ c.if-e-eq-SET-2.j) × ((e.kind ≡ 17 → ⊥) → c.if-e-eq-SET-2.at ≡ l.at)
 at_turn t c =
     ⊎_elim
     (λ x. (ap length x.9 ∙ x.4.kept.0, λ z. rw x.11 x.2.ensures.least, λ n. absurd (n x.0.taken)))
     (⊎_elim
     (λ x. (ap length x.5, λ z. absurd (x.0.left z), λ n. x.6))
     λ x. (ap length x.3, λ z. absurd (x.0.left z), λ n. x.4))
-    c.if-kind-eq-INTEGER.branch
+    c.if-e-eq-SET-2.branch
 
-at_low : (t : ℕ) (c : place_members_lts.Joined2 (place-members-claims t) (place-members-at t)
+at_low : (t : ℕ) (c : place_members_lts.Joined-e-eq-SET-2 (place-members-claims t) (place-members-at t)
     place_members.Post place-members-Inv-loop place-members-μ-loop) →
-    let a = c.before.before.before.before.before.before.before.before.before.before.before.before.before.before.args in
-    (c.if-kind-eq-INTEGER.at < length a.m.now) × (c.if-kind-eq-INTEGER.at < 8192)
+    let a = c.args in
+    (c.if-e-eq-SET-2.at < length a.m.now) × (c.if-e-eq-SET-2.at < 8192)
 at_low t c =
     let X = at-started t c.before.before.before.before.before in
     let l = coming_low X _ (at_item t c X) in
     (l, omega (arith, l, X.given.short))
 
 -- the type of the part at hand
-at_type : (t : ℕ) (c : place_members_lts.After-part-1 (place-members-claims t) (place-members-at t)
-    place_members.Post place-members-Inv-loop place-members-μ-loop) → c.part-1.result < 128
+at_type : (t : ℕ) (c : place_members_lts.After-part-record (place-members-claims t) (place-members-at t)
+    place_members.Post place-members-Inv-loop place-members-μ-loop) → c.part-record.result < 128
 at_type t c =
     let X = at-started t c.before.before.before.before.before.before.before.before.before in
     omega (
       arith,
-      part_low X _ (at_item t c.before.before.before.before X) c.before.if-kind-eq-ENUMERATED.true _ c.part-1.ensures.0,
+      part_low X _ (at_item t c.before.before.before.before X) c.if-j-s.true _ c.part-record.ensures.0,
       X.given.ready.passes.few,
     )
 
 -- what the search answers
 at-sought : (t : ℕ) (c : place_members_lts.After-search (place-members-claims t) (place-members-at t)
     place_members.Post place-members-Inv-loop place-members-μ-loop) →
-    let x = c.before.before.before.before.before.before.before.before in
-    let a = x.before.before.before.before.before.before.before.before.before.before.before.before.before.before.args in
+    let a = c.args in
     let b = a.table.now in
-    Sought b (held b a.w) (since (manner (held b a.w)) x.if-kind-eq-INTEGER.j) blank (drop x.if-kind-eq-INTEGER.at a.m.now)
+    Sought b (held b a.w) (since (manner (held b a.w)) c.if-e-eq-SET-2.j) blank (drop c.if-e-eq-SET-2.at a.m.now)
     c.search.new.1.1.1.1.1.1.0 c.search.result
 at-sought t c =
-    let x = c.before.before.before.before.before.before.before.before in
-    let a = x.before.before.before.before.before.before.before.before.before.before.before.before.before.before.args in
-    rw (part_to_end a.m.now x.if-kind-eq-INTEGER.at) at c.search.ensures.1
+    let a = c.args in
+    rw (part_to_end a.m.now c.if-e-eq-SET-2.at) at c.search.ensures.1
 
 -- the part that the search found
-at-picked : (t : ℕ) (c : place_members_lts.At-match-branch (place-members-claims t) (place-members-at t)
+at-picked : (t : ℕ) (c : place_members_lts.Joined-search (place-members-claims t) (place-members-at t)
     place_members.Post place-members-Inv-loop place-members-μ-loop) {first : List ℕ} (X : Starts t
     c.before.before.before.before.before.before.before.before.before.before.before.before.before.before first) →
-    Picked X _ (at_item t c.before.before.before.before.before.before.before.before.before X) c.in-Refused.buf-1 c.in-Refused.next-1
+    Picked X _ (at_item t c.before.before.before.before.before.before.before.before.before X) c.in-Refused.buf c.in-Refused.next
     c.in-Refused.place c.in-Refused.«record» c.in-Refused.from
 at-picked t c X =
     let S = at-sought t c.before in
     let C = at_item t c.before.before.before.before.before.before.before.before.before X in
     ⊎_elim
     (λ x. absurd (found_some X _ C (rw x.1.given.1 at S).0))
-    (λ x. picked X _ C x.1.given.0.0 _ c.before.search.ensures.0 (rw x.1.given.1 at S) (x.9 ∙ x.6.ensures.1)
+    (λ x. picked X _ C x.1.given.0.0 _ c.search.ensures.0 (rw x.1.given.1 at S) (x.9 ∙ x.6.ensures.1)
     (x.10 ∙ x.6.ensures.0) x.11 x.12 x.13)
     c.in-Refused.branch
 
 -- the part at hand, if the item begins it with one octet
-at-fits : (t : ℕ) (c : place_members_lts.Joined6 (place-members-claims t) (place-members-at t)
-    place_members.Post place-members-Inv-loop place-members-μ-loop) → c.if-kind-eq-ENUMERATED.ranges ≡ true →
-    let x = c.before.before.before.if-kind-eq-INTEGER in
-    let y = c.before.before.before.before.before.before.before.before.before.before.before.before in
-    let a = y.before.before.before.before.before.args in
-    let s = y.parts-s.result in
-    (x.j < s.count) × (c.if-kind-eq-ENUMERATED.«record» ≡ get_or a.table.now (s.first + s.step * x.j) 0)
-    × (get_or a.m.now x.at 0 ≡ (unpacked (get_or a.index.now c.if-kind-eq-ENUMERATED.«record» 0)).code-1)
+at-fits : (t : ℕ) (c : place_members_lts.Joined-j-s (place-members-claims t) (place-members-at t)
+    place_members.Post place-members-Inv-loop place-members-μ-loop) → c.if-j-s.ranges ≡ true →
+    let x = c.if-e-eq-SET-2 in
+    let a = c.args in
+    let s = c.parts-s.result in
+    (x.j < s.count) × (c.if-j-s.«record» ≡ get_or a.table.now (s.first + s.step * x.j) 0)
+    × (get_or a.m.now x.at 0 ≡ (unpacked (get_or a.index.now c.if-j-s.«record» 0)).code)
 at-fits t c z =
     ⊎_elim
     (λ x. (x.0.taken, x.5 ∙ x.1.ensures.0, rw x.5 (sym (eqb-true _ _ (sym x.6 ∙ z)) ∙ x.3.ensures)))
     (λ x. absurd (false≢true (sym x.2 ∙ z)))
-    c.if-kind-eq-ENUMERATED.branch
+    c.if-j-s.branch
 
 -- the record that the item begins
-at-chosen : (t : ℕ) (c : place_members_lts.Joined7 (place-members-claims t) (place-members-at t)
+at-chosen : (t : ℕ) (c : place_members_lts.Joined-not-fits (place-members-claims t) (place-members-at t)
     place_members.Post place-members-Inv-loop place-members-μ-loop) {first : List ℕ} (X : Starts t
     c.before.before.before.before.before.before.before.before.before first) →
-    Chosen X c.before.before.before.before.before.before.loop-i.count c.before.before.before.before.if-kind-eq-INTEGER.j c.if-kind-eq-UTC_TIME.buf-1
-    c.before.before.before.before.if-kind-eq-INTEGER.at c.if-kind-eq-UTC_TIME.next-1 c.if-kind-eq-UTC_TIME.place c.if-kind-eq-UTC_TIME.«record» c.if-kind-eq-UTC_TIME.from
+    Chosen X c.loop-began.count c.if-e-eq-SET-2.j c.if-not-fits.buf
+    c.if-e-eq-SET-2.at c.if-not-fits.next c.if-not-fits.place c.if-not-fits.«record» c.if-not-fits.from
 at-chosen t c X =
     ⊎_elim
     (λ x.
@@ -336,12 +330,12 @@ at-chosen t c X =
     λ x.
     let f = at-fits t c.before (not-false _ x.0.left) in
     rw (x.1, x.3, x.4, x.5, x.6) (chosen_here X _ (at_item t c.before.before.before.before X) f.0 _ f.1 _ f.2 refl))
-    c.if-kind-eq-UTC_TIME.branch
+    c.if-not-fits.branch
 
 -- lengths stay
-at-grown : (t : ℕ) (c : place_members_lts.Joined7 (place-members-claims t) (place-members-at t)
-    place_members.Post place-members-Inv-loop place-members-μ-loop) → (length c.if-kind-eq-UTC_TIME.buf-1 ≡ length
-    c.before.before.before.before.before.before.loop-i.buf-1) × (length c.if-kind-eq-UTC_TIME.way ≡ 128)
+at-grown : (t : ℕ) (c : place_members_lts.Joined-not-fits (place-members-claims t) (place-members-at t)
+    place_members.Post place-members-Inv-loop place-members-μ-loop) → (length c.if-not-fits.buf ≡ length
+    c.loop-began.buf) × (length c.if-not-fits.way ≡ 128)
 at-grown t c =
     let X = at-started t c.before.before.before.before.before.before.before.before.before in
     let l = (at_turn t c.before.before.before.before).0 in
@@ -373,8 +367,8 @@ at-grown t c =
       }) X).0 ∙ l,
       rw x.9 x.4.ensures.0,
     ))
-    λ x. (ap length x.1 ∙ l, rw x.2 c.before.before.before.before.before.before.loop-i.invariant.0))
-    c.if-kind-eq-UTC_TIME.branch
+    λ x. (ap length x.1 ∙ l, rw x.2 c.loop-began.invariant.0))
+    c.if-not-fits.branch
 
 abbrev place-value-claims : ℕ → place_value_lts.Claims
 place-value-claims t = (
@@ -397,63 +391,53 @@ place-value-claims t = (
 )
 
 -- under the tags
-at_under : (t : ℕ) (c : place_value_lts.Joined-e-eq-SEQUENCE (place-value-claims t) (place-value-at t) place_value.Post) →
-    let s = c.before.before.before.before.before.before in
-    let a = s.args in
-    Accepted a.table.now a.w a.m.now a.at s.requires.1.fits.value s.requires.1.fits.rest-1 c.if-kind-eq-BOOLEAN.notes c.if-kind-eq-BOOLEAN.at
-    c.if-kind-eq-BOOLEAN.from c.if-kind-eq-BOOLEAN.end-at
+at_under : (t : ℕ) (c : place_value_lts.Joined-e-gt0 (place-value-claims t) (place-value-at t) place_value.Post) →
+    let a = c.args in
+    Accepted a.table.now a.w a.m.now a.at c.requires.1.fits.value c.requires.1.fits.rest c.if-e-eq-SET.notes c.if-e-eq-SET.at
+    c.if-e-eq-SET.from c.if-e-eq-SET.end
 at_under t c =
-    let s = c.before.before.before.before.before.before in
-    let P = s.requires.1 in
-    let e = c.before.before.unpack-e.ensures in
+    let P = c.requires.1 in
+    let e = c.unpack-e.ensures in
     ⊎_elim
     (λ x. absurd (must_open P _ _ x.2.ensures.1 _ _ x.4.given.1))
     (⊎_elim
     (λ x. accepted_as (under_open P _ _ x.2.ensures.1 x.2.ensures.0 _ x.4.given.1) x.6 x.7 x.9 x.8)
     λ x. accepted_as (under_none P (rw e at x.0.left) _ refl) x.1 x.2 x.4 x.3)
-    c.if-kind-eq-BOOLEAN.branch
+    c.if-e-eq-SET.branch
 
 -- its contents
-at-contents : (t : ℕ) (c : place_value_lts.Joined2 (place-value-claims t) (place-value-at t) place_value.Post) →
-    let j = c.before.before.before in
-    let s = j.before.before.before.before.before.before in
-    let a = s.args in
-    Contents a.table.now a.w a.m.now a.at j.if-kind-eq-BOOLEAN.at j.if-kind-eq-BOOLEAN.end-at s.requires.1.fits.value (at_under t j).left c.if-kind-eq-INTEGER.start
-    c.if-kind-eq-INTEGER.stop c.if-kind-eq-INTEGER.indefinite
+at-contents : (t : ℕ) (c : place_value_lts.Joined-e-ne-CHOICE (place-value-claims t) (place-value-at t) place_value.Post) →
+    let a = c.args in
+    Contents a.table.now a.w a.m.now a.at c.if-e-eq-SET.at c.if-e-eq-SET.end c.requires.1.fits.value (at_under t c.before.before.before).left c.if-e-eq-SET-2.start
+    c.if-e-eq-SET-2.stop c.if-e-eq-SET-2.indefinite
 at-contents t c =
-    let j = c.before.before.before in
-    let s = j.before.before.before.before.before.before in
-    let P = s.requires.1 in
-    let e = j.before.before.unpack-e.ensures in
-    let U = at_under t j in
-    let o : Octets s.args.table.now = λ i. omega (arith, j.before.before.before.before.before.shared_slice_known-1.given i) in
-    let q : Octets s.args.m.now = λ i. omega (arith, j.before.before.before.before.shared_slice_known-2-1.given i) in
+    let P = c.requires.1 in
+    let e = c.unpack-e.ensures in
+    let U = at_under t c.before.before.before in
+    let o : Octets c.args.table.now = λ i. omega (arith, c.shared_slice_known-1.given i) in
+    let q : Octets c.args.m.now = λ i. omega (arith, c.shared_slice_known-2-1.given i) in
     ⊎_elim
     (λ x.
     contents_as (read_contents P U q o (rw e at x.0.taken) x.1.result x.1.ensures) x.2 x.3 x.4)
     (λ x. contents_as (choice_contents P U q o (rw e at x.0.left)) x.1 x.2 x.3)
-    c.if-kind-eq-INTEGER.branch
+    c.if-e-eq-SET-2.branch
 
 -- what was placed
-at_stored : (t : ℕ) (c : place_value_lts.Joined3 (place-value-claims t) (place-value-at t) place_value.Post) →
-    let j = c.before.before.before.before in
-    let s = j.before.before.before.before.before.before in
-    let a = s.args in
-    Stored s.requires.1.fits.value a.m.now j.if-kind-eq-BOOLEAN.end-at (at_under t j).left a.buf-1.now a.to c.if-kind-eq-BIT_STRING.buf-1 c.if-kind-eq-BIT_STRING.stop
-    c.if-kind-eq-BIT_STRING.next-1 c.if-kind-eq-BIT_STRING.way
+at_stored : (t : ℕ) (c : place_value_lts.Joined-e (place-value-claims t) (place-value-at t) place_value.Post) →
+    let a = c.args in
+    Stored c.requires.1.fits.value a.m.now c.if-e-eq-SET.end (at_under t c.before.before.before.before).left a.buf.now a.to c.if-k-s.buf c.if-k-s.stop
+    c.if-k-s.next c.if-k-s.way
 at_stored t c =
-    let j = c.before.before.before.before in
-    let s = j.before.before.before.before.before.before in
-    let P = s.requires.1 in
-    let e = j.before.before.unpack-e.ensures in
-    let U = at_under t j in
+    let P = c.requires.1 in
+    let e = c.unpack-e.ensures in
+    let U = at_under t c.before.before.before.before in
     let X = at-contents t c.before in
     ⊎_elim
     (λ x. stored_as (parts_stored P U X _ e x.0.taken (sym x.5.ensures ∙ x.6.taken) _ _ x.8.ensures) x.12 x.13 x.14 x.15)
     (⊎_elim
     (λ x. stored_as (leaf_stored P U X _ e x.0.taken (sym x.5.ensures ∙ x.6.left) _ _ x.8.ensures.0 x.8.ensures.1) x.11 x.12 x.13 x.14)
     λ x. stored_as (items_stored P U X (rw e at x.0.left) _ _ x.6.ensures.1 _ x.6.ensures.0) x.10 x.11 x.12 x.13)
-    c.if-kind-eq-BIT_STRING.branch
+    c.if-k-s.branch
 
 pub +place_members_place_value_spec : {M : Type 1} → statement M
 +place_members_place_value_spec = close μ-place-members μ-place-value (λ t. place_members_lts.spec (place-members-claims t)
@@ -464,42 +448,31 @@ pub +place_members_place_value_spec : {M : Type 1} → statement M
     (λ c κs. tt)  -- place-members-unpack-requires
     (λ c κs. tt)  -- place-members-parts-requires
     (λ c κs.
-    let c5 = c.before.before.before.before.before in
-    let p = c5.before.before.before.before.requires.1 in
-    let k = ap (λ (e : Entry). e.kind) c5.unpack-e.ensures in
-    (p.ready, p.known, sym k ∙ c.before.before.if-kind-eq-BOOLEAN.true, p.short, refl, p.ways))  -- place-members-locate-requires
+    let p = c.requires.1 in
+    let k = ap (λ (e : Entry). e.kind) c.unpack-e.ensures in
+    (p.ready, p.known, sym k ∙ c.if-e-eq-SET.true, p.short, refl, p.ways))  -- place-members-locate-requires
     (λ c κs. begin_room (at-given t c.before.before.before))  -- place-members-begin-requires
     (λ c. (
       (at-located t c.before.before.before.before).0,
       refl,
-      λ first X. state_first X _ c.before.before.begin.ensures.0,
+      λ first X. state_first X _ c.begin-next.ensures.0,
     ))  -- place-members-loop-holds
     (λ c κs.
-    let c3 = c.before.before.before in
-    let c6 = c3.before.before.before in
-    let X = at-started t (c6) in (
-      set_low X (c3.loop-i.invariant.2 _ X) c.before.if-kind-eq-INTEGER.true,
+    let X = at-started t (c.before.before.before.before.before.before) in (
+      set_low X (c.loop-began.invariant.2 _ X) c.if-e-eq-SET-2.true,
       its_few X.given,
-      (at-located t c6.before.before).1,
+      (at-located t c.before.before.before.before.before.before.before.before).1,
     ))  -- place-members-following-requires
     (λ c κs.
-    let c3 = c.before.before.before in
-    let c5 = c3.before.before in
-    let X = at-started t c5.before.before.before in
-    set_room X (c5.loop-i.invariant.2 _ X) c3.if-kind-eq-INTEGER.true _ c.before.following.ensures.most)  -- place-members-put-absent-requires
+    let X = at-started t c.before.before.before.before.before.before.before.before in
+    set_room X (c.loop-began.invariant.2 _ X) c.if-e-eq-SET-2.true _ c.following-k.ensures.most)  -- place-members-put-absent-requires
     (λ c.
-    let c4 = c.before.before.before.before in
-    let c10 = c4.before.before.before.before.before.before in
-    c4.put_absent.auto.0 ∙ c10.loop-i.invariant.1 ∙ c10.before.before.before.begin.auto.1.1.0)  -- place-members-same-length
+    c.put_absent.auto.0 ∙ c.loop-began.invariant.1 ∙ c.begin-next.auto.1.1.0)  -- place-members-same-length
     (λ c.
-    let c4 = c.before.before.before.before in
-    let c6 = c4.before.before in
-    let c8 = c6.before.before in
-    let c10 = c8.before.before in
-    let l = c10.loop-i in
-    let X = at-started t c10.before.before.before in (
+    let l = c.loop-began in
+    let X = at-started t c.before.before.before.before.before.before.before.before.before.before.before.before.before in (
       l.invariant.0,
-      set_over X (l.invariant.2 _ X) c8.if-kind-eq-INTEGER.true _ c6.following.ensures c4.put_absent.ensures c.if-kind-eq-BIT_STRING.true,
+      set_over X (l.invariant.2 _ X) c.if-e-eq-SET-2.true _ c.following-k.ensures c.put_absent.ensures c.if-k-s.true,
     ))  -- place-members-returns
     (λ c. let z = at-came t c in omega arith)  -- place-members-mul-at
     (λ c. let z = at-came t c in omega arith)  -- place-members-array-read-at
@@ -508,153 +481,108 @@ pub +place_members_place_value_spec : {M : Type 1} → statement M
     (λ c κs. tt)  -- place-members-holds-one-requires
     (λ c κs. tt)  -- place-members-is-over-requires
     (λ c κs.
-    let c3 = c.before.before.before in
-    let c4 = c3.before in
-    let c5 = c4.before in
-    let c7 = c5.before.before in
-    let X = at-started t c7.before.before.before in
-    finish_room X (c7.loop-i.invariant.2 _ X) c5.if-kind-eq-INTEGER.false _ c4.holds-one.ensures (not-true _ c3.if-kind-eq-OCTET_STRING.true) _
-    c.before.before.is_over.ensures)  -- place-members-finish-requires
+    let X = at-started t c.before.before.before.before.before.before.before.before.before.before in
+    finish_room X (c.loop-began.invariant.2 _ X) c.if-e-eq-SET-2.false _ c.holds_one.ensures c.if-not-holds_one.true _
+    c.is_over.ensures)  -- place-members-finish-requires
     (λ c κs.
-    let c8 = c.before.before.before.before.before.before.before.before in
-    let c10 = c8.before.before in
-    let X = at-started t c10.before.before.before in
-    omega (arith, other_low X (c10.loop-i.invariant.2 _ X) c8.if-kind-eq-INTEGER.false, X.given.short))  -- place-members-behind-requires
+    let X = at-started t c.before.before.before.before.before.before.before.before.before.before.before.before.before in
+    omega (arith, other_low X (c.loop-began.invariant.2 _ X) c.if-e-eq-SET-2.false, X.given.short))  -- place-members-behind-requires
     (λ c.
-    let c3 = c.before.before.before in
-    let c11 = c3.before.before.before.before.before.before.before.before in
-    c3.finish.auto.1.1.1.1.0 ∙ c11.loop-i.invariant.1 ∙ c11.before.before.before.begin.auto.1.1.0)  -- place-members-same-length-2
+    c.finish.auto.1.1.1.1.0 ∙ c.loop-began.invariant.1 ∙ c.begin-next.auto.1.1.0)  -- place-members-same-length-2
     (λ c.
-    let c3 = c.before.before.before in
-    let c5 = c3.before.before in
-    let c6 = c5.before in
-    let c7 = c6.before in
-    let c8 = c7.before in
-    let c9 = c8.before in
-    let c11 = c9.before.before in
-    let l = c11.loop-i in
-    let X = at-started t c11.before.before.before in (
+    let l = c.loop-began in
+    let X = at-started t c.before.before.before.before.before.before.before.before.before.before.before.before.before.before in (
       l.invariant.0,
-      other_over X (l.invariant.2 _ X) c9.if-kind-eq-INTEGER.false _ c8.holds-one.ensures (not-true _ c7.if-kind-eq-OCTET_STRING.true) _
-          c6.is_over.ensures c5.if-kind-eq-NULL.true c3.finish.ensures c.behind.ensures,
+      other_over X (l.invariant.2 _ X) c.if-e-eq-SET-2.false _ c.holds_one.ensures c.if-not-holds_one.true _
+          c.is_over.ensures c.if-is_over.true c.finish.ensures c.behind.ensures,
     ))  -- place-members-returns-2
     (λ c. let l = at_low t c.before in omega arith)  -- place-members-add-from
     (λ c κs.
-    let c3 = c.before.before.before in
-    let X = at-started t c3.before.before.before.before.before in
-    let i = at_item t (c3) X in
-    (part_inside X _ i c.if-kind-eq-ENUMERATED.true, part_near X _ i c.if-kind-eq-ENUMERATED.true))  -- place-members-part-requires
+    let X = at-started t c.before.before.before.before.before.before.before.before in
+    let i = at_item t (c.before.before.before) X in
+    (part_inside X _ i c.if-j-s.true, part_near X _ i c.if-j-s.true))  -- place-members-part-requires
     (λ c. let l = at_type t c in omega arith)  -- place-members-mul-first
     (λ c. at_type t c)  -- place-members-element-copy-out-first
     (λ c κs. tt)  -- place-members-first-requires
     (λ c.
     (at_low t c.before.before.before.before.before.before.before).0)  -- place-members-shared-slice-read-fits
     (λ c.
-    let c7 = c.before.before.before.before.before.before.before in
     omega (
       arith,
-      c7.before.before.before.before.before.before.before.before.before.before.before.before.shared_slice_known-2-1.given
-          c7.if-kind-eq-INTEGER.at,
+      c.shared_slice_known-2-1.given
+          c.if-e-eq-SET-2.at,
     ))  -- place-members-cast-fits
     (λ c. let l = at_low t c.before.before.before.before in omega arith)  -- place-members-sub-rest
     (λ c. let l = at_low t c.before.before.before.before in omega arith)  -- place-members-part-rest-start
     (λ c. let l = at_low t c.before.before.before.before in omega arith)  -- place-members-part-rest-end
     (λ c κs.
-    let c9 = c.before.before.before.before.before.before.before.before.before in
-    (sound (at-started t c9.before.before.before) 0, c9.loop-i.invariant.0))  -- place-members-search-requires
+    (sound (at-started t c.before.before.before.before.before.before.before.before.before.before.before.before) 0, c.loop-began.invariant.0))  -- place-members-search-requires
     (λ c. search rules)  -- place-members-enum-told
     (λ c. search rules)  -- place-members-enum-known-x
     (λ c.
-    let c4 = c.before.before.before.before in
-    let c12 = c4.before.before.before.before.before.before.before.before in
-    let X = at-started t c12.before.before.before.before.before in
-    let l = found_low X _ (at_item t (c12) X) _ _ c4.search.ensures.0 (rw c.before.before.x-1.given.1 at (at-sought t (c4)))
+    let X = at-started t c.before.before.before.before.before.before.before.before.before.before.before.before.before.before.before.before.before in
+    let l = found_low X _ (at_item t (c.before.before.before.before.before.before.before.before.before.before.before.before) X) _ _ c.search.ensures.0 (rw c.in-Part.is at (at-sought t (c.before.before.before.before)))
     in
     omega (arith, l, X.given.short))  -- place-members-add-from-2
     (λ c κs.
-    let c4 = c.before.before.before.before in
-    let c6 = c4.before.before in
-    let c14 = c6.before.before.before.before.before.before.before.before in
-    let X = at-started t c14.before.before.before.before.before in
-    let F = rw c4.x-1.given.1 at (at-sought t (c6)) in
-    let C = at_item t (c14) X in
-    let w = c6.search.ensures.0 in
+    let X = at-started t c.before.before.before.before.before.before.before.before.before.before.before.before.before.before.before.before.before.before.before in
+    let F = rw c.in-Part.is at (at-sought t (c.before.before.before.before.before.before)) in
+    let C = at_item t (c.before.before.before.before.before.before.before.before.before.before.before.before.before.before) X in
+    let w = c.search.ensures.0 in
     (omega (arith, found_deep X _ C _ _ w F, w), w, found_room X _ C _ _ w F))  -- place-members-put-way-requires
     (λ c κs. tt)  -- place-members-has-members-requires
     (λ c κs.
-    let c3 = c.before.before.before in
-    (at-picked t (c3) (at-started t
-    c3.before.before.before.before.before.before.before.before.before.before.before.before.before.before)).1
-    (sym c.before.before.has_members.ensures ∙ c.before.if8.true))  -- place-members-put-absent-requires-2
+    (at-picked t (c.before.before.before) (at-started t
+    c.before.before.before.before.before.before.before.before.before.before.before.before.before.before.before.before.before)).1
+    (sym c.has_members.ensures ∙ c.if-has_members.true))  -- place-members-put-absent-requires-2
     (λ c κs.
-    let c10 = c.before.before.before.before.before.before.before.before.before.before in
-    chosen_node (at-started t (c10)) _ (at-chosen t c.before (at-started t (c10))))  -- place-members-put-place-requires
+    chosen_node (at-started t (c.before.before.before.before.before.before.before.before.before.before)) _ (at-chosen t c.before (at-started t (c.before.before.before.before.before.before.before.before.before.before))))  -- place-members-put-place-requires
     (λ c.
-    let c6 = c.before.before.before.before.before.before in
-    let X = at-started t c6.before.before.before.before.before.before.before.before.before in
-    omega (arith, chosen_onward X _ (at-chosen t (c6) X)))  -- place-members-add-j
+    let X = at-started t c.before.before.before.before.before.before.before.before.before.before.before.before.before.before.before in
+    omega (arith, chosen_onward X _ (at-chosen t (c.before.before.before.before.before.before) X)))  -- place-members-add-j
     (λ c.
-    let c7 = c.before.before.before.before.before.before.before in
-    let X = at-started t c7.before.before.before.before.before.before.before.before.before in
-    omega (arith, (at-chosen t (c7) X).low, X.given.ready.passes.few))  -- place-members-mul-place-value
+    let X = at-started t c.before.before.before.before.before.before.before.before.before.before.before.before.before.before.before.before in
+    omega (arith, (at-chosen t (c.before.before.before.before.before.before.before) X).low, X.given.ready.passes.few))  -- place-members-mul-place-value
     (λ c.
-    let c7 = c.before.before.before.before.before.before.before in
-    let X = at-started t c7.before.before.before.before.before.before.before.before.before in
-    omega (arith, (at-chosen t (c7) X).low, X.given.ready.passes.few))  -- place-members-element-copy-out-place-value
+    let X = at-started t c.before.before.before.before.before.before.before.before.before.before.before.before.before.before.before.before in
+    omega (arith, (at-chosen t (c.before.before.before.before.before.before.before) X).low, X.given.ready.passes.few))  -- place-members-element-copy-out-place-value
     (λ c κs.
-    let c8 = c.before.before.before.before.before.before.before.before in
-    let c10 = c8.before.before in
-    let c19 = c10.before.before.before.before.before.before.before.before.before in
-    let X = at-started t (c19) in (
-      omega (arith, c19.before.before.before.before.before.before.before.before.before.requires.0),
-      chosen_asks X _ (at-chosen t (c10) X) c8.put-place.ensures _ (at-grown t (c10)).1,
+    let X = at-started t (c.before.before.before.before.before.before.before.before.before.before.before.before.before.before.before.before.before.before.before) in (
+      omega (arith, c.requires.0),
+      chosen_asks X _ (at-chosen t (c.before.before.before.before.before.before.before.before.before.before) X) c.put_place.ensures _ (at-grown t (c.before.before.before.before.before.before.before.before.before.before)).1,
     ))  -- place-members-place-value-requires
     (λ c.
-    let c19 = c.before.before.before.before.before.before.before.before.before.before.before.before.before.before.before.before.before.before.before in
-    let X = at-started t c19.before.before.before in
-    omega (arith, state_count X (c19.loop-i.invariant.2 _ X)))  -- place-members-add-count
+    let X = at-started t c.before.before.before.before.before.before.before.before.before.before.before.before.before.before.before.before.before.before.before.before.before.before in
+    omega (arith, state_count X (c.loop-began.invariant.2 _ X)))  -- place-members-add-count
     (λ c κs. tt)  -- place-members-holds-one-requires-2
     (λ c.
-    let c4 = c.before.before.before.before in
-    let c13 = c4.before.before.before.before.before.before.before.before.before in
-    let c15 = c13.before.before in
-    let c21 = c15.before.before.before.before.before.before in
-    c4.place-value.auto.1.1.1.1.1.1.0 ∙ c13.put-place.auto.1.1.0 ∙ (at-grown t (c15)).0 ∙ c21.loop-i.invariant.1
-    ∙ c21.before.before.before.begin.auto.1.1.0)  -- place-members-same-length-3
+    c.place_value-x.auto.1.1.1.1.1.1.0 ∙ c.put_place.auto.1.1.0 ∙ (at-grown t (c.before.before.before.before.before.before.before.before.before.before.before.before.before.before.before)).0 ∙ c.loop-began.invariant.1
+    ∙ c.begin-next.auto.1.1.0)  -- place-members-same-length-3
     (λ c.
-    let c4 = c.before.before.before.before in
-    let c13 = c4.before.before.before.before.before.before.before.before.before in
-    let c15 = c13.before.before in
-    let X = at-started t c15.before.before.before.before.before.before.before.before.before in (
-      c4.place-value.ensures.0,
-      chosen_one X _ (at-chosen t (c15) X) c13.put-place.ensures c4.place-value.ensures.1 _
-          c.before.holds-one2.ensures c.if9.true,
+    let X = at-started t c.before.before.before.before.before.before.before.before.before.before.before.before.before.before.before.before.before.before.before.before.before.before.before.before in (
+      c.place_value-x.ensures.0,
+      chosen_one X _ (at-chosen t (c.before.before.before.before.before.before.before.before.before.before.before.before.before.before.before) X) c.put_place.ensures c.place_value-x.ensures.1 _
+          c.holds_one-in-loop-began.ensures c.if-holds_one.true,
     ))  -- place-members-returns-3
     (λ c.
-    let c4 = c.before.before.before.before in
-    let c13 = c4.before.before.before.before.before.before.before.before.before in
-    let c15 = c13.before.before in
-    let c19 = c15.before.before.before.before in
-    let X = at-started t c19.before.before.before.before.before in
-    let l = at_turn t (c19) in
-    chosen_fewer X _ (at-chosen t (c15) X) c13.put-place.ensures c4.place-value.ensures.1 _ _ l.1 l.2)  -- place-members-loop-less
+    let X = at-started t c.before.before.before.before.before.before.before.before.before.before.before.before.before.before.before.before.before.before.before.before.before.before.before.before in
+    let l = at_turn t (c.before.before.before.before.before.before.before.before.before.before.before.before.before.before.before.before.before.before.before) in
+    chosen_fewer X _ (at-chosen t (c.before.before.before.before.before.before.before.before.before.before.before.before.before.before.before) X) c.put_place.ensures c.place_value-x.ensures.1 _ _ l.1 l.2)  -- place-members-loop-less
     (λ c.
-    let c4 = c.before.before.before.before in
-    let c13 = c4.before.before.before.before.before.before.before.before.before in
-    let c15 = c13.before.before in (
-      c4.place-value.ensures.0,
-      c4.place-value.auto.1.1.1.1.1.1.0 ∙ c13.put-place.auto.1.1.0 ∙ (at-grown t (c15)).0
-          ∙ c15.before.before.before.before.before.before.loop-i.invariant.1,
-      λ first X. chosen_next X _ (at-chosen t (c15) X) c13.put-place.ensures c4.place-value.ensures.1 _
-          c.before.holds-one2.ensures c.if9.false,
+    (
+      c.place_value-x.ensures.0,
+      c.place_value-x.auto.1.1.1.1.1.1.0 ∙ c.put_place.auto.1.1.0 ∙ (at-grown t (c.before.before.before.before.before.before.before.before.before.before.before.before.before.before.before)).0
+          ∙ c.loop-began.invariant.1,
+      λ first X. chosen_next X _ (at-chosen t (c.before.before.before.before.before.before.before.before.before.before.before.before.before.before.before) X) c.put_place.ensures c.place_value-x.ensures.1 _
+          c.holds_one-in-loop-began.ensures c.if-holds_one.false,
     )))  -- place-members-loop-again
     λ t. place_value_lts.spec (place-value-claims t)
     (place-value-at t)
     place_value.Post
     (λ c κs. search rules)  -- place-value-unpack-requires
     (λ c κs.
-    let P = c.before.before.before.before.before.before.before.requires.1 in
-    let e = rw c.before.before.before.unpack-e.ensures at c.before.if-kind-eq-BOOLEAN.true in
+    let P = c.requires.1 in
+    let e = rw c.unpack-e.ensures at c.if-e-eq-SET.true in
     (_, P.ready, (P.type, P.low, P.entry), e, P.headed, P.short, refl))  -- place-value-open-requires
     (λ c. search rules)  -- place-value-enum-told
     (λ c. search rules)  -- place-value-enum-known-x
@@ -663,103 +591,57 @@ pub +place_members_place_value_spec : {M : Type 1} → statement M
     (λ c. (at-contents t c.before.before.before).order)  -- place-value-sub-c
     (λ c. let h = (at-contents t c.before.before.before).order in search rules)  -- place-value-part-c-start
     (λ c.
-    let x = c.before.before.before in
-    let j = x.before.before.before in
-    let s = j.before.before.before.before.before.before in
-    let h = part_high s.requires.1 (at_under t j) (at-contents t x) in
+    let h = part_high c.requires.1 (at_under t c.before.before.before.before.before.before) (at-contents t c.before.before.before) in
     search rules)  -- place-value-part-c-end
     (λ c.
-    let x = c.before.before.before.before.before in
-    let j = x.before.before.before in
-    let s = j.before.before.before.before.before.before in
-    lead_inside s.requires.1 (at_under t j) (at-contents t x))  -- place-value-shared-slice-read-in-segments
+    lead_inside c.requires.1 (at_under t c.before.before.before.before.before.before.before.before) (at-contents t c.before.before.before.before.before))  -- place-value-shared-slice-read-in-segments
     (λ c κs. tt)  -- place-value-in-segments-requires
     (λ c κs.
-    let x = c.before.before.before.before.before.before.before.before in
-    let j = x.before.before.before in
-    let s = j.before.before.before.before.before.before in
-    let e = j.before.before.unpack-e.ensures in
-    let f = c.before.before.before.before.before.before.before.if-kind-eq-BIT_STRING.true in
-    parts_ask s.requires.1 (at_under t j) (at-contents t x) _ e f (sym c.before.before.in-segments.ensures ∙ c.before.if-kind-eq-OCTET_STRING.true))  -- place-value-place-segments-requires
+    let e = c.unpack-e.ensures in
+    let f = c.if-k-s.true in
+    parts_ask c.requires.1 (at_under t c.before.before.before.before.before.before.before.before.before.before.before) (at-contents t c.before.before.before.before.before.before.before.before) _ e f (sym c.in_segments.ensures ∙ c.if-not-holds_one.true))  -- place-value-place-segments-requires
     (λ c.
-    let c5 = c.before.before.before.before.before in
-    let x = c5.before.before.before.before.before.before.before in
-    let j = x.before.before.before in
-    let s = j.before.before.before.before.before.before in
-    let e = j.before.before.unpack-e.ensures in
-    let f = c5.before.before.before.before.before.before.if-kind-eq-BIT_STRING.true in
-    let z = sym c5.before.in-segments.ensures ∙ c5.if-kind-eq-OCTET_STRING.true in
-    omega (arith, parts_end s.requires.1 (at_under t j) (at-contents t x) _ e f z _ _ c.before.before.before.place-segments.ensures))  -- place-value-add-stop
+    let e = c.unpack-e.ensures in
+    let f = c.if-k-s.true in
+    let z = sym c.in_segments.ensures ∙ c.if-not-holds_one.true in
+    omega (arith, parts_end c.requires.1 (at_under t c.before.before.before.before.before.before.before.before.before.before.before.before.before.before.before) (at-contents t c.before.before.before.before.before.before.before.before.before.before.before.before) _ e f z _ _ c.place_segments-x.ensures))  -- place-value-add-stop
     (λ c κs.
-    let x = c.before.before.before.before.before.before.before.before in
-    let j = x.before.before.before in
-    let s = j.before.before.before.before.before.before in
-    let e = j.before.before.unpack-e.ensures in
-    let f = c.before.before.before.before.before.before.before.if-kind-eq-BIT_STRING.true in
-    leaf_asks s.requires.1 (at_under t j) (at-contents t x) _ e f (sym c.before.before.in-segments.ensures ∙ c.before.if-kind-eq-OCTET_STRING.false))  -- place-value-place-contents-requires
+    let e = c.unpack-e.ensures in
+    let f = c.if-k-s.true in
+    leaf_asks c.requires.1 (at_under t c.before.before.before.before.before.before.before.before.before.before.before) (at-contents t c.before.before.before.before.before.before.before.before) _ e f (sym c.in_segments.ensures ∙ c.if-not-holds_one.false))  -- place-value-place-contents-requires
     (λ c. (at-contents t c.before.before.before).order)  -- place-value-sub-c-2
     (λ c. let h = (at-contents t c.before.before.before).order in search rules)  -- place-value-part-c-start-2
     (λ c.
-    let x = c.before.before.before in
-    let j = x.before.before.before in
-    let s = j.before.before.before.before.before.before in
-    let h = part_high s.requires.1 (at_under t j) (at-contents t x) in
+    let h = part_high c.requires.1 (at_under t c.before.before.before.before.before.before) (at-contents t c.before.before.before) in
     search rules)  -- place-value-part-c-end-2
     (λ c κs.
-    let x = c.before.before.before.before.before.before in
-    let j = x.before.before.before in
-    let s = j.before.before.before.before.before.before in
-    let e = rw j.before.before.unpack-e.ensures at c.before.before.before.before.before.if-kind-eq-BIT_STRING.false in (
-      omega (arith, s.requires.0, part_less s.requires.1 (at_under t j) (at-contents t x)),
-      items_ask s.requires.1 (at_under t j) (at-contents t x) e,
+    let e = rw c.unpack-e.ensures at c.if-k-s.false in (
+      omega (arith, c.requires.0, part_less c.requires.1 (at_under t c.before.before.before.before.before.before.before.before.before) (at-contents t c.before.before.before.before.before.before)),
+      items_ask c.requires.1 (at_under t c.before.before.before.before.before.before.before.before.before) (at-contents t c.before.before.before.before.before.before) e,
     ))  -- place-value-place-members-requires
     (λ c.
-    let x = c.before.before.before.before.before.before.before.before.before.before in
-    let j = x.before.before.before in
-    let s = j.before.before.before.before.before.before in
-    let f = c.before.before.before.before.before.before.before.before.before.if-kind-eq-BIT_STRING.false in
-    let e = rw j.before.before.unpack-e.ensures at f in
-    let q = c.before.before.before.place-members.ensures.1 in
-    omega (arith, items_end s.requires.1 (at_under t j) (at-contents t x) e _ _ q))  -- place-value-add-stop-2
+    let f = c.if-k-s.false in
+    let e = rw c.unpack-e.ensures at f in
+    let q = c.place_members-x.ensures.1 in
+    omega (arith, items_end c.requires.1 (at_under t c.before.before.before.before.before.before.before.before.before.before.before.before.before) (at-contents t c.before.before.before.before.before.before.before.before.before.before) e _ _ q))  -- place-value-add-stop-2
     (λ c. search rules)  -- place-value-cast-close
     (λ c κs.
-    let x = c.before.before.before.before in
-    let j = x.before.before.before.before in
-    let s = j.before.before.before.before.before.before in
-    close_asks s.requires.1 (at_under t j) (at_stored t x) _ j.before.before.unpack-e.ensures)  -- place-value-close-requires
+    close_asks c.requires.1 (at_under t c.before.before.before.before.before.before.before.before) (at_stored t c.before.before.before.before) _ c.unpack-e.ensures)  -- place-value-close-requires
     (λ c. search rules)  -- place-value-enum-told-2
     (λ c. search rules)  -- place-value-enum-known-x-2
     (λ c.
-    let x = c.before.before.before.before.before.before.before in
-    let j = x.before.before.before.before in
-    let s = j.before.before.before.before.before.before in
-    stored_length s.requires.1 (at_under t j) (at_stored t x))  -- place-value-same-length
+    stored_length c.requires.1 (at_under t c.before.before.before.before.before.before.before.before.before.before.before) (at_stored t c.before.before.before.before.before.before.before))  -- place-value-same-length
     (λ c.
-    let x = c.before.before.before.before.before.before.before in
-    let j = x.before.before.before.before in
-    let s = j.before.before.before.before.before.before in
-    let d = must_close s.requires.1 (at_under t j) (at_stored t x) _ j.before.before.unpack-e.ensures _ c.before.before.close.ensures in
-    absurd (d _ _ c.enum-told2.given.1))  -- place-value-returns
+    let d = must_close c.requires.1 (at_under t c.before.before.before.before.before.before.before.before.before.before.before) (at_stored t c.before.before.before.before.before.before.before) _ c.unpack-e.ensures _ c.close.ensures in
+    absurd (d _ _ c.in-Refused-close.is))  -- place-value-returns
     (λ c.
-    let x = c.before.before.before.before.before.before.before.before in
-    let j = x.before.before.before.before in
-    let s = j.before.before.before.before.before.before in
-    stored_length s.requires.1 (at_under t j) (at_stored t x))  -- place-value-same-length-2
+    stored_length c.requires.1 (at_under t c.before.before.before.before.before.before.before.before.before.before.before.before) (at_stored t c.before.before.before.before.before.before.before.before))  -- place-value-same-length-2
     (λ c.
-    let x = c.before.before.before.before.before.before.before.before in
-    let j = x.before.before.before.before in
-    let s = j.before.before.before.before.before.before in
-    let e = j.before.before.unpack-e.ensures in
-    let d = closed_placed s.requires.1 (at_under t j) (at_stored t x) _ e _ c.before.before.before.close.ensures in
-    ((at_stored t x).ways, d _ _ c.before.x2.given.1))  -- place-value-returns-2
+    let e = c.unpack-e.ensures in
+    let d = closed_placed c.requires.1 (at_under t c.before.before.before.before.before.before.before.before.before.before.before.before) (at_stored t c.before.before.before.before.before.before.before.before) _ e _ c.close.ensures in
+    ((at_stored t c.before.before.before.before.before.before.before.before).ways, d _ _ c.in-Done.is))  -- place-value-returns-2
     (λ c.
-    let x = c.before.before in
-    let j = x.before.before.before.before in
-    let s = j.before.before.before.before.before.before in
-    stored_length s.requires.1 (at_under t j) (at_stored t x))  -- place-value-same-length-3
+    stored_length c.requires.1 (at_under t c.before.before.before.before.before.before) (at_stored t c.before.before))  -- place-value-same-length-3
     (λ c.
-    let x = c.before.before in
-    let j = x.before.before.before.before in
-    let s = j.before.before.before.before.before.before in
-    let e = rw j.before.before.unpack-e.ensures at c.if-kind-eq-NULL.false in
-    ((at_stored t x).ways, bare_placed s.requires.1 (at_under t j) (at_stored t x) e))  -- place-value-returns-3
+    let e = rw c.unpack-e.ensures at c.if-is_over.false in
+    ((at_stored t c.before.before).ways, bare_placed c.requires.1 (at_under t c.before.before.before.before.before.before) (at_stored t c.before.before) e))  -- place-value-returns-3

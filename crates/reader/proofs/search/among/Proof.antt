@@ -22,27 +22,26 @@ decreases-loop table index t code way₀ depth₀ choice₀ j₀ way depth choic
 
 -- where the alternatives of the CHOICE are known that is looked at
 abbrev turn : (c : tie.After-alternatives-s invariant-loop decreases-loop) →
-    let l = c.before.before.before.loop-j in
-    let a = c.before.before.before.before.before.args in
+    let l = c.loop-j in
+    let a = c.args in
     Turn a.table.now a.index.now a.code l.way a.t l.depth l.choice l.j c.alternatives-s.result
 turn c =
-    let c5 = c.before.before.before.before.before in
-    let l = c.before.before.before.loop-j in
+    let l = c.loop-j in
     record {
-      ready = c5.requires.0;
-      tag = c5.requires.3;
+      ready = c.requires.0;
+      tag = c.requires.3;
       wide = l.invariant.0;
       amid = l.invariant.1;
-      spans = c.alternatives-s.ensures ∙ ap (λ (e : Entry). counted c5.args.table.now e.own 1) c.before.unpack.ensures;
+      spans = c.alternatives-s.ensures ∙ ap (λ (e : Entry). counted c.args.table.now e.own 1) c.unpack.ensures;
     }
 
 -- where one more is read
-abbrev one : (c : tie.After-octet-a invariant-loop decreases-loop) → Next (turn c.before.before.before.before) c.before.before.if-j-s.true c.octet-a.ensures.0
-one c = next (turn c.before.before.before.before) c.before.before.if-j-s.true c.octet-a.ensures.0
+abbrev one : (c : tie.After-octet-a invariant-loop decreases-loop) → Next (turn c.before.before.before.before) c.if-j-s.true c.octet-a.ensures.0
+one c = next (turn c.before.before.before.before) c.if-j-s.true c.octet-a.ensures.0
 
 -- how many records there are
 abbrev few : (c : tie.At-loop-j invariant-loop decreases-loop) → (c.loop-j.choice < 128) × (c.loop-j.depth ≤ 128)
-few c = let n = c.before.before.requires.0.passes.few in (omega (arith, c.loop-j.invariant.1.low, n), omega (arith, c.loop-j.invariant.1.deep, n))
+few c = let n = c.requires.0.passes.few in (omega (arith, c.loop-j.invariant.1.low, n), omega (arith, c.loop-j.invariant.1.deep, n))
 
 pub among_spec : {M : Type 1} → statement M
 among_spec =
@@ -51,13 +50,13 @@ among_spec =
     invariant-loop
     decreases-loop
     (λ c.
-    let q = c.before.requires in
+    let q = c.requires in
     (q.4, amid_first q.0 _ _ _ q.3 q.1 q.2))  -- loop-holds
     (λ c. omega (arith, (few c).0))  -- mul-unpack
     (λ c. (few c).0)  -- element-copy-out-unpack
     (λ c κs. tt)  -- unpack-requires
     (λ c κs. tt)  -- alternatives-requires
-    (λ c. omega (arith, (its (turn c.before.before.before)).near, c.before.if-j-s.true))  -- add-octet
+    (λ c. omega (arith, (its (turn c.before.before.before)).near, c.if-j-s.true))  -- add-octet
     (λ c κs. tt)  -- octet-requires
     (λ c. omega (arith, (few c.before.before.before.before.before.before.before).0))  -- mul-way
     (λ c. omega (arith, (few c.before.before.before.before.before.before.before).0, (one c).few))  -- add-way
@@ -65,54 +64,44 @@ among_spec =
     (λ c. omega (arith, (one c).room))  -- mul-way-2
     (λ c. (one c).room)  -- element-write-way
     (λ c. omega (arith, c.octet-a.ensures.1))  -- mul-begins
-    (λ c. omega (arith, (one c).small, c.before.before.before.before.before.before.before.before.before.requires.0.passes.few))  -- element-copy-out-begins
+    (λ c. omega (arith, (one c).small, c.requires.0.passes.few))  -- element-copy-out-begins
     (λ c κs.
-    code_most c.before.before.before.before.before.before.before.before.before.before.requires.0 _ (one c.before).small)  -- begins-requires
+    code_most c.requires.0 _ (one c.before).small)  -- begins-requires
     (λ c. omega (arith, (one c.before.before.before).room))  -- add-t28
     (λ c.
-    let c3 = c.before.before.before in
-    let c7 = c3.before.before.before.before in (
-      simp length-set c7.before.before.before.loop-j.invariant.0,
-      among_found (turn c7) c3.before.before.if-j-s.true c3.octet-a.ensures.0 c.before.begins.ensures c.if-begins.true,
+    (
+      simp length-set c.loop-j.invariant.0,
+      among_found (turn c.before.before.before.before.before.before.before) c.if-j-s.true c.octet-a.ensures.0 c.begins.ensures c.if-begins.true,
     ))  -- returns
-    (λ c. omega (arith, c.before.before.before.octet-a.ensures.1))  -- mul-first
+    (λ c. omega (arith, c.octet-a.ensures.1))  -- mul-first
     (λ c.
-    let c3 = c.before.before.before in
-    omega (arith, (one c3).small, c3.before.before.before.before.before.before.before.before.before.requires.0.passes.few))  -- element-copy-out-first
+    omega (arith, (one c.before.before.before).small, c.requires.0.passes.few))  -- element-copy-out-first
     (λ c κs. tt)  -- first-requires
     (λ c. omega (arith, (one c.before.before.before.before.before.before).room))  -- add-depth
     (λ c.
-    let c6 = c.before.before.before.before.before.before in
-    fewer_under (turn c6.before.before.before.before) c6.before.before.if-j-s.true c6.octet-a.ensures.0)  -- loop-less
+    fewer_under (turn c.before.before.before.before.before.before.before.before.before.before) c.if-j-s.true c.octet-a.ensures.0)  -- loop-less
     (λ c.
-    let c4 = c.before.before.before.before in
-    let c6 = c4.before.before in
-    let c10 = c6.before.before.before.before in (
-      simp length-set c10.before.before.before.loop-j.invariant.0,
-      among_down (turn c10) c6.before.before.if-j-s.true c6.octet-a.ensures.0 c4.begins.ensures _ c.before.first.ensures
+    (
+      simp length-set c.loop-j.invariant.0,
+      among_down (turn c.before.before.before.before.before.before.before.before.before.before) c.if-j-s.true c.octet-a.ensures.0 c.begins.ensures _ c.first.ensures
           c.if-first-eq-UNTAGGED.true,
     ))  -- loop-again
     (λ c. omega (arith, (one c.before.before.before.before.before.before).few))  -- add-j
     (λ c.
-    let c6 = c.before.before.before.before.before.before in
-    fewer_beside (turn c6.before.before.before.before) c6.before.before.if-j-s.true c6.octet-a.ensures.0)  -- loop-less-2
+    fewer_beside (turn c.before.before.before.before.before.before.before.before.before.before) c.if-j-s.true c.octet-a.ensures.0)  -- loop-less-2
     (λ c.
-    let c4 = c.before.before.before.before in
-    let c6 = c4.before.before in
-    let c10 = c6.before.before.before.before in (
-      simp length-set c10.before.before.before.loop-j.invariant.0,
-      among_next (turn c10) c6.before.before.if-j-s.true c6.octet-a.ensures.0 c4.begins.ensures c.before.before.before.if-begins.false _
-          c.before.first.ensures c.if-first-eq-UNTAGGED.false,
+    (
+      simp length-set c.loop-j.invariant.0,
+      among_next (turn c.before.before.before.before.before.before.before.before.before.before) c.if-j-s.true c.octet-a.ensures.0 c.begins.ensures c.if-begins.false _
+          c.first.ensures c.if-first-eq-UNTAGGED.false,
     ))  -- loop-again-2
     (λ c.
-    let c3 = c.before.before.before in
-    (c3.before.before.before.loop-j.invariant.0, among_none (turn c3) c.before.if-j-s.false c.if-depth-eq0.true))  -- returns-2
+    (c.loop-j.invariant.0, among_none (turn c.before.before.before) c.if-j-s.false c.if-depth-eq0.true))  -- returns-2
     (λ c. omega (arith, c.if-depth-eq0.false))  -- sub-depth
     (λ c. omega (arith, (few c.before.before.before.before.before.before).1))  -- mul-n
     (λ c. omega (arith, (few c.before.before.before.before.before.before).1, c.if-depth-eq0.false))  -- element-copy-out-n
-    (λ c. omega (arith, among_small (turn c.before.before.before.before) c.before.before.if-j-s.false c.before.if-depth-eq0.false))  -- cast-n
+    (λ c. omega (arith, among_small (turn c.before.before.before.before) c.if-j-s.false c.if-depth-eq0.false))  -- cast-n
     (λ c. omega arith)  -- add-j-2
-    (λ c. fewer_above (turn c.before.before.before.before) c.before.before.if-j-s.false c.before.if-depth-eq0.false)  -- loop-less-3
+    (λ c. fewer_above (turn c.before.before.before.before) c.if-j-s.false c.if-depth-eq0.false)  -- loop-less-3
     (λ c.
-    let c4 = c.before.before.before.before in
-    (c4.before.before.before.loop-j.invariant.0, among_back (turn c4) c.before.before.if-j-s.false c.before.if-depth-eq0.false)))  -- loop-again-3
+    (c.loop-j.invariant.0, among_back (turn c.before.before.before.before) c.if-j-s.false c.if-depth-eq0.false)))  -- loop-again-3

@@ -28,9 +28,9 @@ decreases-loop table index w i came code from way₀ e s whole n k₀ way k = n 
 
 -- where the parts of the entry are known
 abbrev at-parts : (c : tie.After-parts-s invariant-loop decreases-loop) →
-    let a = c.before.before.before.args in
-    Parted a.table.now a.index.now a.w a.came.now c.before.unpack-e.result c.parts-s.result
-at-parts c = record { sound = c.before.before.before.requires.0; entry = c.before.unpack-e.ensures; span = c.parts-s.ensures }
+    let a = c.args in
+    Parted a.table.now a.index.now a.w a.came.now c.unpack-e.result c.parts-s.result
+at-parts c = record { sound = c.requires.0; entry = c.unpack-e.ensures; span = c.parts-s.ensures }
 
 -- how many parts it has
 abbrev at_count : (c : tie.Joined-whole invariant-loop decreases-loop) → Counted (at-parts c.before.before) c.if-whole.n
@@ -38,11 +38,9 @@ at_count c = ⊎_elim (λ x. inl (x.0.taken, x.1)) (λ x. inr (x.0.left, x.1)) c
 
 -- the part at hand
 abbrev at-candidate : (c : tie.Joined-whole-2 invariant-loop decreases-loop) →
-    let l = c.before.before.before.before in Candidate (at-parts l.before.before.before) l.loop-k.k c.if-whole-2.t
+    Candidate (at-parts c.before.before.before.before.before.before.before) c.loop-k.k c.if-whole-2.t
 at-candidate c =
-    let c3 = c.before.before.before in
-    let c5 = c3.before.before in
-    candidate (at-parts c5.before.before) _ _ _ (at_count c5) c3.loop-k-test.true
+    candidate (at-parts c.before.before.before.before.before.before.before) _ _ _ (at_count c.before.before.before.before.before) c.loop-k-test.true
     (⊎_elim (λ x. inl (x.0.taken, x.2)) (λ x. inr (x.0.left, x.4 ∙ x.3.ensures.0)) c.if-whole-2.branch)
 
 pub indirect_spec : {M : Type 1} → statement M
@@ -53,103 +51,73 @@ indirect_spec =
     decreases-loop
     (λ c κs. tt)  -- unpack-requires
     (λ c κs. tt)  -- parts-requires
-    (λ c. (c.before.before.before.before.before.requires.3, refl))  -- loop-holds
+    (λ c. (c.requires.3, refl))  -- loop-holds
     (λ c.
     omega (arith, few_parts (at-parts c.before.before.before.before) _ (at_count c.before.before), c.loop-k-test.true))  -- mul-if2
     (λ c.
     omega (arith, few_parts (at-parts c.before.before.before.before) _ (at_count c.before.before), c.loop-k-test.true))  -- element-copy-out-if2
     (λ c. search rules)  -- cast-t
     (λ c.
-    let c4 = c.before.before.before.before in
-    let c6 = c4.before.before in
-    let c8 = c6.before.before in
     omega (
       arith,
-      near (at-parts c8) _ (table_part (at-parts c8) _ _ (at_count c6) c4.loop-k-test.true
-          c.before.if-whole-2.false),
+      near (at-parts c.before.before.before.before.before.before.before.before) _ (table_part (at-parts c.before.before.before.before.before.before.before.before) _ _ (at_count c.before.before.before.before.before.before) c.loop-k-test.true
+          c.if-whole-2.false),
     ))  -- mul-octet
     (λ c.
-    let c5 = c.before.before.before.before.before in
-    let c7 = c5.before.before in
-    let c9 = c7.before.before in
     omega (
       arith,
-      near (at-parts c9) _ (table_part (at-parts c9) _ _ (at_count c7) c5.loop-k-test.true
-          c.before.before.if-whole-2.false),
+      near (at-parts c.before.before.before.before.before.before.before.before.before) _ (table_part (at-parts c.before.before.before.before.before.before.before.before.before) _ _ (at_count c.before.before.before.before.before.before.before) c.loop-k-test.true
+          c.if-whole-2.false),
     ))  -- add-octet
     (λ c κs. tt)  -- octet-requires
     (λ c κs.
-    let c5 = c.before.before.before.before.before in
-    let c8 = c5.before.before.before in
-    let c11 = c8.before.before.before in
-    let q = c11.requires in
-    let l = c5.loop-k in (
+    let q = c.requires in
+    let l = c.loop-k in (
       q.0.ready,
-      candidate_low (at-parts c8) c11.args.code l.k c.before.if-whole-2.t (at-candidate c.before),
+      candidate_low (at-parts c.before.before.before.before.before.before.before.before) c.args.code l.k c.if-whole-2.t (at-candidate c.before),
       q.2,
       l.invariant.0,
     ))  -- seek-requires
     (λ c. search rules)  -- enum_told
     (λ c. search rules)  -- enum-known-record
     (λ c.
-    let c3 = c.before.before.before in
-    let c5 = c3.before.before in
-    let c6 = c5.before in
-    let c9 = c6.before.before.before in (
-      c3.seek.ensures.0,
-      indirect_part (at-parts c9.before.before.before) _ _ _ (at-candidate c5) _ _ c3.seek.ensures.1 _ _ _ _
-          c9.loop-k.invariant.1 c6.if-came-k-eq0.true c.before.«record».given.1,
+    (
+      c.seek.ensures.0,
+      indirect_part (at-parts c.before.before.before.before.before.before.before.before.before.before.before.before) _ _ _ (at-candidate c.before.before.before.before.before) _ _ c.seek.ensures.1 _ _ _ _
+          c.loop-k.invariant.1 c.if-came-k-eq0.true c.«record».given.1,
     ))  -- returns
     (λ c.
-    let c10 = c.before.before.before.before.before.before.before.before.before.before in
-    let c12 = c10.before.before in
-    let c14 = c12.before.before in
     omega (
       arith,
-      near (at-parts c14) _ (turn_part (at-parts c14) _ _ (at_count c12) c10.loop-k-test.true
-          c.before.if-e-eq-SEQUENCE.true),
+      near (at-parts c.before.before.before.before.before.before.before.before.before.before.before.before.before.before) _ (turn_part (at-parts c.before.before.before.before.before.before.before.before.before.before.before.before.before.before) _ _ (at_count c.before.before.before.before.before.before.before.before.before.before.before.before) c.loop-k-test.true
+          c.if-e-eq-SEQUENCE.true),
     ))  -- mul-optional
     (λ c.
-    let c11 = c.before.before.before.before.before.before.before.before.before.before.before in
-    let c13 = c11.before.before in
-    let c15 = c13.before.before in
     omega (
       arith,
-      near (at-parts c15) _ (turn_part (at-parts c15) _ _ (at_count c13) c11.loop-k-test.true
-          c.before.before.if-e-eq-SEQUENCE.true),
+      near (at-parts c.before.before.before.before.before.before.before.before.before.before.before.before.before.before.before) _ (turn_part (at-parts c.before.before.before.before.before.before.before.before.before.before.before.before.before.before.before) _ _ (at_count c.before.before.before.before.before.before.before.before.before.before.before.before.before) c.loop-k-test.true
+          c.if-e-eq-SEQUENCE.true),
     ))  -- add-optional
     (λ c κs. tt)  -- optional-requires
     (λ c κs.
-    let c10 = c.before.before.before.before.before.before.before.before.before.before in
-    let q = c10.before.before.before.before.before.before.before.before.before.before.requires in
+    let q = c.requires in
     (_, q.0, q.1))  -- unawaited-requires
     (λ c.
-    let c5 = c.before.before.before.before.before in
-    let c7 = c5.before.before in
-    let c9 = c7.before.before in
-    let c11 = c9.before.before in
-    let c12 = c11.before in
-    let c15 = c12.before.before.before in
-    let c18 = c15.before.before.before in (
-      c9.seek.ensures.0,
-      indirect_none (at-parts c18) _ _ _ _ (c15.loop-k.invariant.1 ∙ indirect_stop (at-parts c18) _ _ _ (at-candidate c11) _ _
-          c9.seek.ensures.1 c12.if-came-k-eq0.true c7.enum_told-1.given.1 c5.if-e-eq-SEQUENCE.true _ c.before.before.optional.ensures
-          c.before.if-not-optional.true) _ c.unawaited.ensures,
+    (
+      c.seek.ensures.0,
+      indirect_none (at-parts c.before.before.before.before.before.before.before.before.before.before.before.before.before.before.before.before.before.before) _ _ _ _ (c.loop-k.invariant.1 ∙ indirect_stop (at-parts c.before.before.before.before.before.before.before.before.before.before.before.before.before.before.before.before.before.before) _ _ _ (at-candidate c.before.before.before.before.before.before.before.before.before.before.before) _ _
+          c.seek.ensures.1 c.if-came-k-eq0.true c.in-Nothing.is c.if-e-eq-SEQUENCE.true _ c.optional.ensures
+          c.if-not-optional.true) _ c.unawaited.ensures,
     ))  -- returns-2
     (λ c.
-    let c4 = c.before.before.before.before in
-    omega (arith, few_parts (at-parts c4.before.before) _ (at_count c4), c.before.before.loop-k-test.true))  -- add-k
-    (λ c. omega (arith, c.before.before.loop-k-test.true))  -- loop-less
+    omega (arith, few_parts (at-parts c.before.before.before.before.before.before) _ (at_count c.before.before.before.before), c.loop-k-test.true))  -- add-k
+    (λ c. omega (arith, c.loop-k-test.true))  -- loop-less
     (λ c.
-    let c2 = c.before.before in
-    let c3 = c2.before in
-    let c4 = c3.before in
-    let c6 = c4.before.before in
-    let l = c3.loop-k in
+    let l = c.loop-k in
     ⊎_elim (λ x. (
       ap length x.12 ∙ x.3.ensures.0,
-      l.invariant.1 ∙ indirect_optional (at-parts c6) _ _ x.1.t (candidate
-          (at-parts c6) _ _ x.1.t (at_count c4) c2.loop-k-test.true (⊎_elim (λ y. inl (y.0.taken, y.2)) (λ y. inr (
+      l.invariant.1 ∙ indirect_optional (at-parts c.before.before.before.before.before.before) _ _ x.1.t (candidate
+          (at-parts c.before.before.before.before.before.before) _ _ x.1.t (at_count c.before.before.before.before) c.loop-k-test.true (⊎_elim (λ y. inl (y.0.taken, y.2)) (λ y. inr (
             y.0.left,
             y.4 ∙ y.3.ensures.0,
           )) x.1.came)) _ x.3.result x.3.ensures.1 x.0.taken x.5.given.1 x.7.taken
@@ -157,23 +125,20 @@ indirect_spec =
     )) (⊎_elim (λ x. (
       ap length x.8 ∙ x.3.ensures.0,
       l.invariant.1
-          ∙ indirect_other (at-parts c6) _ _ x.1.t (candidate (at-parts c6) _ _ x.1.t (at_count c4) c2.loop-k-test.true
+          ∙ indirect_other (at-parts c.before.before.before.before.before.before) _ _ x.1.t (candidate (at-parts c.before.before.before.before.before.before) _ _ x.1.t (at_count c.before.before.before.before) c.loop-k-test.true
           (⊎_elim (λ y. inl (y.0.taken, y.2)) (λ y. inr (y.0.left, y.4 ∙ y.3.ensures.0)) x.1.came)) _ x.3.result
           x.3.ensures.1 x.0.taken x.5.given.1 x.7.left,
     )) (λ x. (
       ap length x.1 ∙ l.invariant.0,
       l.invariant.1 ∙ indirect_come
-          (at-parts c6) _ _ _ (at_count c4) c2.loop-k-test.true x.0.left,
+          (at-parts c.before.before.before.before.before.before) _ _ _ (at_count c.before.before.before.before) c.loop-k-test.true x.0.left,
     ))) c.if-came-k-eq0.branch)  -- loop-again
     (λ c κs.
-    let q = c.before.before.before.before.before.before.before.requires in
+    let q = c.requires in
     (_, q.0, q.1))  -- unawaited-requires-2
     (λ c.
-    let c2 = c.before.before in
-    let c3 = c2.before in
-    let c5 = c3.before.before in
-    let l = c2.loop-k in (
+    let l = c.loop-k in (
       l.invariant.0,
-      indirect_none (at-parts c5) _ _ _ _ (l.invariant.1 ∙ indirect_end (at-parts c5) _ _ _ (at_count c3)
-          c.before.loop-k-test.false) _ c.unawaited-2.ensures,
+      indirect_none (at-parts c.before.before.before.before.before) _ _ _ _ (l.invariant.1 ∙ indirect_end (at-parts c.before.before.before.before.before) _ _ _ (at_count c.before.before.before)
+          c.loop-k-test.false) _ c.unawaited-2.ensures,
     )))  -- returns-3

@@ -14,7 +14,7 @@ part_spec =
     (λ c. search rules)  -- mul-p
     (λ c. search rules)  -- add-p
     (λ c. search rules)  -- shared-slice-read-result
-    (λ c. let a = c.before.before.before.args in omega (arith, c.shared_slice_known-1.given (a.s.first + a.s.step * a.j)))  -- cast-result
+    (λ c. let a = c.args in omega (arith, c.shared_slice_known-1.given (a.s.first + a.s.step * a.j)))  -- cast-result
     (λ c.
-    let a = c.before.before.before.args in
+    let a = c.args in
     (refl, omega (arith, c.shared_slice_known-1.given (a.s.first + a.s.step * a.j)))))  -- returns

@@ -10,25 +10,22 @@ pub seek_spec : {M : Type 1} → statement M
 seek_spec =
     tie.close
     (tie.spec
-    (λ c. omega (arith, c.before.requires.1, c.before.requires.0.passes.few))  -- mul-begins
-    (λ c. omega (arith, c.before.requires.1, c.before.requires.0.passes.few))  -- element-copy-out-begins
-    (λ c κs. let q = c.before.before.requires in code_most q.0 _ q.1)  -- begins-requires
+    (λ c. omega (arith, c.requires.1, c.requires.0.passes.few))  -- mul-begins
+    (λ c. omega (arith, c.requires.1, c.requires.0.passes.few))  -- element-copy-out-begins
+    (λ c κs. let q = c.requires in code_most q.0 _ q.1)  -- begins-requires
     (λ c.
-    let q = c.before.before.before.before.requires in
-    (q.3, seek_here q.0 _ _ _ _ q.2 q.1 c.before.begins.ensures c.if-begins.true))  -- returns
-    (λ c. let q = c.before.before.before.before.requires in omega (arith, q.1, q.0.passes.few))  -- mul-first
-    (λ c. let q = c.before.before.before.before.requires in omega (arith, q.1, q.0.passes.few))  -- element-copy-out-first
+    let q = c.requires in
+    (q.3, seek_here q.0 _ _ _ _ q.2 q.1 c.begins.ensures c.if-begins.true))  -- returns
+    (λ c. let q = c.requires in omega (arith, q.1, q.0.passes.few))  -- mul-first
+    (λ c. let q = c.requires in omega (arith, q.1, q.0.passes.few))  -- element-copy-out-first
     (λ c κs. tt)  -- first-requires
     (λ c.
-    let c4 = c.before.before.before.before in
-    let c7 = c4.before.before.before in
-    let q = c7.requires in (
+    let q = c.requires in (
       q.3,
-      seek_other q.0 _ c7.args.way.now _ _ _ q.2 q.1 c4.begins.ensures c.before.before.before.if-begins.false
-          c.before.first.ensures c.if-first-ne-UNTAGGED.true,
+      seek_other q.0 _ c.args.way.now _ _ _ q.2 q.1 c.begins.ensures c.if-begins.false
+          c.first.ensures c.if-first-ne-UNTAGGED.true,
     ))  -- returns-2
     (λ c κs.
-    let c2 = c.before.before in
-    let q = c2.before.before.before.before.before.before.requires in
-    (q.0, q.1, sym (code_is q.0 _ _ q.1 c2.first.ensures) ∙ c.before.if-first-ne-UNTAGGED.false, q.2, q.3))  -- among-requires
+    let q = c.requires in
+    (q.0, q.1, sym (code_is q.0 _ _ q.1 c.first.ensures) ∙ c.if-first-ne-UNTAGGED.false, q.2, q.3))  -- among-requires
     (λ c. c.among.ensures))  -- returns-3

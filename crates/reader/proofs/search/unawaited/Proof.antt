@@ -15,26 +15,18 @@ unawaited_spec =
     (λ c κs. tt)  -- unpack-requires
     (λ c κs. tt)  -- has-members-requires
     (λ c κs.
-    let c4 = c.before.before.before.before in
-    let q = c4.requires in (
+    let q = c.requires in (
       q.0,
       q.1,
-      has_members_lem q.1 _ c.before.before.unpack.ensures _ c.before.has_members.ensures c4.args.i c.if-has_members.true,
+      has_members_lem q.1 _ c.unpack.ensures _ c.has_members.ensures c.args.i c.if-has_members.true,
     ))  -- lacks-requires
     (λ c.
-    let c3 = c.before.before.before in
-    let c4 = c3.before in
-    let c6 = c4.before.before in
-    ap (λ (x : ReadingCause). Refused x) (sym (unfit_trailing c6.requires.1 _ c4.unpack.ensures _ c3.has_members.ensures _ _
-    c.before.lacks.ensures c6.args.cause c.before.before.if-has_members.true c.if-not-lacks.true)))  -- returns
+    ap (λ (x : ReadingCause). Refused x) (sym (unfit_trailing c.requires.1 _ c.unpack.ensures _ c.has_members.ensures _ _
+    c.lacks.ensures c.args.cause c.if-has_members.true c.if-not-lacks.true)))  -- returns
     (λ c.
-    let c3 = c.before.before.before in
-    let c4 = c3.before in
-    let c6 = c4.before.before in
-    ap (λ (x : ReadingCause). Refused x) (sym (unfit_left c6.requires.1 _ c4.unpack.ensures _ c3.has_members.ensures _ _
-    c.before.lacks.ensures c6.args.cause c.before.before.if-has_members.true c.if-not-lacks.false)))  -- returns-2
+    ap (λ (x : ReadingCause). Refused x) (sym (unfit_left c.requires.1 _ c.unpack.ensures _ c.has_members.ensures _ _
+    c.lacks.ensures c.args.cause c.if-has_members.true c.if-not-lacks.false)))  -- returns-2
     (λ c.
-    let c4 = c.before.before.before.before in
-    let q = c4.requires in
-    ap (λ (x : ReadingCause). Refused x) (sym (unfit_other q.1 _ c.before.before.unpack.ensures _ c.before.has_members.ensures _
-    c4.args.cause c.if-has_members.false q.2))))  -- returns-3
+    let q = c.requires in
+    ap (λ (x : ReadingCause). Refused x) (sym (unfit_other q.1 _ c.unpack.ensures _ c.has_members.ensures _
+    c.args.cause c.if-has_members.false q.2))))  -- returns-3

@@ -24,14 +24,13 @@ following_spec =
     (λ c. omega arith)  -- mul-if1
     (λ c. omega arith)  -- element-copy-out-if1
     (λ c.
-    let v = c.before.before.before.loop-k.invariant in
+    let v = c.loop-k.invariant in
     record { least = v.0; most = v.1; none = v.2; came = λ l z. c.if-began-k-ne0.true z })  -- returns
     (λ c. omega arith)  -- add-k
     (λ c. omega arith)  -- loop-less
     (λ c.
-    let c3 = c.before.before.before in
-    let v = c3.loop-k.invariant in
-    (omega arith, omega arith, passed_more c3.before.args.began.now _ _ v.2 c.if-began-k-ne0.false))  -- loop-again
+    let v = c.loop-k.invariant in
+    (omega arith, omega arith, passed_more c.args.began.now _ _ v.2 c.if-began-k-ne0.false))  -- loop-again
     (λ c.
-    let v = c.before.loop-k.invariant in
-    record { least = c.before.before.requires.0; most = omega arith; none = λ i x y. v.2 i x (omega arith); came = λ l z. omega arith }))  -- returns-2
+    let v = c.loop-k.invariant in
+    record { least = c.requires.0; most = omega arith; none = λ i x y. v.2 i x (omega arith); came = λ l z. omega arith }))  -- returns-2

@@ -33,90 +33,66 @@ locate_spec =
     invariant-loop
     decreases-loop
     (λ c.
-    let c2 = c.before.before in
-    let p = c2.requires in
-    (omega arith, rw p.4, p.5, located_first p.0 p.1 _ c2.args.indefinite _ p.4))  -- loop-holds
+    let p = c.requires in
+    (omega arith, rw p.4, p.5, located_first p.0 p.1 _ c.args.indefinite _ p.4))  -- loop-holds
     (λ c κs. search rules)  -- is-over-requires
     (λ c κs. omega arith)  -- behind-requires
     (λ c.
-    let c3 = c.before.before.before in
-    let c6 = c3.before.before.before in
-    let p = c6.requires in
-    let v = c3.loop-w.invariant in (
+    let p = c.requires in
+    let v = c.loop-w.invariant in (
       v.1,
       v.2,
-      located_over p.0 p.1 _ c6.args.indefinite _ _ v.0 v.3 _ c.before.before.is_over.ensures
-          c.before.if-is_over.true _ c.behind.ensures,
+      located_over p.0 p.1 _ c.args.indefinite _ _ v.0 v.3 _ c.is_over.ensures
+          c.if-is_over.true _ c.behind.ensures,
     ))  -- returns
     (λ c. omega arith)  -- sub-rest
     (λ c. omega arith)  -- part-rest-start
     (λ c. omega arith)  -- part-rest-end
     (λ c κs.
-    let c6 = c.before.before.before.before.before.before in
-    let p = c6.before.before.before.requires in
-    let v = c6.loop-w.invariant in
+    let p = c.requires in
+    let v = c.loop-w.invariant in
     (set_sound p.0 p.1 p.2 _ v.1, v.2))  -- search-requires
     (λ c. search rules)  -- enum_told
     (λ c.
-    let c2 = c.before.before in
-    let c7 = c2.before.before.before.before.before in
-    let c8 = c7.before in
-    let c9 = c8.before in
-    let c12 = c9.before.before.before in
-    let p = c12.requires in
-    let v = c9.loop-w.invariant in (
+    let p = c.requires in
+    let v = c.loop-w.invariant in (
       v.1,
-      c2.search.ensures.0,
-      located_none p.0 p.1 _ c12.args.indefinite _ _ v.0 v.3 _ c8.is_over.ensures c7.if-is_over.false _ _ (rw from_is
-          at c2.search.ensures.1) _ c.enum_told-1.given.1 _,
+      c.search.ensures.0,
+      located_none p.0 p.1 _ c.args.indefinite _ _ v.0 v.3 _ c.is_over.ensures c.if-is_over.false _ _ (rw from_is
+          at c.search.ensures.1) _ c.in-Refused.is _,
     ))  -- returns-2
     (λ c. search rules)  -- enum-known-x
     (λ c. omega arith)  -- add-began
     (λ c. omega arith)  -- cast-began
     (λ c.
-    let c3 = c.before.before.before in
-    let c10 = c3.before.before.before.before.before.before.before in
-    let c13 = c10.before.before.before in
-    let l = c10.loop-w in
-    let p = c13.requires in
-    let q = place_low p.0 p.1 l.began (drop l.at c13.args.m.now) _ _ (rw from_is at c3.search.ensures.1) _
-    c.before.x-1.given.1 p.2 in
+    let l = c.loop-w in
+    let p = c.requires in
+    let q = place_low p.0 p.1 l.began (drop l.at c.args.m.now) _ _ (rw from_is at c.search.ensures.1) _
+    c.in-Part.is p.2 in
     omega arith)  -- mul-began
     (λ c.
-    let c3 = c.before.before.before in
-    let c10 = c3.before.before.before.before.before.before.before in
-    let c13 = c10.before.before.before in
-    let l = c10.loop-w in
-    let p = c13.requires in
-    place_low p.0 p.1 l.began (drop l.at c13.args.m.now) _ _ (rw from_is at c3.search.ensures.1) _
-    c.before.x-1.given.1 p.2)  -- element-write-began
+    let l = c.loop-w in
+    let p = c.requires in
+    place_low p.0 p.1 l.began (drop l.at c.args.m.now) _ _ (rw from_is at c.search.ensures.1) _
+    c.in-Part.is p.2)  -- element-write-began
     (λ c κs. search rules)  -- end-requires
     (λ c.
-    let c11 = c.before.before.before.before.before.before.before.before.before.before.before in
-    omega (arith, (item_ends _ _ (rw from_is at c.end-at.ensures)).1, length-drop c11.loop-w.at c11.before.before.before.args.m.now))  -- add-at
+    omega (arith, (item_ends _ _ (rw from_is at c.end-at.ensures)).1, length-drop c.loop-w.at c.args.m.now))  -- add-at
     (λ c.
-    let c4 = c.before.before.before.before in
-    let c11 = c4.before.before.before.before.before.before.before in
-    let c14 = c11.before.before.before in
-    let a = c14.args in
-    let l = c11.loop-w in
-    let p = c14.requires in
-    let q = end_further p.0 p.1 l.began (drop l.at a.m.now) _ _ (rw from_is at c4.search.ensures.1) _
-    c.before.before.x-1.given.1 _ (item_ends _ _ (rw from_is at c.end-at.ensures)).0 in
+    let a = c.args in
+    let l = c.loop-w in
+    let p = c.requires in
+    let q = end_further p.0 p.1 l.began (drop l.at a.m.now) _ _ (rw from_is at c.search.ensures.1) _
+    c.in-Part.is _ (item_ends _ _ (rw from_is at c.end-at.ensures)).0 in
     omega (arith, (item_ends _ _ (rw from_is at c.end-at.ensures)).1, length-drop l.at a.m.now))  -- loop-less
     (λ c.
-    let c4 = c.before.before.before.before in
-    let c9 = c4.before.before.before.before.before in
-    let c10 = c9.before in
-    let c11 = c10.before in
-    let c14 = c11.before.before.before in
-    let a = c14.args in
-    let l = c11.loop-w in
-    let p = c14.requires in
+    let a = c.args in
+    let l = c.loop-w in
+    let p = c.requires in
     let v = l.invariant in (
       omega (arith, (item_ends _ _ (rw from_is at c.end-at.ensures)).1, length-drop l.at a.m.now),
       simp length-set v.1,
-      c4.search.ensures.0,
-      located_turn p.0 p.1 a.m.now a.indefinite l.began l.at v.0 v.3 _ c10.is_over.ensures
-          c9.if-is_over.false _ _ (rw from_is at c4.search.ensures.1) _ c.before.before.x-1.given.1 _ (item_ends _ _ (rw from_is at c.end-at.ensures)).2,
+      c.search.ensures.0,
+      located_turn p.0 p.1 a.m.now a.indefinite l.began l.at v.0 v.3 _ c.is_over.ensures
+          c.if-is_over.false _ _ (rw from_is at c.search.ensures.1) _ c.in-Part.is _ (item_ends _ _ (rw from_is at c.end-at.ensures)).2,
     )))  -- loop-again

@@ -13,91 +13,56 @@ awaited_spec =
     (λ c κs. tt)  -- unpack-requires
     (λ c κs. tt)  -- tag-count-requires
     (λ c.
-    let q = c.before.before.before.before.before.requires in
-    awaits_none q.1 q.2 _ c.before.before.unpack-e.ensures _ c.before.tag_count.ensures.0 _ _ c.if-tag_count-j.true)  -- returns
+    let q = c.requires in
+    awaits_none q.1 q.2 _ c.unpack-e.ensures _ c.tag_count.ensures.0 _ _ c.if-tag_count-j.true)  -- returns
     (λ c κs. tt)  -- read-requires
     (λ c. search rules)  -- enum-known-cause
     (λ c. search rules)  -- enum-known-code
     (λ c κs. tt)  -- tag-code-requires
     (λ c.
-    let k = c.before.before.before in
-    let c1 = k.before.before.before in
-    let c2 = c1.before in
-    let c3 = c2.before in
-    let c4 = c3.before in
-    let q = c4.before.before.requires in
-    awaits_tag q.1 q.2 _ c3.unpack-e.ensures _ c2.tag_count.ensures.0 _ _ c1.if-tag_count-j.false (λ n. omega (
+    let q = c.requires in
+    awaits_tag q.1 q.2 _ c.unpack-e.ensures _ c.tag_count.ensures.0 _ _ c.if-tag_count-j.false (λ n. omega (
       arith,
-      c4.shared_slice_known-2-1.given n,
-    )) _ k.before.before.read.ensures _ _ k.code-1.given.1 _ c.before.tag_code-awaited.ensures c.if-code-awaited.true)  -- returns-2
+      c.shared_slice_known-2-1.given n,
+    )) _ c.read.ensures _ _ c.in-Read.is _ c.tag_code-awaited.ensures c.if-code-awaited.true)  -- returns-2
     (λ c.
-    let k = c.before.before.before in
-    let c1 = k.before.before.before in
-    let c2 = c1.before in
-    let c3 = c2.before in
-    let c4 = c3.before in
-    let a = c4.before.before.args in
-    let q = c4.before.before.requires in
+    let a = c.args in
+    let q = c.requires in
     omega (
       arith,
-      awaits_small q.1 q.2 _ c3.unpack-e.ensures _ c2.tag_count.ensures.0 _ a.m.now c1.if-tag_count-j.false
-          (λ n. omega (arith, c4.shared_slice_known-2-1.given n)) _
-          k.before.before.read.ensures _ _ k.code-1.given.1 _ c.before.tag_code-awaited.ensures,
+      awaits_small q.1 q.2 _ c.unpack-e.ensures _ c.tag_count.ensures.0 _ a.m.now c.if-tag_count-j.false
+          (λ n. omega (arith, c.shared_slice_known-2-1.given n)) _
+          c.read.ensures _ _ c.in-Read.is _ c.tag_code-awaited.ensures,
     ))  -- add-if3
     (λ c. search rules)  -- cast-if4
     (λ c κs. tt)  -- is-string-requires
     (λ c.
-    let k = c.before.before.before.before.before.before.before.before in
-    let c1 = k.before.before.before in
-    let c2 = c1.before in
-    let c3 = c2.before in
-    let c4 = c3.before in
-    let q = c4.before.before.requires in
-    awaits_string q.1 q.2 _ c3.unpack-e.ensures _ c2.tag_count.ensures.0 _ _ c1.if-tag_count-j.false (λ n. omega (
+    let q = c.requires in
+    awaits_string q.1 q.2 _ c.unpack-e.ensures _ c.tag_count.ensures.0 _ _ c.if-tag_count-j.false (λ n. omega (
       arith,
-      c4.shared_slice_known-2-1.given n,
-    )) _ k.before.before.read.ensures _ _ k.code-1.given.1 _ c.before.before.before.before.before.before.tag_code-awaited.ensures c.before.before.before.before.before.if-code-awaited.false c.before.before.if-e-j.true _ c.before.is_string.ensures c.before.before.before.before.if-code-awaited-2.true c.if-is_string.true)  -- returns-3
+      c.shared_slice_known-2-1.given n,
+    )) _ c.read.ensures _ _ c.in-Read.is _ c.tag_code-awaited.ensures c.if-code-awaited.false c.if-e-j.true _ c.is_string.ensures c.if-code-awaited-2.true c.if-is_string.true)  -- returns-3
     (λ c.
-    let c3 = c.before.before.before in
-    let c4 = c3.before in
-    let c5 = c4.before in
-    let c6 = c5.before in
-    let c7 = c6.before in
-    let q = c7.before.before.requires in
-    awaits_unread q.1 q.2 _ c6.unpack-e.ensures _ c5.tag_count.ensures.0 _ _ c4.if-tag_count-j.false (λ n. omega (
+    let q = c.requires in
+    awaits_unread q.1 q.2 _ c.unpack-e.ensures _ c.tag_count.ensures.0 _ _ c.if-tag_count-j.false (λ n. omega (
       arith,
-      c7.shared_slice_known-2-1.given n,
-    )) _ c3.read.ensures _ c.before.cause-1.given.1)  -- returns-4
+      c.shared_slice_known-2-1.given n,
+    )) _ c.read.ensures _ c.in-Refused.is)  -- returns-4
     (λ c.
-    let k = c.before.before.before.before.before.before.before.before in
-    let c1 = k.before.before.before in
-    let c2 = c1.before in
-    let c3 = c2.before in
-    let c4 = c3.before in
-    let q = c4.before.before.requires in
-    awaits_other q.1 q.2 _ c3.unpack-e.ensures _ c2.tag_count.ensures.0 _ _ c1.if-tag_count-j.false (λ n. omega (
+    let q = c.requires in
+    awaits_other q.1 q.2 _ c.unpack-e.ensures _ c.tag_count.ensures.0 _ _ c.if-tag_count-j.false (λ n. omega (
       arith,
-      c4.shared_slice_known-2-1.given n,
-    )) _ k.before.before.read.ensures _ _ k.code-1.given.1 _ c.before.before.before.before.before.before.tag_code-awaited.ensures c.before.before.before.before.before.if-code-awaited.false c.before.before.if-e-j.true _ c.before.is_string.ensures c.if-is_string.false)  -- returns-5
+      c.shared_slice_known-2-1.given n,
+    )) _ c.read.ensures _ _ c.in-Read.is _ c.tag_code-awaited.ensures c.if-code-awaited.false c.if-e-j.true _ c.is_string.ensures c.if-is_string.false)  -- returns-5
     (λ c.
-    let k = c.before.before.before.before.before.before in
-    let c1 = k.before.before.before in
-    let c2 = c1.before in
-    let c3 = c2.before in
-    let c4 = c3.before in
-    let q = c4.before.before.requires in
-    awaits_explicit q.1 q.2 _ c3.unpack-e.ensures _ c2.tag_count.ensures.0 _ _ c1.if-tag_count-j.false (λ n. omega (
+    let q = c.requires in
+    awaits_explicit q.1 q.2 _ c.unpack-e.ensures _ c.tag_count.ensures.0 _ _ c.if-tag_count-j.false (λ n. omega (
       arith,
-      c4.shared_slice_known-2-1.given n,
-    )) _ k.before.before.read.ensures _ _ k.code-1.given.1 _ c.before.before.before.before.tag_code-awaited.ensures c.before.before.before.if-code-awaited.false c.if-e-j.false)  -- returns-6
+      c.shared_slice_known-2-1.given n,
+    )) _ c.read.ensures _ _ c.in-Read.is _ c.tag_code-awaited.ensures c.if-code-awaited.false c.if-e-j.false)  -- returns-6
     (λ c.
-    let k = c.before.before.before.before in
-    let c1 = k.before.before.before in
-    let c2 = c1.before in
-    let c3 = c2.before in
-    let c4 = c3.before in
-    let q = c4.before.before.requires in
-    awaits_neither q.1 q.2 _ c3.unpack-e.ensures _ c2.tag_count.ensures.0 _ _ c1.if-tag_count-j.false (λ n. omega (
+    let q = c.requires in
+    awaits_neither q.1 q.2 _ c.unpack-e.ensures _ c.tag_count.ensures.0 _ _ c.if-tag_count-j.false (λ n. omega (
       arith,
-      c4.shared_slice_known-2-1.given n,
-    )) _ k.before.before.read.ensures _ _ k.code-1.given.1 _ c.before.before.tag_code-awaited.ensures c.before.if-code-awaited.false c.if-code-awaited-2.false))  -- returns-7
+      c.shared_slice_known-2-1.given n,
+    )) _ c.read.ensures _ _ c.in-Read.is _ c.tag_code-awaited.ensures c.if-code-awaited.false c.if-code-awaited-2.false))  -- returns-7

@@ -13,14 +13,12 @@ enter_spec =
     (λ c. search rules)  -- enum_told
     (λ c. search rules)  -- enum-known-cause
     (λ c. search rules)  -- enum-told-2
-    (λ c κs. c.before.before.before.before.before.requires)  -- awaited-requires
+    (λ c κs. c.requires)  -- awaited-requires
     (λ c.
-    enters_over _ _ _ c.before.before.before.before.before.args.indefinite _ c.before.before.read.ensures _
-    c.enum_told-1.given.1)  -- returns
+    enters_over _ _ _ c.args.indefinite _ c.read.ensures _
+    c.in-Over.is)  -- returns
     (λ c.
-    let c3 = c.before.before.before in
-    enters_broken _ _ _ c3.before.before.before.args.indefinite _ c3.read.ensures _ c.before.cause-1.given.1)  -- returns-2
+    enters_broken _ _ _ c.args.indefinite _ c.read.ensures _ c.in-Broken.is)  -- returns-2
     (λ c.
-    let c3 = c.before.before.before in
-    enters_more _ _ _ c3.before.before.before.args.indefinite _ c3.read.ensures c.before.enum_told-in-More-1.given.1 _
+    enters_more _ _ _ c.args.indefinite _ c.read.ensures c.in-More.is _
     c.awaited.ensures))  -- returns-3

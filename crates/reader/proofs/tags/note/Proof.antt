@@ -10,8 +10,8 @@ note_spec =
     tie.close
     (tie.spec
     (λ c. omega (arith, c.requires))  -- mul-n
-    (λ c. omega (arith, c.before.requires))  -- add-result
-    (λ c. omega (arith, c.before.requires))  -- cast-result
+    (λ c. omega (arith, c.requires))  -- add-result
+    (λ c. omega (arith, c.requires))  -- cast-result
     (λ c. rw c.if-indefinite.true refl)  -- returns
-    (λ c. omega (arith, c.before.requires))  -- cast-result-2
+    (λ c. omega (arith, c.requires))  -- cast-result-2
     (λ c. rw c.if-indefinite.false refl))  -- returns-2

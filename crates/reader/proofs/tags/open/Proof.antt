@@ -26,28 +26,25 @@ decreases-loop table w m at from notes₀ count at₁ end₁ from₁ j₁ notes 
 
 -- a tag is left to open
 abbrev some_left : (c : tie.In-loop-j invariant-loop decreases-loop) →
-    let a = c.before.before.before.before.before.before.args in
-    c.before.loop-j.j < length (explicit (record_in a.table.now (unpacked a.w)))
+    let a = c.args in
+    c.loop-j.j < length (explicit (record_in a.table.now (unpacked a.w)))
 some_left c =
-    let c3 = c.before.before.before in
-    let q = c3.before.before.before.requires in
-    omega (arith, c.loop-j-test.true, ap (λ (e : Entry). e.explicit) c3.unpack-e.ensures, its_count q.1 q.2)
+    let q = c.requires in
+    omega (arith, c.loop-j-test.true, ap (λ (e : Entry). e.explicit) c.unpack-e.ensures, its_count q.1 q.2)
 
 -- and four have notes
-abbrev some-room : (c : tie.In-loop-j invariant-loop decreases-loop) → c.before.loop-j.j < 4
-some-room c = let q = c.before.before.before.before.before.before.requires in omega (arith, some_left c, its_few q.1 q.2)
+abbrev some-room : (c : tie.In-loop-j invariant-loop decreases-loop) → c.loop-j.j < 4
+some-room c = let q = c.requires in omega (arith, some_left c, its_few q.1 q.2)
 
 -- where its contents stand
 abbrev at-extent : (c : tie.In-Read-2 invariant-loop decreases-loop) →
-    let l = c.before.before.before.before.before.loop-j in
-    let x = c.x-1.given.0.0 in
+    let l = c.loop-j in
+    let x = c.in-Read.x in
     (l.at < x.start) × (x.start ≤ x.end) × (x.end ≤ l.end) × (x.indefinite ≡ true → x.end ≡ l.end)
 at-extent c =
-    let c4 = c.before.before.before.before in
-    let c8 = c4.before.before.before.before in
-    let q = c8.before.before.requires in
-    extent _ _ (its_fit q.1 q.2) _ (λ n. omega (arith, c8.shared_slice_known-2-1.given n)) _ _ _ _ _ _ c4.before.loop-j.invariant.1
-    (some_left c4) _ c.before.before.read.ensures.0 _ c.x-1.given.1
+    let q = c.requires in
+    extent _ _ (its_fit q.1 q.2) _ (λ n. omega (arith, c.shared_slice_known-2-1.given n)) _ _ _ _ _ _ c.loop-j.invariant.1
+    (some_left c.before.before.before.before) _ c.read.ensures.0 _ c.in-Read.is
 
 pub open_spec : {M : Type 1} → statement M
 open_spec =
@@ -58,95 +55,75 @@ open_spec =
     (λ c κs. tt)  -- unpack-requires
     (λ c. search rules)  -- cast-count
     (λ c.
-    let q = c.before.before.before.before.requires in (
+    let q = c.requires in (
       q.6,
-      open_none _ _ (its_fit q.1 q.2) _ (λ n. omega (arith, c.before.before.shared_slice_known-2-1.given n)) _ _ _
+      open_none _ _ (its_fit q.1 q.2) _ (λ n. omega (arith, c.shared_slice_known-2-1.given n)) _ _ _
           (omega (arith, its_count q.1 q.2, q.3)) (its_headed q.1 q.2 q.4),
     ))  -- loop-holds
-    (λ c. sym (length-take-le _ _ c.before.before.loop-j.invariant.1.high))  -- slice-aggregate-around
+    (λ c. sym (length-take-le _ _ c.loop-j.invariant.1.high))  -- slice-aggregate-around
     (λ c κs. tt)  -- read-requires
     (λ c. search rules)  -- enum-known-cause
     (λ c.
-    let l = c.before.before.before.before.before.before.loop-j in
+    let l = c.loop-j in
     omega (arith, l.invariant.1.some, l.invariant.1.high))  -- sub-t24
     (λ c.
-    let c3 = c.before.before.before in
-    let c5 = c3.before.before in
-    let c9 = c5.before.before.before.before in
-    let q = c9.before.before.requires in
-    let l = c5.before.loop-j in (
+    let q = c.requires in
+    let l = c.loop-j in (
       l.invariant.0,
       open_unread _ _ (its_fit q.1 q.2) _
-          (λ n. omega (arith, c9.shared_slice_known-2-1.given n)) _ _ _ _ _ _ l.invariant.1 (some_left c5) _ c3.read.ensures.0 _
-          c.before.cause-1.given.1 l.notes,
+          (λ n. omega (arith, c.shared_slice_known-2-1.given n)) _ _ _ _ _ _ l.invariant.1 (some_left c.before.before.before.before.before) _ c.read.ensures.0 _
+          c.in-Refused.is l.notes,
     ))  -- returns
     (λ c. search rules)  -- enum-known-x
     (λ c κs.
-    let c6 = c.before.before.before.before.before.before in
-    omega (arith, c6.loop-j.invariant.1.high, c6.before.before.before.before.before.requires.5))  -- note-requires
+    omega (arith, c.loop-j.invariant.1.high, c.requires.5))  -- note-requires
     (λ c. omega (arith, some-room c.before.before.before.before.before.before))  -- mul-notes
     (λ c. some-room c.before.before.before.before.before.before)  -- element-write-notes
     (λ c. omega (arith, some-room c.before.before.before.before.before.before))  -- add-j
     (λ c. (at-extent c.before.before).1)  -- sub-inside
     (λ c.
     let x = at-extent c.before.before in
-    omega (arith, x.1, x.2, c.before.before.before.before.before.before.before.loop-j.invariant.1.high))  -- part-inside-start
+    omega (arith, x.1, x.2, c.loop-j.invariant.1.high))  -- part-inside-start
     (λ c.
     let x = at-extent c.before.before in
-    omega (arith, x.2, c.before.before.before.before.before.before.before.loop-j.invariant.1.high))  -- part-inside-end
+    omega (arith, x.2, c.loop-j.invariant.1.high))  -- part-inside-end
     (λ c κs.
-    let q = c.before.before.before.before.before.before.before.before.before.before.before.before.before.requires in
+    let q = c.requires in
     (q.0, q.1, q.2))  -- enter-requires
     (λ c. search rules)  -- enum-known-cause-2
     (λ c.
-    let c7 = c.before.before.before.before.before.before.before in
-    let x = at-extent c7 in
-    omega (arith, x.1, x.2, c7.before.before.before.before.before.loop-j.invariant.1.high))  -- sub-t33
+    let x = at-extent c.before.before.before.before.before.before.before in
+    omega (arith, x.1, x.2, c.loop-j.invariant.1.high))  -- sub-t33
     (λ c.
-    let c3 = c.before.before.before in
-    let c7 = c3.before.before.before.before in
-    let c11 = c7.before.before.before.before in
-    let c15 = c11.before.before.before.before in
-    let q = c15.before.before.requires in
-    let l = c11.before.loop-j in (
+    let q = c.requires in
+    let l = c.loop-j in (
       simp length-set l.invariant.0,
       open_refused _ _ (its_fit q.1 q.2) _
-          (λ n. omega (arith, c15.shared_slice_known-2-1.given n)) _ _ _ _ _ _ l.invariant.1 (some_left c11) _ c7.before.before.read.ensures.0 _
-          c7.x-1.given.1 _ c3.enter.ensures _ c.before.cause-in-Refused-enter-1.given.1 l.notes,
+          (λ n. omega (arith, c.shared_slice_known-2-1.given n)) _ _ _ _ _ _ l.invariant.1 (some_left c.before.before.before.before.before.before.before.before.before.before.before) _ c.read.ensures.0 _
+          c.in-Read.is _ c.enter.ensures _ c.in-Refused-enter.is l.notes,
     ))  -- returns-2
     (λ c. search rules)  -- enum-known-next
     (λ c.
-    let c3 = c.before.before.before in
-    let c7 = c3.before.before.before.before in
-    let c11 = c7.before.before.before.before in
-    let c15 = c11.before.before.before.before in
-    let q = c15.before.before.requires in
-    let l = c11.before.loop-j in
-    let x = at-extent c7 in
-    let z = open_next _ _ (its_fit q.1 q.2) _ (λ n. omega (arith, c15.shared_slice_known-2-1.given n)) _ _ _ _ _ _ l.invariant.1
-    (some_left c11) _ c7.before.before.read.ensures.0 _ c7.x-1.given.1 _ c3.enter.ensures _ c.before.next-1.given.1 in
+    let q = c.requires in
+    let l = c.loop-j in
+    let x = at-extent c.before.before.before.before.before.before.before in
+    let z = open_next _ _ (its_fit q.1 q.2) _ (λ n. omega (arith, c.shared_slice_known-2-1.given n)) _ _ _ _ _ _ l.invariant.1
+    (some_left c.before.before.before.before.before.before.before.before.before.before.before) _ c.read.ensures.0 _ c.in-Read.is _ c.enter.ensures _ c.in-Read-enter.is in
     omega (arith, z, x.1, x.2, l.invariant.1.high, q.5))  -- add-from
     (λ c.
-    omega (arith, c.before.before.before.before.before.before.before.before.before.before.before.loop-j-test.true))  -- loop-less
+    omega (arith, c.loop-j-test.true))  -- loop-less
     (λ c.
-    let c3 = c.before.before.before in
-    let c5 = c3.before.before in
-    let c7 = c5.before.before in
-    let c11 = c7.before.before.before.before in
-    let c15 = c11.before.before.before.before in
-    let q = c15.before.before.requires in
-    let l = c11.before.loop-j in (
+    let q = c.requires in
+    let l = c.loop-j in (
       simp length-set l.invariant.0,
-      open_turn _ _ (its_fit q.1 q.2) _ (λ n. omega (arith, c15.shared_slice_known-2-1.given n)) _ _ _ _ _ _ l.invariant.1 (some_left c11) _
-          c7.before.before.read.ensures.0 _ c7.x-1.given.1 _ c3.enter.ensures _ c.before.next-1.given.1 _ c5.note.ensures
-          (omega (arith, l.invariant.0, some-room c11)),
+      open_turn _ _ (its_fit q.1 q.2) _ (λ n. omega (arith, c.shared_slice_known-2-1.given n)) _ _ _ _ _ _ l.invariant.1 (some_left c.before.before.before.before.before.before.before.before.before.before.before) _
+          c.read.ensures.0 _ c.in-Read.is _ c.enter.ensures _ c.in-Read-enter.is _ c.note.ensures
+          (omega (arith, l.invariant.0, some-room c.before.before.before.before.before.before.before.before.before.before.before)),
     ))  -- loop-again
     (λ c.
-    let c3 = c.before.before.before in
-    let c4 = c3.before in
-    let q = c4.before.before.requires in
-    let l = c.before.loop-j in (
+    let q = c.requires in
+    let l = c.loop-j in (
       l.invariant.0,
-      open_done _ _ (its_fit q.1 q.2) _ (λ n. omega (arith, c4.shared_slice_known-2-1.given n)) _ _ _ _ _ _ l.invariant.1 _
-          (its_count q.1 q.2) (omega (arith, its_count q.1 q.2, q.3)) (rw c3.unpack-e.ensures at c.loop-j-test.false),
+      open_done _ _ (its_fit q.1 q.2) _ (λ n. omega (arith, c.shared_slice_known-2-1.given n)) _ _ _ _ _ _ l.invariant.1 _
+          (its_count q.1 q.2) (omega (arith, its_count q.1 q.2, q.3)) (rw c.unpack-e.ensures at c.loop-j-test.false),
     )))  -- returns-3

@@ -25,52 +25,49 @@ lists_spec =
     (tie.spec
     invariant-loop
     decreases-loop
-    (λ c. let a = c.before.before in listed_negative a.args.table.now a.args.e.own a.args.z a.ranges.z c.if-z-lt0.true)  -- returns
+    (λ c. listed_negative c.args.table.now c.args.e.own c.args.z c.ranges.z c.if-z-lt0.true)  -- returns
     (λ c. search rules)  -- cast-own
     (λ c κs. search rules)  -- octet-requires
     (λ c. search rules)  -- add-at
     (λ c. search rules)  -- mul-holds
     (λ c κs. search rules)  -- holds-requires
     (λ c.
-    let a = c.before.before.before.before.before.before in
-    listed_out a.args.table.now a.args.e.own _ c.before.before.octet-left.ensures.0 a.args.z _ c.before.holds.ensures
+    listed_out c.args.table.now c.args.e.own _ c.octet-left.ensures.0 c.args.z _ c.holds.ensures
     c.if-not-holds.true)  -- returns-2
-    (λ c. natural c.before.before.before.before.before.before.args.z c.before.before.before.before.before.before.ranges.z
-    c.before.before.before.before.if-z-lt0.false)  -- cast-k
+    (λ c. natural c.args.z c.ranges.z
+    c.if-z-lt0.false)  -- cast-k
     (λ c.
-    let a = c.before.before.before.before.before.before in (
-      listed_room a.args.table.now a.args.e.own _ c.before.before.octet-left.ensures.0 a.args.z _ c.before.holds.ensures
+    (
+      listed_room c.args.table.now c.args.e.own _ c.octet-left.ensures.0 c.args.z _ c.holds.ensures
           c.if-not-holds.false,
       refl,
     ))  -- loop-holds
     (λ c. omega arith)  -- add-second
     (λ c. omega arith)  -- shared-slice-read-if3
-    (λ c. omega (arith, c.shared_slice_known-in-loop-left-1.given c.before.before.loop-left.at))  -- cast-if3
-    (λ c. omega (arith, c.shared_slice_known-in-loop-left-1.given c.before.before.loop-left.at))  -- mul-if3
+    (λ c. omega (arith, c.shared_slice_known-in-loop-left-1.given c.loop-left.at))  -- cast-if3
+    (λ c. omega (arith, c.shared_slice_known-in-loop-left-1.given c.loop-left.at))  -- mul-if3
     (λ c. omega arith)  -- shared-slice-read-if3-2
-    (λ c. omega (arith, c.shared_slice_known-in-loop-left-2-1.given (c.before.before.before.loop-left.at + 1)))  -- cast-if3-2
+    (λ c. omega (arith, c.shared_slice_known-in-loop-left-2-1.given (c.loop-left.at + 1)))  -- cast-if3-2
     (λ c. omega (
       arith,
-      c.before.shared_slice_known-in-loop-left-1.given c.before.before.before.loop-left.at,
+      c.shared_slice_known-in-loop-left-1.given c.loop-left.at,
       c.shared_slice_known-in-loop-left-2-1.given
-          (c.before.before.before.loop-left.at + 1),
+          (c.loop-left.at + 1),
     ))  -- add-if3
     (λ c.
-    let a = c.before.before.before.before.before.before.before.before.before.before.before in
-    listed_in a.args.table.now a.args.e.own _ c.before.before.before.before.before.before.before.octet-left.ensures.0 a.args.z _
-    c.before.before.before.before.before.before.holds.ensures c.before.before.before.before.before.if-not-holds.false a.ranges.z
-    c.before.before.before.before.before.before.before.before.before.if-z-lt0.false _
-    (listed_stops _ _ _ _ _ c.before.before.before.before.loop-left.invariant.1 (omega arith) c.if-table-at.true))  -- returns-3
+    listed_in c.args.table.now c.args.e.own _ c.octet-left.ensures.0 c.args.z _
+    c.holds.ensures c.if-not-holds.false c.ranges.z
+    c.if-z-lt0.false _
+    (listed_stops _ _ _ _ _ c.loop-left.invariant.1 (omega arith) c.if-table-at.true))  -- returns-3
     (λ c. omega arith)  -- add-at-2
     (λ c. omega arith)  -- sub-left
     (λ c. omega arith)  -- loop-less
     (λ c. (
       omega arith,
-      listed_goes _ _ _ _ _ c.before.before.before.before.loop-left.invariant.1 (omega arith)
+      listed_goes _ _ _ _ _ c.loop-left.invariant.1 (omega arith)
           c.if-table-at.false,
     ))  -- loop-again
     (λ c.
-    let a = c.before.before.before.before.before.before.before.before in
-    listed_in a.args.table.now a.args.e.own _ c.before.before.before.before.octet-left.ensures.0 a.args.z _
-    c.before.before.before.holds.ensures c.before.before.if-not-holds.false a.ranges.z c.before.before.before.before.before.before.if-z-lt0.false _
-    (listed_ends _ _ _ _ _ c.before.loop-left.invariant.1 (omega arith))))  -- returns-4
+    listed_in c.args.table.now c.args.e.own _ c.octet-left.ensures.0 c.args.z _
+    c.holds.ensures c.if-not-holds.false c.ranges.z c.if-z-lt0.false _
+    (listed_ends _ _ _ _ _ c.loop-left.invariant.1 (omega arith))))  -- returns-4

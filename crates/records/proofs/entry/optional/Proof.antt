@@ -11,7 +11,7 @@ pub optional_spec : {M : Type 1} → statement M
 optional_spec =
     tie.close
     (tie.spec
-    (λ c. rw (get_or-eq_default c.before.before.args.table.now 0 {n = c.before.before.args.p + 1} (omega arith)))  -- returns
+    (λ c. rw (get_or-eq_default c.args.table.now 0 {n = c.args.p + 1} (omega arith)))  -- returns
     (λ c. search rules)  -- add-octet
     (λ c κs. search rules)  -- octet-requires
     (λ c. rw c.octet.ensures.0))  -- returns-2

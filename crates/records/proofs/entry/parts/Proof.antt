@@ -15,24 +15,24 @@ parts_spec =
     (λ c. search rules)  -- cast-own
     (λ c κs. search rules)  -- has-members-requires
     (λ c κs. search rules)  -- counted-requires
-    (λ c. rw (sym c.before.before.has_members.ensures ∙ c.before.if-has_members.true, c.counted.ensures))  -- returns
+    (λ c. rw (sym c.has_members.ensures ∙ c.if-has_members.true, c.counted.ensures))  -- returns
     (λ c κs. search rules)  -- counted-requires-2
     (λ c. rw (
-      sym c.before.before.before.has_members.ensures ∙ c.before.before.if-has_members.false,
+      sym c.has_members.ensures ∙ c.if-has_members.false,
       eq-eqb _ _
-          c.before.if-kind-eq-CHOICE.true,
+          c.if-kind-eq-CHOICE.true,
       c.counted-then-kind-eq-CHOICE.ensures,
     ))  -- returns-2
     (λ c κs. search rules)  -- is-list-requires
     (λ c. rw (
-      sym c.before.before.before.before.has_members.ensures ∙ c.before.before.before.if-has_members.false,
+      sym c.has_members.ensures ∙ c.if-has_members.false,
       ne_eqb _ _
-          c.before.before.if-kind-eq-CHOICE.false,
-      sym c.before.is_list.ensures ∙ c.if-is_list.true,
+          c.if-kind-eq-CHOICE.false,
+      sym c.is_list.ensures ∙ c.if-is_list.true,
     ))  -- returns-3
     (λ c. rw (
-      sym c.before.before.before.before.has_members.ensures ∙ c.before.before.before.if-has_members.false,
+      sym c.has_members.ensures ∙ c.if-has_members.false,
       ne_eqb _ _
-          c.before.before.if-kind-eq-CHOICE.false,
-      sym c.before.is_list.ensures ∙ c.if-is_list.false,
+          c.if-kind-eq-CHOICE.false,
+      sym c.is_list.ensures ∙ c.if-is_list.false,
     )))  -- returns-4

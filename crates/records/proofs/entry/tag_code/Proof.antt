@@ -22,14 +22,14 @@ tag_code_spec =
     (λ c. search rules)  -- cast-code-of-2
     (λ c κs. search rules)  -- code-of-requires
     (λ c.
-    let a = c.before.before.before.before.before.before.before.args in
-    let e : c.before.if-j-e.constructed ≡ (ltb a.j a.e.explicit || not a.e.simple) =
+    let a = c.args in
+    let e : c.if-j-e.constructed ≡ (ltb a.j a.e.explicit || not a.e.simple) =
     ⊎_elim (λ w. w.1 ∙ rw (lt-ltb a.j a.e.explicit w.0.taken)) (λ w. w.2 ∙ rw (le-ltb a.j a.e.explicit w.0.left))
-    c.before.if-j-e.branch in
+    c.if-j-e.branch in
     rw (
       c.code_of_lem.ensures.0,
-      c.before.before.before.before.octet-class.ensures.0,
-      c.before.before.before.two-n.ensures.0,
-      c.before.before.before.before.before.tag_place-p.ensures.0,
+      c.octet-class.ensures.0,
+      c.two-n.ensures.0,
+      c.tag_place-p.ensures.0,
       e,
     )))  -- returns

@@ -9,6 +9,6 @@ are_bits_spec =
     (tie.spec
     (λ c. no_bits _ c.if-c-eq0.true)  -- returns
     (λ c. search rules)  -- shared-slice-read-result
-    (λ c. bits_none _ c.before.if-c-eq1.true)  -- returns-2
+    (λ c. bits_none _ c.if-c-eq1.true)  -- returns-2
     (λ c. search rules)  -- shared-slice-read-result-2
-    (λ c. bits_some _ c.before.before.if-c-eq0.false c.before.if-c-eq1.false))  -- returns-3
+    (λ c. bits_some _ c.if-c-eq0.false c.if-c-eq1.false))  -- returns-3

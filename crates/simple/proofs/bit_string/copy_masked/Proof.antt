@@ -12,24 +12,24 @@ pub copy_masked_spec : {M : Type 1} → statement M
 copy_masked_spec =
     tie.close
     (tie.spec
-    (λ c. let a = c.before.before.before.args in masked_stays _ a.c.now a.part-1.now c.if-k-part.true)  -- returns
-    (λ c. let a = c.before.before.before.before.args in masked_none _ a.c.now a.part-1.now c.before.if-k-part.false c.if-k-eq0.true)  -- returns-2
+    (λ c. let a = c.args in masked_stays _ a.c.now a.part.now c.if-k-part.true)  -- returns
+    (λ c. let a = c.args in masked_none _ a.c.now a.part.now c.if-k-part.false c.if-k-eq0.true)  -- returns-2
     (λ c κs. search rules)  -- copy-requires
     (λ c. search rules)  -- sub-last
     (λ c κs. search rules)  -- unit-requires
     (λ c. search rules)  -- shared-slice-read-x
     (λ c.
-    let a = c.before.before.before.before.before.before.before.before.before.before.args in
-    omega (arith, c.before.unit-p.ensures, pow_pos (a.n % 8)))  -- div-part
+    let a = c.args in
+    omega (arith, c.unit-p.ensures, pow_pos (a.n % 8)))  -- div-part
     (λ c.
-    let s = c.before.before.before.before.before.before.before.before.before.before.args.c.now in
-    omega (arith, div-mul-le_self (get_or s (length s - 1) 0) c.before.unit-p.result, c.shared_slice_known-2-1.given (length s - 1)))  -- mul-part
+    let s = c.args.c.now in
+    omega (arith, div-mul-le_self (get_or s (length s - 1) 0) c.unit-p.result, c.shared_slice_known-2-1.given (length s - 1)))  -- mul-part
     (λ c. search rules)  -- slice-write-part
     (λ c. search rules)  -- same-length
     (λ c.
-    let a = c.before.before.before.before.before.before.before.before.before.before.args in
-    masked_filled (a.n % 8) c.before.unit-p.result a.c.now a.part-1.now _
-    c.before.before.before.before.before.before.before.if-k-part.false
-    c.before.before.before.before.before.before.if-k-eq0.false
-    c.before.before.before.before.copy.ensures
-    c.before.unit-p.ensures))  -- returns-3
+    let a = c.args in
+    masked_filled (a.n % 8) c.unit-p.result a.c.now a.part.now _
+    c.if-k-part.false
+    c.if-k-eq0.false
+    c.copy.ensures
+    c.unit-p.ensures))  -- returns-3

@@ -18,10 +18,10 @@ mask_spec =
     (λ c. search rules)  -- sub-last
     (λ c κs. search rules)  -- unit-requires
     (λ c. search rules)  -- slice-read-part
-    (λ c. omega (arith, c.before.unit-p.ensures, pow_pos (c.before.before.before.before.args.n % 8)))  -- div-part
+    (λ c. omega (arith, c.unit-p.ensures, pow_pos (c.args.n % 8)))  -- div-part
     (λ c.
-    let s = c.before.before.before.before.args.part.now in
-    omega (arith, div-mul-le_self (get_or s (length s - 1) 0) c.before.unit-p.result, c.slice_known-2-1.given (length s - 1)))  -- mul-part
+    let s = c.args.part.now in
+    omega (arith, div-mul-le_self (get_or s (length s - 1) 0) c.unit-p.result, c.slice_known-2-1.given (length s - 1)))  -- mul-part
     (λ c. search rules)  -- slice-write-part
     (λ c. search rules)  -- same-length
-    (λ c. masked_set _ _ _ c.before.before.if-k-eq0.false c.before.unit-p.ensures))  -- returns-2
+    (λ c. masked_set _ _ _ c.if-k-eq0.false c.unit-p.ensures))  -- returns-2

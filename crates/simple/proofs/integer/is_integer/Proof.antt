@@ -11,12 +11,12 @@ is_integer_spec =
     (tie.spec
     (λ c. rw (minimal_none _ c.if-c-eq0.true))  -- returns
     (λ c. rw (minimal_one _ c.if-c-eq1.true, c.if-c-eq1.true))  -- returns-2
-    (λ c. minimal_long c.before.before.before.before.args.c.now c.if-c-gt8.true)  -- returns-3
+    (λ c. minimal_long c.args.c.now c.if-c-gt8.true)  -- returns-3
     (λ c. search rules)  -- shared-slice-read-spare
     (λ c. search rules)  -- shared-slice-read-spare-2
     (λ c κs. search rules)  -- spare-requires
     (λ c.
-    let s = c.before.before.before.before.before.before.before.args.c.now in
+    let s = c.args.c.now in
     ap not c.spare.ensures
-    ∙ sym (minimal_more s c.before.before.before.before.before.if-c-eq0.false c.before.before.before.before.if-c-eq1.false)
-    ∙ minimal_short s c.before.before.before.if-c-gt8.false))  -- returns-4
+    ∙ sym (minimal_more s c.if-c-eq0.false c.if-c-eq1.false)
+    ∙ minimal_short s c.if-c-gt8.false))  -- returns-4

@@ -21,8 +21,8 @@ of_spec =
     (tie.spec
     invariant-loop
     decreases-loop
-    (λ c. integer_none c.before.before.args.c.now c.if-c-eq0.true)  -- returns
-    (λ c. integer_long c.before.before.before.args.c.now c.if-c-gt8.true)  -- returns-2
+    (λ c. integer_none c.args.c.now c.if-c-eq0.true)  -- returns
+    (λ c. integer_long c.args.c.now c.if-c-gt8.true)  -- returns-2
     (λ c. search rules)  -- shared-slice-read-fill
     (λ c κs. search rules)  -- fill-requires
     (λ c κs. search rules)  -- wide-requires
@@ -31,9 +31,9 @@ of_spec =
     (λ c κs. search rules)  -- wide-requires-2
     (λ c. search rules)  -- add-u
     (λ c.
-    let s = c.before.before.before.before.before.before.before.before.args.c.now in
+    let s = c.args.c.now in
     let w = c.wide-2.ensures in
-    (omega arith, omega arith, rw (c.before.before.wide.ensures.0, c.before.before.before.fill.ensures, w.0) (extended_first s (omega arith) (rw w.0 at w.1))))  -- loop-holds
+    (omega arith, omega arith, rw (c.wide.ensures.0, c.fill.ensures, w.0) (extended_first s (omega arith) (rw w.0 at w.1))))  -- loop-holds
     (λ c. search rules)  -- mul-u-2
     (λ c. search rules)  -- shared-slice-read-wide-2
     (λ c κs. search rules)  -- wide-requires-3
@@ -41,12 +41,12 @@ of_spec =
     (λ c. search rules)  -- add-i
     (λ c. omega arith)  -- loop-less
     (λ c.
-    let s = c.before.before.before.before.before.before.before.before.before.before.before.before.args.c.now in
-    let l = c.before.before.before.loop-i in
+    let s = c.args.c.now in
+    let l = c.loop-i in
     let w = c.wide-in-loop-i.ensures in
     (omega arith, omega arith, rw w.0 (extended_next s l.i l.u l.invariant.0 (omega arith) (omega arith) (rw w.0 at w.1) l.invariant.2)))  -- loop-again
     (λ c κs. search rules)  -- signed-requires
     (λ c.
-    let s = c.before.before.before.before.before.before.before.before.before.before.before.args.c.now in
-    let l = c.before.before.loop-i in
+    let s = c.args.c.now in
+    let l = c.loop-i in
     ap (to_z w64) c.signed.ensures ∙ extended_last s l.i l.u l.invariant.0 l.invariant.1 (omega arith) (omega arith) l.invariant.2))  -- returns-3

@@ -11,7 +11,7 @@ pub of_eight_spec : {M : Type 1} → statement M
 of_eight_spec =
     tie.close
     (tie.spec
-    (λ c. not_eight c.before.before.args.c.now c.if-c-ne8.true)  -- returns
+    (λ c. not_eight c.args.c.now c.if-c-ne8.true)  -- returns
     (λ c. search rules)  -- shared-slice-read-wide
     (λ c κs. search rules)  -- wide-requires
     (λ c. search rules)  -- mul-high
@@ -44,20 +44,19 @@ of_eight_spec =
     (λ c. search rules)  -- add-signed
     (λ c κs. search rules)  -- signed-requires
     (λ c.
-    let b = c.before.before.before.before.before.before.before.before.before in
     let f : SFits w64 c.signed.result = record { sfits = c.signed.type_inv } in
-    let k = b.before.before.before.before.before.before.before.before.before.shared_slice_known-1 in
+    let k = c.shared_slice_known-1 in
     rw (to_z-of_z w64 c.signed.result f)
-    (read_halves b.before.before.before.before.before.before.before.before.before.before.args.c.now c.signed.result (λ i. (k.given i).fits)
-    b.before.before.before.before.before.before.before.before.if-c-ne8.false
+    (read_halves c.args.c.now c.signed.result (λ i. (k.given i).fits)
+    c.if-c-ne8.false
     f
     (c.signed.ensures ∙ rw (
-      b.before.before.before.before.before.before.wide.ensures.0,
-      b.before.before.before.before.wide-2.ensures.0,
-      b.before.before.wide-3.ensures.0,
-      b.wide-4.ensures.0,
-      c.before.before.before.before.before.before.before.wide-5.ensures.0,
-      c.before.before.before.before.before.wide-6.ensures.0,
-      c.before.before.before.wide-7.ensures.0,
-      c.before.wide-8.ensures.0,
+      c.wide.ensures.0,
+      c.wide-2.ensures.0,
+      c.wide-3.ensures.0,
+      c.wide-4.ensures.0,
+      c.wide-5.ensures.0,
+      c.wide-6.ensures.0,
+      c.wide-7.ensures.0,
+      c.wide-8.ensures.0,
     ) refl))))  -- returns-2

@@ -33,11 +33,10 @@ put_spec =
     (λ c. search rules)  -- slice-write-part
     (λ c. search rules)  -- loop-less
     (λ c.
-    let l = c.before.loop-left in
+    let l = c.loop-left in
     (rw length-set (omega arith), rw length-set l.invariant.1, last_turn l.part l.u l.left (omega arith) l.invariant.0 l.invariant.2))  -- loop-again
-    (λ c. c.before.loop-left.invariant.1)  -- same-length
+    (λ c. c.loop-left.invariant.1)  -- same-length
     (λ c.
-    let l = c.before.loop-left in
-    let t = c.before.before.before.before in
+    let l = c.loop-left in
     last_end l.part l.u l.left (omega arith) l.invariant.2
-    ∙ ap (last_octets (length t.args.part.now)) (c.before.before.bits-u.ensures ∙ ap (of_z w64) (to_z-of_z w64 t.args.z t.ranges.z))))  -- returns
+    ∙ ap (last_octets (length c.args.part.now)) (c.bits-u.ensures ∙ ap (of_z w64) (to_z-of_z w64 c.args.z c.ranges.z))))  -- returns

@@ -10,11 +10,10 @@ use Rattle.simple.proofs.integer.put_eight.Tie as tie
 
 pub put_eight_spec : {M : Type 1} → statement M
 put_eight_spec = tie.close (tie.spec
-    (λ c. eight_stays _ c.before.before.args.part.now c.if-part-ne8.true)  -- returns
+    (λ c. eight_stays _ c.args.part.now c.if-part-ne8.true)  -- returns
     (λ c κs. search rules)  -- put-requires
     (λ c. search rules)  -- same-length
     (λ c.
-    let t = c.before.before.before.before.before.before in
-    let z = t.args.z in
-    let f = (Fits-of_z {w = w64} {z = z} t.ranges.z).fits in
-    c.before.before.put.ensures ∙ rw (to_z-of_z w64 z t.ranges.z) (eight_filled (of_z w64 z) t.args.part.now c.before.before.before.before.if-part-ne8.false f)))  -- returns-2
+    let z = c.args.z in
+    let f = (Fits-of_z {w = w64} {z = z} c.ranges.z).fits in
+    c.put.ensures ∙ rw (to_z-of_z w64 z c.ranges.z) (eight_filled (of_z w64 z) c.args.part.now c.if-part-ne8.false f)))  -- returns-2

@@ -14,58 +14,42 @@ use Rattle.simple.proofs.integer.size.Reads as reads
 use Rattle.simple.proofs.integer.size.Lts as lts
 
 -- n is z, or its complement
-number : (c : lts.Joined-z-lt0 reads.Pre reads.Post) → to_z w64 c.if-z-lt0.n ≡ pos (mag c.before.args.z)
+number : (c : lts.Joined-z-lt0 reads.Pre reads.Post) → to_z w64 c.if-z-lt0.n ≡ pos (mag c.args.z)
 number c =
-    ⊎_elim (λ w. ap (to_z w64) w.1 ∙ bits_neg c.before.args.z c.before.ranges.z w.0.taken)
-    (λ w. ap (to_z w64) w.1 ∙ bits_pos c.before.args.z c.before.ranges.z w.0.left) c.if-z-lt0.branch
+    ⊎_elim (λ w. ap (to_z w64) w.1 ∙ bits_neg c.args.z c.ranges.z w.0.taken)
+    (λ w. ap (to_z w64) w.1 ∙ bits_pos c.args.z c.ranges.z w.0.left) c.if-z-lt0.branch
 
 pub size_spec : {M : Type 1} → statement M
 size_spec =
     tie.close
     (tie.spec
     (λ c.
-    let w = c.before in
-    let s = w.before in
-    let b = ltb-true (mag s.args.z) _ (rw (number w) at c.if-n-lt128.true) in
-    (size_one s.args.z s.ranges.z (omega arith), omega arith, omega arith))  -- returns
+    let b = ltb-true (mag c.args.z) _ (rw (number c.before) at c.if-n-lt128.true) in
+    (size_one c.args.z c.ranges.z (omega arith), omega arith, omega arith))  -- returns
     (λ c.
-    let w = c.before.before in
-    let s = w.before in
-    let a = ltb-false (mag s.args.z) _ (rw (number w) at c.before.if-n-lt128.false) in
-    let b = ltb-true (mag s.args.z) _ (rw (number w) at c.if-n-lt32768.true) in
-    (size_between s.args.z 0 s.ranges.z (omega arith) (omega arith), omega arith, omega arith))  -- returns-2
+    let a = ltb-false (mag c.args.z) _ (rw (number c.before.before) at c.if-n-lt128.false) in
+    let b = ltb-true (mag c.args.z) _ (rw (number c.before.before) at c.if-n-lt32768.true) in
+    (size_between c.args.z 0 c.ranges.z (omega arith) (omega arith), omega arith, omega arith))  -- returns-2
     (λ c.
-    let w = c.before.before.before in
-    let s = w.before in
-    let a = ltb-false (mag s.args.z) _ (rw (number w) at c.before.if-n-lt32768.false) in
-    let b = ltb-true (mag s.args.z) _ (rw (number w) at c.if-n-lt8388608.true) in
-    (size_between s.args.z 1 s.ranges.z (omega arith) (omega arith), omega arith, omega arith))  -- returns-3
+    let a = ltb-false (mag c.args.z) _ (rw (number c.before.before.before) at c.if-n-lt32768.false) in
+    let b = ltb-true (mag c.args.z) _ (rw (number c.before.before.before) at c.if-n-lt8388608.true) in
+    (size_between c.args.z 1 c.ranges.z (omega arith) (omega arith), omega arith, omega arith))  -- returns-3
     (λ c.
-    let w = c.before.before.before.before in
-    let s = w.before in
-    let a = ltb-false (mag s.args.z) _ (rw (number w) at c.before.if-n-lt8388608.false) in
-    let b = ltb-true (mag s.args.z) _ (rw (number w) at c.if-n-lt2147483648.true) in
-    (size_between s.args.z 2 s.ranges.z (omega arith) (omega arith), omega arith, omega arith))  -- returns-4
+    let a = ltb-false (mag c.args.z) _ (rw (number c.before.before.before.before) at c.if-n-lt8388608.false) in
+    let b = ltb-true (mag c.args.z) _ (rw (number c.before.before.before.before) at c.if-n-lt2147483648.true) in
+    (size_between c.args.z 2 c.ranges.z (omega arith) (omega arith), omega arith, omega arith))  -- returns-4
     (λ c.
-    let w = c.before.before.before.before.before in
-    let s = w.before in
-    let a = ltb-false (mag s.args.z) _ (rw (number w) at c.before.if-n-lt2147483648.false) in
-    let b = ltb-true (mag s.args.z) _ (rw (number w) at c.if-n-lt549755813888.true) in
-    (size_between s.args.z 3 s.ranges.z (omega arith) (omega arith), omega arith, omega arith))  -- returns-5
+    let a = ltb-false (mag c.args.z) _ (rw (number c.before.before.before.before.before) at c.if-n-lt2147483648.false) in
+    let b = ltb-true (mag c.args.z) _ (rw (number c.before.before.before.before.before) at c.if-n-lt549755813888.true) in
+    (size_between c.args.z 3 c.ranges.z (omega arith) (omega arith), omega arith, omega arith))  -- returns-5
     (λ c.
-    let w = c.before.before.before.before.before.before in
-    let s = w.before in
-    let a = ltb-false (mag s.args.z) _ (rw (number w) at c.before.if-n-lt549755813888.false) in
-    let b = ltb-true (mag s.args.z) _ (rw (number w) at c.if-n-lt140737488355328.true) in
-    (size_between s.args.z 4 s.ranges.z (omega arith) (omega arith), omega arith, omega arith))  -- returns-6
+    let a = ltb-false (mag c.args.z) _ (rw (number c.before.before.before.before.before.before) at c.if-n-lt549755813888.false) in
+    let b = ltb-true (mag c.args.z) _ (rw (number c.before.before.before.before.before.before) at c.if-n-lt140737488355328.true) in
+    (size_between c.args.z 4 c.ranges.z (omega arith) (omega arith), omega arith, omega arith))  -- returns-6
     (λ c.
-    let w = c.before.before.before.before.before.before.before in
-    let s = w.before in
-    let a = ltb-false (mag s.args.z) _ (rw (number w) at c.before.if-n-lt140737488355328.false) in
-    let b = ltb-true (mag s.args.z) _ (rw (number w) at c.if-n-lt36028797018963968.true) in
-    (size_between s.args.z 5 s.ranges.z (omega arith) (omega arith), omega arith, omega arith))  -- returns-7
+    let a = ltb-false (mag c.args.z) _ (rw (number c.before.before.before.before.before.before.before) at c.if-n-lt140737488355328.false) in
+    let b = ltb-true (mag c.args.z) _ (rw (number c.before.before.before.before.before.before.before) at c.if-n-lt36028797018963968.true) in
+    (size_between c.args.z 5 c.ranges.z (omega arith) (omega arith), omega arith, omega arith))  -- returns-7
     (λ c.
-    let w = c.before.before.before.before.before.before.before in
-    let s = w.before in
-    let a = ltb-false (mag s.args.z) _ (rw (number w) at c.if-n-lt36028797018963968.false) in
-    (size_between s.args.z 6 s.ranges.z (omega arith) s.ranges.z.sfits, omega arith, omega arith)))  -- returns-8
+    let a = ltb-false (mag c.args.z) _ (rw (number c.before.before.before.before.before.before.before) at c.if-n-lt36028797018963968.false) in
+    (size_between c.args.z 6 c.ranges.z (omega arith) c.ranges.z.sfits, omega arith, omega arith)))  -- returns-8

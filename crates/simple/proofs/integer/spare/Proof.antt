@@ -6,4 +6,4 @@ pub spare_spec : {M : Type 1} → statement M
 spare_spec = tie.close (tie.spec
     (λ c. spare_zero _ _ c.if-a-eq0.true)  -- returns
     (λ c. spare_ones _ _ c.if-a-eq255.true)  -- returns-2
-    (λ c. spare_other _ _ c.before.if-a-eq0.false c.if-a-eq255.false))  -- returns-3
+    (λ c. spare_other _ _ c.if-a-eq0.false c.if-a-eq255.false))  -- returns-3

@@ -13,9 +13,8 @@ convert_spec =
     (tie.spec
     (λ c κs. search rules)  -- is-version-requires
     (λ c.
-    let v = c.before in
-    let a = v.before.before.before.args in
-    outcome_is (version_refused a.kind a.version a.time.now a.buf-1.now v.is_version.ensures c.if-not-is_version.true) refl refl)  -- returns
+    let a = c.args in
+    outcome_is (version_refused a.kind a.version a.time.now a.buf.now c.is_version.ensures c.if-not-is_version.true) refl refl)  -- returns
     (λ c κs. search rules)  -- given-requires
     (λ c. search rules)  -- enum-known-cause
     (λ c κs. search rules)  -- refuse-requires
@@ -27,29 +26,16 @@ convert_spec =
     (λ c κs. search rules)  -- other-kind-requires
     (λ c κs. search rules)  -- put-requires
     (λ c.
-    let g = c.before.before.before.before in
-    let v = g.before.before in
-    let a = v.before.before.before.args in
-    outcome_is (node_refused a.kind a.version a.time.now a.buf-1.now v.is_version.ensures g.before.if-not-is_version.false g.given.ensures
-    c.before.before.cause-1.given.1) c.refuse.ensures refl)  -- returns-2
+    let a = c.args in
+    outcome_is (node_refused a.kind a.version a.time.now a.buf.now c.is_version.ensures c.if-not-is_version.false c.given.ensures
+    c.in-Refused.is) c.refuse.ensures refl)  -- returns-2
     (λ c.
-    let d = c.before.before.before.before in
-    let t = d.before.before in
-    let g = t.before.before in
-    let v = g.before.before in
-    let a = v.before.before.before.args in
-    outcome_is (time_refused a.kind a.version a.time.now a.buf-1.now v.is_version.ensures g.before.if-not-is_version.false g.given.ensures
-    t.t-1.given.1 d.counterpart.ensures c.before.before.cause-in-Refused-counterpart-1.given.1) c.refuse-in-Refused-counterpart.ensures refl)  -- returns-3
+    let a = c.args in
+    outcome_is (time_refused a.kind a.version a.time.now a.buf.now c.is_version.ensures c.if-not-is_version.false c.given.ensures
+    c.in-Time.is c.counterpart.ensures c.in-Refused-counterpart.is) c.refuse-in-Refused-counterpart.ensures refl)  -- returns-3
     (λ c. search rules)  -- same-length
     (λ c.
-    let p = c.before.before in
-    let o = p.before.before in
-    let u = o.before.before in
-    let d = u.before.before in
-    let t = d.before.before in
-    let g = t.before.before in
-    let v = g.before.before in
-    let a = v.before.before.before.args in
-    let w = rw o.other_kind.ensures at p.put.ensures in
-    outcome_is (counterpart_put a.kind a.version a.time.now a.buf-1.now v.is_version.ensures g.before.if-not-is_version.false g.given.ensures
-    t.t-1.given.1 d.counterpart.ensures u.u-1.given.1) w.0 w.1))  -- returns-4
+    let a = c.args in
+    let w = rw c.other_kind.ensures at c.put.ensures in
+    outcome_is (counterpart_put a.kind a.version a.time.now a.buf.now c.is_version.ensures c.if-not-is_version.false c.given.ensures
+    c.in-Time.is c.counterpart.ensures c.in-Time-counterpart.is) w.0 w.1))  -- returns-4

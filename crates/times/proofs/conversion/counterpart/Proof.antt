@@ -17,9 +17,9 @@ counterpart_spec =
     (λ c κs. search rules)  -- to-generalized-requires
     (λ c. search rules)  -- enum-told-2
     (λ c κs. search rules)  -- in-window-requires
-    (λ c. let w = c.before.in_window in rw (c.before.before.enum_told-in-Generalized-1.given.1, ← w.ensures, c.if-not-in_window.true))  -- returns
+    (λ c. let w = c.in_window in rw (c.in-Generalized.is, ← w.ensures, c.if-not-in_window.true))  -- returns
     (λ c κs. search rules)  -- to-utc-requires
-    (λ c. rw c.before.enum_told-1.given.1 (ap Time c.to_generalized.ensures))  -- returns-2
+    (λ c. rw c.in-Utc.is (ap Time c.to_generalized.ensures))  -- returns-2
     (λ c.
-    let w = c.before.before.in_window in
-    rw (c.before.before.before.enum_told-in-Generalized-1.given.1, ← w.ensures, c.before.if-not-in_window.false) (ap Time c.to_utc.ensures)))  -- returns-3
+    let w = c.in_window in
+    rw (c.in-Generalized.is, ← w.ensures, c.if-not-in_window.false) (ap Time c.to_utc.ensures)))  -- returns-3

@@ -20,23 +20,19 @@ given_spec =
     tie.close
     (tie.spec
     (λ c κs. search rules)  -- is-lone-requires
-    (λ c. let a = c.before.before.before.args in given_shape a.kind a.s.now (sym c.before.is_lone.ensures ∙ c.if-not-is_lone.true))  -- returns
-    (λ c. let s = c.before.before in omega (arith, lone_some s.before.before.args.s.now (sym s.is_lone.ensures ∙ c.before.if-not-is_lone.false)))  -- shared-slice-read-if2
+    (λ c. let a = c.args in given_shape a.kind a.s.now (sym c.is_lone.ensures ∙ c.if-not-is_lone.true))  -- returns
+    (λ c. omega (arith, lone_some c.args.s.now (sym c.is_lone.ensures ∙ c.if-not-is_lone.false)))  -- shared-slice-read-if2
     (λ c κs. search rules)  -- number-requires
     (λ c.
-    let n = c.before in
-    let s = n.before.before.before in
-    let a = s.before.before.args in
-    given_type a.kind a.s.now (sym s.is_lone.ensures ∙ n.before.before.if-not-is_lone.false) (ne_eqb (get_or a.s.now 2 0) (time_number a.kind) λ e. c.if-s-number.true (rw (e, n.number.ensures) refl)))  -- returns-2
-    (λ c. let s = c.before.before.before.before in omega (arith, lone_some s.before.before.args.s.now (sym s.is_lone.ensures ∙ c.before.before.before.if-not-is_lone.false)))  -- sub-of
-    (λ c. let s = c.before.before.before.before in omega (arith, lone_some s.before.before.args.s.now (sym s.is_lone.ensures ∙ c.before.before.before.if-not-is_lone.false)))  -- part-of-start
+    let a = c.args in
+    given_type a.kind a.s.now (sym c.is_lone.ensures ∙ c.if-not-is_lone.false) (ne_eqb (get_or a.s.now 2 0) (time_number a.kind) λ e. c.if-s-number.true (rw (e, c.number.ensures) refl)))  -- returns-2
+    (λ c. omega (arith, lone_some c.args.s.now (sym c.is_lone.ensures ∙ c.if-not-is_lone.false)))  -- sub-of
+    (λ c. omega (arith, lone_some c.args.s.now (sym c.is_lone.ensures ∙ c.if-not-is_lone.false)))  -- part-of-start
     (λ c. search rules)  -- part-of-end
     (λ c κs. search rules)  -- of-requires
     (λ c.
-    let n = c.before.before.before in
-    let l = n.before.before in
-    let a = l.before.before.before.args in
+    let a = c.args in
     let s = a.s.now in
     let part = take_all (length s - 3) (drop 3 s) (omega (arith, length-drop 3 s)) in
     ap Time (c.of.ensures ∙ ap (λ (x : List ℕ). time_at x 0) part)
-    ∙ given_time a.kind s (sym l.before.is_lone.ensures ∙ l.if-not-is_lone.false) (eq-eqb _ _ (c.before.before.if-s-number.false ∙ n.number.ensures))))  -- returns-3
+    ∙ given_time a.kind s (sym c.is_lone.ensures ∙ c.if-not-is_lone.false) (eq-eqb _ _ (c.if-s-number.false ∙ c.number.ensures))))  -- returns-3

@@ -17,7 +17,7 @@ unfolding leaf_octets time_octets
 put_spec =
     tie.close
     (tie.spec
-    (λ c. let a = c.before.before.args in outcome_is (put_refused a.kind a.t a.buf-1.now (omega (arith, c.if-buf-lt-SIZE.true))) refl refl)  -- returns
+    (λ c. let a = c.args in outcome_is (put_refused a.kind a.t a.buf.now (omega (arith, c.if-buf-lt-SIZE.true))) refl refl)  -- returns
     (λ c. search rules)  -- slice-write-buf
     (λ c. simp length-set (omega arith))  -- slice-write-buf-2
     (λ c κs. search rules)  -- number-requires
@@ -27,14 +27,12 @@ put_spec =
     (λ c. search rules)  -- part-put-end
     (λ c κs. search rules)  -- put-requires
     (λ c.
-    let s = c.before.before.before.before in
-    let a = s.before.before.before.args in
-    node_length a.kind a.t a.buf-1.now c.before.before.put.new.1.0 s.number.result s.number.ensures
-    (omega (arith, s.before.if-buf-lt-SIZE.false)) c.before.before.put.ensures)  -- same-length
+    let a = c.args in
+    node_length a.kind a.t a.buf.now c.put.new.1.0 c.number.result c.number.ensures
+    (omega (arith, c.if-buf-lt-SIZE.false)) c.put.ensures)  -- same-length
     (λ c.
-    let s = c.before.before.before.before in
-    let a = s.before.before.before.args in
-    let room : 10 ≤ length a.buf-1.now = omega (arith, s.before.if-buf-lt-SIZE.false) in
-    outcome_is (put_done a.kind a.t a.buf-1.now room) refl
-    (node_put a.kind a.t a.buf-1.now c.before.before.put.new.1.0 s.number.result s.number.ensures room
-    c.before.before.put.ensures)))  -- returns-2
+    let a = c.args in
+    let room : 10 ≤ length a.buf.now = omega (arith, c.if-buf-lt-SIZE.false) in
+    outcome_is (put_done a.kind a.t a.buf.now room) refl
+    (node_put a.kind a.t a.buf.now c.put.new.1.0 c.number.result c.number.ensures room
+    c.put.ensures)))  -- returns-2

@@ -22,12 +22,12 @@ elapsed_spec =
     (λ c κs. search rules)  -- refuse-requires-2
     (λ c. search rules)  -- enum-known-b
     (λ c κs. search rules)  -- elapsed-requires
-    (λ c. let a = c.before.before.before.before.before.before.before.args in first_refused elapsed a.first.now a.second.now c.before.before.before.before.given.ensures c.before.before.cause-1.given.1 c.refuse.ensures)  -- returns
+    (λ c. let a = c.args in first_refused elapsed a.first.now a.second.now c.given.ensures c.in-Refused.is c.refuse.ensures)  -- returns
     (λ c.
-    let x = c.before.before.before.before.before.before.before.before.given.ensures in
-    let a = c.before.before.before.before.before.before.before.before.before.before.before.args in
-    second_refused elapsed a.first.now a.second.now x c.before.before.before.before.before.before.a-1.given.1 c.before.before.before.before.given-in-Time.ensures c.before.before.cause-in-Refused-given-2-1.given.1 c.refuse-in-Refused-given.ensures)  -- returns-2
+    let x = c.given.ensures in
+    let a = c.args in
+    second_refused elapsed a.first.now a.second.now x c.in-Time.is c.given-in-Time.ensures c.in-Refused-given.is c.refuse-in-Refused-given.ensures)  -- returns-2
     (λ c.
-    let x = c.before.before.before.before.before.before.before.before.given.ensures in
-    let a = c.before.before.before.before.before.before.before.before.before.before.before.args in
-    both_given elapsed a.first.now a.second.now x c.before.before.before.before.before.before.a-1.given.1 c.before.before.before.before.given-in-Time.ensures c.before.before.b-1.given.1 (to_z-of_z w64 _ (record { sfits = c.elapsed.type_inv }) ∙ c.elapsed.ensures)))  -- returns-3
+    let x = c.given.ensures in
+    let a = c.args in
+    both_given elapsed a.first.now a.second.now x c.in-Time.is c.given-in-Time.ensures c.in-Time-given.is (to_z-of_z w64 _ (record { sfits = c.elapsed.type_inv }) ∙ c.elapsed.ensures)))  -- returns-3

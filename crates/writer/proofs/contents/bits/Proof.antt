@@ -14,21 +14,21 @@ bits_spec =
     (tie.spec
     (λ c. search rules)  -- add-start
     (λ c κs. search rules)  -- none-requires
-    (λ c. let a = c.before.before.before.args in bits_short a.v.now a.p _ c.before.if-v-start.true c.none.ensures)  -- returns
+    (λ c. let a = c.args in bits_short a.v.now a.p _ c.if-v-start.true c.none.ensures)  -- returns
     (λ c κs. search rules)  -- two-requires
     (λ c. search rules)  -- add-size
     (λ c. search rules)  -- add-end
     (λ c κs. search rules)  -- none-requires-2
     (λ c.
-    let a = c.before.before.before.before.before.args in
-    bits_cut a.v.now a.p _ c.before.before.before.if-v-start.false _ c.before.before.two-n.ensures.0 c.before.if-v-end.true c.none-then-v-end.ensures)  -- returns-2
-    (λ c κs. (omega arith, c.before.two-n.ensures.1, refl, c.if-v-end.false))  -- clear-requires
+    let a = c.args in
+    bits_cut a.v.now a.p _ c.if-v-start.false _ c.two-n.ensures.0 c.if-v-end.true c.none-then-v-end.ensures)  -- returns-2
+    (λ c κs. (omega arith, c.two-n.ensures.1, refl, c.if-v-end.false))  -- clear-requires
     (λ c κs. search rules)  -- none-requires-3
     (λ c.
-    let a = c.before.before.before.before.before.before.before.args in
-    bits_unclear a.v.now a.p _ c.before.before.before.before.before.if-v-start.false _ c.before.before.before.before.two-n.ensures.0
-    c.before.before.before.if-v-end.false _ c.before.before.clear.ensures c.before.if-not-clear.true c.none-then-not-clear.ensures)  -- returns-3
+    let a = c.args in
+    bits_unclear a.v.now a.p _ c.if-v-start.false _ c.two-n.ensures.0
+    c.if-v-end.false _ c.clear.ensures c.if-not-clear.true c.none-then-not-clear.ensures)  -- returns-3
     (λ c. search rules)  -- add-t7
     (λ c.
-    let a = c.before.before.before.before.before.before.args in
-    bits_measured a.v.now a.p _ c.before.before.before.before.if-v-start.false _ c.before.before.before.two-n.ensures.0 c.before.before.if-v-end.false _ c.before.clear.ensures c.if-not-clear.false c.before.before.before.two-n.ensures.1 refl refl))  -- returns-4
+    let a = c.args in
+    bits_measured a.v.now a.p _ c.if-v-start.false _ c.two-n.ensures.0 c.if-v-end.false _ c.clear.ensures c.if-not-clear.false c.two-n.ensures.1 refl refl))  -- returns-4

@@ -11,13 +11,13 @@ boolean_spec =
     tie.close
     (tie.spec
     (λ c κs. search rules)  -- none-requires
-    (λ c. let a = c.before.before.before.args in boolean_short a.v.now a.p _ c.before.if-v-p.true c.none.ensures)  -- returns
+    (λ c. let a = c.args in boolean_short a.v.now a.p _ c.if-v-p.true c.none.ensures)  -- returns
     (λ c. search rules)  -- shared-slice-read-if2
     (λ c κs. search rules)  -- none-requires-2
     (λ c.
-    let a = c.before.before.before.before.before.args in
-    boolean_other a.v.now a.p _ c.before.before.before.if-v-p.false c.before.if-v-p-ge2.true c.none-then-v-p-ge2.ensures)  -- returns-2
+    let a = c.args in
+    boolean_other a.v.now a.p _ c.if-v-p.false c.if-v-p-ge2.true c.none-then-v-p-ge2.ensures)  -- returns-2
     (λ c. search rules)  -- add-t3
     (λ c.
-    let a = c.before.before.before.before.args in
-    boolean_measured a.v.now a.p _ c.before.before.if-v-p.false c.if-v-p-ge2.false refl refl))  -- returns-3
+    let a = c.args in
+    boolean_measured a.v.now a.p _ c.if-v-p.false c.if-v-p-ge2.false refl refl))  -- returns-3

@@ -12,12 +12,12 @@ pub clear_spec : {M : Type 1} → statement M
 clear_spec =
     tie.close
     (tie.spec
-    (λ c. let a = c.before.before.args in clear_whole a.v.now a.p a.n c.if-n-eq0.true)  -- returns
+    (λ c. let a = c.args in clear_whole a.v.now a.p a.n c.if-n-eq0.true)  -- returns
     (λ c. search rules)  -- sub-unit
     (λ c κs. search rules)  -- unit-requires
     (λ c. search rules)  -- sub-last
     (λ c. search rules)  -- shared-slice-read-result
-    (λ c. omega (arith, c.before.unit-unit.ensures, pow_pos ((8 - c.before.before.before.before.args.n % 8) % 8)))  -- rem-result
+    (λ c. omega (arith, c.unit-unit.ensures, pow_pos ((8 - c.args.n % 8) % 8)))  -- rem-result
     (λ c.
-    let a = c.before.before.before.before.args in
-    clear_part a.v.now a.p a.n a.e _ c.before.before.if-n-eq0.false c.before.before.before.before.requires.2 c.before.unit-unit.ensures))  -- returns-2
+    let a = c.args in
+    clear_part a.v.now a.p a.n a.e _ c.if-n-eq0.false c.requires.2 c.unit-unit.ensures))  -- returns-2

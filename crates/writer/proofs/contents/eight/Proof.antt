@@ -18,4 +18,4 @@ eight_spec =
     (λ c. search rules)  -- part-of-eight-end
     (λ c κs. search rules)  -- of-eight-requires
     (λ c.
-    to_z-of_z w64 _ (record { sfits = c.of_eight.type_inv }) ∙ eight_is c.before.before.before.args.v.now c.before.before.before.args.p c.before.before.before.requires _ c.of_eight.ensures))  -- returns
+    to_z-of_z w64 _ (record { sfits = c.of_eight.type_inv }) ∙ eight_is c.args.v.now c.args.p c.requires _ c.of_eight.ensures))  -- returns

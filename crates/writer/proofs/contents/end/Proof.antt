@@ -10,21 +10,21 @@ end_spec =
     tie.close
     (tie.spec
     (λ c κs. search rules)  -- boolean-requires
-    (λ c. let a = c.before.before.before.args in end_measured a.kind a.v.now a.p 1 _ c.before.if-kind-eq-BOOLEAN.true c.boolean.ensures)  -- returns
+    (λ c. let a = c.args in end_measured a.kind a.v.now a.p 1 _ c.if-kind-eq-BOOLEAN.true c.boolean.ensures)  -- returns
     (λ c. search rules)  -- add-fixed-end
     (λ c κs. search rules)  -- fixed-end-requires
-    (λ c. let a = c.before.before.before.before.args in end_integer a.kind a.v.now a.p c.before.if-kind-eq-INTEGER.true c.fixed_end.ensures)  -- returns-2
+    (λ c. let a = c.args in end_integer a.kind a.v.now a.p c.if-kind-eq-INTEGER.true c.fixed_end.ensures)  -- returns-2
     (λ c κs. search rules)  -- bits-requires
-    (λ c. let a = c.before.before.before.before.before.args in end_measured a.kind a.v.now a.p 3 _ c.before.if-kind-eq-BIT_STRING.true c.bits.ensures)  -- returns-3
+    (λ c. let a = c.args in end_measured a.kind a.v.now a.p 3 _ c.if-kind-eq-BIT_STRING.true c.bits.ensures)  -- returns-3
     (λ c κs. search rules)  -- string-requires
-    (λ c. let a = c.before.before.before.before.before.before.args in end_measured a.kind a.v.now a.p 4 _ c.before.if-kind-eq-OCTET_STRING.true c.string.ensures)  -- returns-4
-    (λ c. let a = c.before.before.before.before.before.before.args in end_null a.kind a.v.now a.p c.if-kind-eq-NULL.true)  -- returns-5
+    (λ c. let a = c.args in end_measured a.kind a.v.now a.p 4 _ c.if-kind-eq-OCTET_STRING.true c.string.ensures)  -- returns-4
+    (λ c. let a = c.args in end_null a.kind a.v.now a.p c.if-kind-eq-NULL.true)  -- returns-5
     (λ c. search rules)  -- add-fixed-end-2
     (λ c κs. search rules)  -- fixed-end-requires-2
-    (λ c. let a = c.before.before.before.before.before.before.before.before.args in end_enumerated a.kind a.v.now a.p c.before.if-kind-eq-ENUMERATED.true c.fixed_end-then-kind-eq-ENUMERATED.ensures)  -- returns-6
+    (λ c. let a = c.args in end_enumerated a.kind a.v.now a.p c.if-kind-eq-ENUMERATED.true c.fixed_end-then-kind-eq-ENUMERATED.ensures)  -- returns-6
     (λ c κs. search rules)  -- time-kind-requires
     (λ c κs. search rules)  -- time-requires
     (λ c.
-    let a = c.before.before.before.before.before.before.before.before.before.args in
-    let k = time_left a.kind c.before.before.before.before.before.before.before.before.before.requires.1 c.before.before.before.before.before.before.before.if-kind-eq-BOOLEAN.false c.before.before.before.before.before.before.if-kind-eq-INTEGER.false c.before.before.before.before.before.if-kind-eq-BIT_STRING.false c.before.before.before.before.if-kind-eq-OCTET_STRING.false c.before.before.before.if-kind-eq-NULL.false c.before.before.if-kind-eq-ENUMERATED.false _ c.before.time_kind.ensures in
+    let a = c.args in
+    let k = time_left a.kind c.requires.1 c.if-kind-eq-BOOLEAN.false c.if-kind-eq-INTEGER.false c.if-kind-eq-BIT_STRING.false c.if-kind-eq-OCTET_STRING.false c.if-kind-eq-NULL.false c.if-kind-eq-ENUMERATED.false _ c.time_kind.ensures in
     end_measured a.kind a.v.now a.p _ _ k c.time.ensures))  -- returns-7

@@ -12,9 +12,9 @@ enumerated_spec =
     (tie.spec
     (λ c. search rules)  -- add-end
     (λ c κs. search rules)  -- none-requires
-    (λ c. let a = c.before.before.before.args in number_short a.v.now a.p _ c.before.if-v-end.true c.none.ensures)  -- returns
+    (λ c. let a = c.args in number_short a.v.now a.p _ c.if-v-end.true c.none.ensures)  -- returns
     (λ c κs. search rules)  -- two-requires
     (λ c κs. search rules)  -- number-size-requires
     (λ c.
-    let a = c.before.before.before.before.args in
-    number_measured a.v.now a.p _ c.before.before.if-v-end.false _ _ c.before.two.ensures.0 c.number_size-size.ensures.0 c.number_size-size.ensures.1 refl refl))  -- returns-2
+    let a = c.args in
+    number_measured a.v.now a.p _ c.if-v-end.false _ _ c.two.ensures.0 c.number_size-size.ensures.0 c.number_size-size.ensures.1 refl refl))  -- returns-2

@@ -13,9 +13,9 @@ integer_spec =
     tie.close (tie.spec
     (λ c. search rules)  -- add-end
     (λ c κs. search rules)  -- none-requires
-    (λ c. let a = c.before.before.before.args in integer_short a.v.now a.p _ c.before.if-v-end.true c.none.ensures)  -- returns
+    (λ c. let a = c.args in integer_short a.v.now a.p _ c.if-v-end.true c.none.ensures)  -- returns
     (λ c κs. search rules)  -- eight-requires
     (λ c κs. search rules)  -- size-requires
     (λ c.
-    let a = c.before.before.before.before.args in
-    integer_measured a.v.now a.p _ c.before.before.if-v-end.false _ _ _ (to_z-of_z w64 _ (record { sfits = c.before.eight.type_inv })) c.before.eight.ensures c.size-size.ensures.0 c.size-size.ensures.2 refl refl))  -- returns-2
+    let a = c.args in
+    integer_measured a.v.now a.p _ c.if-v-end.false _ _ _ (to_z-of_z w64 _ (record { sfits = c.eight.type_inv })) c.eight.ensures c.size-size.ensures.0 c.size-size.ensures.2 refl refl))  -- returns-2

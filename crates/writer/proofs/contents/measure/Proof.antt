@@ -11,28 +11,28 @@ measure_spec =
     tie.close
     (tie.spec
     (λ c κs. search rules)  -- boolean-requires
-    (λ c. let a = c.before.before.before.args in same_kind a.kind a.v.now a.p 1 _ c.before.if-kind-eq-BOOLEAN.true c.boolean.ensures)  -- returns
+    (λ c. let a = c.args in same_kind a.kind a.v.now a.p 1 _ c.if-kind-eq-BOOLEAN.true c.boolean.ensures)  -- returns
     (λ c κs. search rules)  -- integer-requires
     (λ c.
-    let a = c.before.before.before.before.args in
-    same_kind a.kind a.v.now a.p 2 _ c.before.if-kind-eq-INTEGER.true c.integer.ensures)  -- returns-2
+    let a = c.args in
+    same_kind a.kind a.v.now a.p 2 _ c.if-kind-eq-INTEGER.true c.integer.ensures)  -- returns-2
     (λ c κs. search rules)  -- bits-requires
     (λ c.
-    let a = c.before.before.before.before.before.args in
-    same_kind a.kind a.v.now a.p 3 _ c.before.if-kind-eq-BIT_STRING.true c.bits.ensures)  -- returns-3
+    let a = c.args in
+    same_kind a.kind a.v.now a.p 3 _ c.if-kind-eq-BIT_STRING.true c.bits.ensures)  -- returns-3
     (λ c κs. search rules)  -- string-requires
     (λ c.
-    let a = c.before.before.before.before.before.before.args in
-    same_kind a.kind a.v.now a.p 4 _ c.before.if-kind-eq-OCTET_STRING.true c.string.ensures)  -- returns-4
+    let a = c.args in
+    same_kind a.kind a.v.now a.p 4 _ c.if-kind-eq-OCTET_STRING.true c.string.ensures)  -- returns-4
     (λ c.
-    let a = c.before.before.before.before.before.before.args in
+    let a = c.args in
     null_measured a.v.now a.p _ a.kind c.if-kind-eq-NULL.true refl refl)  -- returns-5
     (λ c κs. search rules)  -- enumerated-requires
     (λ c.
-    let a = c.before.before.before.before.before.before.before.before.args in
-    same_kind a.kind a.v.now a.p 10 _ c.before.if-kind-eq-ENUMERATED.true c.enumerated.ensures)  -- returns-6
+    let a = c.args in
+    same_kind a.kind a.v.now a.p 10 _ c.if-kind-eq-ENUMERATED.true c.enumerated.ensures)  -- returns-6
     (λ c κs. search rules)  -- time-kind-requires
     (λ c κs. search rules)  -- time-requires
     (λ c.
-    let a = c.before.before.before.before.before.before.before.before.before.args in
-    same_kind a.kind a.v.now a.p _ _ (time_left a.kind c.before.before.before.before.before.before.before.before.before.requires.1 c.before.before.before.before.before.before.before.if-kind-eq-BOOLEAN.false c.before.before.before.before.before.before.if-kind-eq-INTEGER.false c.before.before.before.before.before.if-kind-eq-BIT_STRING.false c.before.before.before.before.if-kind-eq-OCTET_STRING.false c.before.before.before.if-kind-eq-NULL.false c.before.before.if-kind-eq-ENUMERATED.false _ c.before.time_kind.ensures) c.time.ensures))  -- returns-7
+    let a = c.args in
+    same_kind a.kind a.v.now a.p _ _ (time_left a.kind c.requires.1 c.if-kind-eq-BOOLEAN.false c.if-kind-eq-INTEGER.false c.if-kind-eq-BIT_STRING.false c.if-kind-eq-OCTET_STRING.false c.if-kind-eq-NULL.false c.if-kind-eq-ENUMERATED.false _ c.time_kind.ensures) c.time.ensures))  -- returns-7

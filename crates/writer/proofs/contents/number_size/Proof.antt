@@ -15,4 +15,4 @@ pub number_size_spec : {M : Type 1} → statement M
 number_size_spec = tie.close (tie.spec
     (λ c. search rules)  -- cast-size
     (λ c κs. search rules)  -- size-requires
-    (λ c. (c.size.ensures.0 ∙ ap (λ (z : ℤ). length (fewest_of z)) (to_z_pos w64 c.before.args.n (omega arith)), c.size.ensures.2)))  -- returns
+    (λ c. (c.size.ensures.0 ∙ ap (λ (z : ℤ). length (fewest_of z)) (to_z_pos w64 c.args.n (omega arith)), c.size.ensures.2)))  -- returns

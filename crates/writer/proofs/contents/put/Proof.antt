@@ -19,148 +19,127 @@ put_spec =
     tie.close
     (tie.spec
     (λ c.
-    let s = c.before.before.before.before in
-    let a = s.args in
-    boolean_there a.kind a.v.now a.p s.requires.2 c.before.if-kind-eq-BOOLEAN.true)  -- shared-slice-read-if2
+    let a = c.args in
+    boolean_there a.kind a.v.now a.p c.requires.2 c.if-kind-eq-BOOLEAN.true)  -- shared-slice-read-if2
     (λ c.
-    let s = c.before.before.before.before.before in
-    let a = s.args in
-    omega (arith, boolean_size a.kind a.v.now a.p s.requires.2 c.before.before.if-kind-eq-BOOLEAN.true, s.requires.3, s.requires.4))  -- slice-write-buf
+    let a = c.args in
+    omega (arith, boolean_size a.kind a.v.now a.p c.requires.2 c.if-kind-eq-BOOLEAN.true, c.requires.3, c.requires.4))  -- slice-write-buf
     (λ c. search rules)  -- add-result
     (λ c. search rules)  -- same-length
     (λ c.
-    let s = c.before.before.before.before.before in
-    let a = s.args in (
-      boolean_end_lem a.kind a.v.now a.p s.requires.2 c.before.before.if-kind-eq-BOOLEAN.true,
-      ⊎_elim (λ w. rw (encode_true a.kind a.v.now a.p s.requires.2 c.before.before.if-kind-eq-BOOLEAN.true w.0.taken) (ap (set a.buf-1.now a.to) w.1)) (λ w. rw (encode_false a.kind a.v.now a.p s.requires.2 c.before.before.if-kind-eq-BOOLEAN.true w.0.left) (ap (set a.buf-1.now a.to) w.1)) c.if-v-p-eq1.branch,
+    let a = c.args in (
+      boolean_end_lem a.kind a.v.now a.p c.requires.2 c.if-kind-eq-BOOLEAN.true,
+      ⊎_elim (λ w. rw (encode_true a.kind a.v.now a.p c.requires.2 c.if-kind-eq-BOOLEAN.true w.0.taken) (ap (set a.buf.now a.to) w.1)) (λ w. rw (encode_false a.kind a.v.now a.p c.requires.2 c.if-kind-eq-BOOLEAN.true w.0.left) (ap (set a.buf.now a.to) w.1)) c.if-v-p-eq1.branch,
     ))  -- returns
     (λ c κs.
-    let s = c.before.before.before.before in
-    let a = s.args in
-    integer_there a.kind a.v.now a.p s.requires.2 c.if-kind-eq-INTEGER.true)  -- eight-requires
+    let a = c.args in
+    integer_there a.kind a.v.now a.p c.requires.2 c.if-kind-eq-INTEGER.true)  -- eight-requires
     (λ c κs.
-    let s = c.before.before.before.before.before.before in
-    let a = s.args in (
-      s.requires.3 ∙ sym (ap length (encode_integer a.kind a.v.now a.p s.requires.2 c.before.before.if-kind-eq-INTEGER.true _ _ (to_z-of_z w64 _ (record {
-        sfits = c.before.eight.type_inv;
-      })) c.before.eight.ensures)),
-      s.requires.4,
+    let a = c.args in (
+      c.requires.3 ∙ sym (ap length (encode_integer a.kind a.v.now a.p c.requires.2 c.if-kind-eq-INTEGER.true _ _ (to_z-of_z w64 _ (record {
+        sfits = c.eight.type_inv;
+      })) c.eight.ensures)),
+      c.requires.4,
     ))  -- put-integer-requires
     (λ c. search rules)  -- add-result-2
     (λ c. search rules)  -- same-length-2
     (λ c.
-    let s = c.before.before.before.before.before.before.before.before.before in
-    let a = s.args in (
-      integer_end a.kind a.v.now a.p s.requires.2 c.before.before.before.before.before.if-kind-eq-INTEGER.true,
-      c.before.before.put_integer.ensures ∙ rw (encode_integer a.kind a.v.now a.p s.requires.2 c.before.before.before.before.before.if-kind-eq-INTEGER.true _ _ (to_z-of_z w64 _
-          (record { sfits = c.before.before.before.before.eight.type_inv })) c.before.before.before.before.eight.ensures) refl,
+    let a = c.args in (
+      integer_end a.kind a.v.now a.p c.requires.2 c.if-kind-eq-INTEGER.true,
+      c.put_integer.ensures ∙ rw (encode_integer a.kind a.v.now a.p c.requires.2 c.if-kind-eq-INTEGER.true _ _ (to_z-of_z w64 _
+          (record { sfits = c.eight.type_inv })) c.eight.ensures) refl,
     ))  -- returns-2
     (λ c κs.
-    let s = c.before.before.before.before.before in
-    let a = s.args in
-    bits_there a.kind a.v.now a.p s.requires.2 c.if-kind-eq-BIT_STRING.true)  -- two-requires
+    let a = c.args in
+    bits_there a.kind a.v.now a.p c.requires.2 c.if-kind-eq-BIT_STRING.true)  -- two-requires
     (λ c.
-    let s = c.before.before.before.before.before.before in
-    let a = s.args in
-    omega (arith, bits_one a.kind a.v.now a.p s.requires.2 c.before.if-kind-eq-BIT_STRING.true a.size s.requires.3))  -- sub-n
+    let a = c.args in
+    omega (arith, bits_one a.kind a.v.now a.p c.requires.2 c.if-kind-eq-BIT_STRING.true a.size c.requires.3))  -- sub-n
     (λ c.
-    let s = c.before.before.before.before.before.before in
-    let a = s.args in
+    let a = c.args in
     omega (
       arith,
-      bits_one a.kind a.v.now a.p s.requires.2 c.before.if-kind-eq-BIT_STRING.true a.size s.requires.3,
+      bits_one a.kind a.v.now a.p c.requires.2 c.if-kind-eq-BIT_STRING.true a.size c.requires.3,
       c.two-count.ensures.0,
       c.two-count.ensures.1,
     ))  -- mul-buf
     (λ c.
-    let s = c.before.before.before.before.before.before in
-    let a = s.args in
-    omega (arith, bits_one a.kind a.v.now a.p s.requires.2 c.before.if-kind-eq-BIT_STRING.true a.size s.requires.3, c.two-count.ensures.0))  -- sub-buf
+    let a = c.args in
+    omega (arith, bits_one a.kind a.v.now a.p c.requires.2 c.if-kind-eq-BIT_STRING.true a.size c.requires.3, c.two-count.ensures.0))  -- sub-buf
     (λ c.
-    let s = c.before.before.before.before.before.before in
-    let a = s.args in
-    omega (arith, bits_one a.kind a.v.now a.p s.requires.2 c.before.if-kind-eq-BIT_STRING.true a.size s.requires.3, c.two-count.ensures.0))  -- cast-buf
+    let a = c.args in
+    omega (arith, bits_one a.kind a.v.now a.p c.requires.2 c.if-kind-eq-BIT_STRING.true a.size c.requires.3, c.two-count.ensures.0))  -- cast-buf
     (λ c.
-    let s = c.before.before.before.before.before.before in
-    let a = s.args in
-    omega (arith, bits_one a.kind a.v.now a.p s.requires.2 c.before.if-kind-eq-BIT_STRING.true a.size s.requires.3, s.requires.4))  -- slice-write-buf-2
+    let a = c.args in
+    omega (arith, bits_one a.kind a.v.now a.p c.requires.2 c.if-kind-eq-BIT_STRING.true a.size c.requires.3, c.requires.4))  -- slice-write-buf-2
     (λ c. search rules)  -- add-next
     (λ c. search rules)  -- add-start
     (λ c κs.
-    let s = c.before.before.before.before.before.before.before in
-    let a = s.args in (
-      bits_within a.kind a.v.now a.p s.requires.2 c.before.before.if-kind-eq-BIT_STRING.true a.size s.requires.3,
+    let a = c.args in (
+      bits_within a.kind a.v.now a.p c.requires.2 c.if-kind-eq-BIT_STRING.true a.size c.requires.3,
       simp length-set (omega (
         arith,
         bits_one
-            a.kind a.v.now a.p s.requires.2 c.before.before.if-kind-eq-BIT_STRING.true a.size s.requires.3,
-        s.requires.4,
+            a.kind a.v.now a.p c.requires.2 c.if-kind-eq-BIT_STRING.true a.size c.requires.3,
+        c.requires.4,
       )),
     ))  -- put-part-requires
     (λ c. search rules)  -- add-result-3
-    (λ c. c.before.before.put_part.auto.1.1.1.0 ∙ simp length-set)  -- same-length-3
+    (λ c. c.put_part.auto.1.1.1.0 ∙ simp length-set)  -- same-length-3
     (λ c.
-    let s = c.before.before.before.before.before.before.before.before.before.before in
-    let a = s.args in (
-      bits_end_lem a.kind a.v.now a.p s.requires.2 c.before.before.before.before.before.if-kind-eq-BIT_STRING.true a.size s.requires.3,
+    let a = c.args in (
+      bits_end_lem a.kind a.v.now a.p c.requires.2 c.if-kind-eq-BIT_STRING.true a.size c.requires.3,
       bits_put a.kind
-          a.v.now a.p s.requires.2 c.before.before.before.before.before.if-kind-eq-BIT_STRING.true a.size s.requires.3 _ a.to a.buf-1.now _ c.before.before.before.before.two-count.ensures.0 c.before.before.put_part.ensures,
+          a.v.now a.p c.requires.2 c.if-kind-eq-BIT_STRING.true a.size c.requires.3 _ a.to a.buf.now _ c.two-count.ensures.0 c.put_part.ensures,
     ))  -- returns-3
     (λ c. search rules)  -- add-start-2
     (λ c κs.
-    let s = c.before.before.before.before.before.before.before in
-    let a = s.args in
-    (string_within a.kind a.v.now a.p s.requires.2 c.before.if-kind-eq-OCTET_STRING.true a.size s.requires.3, s.requires.4))  -- put-part-requires-2
+    let a = c.args in
+    (string_within a.kind a.v.now a.p c.requires.2 c.if-kind-eq-OCTET_STRING.true a.size c.requires.3, c.requires.4))  -- put-part-requires-2
     (λ c. search rules)  -- add-result-4
     (λ c. search rules)  -- same-length-4
     (λ c.
-    let s = c.before.before.before.before.before.before.before.before.before.before in
-    let a = s.args in (
-      string_end_lem a.kind a.v.now a.p s.requires.2 c.before.before.before.before.if-kind-eq-OCTET_STRING.true a.size s.requires.3,
-      c.before.before.put_part-then-kind-eq-OCTET_STRING.ensures ∙ rw (string_put a.kind a.v.now a.p s.requires.2 c.before.before.before.before.if-kind-eq-OCTET_STRING.true a.size s.requires.3)
+    let a = c.args in (
+      string_end_lem a.kind a.v.now a.p c.requires.2 c.if-kind-eq-OCTET_STRING.true a.size c.requires.3,
+      c.put_part-then-kind-eq-OCTET_STRING.ensures ∙ rw (string_put a.kind a.v.now a.p c.requires.2 c.if-kind-eq-OCTET_STRING.true a.size c.requires.3)
           refl,
     ))  -- returns-4
     (λ c.
-    let s = c.before.before.before.before.before.before.before in
-    let a = s.args in (
-      null_end a.kind a.v.now a.p s.requires.2 c.if-kind-eq-NULL.true,
-      null_put a.kind a.v.now a.p s.requires.2 c.if-kind-eq-NULL.true a.to a.buf-1.now,
+    let a = c.args in (
+      null_end a.kind a.v.now a.p c.requires.2 c.if-kind-eq-NULL.true,
+      null_put a.kind a.v.now a.p c.requires.2 c.if-kind-eq-NULL.true a.to a.buf.now,
     ))  -- returns-5
-    (λ c κs. let a = c.before.before.before.before.before.before.before.before.args in number_there a.kind a.v.now a.p c.before.before.before.before.before.before.before.before.requires.2 c.if-kind-eq-ENUMERATED.true)  -- two-requires-2
+    (λ c κs. let a = c.args in number_there a.kind a.v.now a.p c.requires.2 c.if-kind-eq-ENUMERATED.true)  -- two-requires-2
     (λ c. search rules)  -- cast-put-integer
     (λ c κs.
-    let s = c.before.before.before.before.before.before.before.before.before.before in
-    let a = s.args in (
-      s.requires.3 ∙ sym (ap length (ap fewest_of (to_z_pos w64 c.before.two.result (omega (arith, c.before.two.ensures.1))) ∙ encode_number a.kind a.v.now a.p s.requires.2 c.before.before.if-kind-eq-ENUMERATED.true _ c.before.two.ensures.0)),
-      s.requires.4,
+    let a = c.args in (
+      c.requires.3 ∙ sym (ap length (ap fewest_of (to_z_pos w64 c.two.result (omega (arith, c.two.ensures.1))) ∙ encode_number a.kind a.v.now a.p c.requires.2 c.if-kind-eq-ENUMERATED.true _ c.two.ensures.0)),
+      c.requires.4,
     ))  -- put-integer-requires-2
     (λ c. search rules)  -- add-result-5
     (λ c. search rules)  -- same-length-5
     (λ c.
-    let s = c.before.before.before.before.before.before.before.before.before.before.before.before.before in
-    let a = s.args in (
-      number_end a.kind a.v.now a.p s.requires.2 c.before.before.before.before.before.if-kind-eq-ENUMERATED.true,
-      c.before.before.put_integer-then-kind-eq-ENUMERATED.ensures ∙ rw (
-        to_z_pos w64 c.before.before.before.before.two.result (omega (arith, c.before.before.before.before.two.ensures.1)),
-        encode_number a.kind a.v.now a.p s.requires.2 c.before.before.before.before.before.if-kind-eq-ENUMERATED.true _ c.before.before.before.before.two.ensures.0,
+    let a = c.args in (
+      number_end a.kind a.v.now a.p c.requires.2 c.if-kind-eq-ENUMERATED.true,
+      c.put_integer-then-kind-eq-ENUMERATED.ensures ∙ rw (
+        to_z_pos w64 c.two.result (omega (arith, c.two.ensures.1)),
+        encode_number a.kind a.v.now a.p c.requires.2 c.if-kind-eq-ENUMERATED.true _ c.two.ensures.0,
       ) refl,
     ))  -- returns-6
     (λ c κs. search rules)  -- time-kind-requires
     (λ c κs.
-    let s = c.before.before.before.before.before.before.before.before.before.before in
-    let a = s.args in
-    let k = time_left a.kind s.requires.1 c.before.before.before.before.before.before.before.if-kind-eq-BOOLEAN.false c.before.before.before.before.before.before.if-kind-eq-INTEGER.false c.before.before.before.before.before.if-kind-eq-BIT_STRING.false c.before.before.before.before.if-kind-eq-OCTET_STRING.false c.before.before.before.if-kind-eq-NULL.false c.before.before.if-kind-eq-ENUMERATED.false _ c.before.time_kind.ensures in (
-      time_there a.kind a.v.now a.p s.requires.2 c.before.time_kind.result k,
-      time_ranged a.kind a.v.now a.p s.requires.2 c.before.time_kind.result k,
-      s.requires.3 ∙ sym (ap length (encode_time a.kind a.v.now a.p s.requires.2 c.before.time_kind.result k)),
-      s.requires.4,
+    let a = c.args in
+    let k = time_left a.kind c.requires.1 c.if-kind-eq-BOOLEAN.false c.if-kind-eq-INTEGER.false c.if-kind-eq-BIT_STRING.false c.if-kind-eq-OCTET_STRING.false c.if-kind-eq-NULL.false c.if-kind-eq-ENUMERATED.false _ c.time_kind.ensures in (
+      time_there a.kind a.v.now a.p c.requires.2 c.time_kind.result k,
+      time_ranged a.kind a.v.now a.p c.requires.2 c.time_kind.result k,
+      c.requires.3 ∙ sym (ap length (encode_time a.kind a.v.now a.p c.requires.2 c.time_kind.result k)),
+      c.requires.4,
     ))  -- put-time-requires
     (λ c. search rules)  -- add-result-6
     (λ c. search rules)  -- same-length-6
     (λ c.
-    let s = c.before.before.before.before.before.before.before.before.before.before.before.before.before in
-    let a = s.args in
-    let k = time_left a.kind s.requires.1 c.before.before.before.before.before.before.before.before.before.before.if-kind-eq-BOOLEAN.false c.before.before.before.before.before.before.before.before.before.if-kind-eq-INTEGER.false c.before.before.before.before.before.before.before.before.if-kind-eq-BIT_STRING.false c.before.before.before.before.before.before.before.if-kind-eq-OCTET_STRING.false c.before.before.before.before.before.before.if-kind-eq-NULL.false c.before.before.before.before.before.if-kind-eq-ENUMERATED.false _ c.before.before.before.before.time_kind.ensures in (
-      time_end_lem a.kind a.v.now a.p s.requires.2 c.before.before.before.before.time_kind.result k,
-      c.before.before.put_time.ensures ∙ rw (encode_time a.kind a.v.now a.p s.requires.2 c.before.before.before.before.time_kind.result k) refl,
+    let a = c.args in
+    let k = time_left a.kind c.requires.1 c.if-kind-eq-BOOLEAN.false c.if-kind-eq-INTEGER.false c.if-kind-eq-BIT_STRING.false c.if-kind-eq-OCTET_STRING.false c.if-kind-eq-NULL.false c.if-kind-eq-ENUMERATED.false _ c.time_kind.ensures in (
+      time_end_lem a.kind a.v.now a.p c.requires.2 c.time_kind.result k,
+      c.put_time.ensures ∙ rw (encode_time a.kind a.v.now a.p c.requires.2 c.time_kind.result k) refl,
     )))  -- returns-7

@@ -18,5 +18,5 @@ put_integer_spec =
     (λ c κs. search rules)  -- put-requires
     (λ c. search rules)  -- same-length
     (λ c.
-    let a = c.before.before.before.before.before.args in
-    integer_put a.buf-1.now a.to a.size c.before.before.before.before.before.requires.1 a.z _ _ c.before.before.before.before.before.ranges.z (to_z-of_z w64 a.z c.before.before.before.before.before.ranges.z) c.before.before.before.before.before.requires.0 c.before.before.put.ensures))  -- returns
+    let a = c.args in
+    integer_put a.buf.now a.to a.size c.requires.1 a.z _ _ c.ranges.z (to_z-of_z w64 a.z c.ranges.z) c.requires.0 c.put.ensures))  -- returns

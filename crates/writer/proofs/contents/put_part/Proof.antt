@@ -20,5 +20,5 @@ put_part_spec =
     (λ c κs. search rules)  -- copy-requires
     (λ c. search rules)  -- same-length
     (λ c.
-    let a = c.before.before.before.before.before.before.before.args in
-    copy_put a.buf-1.now a.to a.n c.before.before.before.before.before.before.before.requires.1 a.v.now a.p _ c.before.before.before.before.before.before.before.requires.0 c.before.before.copy.ensures))  -- returns
+    let a = c.args in
+    copy_put a.buf.now a.to a.n c.requires.1 a.v.now a.p _ c.requires.0 c.copy.ensures))  -- returns

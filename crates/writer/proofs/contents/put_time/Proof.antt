@@ -17,6 +17,5 @@ put_time_spec =
     (λ c κs. search rules)  -- put-requires
     (λ c. search rules)  -- same-length
     (λ c.
-    let s = c.before.before.before.before.before.before.before in
-    let a = s.args in
-    time_put a.buf-1.now a.to a.size s.requires.3 a.kind _ _ _ c.before.before.before.before.seven-t.ensures s.requires.1 s.requires.2 c.before.before.put.ensures.1))  -- returns
+    let a = c.args in
+    time_put a.buf.now a.to a.size c.requires.3 a.kind _ _ _ c.seven-t.ensures c.requires.1 c.requires.2 c.put.ensures.1))  -- returns

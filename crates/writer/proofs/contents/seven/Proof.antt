@@ -14,4 +14,4 @@ seven_spec =
     (λ c. search rules)  -- part-of-start
     (λ c. search rules)  -- part-of-end
     (λ c κs. search rules)  -- of-requires
-    (λ c. let a = c.before.before.before.args in seven_is a.v.now a.p _ c.of.ensures))  -- returns
+    (λ c. let a = c.args in seven_is a.v.now a.p _ c.of.ensures))  -- returns

@@ -12,14 +12,14 @@ string_spec =
     (tie.spec
     (λ c. search rules)  -- add-start
     (λ c κs. search rules)  -- none-requires
-    (λ c. let a = c.before.before.before.args in string_short a.v.now a.p _ c.before.if-v-start.true c.none.ensures)  -- returns
+    (λ c. let a = c.args in string_short a.v.now a.p _ c.if-v-start.true c.none.ensures)  -- returns
     (λ c κs. search rules)  -- two-requires
     (λ c. search rules)  -- add-end
     (λ c κs. search rules)  -- none-requires-2
     (λ c.
-    let a = c.before.before.before.before.before.args in
-    string_cut a.v.now a.p _ c.before.before.before.if-v-start.false _ c.before.before.two-size.ensures.0 c.before.if-v-end.true c.none-then-v-end.ensures)  -- returns-2
+    let a = c.args in
+    string_cut a.v.now a.p _ c.if-v-start.false _ c.two-size.ensures.0 c.if-v-end.true c.none-then-v-end.ensures)  -- returns-2
     (λ c.
-    let a = c.before.before.before.before.args in
-    string_measured a.v.now a.p _ c.before.before.if-v-start.false _ c.before.two-size.ensures.0 c.if-v-end.false c.before.two-size.ensures.1
+    let a = c.args in
+    string_measured a.v.now a.p _ c.if-v-start.false _ c.two-size.ensures.0 c.if-v-end.false c.two-size.ensures.1
     refl refl))  -- returns-3

@@ -13,14 +13,14 @@ time_spec =
     (tie.spec
     (λ c. search rules)  -- add-end
     (λ c κs. search rules)  -- none-requires
-    (λ c. let a = c.before.before.before.args in time_short a.v.now a.p _ a.kind c.before.if-v-end.true c.none.ensures)  -- returns
+    (λ c. let a = c.args in time_short a.v.now a.p _ a.kind c.if-v-end.true c.none.ensures)  -- returns
     (λ c κs. search rules)  -- seven-requires
     (λ c κs. search rules)  -- in-range-requires
     (λ c κs. search rules)  -- none-requires-2
     (λ c.
-    let a = c.before.before.before.before.before.before.args in
-    time_outside a.v.now a.p _ a.kind c.before.before.before.before.if-v-end.false _ c.before.before.before.seven.ensures _ c.before.before.ranged_lem.ensures c.before.if-not-in_range.true c.none-then-not-in_range.ensures)  -- returns-2
+    let a = c.args in
+    time_outside a.v.now a.p _ a.kind c.if-v-end.false _ c.seven.ensures _ c.ranged_lem.ensures c.if-not-in_range.true c.none-then-not-in_range.ensures)  -- returns-2
     (λ c κs. search rules)  -- size-requires
     (λ c.
-    let a = c.before.before.before.before.before.before.args in
-    time_measured a.v.now a.p _ a.kind c.before.before.before.before.if-v-end.false _ c.before.before.before.seven.ensures _ c.before.before.ranged_lem.ensures c.before.if-not-in_range.false c.size-size.ensures refl))  -- returns-3
+    let a = c.args in
+    time_measured a.v.now a.p _ a.kind c.if-v-end.false _ c.seven.ensures _ c.ranged_lem.ensures c.if-not-in_range.false c.size-size.ensures refl))  -- returns-3

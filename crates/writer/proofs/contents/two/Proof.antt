@@ -13,18 +13,18 @@ two_spec =
     (tie.spec
     (λ c. search rules)  -- add-q
     (λ c. search rules)  -- shared-slice-read-result
-    (λ c. omega (arith, c.shared_slice_known-1.given c.before.args.p))  -- cast-result
-    (λ c. omega (arith, c.shared_slice_known-1.given c.before.args.p))  -- mul-result
+    (λ c. omega (arith, c.shared_slice_known-1.given c.args.p))  -- cast-result
+    (λ c. omega (arith, c.shared_slice_known-1.given c.args.p))  -- mul-result
     (λ c. search rules)  -- shared-slice-read-result-2
-    (λ c. omega (arith, c.shared_slice_known-2-1.given (c.before.before.args.p + 1)))  -- cast-result-2
+    (λ c. omega (arith, c.shared_slice_known-2-1.given (c.args.p + 1)))  -- cast-result-2
     (λ c.
-    omega (arith, c.shared_slice_known-2-1.given (c.before.before.args.p + 1), c.shared_slice_known-2-1.given c.before.before.args.p))  -- add-result
+    omega (arith, c.shared_slice_known-2-1.given (c.args.p + 1), c.shared_slice_known-2-1.given c.args.p))  -- add-result
     (λ c. (
       refl,
       omega (
         arith,
-        c.shared_slice_known-2-1.given (c.before.before.args.p + 1),
+        c.shared_slice_known-2-1.given (c.args.p + 1),
         c.shared_slice_known-2-1.given
-            c.before.before.args.p,
+            c.args.p,
       ),
     )))  -- returns

@@ -13,9 +13,9 @@ is_short_spec = tie.close (tie.spec
     (λ c. λ e. absurd (false≢true e))  -- returns
     (λ c. λ e. absurd (false≢true e))  -- returns-2
     (λ c.
-    λ e. let z : Short c.before.before.before.before.unpack-e.result c.before.before.before.before.before.args.n = record {
-      one = c.before.before.if-e-ne0.false;
+    λ e. let z : Short c.unpack-e.result c.args.n = record {
+      one = c.if-e-ne0.false;
       low = c.if-e-ge256.false;
       little = ltb-true _ _ e;
     } in
-    rw c.before.before.before.before.unpack-e.ensures at z))  -- returns-3
+    rw c.unpack-e.ensures at z))  -- returns-3

@@ -17,51 +17,46 @@ put_spec =
     (λ c κs. search rules)  -- is-short-requires
     (λ c κs. search rules)  -- first-requires
     (λ c.
-    let s = c.before.before.before.before.before in
-    let a = s.args in
+    let a = c.args in
     let b = a.table.now in
     let u = unpacked a.w in
-    let x = c.before.before.is_short.ensures c.before.if-is_short.true in
+    let x = c.is_short.ensures c.if-is_short.true in
     omega (arith, c.first.ensures, x.low))  -- cast-buf
     (λ c.
-    let s = c.before.before.before.before.before in
-    let a = s.args in
+    let a = c.args in
     let b = a.table.now in
     let u = unpacked a.w in
-    let x = c.before.before.is_short.ensures c.before.if-is_short.true in
+    let x = c.is_short.ensures c.if-is_short.true in
     omega (
       arith,
-      ap length (short_heads b (λ k. omega (arith, c.before.before.before.before.shared_slice_known-1.given k)) u s.requires.0 a.n x),
-      s.requires.2,
+      ap length (short_heads b (λ k. omega (arith, c.shared_slice_known-1.given k)) u c.requires.0 a.n x),
+      c.requires.2,
     ))  -- slice-write-buf
     (λ c. search rules)  -- add-next
     (λ c.
-    let s = c.before.before.before.before.before in
-    let a = s.args in
+    let a = c.args in
     let b = a.table.now in
     let u = unpacked a.w in
-    let x = c.before.before.is_short.ensures c.before.if-is_short.true in
+    let x = c.is_short.ensures c.if-is_short.true in
     omega (arith, x.little))  -- cast-buf-2
     (λ c.
-    let s = c.before.before.before.before.before in
-    let a = s.args in
+    let a = c.args in
     let b = a.table.now in
     let u = unpacked a.w in
-    let x = c.before.before.is_short.ensures c.before.if-is_short.true in
+    let x = c.is_short.ensures c.if-is_short.true in
     simp length-set (omega (
       arith,
-      ap length (short_heads b (λ k. omega (arith, c.before.before.before.before.shared_slice_known-1.given k)) u s.requires.0 a.n x),
-      s.requires.2,
+      ap length (short_heads b (λ k. omega (arith, c.shared_slice_known-1.given k)) u c.requires.0 a.n x),
+      c.requires.2,
     )))  -- slice-write-buf-2
     (λ c. search rules)  -- add-result
     (λ c. search rules)  -- same-length
     (λ c.
-    let s = c.before.before.before.before.before in
-    let a = s.args in
+    let a = c.args in
     let b = a.table.now in
     let u = unpacked a.w in
-    let x = c.before.before.is_short.ensures c.before.if-is_short.true in
-    rw (short_heads b (λ k. omega (arith, c.before.before.before.before.shared_slice_known-1.given k)) u s.requires.0 a.n x, c.first.ensures)
+    let x = c.is_short.ensures c.if-is_short.true in
+    rw (short_heads b (λ k. omega (arith, c.shared_slice_known-1.given k)) u c.requires.0 a.n x, c.first.ensures)
     (refl, simp add-one))  -- returns
     (λ c κs. search rules)  -- put-all-requires
     (λ c. search rules)  -- same-length-2

@@ -26,39 +26,35 @@ put_all_spec =
     (λ c κs. search rules)  -- unpack-requires
     (λ c κs. search rules)  -- tag-count-requires
     (λ c.
-    let s = c.before.before.before.before in
-    let a = s.args in
+    let a = c.args in
     let b = a.table.now in
     let u = unpacked a.w in
-    (omega arith, refl, heads_none b u a.n a.buf-1.now a.to))  -- loop-holds
+    (omega arith, refl, heads_none b u a.n a.buf.now a.to))  -- loop-holds
     (λ c κs. search rules)  -- tag-code-requires
     (λ c. omega arith)  -- add-i
     (λ c κs.
-    let s = c.before.before.before.before.before.before.before in
-    let a = s.args in
+    let a = c.args in
     let b = a.table.now in
     let u = unpacked a.w in
-    (s.requires.0, s.requires.1))  -- size-from-requires
+    (c.requires.0, c.requires.1))  -- size-from-requires
     (λ c. omega (arith, c.size_from-inner.ensures.1))  -- cast-put-header
     (λ c κs. search rules)  -- put-header-requires
     (λ c. omega arith)  -- loop-less
     (λ c.
-    let s = c.before.before.before.before.before.before.before.before.before.before.before.before in
-    let a = s.args in
+    let a = c.args in
     let b = a.table.now in
     let u = unpacked a.w in
-    let q = rw c.before.before.before.before.before.before.before.before.before.unpack-e.ensures at c.before.before.before.before.before.before.before.before.tag_count-count.ensures.0 in (
+    let q = rw c.unpack-e.ensures at c.tag_count-count.ensures.0 in (
       omega arith,
-      c.before.before.put_header-next.auto.1.1.0 ∙ c.before.before.before.before.before.before.before.loop-i.invariant.1,
+      c.put_header-next.auto.1.1.0 ∙ c.loop-i.invariant.1,
       heads_turn b (λ
-          k. omega (arith, c.before.before.before.before.before.before.before.before.before.before.before.shared_slice_known-1.given k)) u s.requires.0 a.n a.buf-1.now a.to _ c.before.before.before.before.before.before.before.loop-i.i _ c.before.before.before.before.before.before.before.loop-i.invariant.2 (rw c.before.before.before.before.before.before.before.loop-i.invariant.1 s.requires.2) (omega arith) _ _ (rw c.before.before.before.before.before.before.before.before.before.unpack-e.ensures at c.before.before.before.before.before.tag_code-code.ensures) c.before.before.before.before.size_from-inner.ensures.0 _ _ c.before.before.put_header-next.ensures.0 c.before.before.put_header-next.ensures.1,
+          k. omega (arith, c.shared_slice_known-1.given k)) u c.requires.0 a.n a.buf.now a.to _ c.loop-i.i _ c.loop-i.invariant.2 (rw c.loop-i.invariant.1 c.requires.2) (omega arith) _ _ (rw c.unpack-e.ensures at c.tag_code-code.ensures) c.size_from-inner.ensures.0 _ _ c.put_header-next.ensures.0 c.put_header-next.ensures.1,
     ))  -- loop-again
-    (λ c. c.before.loop-i.invariant.1)  -- same-length
+    (λ c. c.loop-i.invariant.1)  -- same-length
     (λ c.
-    let s = c.before.before.before.before.before.before in
-    let a = s.args in
+    let a = c.args in
     let b = a.table.now in
     let u = unpacked a.w in
-    let q = rw c.before.before.before.unpack-e.ensures at c.before.before.tag_count-count.ensures.0 in
-    heads_end b (λ k. omega (arith, c.before.before.before.before.before.shared_slice_known-1.given k)) u s.requires.0 a.n a.buf-1.now a.to
-    _ c.before.loop-i.i _ c.before.loop-i.invariant.2 (rw c.before.loop-i.invariant.1 s.requires.2) (omega arith)))  -- returns
+    let q = rw c.unpack-e.ensures at c.tag_count-count.ensures.0 in
+    heads_end b (λ k. omega (arith, c.shared_slice_known-1.given k)) u c.requires.0 a.n a.buf.now a.to
+    _ c.loop-i.i _ c.loop-i.invariant.2 (rw c.loop-i.invariant.1 c.requires.2) (omega arith)))  -- returns

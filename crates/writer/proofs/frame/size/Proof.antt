@@ -13,18 +13,16 @@ size_spec = tie.close (tie.spec
     (λ c κs. search rules)  -- is-short-requires
     (λ c. search rules)  -- add-result
     (λ c.
-    let s = c.before.before.before in
-    let a = s.args in
+    let a = c.args in
     let b = a.table.now in
     let u = unpacked a.w in
-    let x = c.before.is_short.ensures c.if-is_short.true in
-    (short_size b (λ k. omega (arith, c.before.before.shared_slice_known-1.given k)) u s.requires.0 a.n x, omega (arith, x.little)))  -- returns
+    let x = c.is_short.ensures c.if-is_short.true in
+    (short_size b (λ k. omega (arith, c.shared_slice_known-1.given k)) u c.requires.0 a.n x, omega (arith, x.little)))  -- returns
     (λ c κs. search rules)  -- size-from-requires
     (λ c.
-    let s = c.before.before.before.before in
-    let a = s.args in
+    let a = c.args in
     let b = a.table.now in
     let u = unpacked a.w in (
-      c.size_from.ensures.0 ∙ all_framed b (λ k. omega (arith, c.before.before.before.shared_slice_known-1.given k)) u s.requires.0 a.n,
+      c.size_from.ensures.0 ∙ all_framed b (λ k. omega (arith, c.shared_slice_known-1.given k)) u c.requires.0 a.n,
       c.size_from.ensures.1,
     )))  -- returns-2

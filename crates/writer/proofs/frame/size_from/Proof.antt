@@ -29,46 +29,42 @@ size_from_spec =
     (λ c κs. search rules)  -- unpack-requires
     (λ c κs. search rules)  -- tag-count-requires
     (λ c.
-    let s = c.before.before.before in
-    let a = s.args in
+    let a = c.args in
     let b = a.table.now in
     let u = unpacked a.w in
-    let q = rw c.before.unpack-e.ensures at c.tag_count-i.ensures.0 in
-    (omega arith, s.requires.1, c.tag_count-i.ensures.1, rw q refl))  -- loop-holds
+    let q = rw c.unpack-e.ensures at c.tag_count-i.ensures.0 in
+    (omega arith, c.requires.1, c.tag_count-i.ensures.1, rw q refl))  -- loop-holds
     (λ c. omega arith)  -- sub-i
     (λ c κs. search rules)  -- tag-code-requires
-    (λ c. omega (arith, c.before.before.loop-i.invariant.1))  -- cast-header-size
+    (λ c. omega (arith, c.loop-i.invariant.1))  -- cast-header-size
     (λ c κs. search rules)  -- header-size-requires
     (λ c κs.
-    let s = c.before.before.before.before.before.before.before in
-    let a = s.args in
+    let a = c.args in
     let b = a.table.now in
     let u = unpacked a.w in (
       omega (
         arith,
-        header_small b (λ k. omega (arith, c.before.before.before.before.before.before.shared_slice_known-1.given k)) u s.requires.0 (c.before.before.before.loop-i.i - 1) (omega (arith, c.before.before.before.loop-i.invariant.0)) _ _ _ (rw c.before.before.before.before.before.unpack-e.ensures at c.before.tag_code.ensures) c.header_size-head.ensures (omega (arith, c.before.before.before.loop-i.invariant.1)),
+        header_small b (λ k. omega (arith, c.shared_slice_known-1.given k)) u c.requires.0 (c.loop-i.i - 1) (omega (arith, c.loop-i.invariant.0)) _ _ _ (rw c.unpack-e.ensures at c.tag_code.ensures) c.header_size-head.ensures (omega (arith, c.loop-i.invariant.1)),
       ),
       omega
-          (arith, c.before.before.before.loop-i.invariant.1),
+          (arith, c.loop-i.invariant.1),
     ))  -- grow-requires
     (λ c. omega arith)  -- loop-less
     (λ c.
-    let s = c.before.before.before.before.before.before.before.before in
-    let a = s.args in
+    let a = c.args in
     let b = a.table.now in
     let u = unpacked a.w in (
-      omega (arith, c.before.before.before.before.loop-i.invariant.0),
+      omega (arith, c.loop-i.invariant.0),
       c.grow-total.ensures.1,
-      omega (arith, c.before.before.before.before.loop-i.invariant.2),
-      rw c.grow-total.ensures.0 (framed_turn b (λ k. omega (arith, c.before.before.before.before.before.before.before.shared_slice_known-1.given k))
-          u s.requires.0 _ c.before.before.before.before.loop-i.i a.j _ _ _ c.before.before.before.loop-i-test.true c.before.before.before.before.loop-i.invariant.0 c.before.before.before.before.loop-i.invariant.3 (rw c.before.before.before.before.before.before.unpack-e.ensures at
-          c.before.before.tag_code.ensures) c.before.header_size-head.ensures),
+      omega (arith, c.loop-i.invariant.2),
+      rw c.grow-total.ensures.0 (framed_turn b (λ k. omega (arith, c.shared_slice_known-1.given k))
+          u c.requires.0 _ c.loop-i.i a.j _ _ _ c.loop-i-test.true c.loop-i.invariant.0 c.loop-i.invariant.3 (rw c.unpack-e.ensures at
+          c.tag_code.ensures) c.header_size-head.ensures),
     ))  -- loop-again
     (λ c.
-    let s = c.before.before.before.before.before in
-    let a = s.args in
+    let a = c.args in
     let b = a.table.now in
     let u = unpacked a.w in (
-      framed_end b _ _ c.before.loop-i.i a.j c.before.loop-i.total c.loop-i-test.false c.before.loop-i.invariant.3,
-      c.before.loop-i.invariant.1,
+      framed_end b _ _ c.loop-i.i a.j c.loop-i.total c.loop-i-test.false c.loop-i.invariant.3,
+      c.loop-i.invariant.1,
     )))  -- returns

@@ -63,11 +63,11 @@ judge-members-below t =
     (falls 4 judge_members_kinds.ps ◌<◌ μ-judge-members t)
     judge_members.Pre
 
-abbrev judge-members-Inv-loop : judge_members_lts.invariant-loop
+abbrev judge-members-Inv-loop : judge_members_lts.invariant-loop-i
 judge-members-Inv-loop table index w v p level notes₀ e s n at₀ total₀ i₀ notes at total i =
     (i ≤ count_at (unpacked w) v p) × GoingOn table v (unpacked w) p level notes₀ i at total notes
 
-abbrev judge-members-μ-loop : judge_members_lts.decreases-loop
+abbrev judge-members-μ-loop : judge_members_lts.decreases-loop-i
 judge-members-μ-loop table index w v p level notes₀ e s n at₀ total₀ i₀ notes at total i = n - i
 
 abbrev judge-built-claims : ℕ → judge_built_lts.Claims
@@ -110,138 +110,126 @@ judge-members-claims t = (
 )
 
 -- where the end of the own part is known
-abbrev at-node : (t : ℕ) (c : judge_built_lts.After-own-end (judge-built-claims t) (judge-built-at t) judge_built.Post) →
-    let a = c.before.before.before.before.args in Node a.table.now a.index.now a.v.now a.t a.at
+abbrev at-node : (t : ℕ) (c : judge_built_lts.After-own_end (judge-built-claims t) (judge-built-at t) judge_built.Post) →
+    let a = c.args in Node a.table.now a.index.now a.v.now a.t a.at
 at-node t c =
-    let q = c.before.before.before.before.requires.1 in
+    let q = c.requires.1 in
     record {
-      octets = λ k. omega (arith, c.before.before.before.shared_slice_known-1.given k);
+      octets = λ k. omega (arith, c.shared_slice_known-1.given k);
       ready = q.0;
       there = q.1;
       marked = q.2;
       constructed = q.3;
-      end = c.own-end.result;
-      ends = c.own-end.ensures;
+      end = c.own_end.result;
+      ends = c.own_end.ensures;
     }
 
 -- where a value is there
-abbrev at-member : (t : ℕ) (c : judge_members_lts.Then-c-gt-OVER (judge-members-claims t) (judge-members-at t) judge_members.Post judge-members-Inv-loop
+abbrev at-member : (t : ℕ) (c : judge_members_lts.Then-t-lt256 (judge-members-claims t) (judge-members-at t) judge_members.Post judge-members-Inv-loop
     judge-members-μ-loop) →
-    let a = c.before.before.before.before.before.before.before.before.before.before.args in Member a.table.now a.index.now a.v.now
+    let a = c.args in Member a.table.now a.index.now a.v.now
     (unpacked a.w) a.p a.level a.notes.now
 at-member t c =
     record {
-      ready = c.before.before.before.before.before.before.before.before.before.before.requires.1.0;
-      stands = c.before.before.before.before.before.before.before.before.before.before.requires.1.1;
-      i = c.before.before.before.loop.i;
-      at = c.before.before.before.loop.at;
-      total = c.before.before.before.loop.total;
-      notes = c.before.before.before.loop.notes;
-      so_far = c.before.before.before.loop.invariant.1;
-      one = rw c.before.before.before.before.before.before.before.unpack.ensures at (rw c.before.before.before.before.before.count.ensures.0 at c.before.before.loop-test.true);
-      t = c.before.below.result;
-      is = rw c.before.before.before.before.before.before.before.unpack.ensures at c.before.below.ensures;
-      there = c.if-c-gt-OVER.true;
+      ready = c.requires.1.0;
+      stands = c.requires.1.1;
+      i = c.loop-i.i;
+      at = c.loop-i.at;
+      total = c.loop-i.total;
+      notes = c.loop-i.notes;
+      so_far = c.loop-i.invariant.1;
+      one = rw c.unpack.ensures at (rw c.count-n.ensures.0 at c.loop-i-test.true);
+      t = c.below-t.result;
+      is = rw c.unpack.ensures at c.below-t.ensures;
+      there = c.if-own_end-eq0.true;
     }
 
 -- where it is judged
-at-said : (t : ℕ) (c : judge_members_lts.Joined3 (judge-members-claims t) (judge-members-at t) judge_members.Post judge-members-Inv-loop judge-members-μ-loop) →
-    Said (at-member t c.before.before.before.before.before.before.before) c.if-not-suits.judged c.if-not-suits.notes
+at-said : (t : ℕ) (c : judge_members_lts.Joined-is_simple (judge-members-claims t) (judge-members-at t) judge_members.Post judge-members-Inv-loop judge-members-μ-loop) →
+    Said (at-member t c.before.before.before.before.before.before.before) c.if-not-agrees.judged c.if-not-agrees.notes
 at-said t c =
     let m = at-member t c.before.before.before.before.before.before.before in
     ⊎_elim
-    (λ w. leaf_said m c.before.before.before.unpack2.result c.before.before.before.unpack2.ensures (c.before.before.before.before.before.before.marked.ensures.yes (not-false _ c.before.before.before.before.before.if-level-eq0.false)) _ _ _ _ c.before.is-simple.ensures w.0.taken w.1.ensures w.2 w.3)
+    (λ w. leaf_said m c.unpack-r.result c.unpack-r.ensures (c.marked.ensures.yes (not-false _ c.if-level-eq0.false)) _ _ _ _ c.is_simple.ensures w.0.taken w.1.ensures w.2 w.3)
     (λ w. built_said m _ _ _ _ w.2.ensures w.3 w.4)
-    c.if-not-suits.branch
+    c.if-not-agrees.branch
 
 pub +judge_built_judge_members_spec : {M : Type 1} → statement M
 +judge_built_judge_members_spec = close μ-judge-built μ-judge-members (λ t. judge_built_lts.spec (judge-built-claims t)
     (judge-built-at t)
     judge_built.Post
-    (λ c. let s = c.before.before in let a = s.args in let q = s.requires.1 in omega (arith, q.2.0))  -- judge-built-add-mark
-    (λ c. let s = c.before.before.before in let a = s.args in let q = s.requires.1 in omega (arith, q.2.0))  -- judge-built-shared-slice-read-kind
-    (λ c. let s = c.before.before.before in let a = s.args in let q = s.requires.1 in omega (arith, q.2.0))  -- judge-built-add-p
+    (λ c. let a = c.args in let q = c.requires.1 in omega (arith, q.2.0))  -- judge-built-add-mark
+    (λ c. let a = c.args in let q = c.requires.1 in omega (arith, q.2.0))  -- judge-built-shared-slice-read-kind
+    (λ c. let a = c.args in let q = c.requires.1 in omega (arith, q.2.0))  -- judge-built-add-p
     (λ c κs.
-    let s = c.before.before.before in
-    let a = s.args in
-    let q = s.requires.1 in
+    let a = c.args in
+    let q = c.requires.1 in
     (omega (arith, q.2.0, q.0.little), q.3))  -- judge-built-own-end-requires
     (λ c.
-    let s = c.before.before.before.before.before in
-    let a = s.args in
-    let q = s.requires.1 in
-    built_shape (at-node t c.before) a.level c.if-c-gt-OVER.true a.notes.now)  -- judge-built-returns
+    let a = c.args in
+    let q = c.requires.1 in
+    built_shape (at-node t c.before) a.level c.if-own_end-eq0.true a.notes.now)  -- judge-built-returns
     (λ c.
-    let s = c.before.before.before.before.before.before in
-    let a = s.args in
-    let q = s.requires.1 in
-    built_level (at-node t c.before.before) a.level c.before.if-c-gt-OVER.false c.if-level-eq0.true a.notes.now)  -- judge-built-returns-2
+    let a = c.args in
+    let q = c.requires.1 in
+    built_level (at-node t c.before.before) a.level c.if-own_end-eq0.false c.if-level-eq0.true a.notes.now)  -- judge-built-returns-2
     (λ c.
-    let s = c.before.before.before.before.before.before in
-    let a = s.args in
-    let q = s.requires.1 in
+    let a = c.args in
+    let q = c.requires.1 in
     omega (arith, q.1, q.0.filled.few))  -- judge-built-mul-w
     (λ c.
-    let s = c.before.before.before.before.before.before in
-    let a = s.args in
-    let q = s.requires.1 in
+    let a = c.args in
+    let q = c.requires.1 in
     omega (arith, q.1, q.0.filled.few))  -- judge-built-element-copy-out-w
     (λ c κs. search rules)  -- judge-built-unpack-requires
     (λ c κs.
-    let s = c.before.before.before.before.before.before.before.before in
-    let a = s.args in
-    let q = s.requires.1 in
+    let a = c.args in
+    let q = c.requires.1 in
     let m = (at-node t c.before.before.before.before) in (
       omega (arith, q.2.0, q.0.little),
       m.constructed,
-      own_there m a.level c.before.before.before.if-c-gt-OVER.false,
-      built_known m a.level c.before.before.before.if-c-gt-OVER.false _ c.unpack.ensures,
+      own_there m a.level c.if-own_end-eq0.false,
+      built_known m a.level c.if-own_end-eq0.false _ c.unpack.ensures,
     ))  -- judge-built-agrees-requires
     (λ c.
-    let s = c.before.before.before.before.before.before.before.before.before.before in
-    let a = s.args in
-    let q = s.requires.1 in
-    built_ill (at-node t c.before.before.before.before.before.before) a.level c.before.before.before.before.before.if-c-gt-OVER.false (unpacked
-    (get_or a.index.now a.t 0)) refl c.before.before.before.before.if-level-eq0.false _ (rw c.before.before.unpack.ensures at c.before.agrees.ensures) c.if-not-suits.true a.notes.now)  -- judge-built-returns-3
-    (λ c. omega (arith, c.before.before.before.before.if-level-eq0.false))  -- judge-built-sub-judge-members
+    let a = c.args in
+    let q = c.requires.1 in
+    built_ill (at-node t c.before.before.before.before.before.before) a.level c.if-own_end-eq0.false (unpacked
+    (get_or a.index.now a.t 0)) refl c.if-level-eq0.false _ (rw c.unpack.ensures at c.agrees.ensures) c.if-not-agrees.true a.notes.now)  -- judge-built-returns-3
+    (λ c. omega (arith, c.if-level-eq0.false))  -- judge-built-sub-judge-members
     (λ c κs.
-    let s = c.before.before.before.before.before.before.before.before.before.before.before in
-    let a = s.args in
-    let q = s.requires.1 in (
-      omega (arith, s.requires.0, c.before.before.before.before.before.if-level-eq0.false),
+    let a = c.args in
+    let q = c.requires.1 in (
+      omega (arith, c.requires.0, c.if-level-eq0.false),
       (
         q.0,
-        built_stands (at-node t c.before.before.before.before.before.before.before) a.level c.before.before.before.before.before.before.if-c-gt-OVER.false (unpacked (get_or a.index.now a.t 0)) refl
-            c.before.before.before.before.before.if-level-eq0.false _ (rw c.before.before.before.unpack.ensures at c.before.before.agrees.ensures)
-            c.before.if-not-suits.false,
+        built_stands (at-node t c.before.before.before.before.before.before.before) a.level c.if-own_end-eq0.false (unpacked (get_or a.index.now a.t 0)) refl
+            c.if-level-eq0.false _ (rw c.unpack.ensures at c.agrees.ensures)
+            c.if-not-agrees.false,
         q.4,
       ),
     ))  -- judge-built-judge-members-requires
     (λ c. search rules)  -- judge-built-enum-known-place
     (λ c. search rules)  -- judge-built-enum-known-end
     (λ c.
-    let k = told_small _ _ _ _ _ _ c.before.before.before.judge-members.ensures.0 c.before.end.given.1 in
+    let k = told_small _ _ _ _ _ _ c.judge_members.ensures.0 c.in-Done.is in
     omega arith)  -- judge-built-cast-notes
     (λ c.
-    let s = c.before.before.before.before.before.before.before.before.before.before.before.before.before.before.before in
-    let a = s.args in
-    let q = s.requires.1 in
+    let a = c.args in
+    let q = c.requires.1 in
     omega (arith, q.2.0))  -- judge-built-mul-notes
     (λ c.
-    let s = c.before.before.before.before.before.before.before.before.before.before.before.before.before.before.before in
-    let a = s.args in
-    let q = s.requires.1 in
+    let a = c.args in
+    let q = c.requires.1 in
     omega (arith, q.2.0, q.0.little))  -- judge-built-element-write-notes
     (λ c.
-    let s = c.before.before.before.before.before.before.before.before.before.before.before.before.before.before.before in
-    let a = s.args in
-    let q = s.requires.1 in
-    built_refused (at-node t c.before.before.before.before.before.before.before.before.before.before.before) a.level c.before.before.before.before.before.before.before.before.before.before.if-c-gt-OVER.false (unpacked (get_or a.index.now a.t 0)) refl c.before.before.before.before.before.before.before.before.before.if-level-eq0.false _ (rw c.before.before.before.before.before.before.before.unpack.ensures at c.before.before.before.before.before.before.agrees.ensures) c.before.before.before.before.before.if-not-suits.false _ a.notes.now _ c.before.before.before.judge-members.ensures _ _ c.before.place.given.1)  -- judge-built-returns-4
+    let a = c.args in
+    let q = c.requires.1 in
+    built_refused (at-node t c.before.before.before.before.before.before.before.before.before.before.before) a.level c.if-own_end-eq0.false (unpacked (get_or a.index.now a.t 0)) refl c.if-level-eq0.false _ (rw c.unpack.ensures at c.agrees.ensures) c.if-not-agrees.false _ a.notes.now _ c.judge_members.ensures _ _ c.in-Refused.is)  -- judge-built-returns-4
     (λ c.
-    let s = c.before.before.before.before.before.before.before.before.before.before.before.before.before.before.before in
-    let a = s.args in
-    let q = s.requires.1 in
-    built_done (at-node t c.before.before.before.before.before.before.before.before.before.before.before) a.level c.before.before.before.before.before.before.before.before.before.before.if-c-gt-OVER.false (unpacked (get_or a.index.now a.t 0)) refl c.before.before.before.before.before.before.before.before.before.if-level-eq0.false _ (rw c.before.before.before.before.before.before.before.unpack.ensures at c.before.before.before.before.before.before.agrees.ensures) c.before.before.before.before.before.if-not-suits.false _ a.notes.now _ c.before.before.before.judge-members.ensures _ _ c.before.end.given.1 q.4))  -- judge-built-returns-5
+    let a = c.args in
+    let q = c.requires.1 in
+    built_done (at-node t c.before.before.before.before.before.before.before.before.before.before.before) a.level c.if-own_end-eq0.false (unpacked (get_or a.index.now a.t 0)) refl c.if-level-eq0.false _ (rw c.unpack.ensures at c.agrees.ensures) c.if-not-agrees.false _ a.notes.now _ c.judge_members.ensures _ _ c.in-Done.is q.4))  -- judge-built-returns-5
     λ t. judge_members_lts.spec (judge-members-claims t)
     (judge-members-at t)
     judge_members.Post
@@ -250,127 +238,116 @@ pub +judge_built_judge_members_spec : {M : Type 1} → statement M
     (λ c κs. search rules)  -- judge-members-unpack-requires
     (λ c κs. search rules)  -- judge-members-parts-requires
     (λ c κs.
-    let s = c.before.before.before.before in
-    let a = s.args in
-    let q = s.requires.1 in
-    rw c.before.unpack.ensures q.1.starts)  -- judge-members-count-requires
+    let a = c.args in
+    let q = c.requires.1 in
+    rw c.unpack.ensures q.1.starts)  -- judge-members-count-requires
     (λ c κs.
-    let s = c.before.before.before.before.before in
-    let a = s.args in
-    let q = s.requires.1 in
-    rw c.before.before.unpack.ensures q.1.starts)  -- judge-members-start-requires
+    let a = c.args in
+    let q = c.requires.1 in
+    rw c.unpack.ensures q.1.starts)  -- judge-members-start-requires
     (λ c.
-    let s = c.before.before.before.before.before.before in
-    let a = s.args in
-    let q = s.requires.1 in (
+    let a = c.args in
+    let q = c.requires.1 in (
       omega arith,
-      members_begin a.table.now a.v.now (unpacked a.w) a.p a.level a.notes.now q.1.starts _ (rw c.before.before.before.unpack.ensures at c.start.ensures),
+      members_begin a.table.now a.v.now (unpacked a.w) a.p a.level a.notes.now q.1.starts _ (rw c.unpack.ensures at c.start-at.ensures),
     ))  -- judge-members-loop-holds
     (λ c κs.
-    let s = c.before.before.before.before.before.before.before.before in
-    let a = s.args in
-    let q = s.requires.1 in (
-      c.before.before.before.before.parts-s.ensures,
-      rw c.before.before.before.before.before.unpack.ensures q.1,
+    let a = c.args in
+    let q = c.requires.1 in (
+      c.parts-s.ensures,
+      rw c.unpack.ensures q.1,
       omega (
         arith,
-        c.before.before.before.count.ensures.0,
+        c.count-n.ensures.0,
       ),
     ))  -- judge-members-below-requires
-    (λ c. omega (arith, c.before.before.before.before.count.ensures.1))  -- judge-members-add-i
+    (λ c. omega (arith, c.count-n.ensures.1))  -- judge-members-add-i
     (λ c κs.
-    let s = c.before.before.before.before.before.before.before.before.before.before in
-    let a = s.args in
-    let q = s.requires.1 in
-    omega (arith, q.0.little, c.before.before.before.loop.invariant.1.within))  -- judge-members-marked-requires
-    (λ c. member_unmarked (at-member t c.before.before) _ c.before.marked.ensures (not-true _ c.if-level-eq0.true))  -- judge-members-returns
+    let a = c.args in
+    let q = c.requires.1 in
+    omega (arith, q.0.little, c.loop-i.invariant.1.within))  -- judge-members-marked-requires
+    (λ c. member_unmarked (at-member t c.before.before) _ c.marked.ensures (not-true _ c.if-level-eq0.true))  -- judge-members-returns
     (λ c. omega (arith, member_few (at-member t c.before.before)))  -- judge-members-mul-x
     (λ c. omega (arith, member_few (at-member t c.before.before)))  -- judge-members-element-copy-out-x
     (λ c κs. search rules)  -- judge-members-unpack-requires-2
     (λ c.
-    let s = c.before.before.before.before.before.before.before.before.before.before.before.before.before.before in
-    let a = s.args in
-    let q = s.requires.1 in
-    omega (arith, (c.before.before.before.marked.ensures.yes (not-false _ c.before.before.if-level-eq0.false)).0, q.0.little))  -- judge-members-add-mark
+    let a = c.args in
+    let q = c.requires.1 in
+    omega (arith, (c.marked.ensures.yes (not-false _ c.if-level-eq0.false)).0, q.0.little))  -- judge-members-add-mark
     (λ c.
     omega (
       arith,
-      (c.before.before.before.before.marked.ensures.yes (not-false _ c.before.before.before.if-level-eq0.false)).0,
+      (c.marked.ensures.yes (not-false _ c.if-level-eq0.false)).0,
     ))  -- judge-members-shared-slice-read-is-simple
     (λ c κs.
-    entry_simple (at-member t c.before.before.before.before.before) c.before.unpack2.result c.before.unpack2.ensures)  -- judge-members-is-simple-requires
+    entry_simple (at-member t c.before.before.before.before.before) c.unpack-r.result c.unpack-r.ensures)  -- judge-members-is-simple-requires
     (λ c κs.
-    let s = c.before.before.before.before.before.before.before.before.before.before.before.before.before.before.before.before.before in
-    let a = s.args in
-    let q = s.requires.1 in (
+    let a = c.args in
+    let q = c.requires.1 in (
       q.0.little,
-      (c.before.before.before.before.before.before.marked.ensures.yes (not-false _ c.before.before.before.before.before.if-level-eq0.false)),
-      not-true _ (sym c.before.is-simple.ensures ∙ c.if-not-suits.true),
-      entry_known (at-member t c.before.before.before.before.before.before.before) c.before.before.before.unpack2.result c.before.before.before.unpack2.ensures,
+      (c.marked.ensures.yes (not-false _ c.if-level-eq0.false)),
+      not-true _ (sym c.is_simple.ensures ∙ c.if-not-agrees.true),
+      entry_known (at-member t c.before.before.before.before.before.before.before) c.unpack-r.result c.unpack-r.ensures,
     ))  -- judge-members-judge-leaf-requires
     (λ c κs.
-    let s = c.before.before.before.before.before.before.before.before.before.before.before.before.before.before.before.before.before.before in
-    let a = s.args in
-    let q = s.pre.1 in (
-      omega (arith, s.pre.0),
+    let a = c.args in
+    let q = c.pre.1 in (
+      omega (arith, c.pre.0),
       (
         q.0,
         member_there (at-member t c.before.before.before.before.before.before.before.before),
-        (c.before.before.before.before.before.before.before.marked.ensures.yes (not-false _ c.before.before.before.before.before.before.if-level-eq0.false)),
-        not-false _ (sym c.before.before.is-simple.ensures ∙ c.before.if-not-suits.false),
-        c.before.before.before.before.before.before.before.before.before.before.before.loop.invariant.1.going.long ∙ q.2,
+        (c.marked.ensures.yes (not-false _ c.if-level-eq0.false)),
+        not-false _ (sym c.is_simple.ensures ∙ c.if-not-agrees.false),
+        c.loop-i.invariant.1.going.long ∙ q.2,
       ),
     ))  -- judge-members-judge-built-requires
     (λ c. search rules)  -- judge-members-enum-known-judged
     (λ c.
-    member_refused (at-member t c.before.before.before.before.before.before.before.before.before.before) _ _ (at-said t c.before.before.before) _ _ c.before.judged.given.1)  -- judge-members-returns-2
+    member_refused (at-member t c.before.before.before.before.before.before.before.before.before.before) _ _ (at-said t c.before.before.before) _ _ c.in-Refused.is)  -- judge-members-returns-2
     (λ c. search rules)  -- judge-members-enum-known-judged-2
     (λ c κs. (
-      rw (← c.before.before.before.before.before.before.unpack2.ensures) (entry_known (at-member t c.before.before.before.before.before.before.before.before.before.before) c.before.before.before.before.before.before.unpack2.result c.before.before.before.before.before.before.unpack2.ensures),
+      rw (← c.unpack-r.ensures) (entry_known (at-member t c.before.before.before.before.before.before.before.before.before.before) c.unpack-r.result c.unpack-r.ensures),
       member_small (at-member t c.before.before.before.before.before.before.before.before.before.before) _
-          _ (at-said t c.before.before.before) _ _ c.before.judged2.given.1,
+          _ (at-said t c.before.before.before) _ _ c.in-Done.is,
     ))  -- judge-members-size-requires
     (λ c κs. (
       omega (
         arith,
-        c.before.before.before.before.before.before.before.before.before.before.before.before.before.before.loop.invariant.1.small,
+        c.loop-i.invariant.1.small,
       ),
       omega (arith, c.size.ensures.1),
     ))  -- judge-members-grow-requires
     (λ c.
     omega (
       arith,
-      c.before.before.before.before.before.before.before.before.before.before.before.before.before.before.loop-test.true,
+      c.loop-i-test.true,
     ))  -- judge-members-loop-less
     (λ c.
-    let s = c.before.before.before.before.before.before.before.before.before.before.before.before.before.before.before.before.before.before.before.before.before.before in
-    let a = s.args in
-    let q = s.pre.1 in (
+    let a = c.args in
+    let q = c.pre.1 in (
       omega (
         arith,
-        c.before.before.before.before.before.before.before.before.before.before.before.before.before.before.loop-test.true,
-        (rw c.before.before.before.before.before.before.before.before.before.before.before.before.before.before.before.before.before.before.before.unpack.ensures at c.before.before.before.before.before.before.before.before.before.before.before.before.before.before.before.before.before.count.ensures.0),
+        c.loop-i-test.true,
+        (rw c.unpack.ensures at c.count-n.ensures.0),
       ),
-      member_done (at-member t c.before.before.before.before.before.before.before.before.before.before.before.before) c.before.before.before.before.before.before.before.before.unpack2.result c.before.before.before.before.before.before.before.before.unpack2.ensures _ _ (at-said t c.before.before.before.before.before) _ _ c.before.before.before.judged2.given.1 _ _ (rw (← c.before.before.before.before.before.before.before.before.unpack2.ensures) at c.before.size.ensures.0)
-          c.grow-size.ensures.0,
+      member_done (at-member t c.before.before.before.before.before.before.before.before.before.before.before.before) c.unpack-r.result c.unpack-r.ensures _ _ (at-said t c.before.before.before.before.before) _ _ c.in-Done.is _ _ (rw (← c.unpack-r.ensures) at c.size.ensures.0)
+          c.grow-total.ensures.0,
     ))  -- judge-members-loop-again
-    (λ c. omega (arith, c.before.before.loop-test.true))  -- judge-members-loop-less-2
+    (λ c. omega (arith, c.loop-i-test.true))  -- judge-members-loop-less-2
     (λ c.
-    let s = c.before.before.before.before.before.before.before.before.before.before in
-    let a = s.args in
-    let q = s.requires.1 in (
+    let a = c.args in
+    let q = c.requires.1 in (
       omega (
         arith,
-        c.before.before.loop-test.true,
-        (rw c.before.before.before.before.before.before.before.unpack.ensures at c.before.before.before.before.before.count.ensures.0),
+        c.loop-i-test.true,
+        (rw c.unpack.ensures at c.count-n.ensures.0),
       ),
-      members_pass a.table.now a.v.now (unpacked a.w) a.p a.level a.notes.now c.before.before.before.loop.i c.before.before.before.loop.at c.before.before.before.loop.total _ c.before.before.before.loop.invariant.1 (rw (← (rw c.before.before.before.before.before.before.before.unpack.ensures at c.before.before.before.before.before.count.ensures.0)) c.before.before.loop-test.true) _ (rw c.before.before.before.before.before.before.before.unpack.ensures at c.before.below.ensures) c.if-c-gt-OVER.false,
+      members_pass a.table.now a.v.now (unpacked a.w) a.p a.level a.notes.now c.loop-i.i c.loop-i.at c.loop-i.total _ c.loop-i.invariant.1 (rw (← (rw c.unpack.ensures at c.count-n.ensures.0)) c.loop-i-test.true) _ (rw c.unpack.ensures at c.below-t.ensures) c.if-own_end-eq0.false,
     ))  -- judge-members-loop-again-2
     (λ c.
-    let s = c.before.before.before.before.before.before.before.before in
-    let a = s.args in
-    let q = s.requires.1 in
-    members_end_lem a.table.now a.v.now (unpacked a.w) a.p a.level a.notes.now c.before.loop.i c.before.loop.at c.before.loop.total _ c.before.loop.invariant.1 (omega (
+    let a = c.args in
+    let q = c.requires.1 in
+    members_end_lem a.table.now a.v.now (unpacked a.w) a.p a.level a.notes.now c.loop-i.i c.loop-i.at c.loop-i.total _ c.loop-i.invariant.1 (omega (
       arith,
-      (rw c.before.before.before.before.before.unpack.ensures at c.before.before.before.count.ensures.0),
+      (rw c.unpack.ensures at c.count-n.ensures.0),
     )))  -- judge-members-returns-3

@@ -10,6 +10,6 @@ use Rattle.writer.proofs.judge.is_simple.Tie as tie
 
 pub is_simple_spec : {M : Type 1} → statement M
 is_simple_spec = tie.close (tie.spec
-    (λ c. c.before.before.requires ∙ ap (λ (k : ℕ). not (constructed_of k)) (sym c.if-kind-r.true))  -- returns
+    (λ c. c.requires ∙ ap (λ (k : ℕ). not (constructed_of k)) (sym c.if-kind-r.true))  -- returns
     (λ c κs. search rules)  -- constructed-requires
     (λ c. ap not c.constructed.ensures))  -- returns-2

@@ -13,15 +13,13 @@ judge_spec = tie.close (tie.spec
     (λ c. search rules)  -- cast-whole
     (λ c κs. search rules)  -- whole-requires
     (λ c κs.
-    let s = c.before.before.before.before in
-    let a = s.args in
-    let q = s.requires in (
+    let a = c.args in
+    let q = c.requires in (
       q.0,
-      whole_stands a.table.now a.index.now a.v.now q.0 a.t q.1 (unpacked c.before.whole.result) (ap (λ (x : Entry). x.kind) c.before.whole.ensures) (ap (λ (x : Entry). x.own) c.before.whole.ensures),
+      whole_stands a.table.now a.index.now a.v.now q.0 a.t q.1 (unpacked c.whole.result) (ap (λ (x : Entry). x.kind) c.whole.ensures) (ap (λ (x : Entry). x.own) c.whole.ensures),
       q.2,
     ))  -- judge-members-requires
     (λ c.
-    let s = c.before.before.before.before.before in
-    let a = s.args in
-    let q = s.requires in
-    whole_said a.table.now a.index.now a.v.now q.0 a.t q.1 (unpacked c.before.before.whole.result) (ap (λ (x : Entry). x.kind) c.before.before.whole.ensures) (ap (λ (x : Entry). x.own) c.before.before.whole.ensures) 24 a.notes.now _ _ c.judge_members.ensures))  -- returns
+    let a = c.args in
+    let q = c.requires in
+    whole_said a.table.now a.index.now a.v.now q.0 a.t q.1 (unpacked c.whole.result) (ap (λ (x : Entry). x.kind) c.whole.ensures) (ap (λ (x : Entry). x.own) c.whole.ensures) 24 a.notes.now _ _ c.judge_members.ensures))  -- returns

@@ -15,22 +15,18 @@ judge_leaf_spec =
     (λ c. search rules)  -- add-p
     (λ c κs. search rules)  -- measure-requires
     (λ c.
-    let s = c.before.before.before.before.before in
-    let a = s.args in
-    λ T t same. leaf_shape a.table.now a.e a.v.now a.at a.level s.requires.1 _ c.before.measure-x.ensures T t same c.if-end-eq0.true)  -- returns
+    let a = c.args in
+    λ T t same. leaf_shape a.table.now a.e a.v.now a.at a.level c.requires.1 _ c.measure-x.ensures T t same c.if-end-eq0.true)  -- returns
     (λ c.
-    let s = c.before.before.before.before.before.before in
-    let a = s.args in
-    λ T t same. leaf_level a.table.now a.e a.v.now a.at a.level s.requires.1 _ c.before.before.measure-x.ensures T t same c.before.if-end-eq0.false c.if-level-eq0.true)  -- returns-2
+    let a = c.args in
+    λ T t same. leaf_level a.table.now a.e a.v.now a.at a.level c.requires.1 _ c.measure-x.ensures T t same c.if-end-eq0.false c.if-level-eq0.true)  -- returns-2
     (λ c κs. search rules)  -- suits-requires
     (λ c.
-    let s = c.before.before.before.before.before.before.before.before in
-    let a = s.args in
-    λ T t same. leaf_ill a.table.now a.e a.v.now a.at a.level s.requires.1 _ c.before.before.before.before.measure-x.ensures T t
-    same c.before.before.before.if-end-eq0.false c.before.before.if-level-eq0.false _ c.before.suits.ensures c.if-not-suits.true)  -- returns-3
+    let a = c.args in
+    λ T t same. leaf_ill a.table.now a.e a.v.now a.at a.level c.requires.1 _ c.measure-x.ensures T t
+    same c.if-end-eq0.false c.if-level-eq0.false _ c.suits.ensures c.if-not-suits.true)  -- returns-3
     (λ c κs. search rules)  -- grow-requires
     (λ c.
-    let s = c.before.before.before.before.before.before.before.before.before in
-    let a = s.args in
-    λ T t same. leaf_done a.table.now a.e a.v.now a.at a.level s.requires.1 _ c.before.before.before.before.before.measure-x.ensures T t same c.before.before.before.before.if-end-eq0.false c.before.before.before.if-level-eq0.false _ c.before.before.suits.ensures
-    c.before.if-not-suits.false s.requires.2 _ c.grow-size.ensures.0))  -- returns-4
+    let a = c.args in
+    λ T t same. leaf_done a.table.now a.e a.v.now a.at a.level c.requires.1 _ c.measure-x.ensures T t same c.if-end-eq0.false c.if-level-eq0.false _ c.suits.ensures
+    c.if-not-suits.false c.requires.2 _ c.grow-size.ensures.0))  -- returns-4

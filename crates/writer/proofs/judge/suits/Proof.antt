@@ -12,20 +12,16 @@ pub suits_spec : {M : Type 1} → statement M
 suits_spec =
     tie.close (tie.spec
     (λ c.
-    let s = c.before.before.before.before in
-    let a = s.args in
-    agrees_not a.table.now a.e s.requires.3 a.v.now a.kind a.p s.requires.2 c.if-kind-e.true)  -- returns
+    let a = c.args in
+    agrees_not a.table.now a.e c.requires.3 a.v.now a.kind a.p c.requires.2 c.if-kind-e.true)  -- returns
     (λ c κs.
-    let s = c.before.before.before.before.before in
-    let a = s.args in
-    number_there a.table.now a.e s.requires.3 a.v.now a.kind a.p c.before.if-kind-e.false c.if-kind-eq-ENUMERATED.true s.requires.2)  -- two-requires
+    let a = c.args in
+    number_there a.table.now a.e c.requires.3 a.v.now a.kind a.p c.if-kind-e.false c.if-kind-eq-ENUMERATED.true c.requires.2)  -- two-requires
     (λ c. search rules)  -- cast-lists
     (λ c κs. search rules)  -- lists-requires
     (λ c.
-    let s = c.before.before.before.before.before.before.before in
-    let a = s.args in
-    number_agrees a.table.now a.e s.requires.3 a.v.now a.kind a.p c.before.before.before.if-kind-e.false c.before.before.if-kind-eq-ENUMERATED.true _ c.before.two.ensures.0 _ (to_z_pos w64 c.before.two.result (omega (arith, c.before.two.ensures.1))) _ c.lists.ensures)  -- returns-2
+    let a = c.args in
+    number_agrees a.table.now a.e c.requires.3 a.v.now a.kind a.p c.if-kind-e.false c.if-kind-eq-ENUMERATED.true _ c.two.ensures.0 _ (to_z_pos w64 c.two.result (omega (arith, c.two.ensures.1))) _ c.lists.ensures)  -- returns-2
     (λ c.
-    let s = c.before.before.before.before.before in
-    let a = s.args in
-    leaf_agrees_lem a.table.now a.e s.requires.3 a.v.now a.kind a.p c.before.if-kind-e.false s.requires.1 c.if-kind-eq-ENUMERATED.false s.requires.2))  -- returns-3
+    let a = c.args in
+    leaf_agrees_lem a.table.now a.e c.requires.3 a.v.now a.kind a.p c.if-kind-e.false c.requires.1 c.if-kind-eq-ENUMERATED.false c.requires.2))  -- returns-3

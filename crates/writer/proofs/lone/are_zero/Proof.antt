@@ -29,19 +29,19 @@ are_zero_spec =
     decreases-loop
     (λ c. omega (arith, c.requires))  -- add-end
     (λ c. let a = c.args in let q : a.p + a.n - a.p ≡ a.n = omega arith in (omega arith, omega arith, omega arith, rw q refl))  -- loop-holds
-    (λ c. omega (arith, c.before.before.loop-at.invariant.1, c.before.before.before.requires.1))  -- shared-slice-read-sum
-    (λ c. omega (arith, c.shared_slice_known-1.given c.before.before.loop-at.at))  -- cast-sum
-    (λ c. omega (arith, c.shared_slice_known-1.given c.before.before.loop-at.at, c.before.before.loop-at.invariant.1, c.before.before.loop-at.invariant.2, c.before.before.before.requires.0))  -- add-sum
-    (λ c. omega (arith, c.before.before.loop-at.invariant.1))  -- add-at
+    (λ c. omega (arith, c.loop-at.invariant.1, c.requires.1))  -- shared-slice-read-sum
+    (λ c. omega (arith, c.shared_slice_known-1.given c.loop-at.at))  -- cast-sum
+    (λ c. omega (arith, c.shared_slice_known-1.given c.loop-at.at, c.loop-at.invariant.1, c.loop-at.invariant.2, c.requires.0))  -- add-sum
+    (λ c. omega (arith, c.loop-at.invariant.1))  -- add-at
     (λ c. omega arith)  -- loop-less
     (λ c.
-    let a = c.before.before.before.args in
-    let q : a.p + a.n - c.before.before.loop-at.at - 1 ≡ a.p + a.n - (c.before.before.loop-at.at + 1) = omega arith in (
-      omega (arith, c.before.before.loop-at.invariant.0),
-      omega (arith, c.before.loop-at-test.true),
-      omega (arith, c.shared_slice_known-1.given c.before.before.loop-at.at, c.before.before.loop-at.invariant.0, c.before.before.loop-at.invariant.2),
-      rw q at (zero_turn a.v.now c.before.before.loop-at.at (a.p + a.n - c.before.before.loop-at.at) c.before.before.loop-at.sum _ c.before.before.loop-at.invariant.3 (omega arith)),
+    let a = c.args in
+    let q : a.p + a.n - c.loop-at.at - 1 ≡ a.p + a.n - (c.loop-at.at + 1) = omega arith in (
+      omega (arith, c.loop-at.invariant.0),
+      omega (arith, c.loop-at-test.true),
+      omega (arith, c.shared_slice_known-1.given c.loop-at.at, c.loop-at.invariant.0, c.loop-at.invariant.2),
+      rw q at (zero_turn a.v.now c.loop-at.at (a.p + a.n - c.loop-at.at) c.loop-at.sum _ c.loop-at.invariant.3 (omega arith)),
     ))  -- loop-again
     (λ c.
-    let a = c.before.before.args in
-    zero_end a.v.now c.before.loop-at.at (a.p + a.n - c.before.loop-at.at) c.before.loop-at.sum _ c.before.loop-at.invariant.3 (omega arith)))  -- returns
+    let a = c.args in
+    zero_end a.v.now c.loop-at.at (a.p + a.n - c.loop-at.at) c.loop-at.sum _ c.loop-at.invariant.3 (omega arith)))  -- returns

@@ -12,26 +12,26 @@ pub is_lone_spec : {M : Type 1} → statement M
 is_lone_spec =
     tie.close
     (tie.spec
-    (λ c. lone_long c.before.before.args.v.now c.if-v-gt-LONGEST_VALUE.true)  -- returns
+    (λ c. lone_long c.args.v.now c.if-v-gt-LONGEST_VALUE.true)  -- returns
     (λ c κs. search rules)  -- marked-requires
-    (λ c. lone_unmarked c.before.before.before.before.args.v.now c.before.before.if-v-gt-LONGEST_VALUE.false _ c.before.marked.ensures c.if-not-marked.true)  -- returns-2
-    (λ c. omega (arith, (c.before.before.marked.ensures.yes c.before.if-not-marked.false).0))  -- shared-slice-read-kind
+    (λ c. lone_unmarked c.args.v.now c.if-v-gt-LONGEST_VALUE.false _ c.marked.ensures c.if-not-marked.true)  -- returns-2
+    (λ c. omega (arith, (c.marked.ensures.yes c.if-not-marked.false).0))  -- shared-slice-read-kind
     (λ c. omega (arith, c.shared_slice_known-2-1.given 2))  -- cast-constructed
     (λ c κs. search rules)  -- constructed-requires
-    (λ c κs. (omega arith, sym c.before.constructed.ensures ∙ c.if-not-constructed.true))  -- end-requires
+    (λ c κs. (omega arith, sym c.constructed.ensures ∙ c.if-not-constructed.true))  -- end-requires
     (λ c.
-    let m = c.before.before.before.before.before.marked.ensures.yes c.before.before.before.before.if-not-marked.false in
-    lone_leaf c.before.before.before.before.before.before.before.before.args.v.now c.before.before.before.before.before.before.if-v-gt-LONGEST_VALUE.false m (sym c.before.before.constructed.ensures ∙ c.before.if-not-constructed.true) _ c.end.ensures)  -- returns-3
+    let m = c.marked.ensures.yes c.if-not-marked.false in
+    lone_leaf c.args.v.now c.if-v-gt-LONGEST_VALUE.false m (sym c.constructed.ensures ∙ c.if-not-constructed.true) _ c.end.ensures)  -- returns-3
     (λ c κs. search rules)  -- has-members-requires
-    (λ c κs. (omega arith, omega (arith, (c.before.before.before.before.before.before.marked.ensures.yes c.before.before.before.before.before.if-not-marked.false).0)))  -- no-member-requires
+    (λ c κs. (omega arith, omega (arith, (c.marked.ensures.yes c.if-not-marked.false).0)))  -- no-member-requires
     (λ c.
-    let m = c.before.before.before.before.before.before.before.marked.ensures.yes c.before.before.before.before.before.before.if-not-marked.false in
-    lone_members c.before.before.before.before.before.before.before.before.before.before.args.v.now c.before.before.before.before.before.before.before.before.if-v-gt-LONGEST_VALUE.false m (sym c.before.before.has_members.ensures ∙ c.before.if-has_members.true) _ c.no_member.ensures)  -- returns-4
+    let m = c.marked.ensures.yes c.if-not-marked.false in
+    lone_members c.args.v.now c.if-v-gt-LONGEST_VALUE.false m (sym c.has_members.ensures ∙ c.if-has_members.true) _ c.no_member.ensures)  -- returns-4
     (λ c κs. search rules)  -- is-list-requires
-    (λ c κs. (omega arith, omega (arith, (c.before.before.before.before.before.before.before.before.marked.ensures.yes c.before.before.before.before.before.before.before.if-not-marked.false).0)))  -- no-element-requires
+    (λ c κs. (omega arith, omega (arith, (c.marked.ensures.yes c.if-not-marked.false).0)))  -- no-element-requires
     (λ c.
-    let m = c.before.before.before.before.before.before.before.before.before.marked.ensures.yes c.before.before.before.before.before.before.before.before.if-not-marked.false in
-    lone_list c.before.before.before.before.before.before.before.before.before.before.before.before.args.v.now c.before.before.before.before.before.before.before.before.before.before.if-v-gt-LONGEST_VALUE.false m (sym c.before.before.is_list.ensures ∙ c.before.if-is_list.true) _ c.no_element.ensures)  -- returns-5
+    let m = c.marked.ensures.yes c.if-not-marked.false in
+    lone_list c.args.v.now c.if-v-gt-LONGEST_VALUE.false m (sym c.is_list.ensures ∙ c.if-is_list.true) _ c.no_element.ensures)  -- returns-5
     (λ c.
-    let m = c.before.before.before.before.before.before.before.before.marked.ensures.yes c.before.before.before.before.before.before.before.if-not-marked.false in
-    lone_none c.before.before.before.before.before.before.before.before.before.before.before.args.v.now c.before.before.before.before.before.before.before.before.before.if-v-gt-LONGEST_VALUE.false m (sym c.before.before.before.before.before.constructed.ensures ∙ c.before.before.before.before.if-not-constructed.false) (sym c.before.before.before.has_members.ensures ∙ c.before.before.if-has_members.false) (sym c.before.is_list.ensures ∙ c.if-is_list.false)))  -- returns-6
+    let m = c.marked.ensures.yes c.if-not-marked.false in
+    lone_none c.args.v.now c.if-v-gt-LONGEST_VALUE.false m (sym c.constructed.ensures ∙ c.if-not-constructed.false) (sym c.has_members.ensures ∙ c.if-has_members.false) (sym c.is_list.ensures ∙ c.if-is_list.false)))  -- returns-6

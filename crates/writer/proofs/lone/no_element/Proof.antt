@@ -10,6 +10,6 @@ no_element_spec =
     tie.close
     (tie.spec
     (λ c. search rules)  -- add-if1
-    (λ c. let a = c.before.before.args in elements_behind a.v.now a.p c.before.before.requires.1 c.if-v-p.true)  -- returns
+    (λ c. let a = c.args in elements_behind a.v.now a.p c.requires.1 c.if-v-p.true)  -- returns
     (λ c κs. search rules)  -- two-requires
-    (λ c. let a = c.before.before.before.args in elements_none a.v.now a.p c.before.before.before.requires.1 c.before.if-v-p.false _ c.two.ensures.0))  -- returns-2
+    (λ c. let a = c.args in elements_none a.v.now a.p c.requires.1 c.if-v-p.false _ c.two.ensures.0))  -- returns-2

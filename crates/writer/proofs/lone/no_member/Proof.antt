@@ -12,8 +12,8 @@ no_member_spec =
     (λ c κs. search rules)  -- octet-requires
     (λ c. search rules)  -- add-start
     (λ c. search rules)  -- add-if1
-    (λ c. let a = c.before.before.before.args in members_behind a.v.now a.p c.before.before.before.requires.1 _ c.before.octet-n.ensures.0 c.if-v-start.true)  -- returns
+    (λ c. let a = c.args in members_behind a.v.now a.p c.requires.1 _ c.octet-n.ensures.0 c.if-v-start.true)  -- returns
     (λ c κs. search rules)  -- are-zero-requires
     (λ c.
-    let a = c.before.before.before.before.args in
-    members_zero a.v.now a.p c.before.before.before.before.requires.1 _ c.before.before.octet-n.ensures.0 c.before.if-v-start.false _ c.are_zero.ensures))  -- returns-2
+    let a = c.args in
+    members_zero a.v.now a.p c.requires.1 _ c.octet-n.ensures.0 c.if-v-start.false _ c.are_zero.ensures))  -- returns-2

@@ -25,22 +25,22 @@ are_flags_spec =
     decreases-loop
     (λ c. omega arith)  -- add-end
     (λ c. rw (lt-leb _ _ c.if-v-end.true) refl)  -- returns
-    (λ c. let a = c.before.args in let q : a.p + a.n - a.p ≡ a.n = omega arith in (omega arith, omega arith, rw q refl))  -- loop-holds
-    (λ c. omega (arith, c.before.before.loop-at.invariant.1, c.before.before.before.if-v-end.false))  -- shared-slice-read-if2
+    (λ c. let a = c.args in let q : a.p + a.n - a.p ≡ a.n = omega arith in (omega arith, omega arith, rw q refl))  -- loop-holds
+    (λ c. omega (arith, c.loop-at.invariant.1, c.if-v-end.false))  -- shared-slice-read-if2
     (λ c.
-    let a = c.before.before.before.before.before.args in
-    rw (le-leb _ _ c.before.before.before.before.if-v-end.false) (all_stops (λ x. ltb x 2) 1 a.v.now c.before.before.before.loop-at.at (a.p +
-    a.n - c.before.before.before.loop-at.at) _ c.before.before.before.loop-at.invariant.2 (omega arith) (le-ltb _ 2 c.if-v-at-ge2.true)))  -- returns-2
-    (λ c. omega (arith, c.before.before.before.loop-at.invariant.1))  -- add-at
+    let a = c.args in
+    rw (le-leb _ _ c.if-v-end.false) (all_stops (λ x. ltb x 2) 1 a.v.now c.loop-at.at (a.p +
+    a.n - c.loop-at.at) _ c.loop-at.invariant.2 (omega arith) (le-ltb _ 2 c.if-v-at-ge2.true)))  -- returns-2
+    (λ c. omega (arith, c.loop-at.invariant.1))  -- add-at
     (λ c. omega arith)  -- loop-less
     (λ c.
-    let a = c.before.before.before.before.before.args in
-    let q : a.p + a.n - c.before.before.before.loop-at.at - 1 ≡ a.p + a.n - (c.before.before.before.loop-at.at + 1) = omega arith in (
-      omega (arith, c.before.before.before.loop-at.invariant.0),
-      omega (arith, c.before.before.loop-at-test.true),
-      rw q at (all_goes (λ x. ltb x 2) 1 a.v.now c.before.before.before.loop-at.at (a.p + a.n - c.before.before.before.loop-at.at) _ c.before.before.before.loop-at.invariant.2 (omega
+    let a = c.args in
+    let q : a.p + a.n - c.loop-at.at - 1 ≡ a.p + a.n - (c.loop-at.at + 1) = omega arith in (
+      omega (arith, c.loop-at.invariant.0),
+      omega (arith, c.loop-at-test.true),
+      rw q at (all_goes (λ x. ltb x 2) 1 a.v.now c.loop-at.at (a.p + a.n - c.loop-at.at) _ c.loop-at.invariant.2 (omega
           arith) (lt-ltb _ 2 c.if-v-at-ge2.false)),
     ))  -- loop-again
     (λ c.
-    let a = c.before.before.before.args in
-    rw (le-leb _ _ c.before.before.if-v-end.false) (all_ends (λ x. ltb x 2) 1 a.v.now c.before.loop-at.at (a.p + a.n - c.before.loop-at.at) _ c.before.loop-at.invariant.2 (omega arith))))  -- returns-3
+    let a = c.args in
+    rw (le-leb _ _ c.if-v-end.false) (all_ends (λ x. ltb x 2) 1 a.v.now c.loop-at.at (a.p + a.n - c.loop-at.at) _ c.loop-at.invariant.2 (omega arith))))  -- returns-3

@@ -14,91 +14,78 @@ below_spec =
     (tie.spec
     (λ c κs. search rules)  -- has-members-requires
     (λ c.
-    let s = c.before.before.before.before in
-    let a = s.args in
+    let a = c.args in
     let b = a.table.now in
-    omega (arith, start_members a.e a.v.now a.p _ c.before.has_members.ensures c.if-has_members.true, s.requires.1.starts))  -- add-mark
+    omega (arith, start_members a.e a.v.now a.p _ c.has_members.ensures c.if-has_members.true, c.requires.1.starts))  -- add-mark
     (λ c.
-    let s = c.before.before.before.before in
-    let a = s.args in
+    let a = c.args in
     let b = a.table.now in
     omega (
       arith,
-      start_members a.e a.v.now a.p _ c.before.has_members.ensures c.if-has_members.true,
+      start_members a.e a.v.now a.p _ c.has_members.ensures c.if-has_members.true,
       count_members a.e a.v.now a.p
-          _ c.before.has_members.ensures c.if-has_members.true,
-      s.requires.1.starts,
-      s.requires.2,
+          _ c.has_members.ensures c.if-has_members.true,
+      c.requires.1.starts,
+      c.requires.2,
     ))  -- add-mark-2
     (λ c.
-    let s = c.before.before.before.before.before in
-    let a = s.args in
+    let a = c.args in
     let b = a.table.now in
     omega (
       arith,
-      start_members a.e a.v.now a.p _ c.before.before.has_members.ensures c.before.if-has_members.true,
-      count_members a.e a.v.now a.p _ c.before.before.has_members.ensures c.before.if-has_members.true,
-      s.requires.1.starts,
-      s.requires.2,
+      start_members a.e a.v.now a.p _ c.has_members.ensures c.if-has_members.true,
+      count_members a.e a.v.now a.p _ c.has_members.ensures c.if-has_members.true,
+      c.requires.1.starts,
+      c.requires.2,
     ))  -- shared-slice-read-if2
     (λ c.
-    let s = c.before.before.before.before.before.before in
-    let a = s.args in
+    let a = c.args in
     let b = a.table.now in
-    below_missing a.e a.v.now a.p _ c.before.before.before.has_members.ensures c.before.before.if-has_members.true b a.i c.if-v-mark-ne1.true)  -- returns
+    below_missing a.e a.v.now a.p _ c.has_members.ensures c.if-has_members.true b a.i c.if-v-mark-ne1.true)  -- returns
     (λ c κs.
-    let s = c.before.before.before.before.before.before in
-    let a = s.args in
+    let a = c.args in
     let b = a.table.now in
-    rw (s.requires.0, part_members a.e a.v.now a.p _ c.before.before.before.has_members.ensures c.before.before.if-has_members.true a.i) (s.requires.1.part a.i s.requires.2 (no_message a.e a.v.now a.p _ c.before.before.before.has_members.ensures c.before.before.if-has_members.true)))  -- part-requires
+    rw (c.requires.0, part_members a.e a.v.now a.p _ c.has_members.ensures c.if-has_members.true a.i) (c.requires.1.part a.i c.requires.2 (no_message a.e a.v.now a.p _ c.has_members.ensures c.if-has_members.true)))  -- part-requires
     (λ c.
-    let s = c.before.before.before.before.before.before.before in
-    let a = s.args in
+    let a = c.args in
     let b = a.table.now in
-    rw s.requires.0 at c.part.ensures.0 ∙ below_member a.e a.v.now a.p _ c.before.before.before.before.has_members.ensures c.before.before.before.if-has_members.true b a.i c.before.if-v-mark-ne1.false)  -- returns-2
+    rw c.requires.0 at c.part.ensures.0 ∙ below_member a.e a.v.now a.p _ c.has_members.ensures c.if-has_members.true b a.i c.if-v-mark-ne1.false)  -- returns-2
     (λ c.
-    let s = c.before.before.before.before.before.before.before in
-    let a = s.args in
+    let a = c.args in
     let b = a.table.now in
     omega (
       arith,
-      start_choice a.e a.v.now a.p _ c.before.before.before.before.has_members.ensures c.before.before.before.if-has_members.false c.before.if-e-eq-CHOICE.true,
-      s.requires.1.starts,
+      start_choice a.e a.v.now a.p _ c.has_members.ensures c.if-has_members.false c.if-e-eq-CHOICE.true,
+      c.requires.1.starts,
     ))  -- shared-slice-read-part
     (λ c.
-    let s = c.before.before.before.before.before.before.before in
-    let a = s.args in
+    let a = c.args in
     let b = a.table.now in
     omega (arith, c.shared_slice_known-then-e-eq-CHOICE-1.given a.p))  -- cast-part
     (λ c κs.
-    let s = c.before.before.before.before.before.before.before in
-    let a = s.args in
+    let a = c.args in
     let b = a.table.now in
     rw (
-      s.requires.0,
-      part_choice a.e a.v.now a.p _ c.before.before.before.before.has_members.ensures c.before.before.before.if-has_members.false c.before.if-e-eq-CHOICE.true a.i,
-    ) (s.requires.1.part a.i s.requires.2 (λ z. omega (arith, c.before.if-e-eq-CHOICE.true))))  -- part-requires-2
+      c.requires.0,
+      part_choice a.e a.v.now a.p _ c.has_members.ensures c.if-has_members.false c.if-e-eq-CHOICE.true a.i,
+    ) (c.requires.1.part a.i c.requires.2 (λ z. omega (arith, c.if-e-eq-CHOICE.true))))  -- part-requires-2
     (λ c.
-    let s = c.before.before.before.before.before.before.before.before in
-    let a = s.args in
+    let a = c.args in
     let b = a.table.now in
-    rw s.requires.0 at c.part-then-e-eq-CHOICE.ensures.0 ∙ below_choice a.e a.v.now a.p _ c.before.before.before.before.before.has_members.ensures c.before.before.before.before.if-has_members.false c.before.before.if-e-eq-CHOICE.true b a.i)  -- returns-3
+    rw c.requires.0 at c.part-then-e-eq-CHOICE.ensures.0 ∙ below_choice a.e a.v.now a.p _ c.has_members.ensures c.if-has_members.false c.if-e-eq-CHOICE.true b a.i)  -- returns-3
     (λ c. search rules)  -- cast-result
     (λ c.
-    let s = c.before.before.before.before.before.before.before.before.before in
-    let a = s.args in
+    let a = c.args in
     let b = a.table.now in
-    below_message a.e a.v.now a.p _ c.before.before.before.before.before.before.has_members.ensures c.before.before.before.before.before.if-has_members.false b a.i c.before.if-e-eq-MESSAGE.true)  -- returns-4
+    below_message a.e a.v.now a.p _ c.has_members.ensures c.if-has_members.false b a.i c.if-e-eq-MESSAGE.true)  -- returns-4
     (λ c κs.
-    let s = c.before.before.before.before.before.before.before.before in
-    let a = s.args in
+    let a = c.args in
     let b = a.table.now in
     rw (
-      s.requires.0,
-      part_list a.e a.v.now a.p _ c.before.before.before.before.before.has_members.ensures c.before.before.before.before.if-has_members.false c.before.before.if-e-eq-CHOICE.false c.if-e-eq-MESSAGE.false a.i,
-    ) (s.requires.1.part a.i s.requires.2 c.if-e-eq-MESSAGE.false))  -- part-requires-3
+      c.requires.0,
+      part_list a.e a.v.now a.p _ c.has_members.ensures c.if-has_members.false c.if-e-eq-CHOICE.false c.if-e-eq-MESSAGE.false a.i,
+    ) (c.requires.1.part a.i c.requires.2 c.if-e-eq-MESSAGE.false))  -- part-requires-3
     (λ c.
-    let s = c.before.before.before.before.before.before.before.before.before in
-    let a = s.args in
+    let a = c.args in
     let b = a.table.now in
-    rw s.requires.0 at c.part-2.ensures.0 ∙ below_list a.e a.v.now a.p _ c.before.before.before.before.before.before.has_members.ensures c.before.before.before.before.before.if-has_members.false c.before.before.before.if-e-eq-CHOICE.false c.before.if-e-eq-MESSAGE.false b a.i))  -- returns-5
+    rw c.requires.0 at c.part-2.ensures.0 ∙ below_list a.e a.v.now a.p _ c.has_members.ensures c.if-has_members.false c.if-e-eq-CHOICE.false c.if-e-eq-MESSAGE.false b a.i))  -- returns-5

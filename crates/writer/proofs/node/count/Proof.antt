@@ -13,18 +13,16 @@ count_spec =
     (tie.spec
     (λ c κs. search rules)  -- has-members-requires
     (λ c.
-    let s = c.before.before.before.before in
-    let a = s.args in
+    let a = c.args in
     omega (
       arith,
-      start_members a.e a.v.now a.p _ c.before.before.has_members.ensures c.before.if-has_members.true,
-      s.requires,
+      start_members a.e a.v.now a.p _ c.has_members.ensures c.if-has_members.true,
+      c.requires,
     ))  -- shared-slice-read-result
-    (λ c. let s = c.before.before.before.before in let a = s.args in omega (arith, c.shared_slice_known-then-has_members-1.given a.p))  -- cast-result
+    (λ c. let a = c.args in omega (arith, c.shared_slice_known-then-has_members-1.given a.p))  -- cast-result
     (λ c.
-    let s = c.before.before.before.before in
-    let a = s.args in (
-      count_members a.e a.v.now a.p _ c.before.before.has_members.ensures c.before.if-has_members.true,
+    let a = c.args in (
+      count_members a.e a.v.now a.p _ c.has_members.ensures c.if-has_members.true,
       omega (
         arith,
         c.shared_slice_known-then-has_members-1.given a.p,
@@ -32,25 +30,22 @@ count_spec =
     ))  -- returns
     (λ c κs. search rules)  -- holds-one-requires
     (λ c.
-    let s = c.before.before.before.before.before in
-    let a = s.args in (
-      count_one a.e a.v.now a.p _ c.before.before.before.has_members.ensures c.before.before.if-has_members.false _ c.before.holds_one.ensures c.if-holds_one.true,
+    let a = c.args in (
+      count_one a.e a.v.now a.p _ c.has_members.ensures c.if-has_members.false _ c.holds_one.ensures c.if-holds_one.true,
       omega arith,
     ))  -- returns-2
     (λ c κs.
-    let s = c.before.before.before.before.before in
-    let a = s.args in
-    let z = neither_kind a.e a.v.now a.p _ c.before.before.before.has_members.ensures c.before.before.if-has_members.false _ c.before.holds_one.ensures c.if-holds_one.false in
+    let a = c.args in
+    let z = neither_kind a.e a.v.now a.p _ c.has_members.ensures c.if-has_members.false _ c.holds_one.ensures c.if-holds_one.false in
     omega (
       arith,
-      start_list a.e a.v.now a.p _ c.before.before.before.has_members.ensures c.before.before.if-has_members.false z.0 z.1,
-      s.requires,
+      start_list a.e a.v.now a.p _ c.has_members.ensures c.if-has_members.false z.0 z.1,
+      c.requires,
     ))  -- two-requires
     (λ c.
-    let s = c.before.before.before.before.before.before in
-    let a = s.args in
-    let z = neither_kind a.e a.v.now a.p _ c.before.before.before.before.has_members.ensures c.before.before.before.if-has_members.false _
-    c.before.before.holds_one.ensures c.before.if-holds_one.false in (
-      c.two.ensures.0 ∙ count_list a.e a.v.now a.p _ c.before.before.before.before.has_members.ensures c.before.before.before.if-has_members.false z.0 z.1,
+    let a = c.args in
+    let z = neither_kind a.e a.v.now a.p _ c.has_members.ensures c.if-has_members.false _
+    c.holds_one.ensures c.if-holds_one.false in (
+      c.two.ensures.0 ∙ count_list a.e a.v.now a.p _ c.has_members.ensures c.if-has_members.false z.0 z.1,
       c.two.ensures.1,
     )))  -- returns-3

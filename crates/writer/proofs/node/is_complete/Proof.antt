@@ -27,27 +27,27 @@ is_complete_spec =
     invariant-loop
     decreases-loop
     (λ c. (omega arith, refl, refl, refl))  -- loop-holds
-    (λ c. omega (arith, c.before.before.loop-left.invariant.2, c.before.before.before.before.before.requires.2))  -- shared-slice-read-if1
+    (λ c. omega (arith, c.loop-left.invariant.2, c.requires.2))  -- shared-slice-read-if1
     (λ c κs. search rules)  -- optional-requires
     (λ c.
-    let a = c.before.before.before.before.before.before.before.before.args in
-    complete_stops a.table.now c.before.before.before.before.before.loop-left.at c.before.before.before.before.before.loop-left.left a.v.now c.before.before.before.before.before.loop-left.mark _ c.before.before.before.before.before.loop-left.invariant.3 c.before.before.before.before.loop-left-test.true c.before.before.if-v-mark-ne1.true _ c.before.optional.ensures c.if-not-optional.true)  -- returns
-    (λ c. omega (arith, c.before.before.before.loop-left.invariant.0, c.before.before.before.loop-left.invariant.1))  -- add-at
-    (λ c. omega (arith, c.before.before.before.loop-left.invariant.2, c.before.before.before.before.before.before.requires.2))  -- add-mark
+    let a = c.args in
+    complete_stops a.table.now c.loop-left.at c.loop-left.left a.v.now c.loop-left.mark _ c.loop-left.invariant.3 c.loop-left-test.true c.if-v-mark-ne1.true _ c.optional.ensures c.if-not-optional.true)  -- returns
+    (λ c. omega (arith, c.loop-left.invariant.0, c.loop-left.invariant.1))  -- add-at
+    (λ c. omega (arith, c.loop-left.invariant.2, c.requires.2))  -- add-mark
     (λ c. omega arith)  -- sub-left
     (λ c. omega arith)  -- loop-less
     (λ c.
-    let a = c.before.before.before.before.before.before.args in (
-      omega (arith, c.before.before.before.loop-left.invariant.0),
-      omega (arith, c.before.before.before.loop-left.invariant.1),
+    let a = c.args in (
+      omega (arith, c.loop-left.invariant.0),
+      omega (arith, c.loop-left.invariant.1),
       omega (
         arith,
-        c.before.before.before.loop-left.invariant.2,
+        c.loop-left.invariant.2,
       ),
-      ⊎_elim (λ w. complete_optional a.table.now c.before.before.before.loop-left.at c.before.before.before.loop-left.left
-          a.v.now c.before.before.before.loop-left.mark _ c.before.before.before.loop-left.invariant.3 c.before.before.loop-left-test.true w.0.taken
-          _ w.1.ensures (not-false _ w.2.left)) (λ w. complete_present a.table.now c.before.before.before.loop-left.at c.before.before.before.loop-left.left a.v.now c.before.before.before.loop-left.mark _ c.before.before.before.loop-left.invariant.3 c.before.before.loop-left-test.true w.left) c.if-v-mark-ne1.branch,
+      ⊎_elim (λ w. complete_optional a.table.now c.loop-left.at c.loop-left.left
+          a.v.now c.loop-left.mark _ c.loop-left.invariant.3 c.loop-left-test.true w.0.taken
+          _ w.1.ensures (not-false _ w.2.left)) (λ w. complete_present a.table.now c.loop-left.at c.loop-left.left a.v.now c.loop-left.mark _ c.loop-left.invariant.3 c.loop-left-test.true w.left) c.if-v-mark-ne1.branch,
     ))  -- loop-again
     (λ c.
-    let a = c.before.before.before.before.args in
-    complete_ends a.table.now c.before.loop-left.at c.before.loop-left.left a.v.now c.before.loop-left.mark _ c.before.loop-left.invariant.3 c.loop-left-test.false))  -- returns-2
+    let a = c.args in
+    complete_ends a.table.now c.loop-left.at c.loop-left.left a.v.now c.loop-left.mark _ c.loop-left.invariant.3 c.loop-left-test.false))  -- returns-2

@@ -10,11 +10,11 @@ marked_spec =
     tie.close
     (tie.spec
     (λ c. search rules)  -- add-if1
-    (λ c. let a = c.before.args in unmarked_short a.v.now a.at c.if-v-at.true)  -- returns
+    (λ c. let a = c.args in unmarked_short a.v.now a.at c.if-v-at.true)  -- returns
     (λ c. search rules)  -- shared-slice-read-if2
-    (λ c. let a = c.before.before.before.args in unmarked_first a.v.now a.at c.before.before.if-v-at.false c.if-v-at-ne86.true)  -- returns-2
+    (λ c. let a = c.args in unmarked_first a.v.now a.at c.if-v-at.false c.if-v-at-ne86.true)  -- returns-2
     (λ c. search rules)  -- add-second
     (λ c. search rules)  -- shared-slice-read-result
     (λ c.
-    let a = c.before.before.before.before.args in
-    marked_second a.v.now a.at c.before.before.before.if-v-at.false c.before.if-v-at-ne86.false))  -- returns-3
+    let a = c.args in
+    marked_second a.v.now a.at c.if-v-at.false c.if-v-at-ne86.false))  -- returns-3

@@ -13,9 +13,9 @@ members_end_spec =
     (λ c. search rules)  -- add-start
     (λ c κs. search rules)  -- are-flags-requires
     (λ c.
-    let a = c.before.before.before.before.args in
-    members_shapeless a.v.now a.p _ (rw c.before.before.octet-n.ensures.0 at c.before.are_flags.ensures) c.if-not-are_flags.true)  -- returns
+    let a = c.args in
+    members_shapeless a.v.now a.p _ (rw c.octet-n.ensures.0 at c.are_flags.ensures) c.if-not-are_flags.true)  -- returns
     (λ c. search rules)  -- add-result
     (λ c.
-    let a = c.before.before.before.before.args in
-    rw c.before.before.octet-n.ensures.0 (members_shaped a.v.now a.p _ (rw c.before.before.octet-n.ensures.0 at c.before.are_flags.ensures) c.if-not-are_flags.false)))  -- returns-2
+    let a = c.args in
+    rw c.octet-n.ensures.0 (members_shaped a.v.now a.p _ (rw c.octet-n.ensures.0 at c.are_flags.ensures) c.if-not-are_flags.false)))  -- returns-2

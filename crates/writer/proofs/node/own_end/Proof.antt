@@ -13,24 +13,20 @@ own_end_spec =
     (λ c κs. search rules)  -- has-members-requires
     (λ c κs. search rules)  -- members-end-requires
     (λ c.
-    let s = c.before.before.before.before in
-    let a = s.args in
-    c.members_end.ensures ∙ end_members a.v.now a.kind a.p s.requires.1 _ c.before.before.has_members.ensures c.before.if-has_members.true)  -- returns
+    let a = c.args in
+    c.members_end.ensures ∙ end_members a.v.now a.kind a.p c.requires.1 _ c.has_members.ensures c.if-has_members.true)  -- returns
     (λ c κs. search rules)  -- is-list-requires
     (λ c. search rules)  -- add-fixed-end
     (λ c κs. search rules)  -- fixed-end-requires
     (λ c.
-    let s = c.before.before.before.before.before.before in
-    let a = s.args in
-    c.fixed_end.ensures ∙ end_list a.v.now a.kind a.p s.requires.1 _ c.before.before.before.before.has_members.ensures c.before.before.before.if-has_members.false _ c.before.before.is_list.ensures c.before.if-is_list.true)  -- returns-2
+    let a = c.args in
+    c.fixed_end.ensures ∙ end_list a.v.now a.kind a.p c.requires.1 _ c.has_members.ensures c.if-has_members.false _ c.is_list.ensures c.if-is_list.true)  -- returns-2
     (λ c. search rules)  -- add-fixed-end-2
     (λ c κs. search rules)  -- fixed-end-requires-2
     (λ c.
-    let s = c.before.before.before.before.before.before.before in
-    let a = s.args in
-    c.fixed_end-then-kind-eq-CHOICE.ensures ∙ end_choice a.v.now a.kind a.p s.requires.1 _ c.before.before.before.before.before.has_members.ensures c.before.before.before.before.if-has_members.false _ c.before.before.before.is_list.ensures c.before.before.if-is_list.false c.before.if-kind-eq-CHOICE.true)  -- returns-3
+    let a = c.args in
+    c.fixed_end-then-kind-eq-CHOICE.ensures ∙ end_choice a.v.now a.kind a.p c.requires.1 _ c.has_members.ensures c.if-has_members.false _ c.is_list.ensures c.if-is_list.false c.if-kind-eq-CHOICE.true)  -- returns-3
     (λ c.
-    let s = c.before.before.before.before.before.before in
-    let a = s.args in
-    end_none a.v.now a.kind a.p s.requires.1 _ c.before.before.before.before.has_members.ensures c.before.before.before.if-has_members.false
-    _ c.before.before.is_list.ensures c.before.if-is_list.false c.if-kind-eq-CHOICE.false))  -- returns-4
+    let a = c.args in
+    end_none a.v.now a.kind a.p c.requires.1 _ c.has_members.ensures c.if-has_members.false
+    _ c.is_list.ensures c.if-is_list.false c.if-kind-eq-CHOICE.false))  -- returns-4

@@ -12,5 +12,5 @@ part_spec = tie.close (tie.spec
     (λ c. search rules)  -- mul-q
     (λ c. search rules)  -- add-q
     (λ c. search rules)  -- shared-slice-read-result
-    (λ c. omega (arith, c.shared_slice_known-1.given (place_of c.before.before.before.args.s c.before.before.before.args.j)))  -- cast-result
-    (λ c. (refl, omega (arith, c.shared_slice_known-1.given (place_of c.before.before.before.args.s c.before.before.before.args.j)))))  -- returns
+    (λ c. omega (arith, c.shared_slice_known-1.given (place_of c.args.s c.args.j)))  -- cast-result
+    (λ c. (refl, omega (arith, c.shared_slice_known-1.given (place_of c.args.s c.args.j)))))  -- returns

@@ -10,51 +10,43 @@ pub start_spec : {M : Type 1} → statement M
 start_spec =
     tie.close
     (tie.spec
-    (λ c. let s = c.before.before.before in let a = s.args in start_message a.e a.v.now a.p c.if-e-eq-MESSAGE.true)  -- returns
+    (λ c. let a = c.args in start_message a.e a.v.now a.p c.if-e-eq-MESSAGE.true)  -- returns
     (λ c κs. search rules)  -- has-members-requires
     (λ c.
-    let s = c.before.before.before.before.before in
-    let a = s.args in
-    omega (arith, start_members a.e a.v.now a.p _ c.before.has_members.ensures c.if-has_members.true, s.requires))  -- add-result
+    let a = c.args in
+    omega (arith, start_members a.e a.v.now a.p _ c.has_members.ensures c.if-has_members.true, c.requires))  -- add-result
     (λ c.
-    let s = c.before.before.before.before.before.before in
-    let a = s.args in
+    let a = c.args in
     omega (
       arith,
-      start_members a.e a.v.now a.p _ c.before.before.has_members.ensures c.before.if-has_members.true,
-      s.requires,
+      start_members a.e a.v.now a.p _ c.has_members.ensures c.if-has_members.true,
+      c.requires,
     ))  -- shared-slice-read-result
-    (λ c. let s = c.before.before.before.before.before.before in let a = s.args in omega (arith, c.shared_slice_known-then-has_members-1.given a.p))  -- cast-result
+    (λ c. let a = c.args in omega (arith, c.shared_slice_known-then-has_members-1.given a.p))  -- cast-result
     (λ c.
-    let s = c.before.before.before.before.before.before in
-    let a = s.args in
-    omega (arith, start_members a.e a.v.now a.p _ c.before.before.has_members.ensures c.before.if-has_members.true, s.requires))  -- add-result-2
+    let a = c.args in
+    omega (arith, start_members a.e a.v.now a.p _ c.has_members.ensures c.if-has_members.true, c.requires))  -- add-result-2
     (λ c.
-    let s = c.before.before.before.before.before.before in
-    let a = s.args in
-    start_members a.e a.v.now a.p _ c.before.before.has_members.ensures c.before.if-has_members.true)  -- returns-2
+    let a = c.args in
+    start_members a.e a.v.now a.p _ c.has_members.ensures c.if-has_members.true)  -- returns-2
     (λ c.
-    let s = c.before.before.before.before.before.before.before in
-    let a = s.args in
+    let a = c.args in
     omega (
       arith,
-      start_choice a.e a.v.now a.p _ c.before.before.before.has_members.ensures c.before.before.if-has_members.false c.if-e-eq-CHOICE.true,
-      s.requires,
+      start_choice a.e a.v.now a.p _ c.has_members.ensures c.if-has_members.false c.if-e-eq-CHOICE.true,
+      c.requires,
     ))  -- add-result-3
     (λ c.
-    let s = c.before.before.before.before.before.before.before in
-    let a = s.args in
-    start_choice a.e a.v.now a.p _ c.before.before.before.has_members.ensures c.before.before.if-has_members.false c.if-e-eq-CHOICE.true)  -- returns-3
+    let a = c.args in
+    start_choice a.e a.v.now a.p _ c.has_members.ensures c.if-has_members.false c.if-e-eq-CHOICE.true)  -- returns-3
     (λ c.
-    let s = c.before.before.before.before.before.before.before in
-    let a = s.args in
+    let a = c.args in
     omega (
       arith,
-      start_list a.e a.v.now a.p _ c.before.before.before.has_members.ensures c.before.before.if-has_members.false c.if-e-eq-CHOICE.false
-          c.before.before.before.before.if-e-eq-MESSAGE.false,
-      s.requires,
+      start_list a.e a.v.now a.p _ c.has_members.ensures c.if-has_members.false c.if-e-eq-CHOICE.false
+          c.if-e-eq-MESSAGE.false,
+      c.requires,
     ))  -- add-result-4
     (λ c.
-    let s = c.before.before.before.before.before.before.before in
-    let a = s.args in
-    start_list a.e a.v.now a.p _ c.before.before.before.has_members.ensures c.before.before.if-has_members.false c.if-e-eq-CHOICE.false c.before.before.before.before.if-e-eq-MESSAGE.false))  -- returns-4
+    let a = c.args in
+    start_list a.e a.v.now a.p _ c.has_members.ensures c.if-has_members.false c.if-e-eq-CHOICE.false c.if-e-eq-MESSAGE.false))  -- returns-4

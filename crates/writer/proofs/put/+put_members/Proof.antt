@@ -43,7 +43,7 @@ abbrev put-members-below : ℕ → In 5 put_members_kinds.ps
 put-members-below t =
     and 5 put_members_kinds.ps (falls 5 put_members_kinds.ps ◌<◌ μ-put-members t) put_members.Pre
 
-abbrev put-members-Inv-loop : put_members_lts.invariant-loop
+abbrev put-members-Inv-loop : put_members_lts.invariant-loop-i
 put-members-Inv-loop table index w v p notes buf₀ to e s n at₀ next₀ i₀ buf at next i =
     (i ≤ count_at (unpacked w) v p)
     × (p ≤ at)
@@ -51,7 +51,7 @@ put-members-Inv-loop table index w v p notes buf₀ to e s n at₀ next₀ i₀ 
     × (length buf ≡ length buf₀)
     × ((x : Puts table index v notes (unpacked w) p to buf₀) → Still x i at next buf)
 
-abbrev put-members-μ-loop : put_members_lts.decreases-loop
+abbrev put-members-μ-loop : put_members_lts.decreases-loop-i
 put-members-μ-loop table index w v p notes buf₀ to e s n at₀ next₀ i₀ buf at next i = n - i
 
 abbrev put-members-claims : ℕ → put_members_lts.Claims
@@ -76,49 +76,49 @@ put-members-claims t = (
   put_members.Post,
 )
 
-abbrev at-member : (t : ℕ) (c : put_members_lts.After-unpack2 (put-members-claims t) (put-members-at t) put_members.Post put-members-Inv-loop
+abbrev at-member : (t : ℕ) (c : put_members_lts.After-unpack-r (put-members-claims t) (put-members-at t) put_members.Post put-members-Inv-loop
     put-members-μ-loop) →
-    let a = c.before.before.before.before.before.before.before.before.before.before.before.before.before.args in
-    (X : Puts a.table.now a.index.now a.v.now a.notes.now (unpacked a.w) a.p a.to a.buf-1.now) → Member X
+    let a = c.args in
+    (X : Puts a.table.now a.index.now a.v.now a.notes.now (unpacked a.w) a.p a.to a.buf.now) → Member X
 at-member t c X =
     record {
-      i = c.before.before.before.before.before.loop.i;
-      at = c.before.before.before.before.before.loop.at;
-      next = c.before.before.before.before.before.loop.next;
-      buf = c.before.before.before.before.before.loop.buf-1;
-      still = c.before.before.before.before.before.loop.invariant.4 X;
-      within = c.before.before.before.before.before.loop.invariant.2;
-      same = c.before.before.before.before.before.loop.invariant.3;
-      one = rw c.before.before.before.before.before.before.before.before.before.unpack.ensures at (rw c.before.before.before.before.before.before.before.count.ensures.0 at c.before.before.before.before.loop-test.true);
-      t = c.before.before.before.below.result;
-      is = rw c.before.before.before.before.before.before.before.before.before.unpack.ensures at c.before.before.before.below.ensures;
-      there = c.before.before.if-kind-eq-BOOLEAN.true;
-      x = c.unpack2.result;
-      entry = c.unpack2.ensures;
+      i = c.loop-i.i;
+      at = c.loop-i.at;
+      next = c.loop-i.next;
+      buf = c.loop-i.buf;
+      still = c.loop-i.invariant.4 X;
+      within = c.loop-i.invariant.2;
+      same = c.loop-i.invariant.3;
+      one = rw c.unpack-e.ensures at (rw c.count-n.ensures.0 at c.loop-i-test.true);
+      t = c.below-t.result;
+      is = rw c.unpack-e.ensures at c.below-t.ensures;
+      there = c.if-t-lt256.true;
+      x = c.unpack-r.result;
+      entry = c.unpack-r.ensures;
     }
 
-at-sized : (t : ℕ) (c : put_members_lts.Joined-v-p-eq1 (put-members-claims t) (put-members-at t) put_members.Post put-members-Inv-loop put-members-μ-loop) →
-    let a = c.before.before.before.before.before.before.before.before.before.before.before.before.before.before.args in
-    (X : Puts a.table.now a.index.now a.v.now a.notes.now (unpacked a.w) a.p a.to a.buf-1.now) →
-    Sized (at-member t c.before X) c.if-v-p-eq1.size
+at-sized : (t : ℕ) (c : put_members_lts.Joined-r (put-members-claims t) (put-members-at t) put_members.Post put-members-Inv-loop put-members-μ-loop) →
+    let a = c.args in
+    (X : Puts a.table.now a.index.now a.v.now a.notes.now (unpacked a.w) a.p a.to a.buf.now) →
+    Sized (at-member t c.before X) c.if-r.size
 at-sized t c X =
     let m = at-member t c.before X in
-    ⊎_elim (λ w. sized_leaf m w.0.taken _ _ w.1.ensures.0 w.2) (λ w. sized_built m w.0.left _ w.2) c.if-v-p-eq1.branch
+    ⊎_elim (λ w. sized_leaf m w.0.taken _ _ w.1.ensures.0 w.2) (λ w. sized_built m w.0.left _ w.2) c.if-r.branch
 
-abbrev at_front : (t : ℕ) (c : put_members_lts.After-slice_known-then-kind-eq-INTEGER-1 (put-members-claims t) (put-members-at t) put_members.Post put-members-Inv-loop
+abbrev at_front : (t : ℕ) (c : put_members_lts.After-slice_known-then-t-lt256-1 (put-members-claims t) (put-members-at t) put_members.Post put-members-Inv-loop
     put-members-μ-loop) →
-    let a = c.before.before.before.before.before.before.before.before.before.before.before.before.before.before.before.before.before.before.args in
-    (X : Puts a.table.now a.index.now a.v.now a.notes.now (unpacked a.w) a.p a.to a.buf-1.now) →
+    let a = c.args in
+    (X : Puts a.table.now a.index.now a.v.now a.notes.now (unpacked a.w) a.p a.to a.buf.now) →
     Fronted (at-member t c.before.before.before.before.before X)
 at_front t c X =
     record {
-      size = c.before.before.before.before.if-v-p-eq1.size;
+      size = c.if-r.size;
       sized = at-sized t c.before.before.before.before X;
-      next = c.before.before.put.result;
+      next = c.put-next.result;
       buf = _;
-      nexts = rw (← c.before.before.before.before.before.unpack2.ensures) at c.before.before.put.ensures.0;
-      bufs = rw (← c.before.before.before.before.before.unpack2.ensures) at c.before.before.put.ensures.1;
-      same = c.before.before.put.auto.1.1.1.0;
+      nexts = rw (← c.unpack-r.ensures) at c.put-next.ensures.0;
+      bufs = rw (← c.unpack-r.ensures) at c.put-next.ensures.1;
+      same = c.put-next.auto.1.1.1.0;
     }
 
 pub +put_members_spec : {M : Type 1} → statement M
@@ -130,20 +130,17 @@ pub +put_members_spec : {M : Type 1} → statement M
     (λ c κs. search rules)  -- put-members-unpack-requires
     (λ c κs. search rules)  -- put-members-parts-requires
     (λ c κs.
-    let s = c.before.before.before.before.before in
-    let a = s.args in
-    let X = s.requires.1 in
-    rw c.before.unpack.ensures X.stands.starts)  -- put-members-count-requires
+    let a = c.args in
+    let X = c.requires.1 in
+    rw c.unpack-e.ensures X.stands.starts)  -- put-members-count-requires
     (λ c κs.
-    let s = c.before.before.before.before.before.before in
-    let a = s.args in
-    let X = s.requires.1 in
-    rw c.before.before.unpack.ensures X.stands.starts)  -- put-members-start-requires
+    let a = c.args in
+    let X = c.requires.1 in
+    rw c.unpack-e.ensures X.stands.starts)  -- put-members-start-requires
     (λ c.
-    let s = c.before.before.before.before.before.before.before in
-    let a = s.args in
-    let X = s.requires.1 in
-    let q = rw c.before.before.before.unpack.ensures at c.start.ensures in (
+    let a = c.args in
+    let X = c.requires.1 in
+    let q = rw c.unpack-e.ensures at c.start-at.ensures in (
       omega arith,
       omega (arith, start_past (unpacked a.w) a.v.now a.p),
       omega (arith, X.stands.starts),
@@ -151,189 +148,173 @@ pub +put_members_spec : {M : Type 1} → statement M
       λ X. put_begin X _ q,
     ))  -- put-members-loop-holds
     (λ c κs.
-    let s = c.before.before.before.before.before.before.before.before.before in
-    let a = s.args in
-    let X = s.requires.1 in (
-      c.before.before.before.before.parts.ensures,
-      rw c.before.before.before.before.before.unpack.ensures X.stands,
+    let a = c.args in
+    let X = c.requires.1 in (
+      c.parts-s.ensures,
+      rw c.unpack-e.ensures X.stands,
       omega (
         arith,
-        c.before.before.before.count.ensures.0,
+        c.count-n.ensures.0,
       ),
     ))  -- put-members-below-requires
-    (λ c. omega (arith, c.before.before.before.before.count.ensures.1))  -- put-members-add-i
+    (λ c. omega (arith, c.count-n.ensures.1))  -- put-members-add-i
     (λ c.
-    let s = c.before.before.before.before.before.before.before.before.before.before.before in
-    let a = s.args in
-    let X = s.requires.1 in
+    let a = c.args in
+    let X = c.requires.1 in
     omega (
       arith,
-      put_few X _ _ (rw (← (rw c.before.before.before.before.before.before.before.unpack.ensures at c.before.before.before.before.before.count.ensures.0)) c.before.before.loop-test.true) (rw c.before.before.before.before.before.before.before.unpack.ensures at c.before.below.ensures) c.if-kind-eq-BOOLEAN.true,
+      put_few X _ _ (rw (← (rw c.unpack-e.ensures at c.count-n.ensures.0)) c.loop-i-test.true) (rw c.unpack-e.ensures at c.below-t.ensures) c.if-t-lt256.true,
     ))  -- put-members-mul-x
     (λ c.
-    let s = c.before.before.before.before.before.before.before.before.before.before.before in
-    let a = s.args in
-    let X = s.requires.1 in
+    let a = c.args in
+    let X = c.requires.1 in
     omega (
       arith,
-      put_few X _ _ (rw (← (rw c.before.before.before.before.before.before.before.unpack.ensures at c.before.before.before.before.before.count.ensures.0)) c.before.before.loop-test.true) (rw c.before.before.before.before.before.before.before.unpack.ensures at c.before.below.ensures) c.if-kind-eq-BOOLEAN.true,
+      put_few X _ _ (rw (← (rw c.unpack-e.ensures at c.count-n.ensures.0)) c.loop-i-test.true) (rw c.unpack-e.ensures at c.below-t.ensures) c.if-t-lt256.true,
     ))  -- put-members-element-copy-out-x
     (λ c κs. search rules)  -- put-members-unpack-requires-2
     (λ c.
-    let s = c.before.before.before.before.before.before.before.before.before.before.before.before.before in
-    let a = s.args in
-    let X = s.requires.1 in
+    let a = c.args in
+    let X = c.requires.1 in
     omega (arith, (put_near (at-member t c X)).1))  -- put-members-add-q
     (λ c κs.
-    let s = c.before.before.before.before.before.before.before.before.before.before.before.before.before.before in
-    let a = s.args in
-    let X = s.requires.1 in
+    let a = c.args in
+    let X = c.requires.1 in
     let m = (at-member t c.before X) in
-    ((put_near m).1, put_simple m c.if-v-p-eq1.true, put_own m))  -- put-members-size-requires
+    ((put_near m).1, put_simple m c.if-r.true, put_own m))  -- put-members-size-requires
     (λ c.
-    let s = c.before.before.before.before.before.before.before.before.before.before.before.before.before.before in
-    let a = s.args in
-    let X = s.requires.1 in
+    let a = c.args in
+    let X = c.requires.1 in
     omega (arith, (put_near (at-member t c.before X)).1))  -- put-members-mul-size
     (λ c.
-    let s = c.before.before.before.before.before.before.before.before.before.before.before.before.before.before in
-    let a = s.args in
-    let X = s.requires.1 in
+    let a = c.args in
+    let X = c.requires.1 in
     omega (arith, (put_near (at-member t c.before X)).0, X.ready.little))  -- put-members-element-copy-out-size
     (λ c.
-    let s = c.before.before.before.before.before.before.before.before.before.before.before.before.before.before.before in
-    let a = s.args in
-    let X = s.requires.1 in
-    omega (arith, put_note (at-member t c.before.before X) c.before.if-v-p-eq1.false))  -- put-members-cast-size
+    let a = c.args in
+    let X = c.requires.1 in
+    omega (arith, put_note (at-member t c.before.before X) c.if-r.false))  -- put-members-cast-size
     (λ c κs.
-    let s = c.before.before.before.before.before.before.before.before.before.before.before.before.before.before.before in
-    let a = s.args in
-    let X = s.requires.1 in
+    let a = c.args in
+    let X = c.requires.1 in
     let m = (at-member t c.before.before X) in
     let z = at-sized t c.before X in (
-      rw (← c.before.before.unpack2.ensures) (put_known m),
+      rw (← c.unpack-r.ensures) (put_known m),
       put_capped m _ z,
-      rw (← c.before.before.unpack2.ensures) (put_front m _ z),
+      rw (← c.unpack-r.ensures) (put_front m _ z),
     ))  -- put-members-put-requires
     (λ c κs.
-    let s = c.before.before.before.before.before.before.before.before.before.before.before.before.before.before.before.before.before.before.before.before in
-    let a = s.args in
-    let X = s.pre.1 in
+    let a = c.args in
+    let X = c.pre.1 in
     let m = (at-member t c.before.before.before.before.before.before.before X) in
-    let z = put_room (at_front t c.before.before X) c.before.if-kind-eq-INTEGER.true in
-    ((put_near m).1, put_simple m c.before.if-kind-eq-INTEGER.true, put_own m, z.0, z.1))  -- put-members-put-requires-2
+    let z = put_room (at_front t c.before.before X) c.if-r-2.true in
+    ((put_near m).1, put_simple m c.if-r-2.true, put_own m, z.0, z.1))  -- put-members-put-requires-2
     (λ c.
-    let s = c.before.before.before.before.before.before.before.before.before.before.before.before.before.before.before.before.before.before.before.before.before.before.before.before in
-    let a = s.args in
-    let X = s.pre.1 in
+    let a = c.args in
+    let X = c.pre.1 in
     omega (
       arith,
-      (put_room (at_front t c.before.before.before.before.before.before X) c.before.before.before.before.before.if-kind-eq-INTEGER.true).1,
-      c.before.before.before.before.before.before.before.before.put.auto.1.1.1.0,
-      c.before.before.before.before.before.before.before.before.before.before.before.before.before.before.before.before.loop.invariant.3,
-      s.good.1.1.1.1.1.1.0,
+      (put_room (at_front t c.before.before.before.before.before.before X) c.if-r-2.true).1,
+      c.put-next.auto.1.1.1.0,
+      c.loop-i.invariant.3,
+      c.good.1.1.1.1.1.1.0,
     ))  -- put-members-add-next
     (λ c.
     omega (
       arith,
-      c.before.before.before.before.before.before.before.before.before.before.before.before.before.before.before.loop-test.true,
+      c.loop-i-test.true,
     ))  -- put-members-loop-less
     (λ c.
-    let s = c.before.before.before.before.before.before.before.before.before.before.before.before.before.before.before.before.before.before.before.before.before.before.before.before in
-    let a = s.args in
-    let X = s.pre.1 in
-    let z = put_leaf (at_front t c.before.before.before.before.before.before X) c.before.before.before.before.before.if-kind-eq-INTEGER.true _ _ c.before.before.before.put2.ensures.0 c.before.before.before.put2.ensures.1 in (
+    let a = c.args in
+    let X = c.pre.1 in
+    let z = put_leaf (at_front t c.before.before.before.before.before.before X) c.if-r-2.true _ _ c.put-at.ensures.0 c.put-at.ensures.1 in (
       omega (
         arith,
-        c.before.before.before.before.before.before.before.before.before.before.before.before.before.before.before.loop-test.true,
-        (rw c.before.before.before.before.before.before.before.before.before.before.before.before.before.before.before.before.before.before.before.before.unpack.ensures at c.before.before.before.before.before.before.before.before.before.before.before.before.before.before.before.before.before.before.count.ensures.0),
+        c.loop-i-test.true,
+        (rw c.unpack-e.ensures at c.count-n.ensures.0),
       ),
       omega (
         arith,
-        c.before.before.before.before.before.before.before.before.before.before.before.before.before.before.before.before.loop.invariant.1,
+        c.loop-i.invariant.1,
         z.0,
       ),
       z.1,
-      c.before.before.before.put2.auto.1.1.1.1.0 ∙ c.before.before.before.before.before.before.before.before.put.auto.1.1.1.0 ∙ c.before.before.before.before.before.before.before.before.before.before.before.before.before.before.before.before.loop.invariant.3,
-      λ X. (put_leaf (at_front t c.before.before.before.before.before.before X) c.before.before.before.before.before.if-kind-eq-INTEGER.true _ _ c.before.before.before.put2.ensures.0 c.before.before.before.put2.ensures.1).2,
+      c.put-at.auto.1.1.1.1.0 ∙ c.put-next.auto.1.1.1.0 ∙ c.loop-i.invariant.3,
+      λ X. (put_leaf (at_front t c.before.before.before.before.before.before X) c.if-r-2.true _ _ c.put-at.ensures.0 c.put-at.ensures.1).2,
     ))  -- put-members-loop-again
     (λ c κs.
-    let s = c.before.before.before.before.before.before.before.before.before.before.before.before.before.before.before.before.before.before.before.before in
-    let a = s.args in
-    let X = s.pre.1 in (
+    let a = c.args in
+    let X = c.pre.1 in (
       omega (
         arith,
         (put_near (at-member t c.before.before.before.before.before.before.before X)).0,
-        c.before.before.before.before.before.before.before.before.before.before.before.before.loop.invariant.1,
-        s.pre.0,
+        c.loop-i.invariant.1,
+        c.pre.0,
       ),
-      rw (← c.before.before.before.before.before.before.before.unpack2.ensures) (put_under (at_front t c.before.before X) (λ k. omega (
+      rw (← c.unpack-r.ensures) (put_under (at_front t c.before.before X) (λ k. omega (
         arith,
-        c.before.before.before.before.before.before.before.before.before.before.before.before.before.before.before.before.before.before.before.shared_slice_known-1.given k,
-      )) c.before.if-kind-eq-INTEGER.false),
+        c.shared_slice_known-1.given k,
+      )) c.if-r-2.false),
     ))  -- put-members-put-members-requires
     (λ c.
     omega (
       arith,
-      c.before.before.before.before.before.before.before.before.before.before.before.before.before.before.loop-test.true,
+      c.loop-i-test.true,
     ))  -- put-members-loop-less-2
     (λ c.
-    let s = c.before.before.before.before.before.before.before.before.before.before.before.before.before.before.before.before.before.before.before.before.before.before.before in
-    let a = s.args in
-    let X = s.pre.1 in
-    let e = rw (← c.before.before.before.before.before.before.before.before.before.before.unpack2.ensures) at c.before.before.put-members.ensures in
+    let a = c.args in
+    let X = c.pre.1 in
+    let e = rw (← c.unpack-r.ensures) at c.put_members-y.ensures in
     let z = put_built (at_front t c.before.before.before.before.before X) (λ k. omega (
       arith,
-      c.before.before.before.before.before.before.before.before.before.before.before.before.before.before.before.before.before.before.before.before.before.before.shared_slice_known-1.given k,
-    )) c.before.before.before.before.if-kind-eq-INTEGER.false _ _ (e (put_under (at_front t c.before.before.before.before.before X) (λ k. omega (
+      c.shared_slice_known-1.given k,
+    )) c.if-r-2.false _ _ (e (put_under (at_front t c.before.before.before.before.before X) (λ k. omega (
       arith,
-      c.before.before.before.before.before.before.before.before.before.before.before.before.before.before.before.before.before.before.before.before.before.before.shared_slice_known-1.given k,
-    )) c.before.before.before.before.if-kind-eq-INTEGER.false)) in (
+      c.shared_slice_known-1.given k,
+    )) c.if-r-2.false)) in (
       omega (
         arith,
-        c.before.before.before.before.before.before.before.before.before.before.before.before.before.before.loop-test.true,
-        (rw c.before.before.before.before.before.before.before.before.before.before.before.before.before.before.before.before.before.before.before.unpack.ensures at c.before.before.before.before.before.before.before.before.before.before.before.before.before.before.before.before.before.count.ensures.0),
+        c.loop-i-test.true,
+        (rw c.unpack-e.ensures at c.count-n.ensures.0),
       ),
       omega (
         arith,
-        c.before.before.before.before.before.before.before.before.before.before.before.before.before.before.before.loop.invariant.1,
+        c.loop-i.invariant.1,
         z.0,
       ),
       z.1,
-      c.before.before.put-members.auto.1.1.1.1.1.1.0 ∙ c.before.before.before.before.before.before.before.put.auto.1.1.1.0 ∙ c.before.before.before.before.before.before.before.before.before.before.before.before.before.before.before.loop.invariant.3,
+      c.put_members-y.auto.1.1.1.1.1.1.0 ∙ c.put-next.auto.1.1.1.0 ∙ c.loop-i.invariant.3,
       λ X. (put_built (at_front t c.before.before.before.before.before X) (λ k. omega (
         arith,
-        c.before.before.before.before.before.before.before.before.before.before.before.before.before.before.before.before.before.before.before.before.before.before.shared_slice_known-1.given k,
-      )) c.before.before.before.before.if-kind-eq-INTEGER.false _ _ (e (put_under (at_front t
+        c.shared_slice_known-1.given k,
+      )) c.if-r-2.false _ _ (e (put_under (at_front t
           c.before.before.before.before.before X) (λ k. omega (
             arith,
-            c.before.before.before.before.before.before.before.before.before.before.before.before.before.before.before.before.before.before.before.before.before.before.shared_slice_known-1.given k,
-          )) c.before.before.before.before.if-kind-eq-INTEGER.false))).2,
+            c.shared_slice_known-1.given k,
+          )) c.if-r-2.false))).2,
     ))  -- put-members-loop-again-2
-    (λ c. omega (arith, c.before.before.loop-test.true))  -- put-members-loop-less-3
+    (λ c. omega (arith, c.loop-i-test.true))  -- put-members-loop-less-3
     (λ c.
-    let s = c.before.before.before.before.before.before.before.before.before.before.before in
-    let a = s.args in
-    let X = s.requires.1 in (
+    let a = c.args in
+    let X = c.requires.1 in (
       omega (
         arith,
-        c.before.before.loop-test.true,
-        (rw c.before.before.before.before.before.before.before.unpack.ensures at c.before.before.before.before.before.count.ensures.0),
+        c.loop-i-test.true,
+        (rw c.unpack-e.ensures at c.count-n.ensures.0),
       ),
-      c.before.before.before.loop.invariant.1,
-      c.before.before.before.loop.invariant.2,
-      c.before.before.before.loop.invariant.3,
-      λ X. put_pass X _ _ _ _ (c.before.before.before.loop.invariant.4 X) (rw (← (rw c.before.before.before.before.before.before.before.unpack.ensures at c.before.before.before.before.before.count.ensures.0)) c.before.before.loop-test.true)
-          _ (rw c.before.before.before.before.before.before.before.unpack.ensures at c.before.below.ensures)
-          c.if-kind-eq-BOOLEAN.false,
+      c.loop-i.invariant.1,
+      c.loop-i.invariant.2,
+      c.loop-i.invariant.3,
+      λ X. put_pass X _ _ _ _ (c.loop-i.invariant.4 X) (rw (← (rw c.unpack-e.ensures at c.count-n.ensures.0)) c.loop-i-test.true)
+          _ (rw c.unpack-e.ensures at c.below-t.ensures)
+          c.if-t-lt256.false,
     ))  -- put-members-loop-again-3
-    (λ c. c.before.loop.invariant.3)  -- put-members-same-length
+    (λ c. c.loop-i.invariant.3)  -- put-members-same-length
     (λ c.
-    let s = c.before.before.before.before.before.before.before.before.before in
-    let a = s.args in
-    let X = s.requires.1 in
-    λ X. put_end_lem X _ _ _ _ (c.before.loop.invariant.4 X) c.before.loop.invariant.2 (omega (
+    let a = c.args in
+    let X = c.requires.1 in
+    λ X. put_end_lem X _ _ _ _ (c.loop-i.invariant.4 X) c.loop-i.invariant.2 (omega (
       arith,
-      (rw c.before.before.before.before.before.unpack.ensures at c.before.before.before.count.ensures.0),
-      c.loop-test.false,
+      (rw c.unpack-e.ensures at c.count-n.ensures.0),
+      c.loop-i-test.false,
     )) _ refl refl)  -- put-members-returns

@@ -13,14 +13,12 @@ put_spec = tie.close (tie.spec
     (λ c. search rules)  -- cast-whole
     (λ c κs. search rules)  -- whole-requires
     (λ c κs.
-    let s = c.before.before.before.before.before in
-    let a = s.args in
-    let q = s.requires in
-    whole_puts a.table.now a.index.now a.v.now a.notes.now q.0 a.t q.1 (unpacked c.before.whole.result) (ap (λ (x :
-    Entry). x.kind) c.before.whole.ensures) (ap (λ (x : Entry). x.own) c.before.whole.ensures) 24 q.2 q.3 a.buf-1.now q.4)  -- put-members-requires
+    let a = c.args in
+    let q = c.requires in
+    whole_puts a.table.now a.index.now a.v.now a.notes.now q.0 a.t q.1 (unpacked c.whole.result) (ap (λ (x :
+    Entry). x.kind) c.whole.ensures) (ap (λ (x : Entry). x.own) c.whole.ensures) 24 q.2 q.3 a.buf.now q.4)  -- put-members-requires
     (λ c. search rules)  -- same-length
     (λ c.
-    let s = c.before.before.before.before.before.before.before.before in
-    let a = s.args in
-    let q = s.requires in
-    whole_put a.table.now a.index.now a.v.now a.notes.now q.0 a.t q.1 (unpacked c.before.before.before.before.whole.result) (ap (λ (x : Entry). x.kind) c.before.before.before.before.whole.ensures) (ap (λ (x : Entry). x.own) c.before.before.before.before.whole.ensures) 24 q.2 q.3 a.buf-1.now q.4 _ _ (c.before.before.put_members.ensures (whole_puts a.table.now a.index.now a.v.now a.notes.now q.0 a.t q.1 (unpacked c.before.before.before.before.whole.result) (ap (λ (x : Entry). x.kind) c.before.before.before.before.whole.ensures) (ap (λ (x : Entry). x.own) c.before.before.before.before.whole.ensures) 24 q.2 q.3 a.buf-1.now q.4))))  -- returns
+    let a = c.args in
+    let q = c.requires in
+    whole_put a.table.now a.index.now a.v.now a.notes.now q.0 a.t q.1 (unpacked c.whole.result) (ap (λ (x : Entry). x.kind) c.whole.ensures) (ap (λ (x : Entry). x.own) c.whole.ensures) 24 q.2 q.3 a.buf.now q.4 _ _ (c.put_members.ensures (whole_puts a.table.now a.index.now a.v.now a.notes.now q.0 a.t q.1 (unpacked c.whole.result) (ap (λ (x : Entry). x.kind) c.whole.ensures) (ap (λ (x : Entry). x.own) c.whole.ensures) 24 q.2 q.3 a.buf.now q.4))))  -- returns
