@@ -14,7 +14,8 @@ use Rattle.ber.proofs.identifier.code_of.Lts as lts
 
 -- the leading octet without the number
 lead_is : (c : tie.Joined-constructed) → let a = c.args in c.if-constructed.lead ≡ a.class * 64 + bit a.constructed * 32
-lead_is c = ⊎_elim (λ w. rw w.0.taken w.1) (λ w. rw w.0.left (w.1 ∙ omega arith)) c.if-constructed.branch
+lead_is c =
+    elim c.if-constructed.branch [ lts.then-constructed w ↦ rw w.if-constructed.true w.lead-is | lts.else-constructed w ↦ rw w.if-constructed.false (w.lead-is ∙ omega arith) ]
 
 pub code_of_spec : {M : Type 1} → statement M
 code_of_spec =
