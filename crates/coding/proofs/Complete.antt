@@ -141,6 +141,7 @@ module _ (o : Order) (T : Table) (good : Good T) (E : Coding) (Q : Value → Val
       (x.value ∷ ws, not_end mode (flat ps tail) _ _ (starts_here [] (starts e)) ∙ simp (run, begun_yes (flat ps tail) (starts e), x.answer) (rw append_snoc at y), cons x.alike q)
 
   starts_any : {ms : List Member} {us os : List (Option Value)} {p : List ℕ} {ps qs : List (List ℕ)} → Pending E Q ms us os ps → Sel p ps qs → StartsAny T (types ms) p
+  starts_any p_done s = elim s [ ]
   starts_any (p_left {m = m} d) s = starts_there m.type (starts_any d s)
   starts_any (p_have {m = m} q d) s = starts_there m.type (starts_any d s)
   starts_any (p_sent {m = m} {ms = ms} e d) here = starts_here (types ms) (starts e)
@@ -150,6 +151,7 @@ module _ (o : Order) (T : Table) (good : Good T) (E : Coding) (Q : Value → Val
       → Distinct T (types ms) → Pending E Q ms us os ps → Sel p ps qs
       → (ws : List (Option Value)) × (place_member T r ms us (p ++ s) ≡ got ws s) × Pending E Q ms ws os qs
   unfolding place_member Distinct
+  place_complete ms s d p_done c = elim c [ ]
   place_complete ms s d (p_left {m = m} {ms = ms'} p) c =
       let (ws, e, x) = place_complete ms' s d.1 p c in
       (none ∷ ws, simp (run, begun_no m.type s d.0 (starts_any p c), e), p_left x)
@@ -177,6 +179,7 @@ module _ (o : Order) (T : Table) (good : Good T) (E : Coding) (Q : Value → Val
 
   not_full : {ms : List Member} {us os : List (Option Value)} {p : List ℕ} {ps qs : List (List ℕ)} → Pending E Q ms us os ps → Sel p ps qs → full us ≡ false
   unfolding full
+  not_full p_done s = elim s [ ]
   not_full (p_left d) s = refl
   not_full (p_sent e d) s = refl
   not_full (p_have q d) s = not_full d s
@@ -230,7 +233,7 @@ module _ (o : Order) (T : Table) (good : Good T) (E : Coding) (Q : Value → Val
       let (us, y, q) = sequence_complete ms' (acc ++ (some x.value ∷ [])) false tail u d.1 p a z in
       (some x.value ∷ us, simp (run, begun_yes (flat ps tail) (starts e), x.answer) (rw append_snoc at y), cons x.alike q)
 
-  choose_complete : (ts : List ℕ) (k : ℕ) {t n : ℕ} {v : Value} {m : List ℕ} (s : List ℕ) → Distinct T ts → At t ts n → E t v m
+  choose_complete : {t : ℕ} (ts : List ℕ) (k : ℕ) {n : ℕ} {v : Value} {m : List ℕ} (s : List ℕ) → Distinct T ts → At t ts n → E t v m
       → (w : Value) × (choose T r ts k (m ++ s) ≡ got (choice (k + n) w) s) × Q v w
   unfolding choose Distinct
   choose_complete ts k s d first e = let x = reads s e in (x.value, simp (run, begun_yes s (starts e), x.answer, add-zero), x.alike)

@@ -278,7 +278,7 @@ module _ (T : Table) (t : ℕ) (v buf : List ℕ) where
       → WriteStage T t v buf (after_judging (form_at T levels t) v buf x)
   unfolding after_judging
   after_judged o h (refused c l) e (names q) =
-      WriteStage.refused-at c (length v - l) (as_judged l h q e refl) refl
+      WriteStage.refused_at c (length v - l) (as_judged l h q e refl) refl
   after_judged o h (got w r) e q =
       let s = got_holds (judge_whole_lem T levels t v (all_octets v o)) e in
       let f = form_at T levels t w in
@@ -317,7 +317,7 @@ module _ (T : Table) (t : ℕ) (v buf : List ℕ) where
   pub write_stage : Octets v → WriteStage T t v buf (writing T t v buf)
   write_stage o =
       if_cases (WriteStage T t v buf) (not (leb (length v) longest_value)) _ _
-      (λ f. WriteStage.refused-at ValueShape 0 (over_long (leb-false (length v) longest_value (not-true _ f)) refl refl) refl)
+      (λ f. WriteStage.refused_at ValueShape 0 (over_long (leb-false (length v) longest_value (not-true _ f)) refl refl) refl)
       λ f. after_judged o (leb-true (length v) longest_value (not-false _ f)) (judge_whole T levels t v) refl (whole_says T levels t v (all_octets v o))
 
   write_within : length v ≤ longest_value → (x : Answer JudgingCause Value) → judge_whole T levels t v ≡ x → writing T t v buf ≡ after_judging (form_at T levels t) v buf x
@@ -333,7 +333,7 @@ module _ (T : Table) (t : ℕ) (v buf : List ℕ) where
   judged_exactly o c p = (λ e. from (write_stage o) e, write_refuses c p)
     where
       from : {x : Outcome} → WriteStage T t v buf x → x ≡ refuse (of_value (value_cause c p)) buf → ValueRefused T t v c p
-      from (WriteStage.refused-at d q x z) e = let s = same_value d c q p (of_one_value (sym z ∙ e)) in rw (← s.0, ← s.1) x
+      from (WriteStage.refused_at d q x z) e = let s = same_value d c q p (of_one_value (sym z ∙ e)) in rw (← s.0, ← s.1) x
       from (WriteStage.no_room x z) e = absurd (not_message_room c p (sym (of_one_value (sym z ∙ e))))
       from (is_written j after x z) e = done≢refusal (answers (sym z ∙ e))
 
@@ -390,7 +390,7 @@ module _ (T : Table) (t : ℕ) (v buf : List ℕ) (o : Octets v) where
   full_exactly = (λ e. from (write_stage T t v buf o) e, to)
     where
       from : {x : Outcome} → WriteStage T t v buf x → x ≡ refuse (of_value MessageRoom) buf → NoRoomForMessage T t v buf
-      from (WriteStage.refused-at d q x z) e = absurd (not_message_room d q (of_one_value (sym z ∙ e)))
+      from (WriteStage.refused_at d q x z) e = absurd (not_message_room d q (of_one_value (sym z ∙ e)))
       from (WriteStage.no_room x z) e = x
       from (is_written j after x z) e = done≢refusal (answers (sym z ∙ e))
 
@@ -407,7 +407,7 @@ module _ (T : Table) (t : ℕ) (v buf : List ℕ) (o : Octets v) where
       refused_done z e = done≢refusal (ap (λ (o : Outcome). o.answer) (sym e ∙ z))
 
       from : {x : Outcome} → WriteStage T t v buf x → x ≡ record { answer = done k; buffer = after } → Wrote T t v buf k after
-      from (WriteStage.refused-at d q x z) e = refused_done z e
+      from (WriteStage.refused_at d q x z) e = refused_done z e
       from (WriteStage.no_room x z) e = refused_done z e
       from (is_written j w x z) e = let q = sym z ∙ e in rw (← same_length q, ← same_buffer q) x
 

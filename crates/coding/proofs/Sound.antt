@@ -90,11 +90,16 @@ pub data Pending (E : Coding) (Q : Value → Value → Type 0) : List Member →
   p_have : {m : Member} {ms : List Member} {us os : List (Option Value)} {v w : Value} {ps : List (List ℕ)}
       → Q v w → Pending E Q ms us os ps → Pending E Q (m ∷ ms) (some w ∷ us) (some v ∷ os) ps
 
-pub pending_nothing : {E : Coding} {Q : Value → Value → Type 0} {ms : List Member} {os : List (Option Value)} {ps : List (List ℕ)} → Pending E Q ms (nothing ms) os ps → Pieces E ms os ps
+pending_none : {E : Coding} {Q : Value → Value → Type 0} {ms : List Member} {us os : List (Option Value)} {ps : List (List ℕ)}
+    → Pending E Q ms us os ps → us ≡ nothing ms → Pieces E ms os ps
 unfolding nothing
-pending_nothing {ms = []} p_done = done
-pending_nothing {ms = m ∷ ms} (p_left p) = left (pending_nothing p)
-pending_nothing {ms = m ∷ ms} (p_sent e p) = sent e (pending_nothing p)
+pending_none p_done i = done
+pending_none (p_left p) i = left (pending_none p cc)
+pending_none (p_sent e p) i = sent e (pending_none p cc)
+pending_none (p_have q p) i = absurd cc
+
+pub pending_nothing : {E : Coding} {Q : Value → Value → Type 0} {ms : List Member} {os : List (Option Value)} {ps : List (List ℕ)} → Pending E Q ms (nothing ms) os ps → Pieces E ms os ps
+pending_nothing p = pending_none p refl
 
 all_there : {E : Coding} (ms : List Member) (os : List (Option Value)) → allowed ms os ≡ true → Pending E ◌≡◌ ms os os []
 unfolding allowed

@@ -47,7 +47,7 @@ placed e h = rw e h
 
 read_place : (T : Table) (t : ℕ) (m buf : List ℕ) {x : Outcome} → ReadStage T t m buf x → low_part x.answer < 65536
 read_place T t m buf (too_long_lem h e) = placed (ap (λ (o : Outcome). o.answer) e) (omega arith)
-read_place T t m buf (ReadStage.refused-at c p x e) = placed (ap (λ (o : Outcome). o.answer) e) (omega (arith, message_place c p, x.place, x.within))
+read_place T t m buf (ReadStage.refused_at c p x e) = placed (ap (λ (o : Outcome). o.answer) e) (omega (arith, message_place c p, x.place, x.within))
 read_place T t m buf (ReadStage.no_room x e) = placed (ap (λ (o : Outcome). o.answer) e) (omega arith)
 read_place T t m buf (is_read k after x e) = placed (ap (λ (o : Outcome). o.answer) e) (omega (arith, x.its_length, x.short))
 
@@ -56,7 +56,7 @@ judged_place T t v c p (over_long h q r) = omega arith
 judged_place T t v c p (as_judged l h g e r) = omega arith
 
 write_place : (T : Table) (t : ℕ) (v buf : List ℕ) {x : Outcome} → WriteStage T t v buf x → low_part x.answer < 65536
-write_place T t v buf (WriteStage.refused-at c p x e) = placed (ap (λ (o : Outcome). o.answer) e) (omega (arith, value_place c p, judged_place T t v c p x))
+write_place T t v buf (WriteStage.refused_at c p x e) = placed (ap (λ (o : Outcome). o.answer) e) (omega (arith, value_place c p, judged_place T t v c p x))
 write_place T t v buf (WriteStage.no_room x e) = placed (ap (λ (o : Outcome). o.answer) e) (omega arith)
 write_place T t v buf (is_written k after x e) = placed (ap (λ (o : Outcome). o.answer) e) (omega (arith, x.its_length, x.within))
 

@@ -231,6 +231,8 @@ module _ {b : List ℕ} {p : ℕ} where
   part_owned (sequence_of_lem l) j h = omega arith
   part_owned (set_of_lem l) j h = omega arith
   part_owned (choice c) j h = omega arith
+  part_owned utc_time j h = elim h [ ]
+  part_owned generalized_time j h = elim h [ ]
 
 -- the tags, one by one
 tags_at_lem : (b : List ℕ) (p n : ℕ) (d : Tag) (j : ℕ) → j < n → tag_at b (p + 3 * j) ≡ get_or (tags_at b p n) j d

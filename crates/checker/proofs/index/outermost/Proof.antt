@@ -22,7 +22,7 @@ outermost_spec =
       ne_eqb _ _ c.if-tags-eq0.false,
       lt-ltb _ _
           c.if-tags-gt1.true,
-      c.code_of_lem.ensures.0,
+      c.code_of.ensures.0,
       c.octet-class.ensures.0,
       c.two-n.ensures.0,
     ))  -- returns-2

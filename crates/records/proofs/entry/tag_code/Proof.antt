@@ -7,6 +7,7 @@ use lib.Dec.{ltb}
 use borrow.Author.Rules.{rules}
 use borrow.Author.Tests.{lt-ltb, le-ltb}
 use Rattle.records.proofs.entry.tag_code.Statement.{statement}
+use Rattle.records.proofs.entry.tag_code.Lts as lts
 use Rattle.records.proofs.entry.tag_code.Tie as tie
 
 pub tag_code_spec : {M : Type 1} → statement M
@@ -24,10 +25,9 @@ tag_code_spec =
     (λ c.
     let a = c.args in
     let e : c.if-j-e.constructed ≡ (ltb a.j a.e.explicit || not a.e.simple) =
-    ⊎_elim (λ w. w.1 ∙ rw (lt-ltb a.j a.e.explicit w.0.taken)) (λ w. w.2 ∙ rw (le-ltb a.j a.e.explicit w.0.left))
-    c.if-j-e.branch in
+    elim c.if-j-e.branch [ lts.then-j-e w ↦ w.constructed-is ∙ rw (lt-ltb a.j a.e.explicit w.if-j-e.true) | lts.else-j-e w ↦ w.constructed-is ∙ rw (le-ltb a.j a.e.explicit w.if-j-e.false) ] in
     rw (
-      c.code_of_lem.ensures.0,
+      c.code_of.ensures.0,
       c.octet-class.ensures.0,
       c.two-n.ensures.0,
       c.tag_place-p.ensures.0,
