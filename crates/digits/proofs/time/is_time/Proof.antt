@@ -27,4 +27,4 @@ is_time_spec =
     let size = c.size-n.ensures in
     let a = c.args in
     let z = ap (λ (i : ℕ). get_or a.c.now (i - 1) 0) (sym size) ∙ c.if-c-last-ne90.false in
-    c.ranged.ensures ∙ ap (in_range a.kind) c.of.ensures.0 ∙ told a.kind a.c.now (c.if-c-n.false ∙ size) z))  -- returns-3
+    c.in_range.ensures ∙ ap (in_range a.kind) c.of.ensures.0 ∙ told a.kind a.c.now (c.if-c-n.false ∙ size) z))  -- returns-3
