@@ -14,10 +14,12 @@ use Rattle.simple.proofs.integer.size.Reads as reads
 use Rattle.simple.proofs.integer.size.Lts as lts
 
 -- n is z, or its complement
-number : (c : lts.Joined-z-lt0 reads.Pre reads.Post) → to_z w64 c.if-z-lt0.n ≡ pos (mag c.args.z)
+number : (c : lts.Joined-z-lt0 reads.Pre reads.Post) → to_z w64 c.if-z-lt0.n-bits ≡ pos (mag c.args.z)
 number c =
-    ⊎_elim (λ w. ap (to_z w64) w.1 ∙ bits_neg c.args.z c.ranges.z w.0.taken)
-    (λ w. ap (to_z w64) w.1 ∙ bits_pos c.args.z c.ranges.z w.0.left) c.if-z-lt0.branch
+    elim c.if-z-lt0.branch [
+      lts.then-z-lt0 w ↦ w.n-is ∙ bits_neg c.args.z c.ranges.z w.if-z-lt0.true |
+      lts.else-z-lt0 w ↦ w.n-is ∙ bits_pos c.args.z c.ranges.z w.if-z-lt0.false
+    ]
 
 pub size_spec : {M : Type 1} → statement M
 size_spec =
