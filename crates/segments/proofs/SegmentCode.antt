@@ -240,21 +240,19 @@ module _ {k : Kind} {m : List ℕ} {d : ℕ} (B : Begun k m d) where
   one_less : d ≡ suc (d - 1)
   one_less = omega (arith, B.deep)
 
-  is_constructed : not B.constructed ≡ false
+  is_constructed : B.constructed ≡ true
       → read_segment k d m ≡ then (read_length (length m) (drop B.from m)) (inside λ mode u. read_all k (read_segment k (d - 1)) mode u)
   unfolding read_segment read_constructed if
-  is_constructed q =
-      let e = not-false B.constructed q in
+  is_constructed e =
       let x : passes (same (segment_tag k true)) (read_identifier m) ≡ true = heads_is ∙ e in
       let y : read_header (segment_tag k true) m ≡ read_length (length m) (drop B.from m) = rw e at header_is in
       ap (λ (i : ℕ). read_segment k i m) one_less ∙ rw (x, y) refl
 
-  is_primitive : not B.constructed ≡ true → read_segment k d m ≡
+  is_primitive : B.constructed ≡ false → read_segment k d m ≡
       then (then (read_length (length m) (drop B.from m)) (contents (length m))) λ c u.
       if (not (in_form k c)) (refused Contents (length m)) λ _. got (c, length m - length u) u
   unfolding read_segment read_primitive if
-  is_primitive q =
-      let e = not-true B.constructed q in
+  is_primitive e =
       let x : passes (same (segment_tag k true)) (read_identifier m) ≡ false = heads_is ∙ e in
       let y : read_header (segment_tag k false) m ≡ read_length (length m) (drop B.from m) = rw e at header_is in
       ap (λ (i : ℕ). read_segment k i m) one_less ∙ rw (x, y) refl
@@ -264,7 +262,7 @@ module _ {k : Kind} {m : List ℕ} {d : ℕ} (B : Begun k m d) where
     unfolding told_segments then
     segment_unread {f} e =
         let l = length_refused m B.from (length m) x (a (length m)) f e in
-        test (not B.constructed) (λ q. rw (is_primitive q, l) refl) λ q. rw (is_constructed q, l) refl
+        test B.constructed (λ q. rw (is_constructed q, l) refl) λ q. rw (is_primitive q, l) refl
 
     module _ {y : Extent} (g : x ≡ ReadLength y) where
       sized_at : y.indefinite ≡ false
@@ -279,11 +277,11 @@ module _ {k : Kind} {m : List ℕ} {d : ℕ} (B : Begun k m d) where
       segment_part =
           test y.indefinite (λ e. let (p, i, j) = open_at e in (omega arith, omega arith)) λ e. let (p, i, j) = sized_at e in (i, j)
 
-      pub segment_open : not B.constructed ≡ true → y.indefinite ≡ true → Refused Forbidden (length m) ≡ told_segments k (length m) (read_segment k d m)
+      pub segment_open : B.constructed ≡ false → y.indefinite ≡ true → Refused Forbidden (length m) ≡ told_segments k (length m) (read_segment k d m)
       unfolding told_segments then contents
       segment_open q e = rw (is_primitive q, (open_at e).0) refl
 
-      pub segment_whole : not B.constructed ≡ true → y.indefinite ≡ false → {r : Segments} → r ≡ told_primitive k (part m y) y.end (length m)
+      pub segment_whole : B.constructed ≡ false → y.indefinite ≡ false → {r : Segments} → r ≡ told_primitive k (part m y) y.end (length m)
           → r ≡ told_segments k (length m) (read_segment k d m)
       unfolding told_segments told_primitive then contents if
       segment_whole q e v =
@@ -296,7 +294,7 @@ module _ {k : Kind} {m : List ℕ} {d : ℕ} (B : Begun k m d) where
       abbrev inner : Answer ReadingCause Gathered
       inner = read_all k (read_segment k (d - 1)) (mode y.indefinite) (part m y)
 
-      module _ (q : not B.constructed ≡ false) {z : Segments} (v : z ≡ told_segments k (length (part m y)) inner) where
+      module _ (q : B.constructed ≡ true) {z : Segments} (v : z ≡ told_segments k (length (part m y)) inner) where
         part_size : length (part m y) ≡ y.end - y.start
         part_size = let (i, j) = segment_part in length-take-le (y.end - y.start) (drop y.start m) (omega (arith, length-drop y.start m))
 

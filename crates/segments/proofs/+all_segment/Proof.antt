@@ -96,7 +96,7 @@ begun t c =
       from = c.args.from;
       constructed = c.args.constructed;
       is = c.requires.1;
-      deep = c.if-unused-gt0.false;
+      deep = c.if-depth-eq0.false;
     }
 
 pub +all_segment_spec : {M : Type 1} → statement M
@@ -170,34 +170,34 @@ pub +all_segment_spec : {M : Type 1} → statement M
     segment.Post
     (λ c κs. search rules)  -- segment-refused-requires
     (λ c.
-    c.refused.ensures ∙ segment_deep (kind_of c.args.bits) c.args.m.now _ c.if-unused-gt0.true)  -- segment-returns
+    c.refused.ensures ∙ segment_deep (kind_of c.args.bits) c.args.m.now _ c.if-depth-eq0.true)  -- segment-returns
     (λ c κs. search rules)  -- segment-read-requires
     (λ c. search rules)  -- segment-enum-known-cause
     (λ c κs. search rules)  -- segment-refused-requires-2
     (λ c. search rules)  -- segment-enum-known-x
     (λ c.
-    (segment_part (begun t c.before.before.before.before) c.read.ensures.0 c.in-Read-segment.is).0)  -- segment-sub-c
+    (segment_part (begun t c.before.before) c.read.ensures.0 c.in-Read.is).0)  -- segment-sub-c
     (λ c.
-    omega (arith, segment_part (begun t c.before.before.before.before) c.read.ensures.0 c.in-Read-segment.is))  -- segment-part-c-start
+    omega (arith, segment_part (begun t c.before.before) c.read.ensures.0 c.in-Read.is))  -- segment-part-c-start
     (λ c.
-    (segment_part (begun t c.before.before.before.before) c.read.ensures.0 c.in-Read-segment.is).1)  -- segment-part-c-end
+    (segment_part (begun t c.before.before) c.read.ensures.0 c.in-Read.is).1)  -- segment-part-c-end
     (λ c κs. search rules)  -- segment-refused-requires-3
     (λ c.
-    c.refused-then-unused-gt0.ensures ∙ segment_open (begun t c.before.before.before.before.before.before.before.before) c.read.ensures.0 c.in-Read-segment.is c.if-not-constructed.true c.if-x.true)  -- segment-returns-2
+    c.refused-then-x.ensures ∙ segment_open (begun t c.before.before.before.before.before.before) c.read.ensures.0 c.in-Read.is c.if-not-constructed.true c.if-x.true)  -- segment-returns-2
     (λ c κs. search rules)  -- segment-primitive-requires
     (λ c.
-    segment_whole (begun t c.before.before.before.before.before.before.before.before) c.read.ensures.0 c.in-Read-segment.is c.if-not-constructed.true c.if-x.false c.primitive.ensures)  -- segment-returns-3
-    (λ c. omega (arith, c.if-unused-gt0.false))  -- segment-sub-all
+    segment_whole (begun t c.before.before.before.before.before.before) c.read.ensures.0 c.in-Read.is c.if-not-constructed.true c.if-x.false c.primitive.ensures)  -- segment-returns-3
+    (λ c. omega (arith, c.if-depth-eq0.false))  -- segment-sub-all
     (λ c κs.
-    (omega (arith, c.requires.0, c.if-unused-gt0.false), tt))  -- segment-all-requires
+    (omega (arith, c.requires.0, c.if-depth-eq0.false), tt))  -- segment-all-requires
     (λ c. search rules)  -- segment-enum-known-cause-2
     (λ c.
-    (segment_part (begun t c.before.before.before.before.before.before.before.before.before.before) c.read.ensures.0 c.in-Read-segment.is).1)  -- segment-sub-refused
+    (segment_part (begun t c.before.before.before.before.before.before) c.read.ensures.0 c.in-Read.is).1)  -- segment-sub-refused
     (λ c.
     omega (
       arith,
-      (segment_refused (begun t c.before.before.before.before.before.before.before.before.before.before) c.read.ensures.0 c.in-Read-segment.is c.if-not-constructed.false c.all.ensures
-          c.in-Refused.is).0,
+      (segment_refused (begun t c.before.before.before.before.before.before) c.read.ensures.0 c.in-Read.is c.if-not-constructed.false c.all.ensures
+          c.in-Refused-all.is).0,
       c.well_formed,
     ))  -- segment-add-refused
     (λ c κs. search rules)  -- segment-refused-requires-4
@@ -205,14 +205,14 @@ pub +all_segment_spec : {M : Type 1} → statement M
     (λ c.
     omega (
       arith,
-      (segment_read (begun t c.before.before.before.before.before.before.before.before.before.before.before) c.read.ensures.0 c.in-Read-segment.is c.if-not-constructed.false c.all.ensures
+      (segment_read (begun t c.before.before.before.before.before.before.before) c.read.ensures.0 c.in-Read.is c.if-not-constructed.false c.all.ensures
           c.in-Read-all.is).0,
       c.well_formed,
     ))  -- segment-add-t29
     (λ c.
-    c.refused-in-Refused.ensures ∙ segment_unread (begun t c.before.before.before.before.before) c.read.ensures.0 c.in-Broken.is)  -- segment-returns-4
+    c.refused-in-Refused.ensures ∙ segment_unread (begun t c.before.before.before) c.read.ensures.0 c.in-Refused.is)  -- segment-returns-4
     (λ c.
-    c.refused-in-Refused-segment.ensures ∙ (segment_refused (begun t c.before.before.before.before.before.before.before.before.before.before.before) c.read.ensures.0 c.in-Read-segment.is c.if-not-constructed.false c.all.ensures
-    c.in-Refused.is).1)  -- segment-returns-5
+    c.refused-in-Refused-all.ensures ∙ (segment_refused (begun t c.before.before.before.before.before.before.before) c.read.ensures.0 c.in-Read.is c.if-not-constructed.false c.all.ensures
+    c.in-Refused-all.is).1)  -- segment-returns-5
     (λ c.
-    (segment_read (begun t c.before.before.before.before.before.before.before.before.before.before.before) c.read.ensures.0 c.in-Read-segment.is c.if-not-constructed.false c.all.ensures c.in-Read-all.is).1)  -- segment-returns-6
+    (segment_read (begun t c.before.before.before.before.before.before.before) c.read.ensures.0 c.in-Read.is c.if-not-constructed.false c.all.ensures c.in-Read-all.is).1)  -- segment-returns-6

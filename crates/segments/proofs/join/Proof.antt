@@ -102,7 +102,7 @@ join_spec =
       j,
       c.loop-at.invariant.1,
       omega (arith, c.loop-at.invariant.2),
-      c.put_carried-next.auto.1.1.0 ∙ c.loop-at.invariant.3,
+      c.put_carried-next.auto.buf ∙ c.loop-at.invariant.3,
       joins_added c.loop-at.invariant.4
           c.loop-at.invariant.1 c.loop-at-test.true c.if-first-eq0.false c.read.ensures.0 c.in-Read.is c.if-first-ge32.false c.put_carried-next.ensures.0
           c.put_carried-next.ensures.1 c.unused_in-unused.ensures,

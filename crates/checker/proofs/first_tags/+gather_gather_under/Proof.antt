@@ -127,16 +127,16 @@ pub +gather_gather_under_spec : {M : Type 1} → statement M
     ))  -- gather-under-gather-requires
     (λ c. under_met _ _ _ _ _ _ _ c.loop-left.invariant.3 _ c.loop-left-test.true
     c.octet-a.ensures.0 c.loop-left.invariant.1
-    (rw (going_mark c.loop-left.invariant.3) at c.gather.ensures) c.if-f-mark.true)  -- gather-under-returns
+    (rw (going_mark c.loop-left.invariant.3) at c.gather.ensures) c.if-gather.true)  -- gather-under-returns
     (λ c. omega (arith, c.loop-left.invariant.2))  -- gather-under-add-at
     (λ c. omega (arith, c.loop-left-test.true))  -- gather-under-sub-left
     (λ c. omega (arith, c.loop-left-test.true))  -- gather-under-loop-less
     (λ c. (
-      same_size (c.gather.ensures.walked c.if-f-mark.false) ∙ c.loop-left.invariant.0,
+      same_size (c.gather.ensures.walked c.if-gather.false) ∙ c.loop-left.invariant.0,
       omega (arith, c.loop-left.invariant.1, c.gather.ensures.fewer),
       omega (arith, c.loop-left.invariant.2, c.loop-left-test.true),
       next_turn 1 _ _ _ _ c.loop-left.invariant.3 c.loop-left-test.true
           c.octet-a.ensures.0
-          (rw (going_mark c.loop-left.invariant.3) at c.gather.ensures) c.if-f-mark.false,
+          (rw (going_mark c.loop-left.invariant.3) at c.gather.ensures) c.if-gather.false,
     ))  -- gather-under-loop-again
     (λ c. under_done _ _ _ _ _ _ _ c.loop-left.invariant.3 c.loop-left-test.false c.loop-left.invariant.1)  -- gather-under-returns-2

@@ -349,13 +349,13 @@ judge-value-claims t = (
 )
 
 -- where the tags are opened
-abbrev at-notes : (t : ℕ) (c : judge_value_lts.Joined-e-gt0 (judge-value-claims t) (judge-value-at t) judge_value.Post) → length c.if-j-s.notes ≡ 4
-at-notes t c = ⊎_elim (λ z. rw z.6 z.2.ensures.0) (λ z. rw z.1 refl) c.if-j-s.branch
+abbrev at-notes : (t : ℕ) (c : judge_value_lts.Joined-e-gt0 (judge-value-claims t) (judge-value-at t) judge_value.Post) → length c.if-e-gt0.notes ≡ 4
+at-notes t c = ⊎_elim (λ z. rw z.6 z.2.ensures.0) (λ z. rw z.1 refl) c.if-e-gt0.branch
 
 abbrev at_under : (t : ℕ) (c : judge_value_lts.Joined-e-gt0 (judge-value-claims t) (judge-value-at t) judge_value.Post) →
     let a = c.args in
-    Under a.table.now (record_of a.table.now a.w) a.m.now a.at (take (unpacked a.w).explicit c.if-j-s.notes)
-    c.if-j-s.at c.if-j-s.from c.if-j-s.end
+    Under a.table.now (record_of a.table.now a.w) a.m.now a.at (take (unpacked a.w).explicit c.if-e-gt0.notes)
+    c.if-e-gt0.at c.if-e-gt0.from c.if-e-gt0.end
 at_under t c =
     let a = c.args in
     let q = c.requires.1 in
@@ -364,7 +364,7 @@ at_under t c =
     (λ z. rw (z.6, z.7, z.8, z.9)
     (under_tags q.ready q.is a.m.now a.at _ z.2.result z.2.ensures.1 z.4.given.0.0 z.4.given.1))
     (λ z. rw (z.1, z.2, z.3, z.4) (under_bare q.ready q.is u.result u.ensures a.m.now a.at a.from z.0.left q.headed _))
-    c.if-j-s.branch
+    c.if-e-gt0.branch
 
 abbrev at_item : (t : ℕ) (c : judge_value_lts.Joined-e-gt0 (judge-value-claims t) (judge-value-at t) judge_value.Post) →
     let a = c.args in Item a.table.now a.index.now a.w a.m.now a.at a.level
@@ -378,25 +378,25 @@ at_item t c =
       short = q.short;
       entry = u.result;
       entered = u.ensures;
-      notes = c.if-j-s.notes;
+      notes = c.if-e-gt0.notes;
       four = at-notes t c;
-      at = c.if-j-s.at;
-      from = c.if-j-s.from;
-      end = c.if-j-s.end;
+      at = c.if-e-gt0.at;
+      from = c.if-e-gt0.from;
+      end = c.if-e-gt0.end;
       under = at_under t c;
     }
 
 -- where the length is read
 abbrev at-contents : (t : ℕ) (c : judge_value_lts.Joined-e-ne-CHOICE (judge-value-claims t) (judge-value-at t) judge_value.Post) →
     let a = c.args in
-    let x = c.if-j-s in
-    Within (record_of a.table.now a.w) (take x.end a.m.now) x.at x.end c.if-came-j-eq0.start c.if-came-j-eq0.stop c.if-came-j-eq0.indefinite
+    let x = c.if-e-gt0 in
+    Within (record_of a.table.now a.w) (take x.end a.m.now) x.at x.end c.if-e-ne-CHOICE.start c.if-e-ne-CHOICE.stop c.if-e-ne-CHOICE.indefinite
 at-contents t c =
     let x = at_item t c.before.before.before.before in
     ⊎_elim
     (λ z. rw (z.5, z.6, z.7) (contents_sized x z.0.taken z.1.result (z.1.ensures.0 _) z.3.given.0.0 z.3.given.1))
     (λ z. rw (z.1, z.2, z.3) (contents_bare x z.0.left))
-    c.if-came-j-eq0.branch
+    c.if-e-ne-CHOICE.branch
 
 abbrev at-filling : (t : ℕ) (c : judge_value_lts.Joined-e-ne-CHOICE (judge-value-claims t) (judge-value-at t) judge_value.Post) →
     let a = c.args in
@@ -404,17 +404,17 @@ abbrev at-filling : (t : ℕ) (c : judge_value_lts.Joined-e-ne-CHOICE (judge-val
 at-filling t c =
     record {
       item = at_item t c.before.before.before.before;
-      start = c.if-came-j-eq0.start;
-      stop = c.if-came-j-eq0.stop;
-      indefinite = c.if-came-j-eq0.indefinite;
+      start = c.if-e-ne-CHOICE.start;
+      stop = c.if-e-ne-CHOICE.stop;
+      indefinite = c.if-e-ne-CHOICE.indefinite;
       within = at-contents t c;
     }
 
 -- where the contents are judged
 abbrev at_over : (t : ℕ) (c : judge_value_lts.Joined-e (judge-value-claims t) (judge-value-at t) judge_value.Post) →
     let a = c.args in
-    let x = c.if-j-s in
-    Over a.table.now (record_of a.table.now a.w) a.level (take x.end a.m.now) x.at x.end c.if-not-fits.stop c.if-not-fits.size
+    let x = c.if-e-gt0 in
+    Over a.table.now (record_of a.table.now a.w) a.level (take x.end a.m.now) x.at x.end c.if-e.stop c.if-e.size
 at_over t c =
     let y = at-filling t c.before in
     ⊎_elim
@@ -429,7 +429,7 @@ at_over t c =
     (λ z. rw (z.10, z.11)
     (over_items y z.0.left z.5.result z.5.ensures.1 z.7.given.0.0 z.7.given.0.1.0 z.7.given.1))
     v)
-    c.if-not-fits.branch
+    c.if-e.branch
 
 abbrev at_ended : (t : ℕ) (c : judge_value_lts.Joined-e (judge-value-claims t) (judge-value-at t) judge_value.Post) →
     let a = c.args in
@@ -437,15 +437,15 @@ abbrev at_ended : (t : ℕ) (c : judge_value_lts.Joined-e (judge-value-claims t)
 at_ended t c =
     record {
       item = at_item t c.before.before.before.before.before;
-      stop = c.if-not-fits.stop;
-      count = c.if-not-fits.size;
+      stop = c.if-e.stop;
+      count = c.if-e.size;
       over = at_over t c;
     }
 
-abbrev at-way : (t : ℕ) (c : judge_value_lts.Joined-e (judge-value-claims t) (judge-value-at t) judge_value.Post) → length c.if-not-fits.way ≡ 128
+abbrev at-way : (t : ℕ) (c : judge_value_lts.Joined-e (judge-value-claims t) (judge-value-at t) judge_value.Post) → length c.if-e.way ≡ 128
 at-way t c =
     let w = c.requires.1.ways in
-    ⊎_elim (λ z. rw z.11 w) (λ v. ⊎_elim (λ z. rw z.6 w) (λ z. rw z.9 z.5.ensures.0) v) c.if-not-fits.branch
+    ⊎_elim (λ z. rw z.11 w) (λ v. ⊎_elim (λ z. rw z.6 w) (λ z. rw z.9 z.5.ensures.0) v) c.if-e.branch
 
 -- the half of `judge_value`
 judge-value-half : {M : Type 1} (t : ℕ) → judge_value_lts.Closed (judge-value-claims t) (judge-value-at t) judge_value.Post M
@@ -460,7 +460,7 @@ judge-value-half t =
       c.args.index.now,
       q.ready,
       q.is,
-      rw c.unpack-e.ensures at c.if-j-s.true,
+      rw c.unpack-e.ensures at c.if-e-gt0.true,
       q.headed,
       q.short,
       refl,
@@ -482,9 +482,9 @@ judge-value-half t =
     (λ c. search rules)  -- judge-value-enum-known-cause-2
     (λ c κs. tt)  -- judge-value-refused-requires-2
     (λ c.
-    let f = c.cause-in-Refused-search-1.given in (
+    let f = c.cause-in-Refused-read-1.given in (
       c.requires.1.ways,
-      c.refused-in-Refused-search.ensures ∙ value_unread (at_item t c.before.before.before.before.before.before.before.before.before) c.if-came-j-eq0.true _ (c.read.ensures.0 _) f.0.0 f.1,
+      c.refused-in-Refused-read.ensures ∙ value_unread (at_item t c.before.before.before.before.before.before.before.before.before) c.if-e-ne-CHOICE.true _ (c.read.ensures.0 _) f.0.0 f.1,
     ))  -- judge-value-returns-2
     (λ c. search rules)  -- judge-value-enum-known-x-2
     (λ c. (contents_within (at-filling t c.before.before.before)).0)  -- judge-value-sub-c
@@ -504,30 +504,30 @@ judge-value-half t =
     let y = at-filling t (c.before.before.before.before.before.before.before) in (
       table_in c.args.table.now q.is.0,
       rw c.unpack-e.ensures (its_entry q.ready q.is),
-      leaf_kind_lem y c.if-not-fits.true,
+      leaf_kind_lem y c.if-e.true,
       contents_short y,
       omega (arith, q.short),
-      c.if-not-fits.true,
+      c.if-e.true,
       λ h. ⊎_elim
-          (λ x. sym x.2.ensures.0 ∙ sym x.3 ∙ c.if-e-eq-SET.true)
+          (λ x. sym x.2.ensures.0 ∙ sym x.3 ∙ c.if-size-eq0.true)
           (λ x. absurd (true≢false (sym (not-false _ x.0.left) ∙ h)))
-          c.if-level-depth.branch,
+          c.if-not-indefinite.branch,
     ))  -- judge-value-judge-segments-requires
     (λ c. search rules)  -- judge-value-enum-known-cause-3
     (λ c κs. tt)  -- judge-value-refused-requires-3
     (λ c.
     let y = at-filling t (c.before.before.before.before.before.before.before.before.before.before.before.before) in
     let r = c.judge_segments in
-    let x = c.cause-in-Refused-judge_value-1.given in (
+    let x = c.cause-in-Refused-judge_segments-1.given in (
       c.requires.1.ways,
-      c.refused-then-level-depth.ensures ∙ value_wrong y c.if-not-fits.true r.result r.ensures x.0.0 x.0.1.0 x.1,
+      c.refused-in-Refused-judge_segments.ensures ∙ value_wrong y c.if-e.true r.result r.ensures x.0.0 x.0.1.0 x.1,
     ))  -- judge-value-returns-3
     (λ c. search rules)  -- judge-value-enum-known-x-3
     (λ c.
     let y = at-filling t c.before.before.before.before.before.before.before.before.before.before.before in
     let r = c.judge_segments in
     let x = c.x-in-Done-1.given in
-    omega (arith, leaf_high y c.if-not-fits.true r.result r.ensures x.0.0 x.0.1.0 x.1))  -- judge-value-add-stop
+    omega (arith, leaf_high y c.if-e.true r.result r.ensures x.0.0 x.0.1.0 x.1))  -- judge-value-add-stop
     (λ c. (contents_within (at-filling t c.before.before.before)).0)  -- judge-value-sub-c-2
     (λ c. omega (arith, contents_within (at-filling t c.before.before.before)))  -- judge-value-part-c-start-2
     (λ c. (contents_within (at-filling t c.before.before.before)).1)  -- judge-value-part-c-end-2
@@ -535,7 +535,7 @@ judge-value-half t =
     let y = at-filling t (c.before.before.before.before.before) in
     let p = c.requires in
     let q = p.1 in
-    let n = c.if-not-fits.false in
+    let n = c.if-e.false in
     let k = items_known y n in (
       omega (arith, p.0),
       record {
@@ -555,28 +555,28 @@ judge-value-half t =
     let y = at-filling t c.before.before.before.before.before.before.before.before.before in
     let r = c.judge_members in
     let x = c.cause-in-Refused-judge_members-1.given in
-    omega (arith, items_low y c.if-not-fits.false r.result r.ensures.1 x.0.0 x.0.1.0 x.1))  -- judge-value-add-refused
+    omega (arith, items_low y c.if-e.false r.result r.ensures.1 x.0.0 x.0.1.0 x.1))  -- judge-value-add-refused
     (λ c κs. tt)  -- judge-value-refused-requires-4
     (λ c.
     let y = at-filling t c.before.before.before.before.before.before.before.before.before.before in
     let r = c.judge_members in
     let x = c.cause-in-Refused-judge_members-1.given in (
       r.ensures.0,
-      c.refused-in-Refused-judge_value.ensures ∙ value_unheld y c.if-not-fits.false r.result r.ensures.1 x.0.0 x.0.1.0 x.1,
+      c.refused-in-Refused-judge_members.ensures ∙ value_unheld y c.if-e.false r.result r.ensures.1 x.0.0 x.0.1.0 x.1,
     ))  -- judge-value-returns-4
     (λ c. search rules)  -- judge-value-enum-known-x-4
     (λ c.
     let y = at-filling t c.before.before.before.before.before.before.before.before.before in
     let r = c.judge_members in
     let x = c.x-in-Done-judge_members-1.given in
-    omega (arith, items_high y c.if-not-fits.false r.result r.ensures.1 x.0.0 x.0.1.0 x.1))  -- judge-value-add-stop-2
+    omega (arith, items_high y c.if-e.false r.result r.ensures.1 x.0.0 x.0.1.0 x.1))  -- judge-value-add-stop-2
     (λ c. omega (arith, item_tags (at_ended t c.before.before.before.before)))  -- judge-value-cast-close
     (λ c κs. item_closes (at_ended t c.before.before.before.before))  -- judge-value-close-requires
     (λ c.
     (at-way t (c.before.before.before.before.before), value_closed (at_ended t (c.before.before.before.before.before)) _ c.close.ensures))  -- judge-value-returns-5
     (λ c κs. tt)  -- judge-value-done-requires
     (λ c.
-    (at-way t (c.before.before.before), c.done.ensures ∙ value_over (at_ended t (c.before.before.before)) c.if-holds_one.false))  -- judge-value-returns-6
+    (at-way t (c.before.before.before), c.done.ensures ∙ value_over (at_ended t (c.before.before.before)) c.if-e-gt0-2.false))  -- judge-value-returns-6
 
 pub +judge_members_judge_value_spec : {M : Type 1} → statement M
 +judge_members_judge_value_spec = close μ-judge-members μ-judge-value judge-members-half judge-value-half

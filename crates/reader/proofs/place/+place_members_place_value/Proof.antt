@@ -393,8 +393,8 @@ place-value-claims t = (
 -- under the tags
 at_under : (t : ℕ) (c : place_value_lts.Joined-e-gt0 (place-value-claims t) (place-value-at t) place_value.Post) →
     let a = c.args in
-    Accepted a.table.now a.w a.m.now a.at c.requires.1.fits.value c.requires.1.fits.rest c.if-e-eq-SET.notes c.if-e-eq-SET.at
-    c.if-e-eq-SET.from c.if-e-eq-SET.end
+    Accepted a.table.now a.w a.m.now a.at c.requires.1.fits.value c.requires.1.fits.rest c.if-e-gt0.notes c.if-e-gt0.at
+    c.if-e-gt0.from c.if-e-gt0.end
 at_under t c =
     let P = c.requires.1 in
     let e = c.unpack-e.ensures in
@@ -403,13 +403,13 @@ at_under t c =
     (⊎_elim
     (λ x. accepted_as (under_open P _ _ x.2.ensures.1 x.2.ensures.0 _ x.4.given.1) x.6 x.7 x.9 x.8)
     λ x. accepted_as (under_none P (rw e at x.0.left) _ refl) x.1 x.2 x.4 x.3)
-    c.if-e-eq-SET.branch
+    c.if-e-gt0.branch
 
 -- its contents
 at-contents : (t : ℕ) (c : place_value_lts.Joined-e-ne-CHOICE (place-value-claims t) (place-value-at t) place_value.Post) →
     let a = c.args in
-    Contents a.table.now a.w a.m.now a.at c.if-e-eq-SET.at c.if-e-eq-SET.end c.requires.1.fits.value (at_under t c.before.before.before).left c.if-e-eq-SET-2.start
-    c.if-e-eq-SET-2.stop c.if-e-eq-SET-2.indefinite
+    Contents a.table.now a.w a.m.now a.at c.if-e-gt0.at c.if-e-gt0.end c.requires.1.fits.value (at_under t c.before.before.before).left c.if-e-ne-CHOICE.start
+    c.if-e-ne-CHOICE.stop c.if-e-ne-CHOICE.indefinite
 at-contents t c =
     let P = c.requires.1 in
     let e = c.unpack-e.ensures in
@@ -420,13 +420,13 @@ at-contents t c =
     (λ x.
     contents_as (read_contents P U q o (rw e at x.0.taken) x.1.result x.1.ensures) x.2 x.3 x.4)
     (λ x. contents_as (choice_contents P U q o (rw e at x.0.left)) x.1 x.2 x.3)
-    c.if-e-eq-SET-2.branch
+    c.if-e-ne-CHOICE.branch
 
 -- what was placed
 at_stored : (t : ℕ) (c : place_value_lts.Joined-e (place-value-claims t) (place-value-at t) place_value.Post) →
     let a = c.args in
-    Stored c.requires.1.fits.value a.m.now c.if-e-eq-SET.end (at_under t c.before.before.before.before).left a.buf.now a.to c.if-k-s.buf c.if-k-s.stop
-    c.if-k-s.next c.if-k-s.way
+    Stored c.requires.1.fits.value a.m.now c.if-e-gt0.end (at_under t c.before.before.before.before).left a.buf.now a.to c.if-e.buf c.if-e.stop
+    c.if-e.next c.if-e.way
 at_stored t c =
     let P = c.requires.1 in
     let e = c.unpack-e.ensures in
@@ -437,7 +437,7 @@ at_stored t c =
     (⊎_elim
     (λ x. stored_as (leaf_stored P U X _ e x.0.taken (sym x.5.ensures ∙ x.6.left) _ _ x.8.ensures.0 x.8.ensures.1) x.11 x.12 x.13 x.14)
     λ x. stored_as (items_stored P U X (rw e at x.0.left) _ _ x.6.ensures.1 _ x.6.ensures.0) x.10 x.11 x.12 x.13)
-    c.if-k-s.branch
+    c.if-e.branch
 
 pub +place_members_place_value_spec : {M : Type 1} → statement M
 +place_members_place_value_spec = close μ-place-members μ-place-value (λ t. place_members_lts.spec (place-members-claims t)
@@ -582,7 +582,7 @@ pub +place_members_place_value_spec : {M : Type 1} → statement M
     (λ c κs. search rules)  -- place-value-unpack-requires
     (λ c κs.
     let P = c.requires.1 in
-    let e = rw c.unpack-e.ensures at c.if-e-eq-SET.true in
+    let e = rw c.unpack-e.ensures at c.if-e-gt0.true in
     (_, P.ready, (P.type, P.low, P.entry), e, P.headed, P.short, refl))  -- place-value-open-requires
     (λ c. search rules)  -- place-value-enum-told
     (λ c. search rules)  -- place-value-enum-known-x
@@ -598,29 +598,29 @@ pub +place_members_place_value_spec : {M : Type 1} → statement M
     (λ c κs. tt)  -- place-value-in-segments-requires
     (λ c κs.
     let e = c.unpack-e.ensures in
-    let f = c.if-k-s.true in
-    parts_ask c.requires.1 (at_under t c.before.before.before.before.before.before.before.before.before.before.before) (at-contents t c.before.before.before.before.before.before.before.before) _ e f (sym c.in_segments.ensures ∙ c.if-not-holds_one.true))  -- place-value-place-segments-requires
+    let f = c.if-e.true in
+    parts_ask c.requires.1 (at_under t c.before.before.before.before.before.before.before.before.before.before.before) (at-contents t c.before.before.before.before.before.before.before.before) _ e f (sym c.in_segments.ensures ∙ c.if-in_segments.true))  -- place-value-place-segments-requires
     (λ c.
     let e = c.unpack-e.ensures in
-    let f = c.if-k-s.true in
-    let z = sym c.in_segments.ensures ∙ c.if-not-holds_one.true in
+    let f = c.if-e.true in
+    let z = sym c.in_segments.ensures ∙ c.if-in_segments.true in
     omega (arith, parts_end c.requires.1 (at_under t c.before.before.before.before.before.before.before.before.before.before.before.before.before.before.before) (at-contents t c.before.before.before.before.before.before.before.before.before.before.before.before) _ e f z _ _ c.place_segments-x.ensures))  -- place-value-add-stop
     (λ c κs.
     let e = c.unpack-e.ensures in
-    let f = c.if-k-s.true in
-    leaf_asks c.requires.1 (at_under t c.before.before.before.before.before.before.before.before.before.before.before) (at-contents t c.before.before.before.before.before.before.before.before) _ e f (sym c.in_segments.ensures ∙ c.if-not-holds_one.false))  -- place-value-place-contents-requires
+    let f = c.if-e.true in
+    leaf_asks c.requires.1 (at_under t c.before.before.before.before.before.before.before.before.before.before.before) (at-contents t c.before.before.before.before.before.before.before.before) _ e f (sym c.in_segments.ensures ∙ c.if-in_segments.false))  -- place-value-place-contents-requires
     (λ c. (at-contents t c.before.before.before).order)  -- place-value-sub-c-2
     (λ c. let h = (at-contents t c.before.before.before).order in search rules)  -- place-value-part-c-start-2
     (λ c.
     let h = part_high c.requires.1 (at_under t c.before.before.before.before.before.before) (at-contents t c.before.before.before) in
     search rules)  -- place-value-part-c-end-2
     (λ c κs.
-    let e = rw c.unpack-e.ensures at c.if-k-s.false in (
+    let e = rw c.unpack-e.ensures at c.if-e.false in (
       omega (arith, c.requires.0, part_less c.requires.1 (at_under t c.before.before.before.before.before.before.before.before.before) (at-contents t c.before.before.before.before.before.before)),
       items_ask c.requires.1 (at_under t c.before.before.before.before.before.before.before.before.before) (at-contents t c.before.before.before.before.before.before) e,
     ))  -- place-value-place-members-requires
     (λ c.
-    let f = c.if-k-s.false in
+    let f = c.if-e.false in
     let e = rw c.unpack-e.ensures at f in
     let q = c.place_members-x.ensures.1 in
     omega (arith, items_end c.requires.1 (at_under t c.before.before.before.before.before.before.before.before.before.before.before.before.before) (at-contents t c.before.before.before.before.before.before.before.before.before.before) e _ _ q))  -- place-value-add-stop-2
@@ -643,5 +643,5 @@ pub +place_members_place_value_spec : {M : Type 1} → statement M
     (λ c.
     stored_length c.requires.1 (at_under t c.before.before.before.before.before.before) (at_stored t c.before.before))  -- place-value-same-length-3
     (λ c.
-    let e = rw c.unpack-e.ensures at c.if-is_over.false in
+    let e = rw c.unpack-e.ensures at c.if-e-gt0-2.false in
     ((at_stored t c.before.before).ways, bare_placed c.requires.1 (at_under t c.before.before.before.before.before.before) (at_stored t c.before.before) e))  -- place-value-returns-3

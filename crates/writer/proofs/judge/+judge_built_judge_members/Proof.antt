@@ -138,21 +138,21 @@ at-member t c =
       total = c.loop-i.total;
       notes = c.loop-i.notes;
       so_far = c.loop-i.invariant.1;
-      one = rw c.unpack.ensures at (rw c.count-n.ensures.0 at c.loop-i-test.true);
+      one = rw c.unpack-e.ensures at (rw c.count-n.ensures.0 at c.loop-i-test.true);
       t = c.below-t.result;
-      is = rw c.unpack.ensures at c.below-t.ensures;
-      there = c.if-own_end-eq0.true;
+      is = rw c.unpack-e.ensures at c.below-t.ensures;
+      there = c.if-t-lt256.true;
     }
 
 -- where it is judged
 at-said : (t : ℕ) (c : judge_members_lts.Joined-is_simple (judge-members-claims t) (judge-members-at t) judge_members.Post judge-members-Inv-loop judge-members-μ-loop) →
-    Said (at-member t c.before.before.before.before.before.before.before) c.if-not-agrees.judged c.if-not-agrees.notes
+    Said (at-member t c.before.before.before.before.before.before.before) c.if-is_simple.judged c.if-is_simple.notes
 at-said t c =
     let m = at-member t c.before.before.before.before.before.before.before in
     ⊎_elim
-    (λ w. leaf_said m c.unpack-r.result c.unpack-r.ensures (c.marked.ensures.yes (not-false _ c.if-level-eq0.false)) _ _ _ _ c.is_simple.ensures w.0.taken w.1.ensures w.2 w.3)
+    (λ w. leaf_said m c.unpack-r.result c.unpack-r.ensures (c.marked.ensures.yes c.if-not-marked.false) _ _ _ _ c.is_simple.ensures w.0.taken w.1.ensures w.2 w.3)
     (λ w. built_said m _ _ _ _ w.2.ensures w.3 w.4)
-    c.if-not-agrees.branch
+    c.if-is_simple.branch
 
 pub +judge_built_judge_members_spec : {M : Type 1} → statement M
 +judge_built_judge_members_spec = close μ-judge-built μ-judge-members (λ t. judge_built_lts.spec (judge-built-claims t)
@@ -240,22 +240,22 @@ pub +judge_built_judge_members_spec : {M : Type 1} → statement M
     (λ c κs.
     let a = c.args in
     let q = c.requires.1 in
-    rw c.unpack.ensures q.1.starts)  -- judge-members-count-requires
+    rw c.unpack-e.ensures q.1.starts)  -- judge-members-count-requires
     (λ c κs.
     let a = c.args in
     let q = c.requires.1 in
-    rw c.unpack.ensures q.1.starts)  -- judge-members-start-requires
+    rw c.unpack-e.ensures q.1.starts)  -- judge-members-start-requires
     (λ c.
     let a = c.args in
     let q = c.requires.1 in (
       omega arith,
-      members_begin a.table.now a.v.now (unpacked a.w) a.p a.level a.notes.now q.1.starts _ (rw c.unpack.ensures at c.start-at.ensures),
+      members_begin a.table.now a.v.now (unpacked a.w) a.p a.level a.notes.now q.1.starts _ (rw c.unpack-e.ensures at c.start-at.ensures),
     ))  -- judge-members-loop-holds
     (λ c κs.
     let a = c.args in
     let q = c.requires.1 in (
       c.parts-s.ensures,
-      rw c.unpack.ensures q.1,
+      rw c.unpack-e.ensures q.1,
       omega (
         arith,
         c.count-n.ensures.0,
@@ -266,18 +266,18 @@ pub +judge_built_judge_members_spec : {M : Type 1} → statement M
     let a = c.args in
     let q = c.requires.1 in
     omega (arith, q.0.little, c.loop-i.invariant.1.within))  -- judge-members-marked-requires
-    (λ c. member_unmarked (at-member t c.before.before) _ c.marked.ensures (not-true _ c.if-level-eq0.true))  -- judge-members-returns
+    (λ c. member_unmarked (at-member t c.before.before) _ c.marked.ensures c.if-not-marked.true)  -- judge-members-returns
     (λ c. omega (arith, member_few (at-member t c.before.before)))  -- judge-members-mul-x
     (λ c. omega (arith, member_few (at-member t c.before.before)))  -- judge-members-element-copy-out-x
     (λ c κs. search rules)  -- judge-members-unpack-requires-2
     (λ c.
     let a = c.args in
     let q = c.requires.1 in
-    omega (arith, (c.marked.ensures.yes (not-false _ c.if-level-eq0.false)).0, q.0.little))  -- judge-members-add-mark
+    omega (arith, (c.marked.ensures.yes c.if-not-marked.false).0, q.0.little))  -- judge-members-add-mark
     (λ c.
     omega (
       arith,
-      (c.marked.ensures.yes (not-false _ c.if-level-eq0.false)).0,
+      (c.marked.ensures.yes c.if-not-marked.false).0,
     ))  -- judge-members-shared-slice-read-is-simple
     (λ c κs.
     entry_simple (at-member t c.before.before.before.before.before) c.unpack-r.result c.unpack-r.ensures)  -- judge-members-is-simple-requires
@@ -285,8 +285,8 @@ pub +judge_built_judge_members_spec : {M : Type 1} → statement M
     let a = c.args in
     let q = c.requires.1 in (
       q.0.little,
-      (c.marked.ensures.yes (not-false _ c.if-level-eq0.false)),
-      not-true _ (sym c.is_simple.ensures ∙ c.if-not-agrees.true),
+      (c.marked.ensures.yes c.if-not-marked.false),
+      not-true _ (sym c.is_simple.ensures ∙ c.if-is_simple.true),
       entry_known (at-member t c.before.before.before.before.before.before.before) c.unpack-r.result c.unpack-r.ensures,
     ))  -- judge-members-judge-leaf-requires
     (λ c κs.
@@ -296,8 +296,8 @@ pub +judge_built_judge_members_spec : {M : Type 1} → statement M
       (
         q.0,
         member_there (at-member t c.before.before.before.before.before.before.before.before),
-        (c.marked.ensures.yes (not-false _ c.if-level-eq0.false)),
-        not-false _ (sym c.is_simple.ensures ∙ c.if-not-agrees.false),
+        (c.marked.ensures.yes c.if-not-marked.false),
+        not-false _ (sym c.is_simple.ensures ∙ c.if-is_simple.false),
         c.loop-i.invariant.1.going.long ∙ q.2,
       ),
     ))  -- judge-members-judge-built-requires
@@ -328,7 +328,7 @@ pub +judge_built_judge_members_spec : {M : Type 1} → statement M
       omega (
         arith,
         c.loop-i-test.true,
-        (rw c.unpack.ensures at c.count-n.ensures.0),
+        (rw c.unpack-e.ensures at c.count-n.ensures.0),
       ),
       member_done (at-member t c.before.before.before.before.before.before.before.before.before.before.before.before) c.unpack-r.result c.unpack-r.ensures _ _ (at-said t c.before.before.before.before.before) _ _ c.in-Done.is _ _ (rw (← c.unpack-r.ensures) at c.size.ensures.0)
           c.grow-total.ensures.0,
@@ -340,14 +340,14 @@ pub +judge_built_judge_members_spec : {M : Type 1} → statement M
       omega (
         arith,
         c.loop-i-test.true,
-        (rw c.unpack.ensures at c.count-n.ensures.0),
+        (rw c.unpack-e.ensures at c.count-n.ensures.0),
       ),
-      members_pass a.table.now a.v.now (unpacked a.w) a.p a.level a.notes.now c.loop-i.i c.loop-i.at c.loop-i.total _ c.loop-i.invariant.1 (rw (← (rw c.unpack.ensures at c.count-n.ensures.0)) c.loop-i-test.true) _ (rw c.unpack.ensures at c.below-t.ensures) c.if-own_end-eq0.false,
+      members_pass a.table.now a.v.now (unpacked a.w) a.p a.level a.notes.now c.loop-i.i c.loop-i.at c.loop-i.total _ c.loop-i.invariant.1 (rw (← (rw c.unpack-e.ensures at c.count-n.ensures.0)) c.loop-i-test.true) _ (rw c.unpack-e.ensures at c.below-t.ensures) c.if-t-lt256.false,
     ))  -- judge-members-loop-again-2
     (λ c.
     let a = c.args in
     let q = c.requires.1 in
     members_end_lem a.table.now a.v.now (unpacked a.w) a.p a.level a.notes.now c.loop-i.i c.loop-i.at c.loop-i.total _ c.loop-i.invariant.1 (omega (
       arith,
-      (rw c.unpack.ensures at c.count-n.ensures.0),
+      (rw c.unpack-e.ensures at c.count-n.ensures.0),
     )))  -- judge-members-returns-3
