@@ -18,7 +18,7 @@ check_into_spec =
     (λ c.
     let a = c.args in
     let f = c.fill-made.ensures in
-    into_misshapen a.table.now _ _ _ c.if-table-gt-LONGEST_TABLE.false f.1 f.2 (sym c.if-not-made.true ∙ f.0))  -- returns-2
+    into_misshapen a.table.now _ _ _ c.if-table-gt-LONGEST_TABLE.false f.1 f.2 (sym (not-true _ c.if-not-made.true) ∙ f.0))  -- returns-2
     (λ c κs.
     let a = c.args in
     let f = c.fill-made.ensures in
@@ -28,4 +28,4 @@ check_into_spec =
     let a = c.args in
     let f = c.fill-made.ensures in
     into_judged a.table.now _ _ _ c.if-table-gt-LONGEST_TABLE.false f.1 f.2 _
-    (sym c.if-not-made.false ∙ f.0) c.judge_records-verdict.ensures))  -- returns-3
+    (sym (not-false _ c.if-not-made.false) ∙ f.0) c.judge_records-verdict.ensures))  -- returns-3

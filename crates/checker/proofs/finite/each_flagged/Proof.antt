@@ -11,6 +11,7 @@ use Rattle.checker.specs.Marks.{is_flagged}
 use Rattle.checker.proofs.Marks.{present, present_stops, present_optional, present_flagged, present_ends}
 use Rattle.checker.proofs.finite.each_flagged.Statement.{statement}
 use Rattle.checker.proofs.finite.each_flagged.Tie as tie
+use Rattle.checker.proofs.finite.each_flagged.Lts as lts
 
 abbrev invariant-loop : tie.invariant-loop-left
 invariant-loop table flags at₀ left₀ at left =
@@ -38,11 +39,11 @@ each_flagged_spec =
     (λ c. omega arith)  -- loop-less
     (λ c. (
       omega arith,
-      ⊎_elim
-          (λ w. present_flagged (is_flagged _) _ _ _ _ c.loop-left.invariant.1 c.loop-left-test.true
-          (rw (← w.1.ensures.0, ← w.2.ensures) (not-false _ w.3.left)))
-          (λ w. present_optional (is_flagged _) _ _ _ _ c.loop-left.invariant.1 c.loop-left-test.true
-          (sym c.optional.ensures ∙ not-false _ w.left))
-          c.if-not-optional.branch,
+      elim c.if-not-optional.branch [
+        lts.then-not-optional+else-not-flagged w ↦ present_flagged (is_flagged _) _ _ _ _ c.loop-left.invariant.1 c.loop-left-test.true
+            (rw (← w.octet.ensures.0, ← w.flagged.ensures) w.if-not-flagged.false) |
+        lts.else-not-optional w ↦ present_optional (is_flagged _) _ _ _ _ c.loop-left.invariant.1 c.loop-left-test.true
+            (sym c.optional.ensures ∙ w.if-not-optional.false)
+      ],
     ))  -- loop-again
     (λ c. present_ends (is_flagged _) _ _ _ _ c.loop-left.invariant.1 (omega arith)))  -- returns-2

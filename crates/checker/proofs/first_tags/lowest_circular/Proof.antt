@@ -15,6 +15,7 @@ use Rattle.checker.proofs.Gather.{gathers_from}
 use Rattle.checker.proofs.Shared.{no_circle}
 use Rattle.checker.proofs.first_tags.lowest_circular.Statement.{statement}
 use Rattle.checker.proofs.first_tags.lowest_circular.Tie as tie
+use Rattle.checker.proofs.first_tags.lowest_circular.Lts as lts
 
 abbrev invariant-loop : tie.invariant-loop-t
 invariant-loop table index nodes n t₀ t = Rest (circular (table_in table) n) n t
@@ -36,17 +37,15 @@ lowest_circular_spec =
       gathers_from c.requires.0 c.requires.1
           c.requires.2 refl c.loop-t-test.true,
       sym c.first.ensures ∙
-          c.if-first-eq-UNTAGGED.taken,
+          c.if-first-eq-UNTAGGED.true,
     ))  -- is-circular-requires
     (λ c. rest_here _ _ _ c.loop-t.invariant c.loop-t-test.true
     (circular_is _ _ (filled_beyond c.requires.0) _ _
     c.loop-t-test.true c.is_circular.ensures ∙ c.if-is_circular.true))  -- returns
     (λ c. search rules)  -- add-t
     (λ c. omega arith)  -- loop-less
-    (λ c. rest_next _ _ _ c.loop-t.invariant c.loop-t-test.true (⊎_elim
-    (λ w. circular_is _ _ (filled_beyond c.requires.0) _ _ c.loop-t-test.true
-    w.1.ensures ∙ w.2.left)
-    (λ w. no_circle _ _ _ (below_none (c.requires.0.entered _ c.loop-t-test.true)
-    (λ z. w.left (c.first.ensures ∙ z))))
-    c.if-first-eq-UNTAGGED.branch))  -- loop-again
+    (λ c. rest_next _ _ _ c.loop-t.invariant c.loop-t-test.true (elim c.if-first-eq-UNTAGGED.branch [
+      lts.then-first-eq-UNTAGGED+else-is_circular w ↦ circular_is _ _ (filled_beyond c.requires.0) _ _ c.loop-t-test.true w.is_circular.ensures ∙ w.if-is_circular.false |
+      lts.else-first-eq-UNTAGGED w ↦ no_circle _ _ _ (below_none (c.requires.0.entered _ c.loop-t-test.true) (λ z. w.if-first-eq-UNTAGGED.false (c.first.ensures ∙ z)))
+    ]))  -- loop-again
     (λ c. rest_none _ _ _ c.loop-t.invariant c.loop-t-test.false))  -- returns-2

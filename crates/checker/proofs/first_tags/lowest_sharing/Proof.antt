@@ -14,6 +14,7 @@ use Rattle.checker.proofs.Rules.{filled_beyond, entry_at}
 use Rattle.checker.proofs.Shared.{no_sharing}
 use Rattle.checker.proofs.first_tags.lowest_sharing.Statement.{statement}
 use Rattle.checker.proofs.first_tags.lowest_sharing.Tie as tie
+use Rattle.checker.proofs.first_tags.lowest_sharing.Lts as lts
 
 abbrev invariant-loop : tie.invariant-loop-t
 invariant-loop table index nodes n t₀ t = Rest (sharing (table_in table) n) n t
@@ -39,9 +40,8 @@ lowest_sharing_spec =
     c.if-is_sharing.true))  -- returns
     (λ c. search rules)  -- add-t
     (λ c. omega arith)  -- loop-less
-    (λ c. rest_next _ _ _ c.loop-t.invariant c.loop-t-test.true (⊎_elim
-    (λ w. sharing_is _ _ (filled_beyond c.requires.0) _ _ w.1.ensures ∙ w.2.left)
-    (λ w. no_sharing _ _ _ (not-true _ (sym (entry_at c.requires.0 _
-    c.loop-t-test.true c.unpack-e.ensures).simple ∙ not-false _ w.left)))
-    c.if-not-e.branch))  -- loop-again
+    (λ c. rest_next _ _ _ c.loop-t.invariant c.loop-t-test.true (elim c.if-not-e.branch [
+      lts.then-not-e+else-is_sharing w ↦ sharing_is _ _ (filled_beyond c.requires.0) _ _ w.is_sharing.ensures ∙ w.if-is_sharing.false |
+      lts.else-not-e w ↦ no_sharing _ _ _ (not-true _ (sym (entry_at c.requires.0 _ c.loop-t-test.true c.unpack-e.ensures).simple ∙ not-false _ w.if-not-e.false))
+    ]))  -- loop-again
     (λ c. rest_none _ _ _ c.loop-t.invariant c.loop-t-test.false))  -- returns-2

@@ -28,8 +28,8 @@ run_length_spec =
     (λ c. omega (arith, c.requires.1, c.loop-k-test.true))  -- add-optional
     (λ c κs. search rules)  -- optional-requires
     (λ c. omega (arith, c.requires.1, c.loop-k-test.true))  -- add-result
-    (λ c. omega (arith, rest_here _ _ _ c.loop-k.invariant c.loop-k-test.true (ap not (sym c.optional.ensures) ∙ c.if-not-optional.true)))  -- returns
+    (λ c. omega (arith, rest_here _ _ _ c.loop-k.invariant c.loop-k-test.true (ap not (sym c.optional.ensures ∙ c.if-not-optional.true))))  -- returns
     (λ c. omega (arith, c.requires.1, c.loop-k-test.true))  -- add-k
     (λ c. omega arith)  -- loop-less
-    (λ c. rest_next _ _ _ c.loop-k.invariant c.loop-k-test.true (ap not (sym c.optional.ensures) ∙ c.if-not-optional.false))  -- loop-again
+    (λ c. rest_next _ _ _ c.loop-k.invariant c.loop-k-test.true (ap not (sym c.optional.ensures ∙ c.if-not-optional.false)))  -- loop-again
     (λ c. omega (arith, c.requires.0, rest_none _ _ _ c.loop-k.invariant c.loop-k-test.false)))  -- returns-2

@@ -13,7 +13,7 @@ use Rattle.checker.proofs.index.pack.Reads as reads
 use Rattle.checker.proofs.index.pack.Lts as lts
 
 high_is : (c : lts.After-row_known-1 reads.Pre reads.Post) → let a = c.args in c.if-simple.high ≡ high_octet a.simple a.explicit
-high_is c = ⊎_elim (λ w. w.1 ∙ rw w.0.taken) (λ w. w.1 ∙ rw w.0.left) c.if-simple.branch
+high_is c = elim c.if-simple.branch [ lts.then-simple w ↦ w.high-is ∙ rw w.if-simple.true | lts.else-simple w ↦ w.high-is ∙ rw w.if-simple.false ]
 
 high-below : (c : lts.After-row_known-1 reads.Pre reads.Post) → c.if-simple.high < 256
 high-below c = let a = c.args in rw (high_is c) (high_octet_below a.simple a.explicit c.requires)
