@@ -48,28 +48,28 @@ lacks_spec =
     omega (arith, span_few q.1.ready _ q.1.known _ (at-span c.before.before.before.before.before), c.loop-k-test.true))  -- mul-if2
     (λ c.
     let q = c.requires in
-    omega (arith, span_few q.1.ready _ q.1.known _ (at-span c.before.before.before.before.before), c.loop-k-test.true))  -- element-copy-out-if2
+    omega (arith, span_few q.1.ready _ q.1.known _ (at-span c.before.before.before.before.before.before), c.loop-k-test.true))  -- element-copy-out-if2
     (λ c.
     let a = c.args in
     let q = c.requires in
-    sym (c.loop-k.invariant ∙ lacks_any q.1.ready _ q.1.known _ (at-span c.before.before.before.before.before.before.before.before) q.2 a.came.now _ a.any c.loop-k-test.true
+    sym (c.loop-k.invariant ∙ lacks_any q.1.ready _ q.1.known _ (at-span c.before.before.before.before.before.before.before.before.before) q.2 a.came.now _ a.any c.loop-k-test.true
     c.if-came-k-eq0.true c.if-any.true))  -- returns
     (λ c κs. tt)  -- optional-requires
     (λ c.
     let a = c.args in
     let q = c.requires in
-    sym (c.loop-k.invariant ∙ lacks_must q.1.ready _ q.1.known _ (at-span c.before.before.before.before.before.before.before.before.before.before) q.2 a.came.now _ a.any c.loop-k-test.true _
+    sym (c.loop-k.invariant ∙ lacks_must q.1.ready _ q.1.known _ (at-span c.before.before.before.before.before.before.before.before.before.before.before) q.2 a.came.now _ a.any c.loop-k-test.true _
     c.optional.ensures c.if-came-k-eq0.true c.if-not-optional.true))  -- returns-2
     (λ c.
     let q = c.requires in
-    omega (arith, span_few q.1.ready _ q.1.known _ (at-span c.before.before.before.before.before.before.before), c.loop-k-test.true))  -- add-k
+    omega (arith, span_few q.1.ready _ q.1.known _ (at-span c.before.before.before.before.before.before.before.before), c.loop-k-test.true))  -- add-k
     (λ c. omega (arith, c.loop-k-test.true))  -- loop-less
     (λ c.
     let a = c.args in
     let q = c.requires in
-    c.loop-k.invariant ∙ ⊎_elim (λ x. lacks_skip q.1.ready _ q.1.known _ (at-span c.before.before.before.before.before.before.before) q.2 a.came.now _ a.any
+    c.loop-k.invariant ∙ ⊎_elim (λ x. lacks_skip q.1.ready _ q.1.known _ (at-span c.before.before.before.before.before.before.before.before) q.2 a.came.now _ a.any
     c.loop-k-test.true x.2.result x.2.ensures x.0.taken x.1.left (not-false _ x.3.left)) (λ x. lacks_come
-    q.1.ready _ q.1.known _ (at-span c.before.before.before.before.before.before.before) q.2 a.came.now _ a.any c.loop-k-test.true x.left) c.if-came-k-eq0.branch)  -- loop-again
+    q.1.ready _ q.1.known _ (at-span c.before.before.before.before.before.before.before.before) q.2 a.came.now _ a.any c.loop-k-test.true x.left) c.if-came-k-eq0.branch)  -- loop-again
     (λ c.
     let a = c.args in
     let q = c.requires in

@@ -159,9 +159,9 @@ turn t c =
 -- where an item is found to be of a part
 abbrev comes : (t : ℕ)
     (c : judge_members_lts.Joined-not-fits (judge-members-claims t) (judge-members-at t) judge_members.Post judge-members-Inv-loop judge-members-μ-loop)
-    → Comes (turn t c.before.before.before.before.before)
+    → Comes (turn t c.before.before.before.before)
 comes t c =
-    let P = turn t c.before.before.before.before.before in
+    let P = turn t c.before.before.before.before in
     let i = c.in-Item.is in
     let x = c.if-not-fits in
     record {
@@ -192,7 +192,7 @@ comes t c =
 abbrev valued : (t : ℕ)
     (c : judge_members_lts.After-judge_value (judge-members-claims t)
     (judge-members-at t) judge_members.Post judge-members-Inv-loop judge-members-μ-loop)
-    → Valued (comes t c.before.before.before.before.before.before.before.before.before.before)
+    → Valued (comes t c.before.before.before.before.before.before.before.before.before.before.before)
 valued t c =
     record {
       deep = c.if-level-depth.false;
@@ -223,7 +223,7 @@ judge-members-half t =
     (λ c.
     (
       c.loop-end.invariant.1,
-      c.done.ensures ∙ judged_over (turn t (c.before.before.before.before)) _ c.in-Over.is,
+      c.done.ensures ∙ judged_over (turn t (c.before.before)) _ c.in-Over.is,
     ))  -- judge-members-returns
     (λ c. search rules)  -- judge-members-enum-known-cause
     (λ c. omega arith)  -- judge-members-sub-refused
@@ -231,13 +231,13 @@ judge-members-half t =
     (λ c.
     (
       c.loop-end.invariant.1,
-      c.refused.ensures ∙ judged_stopped (turn t (c.before.before.before.before)) _ c.in-Refused.is,
+      c.refused.ensures ∙ judged_stopped (turn t (c.before.before)) _ c.in-Refused.is,
     ))  -- judge-members-returns-2
     (λ c. omega arith)  -- judge-members-add-from
-    (λ c. omega (arith, part_few (turn t c.before.before.before.before) c.if-j-s.true))  -- judge-members-mul-if2
-    (λ c. part_few (turn t c.before.before.before.before) c.if-j-s.true)  -- judge-members-array-read-if2
+    (λ c. omega (arith, part_few (turn t c.before.before.before) c.if-j-s.true))  -- judge-members-mul-if2
+    (λ c. part_few (turn t c.before.before.before) c.if-j-s.true)  -- judge-members-array-read-if2
     (λ c κs.
-    let T = turn t c.before.before.before.before.before in
+    let T = turn t c.before.before.before.before in
     (part_inside T c.if-j-s.true, part_near T c.if-j-s.true))  -- judge-members-part-requires
     (λ c. omega (arith, c.part-record.ensures.1))  -- judge-members-mul-first
     (λ c.
@@ -256,19 +256,19 @@ judge-members-half t =
     (λ c. omega arith)  -- judge-members-part-rest-end
     (λ c κs.
     let l = c.loop-end in
-    (judging_sound (setting t c.before.before.before.before.before.before.before.before.before.before.before.before) l.invariant.2, l.invariant.1))  -- judge-members-search-requires
+    (judging_sound (setting t c.before.before.before.before.before.before.before.before.before.before.before) l.invariant.2, l.invariant.1))  -- judge-members-search-requires
     (λ c. search rules)  -- judge-members-enum-known-cause-2
     (λ c. omega arith)  -- judge-members-sub-refused-2
     (λ c κs. search rules)  -- judge-members-refused-requires-2
     (λ c.
     (
       c.search.ensures.0,
-      c.refused-in-Refused-search.ensures ∙ judged_unfit (turn t c.before.before.before.before.before.before.before.before.before.before.before.before.before) c.in-Item.is _ _ _ c.search.ensures.1
+      c.refused-in-Refused-search.ensures ∙ judged_unfit (turn t c.before.before.before.before.before.before.before.before.before.before) c.in-Item.is _ _ _ c.search.ensures.1
           c.in-Refused-search.is,
     ))  -- judge-members-returns-3
     (λ c. search rules)  -- judge-members-enum-known-x
     (λ c.
-    let z = found_low (turn t c.before.before.before.before.before.before.before.before.before.before.before.before.before) c.in-Item.is _ _ _ c.search.ensures.1
+    let z = found_low (turn t c.before.before.before.before.before.before.before.before.before.before) c.in-Item.is _ _ _ c.search.ensures.1
     c.in-Part.is in
     omega arith)  -- judge-members-add-from-2
     (λ c. omega arith)  -- judge-members-sub-refused-3
@@ -279,12 +279,12 @@ judge-members-half t =
     (λ c. place_few (comes t c.before.before.before.before))  -- judge-members-array-write-came
     (λ c. omega (arith, behind_few (comes t c.before.before.before.before.before)))  -- judge-members-add-j
     (λ c. omega (arith, type_below (comes t c.before.before.before.before.before.before)))  -- judge-members-mul-found
-    (λ c. type_below (comes t c.before.before.before.before.before.before))  -- judge-members-element-copy-out-found
+    (λ c. type_below (comes t c.before.before.before.before.before.before.before))  -- judge-members-element-copy-out-found
     (λ c. omega arith)  -- judge-members-sub-below
     (λ c. omega arith)  -- judge-members-sub-below-2
     (λ c κs.
     let q = c.requires in
-    let X = comes t (c.before.before.before.before.before.before.before.before.before) in (
+    let X = comes t (c.before.before.before.before.before.before.before.before.before.before) in (
       omega (arith, q.0),
       record {
         ready = q.1.ready;
@@ -300,25 +300,25 @@ judge-members-half t =
     (λ c.
     (
       c.judge_value.ensures.0,
-      c.refused-in-Refused-judge_value.ensures ∙ judged_refused (valued t (c.before.before.before.before)) _ _ c.in-Refused-judge_value.is,
+      c.refused-in-Refused-judge_value.ensures ∙ judged_refused (valued t (c.before.before)) _ _ c.in-Refused-judge_value.is,
     ))  -- judge-members-returns-5
     (λ c. search rules)  -- judge-members-enum-known-end-2
-    (λ c. omega (arith, depth_few (valued t c.before.before.before)))  -- judge-members-mul-grow
-    (λ c. omega (arith, (sizes_few (valued t c.before.before.before) _ _ c.in-Done.is).1))  -- judge-members-add-grow
-    (λ c κs. sizes_few (valued t c.before.before.before) _ _ c.in-Done.is)  -- judge-members-grow-requires
+    (λ c. omega (arith, depth_few (valued t c.before)))  -- judge-members-mul-grow
+    (λ c. omega (arith, (sizes_few (valued t c.before) _ _ c.in-Done.is).1))  -- judge-members-add-grow
+    (λ c κs. sizes_few (valued t c.before) _ _ c.in-Done.is)  -- judge-members-grow-requires
     (λ c κs. search rules)  -- judge-members-holds-one-requires
     (λ c κs. search rules)  -- judge-members-done-requires-2
     (λ c.
     (
       c.judge_value.ensures.0,
-      c.done-then-holds_one.ensures ∙ judged_one (valued t (c.before.before.before.before.before.before.before)) _ _ c.in-Done.is _ c.grow-total.ensures _
+      c.done-then-holds_one.ensures ∙ judged_one (valued t (c.before.before.before.before.before)) _ _ c.in-Done.is _ c.grow-total.ensures _
           c.holds_one.ensures c.if-holds_one.true,
     ))  -- judge-members-returns-6
     (λ c.
-    let Y = valued t c.before.before.before.before.before.before in
+    let Y = valued t c.before.before.before.before in
     omega (arith, value_further Y _ _ c.in-Done.is, value_low Y _ _ c.in-Done.is))  -- judge-members-loop-less
     (λ c.
-    let Y = valued t (c.before.before.before.before.before.before) in (
+    let Y = valued t (c.before.before.before.before) in (
       value_low Y _ _ c.in-Done.is,
       c.judge_value.ensures.0,
       judged_turn Y _ _ c.in-Done.is _ c.grow-total.ensures _ c.holds_one.ensures c.if-holds_one.false
@@ -392,7 +392,7 @@ abbrev at-contents : (t : ℕ) (c : judge_value_lts.Joined-e-ne-CHOICE (judge-va
     let x = c.if-e-gt0 in
     Within (record_of a.table.now a.w) (take x.end a.m.now) x.at x.end c.if-e-ne-CHOICE.start c.if-e-ne-CHOICE.stop c.if-e-ne-CHOICE.indefinite
 at-contents t c =
-    let x = at_item t c.before.before.before.before in
+    let x = at_item t c.before.before.before in
     ⊎_elim
     (λ z. rw (z.5, z.6, z.7) (contents_sized x z.0.taken z.1.result (z.1.ensures.0 _) z.3.given.0.0 z.3.given.1))
     (λ z. rw (z.1, z.2, z.3) (contents_bare x z.0.left))
@@ -403,7 +403,7 @@ abbrev at-filling : (t : ℕ) (c : judge_value_lts.Joined-e-ne-CHOICE (judge-val
     Filling a.table.now a.index.now a.w a.m.now a.at a.level
 at-filling t c =
     record {
-      item = at_item t c.before.before.before.before;
+      item = at_item t c.before.before.before;
       start = c.if-e-ne-CHOICE.start;
       stop = c.if-e-ne-CHOICE.stop;
       indefinite = c.if-e-ne-CHOICE.indefinite;
@@ -436,7 +436,7 @@ abbrev at_ended : (t : ℕ) (c : judge_value_lts.Joined-e (judge-value-claims t)
     Ended a.table.now a.index.now a.w a.m.now a.at a.level
 at_ended t c =
     record {
-      item = at_item t c.before.before.before.before.before;
+      item = at_item t c.before.before.before.before;
       stop = c.if-e.stop;
       count = c.if-e.size;
       over = at_over t c;
@@ -477,14 +477,14 @@ judge-value-half t =
     ))  -- judge-value-returns
     (λ c. search rules)  -- judge-value-enum-known-x
     (λ c. item_within (at_item t c.before))  -- judge-value-sub-left
-    (λ c. item_around (at_item t c.before.before))  -- judge-value-slice-aggregate-around
+    (λ c. item_around (at_item t c.before))  -- judge-value-slice-aggregate-around
     (λ c κs. tt)  -- judge-value-read-requires
     (λ c. search rules)  -- judge-value-enum-known-cause-2
     (λ c κs. tt)  -- judge-value-refused-requires-2
     (λ c.
     let f = c.cause-in-Refused-read-1.given in (
       c.requires.1.ways,
-      c.refused-in-Refused-read.ensures ∙ value_unread (at_item t c.before.before.before.before.before.before.before.before.before) c.if-e-ne-CHOICE.true _ (c.read.ensures.0 _) f.0.0 f.1,
+      c.refused-in-Refused-read.ensures ∙ value_unread (at_item t c.before.before.before.before.before.before) c.if-e-ne-CHOICE.true _ (c.read.ensures.0 _) f.0.0 f.1,
     ))  -- judge-value-returns-2
     (λ c. search rules)  -- judge-value-enum-known-x-2
     (λ c. (contents_within (at-filling t c.before.before.before)).0)  -- judge-value-sub-c
@@ -516,7 +516,7 @@ judge-value-half t =
     (λ c. search rules)  -- judge-value-enum-known-cause-3
     (λ c κs. tt)  -- judge-value-refused-requires-3
     (λ c.
-    let y = at-filling t (c.before.before.before.before.before.before.before.before.before.before.before.before) in
+    let y = at-filling t (c.before.before.before.before.before.before.before.before.before.before) in
     let r = c.judge_segments in
     let x = c.cause-in-Refused-judge_segments-1.given in (
       c.requires.1.ways,
@@ -524,7 +524,7 @@ judge-value-half t =
     ))  -- judge-value-returns-3
     (λ c. search rules)  -- judge-value-enum-known-x-3
     (λ c.
-    let y = at-filling t c.before.before.before.before.before.before.before.before.before.before.before in
+    let y = at-filling t c.before.before.before.before.before.before.before.before.before in
     let r = c.judge_segments in
     let x = c.x-in-Done-1.given in
     omega (arith, leaf_high y c.if-e.true r.result r.ensures x.0.0 x.0.1.0 x.1))  -- judge-value-add-stop
@@ -550,15 +550,15 @@ judge-value-half t =
     ))  -- judge-value-judge-members-requires
     (λ c. search rules)  -- judge-value-enum-known-cause-4
     (λ c.
-    (contents_within (at-filling t c.before.before.before.before.before.before.before.before.before)).1)  -- judge-value-sub-refused
+    (contents_within (at-filling t c.before.before.before.before.before.before.before)).1)  -- judge-value-sub-refused
     (λ c.
-    let y = at-filling t c.before.before.before.before.before.before.before.before.before in
+    let y = at-filling t c.before.before.before.before.before.before.before in
     let r = c.judge_members in
     let x = c.cause-in-Refused-judge_members-1.given in
     omega (arith, items_low y c.if-e.false r.result r.ensures.1 x.0.0 x.0.1.0 x.1))  -- judge-value-add-refused
     (λ c κs. tt)  -- judge-value-refused-requires-4
     (λ c.
-    let y = at-filling t c.before.before.before.before.before.before.before.before.before.before in
+    let y = at-filling t c.before.before.before.before.before.before.before.before in
     let r = c.judge_members in
     let x = c.cause-in-Refused-judge_members-1.given in (
       r.ensures.0,
@@ -566,7 +566,7 @@ judge-value-half t =
     ))  -- judge-value-returns-4
     (λ c. search rules)  -- judge-value-enum-known-x-4
     (λ c.
-    let y = at-filling t c.before.before.before.before.before.before.before.before.before in
+    let y = at-filling t c.before.before.before.before.before.before.before in
     let r = c.judge_members in
     let x = c.x-in-Done-judge_members-1.given in
     omega (arith, items_high y c.if-e.false r.result r.ensures.1 x.0.0 x.0.1.0 x.1))  -- judge-value-add-stop-2

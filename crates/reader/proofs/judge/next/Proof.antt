@@ -35,7 +35,7 @@ next_spec =
     (λ c κs. tt)  -- has-members-requires
     (λ c.
     let q = c.requires in
-    rw (← (at-since c.before.before.before.before.before.before)) (stands_list q.1 q.2 _ c.unpack-e.ensures _ c.holds_one.ensures _ _ c.if-holds_one.false _
+    rw (← (at-since c.before.before.before.before)) (stands_list q.1 q.2 _ c.unpack-e.ensures _ c.holds_one.ensures _ _ c.if-holds_one.false _
     c.read.ensures _ c.in-Over.is _ c.has_members.ensures c.if-not-has_members.true))  -- returns-2
     (λ c κs.
     let q = c.requires in (
@@ -45,17 +45,17 @@ next_spec =
     ))  -- lacks-requires
     (λ c.
     let q = c.requires in
-    rw (← (at-since c.before.before.before.before.before.before.before.before)) (stands_lacking q.1 q.2 _ c.unpack-e.ensures _ c.holds_one.ensures _ _ c.if-holds_one.false _
+    rw (← (at-since c.before.before.before.before.before.before)) (stands_lacking q.1 q.2 _ c.unpack-e.ensures _ c.holds_one.ensures _ _ c.if-holds_one.false _
     c.read.ensures _ c.in-Over.is _ c.has_members.ensures _ c.lacks.ensures c.if-lacks.true))  -- returns-3
     (λ c.
     let q = c.requires in
-    rw (← (at-since c.before.before.before)) (stands_more q.1 q.2 _ c.unpack-e.ensures _ c.holds_one.ensures _ _ c.if-holds_one.false _
+    rw (← (at-since c.before.before)) (stands_more q.1 q.2 _ c.unpack-e.ensures _ c.holds_one.ensures _ _ c.if-holds_one.false _
     c.read.ensures c.in-More.is))  -- returns-4
     (λ c.
     let q = c.requires in
-    rw (← (at-since c.before.before.before.before)) (stands_broken q.1 q.2 _ c.unpack-e.ensures _ c.holds_one.ensures _ _ c.if-holds_one.false _
+    rw (← (at-since c.before.before)) (stands_broken q.1 q.2 _ c.unpack-e.ensures _ c.holds_one.ensures _ _ c.if-holds_one.false _
     c.read.ensures _ c.in-Broken.is))  -- returns-5
     (λ c.
     let q = c.requires in
-    rw (← (at-since c.before.before.before.before.before.before.before.before)) (stands_over q.1 q.2 _ c.unpack-e.ensures _ c.holds_one.ensures _ _ c.if-holds_one.false _
+    rw (← (at-since c.before.before.before.before.before.before)) (stands_over q.1 q.2 _ c.unpack-e.ensures _ c.holds_one.ensures _ _ c.if-holds_one.false _
     c.read.ensures _ c.in-Over.is _ c.has_members.ensures _ c.lacks.ensures c.if-lacks.false)))  -- returns-6

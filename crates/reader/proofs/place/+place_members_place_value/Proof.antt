@@ -408,12 +408,12 @@ at_under t c =
 -- its contents
 at-contents : (t : ℕ) (c : place_value_lts.Joined-e-ne-CHOICE (place-value-claims t) (place-value-at t) place_value.Post) →
     let a = c.args in
-    Contents a.table.now a.w a.m.now a.at c.if-e-gt0.at c.if-e-gt0.end c.requires.1.fits.value (at_under t c.before.before.before).left c.if-e-ne-CHOICE.start
+    Contents a.table.now a.w a.m.now a.at c.if-e-gt0.at c.if-e-gt0.end c.requires.1.fits.value (at_under t c.before.before).left c.if-e-ne-CHOICE.start
     c.if-e-ne-CHOICE.stop c.if-e-ne-CHOICE.indefinite
 at-contents t c =
     let P = c.requires.1 in
     let e = c.unpack-e.ensures in
-    let U = at_under t c.before.before.before in
+    let U = at_under t c.before.before in
     let o : Octets c.args.table.now = λ i. omega (arith, c.shared_slice_known-1.given i) in
     let q : Octets c.args.m.now = λ i. omega (arith, c.shared_slice_known-2-1.given i) in
     ⊎_elim
@@ -425,12 +425,12 @@ at-contents t c =
 -- what was placed
 at_stored : (t : ℕ) (c : place_value_lts.Joined-e (place-value-claims t) (place-value-at t) place_value.Post) →
     let a = c.args in
-    Stored c.requires.1.fits.value a.m.now c.if-e-gt0.end (at_under t c.before.before.before.before).left a.buf.now a.to c.if-e.buf c.if-e.stop
+    Stored c.requires.1.fits.value a.m.now c.if-e-gt0.end (at_under t c.before.before.before).left a.buf.now a.to c.if-e.buf c.if-e.stop
     c.if-e.next c.if-e.way
 at_stored t c =
     let P = c.requires.1 in
     let e = c.unpack-e.ensures in
-    let U = at_under t c.before.before.before.before in
+    let U = at_under t c.before.before.before in
     let X = at-contents t c.before in
     ⊎_elim
     (λ x. stored_as (parts_stored P U X _ e x.0.taken (sym x.5.ensures ∙ x.6.taken) _ _ x.8.ensures) x.12 x.13 x.14 x.15)
@@ -502,10 +502,10 @@ pub +place_members_place_value_spec : {M : Type 1} → statement M
     let i = at_item t (c.before.before.before) X in
     (part_inside X _ i c.if-j-s.true, part_near X _ i c.if-j-s.true))  -- place-members-part-requires
     (λ c. let l = at_type t c in omega arith)  -- place-members-mul-first
-    (λ c. at_type t c)  -- place-members-element-copy-out-first
+    (λ c. at_type t c.before)  -- place-members-element-copy-out-first
     (λ c κs. tt)  -- place-members-first-requires
     (λ c.
-    (at_low t c.before.before.before.before.before.before.before).0)  -- place-members-shared-slice-read-fits
+    (at_low t c.before.before.before.before.before.before.before.before).0)  -- place-members-shared-slice-read-fits
     (λ c.
     omega (
       arith,
@@ -520,14 +520,14 @@ pub +place_members_place_value_spec : {M : Type 1} → statement M
     (λ c. search rules)  -- place-members-enum-told
     (λ c. search rules)  -- place-members-enum-known-x
     (λ c.
-    let X = at-started t c.before.before.before.before.before.before.before.before.before.before.before.before.before.before.before.before.before in
-    let l = found_low X _ (at_item t (c.before.before.before.before.before.before.before.before.before.before.before.before) X) _ _ c.search.ensures.0 (rw c.in-Part.is at (at-sought t (c.before.before.before.before)))
+    let X = at-started t c.before.before.before.before.before.before.before.before.before.before.before.before.before.before.before in
+    let l = found_low X _ (at_item t (c.before.before.before.before.before.before.before.before.before.before) X) _ _ c.search.ensures.0 (rw c.in-Part.is at (at-sought t (c.before.before)))
     in
     omega (arith, l, X.given.short))  -- place-members-add-from-2
     (λ c κs.
-    let X = at-started t c.before.before.before.before.before.before.before.before.before.before.before.before.before.before.before.before.before.before.before in
-    let F = rw c.in-Part.is at (at-sought t (c.before.before.before.before.before.before)) in
-    let C = at_item t (c.before.before.before.before.before.before.before.before.before.before.before.before.before.before) X in
+    let X = at-started t c.before.before.before.before.before.before.before.before.before.before.before.before.before.before.before.before in
+    let F = rw c.in-Part.is at (at-sought t (c.before.before.before)) in
+    let C = at_item t (c.before.before.before.before.before.before.before.before.before.before.before) X in
     let w = c.search.ensures.0 in
     (omega (arith, found_deep X _ C _ _ w F, w), w, found_room X _ C _ _ w F))  -- place-members-put-way-requires
     (λ c κs. tt)  -- place-members-has-members-requires
@@ -544,36 +544,36 @@ pub +place_members_place_value_spec : {M : Type 1} → statement M
     let X = at-started t c.before.before.before.before.before.before.before.before.before.before.before.before.before.before.before.before in
     omega (arith, (at-chosen t (c.before.before.before.before.before.before.before) X).low, X.given.ready.passes.few))  -- place-members-mul-place-value
     (λ c.
-    let X = at-started t c.before.before.before.before.before.before.before.before.before.before.before.before.before.before.before.before in
-    omega (arith, (at-chosen t (c.before.before.before.before.before.before.before) X).low, X.given.ready.passes.few))  -- place-members-element-copy-out-place-value
+    let X = at-started t c.before.before.before.before.before.before.before.before.before.before.before.before.before.before.before.before.before in
+    omega (arith, (at-chosen t (c.before.before.before.before.before.before.before.before) X).low, X.given.ready.passes.few))  -- place-members-element-copy-out-place-value
     (λ c κs.
-    let X = at-started t (c.before.before.before.before.before.before.before.before.before.before.before.before.before.before.before.before.before.before.before) in (
+    let X = at-started t (c.before.before.before.before.before.before.before.before.before.before.before.before.before.before.before.before.before.before.before.before) in (
       omega (arith, c.requires.0),
-      chosen_asks X _ (at-chosen t (c.before.before.before.before.before.before.before.before.before.before) X) c.put_place.ensures _ (at-grown t (c.before.before.before.before.before.before.before.before.before.before)).1,
+      chosen_asks X _ (at-chosen t (c.before.before.before.before.before.before.before.before.before.before.before) X) c.put_place.ensures _ (at-grown t (c.before.before.before.before.before.before.before.before.before.before.before)).1,
     ))  -- place-members-place-value-requires
     (λ c.
-    let X = at-started t c.before.before.before.before.before.before.before.before.before.before.before.before.before.before.before.before.before.before.before.before.before.before in
+    let X = at-started t c.before.before.before.before.before.before.before.before.before.before.before.before.before.before.before.before.before.before.before.before.before.before.before in
     omega (arith, state_count X (c.loop-began.invariant.2 _ X)))  -- place-members-add-count
     (λ c κs. tt)  -- place-members-holds-one-requires-2
     (λ c.
-    c.place_value-x.auto.1.1.1.1.1.1.0 ∙ c.put_place.auto.1.1.0 ∙ (at-grown t (c.before.before.before.before.before.before.before.before.before.before.before.before.before.before.before)).0 ∙ c.loop-began.invariant.1
+    c.place_value-x.auto.1.1.1.1.1.1.0 ∙ c.put_place.auto.1.1.0 ∙ (at-grown t (c.before.before.before.before.before.before.before.before.before.before.before.before.before.before.before.before)).0 ∙ c.loop-began.invariant.1
     ∙ c.begin-next.auto.1.1.0)  -- place-members-same-length-3
     (λ c.
-    let X = at-started t c.before.before.before.before.before.before.before.before.before.before.before.before.before.before.before.before.before.before.before.before.before.before.before.before in (
+    let X = at-started t c.before.before.before.before.before.before.before.before.before.before.before.before.before.before.before.before.before.before.before.before.before.before.before.before.before in (
       c.place_value-x.ensures.0,
-      chosen_one X _ (at-chosen t (c.before.before.before.before.before.before.before.before.before.before.before.before.before.before.before) X) c.put_place.ensures c.place_value-x.ensures.1 _
+      chosen_one X _ (at-chosen t (c.before.before.before.before.before.before.before.before.before.before.before.before.before.before.before.before) X) c.put_place.ensures c.place_value-x.ensures.1 _
           c.holds_one-in-loop-began.ensures c.if-holds_one.true,
     ))  -- place-members-returns-3
     (λ c.
-    let X = at-started t c.before.before.before.before.before.before.before.before.before.before.before.before.before.before.before.before.before.before.before.before.before.before.before.before in
-    let l = at_turn t (c.before.before.before.before.before.before.before.before.before.before.before.before.before.before.before.before.before.before.before) in
-    chosen_fewer X _ (at-chosen t (c.before.before.before.before.before.before.before.before.before.before.before.before.before.before.before) X) c.put_place.ensures c.place_value-x.ensures.1 _ _ l.1 l.2)  -- place-members-loop-less
+    let X = at-started t c.before.before.before.before.before.before.before.before.before.before.before.before.before.before.before.before.before.before.before.before.before.before.before.before.before in
+    let l = at_turn t (c.before.before.before.before.before.before.before.before.before.before.before.before.before.before.before.before.before.before.before.before) in
+    chosen_fewer X _ (at-chosen t (c.before.before.before.before.before.before.before.before.before.before.before.before.before.before.before.before) X) c.put_place.ensures c.place_value-x.ensures.1 _ _ l.1 l.2)  -- place-members-loop-less
     (λ c.
     (
       c.place_value-x.ensures.0,
-      c.place_value-x.auto.1.1.1.1.1.1.0 ∙ c.put_place.auto.1.1.0 ∙ (at-grown t (c.before.before.before.before.before.before.before.before.before.before.before.before.before.before.before)).0
+      c.place_value-x.auto.1.1.1.1.1.1.0 ∙ c.put_place.auto.1.1.0 ∙ (at-grown t (c.before.before.before.before.before.before.before.before.before.before.before.before.before.before.before.before)).0
           ∙ c.loop-began.invariant.1,
-      λ first X. chosen_next X _ (at-chosen t (c.before.before.before.before.before.before.before.before.before.before.before.before.before.before.before) X) c.put_place.ensures c.place_value-x.ensures.1 _
+      λ first X. chosen_next X _ (at-chosen t (c.before.before.before.before.before.before.before.before.before.before.before.before.before.before.before.before) X) c.put_place.ensures c.place_value-x.ensures.1 _
           c.holds_one-in-loop-began.ensures c.if-holds_one.false,
     )))  -- place-members-loop-again
     λ t. place_value_lts.spec (place-value-claims t)
@@ -586,62 +586,62 @@ pub +place_members_place_value_spec : {M : Type 1} → statement M
     (_, P.ready, (P.type, P.low, P.entry), e, P.headed, P.short, refl))  -- place-value-open-requires
     (λ c. search rules)  -- place-value-enum-told
     (λ c. search rules)  -- place-value-enum-known-x
-    (λ c. sym (length-take-le _ _ (at_under t c.before).under.high))  -- place-value-slice-aggregate-around
+    (λ c. sym (length-take-le _ _ (at_under t c).under.high))  -- place-value-slice-aggregate-around
     (λ c κs. search rules)  -- place-value-again-requires
     (λ c. (at-contents t c.before.before.before).order)  -- place-value-sub-c
     (λ c. let h = (at-contents t c.before.before.before).order in search rules)  -- place-value-part-c-start
     (λ c.
-    let h = part_high c.requires.1 (at_under t c.before.before.before.before.before.before) (at-contents t c.before.before.before) in
+    let h = part_high c.requires.1 (at_under t c.before.before.before.before.before) (at-contents t c.before.before.before) in
     search rules)  -- place-value-part-c-end
     (λ c.
-    lead_inside c.requires.1 (at_under t c.before.before.before.before.before.before.before.before) (at-contents t c.before.before.before.before.before))  -- place-value-shared-slice-read-in-segments
+    lead_inside c.requires.1 (at_under t c.before.before.before.before.before.before.before) (at-contents t c.before.before.before.before.before))  -- place-value-shared-slice-read-in-segments
     (λ c κs. tt)  -- place-value-in-segments-requires
     (λ c κs.
     let e = c.unpack-e.ensures in
     let f = c.if-e.true in
-    parts_ask c.requires.1 (at_under t c.before.before.before.before.before.before.before.before.before.before.before) (at-contents t c.before.before.before.before.before.before.before.before) _ e f (sym c.in_segments.ensures ∙ c.if-in_segments.true))  -- place-value-place-segments-requires
+    parts_ask c.requires.1 (at_under t c.before.before.before.before.before.before.before.before.before.before) (at-contents t c.before.before.before.before.before.before.before.before) _ e f (sym c.in_segments.ensures ∙ c.if-in_segments.true))  -- place-value-place-segments-requires
     (λ c.
     let e = c.unpack-e.ensures in
     let f = c.if-e.true in
     let z = sym c.in_segments.ensures ∙ c.if-in_segments.true in
-    omega (arith, parts_end c.requires.1 (at_under t c.before.before.before.before.before.before.before.before.before.before.before.before.before.before.before) (at-contents t c.before.before.before.before.before.before.before.before.before.before.before.before) _ e f z _ _ c.place_segments-x.ensures))  -- place-value-add-stop
+    omega (arith, parts_end c.requires.1 (at_under t c.before.before.before.before.before.before.before.before.before.before.before.before.before.before) (at-contents t c.before.before.before.before.before.before.before.before.before.before.before.before) _ e f z _ _ c.place_segments-x.ensures))  -- place-value-add-stop
     (λ c κs.
     let e = c.unpack-e.ensures in
     let f = c.if-e.true in
-    leaf_asks c.requires.1 (at_under t c.before.before.before.before.before.before.before.before.before.before.before) (at-contents t c.before.before.before.before.before.before.before.before) _ e f (sym c.in_segments.ensures ∙ c.if-in_segments.false))  -- place-value-place-contents-requires
+    leaf_asks c.requires.1 (at_under t c.before.before.before.before.before.before.before.before.before.before) (at-contents t c.before.before.before.before.before.before.before.before) _ e f (sym c.in_segments.ensures ∙ c.if-in_segments.false))  -- place-value-place-contents-requires
     (λ c. (at-contents t c.before.before.before).order)  -- place-value-sub-c-2
     (λ c. let h = (at-contents t c.before.before.before).order in search rules)  -- place-value-part-c-start-2
     (λ c.
-    let h = part_high c.requires.1 (at_under t c.before.before.before.before.before.before) (at-contents t c.before.before.before) in
+    let h = part_high c.requires.1 (at_under t c.before.before.before.before.before) (at-contents t c.before.before.before) in
     search rules)  -- place-value-part-c-end-2
     (λ c κs.
     let e = rw c.unpack-e.ensures at c.if-e.false in (
-      omega (arith, c.requires.0, part_less c.requires.1 (at_under t c.before.before.before.before.before.before.before.before.before) (at-contents t c.before.before.before.before.before.before)),
-      items_ask c.requires.1 (at_under t c.before.before.before.before.before.before.before.before.before) (at-contents t c.before.before.before.before.before.before) e,
+      omega (arith, c.requires.0, part_less c.requires.1 (at_under t c.before.before.before.before.before.before.before.before) (at-contents t c.before.before.before.before.before.before)),
+      items_ask c.requires.1 (at_under t c.before.before.before.before.before.before.before.before) (at-contents t c.before.before.before.before.before.before) e,
     ))  -- place-value-place-members-requires
     (λ c.
     let f = c.if-e.false in
     let e = rw c.unpack-e.ensures at f in
     let q = c.place_members-x.ensures.1 in
-    omega (arith, items_end c.requires.1 (at_under t c.before.before.before.before.before.before.before.before.before.before.before.before.before) (at-contents t c.before.before.before.before.before.before.before.before.before.before) e _ _ q))  -- place-value-add-stop-2
+    omega (arith, items_end c.requires.1 (at_under t c.before.before.before.before.before.before.before.before.before.before.before.before) (at-contents t c.before.before.before.before.before.before.before.before.before.before) e _ _ q))  -- place-value-add-stop-2
     (λ c. search rules)  -- place-value-cast-close
     (λ c κs.
-    close_asks c.requires.1 (at_under t c.before.before.before.before.before.before.before.before) (at_stored t c.before.before.before.before) _ c.unpack-e.ensures)  -- place-value-close-requires
+    close_asks c.requires.1 (at_under t c.before.before.before.before.before.before.before) (at_stored t c.before.before.before.before) _ c.unpack-e.ensures)  -- place-value-close-requires
     (λ c. search rules)  -- place-value-enum-told-2
     (λ c. search rules)  -- place-value-enum-known-x-2
     (λ c.
-    stored_length c.requires.1 (at_under t c.before.before.before.before.before.before.before.before.before.before.before) (at_stored t c.before.before.before.before.before.before.before))  -- place-value-same-length
+    stored_length c.requires.1 (at_under t c.before.before.before.before.before.before.before.before.before) (at_stored t c.before.before.before.before.before.before))  -- place-value-same-length
     (λ c.
-    let d = must_close c.requires.1 (at_under t c.before.before.before.before.before.before.before.before.before.before.before) (at_stored t c.before.before.before.before.before.before.before) _ c.unpack-e.ensures _ c.close.ensures in
+    let d = must_close c.requires.1 (at_under t c.before.before.before.before.before.before.before.before.before) (at_stored t c.before.before.before.before.before.before) _ c.unpack-e.ensures _ c.close.ensures in
     absurd (d _ _ c.in-Refused-close.is))  -- place-value-returns
     (λ c.
-    stored_length c.requires.1 (at_under t c.before.before.before.before.before.before.before.before.before.before.before.before) (at_stored t c.before.before.before.before.before.before.before.before))  -- place-value-same-length-2
+    stored_length c.requires.1 (at_under t c.before.before.before.before.before.before.before.before.before) (at_stored t c.before.before.before.before.before.before))  -- place-value-same-length-2
     (λ c.
     let e = c.unpack-e.ensures in
-    let d = closed_placed c.requires.1 (at_under t c.before.before.before.before.before.before.before.before.before.before.before.before) (at_stored t c.before.before.before.before.before.before.before.before) _ e _ c.close.ensures in
-    ((at_stored t c.before.before.before.before.before.before.before.before).ways, d _ _ c.in-Done.is))  -- place-value-returns-2
+    let d = closed_placed c.requires.1 (at_under t c.before.before.before.before.before.before.before.before.before) (at_stored t c.before.before.before.before.before.before) _ e _ c.close.ensures in
+    ((at_stored t c.before.before.before.before.before.before).ways, d _ _ c.in-Done.is))  -- place-value-returns-2
     (λ c.
-    stored_length c.requires.1 (at_under t c.before.before.before.before.before.before) (at_stored t c.before.before))  -- place-value-same-length-3
+    stored_length c.requires.1 (at_under t c.before.before.before.before.before) (at_stored t c.before.before))  -- place-value-same-length-3
     (λ c.
     let e = rw c.unpack-e.ensures at c.if-e-gt0-2.false in
-    ((at_stored t c.before.before).ways, bare_placed c.requires.1 (at_under t c.before.before.before.before.before.before) (at_stored t c.before.before) e))  -- place-value-returns-3
+    ((at_stored t c.before.before).ways, bare_placed c.requires.1 (at_under t c.before.before.before.before.before) (at_stored t c.before.before) e))  -- place-value-returns-3

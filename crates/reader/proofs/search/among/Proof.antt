@@ -53,55 +53,55 @@ among_spec =
     let q = c.requires in
     (q.4, amid_first q.0 _ _ _ q.3 q.1 q.2))  -- loop-holds
     (λ c. omega (arith, (few c).0))  -- mul-unpack
-    (λ c. (few c).0)  -- element-copy-out-unpack
+    (λ c. (few c.before).0)  -- element-copy-out-unpack
     (λ c κs. tt)  -- unpack-requires
     (λ c κs. tt)  -- alternatives-requires
     (λ c. omega (arith, (its (turn c.before.before.before)).near, c.if-j-s.true))  -- add-octet
     (λ c κs. tt)  -- octet-requires
-    (λ c. omega (arith, (few c.before.before.before.before.before.before.before).0))  -- mul-way
-    (λ c. omega (arith, (few c.before.before.before.before.before.before.before).0, (one c).few))  -- add-way
-    (λ c. omega (arith, (few c.before.before.before.before.before.before.before).0, (one c).few))  -- cast-way
+    (λ c. omega (arith, (few c.before.before.before.before.before.before.before.before).0))  -- mul-way
+    (λ c. omega (arith, (few c.before.before.before.before.before.before.before.before).0, (one c).few))  -- add-way
+    (λ c. omega (arith, (few c.before.before.before.before.before.before.before.before).0, (one c).few))  -- cast-way
     (λ c. omega (arith, (one c).room))  -- mul-way-2
-    (λ c. (one c).room)  -- element-write-way
+    (λ c. (one c.before).room)  -- element-write-way
     (λ c. omega (arith, c.octet-a.ensures.1))  -- mul-begins
-    (λ c. omega (arith, (one c).small, c.requires.0.passes.few))  -- element-copy-out-begins
+    (λ c. omega (arith, (one c.before).small, c.requires.0.passes.few))  -- element-copy-out-begins
     (λ c κs.
-    code_most c.requires.0 _ (one c.before).small)  -- begins-requires
-    (λ c. omega (arith, (one c.before.before.before).room))  -- add-t28
+    code_most c.requires.0 _ (one c.before.before).small)  -- begins-requires
+    (λ c. omega (arith, (one c.before.before.before.before).room))  -- add-t28
     (λ c.
     (
       simp length-set c.loop-j.invariant.0,
-      among_found (turn c.before.before.before.before.before.before.before) c.if-j-s.true c.octet-a.ensures.0 c.begins.ensures c.if-begins.true,
+      among_found (turn c.before.before.before.before.before.before.before.before) c.if-j-s.true c.octet-a.ensures.0 c.begins.ensures c.if-begins.true,
     ))  -- returns
     (λ c. omega (arith, c.octet-a.ensures.1))  -- mul-first
     (λ c.
-    omega (arith, (one c.before.before.before).small, c.requires.0.passes.few))  -- element-copy-out-first
+    omega (arith, (one c.before.before.before.before).small, c.requires.0.passes.few))  -- element-copy-out-first
     (λ c κs. tt)  -- first-requires
-    (λ c. omega (arith, (one c.before.before.before.before.before.before).room))  -- add-depth
+    (λ c. omega (arith, (one c.before.before.before.before.before.before.before).room))  -- add-depth
     (λ c.
-    fewer_under (turn c.before.before.before.before.before.before.before.before.before.before) c.if-j-s.true c.octet-a.ensures.0)  -- loop-less
+    fewer_under (turn c.before.before.before.before.before.before.before.before.before.before.before) c.if-j-s.true c.octet-a.ensures.0)  -- loop-less
     (λ c.
     (
       simp length-set c.loop-j.invariant.0,
-      among_down (turn c.before.before.before.before.before.before.before.before.before.before) c.if-j-s.true c.octet-a.ensures.0 c.begins.ensures _ c.first.ensures
+      among_down (turn c.before.before.before.before.before.before.before.before.before.before.before) c.if-j-s.true c.octet-a.ensures.0 c.begins.ensures _ c.first.ensures
           c.if-first-eq-UNTAGGED.true,
     ))  -- loop-again
-    (λ c. omega (arith, (one c.before.before.before.before.before.before).few))  -- add-j
+    (λ c. omega (arith, (one c.before.before.before.before.before.before.before).few))  -- add-j
     (λ c.
-    fewer_beside (turn c.before.before.before.before.before.before.before.before.before.before) c.if-j-s.true c.octet-a.ensures.0)  -- loop-less-2
+    fewer_beside (turn c.before.before.before.before.before.before.before.before.before.before.before) c.if-j-s.true c.octet-a.ensures.0)  -- loop-less-2
     (λ c.
     (
       simp length-set c.loop-j.invariant.0,
-      among_next (turn c.before.before.before.before.before.before.before.before.before.before) c.if-j-s.true c.octet-a.ensures.0 c.begins.ensures c.if-begins.false _
+      among_next (turn c.before.before.before.before.before.before.before.before.before.before.before) c.if-j-s.true c.octet-a.ensures.0 c.begins.ensures c.if-begins.false _
           c.first.ensures c.if-first-eq-UNTAGGED.false,
     ))  -- loop-again-2
     (λ c.
     (c.loop-j.invariant.0, among_none (turn c.before.before.before) c.if-j-s.false c.if-depth-eq0.true))  -- returns-2
     (λ c. omega (arith, c.if-depth-eq0.false))  -- sub-depth
-    (λ c. omega (arith, (few c.before.before.before.before.before.before).1))  -- mul-n
-    (λ c. omega (arith, (few c.before.before.before.before.before.before).1, c.if-depth-eq0.false))  -- element-copy-out-n
-    (λ c. omega (arith, among_small (turn c.before.before.before.before) c.if-j-s.false c.if-depth-eq0.false))  -- cast-n
+    (λ c. omega (arith, (few c.before.before.before.before.before.before.before).1))  -- mul-n
+    (λ c. omega (arith, (few c.before.before.before.before.before.before.before.before).1, c.if-depth-eq0.false))  -- element-copy-out-n
+    (λ c. omega (arith, among_small (turn c.before.before.before.before.before) c.if-j-s.false c.if-depth-eq0.false))  -- cast-n
     (λ c. omega arith)  -- add-j-2
-    (λ c. fewer_above (turn c.before.before.before.before) c.if-j-s.false c.if-depth-eq0.false)  -- loop-less-3
+    (λ c. fewer_above (turn c.before.before.before.before.before) c.if-j-s.false c.if-depth-eq0.false)  -- loop-less-3
     (λ c.
-    (c.loop-j.invariant.0, among_back (turn c.before.before.before.before) c.if-j-s.false c.if-depth-eq0.false)))  -- loop-again-3
+    (c.loop-j.invariant.0, among_back (turn c.before.before.before.before.before) c.if-j-s.false c.if-depth-eq0.false)))  -- loop-again-3

@@ -36,33 +36,33 @@ direct_spec =
     (λ c. omega (arith, near (at-parts c.before.before.before.before) _ c.loop-k-test.true))  -- mul-p
     (λ c. omega (arith, near (at-parts c.before.before.before.before.before) _ c.loop-k-test.true))  -- add-p
     (λ c. omega (arith, few (at-parts c.before.before.before.before.before), c.loop-k-test.true))  -- mul-if2
-    (λ c. omega (arith, few (at-parts c.before.before.before.before.before), c.loop-k-test.true))  -- element-copy-out-if2
+    (λ c. omega (arith, few (at-parts c.before.before.before.before.before.before), c.loop-k-test.true))  -- element-copy-out-if2
     (λ c κs. tt)  -- octet-requires
     (λ c. omega (arith, c.octet-t.ensures.1))  -- mul-begins
     (λ c.
     omega (
       arith,
-      type_low (at-parts (c.before.before.before.before.before.before.before.before)) _ c.loop-k-test.true _ c.octet-t.ensures.0,
+      type_low (at-parts (c.before.before.before.before.before.before.before.before.before.before)) _ c.loop-k-test.true _ c.octet-t.ensures.0,
       c.requires.ready.passes.few,
     ))  -- element-copy-out-begins
     (λ c κs.
-    code_most c.requires.ready _ (type_low (at-parts c.before.before.before.before.before.before.before.before.before) _ c.loop-k-test.true _ c.octet-t.ensures.0))  -- begins-requires
+    code_most c.requires.ready _ (type_low (at-parts c.before.before.before.before.before.before.before.before.before.before.before) _ c.loop-k-test.true _ c.octet-t.ensures.0))  -- begins-requires
     (λ c.
-    sym (c.loop-k.invariant ∙ direct_found (at-parts c.before.before.before.before.before.before.before.before.before.before.before) _ c.loop-k-test.true _ _ _ c.octet-t.ensures.0
+    sym (c.loop-k.invariant ∙ direct_found (at-parts c.before.before.before.before.before.before.before.before.before.before.before.before.before) _ c.loop-k-test.true _ _ _ c.octet-t.ensures.0
     c.begins.ensures c.if-came-k-eq0.taken c.if-begins.true))  -- returns
     (λ c κs. tt)  -- optional-requires
     (λ c.
-    sym (c.loop-k.invariant ∙ direct_stop (at-parts (c.before.before.before.before.before.before.before.before.before.before.before)) _ c.loop-k-test.true _ (⊎_elim (λ x. other_code (at-parts (c.before.before.before.before.before.before.before.before.before.before.before)) _
-    c.loop-k-test.true _ x.1.result x.3.result x.1.ensures.0 x.3.ensures x.4.left) (λ x. other_come (at-parts (c.before.before.before.before.before.before.before.before.before.before.before))
+    sym (c.loop-k.invariant ∙ direct_stop (at-parts (c.before.before.before.before.before.before.before.before.before.before.before.before)) _ c.loop-k-test.true _ (⊎_elim (λ x. other_code (at-parts (c.before.before.before.before.before.before.before.before.before.before.before.before)) _
+    c.loop-k-test.true _ x.1.result x.3.result x.1.ensures.0 x.3.ensures x.4.left) (λ x. other_come (at-parts (c.before.before.before.before.before.before.before.before.before.before.before.before))
     _ c.loop-k-test.true _ x.left) c.if-came-k-eq0.branch) c.if-e-eq-SEQUENCE.true _ c.optional.ensures (not-true _
     c.if-not-optional.true)))  -- returns-2
     (λ c.
-    omega (arith, few (at-parts c.before.before.before.before.before.before.before.before.before), c.loop-k-test.true))  -- add-k
+    omega (arith, few (at-parts c.before.before.before.before.before.before.before.before.before.before), c.loop-k-test.true))  -- add-k
     (λ c. omega (arith, c.loop-k-test.true))  -- loop-less
     (λ c.
-    c.loop-k.invariant ∙ direct_skip (at-parts (c.before.before.before.before.before.before.before.before.before)) _ c.loop-k-test.true _ (⊎_elim (λ x. other_code (at-parts (c.before.before.before.before.before.before.before.before.before)) _ c.loop-k-test.true _
-    x.1.result x.3.result x.1.ensures.0 x.3.ensures x.4.left) (λ x. other_come (at-parts (c.before.before.before.before.before.before.before.before.before)) _ c.loop-k-test.true
-    _ x.left) c.if-came-k-eq0.branch) (⊎_elim (λ x. may_optional (at-parts (c.before.before.before.before.before.before.before.before.before)) _ c.loop-k-test.true x.0.taken
-    x.1.result x.1.ensures (not-false _ x.2.left)) (λ x. may_other (at-parts (c.before.before.before.before.before.before.before.before.before)) _ c.loop-k-test.true x.left)
+    c.loop-k.invariant ∙ direct_skip (at-parts (c.before.before.before.before.before.before.before.before.before.before)) _ c.loop-k-test.true _ (⊎_elim (λ x. other_code (at-parts (c.before.before.before.before.before.before.before.before.before.before)) _ c.loop-k-test.true _
+    x.1.result x.3.result x.1.ensures.0 x.3.ensures x.4.left) (λ x. other_come (at-parts (c.before.before.before.before.before.before.before.before.before.before)) _ c.loop-k-test.true
+    _ x.left) c.if-came-k-eq0.branch) (⊎_elim (λ x. may_optional (at-parts (c.before.before.before.before.before.before.before.before.before.before)) _ c.loop-k-test.true x.0.taken
+    x.1.result x.1.ensures (not-false _ x.2.left)) (λ x. may_other (at-parts (c.before.before.before.before.before.before.before.before.before.before)) _ c.loop-k-test.true x.left)
     c.if-e-eq-SEQUENCE.branch))  -- loop-again
     (λ c. sym (c.loop-k.invariant ∙ direct_end (at-parts c.before.before.before) _ _ c.loop-k-test.false)))  -- returns-3

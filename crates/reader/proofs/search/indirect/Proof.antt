@@ -38,9 +38,9 @@ at_count c = ⊎_elim (λ x. inl (x.0.taken, x.1)) (λ x. inr (x.0.left, x.1)) c
 
 -- the part at hand
 abbrev at-candidate : (c : tie.Joined-whole-2 invariant-loop decreases-loop) →
-    Candidate (at-parts c.before.before.before.before.before.before.before) c.loop-k.k c.if-whole-2.t
+    Candidate (at-parts c.before.before.before.before.before.before.before.before) c.loop-k.k c.if-whole-2.t
 at-candidate c =
-    candidate (at-parts c.before.before.before.before.before.before.before) _ _ _ (at_count c.before.before.before.before.before) c.loop-k-test.true
+    candidate (at-parts c.before.before.before.before.before.before.before.before) _ _ _ (at_count c.before.before.before.before.before.before) c.loop-k-test.true
     (⊎_elim (λ x. inl (x.0.taken, x.2)) (λ x. inr (x.0.left, x.4 ∙ x.3.ensures.0)) c.if-whole-2.branch)
 
 pub indirect_spec : {M : Type 1} → statement M
@@ -55,18 +55,18 @@ indirect_spec =
     (λ c.
     omega (arith, few_parts (at-parts c.before.before.before.before) _ (at_count c.before.before), c.loop-k-test.true))  -- mul-if2
     (λ c.
-    omega (arith, few_parts (at-parts c.before.before.before.before) _ (at_count c.before.before), c.loop-k-test.true))  -- element-copy-out-if2
+    omega (arith, few_parts (at-parts c.before.before.before.before.before) _ (at_count c.before.before.before), c.loop-k-test.true))  -- element-copy-out-if2
     (λ c. search rules)  -- cast-t
     (λ c.
     omega (
       arith,
-      near (at-parts c.before.before.before.before.before.before.before.before) _ (table_part (at-parts c.before.before.before.before.before.before.before.before) _ _ (at_count c.before.before.before.before.before.before) c.loop-k-test.true
+      near (at-parts c.before.before.before.before.before.before.before.before.before) _ (table_part (at-parts c.before.before.before.before.before.before.before.before.before) _ _ (at_count c.before.before.before.before.before.before.before) c.loop-k-test.true
           c.if-whole-2.false),
     ))  -- mul-octet
     (λ c.
     omega (
       arith,
-      near (at-parts c.before.before.before.before.before.before.before.before.before) _ (table_part (at-parts c.before.before.before.before.before.before.before.before.before) _ _ (at_count c.before.before.before.before.before.before.before) c.loop-k-test.true
+      near (at-parts c.before.before.before.before.before.before.before.before.before.before) _ (table_part (at-parts c.before.before.before.before.before.before.before.before.before.before) _ _ (at_count c.before.before.before.before.before.before.before.before) c.loop-k-test.true
           c.if-whole-2.false),
     ))  -- add-octet
     (λ c κs. tt)  -- octet-requires
@@ -74,7 +74,7 @@ indirect_spec =
     let q = c.requires in
     let l = c.loop-k in (
       q.0.ready,
-      candidate_low (at-parts c.before.before.before.before.before.before.before.before) c.args.code l.k c.if-whole-2.t (at-candidate c.before),
+      candidate_low (at-parts c.before.before.before.before.before.before.before.before.before) c.args.code l.k c.if-whole-2.t (at-candidate c.before),
       q.2,
       l.invariant.0,
     ))  -- seek-requires
@@ -83,7 +83,7 @@ indirect_spec =
     (λ c.
     (
       c.seek.ensures.0,
-      indirect_part (at-parts c.before.before.before.before.before.before.before.before.before.before.before.before) _ _ _ (at-candidate c.before.before.before.before.before) _ _ c.seek.ensures.1 _ _ _ _
+      indirect_part (at-parts c.before.before.before.before.before.before.before.before.before.before.before) _ _ _ (at-candidate c.before.before.before) _ _ c.seek.ensures.1 _ _ _ _
           c.loop-k.invariant.1 c.if-came-k-eq0.true c.«record».given.1,
     ))  -- returns
     (λ c.
@@ -105,19 +105,19 @@ indirect_spec =
     (λ c.
     (
       c.seek.ensures.0,
-      indirect_none (at-parts c.before.before.before.before.before.before.before.before.before.before.before.before.before.before.before.before.before.before) _ _ _ _ (c.loop-k.invariant.1 ∙ indirect_stop (at-parts c.before.before.before.before.before.before.before.before.before.before.before.before.before.before.before.before.before.before) _ _ _ (at-candidate c.before.before.before.before.before.before.before.before.before.before.before) _ _
+      indirect_none (at-parts c.before.before.before.before.before.before.before.before.before.before.before.before.before.before.before.before.before.before) _ _ _ _ (c.loop-k.invariant.1 ∙ indirect_stop (at-parts c.before.before.before.before.before.before.before.before.before.before.before.before.before.before.before.before.before.before) _ _ _ (at-candidate c.before.before.before.before.before.before.before.before.before.before) _ _
           c.seek.ensures.1 c.if-came-k-eq0.true c.in-Nothing.is c.if-e-eq-SEQUENCE.true _ c.optional.ensures
           c.if-not-optional.true) _ c.unawaited.ensures,
     ))  -- returns-2
     (λ c.
-    omega (arith, few_parts (at-parts c.before.before.before.before.before.before) _ (at_count c.before.before.before.before), c.loop-k-test.true))  -- add-k
+    omega (arith, few_parts (at-parts c.before.before.before.before.before.before.before) _ (at_count c.before.before.before.before.before), c.loop-k-test.true))  -- add-k
     (λ c. omega (arith, c.loop-k-test.true))  -- loop-less
     (λ c.
     let l = c.loop-k in
     ⊎_elim (λ x. (
       ap length x.12 ∙ x.3.ensures.0,
-      l.invariant.1 ∙ indirect_optional (at-parts c.before.before.before.before.before.before) _ _ x.1.t (candidate
-          (at-parts c.before.before.before.before.before.before) _ _ x.1.t (at_count c.before.before.before.before) c.loop-k-test.true (⊎_elim (λ y. inl (y.0.taken, y.2)) (λ y. inr (
+      l.invariant.1 ∙ indirect_optional (at-parts c.before.before.before.before.before.before.before) _ _ x.1.t (candidate
+          (at-parts c.before.before.before.before.before.before.before) _ _ x.1.t (at_count c.before.before.before.before.before) c.loop-k-test.true (⊎_elim (λ y. inl (y.0.taken, y.2)) (λ y. inr (
             y.0.left,
             y.4 ∙ y.3.ensures.0,
           )) x.1.came)) _ x.3.result x.3.ensures.1 x.0.taken x.5.given.1 x.7.taken
@@ -125,13 +125,13 @@ indirect_spec =
     )) (⊎_elim (λ x. (
       ap length x.8 ∙ x.3.ensures.0,
       l.invariant.1
-          ∙ indirect_other (at-parts c.before.before.before.before.before.before) _ _ x.1.t (candidate (at-parts c.before.before.before.before.before.before) _ _ x.1.t (at_count c.before.before.before.before) c.loop-k-test.true
+          ∙ indirect_other (at-parts c.before.before.before.before.before.before.before) _ _ x.1.t (candidate (at-parts c.before.before.before.before.before.before.before) _ _ x.1.t (at_count c.before.before.before.before.before) c.loop-k-test.true
           (⊎_elim (λ y. inl (y.0.taken, y.2)) (λ y. inr (y.0.left, y.4 ∙ y.3.ensures.0)) x.1.came)) _ x.3.result
           x.3.ensures.1 x.0.taken x.5.given.1 x.7.left,
     )) (λ x. (
       ap length x.1 ∙ l.invariant.0,
       l.invariant.1 ∙ indirect_come
-          (at-parts c.before.before.before.before.before.before) _ _ _ (at_count c.before.before.before.before) c.loop-k-test.true x.0.left,
+          (at-parts c.before.before.before.before.before.before.before) _ _ _ (at_count c.before.before.before.before.before) c.loop-k-test.true x.0.left,
     ))) c.if-came-k-eq0.branch)  -- loop-again
     (λ c κs.
     let q = c.requires in

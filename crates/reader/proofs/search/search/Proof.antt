@@ -33,47 +33,47 @@ search_spec =
     (λ c κs. tt)  -- read-requires
     (λ c. search rules)  -- enum-known-cause
     (λ c κs.
-    (_, c.requires.0, since_again (at-parts c.before.before.before.before.before.before) _ _ (at-since c.before.before.before.before)))  -- unawaited-requires
+    (_, c.requires.0, since_again (at-parts c.before.before.before.before) _ _ (at-since c.before.before)))  -- unawaited-requires
     (λ c. search rules)  -- enum-known-code
     (λ c κs. c.requires.0)  -- direct-requires
     (λ c.
     omega (
       arith,
-      near (at-parts c.before.before.before.before.before.before.before.before.before.before) _
+      near (at-parts c.before.before.before.before.before.before.before.before) _
           c.if-place-s.true,
     ))  -- mul-octet
     (λ c.
     omega (
       arith,
-      near (at-parts c.before.before.before.before.before.before.before.before.before.before.before) _
+      near (at-parts c.before.before.before.before.before.before.before.before.before) _
           c.if-place-s.true,
     ))  -- add-octet
     (λ c κs. tt)  -- octet-requires
     (λ c.
     (
       c.requires.1,
-      rw (← (at-since c.before.before.before.before.before.before.before.before.before.before)) (sought_direct (at-parts c.before.before.before.before.before.before.before.before.before.before.before.before) _ (λ n. omega (arith, c.shared_slice_known-2-1.given n)) _
+      rw (← (at-since c.before.before.before.before.before.before.before.before)) (sought_direct (at-parts c.before.before.before.before.before.before.before.before.before.before) _ (λ n. omega (arith, c.shared_slice_known-2-1.given n)) _
           c.read.ensures _ _ _ _ c.in-Read.is _ c.direct-place.ensures c.if-place-s.true _ c.octet-record.ensures.0),
     ))  -- returns
     (λ c κs.
     let a = c.args in
     let q = c.requires in (
       q.0,
-      since_again (at-parts c.before.before.before.before.before.before.before.before.before.before) c.if-e-eq-SEQUENCE.i a.j (at-since c.before.before.before.before.before.before.before.before),
-      code_small (at-parts c.before.before.before.before.before.before.before.before.before.before) a.m.now (λ n. omega (arith, c.shared_slice_known-2-1.given n)) _ c.read.ensures
+      since_again (at-parts c.before.before.before.before.before.before.before.before) c.if-e-eq-SEQUENCE.i a.j (at-since c.before.before.before.before.before.before),
+      code_small (at-parts c.before.before.before.before.before.before.before.before) a.m.now (λ n. omega (arith, c.shared_slice_known-2-1.given n)) _ c.read.ensures
           c.if-e-eq-SEQUENCE.i a.way.now _ _ c.in-Read.is,
       q.1,
     ))  -- indirect-requires
     (λ c.
     (
       c.requires.1,
-      rw (← (at-since c.before.before.before.before.before)) (sought_unread (at-parts c.before.before.before.before.before.before.before) _ (λ n. omega (arith, c.shared_slice_known-2-1.given n)) _
+      rw (← (at-since c.before.before.before)) (sought_unread (at-parts c.before.before.before.before.before) _ (λ n. omega (arith, c.shared_slice_known-2-1.given n)) _
           c.read.ensures _ _ _ c.in-Refused.is _ c.unawaited.ensures),
     ))  -- returns-2
     (λ c.
     (
       c.indirect.ensures.0,
-      rw (← (at-since c.before.before.before.before.before.before.before.before.before)) (sought_indirect (at-parts c.before.before.before.before.before.before.before.before.before.before.before) c.args.m.now (λ n. omega (
+      rw (← (at-since c.before.before.before.before.before.before.before)) (sought_indirect (at-parts c.before.before.before.before.before.before.before.before.before) c.args.m.now (λ n. omega (
         arith,
         c.shared_slice_known-2-1.given n,
       )) c.read.result c.read.ensures c.if-e-eq-SEQUENCE.i _ c.in-Read.code

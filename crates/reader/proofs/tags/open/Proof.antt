@@ -44,7 +44,7 @@ abbrev at-extent : (c : tie.In-Read-2 invariant-loop decreases-loop) →
 at-extent c =
     let q = c.requires in
     extent _ _ (its_fit q.1 q.2) _ (λ n. omega (arith, c.shared_slice_known-2-1.given n)) _ _ _ _ _ _ c.loop-j.invariant.1
-    (some_left c.before.before.before.before) _ c.read.ensures.0 _ c.in-Read.is
+    (some_left c.before.before) _ c.read.ensures.0 _ c.in-Read.is
 
 pub open_spec : {M : Type 1} → statement M
 open_spec =
@@ -71,15 +71,15 @@ open_spec =
     let l = c.loop-j in (
       l.invariant.0,
       open_unread _ _ (its_fit q.1 q.2) _
-          (λ n. omega (arith, c.shared_slice_known-2-1.given n)) _ _ _ _ _ _ l.invariant.1 (some_left c.before.before.before.before.before) _ c.read.ensures.0 _
+          (λ n. omega (arith, c.shared_slice_known-2-1.given n)) _ _ _ _ _ _ l.invariant.1 (some_left c.before.before) _ c.read.ensures.0 _
           c.in-Refused.is l.notes,
     ))  -- returns
     (λ c. search rules)  -- enum-known-x
     (λ c κs.
     omega (arith, c.loop-j.invariant.1.high, c.requires.5))  -- note-requires
-    (λ c. omega (arith, some-room c.before.before.before.before.before.before))  -- mul-notes
-    (λ c. some-room c.before.before.before.before.before.before)  -- element-write-notes
-    (λ c. omega (arith, some-room c.before.before.before.before.before.before))  -- add-j
+    (λ c. omega (arith, some-room c.before.before.before))  -- mul-notes
+    (λ c. some-room c.before.before.before.before)  -- element-write-notes
+    (λ c. omega (arith, some-room c.before.before.before.before))  -- add-j
     (λ c. (at-extent c.before.before).1)  -- sub-inside
     (λ c.
     let x = at-extent c.before.before in
@@ -99,7 +99,7 @@ open_spec =
     let l = c.loop-j in (
       simp length-set l.invariant.0,
       open_refused _ _ (its_fit q.1 q.2) _
-          (λ n. omega (arith, c.shared_slice_known-2-1.given n)) _ _ _ _ _ _ l.invariant.1 (some_left c.before.before.before.before.before.before.before.before.before.before.before) _ c.read.ensures.0 _
+          (λ n. omega (arith, c.shared_slice_known-2-1.given n)) _ _ _ _ _ _ l.invariant.1 (some_left c.before.before.before.before.before.before.before) _ c.read.ensures.0 _
           c.in-Read.is _ c.enter.ensures _ c.in-Refused-enter.is l.notes,
     ))  -- returns-2
     (λ c. search rules)  -- enum-known-next
@@ -108,7 +108,7 @@ open_spec =
     let l = c.loop-j in
     let x = at-extent c.before.before.before.before.before.before.before in
     let z = open_next _ _ (its_fit q.1 q.2) _ (λ n. omega (arith, c.shared_slice_known-2-1.given n)) _ _ _ _ _ _ l.invariant.1
-    (some_left c.before.before.before.before.before.before.before.before.before.before.before) _ c.read.ensures.0 _ c.in-Read.is _ c.enter.ensures _ c.in-Read-enter.is in
+    (some_left c.before.before.before.before.before.before.before) _ c.read.ensures.0 _ c.in-Read.is _ c.enter.ensures _ c.in-Read-enter.is in
     omega (arith, z, x.1, x.2, l.invariant.1.high, q.5))  -- add-from
     (λ c.
     omega (arith, c.loop-j-test.true))  -- loop-less
@@ -116,9 +116,9 @@ open_spec =
     let q = c.requires in
     let l = c.loop-j in (
       simp length-set l.invariant.0,
-      open_turn _ _ (its_fit q.1 q.2) _ (λ n. omega (arith, c.shared_slice_known-2-1.given n)) _ _ _ _ _ _ l.invariant.1 (some_left c.before.before.before.before.before.before.before.before.before.before.before) _
+      open_turn _ _ (its_fit q.1 q.2) _ (λ n. omega (arith, c.shared_slice_known-2-1.given n)) _ _ _ _ _ _ l.invariant.1 (some_left c.before.before.before.before.before.before.before) _
           c.read.ensures.0 _ c.in-Read.is _ c.enter.ensures _ c.in-Read-enter.is _ c.note.ensures
-          (omega (arith, l.invariant.0, some-room c.before.before.before.before.before.before.before.before.before.before.before)),
+          (omega (arith, l.invariant.0, some-room c.before.before.before.before.before.before.before)),
     ))  -- loop-again
     (λ c.
     let q = c.requires in

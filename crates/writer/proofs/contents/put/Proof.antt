@@ -13,6 +13,7 @@ use Rattle.writer.proofs.Leaves.{number_there, number_end, encode_number, time_l
 use borrow.Author.Rules.{rules}
 use Rattle.writer.proofs.contents.put.Statement.{statement}
 use Rattle.writer.proofs.contents.put.Tie as tie
+use Rattle.writer.proofs.contents.put.Lts as lts
 
 pub put_spec : {M : Type 1} → statement M
 put_spec =
@@ -29,7 +30,10 @@ put_spec =
     (λ c.
     let a = c.args in (
       boolean_end_lem a.kind a.v.now a.p c.requires.2 c.if-kind-eq-BOOLEAN.true,
-      ⊎_elim (λ w. rw (encode_true a.kind a.v.now a.p c.requires.2 c.if-kind-eq-BOOLEAN.true w.0.taken) (ap (set a.buf.now a.to) w.1)) (λ w. rw (encode_false a.kind a.v.now a.p c.requires.2 c.if-kind-eq-BOOLEAN.true w.0.left) (ap (set a.buf.now a.to) w.1)) c.if-v-p-eq1.branch,
+      elim c.if-v-p-eq1.branch [
+        lts.then-v-p-eq1 w ↦ rw (encode_true a.kind a.v.now a.p c.requires.2 c.if-kind-eq-BOOLEAN.true w.if-v-p-eq1.true) (ap (set a.buf.now a.to) w.buf-is) |
+        lts.else-v-p-eq1 w ↦ rw (encode_false a.kind a.v.now a.p c.requires.2 c.if-kind-eq-BOOLEAN.true w.if-v-p-eq1.false) (ap (set a.buf.now a.to) w.buf-is)
+      ],
     ))  -- returns
     (λ c κs.
     let a = c.args in
@@ -85,7 +89,7 @@ put_spec =
       )),
     ))  -- put-part-requires
     (λ c. search rules)  -- add-result-3
-    (λ c. c.put_part.auto.1.1.1.0 ∙ simp length-set)  -- same-length-3
+    (λ c. c.put_part.auto.buf ∙ simp length-set)  -- same-length-3
     (λ c.
     let a = c.args in (
       bits_end_lem a.kind a.v.now a.p c.requires.2 c.if-kind-eq-BIT_STRING.true a.size c.requires.3,

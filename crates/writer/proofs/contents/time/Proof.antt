@@ -19,8 +19,8 @@ time_spec =
     (λ c κs. search rules)  -- none-requires-2
     (λ c.
     let a = c.args in
-    time_outside a.v.now a.p _ a.kind c.if-v-end.false _ c.seven.ensures _ c.ranged.ensures c.if-not-in_range.true c.none-then-not-in_range.ensures)  -- returns-2
+    time_outside a.v.now a.p _ a.kind c.if-v-end.false _ c.seven.ensures _ c.in_range.ensures c.if-not-in_range.true c.none-then-not-in_range.ensures)  -- returns-2
     (λ c κs. search rules)  -- size-requires
     (λ c.
     let a = c.args in
-    time_measured a.v.now a.p _ a.kind c.if-v-end.false _ c.seven.ensures _ c.ranged.ensures c.if-not-in_range.false c.size-size.ensures refl))  -- returns-3
+    time_measured a.v.now a.p _ a.kind c.if-v-end.false _ c.seven.ensures _ c.in_range.ensures c.if-not-in_range.false c.size-size.ensures refl))  -- returns-3

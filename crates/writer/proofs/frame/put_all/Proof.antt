@@ -46,7 +46,7 @@ put_all_spec =
     let u = unpacked a.w in
     let q = rw c.unpack-e.ensures at c.tag_count-count.ensures.0 in (
       omega arith,
-      c.put_header-next.auto.1.1.0 ∙ c.loop-i.invariant.1,
+      c.put_header-next.auto.buf ∙ c.loop-i.invariant.1,
       heads_turn b (λ
           k. omega (arith, c.shared_slice_known-1.given k)) u c.requires.0 a.n a.buf.now a.to _ c.loop-i.i _ c.loop-i.invariant.2 (rw c.loop-i.invariant.1 c.requires.2) (omega arith) _ _ (rw c.unpack-e.ensures at c.tag_code-code.ensures) c.size_from-inner.ensures.0 _ _ c.put_header-next.ensures.0 c.put_header-next.ensures.1,
     ))  -- loop-again

@@ -146,13 +146,15 @@ at-member t c =
 
 -- where it is judged
 at-said : (t : ℕ) (c : judge_members_lts.Joined-is_simple (judge-members-claims t) (judge-members-at t) judge_members.Post judge-members-Inv-loop judge-members-μ-loop) →
-    Said (at-member t c.before.before.before.before.before.before.before) c.if-is_simple.judged c.if-is_simple.notes
+    Said (at-member t c.before.before.before.before.before.before.before.before) c.if-is_simple.judged c.if-is_simple.notes
 at-said t c =
-    let m = at-member t c.before.before.before.before.before.before.before in
-    ⊎_elim
-    (λ w. leaf_said m c.unpack-r.result c.unpack-r.ensures (c.marked.ensures.yes c.if-not-marked.false) _ _ _ _ c.is_simple.ensures w.0.taken w.1.ensures w.2 w.3)
-    (λ w. built_said m _ _ _ _ w.2.ensures w.3 w.4)
-    c.if-is_simple.branch
+    let m = at-member t c.before.before.before.before.before.before.before.before in
+    elim c.if-is_simple.branch [
+      judge_members_lts.then-is_simple w ↦
+          leaf_said m c.unpack-r.result c.unpack-r.ensures (c.marked.ensures.yes c.if-not-marked.false) _ _ _ _ c.is_simple.ensures w.if-is_simple.true
+              w.judge_leaf-judged.ensures w.notes-is w.judged-is |
+      judge_members_lts.else-is_simple w ↦ built_said m _ _ _ _ w.judge_built-judged.ensures w.notes-is w.judged-is
+    ]
 
 pub +judge_built_judge_members_spec : {M : Type 1} → statement M
 +judge_built_judge_members_spec = close μ-judge-built μ-judge-members (λ t. judge_built_lts.spec (judge-built-claims t)
@@ -185,7 +187,7 @@ pub +judge_built_judge_members_spec : {M : Type 1} → statement M
     (λ c κs.
     let a = c.args in
     let q = c.requires.1 in
-    let m = (at-node t c.before.before.before.before) in (
+    let m = (at-node t c.before.before.before.before.before) in (
       omega (arith, q.2.0, q.0.little),
       m.constructed,
       own_there m a.level c.if-own_end-eq0.false,
@@ -194,7 +196,7 @@ pub +judge_built_judge_members_spec : {M : Type 1} → statement M
     (λ c.
     let a = c.args in
     let q = c.requires.1 in
-    built_ill (at-node t c.before.before.before.before.before.before) a.level c.if-own_end-eq0.false (unpacked
+    built_ill (at-node t c.before.before.before.before.before.before.before) a.level c.if-own_end-eq0.false (unpacked
     (get_or a.index.now a.t 0)) refl c.if-level-eq0.false _ (rw c.unpack.ensures at c.agrees.ensures) c.if-not-agrees.true a.notes.now)  -- judge-built-returns-3
     (λ c. omega (arith, c.if-level-eq0.false))  -- judge-built-sub-judge-members
     (λ c κs.
@@ -203,7 +205,7 @@ pub +judge_built_judge_members_spec : {M : Type 1} → statement M
       omega (arith, c.requires.0, c.if-level-eq0.false),
       (
         q.0,
-        built_stands (at-node t c.before.before.before.before.before.before.before) a.level c.if-own_end-eq0.false (unpacked (get_or a.index.now a.t 0)) refl
+        built_stands (at-node t c.before.before.before.before.before.before.before.before) a.level c.if-own_end-eq0.false (unpacked (get_or a.index.now a.t 0)) refl
             c.if-level-eq0.false _ (rw c.unpack.ensures at c.agrees.ensures)
             c.if-not-agrees.false,
         q.4,
@@ -225,7 +227,7 @@ pub +judge_built_judge_members_spec : {M : Type 1} → statement M
     (λ c.
     let a = c.args in
     let q = c.requires.1 in
-    built_refused (at-node t c.before.before.before.before.before.before.before.before.before.before.before) a.level c.if-own_end-eq0.false (unpacked (get_or a.index.now a.t 0)) refl c.if-level-eq0.false _ (rw c.unpack.ensures at c.agrees.ensures) c.if-not-agrees.false _ a.notes.now _ c.judge_members.ensures _ _ c.in-Refused.is)  -- judge-built-returns-4
+    built_refused (at-node t c.before.before.before.before.before.before.before.before.before.before) a.level c.if-own_end-eq0.false (unpacked (get_or a.index.now a.t 0)) refl c.if-level-eq0.false _ (rw c.unpack.ensures at c.agrees.ensures) c.if-not-agrees.false _ a.notes.now _ c.judge_members.ensures _ _ c.in-Refused.is)  -- judge-built-returns-4
     (λ c.
     let a = c.args in
     let q = c.requires.1 in
@@ -268,7 +270,7 @@ pub +judge_built_judge_members_spec : {M : Type 1} → statement M
     omega (arith, q.0.little, c.loop-i.invariant.1.within))  -- judge-members-marked-requires
     (λ c. member_unmarked (at-member t c.before.before) _ c.marked.ensures c.if-not-marked.true)  -- judge-members-returns
     (λ c. omega (arith, member_few (at-member t c.before.before)))  -- judge-members-mul-x
-    (λ c. omega (arith, member_few (at-member t c.before.before)))  -- judge-members-element-copy-out-x
+    (λ c. omega (arith, member_few (at-member t c.before.before.before)))  -- judge-members-element-copy-out-x
     (λ c κs. search rules)  -- judge-members-unpack-requires-2
     (λ c.
     let a = c.args in
@@ -280,22 +282,22 @@ pub +judge_built_judge_members_spec : {M : Type 1} → statement M
       (c.marked.ensures.yes c.if-not-marked.false).0,
     ))  -- judge-members-shared-slice-read-is-simple
     (λ c κs.
-    entry_simple (at-member t c.before.before.before.before.before) c.unpack-r.result c.unpack-r.ensures)  -- judge-members-is-simple-requires
+    entry_simple (at-member t c.before.before.before.before.before.before) c.unpack-r.result c.unpack-r.ensures)  -- judge-members-is-simple-requires
     (λ c κs.
     let a = c.args in
     let q = c.requires.1 in (
       q.0.little,
       (c.marked.ensures.yes c.if-not-marked.false),
       not-true _ (sym c.is_simple.ensures ∙ c.if-is_simple.true),
-      entry_known (at-member t c.before.before.before.before.before.before.before) c.unpack-r.result c.unpack-r.ensures,
+      entry_known (at-member t c.before.before.before.before.before.before.before.before) c.unpack-r.result c.unpack-r.ensures,
     ))  -- judge-members-judge-leaf-requires
     (λ c κs.
     let a = c.args in
-    let q = c.pre.1 in (
-      omega (arith, c.pre.0),
+    let q = c.requires.1 in (
+      omega (arith, c.requires.0),
       (
         q.0,
-        member_there (at-member t c.before.before.before.before.before.before.before.before),
+        member_there (at-member t c.before.before.before.before.before.before.before.before.before),
         (c.marked.ensures.yes c.if-not-marked.false),
         not-false _ (sym c.is_simple.ensures ∙ c.if-is_simple.false),
         c.loop-i.invariant.1.going.long ∙ q.2,
@@ -303,12 +305,12 @@ pub +judge_built_judge_members_spec : {M : Type 1} → statement M
     ))  -- judge-members-judge-built-requires
     (λ c. search rules)  -- judge-members-enum-known-judged
     (λ c.
-    member_refused (at-member t c.before.before.before.before.before.before.before.before.before.before) _ _ (at-said t c.before.before.before) _ _ c.in-Refused.is)  -- judge-members-returns-2
+    member_refused (at-member t c.before.before.before.before.before.before.before.before.before) _ _ (at-said t c.before) _ _ c.in-Refused.is)  -- judge-members-returns-2
     (λ c. search rules)  -- judge-members-enum-known-judged-2
     (λ c κs. (
-      rw (← c.unpack-r.ensures) (entry_known (at-member t c.before.before.before.before.before.before.before.before.before.before) c.unpack-r.result c.unpack-r.ensures),
-      member_small (at-member t c.before.before.before.before.before.before.before.before.before.before) _
-          _ (at-said t c.before.before.before) _ _ c.in-Done.is,
+      rw (← c.unpack-r.ensures) (entry_known (at-member t c.before.before.before.before.before.before.before.before.before) c.unpack-r.result c.unpack-r.ensures),
+      member_small (at-member t c.before.before.before.before.before.before.before.before.before) _
+          _ (at-said t c.before) _ _ c.in-Done.is,
     ))  -- judge-members-size-requires
     (λ c κs. (
       omega (
@@ -324,13 +326,13 @@ pub +judge_built_judge_members_spec : {M : Type 1} → statement M
     ))  -- judge-members-loop-less
     (λ c.
     let a = c.args in
-    let q = c.pre.1 in (
+    let q = c.requires.1 in (
       omega (
         arith,
         c.loop-i-test.true,
         (rw c.unpack-e.ensures at c.count-n.ensures.0),
       ),
-      member_done (at-member t c.before.before.before.before.before.before.before.before.before.before.before.before) c.unpack-r.result c.unpack-r.ensures _ _ (at-said t c.before.before.before.before.before) _ _ c.in-Done.is _ _ (rw (← c.unpack-r.ensures) at c.size.ensures.0)
+      member_done (at-member t c.before.before.before.before.before.before.before.before.before.before.before) c.unpack-r.result c.unpack-r.ensures _ _ (at-said t c.before.before.before) _ _ c.in-Done.is _ _ (rw (← c.unpack-r.ensures) at c.size.ensures.0)
           c.grow-total.ensures.0,
     ))  -- judge-members-loop-again
     (λ c. omega (arith, c.loop-i-test.true))  -- judge-members-loop-less-2

@@ -11,6 +11,7 @@ use Rattle.writer.proofs.Agreement.{complete_ends, complete_present, complete_st
 use borrow.Author.Rules.{rules}
 use Rattle.writer.proofs.node.is_complete.Statement.{statement}
 use Rattle.writer.proofs.node.is_complete.Tie as tie
+use Rattle.writer.proofs.node.is_complete.Lts as lts
 
 abbrev invariant-loop : tie.invariant-loop-left
 invariant-loop table p n v q at₀ mark₀ left₀ at mark left =
@@ -44,9 +45,12 @@ is_complete_spec =
         arith,
         c.loop-left.invariant.2,
       ),
-      ⊎_elim (λ w. complete_optional a.table.now c.loop-left.at c.loop-left.left
-          a.v.now c.loop-left.mark _ c.loop-left.invariant.3 c.loop-left-test.true w.0.taken
-          _ w.1.ensures (not-false _ w.2.left)) (λ w. complete_present a.table.now c.loop-left.at c.loop-left.left a.v.now c.loop-left.mark _ c.loop-left.invariant.3 c.loop-left-test.true w.left) c.if-v-mark-ne1.branch,
+      elim c.if-v-mark-ne1.branch [
+        lts.then-v-mark-ne1+else-not-optional w ↦ complete_optional a.table.now c.loop-left.at c.loop-left.left a.v.now c.loop-left.mark _
+            c.loop-left.invariant.3 c.loop-left-test.true w.if-v-mark-ne1.true _ w.optional.ensures w.if-not-optional.false |
+        lts.else-v-mark-ne1 w ↦ complete_present a.table.now c.loop-left.at c.loop-left.left a.v.now c.loop-left.mark _
+            c.loop-left.invariant.3 c.loop-left-test.true w.if-v-mark-ne1.false
+      ],
     ))  -- loop-again
     (λ c.
     let a = c.args in

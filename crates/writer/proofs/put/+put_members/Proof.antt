@@ -103,7 +103,7 @@ at-sized : (t : ℕ) (c : put_members_lts.Joined-r (put-members-claims t) (put-m
     Sized (at-member t c.before X) c.if-r.size
 at-sized t c X =
     let m = at-member t c.before X in
-    ⊎_elim (λ w. sized_leaf m w.0.taken _ _ w.1.ensures.0 w.2) (λ w. sized_built m w.0.left _ w.2) c.if-r.branch
+    elim c.if-r.branch [ put_members_lts.then-r w ↦ sized_leaf m w.if-r.true _ _ w.size-size.ensures.0 w.size-is | put_members_lts.else-r w ↦ sized_built m w.if-r.false _ w.size-is ]
 
 abbrev at_front : (t : ℕ) (c : put_members_lts.After-slice_known-then-t-lt256-1 (put-members-claims t) (put-members-at t) put_members.Post put-members-Inv-loop
     put-members-μ-loop) →
@@ -118,7 +118,7 @@ at_front t c X =
       buf = _;
       nexts = rw (← c.unpack-r.ensures) at c.put-next.ensures.0;
       bufs = rw (← c.unpack-r.ensures) at c.put-next.ensures.1;
-      same = c.put-next.auto.1.1.1.0;
+      same = c.put-next.auto.buf;
     }
 
 pub +put_members_spec : {M : Type 1} → statement M
@@ -189,11 +189,11 @@ pub +put_members_spec : {M : Type 1} → statement M
     (λ c.
     let a = c.args in
     let X = c.requires.1 in
-    omega (arith, (put_near (at-member t c.before X)).0, X.ready.little))  -- put-members-element-copy-out-size
+    omega (arith, (put_near (at-member t c.before.before X)).0, X.ready.little))  -- put-members-element-copy-out-size
     (λ c.
     let a = c.args in
     let X = c.requires.1 in
-    omega (arith, put_note (at-member t c.before.before X) c.if-r.false))  -- put-members-cast-size
+    omega (arith, put_note (at-member t c.before.before.before X) c.if-r.false))  -- put-members-cast-size
     (λ c κs.
     let a = c.args in
     let X = c.requires.1 in
@@ -205,19 +205,19 @@ pub +put_members_spec : {M : Type 1} → statement M
     ))  -- put-members-put-requires
     (λ c κs.
     let a = c.args in
-    let X = c.pre.1 in
+    let X = c.requires.1 in
     let m = (at-member t c.before.before.before.before.before.before.before X) in
     let z = put_room (at_front t c.before.before X) c.if-r-2.true in
     ((put_near m).1, put_simple m c.if-r-2.true, put_own m, z.0, z.1))  -- put-members-put-requires-2
     (λ c.
     let a = c.args in
-    let X = c.pre.1 in
+    let X = c.requires.1 in
     omega (
       arith,
       (put_room (at_front t c.before.before.before.before.before.before X) c.if-r-2.true).1,
-      c.put-next.auto.1.1.1.0,
+      c.put-next.auto.buf,
       c.loop-i.invariant.3,
-      c.good.1.1.1.1.1.1.0,
+      c.well_formed,
     ))  -- put-members-add-next
     (λ c.
     omega (
@@ -226,7 +226,7 @@ pub +put_members_spec : {M : Type 1} → statement M
     ))  -- put-members-loop-less
     (λ c.
     let a = c.args in
-    let X = c.pre.1 in
+    let X = c.requires.1 in
     let z = put_leaf (at_front t c.before.before.before.before.before.before X) c.if-r-2.true _ _ c.put-at.ensures.0 c.put-at.ensures.1 in (
       omega (
         arith,
@@ -239,17 +239,17 @@ pub +put_members_spec : {M : Type 1} → statement M
         z.0,
       ),
       z.1,
-      c.put-at.auto.1.1.1.1.0 ∙ c.put-next.auto.1.1.1.0 ∙ c.loop-i.invariant.3,
+      c.put-at.auto.buf ∙ c.put-next.auto.buf ∙ c.loop-i.invariant.3,
       λ X. (put_leaf (at_front t c.before.before.before.before.before.before X) c.if-r-2.true _ _ c.put-at.ensures.0 c.put-at.ensures.1).2,
     ))  -- put-members-loop-again
     (λ c κs.
     let a = c.args in
-    let X = c.pre.1 in (
+    let X = c.requires.1 in (
       omega (
         arith,
         (put_near (at-member t c.before.before.before.before.before.before.before X)).0,
         c.loop-i.invariant.1,
-        c.pre.0,
+        c.requires.0,
       ),
       rw (← c.unpack-r.ensures) (put_under (at_front t c.before.before X) (λ k. omega (
         arith,
@@ -263,7 +263,7 @@ pub +put_members_spec : {M : Type 1} → statement M
     ))  -- put-members-loop-less-2
     (λ c.
     let a = c.args in
-    let X = c.pre.1 in
+    let X = c.requires.1 in
     let e = rw (← c.unpack-r.ensures) at c.put_members-y.ensures in
     let z = put_built (at_front t c.before.before.before.before.before X) (λ k. omega (
       arith,
@@ -283,7 +283,7 @@ pub +put_members_spec : {M : Type 1} → statement M
         z.0,
       ),
       z.1,
-      c.put_members-y.auto.1.1.1.1.1.1.0 ∙ c.put-next.auto.1.1.1.0 ∙ c.loop-i.invariant.3,
+      c.put_members-y.auto.buf ∙ c.put-next.auto.buf ∙ c.loop-i.invariant.3,
       λ X. (put_built (at_front t c.before.before.before.before.before X) (λ k. omega (
         arith,
         c.shared_slice_known-1.given k,
