@@ -17,5 +17,5 @@ yinscarf_read_spec = tie.close (tie.spec
     (λ c κs. let a = c.args in rw c.read.ensures.0 (read_small
     a.table.now a.t a.message.now a.buf.now
     (λ i. (c.shared_slice_known-2-1.given i).fits)))  -- pack-requires
-    (λ c. c.read.auto.1.1.1.0)  -- same-length
+    (λ c. c.read.auto.buf)  -- same-length
     (λ c. (c.pack.ensures ∙ ap packed c.read.ensures.0, c.read.ensures.1)))  -- returns

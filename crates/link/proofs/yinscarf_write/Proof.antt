@@ -17,5 +17,5 @@ yinscarf_write_spec = tie.close (tie.spec
     (λ c κs. let a = c.args in rw c.write.ensures.0 (write_small
     a.table.now a.t a.value.now a.buf.now
     (λ i. (c.shared_slice_known-2-1.given i).fits)))  -- pack-requires
-    (λ c. c.write.auto.1.1.1.0)  -- same-length
+    (λ c. c.write.auto.buf)  -- same-length
     (λ c. (c.pack.ensures ∙ ap packed c.write.ensures.0, c.write.ensures.1)))  -- returns

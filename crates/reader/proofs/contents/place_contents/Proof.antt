@@ -31,12 +31,12 @@ place_contents_spec =
       omega (
         arith,
         leaf_room (boolean_octets _ a.c.now c.if-kind-eq-BOOLEAN.true) a.buf.now _ q.2,
-        c.begin_node.auto.0,
+        c.begin_node.auto.buf,
       ),
     ))  -- put-flag-requires
     (λ c. search rules)  -- same-length
     (λ c.
-    leaf_placed (boolean_octets _ _ c.if-kind-eq-BOOLEAN.true) _ c.begin_node.new.0 c.put_flag.new.1.0 _ _
+    leaf_placed (boolean_octets _ _ c.if-kind-eq-BOOLEAN.true) _ c.begin_node.new.buf c.put_flag.new.buf _ _
     c.begin_node.ensures c.put_flag.ensures.0 c.put_flag.ensures.1)  -- returns
     (λ c κs.
     let a = c.args in
@@ -47,12 +47,12 @@ place_contents_spec =
       omega (
         arith,
         leaf_room (integer_octets _ a.c.now c.if-kind-eq-INTEGER.true) a.buf.now _ q.2,
-        c.begin_node.auto.0,
+        c.begin_node.auto.buf,
       ),
     ))  -- put-integer-requires
     (λ c. search rules)  -- same-length-2
     (λ c.
-    leaf_placed (integer_octets _ _ c.if-kind-eq-INTEGER.true) _ c.begin_node.new.0 c.put_integer.new.1.0 _ _
+    leaf_placed (integer_octets _ _ c.if-kind-eq-INTEGER.true) _ c.begin_node.new.buf c.put_integer.new.buf _ _
     c.begin_node.ensures c.put_integer.ensures.0 c.put_integer.ensures.1)  -- returns-2
     (λ c κs.
     let a = c.args in
@@ -66,13 +66,13 @@ place_contents_spec =
       omega (
         arith,
         leaf_room (bits_octets _ a.c.now c.if-kind-eq-BIT_STRING.true) a.buf.now _ q.2,
-        c.begin_node.auto.0,
+        c.begin_node.auto.buf,
       ),
     ))  -- put-bits-requires
     (λ c. search rules)  -- same-length-3
     (λ c.
     let a = c.args in
-    leaf_placed (bits_octets _ a.c.now c.if-kind-eq-BIT_STRING.true) a.buf.now c.begin_node.new.0 c.put_bits.new.1.0 _ _
+    leaf_placed (bits_octets _ a.c.now c.if-kind-eq-BIT_STRING.true) a.buf.now c.begin_node.new.buf c.put_bits.new.buf _ _
     c.begin_node.ensures (c.put_bits.ensures.0 ∙ omega (arith, length_masked (get_or a.c.now 0 0) (drop 1 a.c.now)))
     c.put_bits.ensures.1)  -- returns-3
     (λ c κs.
@@ -82,16 +82,16 @@ place_contents_spec =
       omega (
         arith,
         leaf_room (string_octets _ a.c.now c.if-kind-eq-OCTET_STRING.true) a.buf.now _ q.2,
-        c.begin_node.auto.0,
+        c.begin_node.auto.buf,
       ),
     ))  -- put-string-requires
     (λ c. search rules)  -- same-length-4
     (λ c.
-    leaf_placed (string_octets _ _ c.if-kind-eq-OCTET_STRING.true) _ c.begin_node.new.0 c.put_string.new.1.0 _ _
+    leaf_placed (string_octets _ _ c.if-kind-eq-OCTET_STRING.true) _ c.begin_node.new.buf c.put_string.new.buf _ _
     c.begin_node.ensures (c.put_string.ensures.0 ∙ omega arith) c.put_string.ensures.1)  -- returns-4
     (λ c. search rules)  -- same-length-5
     (λ c.
-    leaf_placed (null_octets _ _ c.if-kind-eq-NULL.true) _ c.begin_node.new.0 c.begin_node.new.0 _
+    leaf_placed (null_octets _ _ c.if-kind-eq-NULL.true) _ c.begin_node.new.buf c.begin_node.new.buf _
     (c.args.to + 3) c.begin_node.ensures (omega arith) refl)  -- returns-5
     (λ c κs.
     let a = c.args in
@@ -102,14 +102,14 @@ place_contents_spec =
       omega (
         arith,
         leaf_room (enumerated_octets _ a.c.now c.if-kind-eq-ENUMERATED.true) a.buf.now _ q.2,
-        c.begin_node.auto.0,
+        c.begin_node.auto.buf,
       ),
       h.is,
       h.small,
     ))  -- put-enumerated-requires
     (λ c. search rules)  -- same-length-6
     (λ c.
-    leaf_placed (enumerated_octets _ _ c.if-kind-eq-ENUMERATED.true) _ c.begin_node.new.0 c.put_enumerated.new.1.0 _ _
+    leaf_placed (enumerated_octets _ _ c.if-kind-eq-ENUMERATED.true) _ c.begin_node.new.buf c.put_enumerated.new.buf _ _
     c.begin_node.ensures c.put_enumerated.ensures.0 c.put_enumerated.ensures.1)  -- returns-6
     (λ c κs.
     let a = c.args in
@@ -117,13 +117,13 @@ place_contents_spec =
     let (e, t) = lawful_time q.0 c.if-kind-eq-BOOLEAN.false c.if-kind-eq-INTEGER.false c.if-kind-eq-BIT_STRING.false c.if-kind-eq-OCTET_STRING.false c.if-kind-eq-NULL.false c.if-kind-eq-ENUMERATED.false
     Utc (utc_kind _ c.if-kind-eq-UTC_TIME.true) in (
       t,
-      omega (arith, leaf_room (time_octets_lem _ a.c.now Utc e) a.buf.now _ q.2, c.begin_node.auto.0),
+      omega (arith, leaf_room (time_octets_lem _ a.c.now Utc e) a.buf.now _ q.2, c.begin_node.auto.buf),
     ))  -- put-time-requires
     (λ c. search rules)  -- same-length-7
     (λ c.
     let (e, t) = lawful_time c.requires.0 c.if-kind-eq-BOOLEAN.false c.if-kind-eq-INTEGER.false c.if-kind-eq-BIT_STRING.false c.if-kind-eq-OCTET_STRING.false
     c.if-kind-eq-NULL.false c.if-kind-eq-ENUMERATED.false Utc (utc_kind _ c.if-kind-eq-UTC_TIME.true) in
-    leaf_placed (time_octets_lem _ _ Utc e) _ c.begin_node.new.0 c.put_time.new.1.1.0 _ _
+    leaf_placed (time_octets_lem _ _ Utc e) _ c.begin_node.new.buf c.put_time.new.buf _ _
     c.begin_node.ensures c.put_time.ensures.0 c.put_time.ensures.1)  -- returns-7
     (λ c κs.
     let a = c.args in
@@ -131,11 +131,11 @@ place_contents_spec =
     let (e, t) = lawful_time q.0 c.if-kind-eq-BOOLEAN.false c.if-kind-eq-INTEGER.false c.if-kind-eq-BIT_STRING.false c.if-kind-eq-OCTET_STRING.false c.if-kind-eq-NULL.false c.if-kind-eq-ENUMERATED.false
     Generalized (generalized_kind _ c.if-kind-eq-UTC_TIME.false) in (
       t,
-      omega (arith, leaf_room (time_octets_lem _ a.c.now Generalized e) a.buf.now _ q.2, c.begin_node.auto.0),
+      omega (arith, leaf_room (time_octets_lem _ a.c.now Generalized e) a.buf.now _ q.2, c.begin_node.auto.buf),
     ))  -- put-time-requires-2
     (λ c. search rules)  -- same-length-8
     (λ c.
     let (e, t) = lawful_time c.requires.0 c.if-kind-eq-BOOLEAN.false c.if-kind-eq-INTEGER.false c.if-kind-eq-BIT_STRING.false c.if-kind-eq-OCTET_STRING.false
     c.if-kind-eq-NULL.false c.if-kind-eq-ENUMERATED.false Generalized (generalized_kind _ c.if-kind-eq-UTC_TIME.false) in
-    leaf_placed (time_octets_lem _ _ Generalized e) _ c.begin_node.new.0 c.put_time-2.new.1.1.0 _ _
+    leaf_placed (time_octets_lem _ _ Generalized e) _ c.begin_node.new.buf c.put_time-2.new.buf _ _
     c.begin_node.ensures c.put_time-2.ensures.0 c.put_time-2.ensures.1))  -- returns-8

@@ -44,7 +44,7 @@ put_bits_spec =
     let q : u % 8 ≡ u = omega (arith, c.requires.2) in
     rw from_is (
       refl,
-      number_filled a.buf.now c.put_number.new.0 (masked u d) c.copy_masked.new.1.1.0 a.to
+      number_filled a.buf.now c.put_number.new.buf (masked u d) c.copy_masked.new.part a.to
           (8 * length d - u) (length d) (rw from_is at c.put_number.ensures) (sym (length_masked u d)) c.requires.4 (rw (from_is, q) at
           c.copy_masked.ensures),
     )))  -- returns

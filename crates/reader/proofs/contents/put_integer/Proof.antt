@@ -28,6 +28,6 @@ put_integer_spec =
     let z = integer_is a.c.now c.of.result q.1 c.of.ensures in
     let e = rw (to_z-of_z {w = w64} {z = c.of.result} (record { sfits = c.of.type_inv }), z) at c.put_eight.ensures in (
       refl,
-      part_filled a.buf.now (eight_of (integer_of a.c.now)) c.put_eight.new.1.0 a.to 8 (sym (eight_length _))
+      part_filled a.buf.now (eight_of (integer_of a.c.now)) c.put_eight.new.part a.to 8 (sym (eight_length _))
           q.2 e,
     )))  -- returns

@@ -22,6 +22,6 @@ put_string_spec =
     (λ c.
     let a = c.args in (
       refl,
-      number_filled a.buf.now c.put_number.new.0 a.c.now c.copy.new.1.0 a.to (length a.c.now)
+      number_filled a.buf.now c.put_number.new.buf a.c.now c.copy.new.part a.to (length a.c.now)
           (length a.c.now) c.put_number.ensures refl c.requires.1 c.copy.ensures,
     )))  -- returns

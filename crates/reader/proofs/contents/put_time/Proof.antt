@@ -25,5 +25,5 @@ put_time_spec =
     let a = c.args in
     let e = rw (c.of.ensures.1 q.0) at c.put.ensures in (
       refl,
-      part_filled a.buf.now (time_octets (time_of a.kind a.c.now)) c.put.new.1.0 a.to 7 refl q.1 e,
+      part_filled a.buf.now (time_octets (time_of a.kind a.c.now)) c.put.new.part a.to 7 refl q.1 e,
     )))  -- returns

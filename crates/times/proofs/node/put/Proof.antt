@@ -28,11 +28,11 @@ put_spec =
     (λ c κs. search rules)  -- put-requires
     (λ c.
     let a = c.args in
-    node_length a.kind a.t a.buf.now c.put.new.1.0 c.number.result c.number.ensures
+    node_length a.kind a.t a.buf.now c.put.new.part c.number.result c.number.ensures
     (omega (arith, c.if-buf-lt-SIZE.false)) c.put.ensures)  -- same-length
     (λ c.
     let a = c.args in
     let room : 10 ≤ length a.buf.now = omega (arith, c.if-buf-lt-SIZE.false) in
     outcome_is (put_done a.kind a.t a.buf.now room) refl
-    (node_put a.kind a.t a.buf.now c.put.new.1.0 c.number.result c.number.ensures room
+    (node_put a.kind a.t a.buf.now c.put.new.part c.number.result c.number.ensures room
     c.put.ensures)))  -- returns-2
