@@ -26,36 +26,31 @@ read_passed_spec =
     out_long T _ _ m w c.if-n-t.false c.if-message-gt-LONGEST_MESSAGE.true)  -- returns-2
     (λ c κs.
     let q = c.requires in
-    let c6 = c6 in
     (ready _ _ _ q.0 q.1, omega (arith, c.if-n-t.false, q.0.count), c.if-message-gt-LONGEST_MESSAGE.false, refl))  -- judge-requires
     (λ c. search rules)  -- enum-known-cause
     (λ c.
-    let c3 = c3 in
     let T = table_in _ in
-    let m = c3.args.message.now in
-    refused_within T _ m _ c3.judge.ensures.1 _ _ c.in-Refused.is)  -- sub-place
+    let m = c.args.message.now in
+    refused_within T _ m _ c.judge.ensures.1 _ _ c.in-Refused.is)  -- sub-place
     (λ c κs. search rules)  -- message-cause-requires
     (λ c. search rules)  -- enum-known-size
     (λ c.
     let a = c.args in
-    let c4 = c4 in
     let T = table_in _ in
     let m = a.message.now in
     let w = a.buf.now in
-    out_over T _ m _ c4.judge.ensures.1 _ w c.if-n-t.false c.if-message-gt-LONGEST_MESSAGE.false _ _ c.in-Done.is
+    out_over T _ m _ c.judge.ensures.1 _ w c.if-n-t.false c.if-message-gt-LONGEST_MESSAGE.false _ _ c.in-Done.is
     c.if-size-gt-LONGEST_VALUE.true)  -- returns-3
     (λ c.
     let a = c.args in
-    let c3 = c3 in
     let T = table_in _ in
     let m = a.message.now in
     let w = a.buf.now in
-    out_room T _ m _ c.judge.ensures.1 _ w c.if-n-t.false c.if-message-gt-LONGEST_MESSAGE.false _ _ c3.size.given.1 c.if-size-gt-LONGEST_VALUE.false
+    out_room T _ m _ c.judge.ensures.1 _ w c.if-n-t.false c.if-message-gt-LONGEST_MESSAGE.false _ _ c.in-Done.is c.if-size-gt-LONGEST_VALUE.false
     c.if-buf-size.true)  -- returns-4
     (λ c κs.
     let a = c.args in
     let q = c.requires in
-    let c3 = c3 in
     let T = table_in _ in
     let m = a.message.now in
     let w = a.buf.now in (
@@ -63,7 +58,7 @@ read_passed_spec =
       omega (arith, c.if-n-t.false, q.0.count),
       c.if-message-gt-LONGEST_MESSAGE.false,
       c.judge.ensures.0,
-      fits T _ m _ c.judge.ensures.1 _ w c.if-n-t.false c.if-message-gt-LONGEST_MESSAGE.false _ _ c.in-Done.is c3.if3.false
+      fits T _ m _ c.judge.ensures.1 _ w c.if-n-t.false c.if-message-gt-LONGEST_MESSAGE.false _ _ c.in-Done.is c.if-size-gt-LONGEST_VALUE.false
           c.if-buf-size.false,
     ))  -- place-requires
     (λ c.
@@ -75,9 +70,8 @@ read_passed_spec =
     (λ c. search rules)  -- same-length
     (λ c.
     let a = c.args in
-    let c5 = c5 in
     let T = table_in _ in
     let m = a.message.now in
     let w = a.buf.now in
     out_done T _ m _ c.judge.ensures.1 _ w c.if-n-t.false c.if-message-gt-LONGEST_MESSAGE.false _ _ c.in-Done.is c.if-size-gt-LONGEST_VALUE.false
-    c5.if4.false _ c.place.ensures))  -- returns-6
+    c.if-buf-size.false _ c.place.ensures))  -- returns-6

@@ -14,6 +14,7 @@ use Rattle.reader.specs.Sought.{held}
 use Rattle.reader.proofs.Spans.{span_few, span_near, lacks_any, lacks_come, lacks_must, lacks_skip, lacks_end}
 use Rattle.reader.proofs.came.lacks.Statement.{statement}
 use Rattle.reader.proofs.came.lacks.Tie as tie
+use Rattle.reader.proofs.came.lacks.Lts as lts
 
 abbrev invariant-loop : tie.invariant-loop-k
 invariant-loop table w i came any s k₀ k =
@@ -67,9 +68,13 @@ lacks_spec =
     (λ c.
     let a = c.args in
     let q = c.requires in
-    c.loop-k.invariant ∙ ⊎_elim (λ x. lacks_skip q.1.ready _ q.1.known _ (at-span c.before.before.before.before.before.before.before.before) q.2 a.came.now _ a.any
-    c.loop-k-test.true x.2.result x.2.ensures x.0.taken x.1.left (not-false _ x.3.left)) (λ x. lacks_come
-    q.1.ready _ q.1.known _ (at-span c.before.before.before.before.before.before.before.before) q.2 a.came.now _ a.any c.loop-k-test.true x.left) c.if-came-k-eq0.branch)  -- loop-again
+    c.loop-k.invariant ∙ elim c.if-came-k-eq0.branch [
+      lts.then-came-k-eq0+else-any+else-not-optional x ↦
+          lacks_skip q.1.ready _ q.1.known _ (at-span c.before.before.before.before.before.before.before.before) q.2 a.came.now _ a.any
+              c.loop-k-test.true x.optional.result x.optional.ensures x.if-came-k-eq0.true x.if-any.false x.if-not-optional.false |
+      lts.else-came-k-eq0 x ↦
+          lacks_come q.1.ready _ q.1.known _ (at-span c.before.before.before.before.before.before.before.before) q.2 a.came.now _ a.any c.loop-k-test.true x.if-came-k-eq0.false
+    ])  -- loop-again
     (λ c.
     let a = c.args in
     let q = c.requires in

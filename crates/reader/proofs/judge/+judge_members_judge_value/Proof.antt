@@ -143,7 +143,7 @@ turn t c =
       m = a.m.now;
       indefinite = a.indefinite;
       level = a.level;
-      came = l.branch;
+      came = l.came;
       total = l.total;
       at = l.at;
       j = l.j;
@@ -166,26 +166,29 @@ comes t c =
     let x = c.if-not-fits in
     record {
       item = i;
-      way = x.way;
+      way = x.way';
       place = x.place;
       type = x.«record»;
       depth = x.depth;
       from = x.from;
       is =
-          ⊎_elim
-          (λ v. item_same v.9 v.10 v.11 v.12 v.13
-          (item_found _ _ P.low v.4.ensures.1 v.6.given.1))
-          (λ v. let y = not-false _ v.0.left in
-          ⊎_elim
-          (λ u. item_same v.1 v.2 (v.3 ∙ u.6) v.4 v.5
-          (item_here P i u.0.taken (eqb-true _ _ u.1.taken) _ _ u.2.ensures.0 u.4.ensures (eqb-true _ _ (sym u.7 ∙ y)) _))
-          (λ u. absurd (true≢false (sym y ∙ u.2)))
-          c.if-j-s.branch)
-          x.branch;
+          elim x.branch [
+            judge_members_lts.then-not-fits+in-Part v ↦
+                item_same v.way'-is v.place-is v.record-is v.depth-is v.from-is (item_found _ _ P.low v.search.ensures.1 v.in-Part.is) |
+            judge_members_lts.else-not-fits v ↦
+                let y = v.if-not-fits.false in
+                elim c.if-j-s.branch [
+                  judge_members_lts.then-j-s+then-came-j-eq0 u ↦
+                      item_same v.way'-is v.place-is (v.record-is ∙ u.record-is) v.depth-is v.from-is
+                          (item_here P i u.if-j-s.true u.if-came-j-eq0.true _ _ u.part-record.ensures.0 u.first.ensures (eqb-true _ _ (sym u.fits-is ∙ y)) _) |
+                  judge_members_lts.else-j-s u ↦ absurd (true≢false (sym y ∙ u.fits-is))
+                ]
+          ];
       ways =
-          ⊎_elim (λ v. ap length v.9 ∙ v.4.ensures.0)
-          (λ v. ap length v.1 ∙ c.loop-end.invariant.1)
-          x.branch;
+          elim x.branch [
+            judge_members_lts.then-not-fits+in-Part v ↦ ap length v.way'-is ∙ v.search.ensures.0 |
+            judge_members_lts.else-not-fits v ↦ ap length v.way'-is ∙ c.loop-end.invariant.1
+          ];
     }
 
 -- where its value is judged
@@ -322,8 +325,10 @@ judge-members-half t =
       value_low Y _ _ c.in-Done.is,
       c.judge_value.ensures.0,
       judged_turn Y _ _ c.in-Done.is _ c.grow-total.ensures _ c.holds_one.ensures c.if-holds_one.false
-          _ (⊎_elim (λ v. inl (v.0.taken, v.2)) (λ v. inr (v.0.left, v.1))
-          c.if-e-eq-SET.branch),
+          _ (elim c.if-e-eq-SET.branch [
+            judge_members_lts.then-e-eq-SET v ↦ inl (v.if-e-eq-SET.true, v.came-is) |
+            judge_members_lts.else-e-eq-SET v ↦ inr (v.if-e-eq-SET.false, v.came-is)
+          ]),
     ))  -- judge-members-loop-again
 
 abbrev judge-value-claims : ℕ → judge_value_lts.Claims
@@ -350,7 +355,7 @@ judge-value-claims t = (
 
 -- where the tags are opened
 abbrev at-notes : (t : ℕ) (c : judge_value_lts.Joined-e-gt0 (judge-value-claims t) (judge-value-at t) judge_value.Post) → length c.if-e-gt0.notes ≡ 4
-at-notes t c = ⊎_elim (λ z. rw z.6 z.2.ensures.0) (λ z. rw z.1 refl) c.if-e-gt0.branch
+at-notes t c = elim c.if-e-gt0.branch [ judge_value_lts.then-e-gt0+in-Inside z ↦ rw z.notes-is z.«open».ensures.0 | judge_value_lts.else-e-gt0 z ↦ rw z.notes-is refl ]
 
 abbrev at_under : (t : ℕ) (c : judge_value_lts.Joined-e-gt0 (judge-value-claims t) (judge-value-at t) judge_value.Post) →
     let a = c.args in
@@ -360,11 +365,12 @@ at_under t c =
     let a = c.args in
     let q = c.requires.1 in
     let u = c.unpack-e in
-    ⊎_elim
-    (λ z. rw (z.6, z.7, z.8, z.9)
-    (under_tags q.ready q.is a.m.now a.at _ z.2.result z.2.ensures.1 z.4.given.0.0 z.4.given.1))
-    (λ z. rw (z.1, z.2, z.3, z.4) (under_bare q.ready q.is u.result u.ensures a.m.now a.at a.from z.0.left q.headed _))
-    c.if-e-gt0.branch
+    elim c.if-e-gt0.branch [
+      judge_value_lts.then-e-gt0+in-Inside z ↦
+          rw (z.notes-is, z.at-is, z.end-is, z.from-is) (under_tags q.ready q.is a.m.now a.at _ z.«open».result z.«open».ensures.1 z.in-Inside.x z.in-Inside.is) |
+      judge_value_lts.else-e-gt0 z ↦
+          rw (z.notes-is, z.at-is, z.end-is, z.from-is) (under_bare q.ready q.is u.result u.ensures a.m.now a.at a.from z.if-e-gt0.false q.headed _)
+    ]
 
 abbrev at_item : (t : ℕ) (c : judge_value_lts.Joined-e-gt0 (judge-value-claims t) (judge-value-at t) judge_value.Post) →
     let a = c.args in Item a.table.now a.index.now a.w a.m.now a.at a.level
@@ -393,10 +399,11 @@ abbrev at-contents : (t : ℕ) (c : judge_value_lts.Joined-e-ne-CHOICE (judge-va
     Within (record_of a.table.now a.w) (take x.end a.m.now) x.at x.end c.if-e-ne-CHOICE.start c.if-e-ne-CHOICE.stop c.if-e-ne-CHOICE.indefinite
 at-contents t c =
     let x = at_item t c.before.before.before in
-    ⊎_elim
-    (λ z. rw (z.5, z.6, z.7) (contents_sized x z.0.taken z.1.result (z.1.ensures.0 _) z.3.given.0.0 z.3.given.1))
-    (λ z. rw (z.1, z.2, z.3) (contents_bare x z.0.left))
-    c.if-e-ne-CHOICE.branch
+    elim c.if-e-ne-CHOICE.branch [
+      judge_value_lts.then-e-ne-CHOICE+in-Read z ↦
+          rw (z.start-is, z.stop-is, z.indefinite-is) (contents_sized x z.if-e-ne-CHOICE.true z.read.result (z.read.ensures.0 _) z.in-Read.x z.in-Read.is) |
+      judge_value_lts.else-e-ne-CHOICE z ↦ rw (z.start-is, z.stop-is, z.indefinite-is) (contents_bare x z.if-e-ne-CHOICE.false)
+    ]
 
 abbrev at-filling : (t : ℕ) (c : judge_value_lts.Joined-e-ne-CHOICE (judge-value-claims t) (judge-value-at t) judge_value.Post) →
     let a = c.args in
@@ -417,19 +424,21 @@ abbrev at_over : (t : ℕ) (c : judge_value_lts.Joined-e (judge-value-claims t) 
     Over a.table.now (record_of a.table.now a.w) a.level (take x.end a.m.now) x.at x.end c.if-e.stop c.if-e.size
 at_over t c =
     let y = at-filling t c.before in
-    ⊎_elim
-    (λ z. rw (z.12, z.13) (over_leaf y z.0.taken z.7.result z.7.ensures z.9.given.0.0 z.9.given.0.1.0 z.9.given.1))
-    (λ v.
-    ⊎_elim
-    (λ z. rw (z.7, z.8)
-    (⊎_elim
-    (λ x. over_sized y z.0.taken (not-true _ x.0.taken) _ (x.3 ∙ x.2.ensures.0) z.5.left (omega (arith, x.3, x.2.ensures.1)))
-    (λ x. absurd (z.5.left x.1))
-    z.4.came))
-    (λ z. rw (z.10, z.11)
-    (over_items y z.0.left z.5.result z.5.ensures.1 z.7.given.0.0 z.7.given.0.1.0 z.7.given.1))
-    v)
-    c.if-e.branch
+    elim c.if-e.branch [
+      judge_value_lts.then-e+then-size-eq0+in-Done z ↦
+          rw (z.stop-is, z.size-is) (over_leaf y z.if-e.true z.judge_segments.result z.judge_segments.ensures z.in-Done.x z.in-Done.y z.in-Done.is) |
+      judge_value_lts.then-e+else-size-eq0 z ↦
+          rw (z.stop-is, z.size-is)
+          (elim z.if-not-indefinite.branch [
+            judge_value_lts.then-not-indefinite x ↦
+                over_sized y z.if-e.true x.if-not-indefinite.true _ (x.size-is ∙ x.contents_size-size.ensures.0) z.if-size-eq0.false
+                    (omega (arith, x.size-is, x.contents_size-size.ensures.1)) |
+            judge_value_lts.else-not-indefinite x ↦ absurd (z.if-size-eq0.false x.size-is)
+          ]) |
+      judge_value_lts.else-e+in-Done-judge_members z ↦
+          rw (z.stop-is, z.size-is)
+          (over_items y z.if-e.false z.judge_members.result z.judge_members.ensures.1 z.in-Done-judge_members.x z.in-Done-judge_members.y z.in-Done-judge_members.is)
+    ]
 
 abbrev at_ended : (t : ℕ) (c : judge_value_lts.Joined-e (judge-value-claims t) (judge-value-at t) judge_value.Post) →
     let a = c.args in
@@ -442,10 +451,14 @@ at_ended t c =
       over = at_over t c;
     }
 
-abbrev at-way : (t : ℕ) (c : judge_value_lts.Joined-e (judge-value-claims t) (judge-value-at t) judge_value.Post) → length c.if-e.way ≡ 128
+abbrev at-way : (t : ℕ) (c : judge_value_lts.Joined-e (judge-value-claims t) (judge-value-at t) judge_value.Post) → length c.if-e.way' ≡ 128
 at-way t c =
     let w = c.requires.1.ways in
-    ⊎_elim (λ z. rw z.11 w) (λ v. ⊎_elim (λ z. rw z.6 w) (λ z. rw z.9 z.5.ensures.0) v) c.if-e.branch
+    elim c.if-e.branch [
+      judge_value_lts.then-e+then-size-eq0+in-Done z ↦ rw z.way'-is w |
+      judge_value_lts.then-e+else-size-eq0 z ↦ rw z.way'-is w |
+      judge_value_lts.else-e+in-Done-judge_members z ↦ rw z.way'-is z.judge_members.ensures.0
+    ]
 
 -- the half of `judge_value`
 judge-value-half : {M : Type 1} (t : ℕ) → judge_value_lts.Closed (judge-value-claims t) (judge-value-at t) judge_value.Post M
@@ -470,9 +483,9 @@ judge-value-half t =
     (λ c.
     let q = c.requires.1 in
     let o = c.«open» in
-    let x = c.cause-1.given in (
+    (
       q.ways,
-      c.refused.ensures ∙ value_unopened q.ready q.is _ _ _ o.result o.ensures.1 x.0.0 x.0.1.0 x.1
+      c.refused.ensures ∙ value_unopened q.ready q.is _ _ _ o.result o.ensures.1 c.in-Refused.cause c.in-Refused.left c.in-Refused.is
           c.args.level,
     ))  -- judge-value-returns
     (λ c. search rules)  -- judge-value-enum-known-x
@@ -482,9 +495,9 @@ judge-value-half t =
     (λ c. search rules)  -- judge-value-enum-known-cause-2
     (λ c κs. tt)  -- judge-value-refused-requires-2
     (λ c.
-    let f = c.cause-in-Refused-read-1.given in (
+    (
       c.requires.1.ways,
-      c.refused-in-Refused-read.ensures ∙ value_unread (at_item t c.before.before.before.before.before.before) c.if-e-ne-CHOICE.true _ (c.read.ensures.0 _) f.0.0 f.1,
+      c.refused-in-Refused-read.ensures ∙ value_unread (at_item t c.before.before.before.before.before.before) c.if-e-ne-CHOICE.true _ (c.read.ensures.0 _) c.in-Refused-read.cause c.in-Refused-read.is,
     ))  -- judge-value-returns-2
     (λ c. search rules)  -- judge-value-enum-known-x-2
     (λ c. (contents_within (at-filling t c.before.before.before)).0)  -- judge-value-sub-c
@@ -508,26 +521,25 @@ judge-value-half t =
       contents_short y,
       omega (arith, q.short),
       c.if-e.true,
-      λ h. ⊎_elim
-          (λ x. sym x.2.ensures.0 ∙ sym x.3 ∙ c.if-size-eq0.true)
-          (λ x. absurd (true≢false (sym (not-false _ x.0.left) ∙ h)))
-          c.if-not-indefinite.branch,
+      λ h. elim c.if-not-indefinite.branch [
+        judge_value_lts.then-not-indefinite x ↦ sym x.contents_size-size.ensures.0 ∙ sym x.size-is ∙ c.if-size-eq0.true |
+        judge_value_lts.else-not-indefinite x ↦ absurd (true≢false (sym x.if-not-indefinite.false ∙ h))
+      ],
     ))  -- judge-value-judge-segments-requires
     (λ c. search rules)  -- judge-value-enum-known-cause-3
     (λ c κs. tt)  -- judge-value-refused-requires-3
     (λ c.
     let y = at-filling t (c.before.before.before.before.before.before.before.before.before.before) in
     let r = c.judge_segments in
-    let x = c.cause-in-Refused-judge_segments-1.given in (
+    (
       c.requires.1.ways,
-      c.refused-in-Refused-judge_segments.ensures ∙ value_wrong y c.if-e.true r.result r.ensures x.0.0 x.0.1.0 x.1,
+      c.refused-in-Refused-judge_segments.ensures ∙ value_wrong y c.if-e.true r.result r.ensures c.in-Refused-judge_segments.cause c.in-Refused-judge_segments.n c.in-Refused-judge_segments.is,
     ))  -- judge-value-returns-3
     (λ c. search rules)  -- judge-value-enum-known-x-3
     (λ c.
     let y = at-filling t c.before.before.before.before.before.before.before.before.before in
     let r = c.judge_segments in
-    let x = c.x-in-Done-1.given in
-    omega (arith, leaf_high y c.if-e.true r.result r.ensures x.0.0 x.0.1.0 x.1))  -- judge-value-add-stop
+    omega (arith, leaf_high y c.if-e.true r.result r.ensures c.in-Done.x c.in-Done.y c.in-Done.is))  -- judge-value-add-stop
     (λ c. (contents_within (at-filling t c.before.before.before)).0)  -- judge-value-sub-c-2
     (λ c. omega (arith, contents_within (at-filling t c.before.before.before)))  -- judge-value-part-c-start-2
     (λ c. (contents_within (at-filling t c.before.before.before)).1)  -- judge-value-part-c-end-2
@@ -554,22 +566,20 @@ judge-value-half t =
     (λ c.
     let y = at-filling t c.before.before.before.before.before.before.before in
     let r = c.judge_members in
-    let x = c.cause-in-Refused-judge_members-1.given in
-    omega (arith, items_low y c.if-e.false r.result r.ensures.1 x.0.0 x.0.1.0 x.1))  -- judge-value-add-refused
+    omega (arith, items_low y c.if-e.false r.result r.ensures.1 c.in-Refused-judge_members.cause c.in-Refused-judge_members.n c.in-Refused-judge_members.is))  -- judge-value-add-refused
     (λ c κs. tt)  -- judge-value-refused-requires-4
     (λ c.
     let y = at-filling t c.before.before.before.before.before.before.before.before in
     let r = c.judge_members in
-    let x = c.cause-in-Refused-judge_members-1.given in (
+    (
       r.ensures.0,
-      c.refused-in-Refused-judge_members.ensures ∙ value_unheld y c.if-e.false r.result r.ensures.1 x.0.0 x.0.1.0 x.1,
+      c.refused-in-Refused-judge_members.ensures ∙ value_unheld y c.if-e.false r.result r.ensures.1 c.in-Refused-judge_members.cause c.in-Refused-judge_members.n c.in-Refused-judge_members.is,
     ))  -- judge-value-returns-4
     (λ c. search rules)  -- judge-value-enum-known-x-4
     (λ c.
     let y = at-filling t c.before.before.before.before.before.before.before in
     let r = c.judge_members in
-    let x = c.x-in-Done-judge_members-1.given in
-    omega (arith, items_high y c.if-e.false r.result r.ensures.1 x.0.0 x.0.1.0 x.1))  -- judge-value-add-stop-2
+    omega (arith, items_high y c.if-e.false r.result r.ensures.1 c.in-Done-judge_members.x c.in-Done-judge_members.y c.in-Done-judge_members.is))  -- judge-value-add-stop-2
     (λ c. omega (arith, item_tags (at_ended t c.before.before.before.before)))  -- judge-value-cast-close
     (λ c κs. item_closes (at_ended t c.before.before.before.before))  -- judge-value-close-requires
     (λ c.

@@ -39,25 +39,25 @@ judge_spec =
     (λ c.
     let w = c.whole in
     let r = c.judge_members in
-    let x = c.end-1.given in (
+    (
       r.ensures.0,
       c.refused-then-end-m.ensures ∙ message_trailing _ _ 24 _ c.if-m-eq0.false w.result w.ensures r.result r.ensures.1
-          x.0.0 x.0.1.0 x.1 c.if-end-m.true,
+          c.in-Done.end c.in-Done.size c.in-Done.is c.if-end-m.true,
     ))  -- returns-2
     (λ c κs. tt)  -- done-requires
     (λ c.
     let w = c.whole in
     let r = c.judge_members in
-    let x = c.cause-1.given in (
+    (
       r.ensures.0,
       c.refused-in-Refused.ensures ∙ message_refused _ _ 24 _ c.if-m-eq0.false w.result w.ensures r.result r.ensures.1
-          x.0.0 x.0.1.0 x.1,
+          c.in-Refused.cause c.in-Refused.left c.in-Refused.is,
     ))  -- returns-3
     (λ c.
     let w = c.whole in
     let r = c.judge_members in
-    let x = c.end-1.given in (
+    (
       r.ensures.0,
       c.done.ensures ∙ message_done _ _ 24 _ c.if-m-eq0.false w.result w.ensures r.result r.ensures.1
-          x.0.0 x.0.1.0 x.1 c.if-end-m.false,
+          c.in-Done.end c.in-Done.size c.in-Done.is c.if-end-m.false,
     )))  -- returns-4

@@ -10,6 +10,7 @@ use Rattle.reader.proofs.Searching.{since_is, has_members_lem}
 use Rattle.reader.proofs.Ending.{stands_one, stands_more, stands_broken, stands_list, stands_lacking, stands_over}
 use Rattle.reader.proofs.judge.next.Statement.{statement}
 use Rattle.reader.proofs.judge.next.Tie as tie
+use Rattle.reader.proofs.judge.next.Lts as lts
 
 -- from which part on others are left
 abbrev at-since : (c : tie.Joined-e-eq-SEQUENCE) →
@@ -17,7 +18,7 @@ abbrev at-since : (c : tie.Joined-e-eq-SEQUENCE) →
     c.if-e-eq-SEQUENCE.i ≡ since (manner (held a.table.now a.w)) a.j
 at-since c =
     since_is (record { sound = c.requires.1; entry = c.unpack-e.ensures; span = refl }) _ _
-    (⊎_elim (λ x. inl (x.0.taken, x.1)) (λ x. inr (x.0.left, x.1)) c.if-e-eq-SEQUENCE.branch)
+    (elim c.if-e-eq-SEQUENCE.branch [ lts.then-e-eq-SEQUENCE x ↦ inl (x.if-e-eq-SEQUENCE.true, x.i-is) | lts.else-e-eq-SEQUENCE x ↦ inr (x.if-e-eq-SEQUENCE.false, x.i-is) ])
 
 pub next_spec : {M : Type 1} → statement M
 next_spec =

@@ -11,6 +11,7 @@ use Rattle.reader.proofs.Searching.{Parted, few, near, type_low, may_optional, m
 use Rattle.reader.proofs.Searching.{direct_stop, direct_end}
 use Rattle.reader.proofs.search.direct.Statement.{statement}
 use Rattle.reader.proofs.search.direct.Tie as tie
+use Rattle.reader.proofs.search.direct.Lts as lts
 
 abbrev invariant-loop : tie.invariant-loop-k
 invariant-loop table index w i came code e s k₀ k = Sought·direct table (held table w) i came code ≡ Sought·direct table (held table w) k came code
@@ -49,20 +50,22 @@ direct_spec =
     code_most c.requires.ready _ (type_low (at-parts c.before.before.before.before.before.before.before.before.before.before.before) _ c.loop-k-test.true _ c.octet-t.ensures.0))  -- begins-requires
     (λ c.
     sym (c.loop-k.invariant ∙ direct_found (at-parts c.before.before.before.before.before.before.before.before.before.before.before.before.before) _ c.loop-k-test.true _ _ _ c.octet-t.ensures.0
-    c.begins.ensures c.if-came-k-eq0.taken c.if-begins.true))  -- returns
+    c.begins.ensures c.if-came-k-eq0.true c.if-begins.true))  -- returns
     (λ c κs. tt)  -- optional-requires
     (λ c.
-    sym (c.loop-k.invariant ∙ direct_stop (at-parts (c.before.before.before.before.before.before.before.before.before.before.before.before)) _ c.loop-k-test.true _ (⊎_elim (λ x. other_code (at-parts (c.before.before.before.before.before.before.before.before.before.before.before.before)) _
-    c.loop-k-test.true _ x.1.result x.3.result x.1.ensures.0 x.3.ensures x.4.left) (λ x. other_come (at-parts (c.before.before.before.before.before.before.before.before.before.before.before.before))
-    _ c.loop-k-test.true _ x.left) c.if-came-k-eq0.branch) c.if-e-eq-SEQUENCE.true _ c.optional.ensures (not-true _
-    c.if-not-optional.true)))  -- returns-2
+    sym (c.loop-k.invariant ∙ direct_stop (at-parts (c.before.before.before.before.before.before.before.before.before.before.before.before)) _ c.loop-k-test.true _ (elim c.if-came-k-eq0.branch [
+      lts.then-came-k-eq0+else-begins x ↦ other_code (at-parts (c.before.before.before.before.before.before.before.before.before.before.before.before)) _ c.loop-k-test.true _ x.octet-t.result x.begins.result x.octet-t.ensures.0 x.begins.ensures x.if-begins.false |
+      lts.else-came-k-eq0 x ↦ other_come (at-parts (c.before.before.before.before.before.before.before.before.before.before.before.before)) _ c.loop-k-test.true _ x.if-came-k-eq0.false
+    ]) c.if-e-eq-SEQUENCE.true _ c.optional.ensures c.if-not-optional.true))  -- returns-2
     (λ c.
     omega (arith, few (at-parts c.before.before.before.before.before.before.before.before.before.before), c.loop-k-test.true))  -- add-k
     (λ c. omega (arith, c.loop-k-test.true))  -- loop-less
     (λ c.
-    c.loop-k.invariant ∙ direct_skip (at-parts (c.before.before.before.before.before.before.before.before.before.before)) _ c.loop-k-test.true _ (⊎_elim (λ x. other_code (at-parts (c.before.before.before.before.before.before.before.before.before.before)) _ c.loop-k-test.true _
-    x.1.result x.3.result x.1.ensures.0 x.3.ensures x.4.left) (λ x. other_come (at-parts (c.before.before.before.before.before.before.before.before.before.before)) _ c.loop-k-test.true
-    _ x.left) c.if-came-k-eq0.branch) (⊎_elim (λ x. may_optional (at-parts (c.before.before.before.before.before.before.before.before.before.before)) _ c.loop-k-test.true x.0.taken
-    x.1.result x.1.ensures (not-false _ x.2.left)) (λ x. may_other (at-parts (c.before.before.before.before.before.before.before.before.before.before)) _ c.loop-k-test.true x.left)
-    c.if-e-eq-SEQUENCE.branch))  -- loop-again
+    c.loop-k.invariant ∙ direct_skip (at-parts (c.before.before.before.before.before.before.before.before.before.before)) _ c.loop-k-test.true _ (elim c.if-came-k-eq0.branch [
+      lts.then-came-k-eq0+else-begins x ↦ other_code (at-parts (c.before.before.before.before.before.before.before.before.before.before)) _ c.loop-k-test.true _ x.octet-t.result x.begins.result x.octet-t.ensures.0 x.begins.ensures x.if-begins.false |
+      lts.else-came-k-eq0 x ↦ other_come (at-parts (c.before.before.before.before.before.before.before.before.before.before)) _ c.loop-k-test.true _ x.if-came-k-eq0.false
+    ]) (elim c.if-e-eq-SEQUENCE.branch [
+      lts.then-e-eq-SEQUENCE+else-not-optional x ↦ may_optional (at-parts (c.before.before.before.before.before.before.before.before.before.before)) _ c.loop-k-test.true x.if-e-eq-SEQUENCE.true x.optional.result x.optional.ensures x.if-not-optional.false |
+      lts.else-e-eq-SEQUENCE x ↦ may_other (at-parts (c.before.before.before.before.before.before.before.before.before.before)) _ c.loop-k-test.true x.if-e-eq-SEQUENCE.false
+    ]))  -- loop-again
     (λ c. sym (c.loop-k.invariant ∙ direct_end (at-parts c.before.before.before) _ _ c.loop-k-test.false)))  -- returns-3

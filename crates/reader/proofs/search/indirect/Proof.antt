@@ -1,7 +1,7 @@
 -- `reader::search::indirect` meets its contract. What is found among the parts from the k-th on is what is found among all.
 -- Assumes nothing.
 use borrow.Author.Rules.{rules}
-use borrow.Author.Tests.{not-true, not-false}
+use borrow.Author.Tests.{not-true, not-false, eq-eqb, ne_eqb}
 use lib.ListN.{length}
 use mathlib.Core.Logic.{⊎_elim, inl, inr}
 use mathlib.Core.Path.{◌≡◌, refl, ap, ◌∙◌}
@@ -16,6 +16,7 @@ use Rattle.reader.proofs.Searching.{indirect_part, indirect_stop}
 use Rattle.reader.proofs.Searching.{indirect_optional, indirect_other, indirect_come, indirect_end, indirect_none}
 use Rattle.reader.proofs.search.indirect.Statement.{statement}
 use Rattle.reader.proofs.search.indirect.Tie as tie
+use Rattle.reader.proofs.search.indirect.Lts as lts
 
 abbrev invariant-loop : tie.invariant-loop-k
 invariant-loop table index w i came code from way₀ e s whole n k₀ way k =
@@ -34,14 +35,14 @@ at-parts c = record { sound = c.requires.0; entry = c.unpack-e.ensures; span = c
 
 -- how many parts it has
 abbrev at_count : (c : tie.Joined-whole invariant-loop decreases-loop) → Counted (at-parts c.before.before) c.if-whole.n
-at_count c = ⊎_elim (λ x. inl (x.0.taken, x.1)) (λ x. inr (x.0.left, x.1)) c.if-whole.branch
+at_count c = elim c.if-whole.branch [ lts.then-whole x ↦ inl (eq-eqb _ _ x.if-whole.true, x.n-is) | lts.else-whole x ↦ inr (ne_eqb _ _ x.if-whole.false, x.n-is) ]
 
 -- the part at hand
 abbrev at-candidate : (c : tie.Joined-whole-2 invariant-loop decreases-loop) →
     Candidate (at-parts c.before.before.before.before.before.before.before.before) c.loop-k.k c.if-whole-2.t
 at-candidate c =
     candidate (at-parts c.before.before.before.before.before.before.before.before) _ _ _ (at_count c.before.before.before.before.before.before) c.loop-k-test.true
-    (⊎_elim (λ x. inl (x.0.taken, x.2)) (λ x. inr (x.0.left, x.4 ∙ x.3.ensures.0)) c.if-whole-2.branch)
+    (elim c.if-whole-2.branch [ lts.then-whole-2 x ↦ inl (eq-eqb _ _ x.if-whole-2.true, x.t-is) | lts.else-whole-2 x ↦ inr (ne_eqb _ _ x.if-whole-2.false, x.t-is ∙ x.octet-t.ensures.0) ])
 
 pub indirect_spec : {M : Type 1} → statement M
 indirect_spec =
@@ -61,13 +62,13 @@ indirect_spec =
     omega (
       arith,
       near (at-parts c.before.before.before.before.before.before.before.before.before) _ (table_part (at-parts c.before.before.before.before.before.before.before.before.before) _ _ (at_count c.before.before.before.before.before.before.before) c.loop-k-test.true
-          c.if-whole-2.false),
+          (ne_eqb _ _ c.if-whole-2.false)),
     ))  -- mul-octet
     (λ c.
     omega (
       arith,
       near (at-parts c.before.before.before.before.before.before.before.before.before.before) _ (table_part (at-parts c.before.before.before.before.before.before.before.before.before.before) _ _ (at_count c.before.before.before.before.before.before.before.before) c.loop-k-test.true
-          c.if-whole-2.false),
+          (ne_eqb _ _ c.if-whole-2.false)),
     ))  -- add-octet
     (λ c κs. tt)  -- octet-requires
     (λ c κs.
@@ -84,7 +85,7 @@ indirect_spec =
     (
       c.seek.ensures.0,
       indirect_part (at-parts c.before.before.before.before.before.before.before.before.before.before.before) _ _ _ (at-candidate c.before.before.before) _ _ c.seek.ensures.1 _ _ _ _
-          c.loop-k.invariant.1 c.if-came-k-eq0.true c.«record».given.1,
+          c.loop-k.invariant.1 c.if-came-k-eq0.true c.in-At.is,
     ))  -- returns
     (λ c.
     omega (
@@ -114,25 +115,25 @@ indirect_spec =
     (λ c. omega (arith, c.loop-k-test.true))  -- loop-less
     (λ c.
     let l = c.loop-k in
-    ⊎_elim (λ x. (
-      ap length x.12 ∙ x.3.ensures.0,
-      l.invariant.1 ∙ indirect_optional (at-parts c.before.before.before.before.before.before.before) _ _ x.1.t (candidate
-          (at-parts c.before.before.before.before.before.before.before) _ _ x.1.t (at_count c.before.before.before.before.before) c.loop-k-test.true (⊎_elim (λ y. inl (y.0.taken, y.2)) (λ y. inr (
-            y.0.left,
-            y.4 ∙ y.3.ensures.0,
-          )) x.1.came)) _ x.3.result x.3.ensures.1 x.0.taken x.5.given.1 x.7.taken
-          x.10.result x.10.ensures (not-false _ x.11.left),
-    )) (⊎_elim (λ x. (
-      ap length x.8 ∙ x.3.ensures.0,
-      l.invariant.1
-          ∙ indirect_other (at-parts c.before.before.before.before.before.before.before) _ _ x.1.t (candidate (at-parts c.before.before.before.before.before.before.before) _ _ x.1.t (at_count c.before.before.before.before.before) c.loop-k-test.true
-          (⊎_elim (λ y. inl (y.0.taken, y.2)) (λ y. inr (y.0.left, y.4 ∙ y.3.ensures.0)) x.1.came)) _ x.3.result
-          x.3.ensures.1 x.0.taken x.5.given.1 x.7.left,
-    )) (λ x. (
-      ap length x.1 ∙ l.invariant.0,
-      l.invariant.1 ∙ indirect_come
-          (at-parts c.before.before.before.before.before.before.before) _ _ _ (at_count c.before.before.before.before.before) c.loop-k-test.true x.0.left,
-    ))) c.if-came-k-eq0.branch)  -- loop-again
+    elim c.if-came-k-eq0.branch [
+      lts.then-came-k-eq0+in-Nothing+then-e-eq-SEQUENCE+else-not-optional x ↦ (
+        ap length x.way'-is ∙ x.seek.ensures.0,
+        l.invariant.1 ∙ indirect_optional (at-parts c.before.before.before.before.before.before.before) _ _ x.if-whole-2.t
+            (candidate (at-parts c.before.before.before.before.before.before.before) _ _ x.if-whole-2.t (at_count c.before.before.before.before.before) c.loop-k-test.true (elim x.if-whole-2.branch [ lts.then-whole-2 y ↦ inl (eq-eqb _ _ y.if-whole-2.true, y.t-is) | lts.else-whole-2 y ↦ inr (ne_eqb _ _ y.if-whole-2.false, y.t-is ∙ y.octet-t.ensures.0) ]))
+            _ x.seek.result x.seek.ensures.1 x.if-came-k-eq0.true x.in-Nothing.is x.if-e-eq-SEQUENCE.true
+            x.optional.result x.optional.ensures x.if-not-optional.false,
+      ) |
+      lts.then-came-k-eq0+in-Nothing+else-e-eq-SEQUENCE x ↦ (
+        ap length x.way'-is ∙ x.seek.ensures.0,
+        l.invariant.1 ∙ indirect_other (at-parts c.before.before.before.before.before.before.before) _ _ x.if-whole-2.t
+            (candidate (at-parts c.before.before.before.before.before.before.before) _ _ x.if-whole-2.t (at_count c.before.before.before.before.before) c.loop-k-test.true (elim x.if-whole-2.branch [ lts.then-whole-2 y ↦ inl (eq-eqb _ _ y.if-whole-2.true, y.t-is) | lts.else-whole-2 y ↦ inr (ne_eqb _ _ y.if-whole-2.false, y.t-is ∙ y.octet-t.ensures.0) ]))
+            _ x.seek.result x.seek.ensures.1 x.if-came-k-eq0.true x.in-Nothing.is x.if-e-eq-SEQUENCE.false,
+      ) |
+      lts.else-came-k-eq0 x ↦ (
+        ap length x.way'-is ∙ l.invariant.0,
+        l.invariant.1 ∙ indirect_come (at-parts c.before.before.before.before.before.before.before) _ _ _ (at_count c.before.before.before.before.before) c.loop-k-test.true x.if-came-k-eq0.false,
+      )
+    ])  -- loop-again
     (λ c κs.
     let q = c.requires in
     (_, q.0, q.1))  -- unawaited-requires-2

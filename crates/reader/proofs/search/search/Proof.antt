@@ -10,6 +10,7 @@ use Rattle.reader.proofs.Searching.{Parted, near, since_is, since_again}
 use Rattle.reader.proofs.Finding.{sought_unread, code_small, sought_direct, sought_indirect}
 use Rattle.reader.proofs.search.search.Statement.{statement}
 use Rattle.reader.proofs.search.search.Tie as tie
+use Rattle.reader.proofs.search.search.Lts as lts
 
 -- where the parts of the entry are known
 abbrev at-parts : (c : tie.After-parts-s) →
@@ -22,7 +23,7 @@ abbrev at-since : (c : tie.Joined-e-eq-SEQUENCE) →
     let a = c.args in
     c.if-e-eq-SEQUENCE.i ≡ since (manner (held a.table.now a.w)) a.j
 at-since c =
-    since_is (at-parts c.before.before) _ _ (⊎_elim (λ x. inl (x.0.taken, x.1)) (λ x. inr (x.0.left, x.1)) c.if-e-eq-SEQUENCE.branch)
+    since_is (at-parts c.before.before) _ _ (elim c.if-e-eq-SEQUENCE.branch [ lts.then-e-eq-SEQUENCE x ↦ inl (x.if-e-eq-SEQUENCE.true, x.i-is) | lts.else-e-eq-SEQUENCE x ↦ inr (x.if-e-eq-SEQUENCE.false, x.i-is) ])
 
 pub search_spec : {M : Type 1} → statement M
 search_spec =

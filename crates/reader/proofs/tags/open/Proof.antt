@@ -37,7 +37,7 @@ abbrev some-room : (c : tie.In-loop-j invariant-loop decreases-loop) → c.loop-
 some-room c = let q = c.requires in omega (arith, some_left c, its_few q.1 q.2)
 
 -- where its contents stand
-abbrev at-extent : (c : tie.In-Read-2 invariant-loop decreases-loop) →
+abbrev at-extent : (c : tie.In-Read invariant-loop decreases-loop) →
     let l = c.loop-j in
     let x = c.in-Read.x in
     (l.at < x.start) × (x.start ≤ x.end) × (x.end ≤ l.end) × (x.indefinite ≡ true → x.end ≡ l.end)
@@ -92,7 +92,7 @@ open_spec =
     (q.0, q.1, q.2))  -- enter-requires
     (λ c. search rules)  -- enum-known-cause-2
     (λ c.
-    let x = at-extent c.before.before.before.before.before.before.before in
+    let x = at-extent c.before.before.before.before.before in
     omega (arith, x.1, x.2, c.loop-j.invariant.1.high))  -- sub-t33
     (λ c.
     let q = c.requires in
@@ -106,7 +106,7 @@ open_spec =
     (λ c.
     let q = c.requires in
     let l = c.loop-j in
-    let x = at-extent c.before.before.before.before.before.before.before in
+    let x = at-extent c.before.before.before.before.before in
     let z = open_next _ _ (its_fit q.1 q.2) _ (λ n. omega (arith, c.shared_slice_known-2-1.given n)) _ _ _ _ _ _ l.invariant.1
     (some_left c.before.before.before.before.before.before.before) _ c.read.ensures.0 _ c.in-Read.is _ c.enter.ensures _ c.in-Read-enter.is in
     omega (arith, z, x.1, x.2, l.invariant.1.high, q.5))  -- add-from
