@@ -2,11 +2,10 @@
 -- hands on fewer. The invariant of the loop: for each buffer from which the node was begun, what `State` says of the items so far.
 -- Assumes nothing.
 use borrow.Author.Rules.{rules}
-use borrow.Author.Tests.{not-true, not-false, eqb-true}
+use borrow.Author.Tests.{eqb-true}
 use borrow.Author.Rules.{part_to_end}
 use mathlib.Core.Bool.{true, true≢false, false≢true}
 use mathlib.Core.List.{List}
-use mathlib.Core.Logic.{⊎_elim}
 use mathlib.Core.Path.{◌≡◌, refl, sym, ap, ◌∙◌}
 use Prim.Native.Nat.{ℕ, ◌+◌, ◌-◌, ◌*◌, ◌<◌, ◌≤◌}
 use native.Mathlib.Omega.{arith}
@@ -161,16 +160,18 @@ at-given t c =
 at-located : (t : ℕ) (c : place_members_lts.Joined-e-eq-SET (place-members-claims t) (place-members-at t)
     place_members.Post place-members-Inv-loop place-members-μ-loop) →
     let a = c.args in
-    (length c.if-e-eq-SET.way ≡ 128) × (length c.if-e-eq-SET.began ≡ 16)
+    (length c.if-e-eq-SET.way' ≡ 128) × (length c.if-e-eq-SET.began ≡ 16)
     × ((ms : List Member) → held a.table.now a.w ≡ inside (Set ms) → Spotted (table_in a.table.now) ms a.indefinite a.m.now
     c.if-e-eq-SET.began
-    c.if-e-eq-SET.new)
+    c.if-e-eq-SET.last)
 at-located t c =
     let p = c.requires.1 in
-    ⊎_elim
-    (λ x. (rw x.4 x.3.ensures.1, rw x.5 x.3.ensures.0, rw (x.5, x.6) x.3.ensures.2))
-    (λ x. (rw x.1 p.ways, rw x.2 refl, λ ms q. absurd (no_members (at-given t c.before.before) x.0.left ms q)))
-    c.if-e-eq-SET.branch
+    elim c.if-e-eq-SET.branch [
+      | place_members_lts.then-e-eq-SET w ↦
+          (rw w.way'-is w.locate-last.ensures.1, rw w.began-is w.locate-last.ensures.0, rw (w.began-is, w.last-is) w.locate-last.ensures.2)
+      | place_members_lts.else-e-eq-SET w ↦
+          (rw w.way'-is p.ways, rw w.began-is refl, λ ms q. absurd (no_members (at-given t c.before.before) w.if-e-eq-SET.false ms q))
+    ]
 
 -- what is known before the loop
 at-started : (t : ℕ) (c : place_members_lts.After-begin-next (place-members-claims t) (place-members-at t)
@@ -178,25 +179,24 @@ at-started : (t : ℕ) (c : place_members_lts.After-begin-next (place-members-cl
     let a = c.args in
     Started a.table.now a.index.now a.w a.m.now a.indefinite a.buf.now a.to
     c.unpack-e.result c.parts-s.result c.if-e-eq-SET.began
-    c.if-e-eq-SET.new
-    c.begin-next.new.1.1.0
+    c.if-e-eq-SET.last
+    c.begin-next.new.buf
 at-started t c = record {
   given = at-given t c.before.before.before.before;
-  spotted = (at-located t
-      c.before.before).2;
+  spotted = (at-located t c.before.before).2;
   opening = c.begin-next.ensures.1;
 }
 
-abbrev Starts : (t : ℕ) → place_members_lts.After-begin-next (place-members-claims t) (place-members-at t)
-    place_members.Post place-members-Inv-loop place-members-μ-loop → List ℕ → Type 0
+abbrev Starts : (t : ℕ) (c : place_members_lts.After-begin-next (place-members-claims t) (place-members-at t)
+    place_members.Post place-members-Inv-loop place-members-μ-loop) → List ℕ → Type 0
 Starts t c first = let a = c.args in
     Started a.table.now a.index.now a.w a.m.now a.indefinite first a.to
     c.unpack-e.result c.parts-s.result c.if-e-eq-SET.began
-    c.if-e-eq-SET.new
-    c.begin-next.new.1.1.0
+    c.if-e-eq-SET.last
+    c.begin-next.new.buf
 
 -- a member that came
-at-came : (t : ℕ) (c : place_members_lts.Else-k-s (place-members-claims t) (place-members-at t)
+at-came : (t : ℕ) (c : place_members_lts.Else-k-s-unread (place-members-claims t) (place-members-at t)
     place_members.Post place-members-Inv-loop place-members-μ-loop) →
     let k = c.following-k.result in
     let x = c.if-e-eq-SET in
@@ -213,12 +213,17 @@ at_item : (t : ℕ) (c : place_members_lts.Joined-e-eq-SET-2 (place-members-clai
     Coming X c.loop-began.count c.if-e-eq-SET-2.buf c.if-e-eq-SET-2.at c.loop-began.next c.if-e-eq-SET-2.j
 at_item t c X =
     let L = c.loop-began.invariant.2 _ X in
-    ⊎_elim
-    (λ x. rw (x.9, x.10, x.11) (set_comes X L x.0.taken _ x.2.ensures x.4.ensures x.8.left))
-    (⊎_elim
-    (λ x. rw (x.5, x.6, x.7) (other_comes X L x.0.left _ x.1.ensures (not-true _ x.2.taken) _ x.3.ensures x.4.left))
-    λ x. rw (x.3, x.4, x.5) (one_comes X L x.0.left _ x.1.ensures (not-false _ x.2.left)))
-    c.if-e-eq-SET-2.branch
+    elim c.if-e-eq-SET-2.branch [
+      | place_members_lts.then-e-eq-SET-2+else-k-s w ↦
+          rw (w.buf-is, w.at-is, w.j-is)
+          (set_comes X L w.if-e-eq-SET-2.true _ w.following-k.ensures w.put_absent.ensures w.if-k-s.false)
+      | place_members_lts.else-e-eq-SET-2+then-not-holds_one+else-is_over w ↦
+          rw (w.buf-is, w.at-is, w.j-is)
+          (other_comes X L w.if-e-eq-SET-2.false _ w.holds_one.ensures w.if-not-holds_one.true _ w.is_over.ensures w.if-is_over.false)
+      | place_members_lts.else-e-eq-SET-2+else-not-holds_one w ↦
+          rw (w.buf-is, w.at-is, w.j-is)
+          (one_comes X L w.if-e-eq-SET-2.false _ w.holds_one.ensures w.if-not-holds_one.false)
+    ]
 
 -- how far it stands
 at_turn : (t : ℕ) (c : place_members_lts.Joined-e-eq-SET-2 (place-members-claims t) (place-members-at t)
@@ -227,12 +232,14 @@ at_turn : (t : ℕ) (c : place_members_lts.Joined-e-eq-SET-2 (place-members-clai
     let e = c.unpack-e.result in
     (length c.if-e-eq-SET-2.buf ≡ length l.buf) × (e.kind ≡ 17 → l.j ≤ c.if-e-eq-SET-2.j) × ((e.kind ≡ 17 → ⊥) → c.if-e-eq-SET-2.at ≡ l.at)
 at_turn t c =
-    ⊎_elim
-    (λ x. (ap length x.9 ∙ x.4.kept.0, λ z. rw x.11 x.2.ensures.least, λ n. absurd (n x.0.taken)))
-    (⊎_elim
-    (λ x. (ap length x.5, λ z. absurd (x.0.left z), λ n. x.6))
-    λ x. (ap length x.3, λ z. absurd (x.0.left z), λ n. x.4))
-    c.if-e-eq-SET-2.branch
+    elim c.if-e-eq-SET-2.branch [
+      | place_members_lts.then-e-eq-SET-2+else-k-s w ↦
+          (ap length w.buf-is ∙ w.put_absent.auto.buf, λ z. rw w.j-is w.following-k.ensures.least, λ n. absurd (n w.if-e-eq-SET-2.true))
+      | place_members_lts.else-e-eq-SET-2+then-not-holds_one+else-is_over w ↦
+          (ap length w.buf-is, λ z. absurd (w.if-e-eq-SET-2.false z), λ n. w.at-is)
+      | place_members_lts.else-e-eq-SET-2+else-not-holds_one w ↦
+          (ap length w.buf-is, λ z. absurd (w.if-e-eq-SET-2.false z), λ n. w.at-is)
+    ]
 
 at_low : (t : ℕ) (c : place_members_lts.Joined-e-eq-SET-2 (place-members-claims t) (place-members-at t)
     place_members.Post place-members-Inv-loop place-members-μ-loop) →
@@ -260,7 +267,7 @@ at-sought : (t : ℕ) (c : place_members_lts.After-search (place-members-claims 
     let a = c.args in
     let b = a.table.now in
     Sought b (held b a.w) (since (manner (held b a.w)) c.if-e-eq-SET-2.j) blank (drop c.if-e-eq-SET-2.at a.m.now)
-    c.search.new.1.1.1.1.1.1.0 c.search.result
+    c.search.new.way c.search.result
 at-sought t c =
     let a = c.args in
     rw (part_to_end a.m.now c.if-e-eq-SET-2.at) at c.search.ensures.1
@@ -269,30 +276,35 @@ at-sought t c =
 at-picked : (t : ℕ) (c : place_members_lts.Joined-search (place-members-claims t) (place-members-at t)
     place_members.Post place-members-Inv-loop place-members-μ-loop) {first : List ℕ} (X : Starts t
     c.before.before.before.before.before.before.before.before.before.before.before.before.before.before first) →
-    Picked X _ (at_item t c.before.before.before.before.before.before.before.before.before X) c.in-Refused.buf c.in-Refused.next
-    c.in-Refused.place c.in-Refused.«record» c.in-Refused.from
+    Picked X _ (at_item t c.before.before.before.before.before.before.before.before.before X) c.match-search.buf c.match-search.next
+    c.match-search.place c.match-search.«record» c.match-search.from
 at-picked t c X =
     let S = at-sought t c.before in
     let C = at_item t c.before.before.before.before.before.before.before.before.before X in
-    ⊎_elim
-    (λ x. absurd (found_some X _ C (rw x.1.given.1 at S).0))
-    (λ x. picked X _ C x.1.given.0.0 _ c.search.ensures.0 (rw x.1.given.1 at S) (x.9 ∙ x.6.ensures.1)
-    (x.10 ∙ x.6.ensures.0) x.11 x.12 x.13)
-    c.in-Refused.branch
+    elim c.match-search.branch [
+      | place_members_lts.in-Refused w ↦ absurd (found_some X _ C (rw w.in-Refused.is at S).0)
+      | place_members_lts.in-Part w ↦
+          picked X _ C w.in-Part.x _ c.search.ensures.0 (rw w.in-Part.is at S) (w.buf-is ∙ w.put_way-next.ensures.1)
+          (w.next-is ∙ w.put_way-next.ensures.0) w.place-is w.record-is w.from-is
+    ]
 
 -- the part at hand, if the item begins it with one octet
 at-fits : (t : ℕ) (c : place_members_lts.Joined-j-s (place-members-claims t) (place-members-at t)
-    place_members.Post place-members-Inv-loop place-members-μ-loop) → c.if-j-s.ranges ≡ true →
+    place_members.Post place-members-Inv-loop place-members-μ-loop) → c.if-j-s.fits ≡ true →
     let x = c.if-e-eq-SET-2 in
     let a = c.args in
     let s = c.parts-s.result in
     (x.j < s.count) × (c.if-j-s.«record» ≡ get_or a.table.now (s.first + s.step * x.j) 0)
     × (get_or a.m.now x.at 0 ≡ (unpacked (get_or a.index.now c.if-j-s.«record» 0)).code)
 at-fits t c z =
-    ⊎_elim
-    (λ x. (x.0.taken, x.5 ∙ x.1.ensures.0, rw x.5 (sym (eqb-true _ _ (sym x.6 ∙ z)) ∙ x.3.ensures)))
-    (λ x. absurd (false≢true (sym x.2 ∙ z)))
-    c.if-j-s.branch
+    elim c.if-j-s.branch [
+      | place_members_lts.then-j-s w ↦ (
+        w.if-j-s.true,
+        w.record-is ∙ w.part-record.ensures.0,
+        rw w.record-is (sym (eqb-true _ _ (sym w.fits-is ∙ z)) ∙ w.first.ensures),
+      )
+      | place_members_lts.else-j-s w ↦ absurd (false≢true (sym w.fits-is ∙ z))
+    ]
 
 -- the record that the item begins
 at-chosen : (t : ℕ) (c : place_members_lts.Joined-not-fits (place-members-claims t) (place-members-at t)
@@ -301,74 +313,96 @@ at-chosen : (t : ℕ) (c : place_members_lts.Joined-not-fits (place-members-clai
     Chosen X c.loop-began.count c.if-e-eq-SET-2.j c.if-not-fits.buf
     c.if-e-eq-SET-2.at c.if-not-fits.next c.if-not-fits.place c.if-not-fits.«record» c.if-not-fits.from
 at-chosen t c X =
-    ⊎_elim
-    (λ x.
-    let h = sym x.6.ensures ∙ x.7.taken in
-    rw (x.14, x.15, x.16, x.17) ((at-picked t (record {
-      before = record {
-        before = record {
-          before = record { before = record { before = record { before = c.before; if7 = x.0 }; rest = x.1 }; none = x.2 };
-          search-arg = x.3;
-        };
-        search = x.4;
-      };
-      match = x.5;
-    }) X).2 _ (λ z. x.12 ∙ x.9.ensures) (λ z. absurd (true≢false (sym h ∙ z)))))
-    (⊎_elim
-    (λ x.
-    let h = sym x.6.ensures ∙ x.7.left in
-    rw (x.10, x.11, x.12, x.13) ((at-picked t (record {
-      before = record {
-        before = record {
-          before = record { before = record { before = record { before = c.before; if7 = x.0 }; rest = x.1 }; none = x.2 };
-          search-arg = x.3;
-        };
-        search = x.4;
-      };
-      match = x.5;
-    }) X).2 _ (λ z. absurd (true≢false (sym z ∙ h))) (λ z. x.8)))
-    λ x.
-    let f = at-fits t c.before (not-false _ x.0.left) in
-    rw (x.1, x.3, x.4, x.5, x.6) (chosen_here X _ (at_item t c.before.before.before.before X) f.0 _ f.1 _ f.2 refl))
-    c.if-not-fits.branch
+    elim c.if-not-fits.branch [
+      | place_members_lts.then-not-fits+then-has_members w ↦
+          let h = sym w.has_members.ensures ∙ w.if-has_members.true in
+          rw (w.next-is, w.place-is, w.record-is, w.from-is) ((at-picked t (record {
+            before = record {
+              before = record {
+                before = record {
+                  before = record {
+                    before = record { before = c.before; if-not-fits = w.if-not-fits };
+                    rest-1 = w.rest-1;
+                  };
+                  none-1 = w.none-1;
+                };
+                search-arg-1 = w.search-arg-1;
+              };
+              search = w.search;
+            };
+            match-search = w.match-search;
+          }) X).2 _ (λ z. w.buf-is ∙ w.put_absent-then-has_members.ensures) (λ z. absurd (true≢false (sym h ∙ z))))
+      | place_members_lts.then-not-fits+else-has_members w ↦
+          let h = sym w.has_members.ensures ∙ w.if-has_members.false in
+          rw (w.next-is, w.place-is, w.record-is, w.from-is) ((at-picked t (record {
+            before = record {
+              before = record {
+                before = record {
+                  before = record {
+                    before = record { before = c.before; if-not-fits = w.if-not-fits };
+                    rest-1 = w.rest-1;
+                  };
+                  none-1 = w.none-1;
+                };
+                search-arg-1 = w.search-arg-1;
+              };
+              search = w.search;
+            };
+            match-search = w.match-search;
+          }) X).2 _ (λ z. absurd (true≢false (sym z ∙ h))) (λ z. w.buf-is))
+      | place_members_lts.else-not-fits w ↦
+          let f = at-fits t c.before w.if-not-fits.false in
+          rw (w.buf-is, w.next-is, w.place-is, w.record-is, w.from-is) (chosen_here X _ (at_item t c.before.before.before.before X) f.0 _ f.1 _ f.2 refl)
+    ]
 
 -- lengths stay
 at-grown : (t : ℕ) (c : place_members_lts.Joined-not-fits (place-members-claims t) (place-members-at t)
     place_members.Post place-members-Inv-loop place-members-μ-loop) → (length c.if-not-fits.buf ≡ length
-    c.loop-began.buf) × (length c.if-not-fits.way ≡ 128)
+    c.loop-began.buf) × (length c.if-not-fits.way' ≡ 128)
 at-grown t c =
     let X = at-started t c.before.before.before.before.before.before.before.before.before in
     let l = (at_turn t c.before.before.before.before).0 in
-    ⊎_elim
-    (λ x. (
-      ap length x.12 ∙ x.9.kept.0 ∙ (at-picked t (record {
-        before = record {
+    elim c.if-not-fits.branch [
+      | place_members_lts.then-not-fits+then-has_members w ↦ (
+        ap length w.buf-is ∙ w.put_absent-then-has_members.auto.buf ∙ (at-picked t (record {
           before = record {
-            before = record { before = record { before = record { before = c.before; if7 = x.0 }; rest = x.1 }; none = x.2 };
-            search-arg = x.3;
+            before = record {
+              before = record {
+                before = record {
+                  before = record { before = c.before; if-not-fits = w.if-not-fits };
+                  rest-1 = w.rest-1;
+                };
+                none-1 = w.none-1;
+              };
+              search-arg-1 = w.search-arg-1;
+            };
+            search = w.search;
           };
-          search = x.4;
-        };
-        match = x.5;
-      }) X).0 ∙ l,
-      rw x.13 x.4.ensures.0,
-    ))
-    (⊎_elim
-    (λ x. (
-      ap length x.8 ∙ (at-picked t (record {
-        before = record {
+          match-search = w.match-search;
+        }) X).0 ∙ l,
+        rw w.way'-is w.search.ensures.0,
+      )
+      | place_members_lts.then-not-fits+else-has_members w ↦ (
+        ap length w.buf-is ∙ (at-picked t (record {
           before = record {
-            before = record { before = record { before = record { before = c.before; if7 = x.0 }; rest = x.1 }; none = x.2 };
-            search-arg = x.3;
+            before = record {
+              before = record {
+                before = record {
+                  before = record { before = c.before; if-not-fits = w.if-not-fits };
+                  rest-1 = w.rest-1;
+                };
+                none-1 = w.none-1;
+              };
+              search-arg-1 = w.search-arg-1;
+            };
+            search = w.search;
           };
-          search = x.4;
-        };
-        match = x.5;
-      }) X).0 ∙ l,
-      rw x.9 x.4.ensures.0,
-    ))
-    λ x. (ap length x.1 ∙ l, rw x.2 c.loop-began.invariant.0))
-    c.if-not-fits.branch
+          match-search = w.match-search;
+        }) X).0 ∙ l,
+        rw w.way'-is w.search.ensures.0,
+      )
+      | place_members_lts.else-not-fits w ↦ (ap length w.buf-is ∙ l, rw w.way'-is c.loop-began.invariant.0)
+    ]
 
 abbrev place-value-claims : ℕ → place_value_lts.Claims
 place-value-claims t = (
@@ -398,12 +432,12 @@ at_under : (t : ℕ) (c : place_value_lts.Joined-e-gt0 (place-value-claims t) (p
 at_under t c =
     let P = c.requires.1 in
     let e = c.unpack-e.ensures in
-    ⊎_elim
-    (λ x. absurd (must_open P _ _ x.2.ensures.1 _ _ x.4.given.1))
-    (⊎_elim
-    (λ x. accepted_as (under_open P _ _ x.2.ensures.1 x.2.ensures.0 _ x.4.given.1) x.6 x.7 x.9 x.8)
-    λ x. accepted_as (under_none P (rw e at x.0.left) _ refl) x.1 x.2 x.4 x.3)
-    c.if-e-gt0.branch
+    elim c.if-e-gt0.branch [
+      | place_value_lts.then-e-gt0+in-Refused w ↦ absurd (must_open P _ _ w.«open».ensures.1 _ _ w.in-Refused.is)
+      | place_value_lts.then-e-gt0+in-Inside w ↦
+          accepted_as (under_open P _ _ w.«open».ensures.1 w.«open».ensures.0 _ w.in-Inside.is) w.notes-is w.at-is w.from-is w.end-is
+      | place_value_lts.else-e-gt0 w ↦ accepted_as (under_none P (rw e at w.if-e-gt0.false) _ refl) w.notes-is w.at-is w.from-is w.end-is
+    ]
 
 -- its contents
 at-contents : (t : ℕ) (c : place_value_lts.Joined-e-ne-CHOICE (place-value-claims t) (place-value-at t) place_value.Post) →
@@ -416,28 +450,34 @@ at-contents t c =
     let U = at_under t c.before.before in
     let o : Octets c.args.table.now = λ i. omega (arith, c.shared_slice_known-1.given i) in
     let q : Octets c.args.m.now = λ i. omega (arith, c.shared_slice_known-2-1.given i) in
-    ⊎_elim
-    (λ x.
-    contents_as (read_contents P U q o (rw e at x.0.taken) x.1.result x.1.ensures) x.2 x.3 x.4)
-    (λ x. contents_as (choice_contents P U q o (rw e at x.0.left)) x.1 x.2 x.3)
-    c.if-e-ne-CHOICE.branch
+    elim c.if-e-ne-CHOICE.branch [
+      | place_value_lts.then-e-ne-CHOICE w ↦
+          contents_as (read_contents P U q o (rw e at w.if-e-ne-CHOICE.true) w.again-x.result w.again-x.ensures) w.start-is w.stop-is w.indefinite-is
+      | place_value_lts.else-e-ne-CHOICE w ↦
+          contents_as (choice_contents P U q o (rw e at w.if-e-ne-CHOICE.false)) w.start-is w.stop-is w.indefinite-is
+    ]
 
 -- what was placed
 at_stored : (t : ℕ) (c : place_value_lts.Joined-e (place-value-claims t) (place-value-at t) place_value.Post) →
     let a = c.args in
     Stored c.requires.1.fits.value a.m.now c.if-e-gt0.end (at_under t c.before.before.before).left a.buf.now a.to c.if-e.buf c.if-e.stop
-    c.if-e.next c.if-e.way
+    c.if-e.next c.if-e.way'
 at_stored t c =
     let P = c.requires.1 in
     let e = c.unpack-e.ensures in
     let U = at_under t c.before.before.before in
     let X = at-contents t c.before in
-    ⊎_elim
-    (λ x. stored_as (parts_stored P U X _ e x.0.taken (sym x.5.ensures ∙ x.6.taken) _ _ x.8.ensures) x.12 x.13 x.14 x.15)
-    (⊎_elim
-    (λ x. stored_as (leaf_stored P U X _ e x.0.taken (sym x.5.ensures ∙ x.6.left) _ _ x.8.ensures.0 x.8.ensures.1) x.11 x.12 x.13 x.14)
-    λ x. stored_as (items_stored P U X (rw e at x.0.left) _ _ x.6.ensures.1 _ x.6.ensures.0) x.10 x.11 x.12 x.13)
-    c.if-e.branch
+    elim c.if-e.branch [
+      | place_value_lts.then-e+then-in_segments w ↦
+          stored_as (parts_stored P U X _ e w.if-e.true (sym w.in_segments.ensures ∙ w.if-in_segments.true) _ _ w.place_segments-x.ensures)
+          w.buf-is w.way'-is w.stop-is w.next-is
+      | place_value_lts.then-e+else-in_segments w ↦
+          stored_as (leaf_stored P U X _ e w.if-e.true (sym w.in_segments.ensures ∙ w.if-in_segments.false) _ _ w.place_contents-next.ensures.0
+          w.place_contents-next.ensures.1) w.buf-is w.way'-is w.stop-is w.next-is
+      | place_value_lts.else-e w ↦
+          stored_as (items_stored P U X (rw e at w.if-e.false) _ _ w.place_members-x.ensures.1 _ w.place_members-x.ensures.0)
+          w.buf-is w.way'-is w.stop-is w.next-is
+    ]
 
 pub +place_members_place_value_spec : {M : Type 1} → statement M
 +place_members_place_value_spec = close μ-place-members μ-place-value (λ t. place_members_lts.spec (place-members-claims t)
@@ -458,7 +498,7 @@ pub +place_members_place_value_spec : {M : Type 1} → statement M
       λ first X. state_first X _ c.begin-next.ensures.0,
     ))  -- place-members-loop-holds
     (λ c κs.
-    let X = at-started t (c.before.before.before.before.before.before) in (
+    let X = at-started t c.before.before.before.before.before.before in (
       set_low X (c.loop-began.invariant.2 _ X) c.if-e-eq-SET-2.true,
       its_few X.given,
       (at-located t c.before.before.before.before.before.before.before.before).1,
@@ -467,7 +507,7 @@ pub +place_members_place_value_spec : {M : Type 1} → statement M
     let X = at-started t c.before.before.before.before.before.before.before.before in
     set_room X (c.loop-began.invariant.2 _ X) c.if-e-eq-SET-2.true _ c.following-k.ensures.most)  -- place-members-put-absent-requires
     (λ c.
-    c.put_absent.auto.0 ∙ c.loop-began.invariant.1 ∙ c.begin-next.auto.1.1.0)  -- place-members-same-length
+    c.put_absent.auto.buf ∙ c.loop-began.invariant.1 ∙ c.begin-next.auto.buf)  -- place-members-same-length
     (λ c.
     let l = c.loop-began in
     let X = at-started t c.before.before.before.before.before.before.before.before.before.before.before.before.before in (
@@ -476,8 +516,8 @@ pub +place_members_place_value_spec : {M : Type 1} → statement M
     ))  -- place-members-returns
     (λ c. let z = at-came t c in omega arith)  -- place-members-mul-at
     (λ c. let z = at-came t c in omega arith)  -- place-members-array-read-at
-    (λ c. let z = at-came t c in omega arith)  -- place-members-cast-at
-    (λ c. let z = at-came t c in omega arith)  -- place-members-sub-at
+    (λ c. let z = at-came t (record { before = c.before; if-k-s = record { false = c.if-k-s.false } }) in omega arith)  -- place-members-cast-at
+    (λ c. let z = at-came t (record { before = c.before; if-k-s = record { false = c.if-k-s.false } }) in omega arith)  -- place-members-sub-at
     (λ c κs. tt)  -- place-members-holds-one-requires
     (λ c κs. tt)  -- place-members-is-over-requires
     (λ c κs.
@@ -488,7 +528,7 @@ pub +place_members_place_value_spec : {M : Type 1} → statement M
     let X = at-started t c.before.before.before.before.before.before.before.before.before.before.before.before.before in
     omega (arith, other_low X (c.loop-began.invariant.2 _ X) c.if-e-eq-SET-2.false, X.given.short))  -- place-members-behind-requires
     (λ c.
-    c.finish.auto.1.1.1.1.0 ∙ c.loop-began.invariant.1 ∙ c.begin-next.auto.1.1.0)  -- place-members-same-length-2
+    c.finish.auto.buf ∙ c.loop-began.invariant.1 ∙ c.begin-next.auto.buf)  -- place-members-same-length-2
     (λ c.
     let l = c.loop-began in
     let X = at-started t c.before.before.before.before.before.before.before.before.before.before.before.before.before.before in (
@@ -499,7 +539,7 @@ pub +place_members_place_value_spec : {M : Type 1} → statement M
     (λ c. let l = at_low t c.before in omega arith)  -- place-members-add-from
     (λ c κs.
     let X = at-started t c.before.before.before.before.before.before.before.before in
-    let i = at_item t (c.before.before.before) X in
+    let i = at_item t c.before.before.before X in
     (part_inside X _ i c.if-j-s.true, part_near X _ i c.if-j-s.true))  -- place-members-part-requires
     (λ c. let l = at_type t c in omega arith)  -- place-members-mul-first
     (λ c. at_type t c.before)  -- place-members-element-copy-out-first
@@ -521,59 +561,57 @@ pub +place_members_place_value_spec : {M : Type 1} → statement M
     (λ c. search rules)  -- place-members-enum-known-x
     (λ c.
     let X = at-started t c.before.before.before.before.before.before.before.before.before.before.before.before.before.before.before in
-    let l = found_low X _ (at_item t (c.before.before.before.before.before.before.before.before.before.before) X) _ _ c.search.ensures.0 (rw c.in-Part.is at (at-sought t (c.before.before)))
+    let l = found_low X _ (at_item t c.before.before.before.before.before.before.before.before.before.before X) _ _ c.search.ensures.0 (rw c.in-Part.is at (at-sought t c.before.before))
     in
     omega (arith, l, X.given.short))  -- place-members-add-from-2
     (λ c κs.
     let X = at-started t c.before.before.before.before.before.before.before.before.before.before.before.before.before.before.before.before in
-    let F = rw c.in-Part.is at (at-sought t (c.before.before.before)) in
-    let C = at_item t (c.before.before.before.before.before.before.before.before.before.before.before) X in
+    let F = rw c.in-Part.is at (at-sought t c.before.before.before) in
+    let C = at_item t c.before.before.before.before.before.before.before.before.before.before.before X in
     let w = c.search.ensures.0 in
     (omega (arith, found_deep X _ C _ _ w F, w), w, found_room X _ C _ _ w F))  -- place-members-put-way-requires
     (λ c κs. tt)  -- place-members-has-members-requires
     (λ c κs.
-    (at-picked t (c.before.before.before) (at-started t
-    c.before.before.before.before.before.before.before.before.before.before.before.before.before.before.before.before.before)).1
+    (at-picked t c.before.before.before (at-started t c.before.before.before.before.before.before.before.before.before.before.before.before.before.before.before.before.before)).1
     (sym c.has_members.ensures ∙ c.if-has_members.true))  -- place-members-put-absent-requires-2
     (λ c κs.
-    chosen_node (at-started t (c.before.before.before.before.before.before.before.before.before.before)) _ (at-chosen t c.before (at-started t (c.before.before.before.before.before.before.before.before.before.before))))  -- place-members-put-place-requires
+    chosen_node (at-started t c.before.before.before.before.before.before.before.before.before.before) _ (at-chosen t c.before (at-started t c.before.before.before.before.before.before.before.before.before.before)))  -- place-members-put-place-requires
     (λ c.
     let X = at-started t c.before.before.before.before.before.before.before.before.before.before.before.before.before.before.before in
-    omega (arith, chosen_onward X _ (at-chosen t (c.before.before.before.before.before.before) X)))  -- place-members-add-j
+    omega (arith, chosen_onward X _ (at-chosen t c.before.before.before.before.before.before X)))  -- place-members-add-j
     (λ c.
     let X = at-started t c.before.before.before.before.before.before.before.before.before.before.before.before.before.before.before.before in
-    omega (arith, (at-chosen t (c.before.before.before.before.before.before.before) X).low, X.given.ready.passes.few))  -- place-members-mul-place-value
+    omega (arith, (at-chosen t c.before.before.before.before.before.before.before X).low, X.given.ready.passes.few))  -- place-members-mul-place-value
     (λ c.
     let X = at-started t c.before.before.before.before.before.before.before.before.before.before.before.before.before.before.before.before.before in
-    omega (arith, (at-chosen t (c.before.before.before.before.before.before.before.before) X).low, X.given.ready.passes.few))  -- place-members-element-copy-out-place-value
+    omega (arith, (at-chosen t c.before.before.before.before.before.before.before.before X).low, X.given.ready.passes.few))  -- place-members-element-copy-out-place-value
     (λ c κs.
-    let X = at-started t (c.before.before.before.before.before.before.before.before.before.before.before.before.before.before.before.before.before.before.before.before) in (
+    let X = at-started t c.before.before.before.before.before.before.before.before.before.before.before.before.before.before.before.before.before.before.before.before in (
       omega (arith, c.requires.0),
-      chosen_asks X _ (at-chosen t (c.before.before.before.before.before.before.before.before.before.before.before) X) c.put_place.ensures _ (at-grown t (c.before.before.before.before.before.before.before.before.before.before.before)).1,
+      chosen_asks X _ (at-chosen t c.before.before.before.before.before.before.before.before.before.before.before X) c.put_place.ensures _ (at-grown t c.before.before.before.before.before.before.before.before.before.before.before).1,
     ))  -- place-members-place-value-requires
     (λ c.
     let X = at-started t c.before.before.before.before.before.before.before.before.before.before.before.before.before.before.before.before.before.before.before.before.before.before.before in
     omega (arith, state_count X (c.loop-began.invariant.2 _ X)))  -- place-members-add-count
     (λ c κs. tt)  -- place-members-holds-one-requires-2
     (λ c.
-    c.place_value-x.auto.1.1.1.1.1.1.0 ∙ c.put_place.auto.1.1.0 ∙ (at-grown t (c.before.before.before.before.before.before.before.before.before.before.before.before.before.before.before.before)).0 ∙ c.loop-began.invariant.1
-    ∙ c.begin-next.auto.1.1.0)  -- place-members-same-length-3
+    c.place_value-x.auto.buf ∙ c.put_place.auto.buf ∙ (at-grown t c.before.before.before.before.before.before.before.before.before.before.before.before.before.before.before.before).0 ∙ c.loop-began.invariant.1
+    ∙ c.begin-next.auto.buf)  -- place-members-same-length-3
     (λ c.
     let X = at-started t c.before.before.before.before.before.before.before.before.before.before.before.before.before.before.before.before.before.before.before.before.before.before.before.before.before in (
       c.place_value-x.ensures.0,
-      chosen_one X _ (at-chosen t (c.before.before.before.before.before.before.before.before.before.before.before.before.before.before.before.before) X) c.put_place.ensures c.place_value-x.ensures.1 _
+      chosen_one X _ (at-chosen t c.before.before.before.before.before.before.before.before.before.before.before.before.before.before.before.before X) c.put_place.ensures c.place_value-x.ensures.1 _
           c.holds_one-in-loop-began.ensures c.if-holds_one.true,
     ))  -- place-members-returns-3
     (λ c.
     let X = at-started t c.before.before.before.before.before.before.before.before.before.before.before.before.before.before.before.before.before.before.before.before.before.before.before.before.before in
-    let l = at_turn t (c.before.before.before.before.before.before.before.before.before.before.before.before.before.before.before.before.before.before.before.before) in
-    chosen_fewer X _ (at-chosen t (c.before.before.before.before.before.before.before.before.before.before.before.before.before.before.before.before) X) c.put_place.ensures c.place_value-x.ensures.1 _ _ l.1 l.2)  -- place-members-loop-less
-    (λ c.
-    (
+    let l = at_turn t c.before.before.before.before.before.before.before.before.before.before.before.before.before.before.before.before.before.before.before.before in
+    chosen_fewer X _ (at-chosen t c.before.before.before.before.before.before.before.before.before.before.before.before.before.before.before.before X) c.put_place.ensures c.place_value-x.ensures.1 _ _ l.1 l.2)  -- place-members-loop-less
+    (λ c. (
       c.place_value-x.ensures.0,
-      c.place_value-x.auto.1.1.1.1.1.1.0 ∙ c.put_place.auto.1.1.0 ∙ (at-grown t (c.before.before.before.before.before.before.before.before.before.before.before.before.before.before.before.before)).0
+      c.place_value-x.auto.buf ∙ c.put_place.auto.buf ∙ (at-grown t c.before.before.before.before.before.before.before.before.before.before.before.before.before.before.before.before).0
           ∙ c.loop-began.invariant.1,
-      λ first X. chosen_next X _ (at-chosen t (c.before.before.before.before.before.before.before.before.before.before.before.before.before.before.before.before) X) c.put_place.ensures c.place_value-x.ensures.1 _
+      λ first X. chosen_next X _ (at-chosen t c.before.before.before.before.before.before.before.before.before.before.before.before.before.before.before.before X) c.put_place.ensures c.place_value-x.ensures.1 _
           c.holds_one-in-loop-began.ensures c.if-holds_one.false,
     )))  -- place-members-loop-again
     λ t. place_value_lts.spec (place-value-claims t)
