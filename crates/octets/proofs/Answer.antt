@@ -3,7 +3,7 @@
 use mathlib.Core.Bool.{Bool, true, false, true≢false}
 use mathlib.Core.List.{List, [], ◌∷◌, ◌++◌}
 use mathlib.Core.Path.{◌≡◌, refl, subst, sym}
-use Prim.Native.Nat.{ℕ, ◌+◌}
+use Prim.Native.Nat.{ℕ}
 use Rattle.octets.specs.Answer.{Answer, got, refused, then, if, behind, none_left}
 
 pub then_got : {K A B : Type 0} (a : A) (s : List ℕ) (f : A → List ℕ → Answer K B) → then (got a s) f ≡ f a s

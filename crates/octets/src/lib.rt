@@ -1,5 +1,6 @@
 // Octets: reads that are total, where what lies behind the last octet counts as 0; room for octets; a copy.
 #![tactic(auto)]
+
 ghost use Rattle.std.specs.Prelude.{◌≡◌, ◌<◌, ◌+◌, ◌*◌, leb, get_or, length};
 ghost use Rattle.octets.specs.Numbers.{two};
 ghost use Rattle.octets.specs.Buffers.{filled};

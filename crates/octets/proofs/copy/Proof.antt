@@ -8,8 +8,6 @@ use borrow.Author.Tests.{eq-eqb, ne_eqb}
 use Rattle.octets.proofs.Buffers.{copy_turn, copy_end}
 use Rattle.octets.proofs.copy.Statement.{statement}
 use Rattle.octets.proofs.copy.Tie as tie
-use Rattle.octets.proofs.copy.Reads as reads
-use Rattle.octets.proofs.copy.Lts as lts
 
 abbrev invariant-loop : tie.invariant-loop-i
 invariant-loop c part₀ n i₀ part i = (i ≤ n) × (length part₀ ≡ n) × (length part ≡ n) × (sets part₀ 0 c ≡ sets part i (drop i c))

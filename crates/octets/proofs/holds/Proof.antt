@@ -2,8 +2,6 @@ use Rattle.octets.proofs.Buffers.{room_behind, no_room_behind}
 use borrow.Author.Rules.{rules}
 use Rattle.octets.proofs.holds.Statement.{statement}
 use Rattle.octets.proofs.holds.Tie as tie
-use Rattle.octets.proofs.holds.Reads as reads
-use Rattle.octets.proofs.holds.Lts as lts
 
 returns : tie.Need-returns-then-s-at
 returns c = no_room_behind _ _ _ c.if-s-at.true

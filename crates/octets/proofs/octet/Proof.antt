@@ -6,8 +6,6 @@ use mathlib.Core.Path.{refl, sym}
 use lib.ListN.{get_or-eq_default}
 use Rattle.octets.proofs.octet.Statement.{statement}
 use Rattle.octets.proofs.octet.Tie as tie
-use Rattle.octets.proofs.octet.Reads as reads
-use Rattle.octets.proofs.octet.Lts as lts
 
 shared-slice-read-result : tie.Need-bounds-s-at
 shared-slice-read-result c = search rules

@@ -6,9 +6,6 @@ use native.Mathlib.Omega.{arith}
 use lib.ListN.{get_or-eq_default}
 use Rattle.octets.proofs.two.Statement.{statement}
 use Rattle.octets.proofs.two.Tie as tie
-use Rattle.octets.proofs.two.Reads as reads
-use Rattle.octets.proofs.two.Lts as lts
-use Rattle.octets.proofs.octet.Reads as octet_reads
 
 octet-requires : tie.Need-octet-requires
 octet-requires c κs = search rules

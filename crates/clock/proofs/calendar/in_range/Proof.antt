@@ -1,7 +1,6 @@
 -- `clock::calendar::in_range` meets its contract: by its three tests.
 -- Assumes nothing.
 use borrow.Author.Rules.{rules}
-use borrow.Author.Tests.{not-true, not-false}
 use Rattle.octets.proofs.Search.{tests}
 use Rattle.dates.specs.Calendar.{in_range}
 use Rattle.clock.proofs.calendar.in_range.Statement.{statement}
