@@ -6,7 +6,7 @@ ghost use Rattle.ber.specs.Told.{end_of};
 use x690::ReadingCause;
 
 // An item follows; or the contents are over, and what stands behind them begins at `end`; or neither.
-#[derive(Drop)]
+#[derive(Clone, Copy)]
 pub enum End {
     More,
     Over { end: usize },

@@ -9,7 +9,7 @@ use octets::holds;
 use x690::ReadingCause;
 
 // A code, and where the octets end; or why there is none.
-#[derive(Drop)]
+#[derive(Clone, Copy)]
 pub enum Identifier {
     Read { code: u32, end: usize },
     Refused { cause: ReadingCause },

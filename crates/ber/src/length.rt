@@ -15,14 +15,14 @@ use x690::ReadingCause;
 const LONGEST_FIELD: usize = 4;
 
 // Where the contents begin and end, and whether 00 00 closes them; then their end is that of m.
-#[derive(Drop)]
+#[derive(Clone, Copy)]
 pub struct Extent {
     pub start: usize,
     pub end: usize,
     pub indefinite: bool,
 }
 
-#[derive(Drop)]
+#[derive(Clone, Copy)]
 pub enum Length {
     Read(Extent),
     Refused { cause: ReadingCause },

@@ -12,7 +12,7 @@ use octets::{octet, two};
 use records::entry::{LACKING, UNTAGGED};
 
 // How many records were indexed. Whole if nothing is left behind them.
-#[derive(Drop)]
+#[derive(Clone, Copy)]
 pub struct Count {
     pub count: usize,
     pub whole: bool,

@@ -20,7 +20,7 @@ use table::{CheckCause, Verdict};
 const LONGEST_TABLE: usize = 8192;
 
 // The verdict on a table, and how many records it has.
-#[derive(Drop)]
+#[derive(Clone, Copy)]
 pub struct Counted {
     pub verdict: Verdict,
     pub count: usize,

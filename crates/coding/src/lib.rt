@@ -10,7 +10,7 @@ pub const LONGEST_MESSAGE: usize = 8192;
 pub const LEVELS: usize = 24;
 
 // Why the judging of a value refuses, 11 to 13. Where the place is known, it becomes a cause of the value's stage.
-#[derive(Drop)]
+#[derive(Clone, Copy)]
 pub enum JudgingCause {
     ValueShape,
     IllTyped,
@@ -20,7 +20,7 @@ pub enum JudgingCause {
 // The causes of each stage, with their places. One without a place is always at 0.
 
 // 1 to 7. Unknown is a type or a link version that there is not.
-#[derive(Drop)]
+#[derive(Clone, Copy)]
 pub enum TableCause {
     TableShape(usize),
     NoRecord(usize),
@@ -32,7 +32,7 @@ pub enum TableCause {
 }
 
 // 11 to 14.
-#[derive(Drop)]
+#[derive(Clone, Copy)]
 pub enum ValueCause {
     ValueShape(usize),
     IllTyped(usize),
@@ -41,7 +41,7 @@ pub enum ValueCause {
 }
 
 // 21 to 29.
-#[derive(Drop)]
+#[derive(Clone, Copy)]
 pub enum MessageCause {
     MessageLength(usize),
     Cut(usize),
@@ -55,7 +55,7 @@ pub enum MessageCause {
 }
 
 // The stage at which something is refused, and within it the cause.
-#[derive(Drop)]
+#[derive(Clone, Copy)]
 pub enum Refusal {
     Table(TableCause),
     Value(ValueCause),
@@ -63,28 +63,28 @@ pub enum Refusal {
 }
 
 // The number of a refusal, and its place.
-#[derive(Drop)]
+#[derive(Clone, Copy)]
 pub struct Report {
     pub number: u64,
     pub place: usize,
 }
 
 // Done, with the length written; or refused.
-#[derive(Drop)]
+#[derive(Clone, Copy)]
 pub enum Answer {
     Done(usize),
     Refused(Refusal),
 }
 
 // A time that was handed in, or what it is converted to; or why there is none.
-#[derive(Drop)]
+#[derive(Clone, Copy)]
 pub enum Given {
     Time(DateTime),
     Refused(JudgingCause),
 }
 
 // What a reckoning with two GeneralizedTimes answers: a number; or refused.
-#[derive(Drop)]
+#[derive(Clone, Copy)]
 pub enum Reckoned {
     Is(i64),
     Refused(Refusal),

@@ -6,7 +6,7 @@ use x690::ReadingCause;
 
 // Where what is judged ends, and how many octets its value has, 16,385 for all above 16,384. Or why it is refused, and how many octets
 // are left from the place of the refusal to the end of those that were given.
-#[derive(Drop)]
+#[derive(Clone, Copy)]
 pub enum Judged {
     Done { end: usize, size: usize },
     Refused { cause: ReadingCause, left: usize },

@@ -29,7 +29,7 @@ use records::entry::{first, parts, unpack, whole};
 use x690::ReadingCause;
 
 // An item, or the end of contents, behind which other octets begin at `end`.
-#[derive(Drop)]
+#[derive(Clone, Copy)]
 pub enum Standing {
     Item,
     Over { end: usize },

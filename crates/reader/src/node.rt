@@ -7,7 +7,7 @@ ghost use Rattle.reader.specs.Placing.{has_members, node_of, opening_of, noted_i
 use kinds::{CHOICE, MESSAGE, has_members, is_list};
 
 // Where an item or contents end in the message, and their value in the buffer.
-#[derive(Drop)]
+#[derive(Clone, Copy)]
 pub struct Placed {
     pub end: usize,
     pub next: usize,

@@ -49,7 +49,7 @@ pub fn begins(w: u64, code: u32) -> bool
 }
 
 // A record, and how many CHOICEs without tags stand above it.
-#[derive(Drop)]
+#[derive(Clone, Copy)]
 pub enum Under {
     Nothing,
     At { record: usize, depth: usize },
@@ -117,7 +117,7 @@ fn seek(table: &[u8], index: &[u64; 128], t: usize, code: u32, way: &mut [u16; 1
 
 // The part by its place among the parts, the record that the item begins, how many CHOICEs without tags stand above that, and where
 // the identifier ends.
-#[derive(Drop)]
+#[derive(Clone, Copy)]
 pub struct Choice {
     pub place: usize,
     pub record: usize,
@@ -125,7 +125,7 @@ pub struct Choice {
     pub from: usize,
 }
 
-#[derive(Drop)]
+#[derive(Clone, Copy)]
 pub enum Found {
     Part(Choice),
     Refused { cause: ReadingCause },

@@ -17,14 +17,14 @@ use records::entry::{tag_code, tag_count, unpack};
 use x690::ReadingCause;
 
 // The item under all tags: where it begins, where its identifier ends, and where what it stands in ends.
-#[derive(Drop)]
+#[derive(Clone, Copy)]
 pub struct Inner {
     pub at: usize,
     pub from: usize,
     pub end: usize,
 }
 
-#[derive(Drop)]
+#[derive(Clone, Copy)]
 pub enum Opened {
     Inside(Inner),
     Refused { cause: ReadingCause, left: usize },
@@ -43,7 +43,7 @@ fn note(end: usize, indefinite: bool) -> u16
 }
 
 // Where an identifier ends, or why it is refused.
-#[derive(Drop)]
+#[derive(Clone, Copy)]
 pub enum Tag {
     Read { end: usize },
     Refused { cause: ReadingCause },

@@ -22,7 +22,7 @@ const DEEPEST: usize = 4;
 
 // Where segments end, how many octets the contents have that they join to, how many bits of the last are unused, and how many octets
 // before the end the last primitive one begins.
-#[derive(Drop)]
+#[derive(Clone, Copy)]
 pub struct Gathered {
     pub end: usize,
     pub size: usize,
@@ -30,7 +30,7 @@ pub struct Gathered {
     pub back: usize,
 }
 
-#[derive(Drop)]
+#[derive(Clone, Copy)]
 pub enum Segments {
     Read(Gathered),
     Refused { cause: ReadingCause, left: usize },
@@ -201,7 +201,7 @@ pub fn read(m: &[u8], indefinite: bool, bits: bool) -> Segments
 }
 
 // Where segments end in the message, and what they carry in the buffer; how many bits of the last are unused.
-#[derive(Drop)]
+#[derive(Clone, Copy)]
 pub struct Joined {
     pub end: usize,
     pub next: usize,

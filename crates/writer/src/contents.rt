@@ -31,7 +31,7 @@ pub fn two(v: &[u8], p: usize) -> usize
 }
 
 // Where the own part of a leaf ends, and how many contents octets it has; an end of 0 if it is not shaped.
-#[derive(Drop)]
+#[derive(Clone, Copy)]
 pub struct Extent {
     pub end: usize,
     pub size: usize,

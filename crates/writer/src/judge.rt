@@ -22,7 +22,7 @@ use kinds::{ENUMERATED, constructed};
 use records::entry::{Entry, lists, parts, unpack, whole};
 
 // Where a part of the value ends, and how many octets are written of it, to 8,193; or why it is refused.
-#[derive(Drop)]
+#[derive(Clone, Copy)]
 pub enum Judged {
     Done { end: usize, size: usize },
     Refused { place: usize, cause: JudgingCause },

@@ -12,7 +12,7 @@ use crate::{contents, frame, node};
 use records::entry::{parts, unpack, whole};
 
 // Where values end, and where what was put of them ends in the buffer.
-#[derive(Drop)]
+#[derive(Clone, Copy)]
 pub struct Placed {
     pub end: usize,
     pub to: usize,

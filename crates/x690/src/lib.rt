@@ -3,7 +3,7 @@
 
 // Why the reading of a message refuses, 22 to 26, 28 and 29 (FORMATS, "Refusals"). The place is made of the octets that are left, where the
 // message is known.
-#[derive(Drop)]
+#[derive(Clone, Copy)]
 pub enum ReadingCause {
     Cut,
     Forbidden,
