@@ -1,7 +1,7 @@
 -- Laws of octets that are put: the length octets by their forms, single octets one behind another, identifier and length octets together.
 -- Assumes nothing.
-use borrow.Author.Tests.{lt-ltb, le-ltb, leb-true, not-true, not-false, ne_eqb}
-use mathlib.Core.Bool.{Bool, true, false, not}
+use borrow.Author.Tests.{lt-ltb, le-ltb, leb-true, ne_eqb}
+use mathlib.Core.Bool.{Bool, true, false}
 use mathlib.Core.List.{List, [], ◌∷◌, ◌++◌}
 use mathlib.Core.Path.{◌≡◌, refl, sym, ◌∙◌}
 use native.Mathlib.Nat.{add-zero, add-suc, suc-add}

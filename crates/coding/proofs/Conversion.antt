@@ -5,7 +5,6 @@ use mathlib.Core.List.{List, [], ◌∷◌, ◌++◌}
 use mathlib.Core.Logic.{◌↔◌}
 use mathlib.Core.Path.{◌≡◌, refl, sym, ap, subst, ◌∙◌}
 use Prim.Native.Nat.{ℕ, ◌/◌, ◌%◌, ◌≤◌, ◌<◌}
-use native.Mathlib.Omega.{arith}
 use lib.Dec.{leb}
 use lib.ListN.{length, take, drop, replicate}
 use lib.Seq.{take-append_seam}
@@ -20,16 +19,16 @@ use Rattle.dates.specs.declared.TimeKind.{TimeKind}
 use Rattle.dates.specs.declared.TimeKind.TheVariants.{Utc, Generalized}
 use Rattle.dates.specs.Calendar.{leap, february, month_days, years, is_date, is_time_of_day, in_range}
 use Rattle.dates.specs.Own.{time_octets, time_at}
-use Rattle.dates.specs.Century.{is_version, first_year, in_window, in_year, to_utc, window_year, to_generalized, Shortens}
+use Rattle.dates.specs.Century.{is_version, first_year, in_window, in_year, to_utc, window_year, to_generalized}
 use Rattle.dates.proofs.Centuries.{Around2000, windows, same_range, forth_and_back, shortens_one}
 use Rattle.coding.specs.declared.Given.{Given}
 use Rattle.coding.specs.declared.Given.TheVariants.{Time, Refused as Wrong}
 use Rattle.coding.specs.Outcome.{Unknown, value_cause, ValueRoom, Refusal, of_table, of_value, of_message, Told, done, refusal, Outcome, refuse, write_at_start}
 use Rattle.coding.specs.Value.{leaf_octets}
 use Rattle.coding.specs.Judging.{need, own_time, read_own, read_node}
-use Rattle.coding.specs.Reckoning.{childless, is_whole, is_lone, given, time_node, Stands}
+use Rattle.coding.specs.Reckoning.{childless, is_whole, is_lone, given, time_node}
 use Rattle.coding.specs.Conversion.{other_kind, counterpart, converted, placed, whole_conversion, whole_to_generalized, whole_to_utc, Same, Counterparts, Converts, Refuses, no_version, no_node, no_time, no_room}
-use Rattle.coding.proofs.Reckoning.{accepted, given_stands, stands_given, given_shape, time_short, Fault, none_wrong, shape, type, given_fault}
+use Rattle.coding.proofs.Reckoning.{accepted, given_stands, stands_given, given_shape, Fault, none_wrong, shape, type, given_fault}
 
 -- Some of them on octets: 29 February of a year, as a UTCTime and as a GeneralizedTime, into eleven octets and into nine.
 abbrev utc : ℕ → List ℕ

@@ -12,7 +12,7 @@ use lib.Seq.{append_snoc}
 use Rattle.x690.specs.declared.ReadingCause.{ReadingCause}
 use Rattle.octets.specs.Answer.{Answer}
 use Rattle.octets.specs.Lists.{joined}
-use Rattle.octets.specs.Permutations.{Sel, Sel.here, Sel.there, Perm, Perm.none as none_p, Perm.next, Each, nil, cons, Order, as_given}
+use Rattle.octets.specs.Permutations.{Sel, Sel.here, Sel.there, Perm, Perm.none as none_p, Each, nil, cons, Order, as_given}
 use Rattle.octets.proofs.Answer.{Holds, yields, refuses, if_holds, then_holds, map_holds, Taken}
 use Rattle.octets.proofs.Permutations.{flat, joined_flat, arranged_refl}
 use Rattle.octets.proofs.Tests.{and_right}

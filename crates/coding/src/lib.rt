@@ -1,5 +1,6 @@
 // What check, write, read and the operations on times answer (FORMATS, "Refusals", "Times" and "Centuries"), and the limits of a value and of a message ("Limits").
 #![tactic(auto)]
+
 use dates::DateTime;
 
 // Octets of a value, octets of a message, levels.

@@ -1,5 +1,6 @@
 // The kinds of types by their octets, each with its own UNIVERSAL tag (FORMATS, "Tables"; X.690, 8.1.2).
 #![tactic(auto)]
+
 ghost use Rattle.std.specs.Prelude.{◌≡◌, ◌||◌, eqb};
 ghost use Rattle.table.specs.Fields.{universal_of, constructed_of, time_kind};
 

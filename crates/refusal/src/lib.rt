@@ -1,6 +1,7 @@
 // Refusals (FORMATS, "Refusals"): what the check, the judging or the reading refuses, as a cause of its stage at a place; and the number and
 // the place of every refusal.
 #![tactic(auto)]
+
 ghost use Rattle.std.specs.Prelude.{◌≡◌, ◌<◌};
 ghost use Rattle.coding.specs.Outcome.{table_cause, value_cause, message_cause, table_report, value_report, message_report, number_of, place_of};
 

@@ -1,6 +1,6 @@
 -- Items: identifier octets, length octets, contents and, where the length is indefinite, an end (X.690, 8.1; FORMATS, "Messages").
 -- Assumes nothing.
-use Rattle.std.specs.Prelude.{List, [], ◌∷◌, ◌++◌, ◌≡◌, ℕ, ◌-◌, length}
+use Rattle.std.specs.Prelude.{List, [], ◌∷◌, ◌++◌, ◌≡◌, ℕ, length}
 use Rattle.x690.specs.Length.{Length, length_octets}
 
 -- 8.1.3.3: m is a definite item with the identifier octets i and the contents c. A primitive one is always so.

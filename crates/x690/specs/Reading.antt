@@ -1,7 +1,7 @@
 -- The reading of items: identifier octets, length octets, contents and their end, with the refusals 22, 23, 24 and 29 and their places
 -- (X.690, 8.1; FORMATS, "Order of refusals").
 -- Assumes nothing.
-use Rattle.std.specs.Prelude.{List, [], ◌∷◌, ◌++◌, Bool, false, not, ℕ, suc, ◌+◌, ◌%◌, ◌-◌, ltb, eqb, leb, length, get_or, take, drop}
+use Rattle.std.specs.Prelude.{List, [], ◌∷◌, ◌++◌, Bool, false, not, ℕ, suc, ◌%◌, ◌-◌, ltb, eqb, leb, length, get_or, take, drop}
 use Rattle.x690.specs.declared.ReadingCause.{ReadingCause}
 use Rattle.x690.specs.declared.ReadingCause.TheVariants.{Cut, Forbidden, NotAwaited, LengthField}
 use Rattle.octets.specs.Answer.{Answer, got, refused, then, if, behind, none_left}

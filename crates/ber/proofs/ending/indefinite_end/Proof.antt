@@ -4,8 +4,6 @@ use Rattle.ber.proofs.Ends.{ends_none, ends_more, ends_half, ends_wrong, ends_ov
 use borrow.Author.Rules.{rules}
 use Rattle.ber.proofs.ending.indefinite_end.Statement.{statement}
 use Rattle.ber.proofs.ending.indefinite_end.Tie as tie
-use Rattle.ber.proofs.ending.indefinite_end.Reads as reads
-use Rattle.ber.proofs.ending.indefinite_end.Lts as lts
 
 pub indefinite_end_spec : {M : Type 1} → statement M
 indefinite_end_spec =

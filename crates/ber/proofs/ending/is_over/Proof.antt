@@ -1,12 +1,9 @@
 -- `ber::ending::is_over` meets its contract.
 -- Assumes nothing.
-use borrow.Author.Tests.{not-true, not-false}
 use Rattle.ber.proofs.Ends.{over_none, over_closed, over_octet}
 use borrow.Author.Rules.{rules}
 use Rattle.ber.proofs.ending.is_over.Statement.{statement}
 use Rattle.ber.proofs.ending.is_over.Tie as tie
-use Rattle.ber.proofs.ending.is_over.Reads as reads
-use Rattle.ber.proofs.ending.is_over.Lts as lts
 
 pub is_over_spec : {M : Type 1} → statement M
 is_over_spec =

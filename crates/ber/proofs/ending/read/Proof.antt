@@ -8,9 +8,6 @@ use Rattle.ber.proofs.Ends.{ends_closed, ends_not}
 use borrow.Author.Rules.{rules}
 use Rattle.ber.proofs.ending.read.Statement.{statement}
 use Rattle.ber.proofs.ending.read.Tie as tie
-use Rattle.ber.proofs.ending.read.Reads as reads
-use Rattle.ber.proofs.ending.read.Lts as lts
-use Rattle.ber.proofs.ending.indefinite_end.Reads as indefinite_end_reads
 
 pub read_spec : {M : Type 1} → statement M
 read_spec =

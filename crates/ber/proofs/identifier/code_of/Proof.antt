@@ -1,6 +1,5 @@
 -- `ber::identifier::code_of` meets its contract.
 -- Assumes nothing.
-use mathlib.Core.Logic.{⊎_elim}
 use mathlib.Core.Path.{◌≡◌, ◌∙◌}
 use native.Mathlib.Omega.{arith}
 use Prim.Native.Nat.{◌+◌, ◌*◌}
@@ -9,7 +8,6 @@ use Rattle.ber.proofs.Codes.{bit_small, code_short, code_long}
 use borrow.Author.Rules.{rules}
 use Rattle.ber.proofs.identifier.code_of.Statement.{statement}
 use Rattle.ber.proofs.identifier.code_of.Tie as tie
-use Rattle.ber.proofs.identifier.code_of.Reads as reads
 use Rattle.ber.proofs.identifier.code_of.Lts as lts
 
 -- the leading octet without the number

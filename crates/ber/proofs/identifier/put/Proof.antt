@@ -9,10 +9,6 @@ use Rattle.ber.proofs.Headers.{room, no_room, put_nothing, put_one, put_two, put
 use borrow.Author.Rules.{rules}
 use Rattle.ber.proofs.identifier.put.Statement.{statement}
 use Rattle.ber.proofs.identifier.put.Tie as tie
-use Rattle.ber.proofs.identifier.put.Reads as reads
-use Rattle.ber.proofs.identifier.put.Lts as lts
-use Rattle.ber.proofs.identifier.size.Reads as size_reads
-use Rattle.octets.proofs.holds.Reads as holds_reads
 
 -- the octets have room
 has_room : (c : tie.Else-not-holds) → let a = c.args in a.to + length (code_octets a.code) ≤ length a.buf.now

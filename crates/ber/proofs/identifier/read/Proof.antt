@@ -5,9 +5,6 @@ use Rattle.ber.proofs.Told.{identifier_none, identifier_short}
 use borrow.Author.Rules.{rules}
 use Rattle.ber.proofs.identifier.read.Statement.{statement}
 use Rattle.ber.proofs.identifier.read.Tie as tie
-use Rattle.ber.proofs.identifier.read.Reads as reads
-use Rattle.ber.proofs.identifier.read.Lts as lts
-use Rattle.ber.proofs.identifier.read_long.Reads as read_long_reads
 
 pub read_spec : {M : Type 1} → statement M
 read_spec =

@@ -6,9 +6,6 @@ use lib.ListN.{length}
 use Rattle.ber.proofs.Told.{Following, follow_none, follow_next, long_cut, long_zero, long_few, long_read}
 use Rattle.ber.proofs.identifier.read_long.Statement.{statement}
 use Rattle.ber.proofs.identifier.read_long.Tie as tie
-use Rattle.ber.proofs.identifier.read_long.Reads as reads
-use Rattle.ber.proofs.identifier.read_long.Lts as lts
-use Rattle.ber.proofs.identifier.follow.Reads as follow_reads
 
 abbrev invariant-loop : tie.invariant-loop-i
 invariant-loop m lead n₀ i₀ n i = (1 ≤ i) × (i ≤ length m) × (n < 65537) × Following m i n

@@ -5,8 +5,6 @@ use native.Mathlib.Omega.{arith}
 use Rattle.ber.proofs.Codes.{octets_one, octets_two, octets_three, octets_four}
 use Rattle.ber.proofs.identifier.size.Statement.{statement}
 use Rattle.ber.proofs.identifier.size.Tie as tie
-use Rattle.ber.proofs.identifier.size.Reads as reads
-use Rattle.ber.proofs.identifier.size.Lts as lts
 
 pub size_spec : {M : Type 1} → statement M
 size_spec =

@@ -6,10 +6,6 @@ use Rattle.ber.proofs.Skipping.{skip_none, skip_sized, skip_indefinite}
 use borrow.Author.Rules.{rules}
 use Rattle.ber.proofs.item.end.Statement.{statement}
 use Rattle.ber.proofs.item.end.Tie as tie
-use Rattle.ber.proofs.item.end.Reads as reads
-use Rattle.ber.proofs.item.end.Lts as lts
-use Rattle.ber.proofs.item.open_end.Reads as open_end_reads
-use Rattle.ber.proofs.length.read.Reads as read_reads
 
 pub end_spec : {M : Type 1} → statement M
 end_spec =

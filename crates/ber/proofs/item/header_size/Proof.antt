@@ -4,10 +4,6 @@ use lib.ListN.{length-append}
 use borrow.Author.Rules.{rules}
 use Rattle.ber.proofs.item.header_size.Statement.{statement}
 use Rattle.ber.proofs.item.header_size.Tie as tie
-use Rattle.ber.proofs.item.header_size.Reads as reads
-use Rattle.ber.proofs.item.header_size.Lts as lts
-use Rattle.ber.proofs.identifier.size.Reads as identifier_size_reads
-use Rattle.ber.proofs.length.size.Reads as length_size_reads
 
 pub header_size_spec : {M : Type 1} → statement M
 header_size_spec =

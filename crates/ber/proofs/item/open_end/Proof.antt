@@ -8,10 +8,6 @@ use Rattle.ber.proofs.Skipping.{Stands, pass_first, pass_cut, pass_mark, pass_no
 use borrow.Author.Rules.{rules}
 use Rattle.ber.proofs.item.open_end.Statement.{statement}
 use Rattle.ber.proofs.item.open_end.Tie as tie
-use Rattle.ber.proofs.item.open_end.Reads as reads
-use Rattle.ber.proofs.item.open_end.Lts as lts
-use Rattle.ber.proofs.identifier.read.Reads as identifier_read_reads
-use Rattle.ber.proofs.length.read.Reads as length_read_reads
 
 abbrev invariant-loop : tie.invariant-loop-open
 invariant-loop m start at₀ open₀ at k = (start ≤ at) × (at ≤ length m) × (k ≤ at + 1) × Stands m start at k

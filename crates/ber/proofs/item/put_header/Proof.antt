@@ -8,12 +8,6 @@ use Rattle.ber.proofs.Headers.{room, no_room, put_nothing, put_behind}
 use borrow.Author.Rules.{rules}
 use Rattle.ber.proofs.item.put_header.Statement.{statement}
 use Rattle.ber.proofs.item.put_header.Tie as tie
-use Rattle.ber.proofs.item.put_header.Reads as reads
-use Rattle.ber.proofs.item.put_header.Lts as lts
-use Rattle.ber.proofs.identifier.put.Reads as identifier_put_reads
-use Rattle.ber.proofs.item.header_size.Reads as header_size_reads
-use Rattle.ber.proofs.length.put.Reads as length_put_reads
-use Rattle.octets.proofs.holds.Reads as holds_reads
 
 pub put_header_spec : {M : Type 1} → statement M
 put_header_spec =

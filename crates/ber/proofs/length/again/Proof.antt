@@ -7,9 +7,6 @@ use Rattle.ber.proofs.Told.{again_none, again_short, again_read, again_no}
 use borrow.Author.Rules.{rules}
 use Rattle.ber.proofs.length.again.Statement.{statement}
 use Rattle.ber.proofs.length.again.Tie as tie
-use Rattle.ber.proofs.length.again.Reads as reads
-use Rattle.ber.proofs.length.again.Lts as lts
-use Rattle.ber.proofs.length.read_other.Reads as read_other_reads
 
 pub again_spec : {M : Type 1} → statement M
 again_spec =

@@ -8,10 +8,6 @@ use Rattle.ber.proofs.Headers.{length_one, length_two, length_three, room, no_ro
 use borrow.Author.Rules.{rules}
 use Rattle.ber.proofs.length.put.Statement.{statement}
 use Rattle.ber.proofs.length.put.Tie as tie
-use Rattle.ber.proofs.length.put.Reads as reads
-use Rattle.ber.proofs.length.put.Lts as lts
-use Rattle.ber.proofs.length.size.Reads as size_reads
-use Rattle.octets.proofs.holds.Reads as holds_reads
 
 -- the octets have room
 has_room : (c : tie.Else-not-holds) → let a = c.args in a.to + length (length_octets a.n) ≤ length a.buf.now

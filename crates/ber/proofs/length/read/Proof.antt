@@ -8,9 +8,6 @@ use Rattle.ber.proofs.Told.{length_none, length_short, length_short_no, length_r
 use borrow.Author.Rules.{rules}
 use Rattle.ber.proofs.length.read.Statement.{statement}
 use Rattle.ber.proofs.length.read.Tie as tie
-use Rattle.ber.proofs.length.read.Reads as reads
-use Rattle.ber.proofs.length.read.Lts as lts
-use Rattle.ber.proofs.length.read_other.Reads as read_other_reads
 
 pub read_spec : {M : Type 1} → statement M
 read_spec =

@@ -6,9 +6,6 @@ use Rattle.ber.proofs.Told.{length_open, length_over, length_reserved}
 use borrow.Author.Rules.{rules}
 use Rattle.ber.proofs.length.read_other.Statement.{statement}
 use Rattle.ber.proofs.length.read_other.Tie as tie
-use Rattle.ber.proofs.length.read_other.Reads as reads
-use Rattle.ber.proofs.length.read_other.Lts as lts
-use Rattle.ber.proofs.length.read_long.Reads as read_long_reads
 
 pub read_other_spec : {M : Type 1} → statement M
 read_other_spec =

@@ -1,5 +1,4 @@
-use mathlib.Core.Logic.{⊎_elim}
-use mathlib.Core.Path.{◌≡◌, ap, ◌∙◌}
+use mathlib.Core.Path.{◌≡◌, ◌∙◌}
 use native.Mathlib.Omega.{arith}
 use borrow.Author.Tests.{ltb-true, ltb-false}
 use lib.IntN.{pos}
@@ -17,8 +16,8 @@ use Rattle.simple.proofs.integer.size.Lts as lts
 number : (c : lts.Joined-z-lt0 reads.Pre reads.Post) → to_z w64 c.if-z-lt0.n-bits ≡ pos (mag c.args.z)
 number c =
     elim c.if-z-lt0.branch [
-      lts.then-z-lt0 w ↦ w.n-is ∙ bits_neg c.args.z c.ranges.z w.if-z-lt0.true |
-      lts.else-z-lt0 w ↦ w.n-is ∙ bits_pos c.args.z c.ranges.z w.if-z-lt0.false
+      | lts.then-z-lt0 w ↦ w.n-is ∙ bits_neg c.args.z c.ranges.z w.if-z-lt0.true
+      | lts.else-z-lt0 w ↦ w.n-is ∙ bits_pos c.args.z c.ranges.z w.if-z-lt0.false
     ]
 
 pub size_spec : {M : Type 1} → statement M
