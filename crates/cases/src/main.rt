@@ -5,7 +5,9 @@ mod case;
 mod line;
 mod text;
 
-ghost use Rattle.std.specs.Prelude.{◌≤◌, length, IfOk};
+ghost use Rattle.std.specs.Prelude.{◌≤◌, length, IfOk, OnOk};
+ghost use Rattle.std.specs.Io.KnownBytes.{Appends};
+ghost use Rattle.cases.specs.Output.{case_line, cut_line};
 
 use std::io;
 use std::io::{Read, Write};
@@ -62,13 +64,18 @@ fn run<W: Write>(
     t: usize,
     table: &[u8],
     data: &[u8],
-) -> io::Result<()> {
+) -> io::Result<()>
+    ensures { OnOk result (Appends (W.contents output.old) (W.contents output.new)
+        (case_line number operation t table.now «data».now)) }
+{
     let mut space = [0u8; LINE];
     output.write_all(case::case_text(number, operation, t, table, data, &mut space))
 }
 
 // Says that a case is cut.
-fn say_cut<W: Write>(output: &mut W, number: u64) -> io::Result<()> {
+fn say_cut<W: Write>(output: &mut W, number: u64) -> io::Result<()>
+    ensures { OnOk result (Appends (W.contents output.old) (W.contents output.new) (cut_line number)) }
+{
     let mut space = [0u8; LINE];
     output.write_all(line::cut_text(number, &mut space))
 }
