@@ -1,5 +1,7 @@
-// The engine for call control in C: octets and numbers in, one packed number out (FORMATS, "Answers for C").
+// The engine for call control in C: octets and numbers in, one packed number out (FORMATS, "Answers for C"). The crate `link_c` exports each of
+// its public functions to C.
 #![tactic(auto)]
+
 ghost use Rattle.std.specs.Prelude.{◌≡◌, ◌+◌, ◌*◌, ◌<◌};
 ghost use Rattle.table.specs.Verdict.{verdict};
 ghost use Rattle.coding.specs.Calls.{check_answer, whole_write, whole_read};
@@ -30,15 +32,13 @@ fn pack(a: Answer) -> u64
     }
 }
 
-#[unsafe(no_mangle)]
-pub extern "C" fn yinscarf_check(table: &[u8]) -> u64
+pub fn yinscarf_check(table: &[u8]) -> u64
     ensures { result ≡ packed (check_answer (verdict table.now)) }
 {
     pack(engine::check(table))
 }
 
-#[unsafe(no_mangle)]
-pub extern "C" fn yinscarf_write(table: &[u8], t: usize, value: &[u8], buf: &mut [u8]) -> u64
+pub fn yinscarf_write(table: &[u8], t: usize, value: &[u8], buf: &mut [u8]) -> u64
     ensures { let x = whole_write table.now t value.now buf.old in
         (result ≡ packed x.answer)
         × (buf.new ≡ x.buffer) }
@@ -46,8 +46,7 @@ pub extern "C" fn yinscarf_write(table: &[u8], t: usize, value: &[u8], buf: &mut
     pack(engine::write(table, t, value, buf))
 }
 
-#[unsafe(no_mangle)]
-pub extern "C" fn yinscarf_read(table: &[u8], t: usize, message: &[u8], buf: &mut [u8]) -> u64
+pub fn yinscarf_read(table: &[u8], t: usize, message: &[u8], buf: &mut [u8]) -> u64
     ensures { let x = whole_read table.now t message.now buf.old in
         (result ≡ packed x.answer)
         × (buf.new ≡ x.buffer) }
@@ -68,22 +67,19 @@ fn pack_reckoning(a: Reckoned) -> i64
     }
 }
 
-#[unsafe(no_mangle)]
-pub extern "C" fn yinscarf_order(first: &[u8], second: &[u8]) -> i64
+pub fn yinscarf_order(first: &[u8], second: &[u8]) -> i64
     ensures { result ≡ packed_reckoning (whole_order first.now second.now) }
 {
     pack_reckoning(times::reckoning::order(first, second))
 }
 
-#[unsafe(no_mangle)]
-pub extern "C" fn yinscarf_seconds(first: &[u8], second: &[u8]) -> i64
+pub fn yinscarf_seconds(first: &[u8], second: &[u8]) -> i64
     ensures { result ≡ packed_reckoning (whole_seconds first.now second.now) }
 {
     pack_reckoning(times::reckoning::elapsed(first, second))
 }
 
-#[unsafe(no_mangle)]
-pub extern "C" fn yinscarf_to_generalized(version: usize, time: &[u8], buf: &mut [u8]) -> u64
+pub fn yinscarf_to_generalized(version: usize, time: &[u8], buf: &mut [u8]) -> u64
     ensures { let x = whole_to_generalized version time.now buf.old in
         (result ≡ packed x.answer)
         × (buf.new ≡ x.buffer) }
@@ -91,8 +87,7 @@ pub extern "C" fn yinscarf_to_generalized(version: usize, time: &[u8], buf: &mut
     pack(times::conversion::to_generalized(version, time, buf))
 }
 
-#[unsafe(no_mangle)]
-pub extern "C" fn yinscarf_to_utc(version: usize, time: &[u8], buf: &mut [u8]) -> u64
+pub fn yinscarf_to_utc(version: usize, time: &[u8], buf: &mut [u8]) -> u64
     ensures { let x = whole_to_utc version time.now buf.old in
         (result ≡ packed x.answer)
         × (buf.new ≡ x.buffer) }

@@ -30,8 +30,7 @@ put_text_spec =
     (λ c. search rules)  -- slice-write-line
     (λ c. search rules)  -- add-i
     (λ c. search rules)  -- loop-less
-    (λ c.
-    (
+    (λ c. (
       search rules,
       simp length-set c.loop-i.invariant.1,
       rw (c.loop-i.invariant.2, add-one) (paste-suc
