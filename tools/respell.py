@@ -12,7 +12,6 @@ import sys
 
 # What would fall together with another name of its own, or be hidden by a variable, gets the name that stands here.
 BY_HAND = {
-    "in-range": "ranged",
     "at-end": "at_the_end",
     "is-choice": "is_chosen",
     "inSegments": "is_in_segments",
@@ -23,8 +22,10 @@ BY_HAND = {
 MORE = """of-value open-ended of-table in-turn each-once Value-of not-in-nil codeBy in-none none-p refused-at isInfinite done-with in-v insideSize
 Around-rest nextPart Choice-found in-cons firstBegins lines-right cases-read cases-told firstEither behind-part one-item here-is codedAs noTag k-few
 reckonings-right tagBegins last-segment conversions-right range-cases second-cases octet-cases century-cases k-some""".split()
-# Two names that stay alike, since no file has both.
-APART = {"no-time", "noTime"}
+# A field of a record that would fall together with the definition that it speaks of.
+FIELDS = {("coding", "in-range"): "ranged", ("link", "in-range"): "ranged"}
+# Names that stay alike, since no file has both.
+APART = {"no-time", "noTime", "no-tag", "noTag", "in-turn", "inTurn", "sequence-of", "sequenceOf", "set-of", "setOf"}
 DECLARED = re.compile(r"^(\s*)(?:(?:pub|abbrev|unfoldable|instance)\s+)*([^\s:(){}λ.,;=]+) : ")
 HEADED = re.compile(r"^\s*(?:(?:pub|unfoldable|abbrev)\s+)*(?:data|record|ruleset)\s+([^\s:(){}]+)")
 USE = re.compile(r"^\s*(?:pub )?(?:ghost )?use ([^\s{]+)\.\{([^}]*)\}", re.M)
@@ -66,7 +67,7 @@ def settle(declared):
     for n in declared:
         back[turned(n)].add(n)
     for new, olds in back.items():
-        if len(olds) == 1 or olds <= APART:
+        if len(olds) == 1 or olds <= APART or olds & set(BY_HAND):
             continue
         first = sorted(olds, key=lambda n: (not re.search(r"[a-z][A-Z]", n), "-" in n, n))[0]
         for n in olds - {first}:
@@ -122,8 +123,12 @@ def rewrite(text, path, crate_names, declared, fields):
         local = set()
     bound = {a or b for a, b in BOUND.findall(text)} - set(declared) if path.endswith(".antt") else set()
 
+    crate = os.path.relpath(path, "crates").split(os.sep)[0]
+
     def one(m):
         dot, name = m.groups()
+        if (crate, name) in FIELDS and name in declared:
+            return dot + FIELDS[crate, name]
         if not dot and name in bound:
             return turned(name)
         if name not in declared:

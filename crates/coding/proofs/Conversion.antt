@@ -120,7 +120,7 @@ module _ (k : TimeKind) (v : ℕ) (s buf : List ℕ) where
   -- a counterpart is what the octets are converted to
   converted_to : {t u : DateTime} → Counterparts k v s t u → converted first k (given k s) ≡ Time u
   unfolding converted
-  converted_to {t} {u} h = rw (stands_given k s t h.stands) ((becomes_same first (windows v) k t u h.stands.ranged_lem).1 h.same)
+  converted_to {t} {u} h = rw (stands_given k s t h.stands) ((becomes_same first (windows v) k t u h.stands.ranged).1 h.same)
 
   -- and if they are converted to none, they have none
   data Converted : Given → Type 0 where
@@ -135,7 +135,7 @@ module _ (k : TimeKind) (v : ℕ) (s buf : List ℕ) where
       became : is_lone s ≡ true → {t : DateTime} → given k s ≡ Time t → (g : Given) → counterpart first k t ≡ g → Converted g
       became l {t} e (Time u) q =
           let h = given_stands k s o t e in
-          one (record { stands = h; same = (becomes_same first (windows v) k t u h.ranged_lem).0 q })
+          one (record { stands = h; same = (becomes_same first (windows v) k t u h.ranged).0 q })
       became l {t} e (Wrong c) q = rw (outside first k t c q) (none l λ a b h. false≢true (ap accepted (sym q ∙ rw e at (converted_to h))))
 
       judged : (g : Given) → given k s ≡ g → Fault s g → Converted (converted first k g)
@@ -209,7 +209,7 @@ taken_back w buf e =
 
 -- What is written is the node of a time in range.
 pub counterpart_in_range : (k : TimeKind) (v : ℕ) (s : List ℕ) (t u : DateTime) → Counterparts k v s t u → in_range (other_kind k) u ≡ true
-counterpart_in_range k v s t u c = same_in_range (first_year v) (windows v) k t u c.stands.ranged_lem c.same
+counterpart_in_range k v s t u c = same_in_range (first_year v) (windows v) k t u c.stands.ranged c.same
 
 -- What a conversion wrote, handed in again under the same version, is converted to what it was: forth and back, back and forth.
 pub there_and_back : (k : TimeKind) (v : ℕ) (s buf : List ℕ) → AllOctets s → (n : ℕ) (after : List ℕ)
@@ -225,7 +225,7 @@ there_and_back k v s buf o n after e b h =
       from = c.to;
       to = c.from;
       counterparts = record {
-        stands = record { octets = wrote; ranged_lem = counterpart_in_range k v s c.from c.to p };
+        stands = record { octets = wrote; ranged = counterpart_in_range k v s c.from c.to p };
         same = turned (first_year v) k c.from c.to p.same;
       };
       room = h;

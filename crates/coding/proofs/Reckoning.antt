@@ -143,7 +143,7 @@ lone_time k s o l n =
     let (u, q, r) = only_time k w.node (sym (ap (λ (x : List ℕ). get_or x 2 0) w.is) ∙ eqb-true _ _ n) w.shaped in
     let i : s ≡ time_node k u = w.is ∙ ap node_octets q ∙ sym (leaf_octets_lem (time k u)) in
     let t : time_at s 3 ≡ u = ap (λ (x : List ℕ). time_at x 3) i ∙ node_time k u in
-    record { octets = i ∙ ap (time_node k) (sym t); ranged_lem = ap (in_range k) t ∙ r }
+    record { octets = i ∙ ap (time_node k) (sym t); ranged = ap (in_range k) t ∙ r }
 
 abbrev counted : Reckoned → Bool
 counted (Is z) = true
@@ -170,7 +170,7 @@ unfolding given is_lone is_whole childless none_left
 stands_given k s t h =
     let i : s ≡ node_octets (a_leaf (time k t)) = h.octets ∙ leaf_octets_lem (time k t) in
     let r : read_node s ≡ got (a_leaf (time k t)) [] =
-    ap read_node (i ∙ sym (append-nil _)) ∙ node_complete (a_leaf (time k t)) [] (shaped_time k t h.ranged_lem) in
+    ap read_node (i ∙ sym (append-nil _)) ∙ node_complete (a_leaf (time k t)) [] (shaped_time k t h.ranged) in
     let n : length s ≡ 10 = ap length h.octets ∙ time_short k t in
     let m : get_or s 2 0 ≡ time_number k = ap (λ (x : List ℕ). get_or x 2 0) i ∙ kind_time k t in
     let u : time_at s 3 ≡ t = ap (λ (x : List ℕ). time_at x 3) h.octets ∙ node_time k t in

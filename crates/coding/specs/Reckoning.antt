@@ -62,7 +62,7 @@ time_node k t = leaf_octets (time k t)
 
 pub record Stands (k : TimeKind) (s : List ℕ) (t : DateTime) : Type 0 where
   pub octets : s ≡ time_node k t
-  pub ranged_lem : in_range k t ≡ true
+  pub ranged : in_range k t ≡ true
 
 -- a reckoning is done with two GeneralizedTimes, and with z
 pub record Reckons (f : DateTime → DateTime → ℤ) (s t : List ℕ) (z : ℤ) : Type 0 where

@@ -24,9 +24,9 @@ month_most y m =
     (λ f. rw (by_february y 29 (rw f refl)) (leb-true _ _ (not-false _ (upto (λ i. not (leb (month_in 29 i) 31)) 13 refl m h))))
     (λ f. rw (by_february y 28 (rw f refl)) (leb-true _ _ (not-false _ (upto (λ i. not (leb (month_in 28 i) 31)) 13 refl m h))))
 
-pub ranged_lem : (k : TimeKind) (t : DateTime) → in_range k t ≡ true
+pub in_range_lem : (k : TimeKind) (t : DateTime) → in_range k t ≡ true
     → (t.year < years k) × (t.month ≤ 12) × (t.day ≤ 31) × (t.hour < 24) × (t.minute < 60) × (t.second < 60)
-ranged_lem k t e =
+in_range_lem k t e =
     let (y, d, c) = ranged k t e in
     let (h, n, s) = clock t c in
     let f = date t d in

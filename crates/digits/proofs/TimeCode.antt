@@ -17,7 +17,7 @@ use Rattle.dates.specs.declared.DateTime.{DateTime}
 use Rattle.dates.specs.declared.TimeKind.{TimeKind}
 use Rattle.dates.specs.declared.TimeKind.TheVariants.{Utc, Generalized}
 use Rattle.dates.specs.Calendar.{years, in_range}
-use Rattle.dates.proofs.Ranges.{ranged_lem}
+use Rattle.dates.proofs.Ranges.{in_range_lem}
 use Rattle.x690.specs.Time.{two_digits, year_digits, later_digits, time_digits, time_size, digits_at, time_of, is_time}
 use Rattle.x690.proofs.Times.{time_complete, time_sound, length_time}
 use Rattle.digits.specs.Times.{is_digit, pair_at, year_size, year_in, time_from, time_in, no_time, time_read, last_digits}
@@ -107,7 +107,7 @@ later_told : (y : ℕ) (c : List ℕ) (p : ℕ) → length c ≡ p + 11 → get_
     → drop p c ≡ later_digits (time_from y c p)
 unfolding time_from later_digits two_digits
 later_told y c p l z k e =
-    let (_, m, d, h, n, s) = ranged_lem k (time_from y c p) e in
+    let (_, m, d, h, n, s) = in_range_lem k (time_from y c p) e in
     let none : drop (p + 10 + 1) c ≡ [] = drop_of_length-le c {i = p + 10 + 1} (omega arith) in
     let last : drop (p + 10) c ≡ 0x5A ∷ [] = drop_one c (p + 10) (omega arith) ∙ rw (z, none) refl in
     rw (
@@ -130,7 +130,7 @@ digits_told : (k : TimeKind) (c : List ℕ) → length c ≡ time_size k → get
     → c ≡ time_digits k (time_in k c)
 unfolding time_digits time_from
 digits_told k c l z e =
-    let (y, _, _, _, _, _) = ranged_lem k (time_in k c) e in
+    let (y, _, _, _, _, _) = in_range_lem k (time_in k c) e in
     let q : time_size k - 1 ≡ year_size k + 10 = omega (arith, size_sum k) in
     let r : get_or c (year_size k + 10) 0 ≡ 0x5A = ap (λ (i : ℕ). get_or c i 0) (sym q) ∙ z in
     year_told k c l y ∙ ap (λ (w : List ℕ). year_digits k (year_in k c) ++ w) (later_told (year_in k c) c (year_size k) (l ∙ size_sum k) r k e)
@@ -151,12 +151,12 @@ year_back Generalized t h =
 time_back : (k : TimeKind) (t : DateTime) → in_range k t ≡ true → time_in k (time_digits k t) ≡ t
 unfolding time_from year_size time_digits year_digits later_digits two_digits
 time_back Utc t e =
-    let (y, m, d, h, n, s) = ranged_lem Utc t e in
+    let (y, m, d, h, n, s) = in_range_lem Utc t e in
     let c = time_digits Utc t in
     fields_same t (year_back Utc t y) (pair_of c 2 t.month refl refl (omega arith)) (pair_of c 4 t.day refl refl (omega arith))
     (pair_of c 6 t.hour refl refl (omega arith)) (pair_of c 8 t.minute refl refl (omega arith)) (pair_of c 10 t.second refl refl (omega arith))
 time_back Generalized t e =
-    let (y, m, d, h, n, s) = ranged_lem Generalized t e in
+    let (y, m, d, h, n, s) = in_range_lem Generalized t e in
     let c = time_digits Generalized t in
     fields_same t (year_back Generalized t y) (pair_of c 4 t.month refl refl (omega arith)) (pair_of c 6 t.day refl refl (omega arith))
     (pair_of c 8 t.hour refl refl (omega arith)) (pair_of c 10 t.minute refl refl (omega arith)) (pair_of c 12 t.second refl refl (omega arith))
@@ -267,5 +267,5 @@ time_put k t p {n} {q} {r} l e f g =
 pub all_digits : (k : TimeKind) (t : DateTime) → in_range k t ≡ true → last_digits k t ≡ t
 unfolding last_digits
 all_digits k t h =
-    let (y, _, _, _, _, _) = ranged_lem k t h in
+    let (y, _, _, _, _, _) = in_range_lem k t h in
     ap (λ (z : ℕ). record { year = z; month = t.month; day = t.day; hour = t.hour; minute = t.minute; second = t.second }) (year_same k t.year y)

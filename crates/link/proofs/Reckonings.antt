@@ -55,7 +55,7 @@ module _ (f : DateTime → DateTime → ℤ) (small : (a b : DateTime) → in_ra
   told : (a : Reckoned) → reckoned_by f (given Generalized s) (given Generalized t) ≡ a → TellsReckoning (packed_reckoning a) a
   told (Is z) e =
       let r = (reckons_exactly f s t (all_octets s o) (all_octets t p) z).0 e in
-      a_result (subst Below r.is (small r.first r.second r.a_time.ranged_lem r.another.ranged_lem))
+      a_result (subst Below r.is (small r.first r.second r.a_time.ranged r.another.ranged))
   told (Refused r) e = refusal_told r (reckoning_refuses f s t r e)
 
   tells_exactly : (r : ℤ) → r ≡ packed_reckoning (reckoned_by f (given Generalized s) (given Generalized t)) → (a : Reckoned) → TellsReckoning r a ↔ (a ≡ reckoned_by f (given Generalized s) (given Generalized t))

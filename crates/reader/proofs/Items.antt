@@ -23,7 +23,7 @@ use Rattle.coding.specs.Reading.{passes, begun, not_awaited}
 use Rattle.coding.specs.Awaited.{begins}
 use Rattle.coding.proofs.FirstTags.{Good, Proper, proper_begun}
 use Rattle.coding.proofs.Complete.{never}
-use Rattle.reader.specs.Items.{Holder, Manner, in_turn_lem, each_once, repeated, single, manner, parts_of, Placed, pending, up_to_mandatory, within}
+use Rattle.reader.specs.Items.{Holder, Manner, in_turn, each_once, repeated, single, manner, parts_of, Placed, pending, up_to_mandatory, within}
 use Rattle.reader.specs.Items.{left, awaits, remains, lacks, following, noted, is_single, first, Hand, read_part, next, read_items}
 
 -- lists
@@ -193,7 +193,7 @@ upto_first f (x ∷ l) P n p =
 
 within_first : (w : Manner) (f : Placed → Bool) (l : List Placed) (P : Option Placed → Type 0) → P none → P (first f l) → P (first f (within w l))
 unfolding within
-within_first in_turn_lem f l P n p = upto_first f l P n p
+within_first in_turn f l P n p = upto_first f l P n p
 within_first each_once f l P n p = p
 within_first repeated f l P n p = p
 within_first single f l P n p = p

@@ -27,7 +27,7 @@ use Rattle.records.specs.declared.entry.Entry.{Entry}
 use Rattle.records.specs.declared.entry.Span.{Span}
 use Rattle.coding.specs.Reading.{begun, read_value}
 use Rattle.reader.specs.Codes.{first_of, either, starts_with, peeked, hit}
-use Rattle.reader.specs.Items.{Holder, Manner, in_turn_lem, each_once, repeated, single, manner, parts_of, Placed}
+use Rattle.reader.specs.Items.{Holder, Manner, in_turn, each_once, repeated, single, manner, parts_of, Placed}
 use Rattle.reader.specs.Items.{pending, within, since, first, next}
 use Rattle.reader.specs.Records.{Ready, record_in}
 use Rattle.reader.specs.Sought.{held, Sought}
@@ -73,40 +73,40 @@ module _ (f : Placed → Bool) (came : List ℕ) (k : Member) where
       let come = pending_come came i m ms (eqb-false (get_or came i 0) 0 v) in
       rw come (pending_first p (suc i) ms d rest e (omega arith) z g (rw come at u))
 
-since_turn : (v : Manner) (j : ℕ) → v ≡ in_turn_lem → since v j ≡ j
+since_turn : (v : Manner) (j : ℕ) → v ≡ in_turn → since v j ≡ j
 unfolding since
 since_turn v j e = rw e refl
 
-since_other : (v : Manner) (j : ℕ) → (v ≡ in_turn_lem → ⊥) → since v j ≡ 0
+since_other : (v : Manner) (j : ℕ) → (v ≡ in_turn → ⊥) → since v j ≡ 0
 unfolding since
-since_other in_turn_lem j n = absurd (n refl)
+since_other in_turn j n = absurd (n refl)
 since_other each_once j n = refl
 since_other repeated j n = refl
 since_other single j n = refl
 
-within_other : (v : Manner) (l : List Placed) → (v ≡ in_turn_lem → ⊥) → within v l ≡ l
+within_other : (v : Manner) (l : List Placed) → (v ≡ in_turn → ⊥) → within v l ≡ l
 unfolding within
-within_other in_turn_lem l n = absurd (n refl)
+within_other in_turn l n = absurd (n refl)
 within_other each_once l n = refl
 within_other repeated l n = refl
 within_other single l n = refl
 
-by_turn : {X : Type 0} (v : Manner) → (v ≡ in_turn_lem → X) → ((v ≡ in_turn_lem → ⊥) → X) → X
-by_turn in_turn_lem f g = f refl
+by_turn : {X : Type 0} (v : Manner) → (v ≡ in_turn → X) → ((v ≡ in_turn → ⊥) → X) → X
+by_turn in_turn f g = f refl
 by_turn each_once f g = g (λ e. no_turn e)
   where
-    no_turn : each_once ≡ in_turn_lem → ⊥
+    no_turn : each_once ≡ in_turn → ⊥
     no_turn e = let z : ◌≡◌ {A = ℕ} 0 1 = cc in omega arith
 by_turn repeated f g = g (λ e. no_turn e)
   where
-    no_turn : repeated ≡ in_turn_lem → ⊥
+    no_turn : repeated ≡ in_turn → ⊥
     no_turn e = let z : ◌≡◌ {A = ℕ} 0 1 = cc in omega arith
 by_turn single f g = g (λ e. no_turn e)
   where
-    no_turn : single ≡ in_turn_lem → ⊥
+    no_turn : single ≡ in_turn → ⊥
     no_turn e = let z : ◌≡◌ {A = ℕ} 0 1 = cc in omega arith
 
-module _ (T : Table) (h : Holder) (good : GoodHolder T h) (came s : List ℕ) (clear : (p : ℕ) → manner h ≡ in_turn_lem → get_or came p 0 ≡ 0) where
+module _ (T : Table) (h : Holder) (good : GoodHolder T h) (came s : List ℕ) (clear : (p : ℕ) → manner h ≡ in_turn → get_or came p 0 ≡ 0) where
   pub next_at : (j : ℕ) (k : Member) → drop j (parts_of h) ≡ k ∷ drop (suc j) (parts_of h) → get_or came j 0 ≡ 0 → begun T k.type s ≡ true
       → next T h (since (manner h) j) came s ≡ some (j, k)
   next_at j k e z b =

@@ -15,7 +15,7 @@ use Rattle.table.specs.Syntax.{Table}
 use Rattle.coding.specs.Value.{Value, octets}
 use Rattle.coding.specs.Reading.{begun, not_awaited}
 use Rattle.reader.specs.Answers.{cap}
-use Rattle.reader.specs.Items.{Holder, Manner, in_turn_lem, each_once, repeated, single, manner, parts_of, Placed, remains, lacks, since, following}
+use Rattle.reader.specs.Items.{Holder, Manner, in_turn, each_once, repeated, single, manner, parts_of, Placed, remains, lacks, since, following}
 use Rattle.reader.specs.Items.{noted, is_single, next, Hand, read_items, assemble, node_size, sizes_of, blank, read_held}
 use Rattle.reader.proofs.Items.{Over, Broken, More, unawaited_on, found_of, awaits_found, items_over, items_lacking, items_broken, items_full}
 use Rattle.reader.proofs.Items.{items_unawaited, items_refused, items_turn, single_unawaited, single_refused, single_done}
@@ -23,7 +23,7 @@ use Rattle.reader.proofs.ItemsSizes.{SoFar, sofar_none, sofar_over, sofar_one, s
 
 pub since_first : (w : Manner) → since w 0 ≡ 0
 unfolding since
-since_first in_turn_lem = refl
+since_first in_turn = refl
 since_first each_once = refl
 since_first repeated = refl
 since_first single = refl

@@ -21,7 +21,7 @@ use Rattle.coding.proofs.FirstTags.{Distinct, Apart, GoodBody}
 use Rattle.reader.specs.Codes.{starts_with, peeked, hit, search_in}
 use Rattle.reader.specs.declared.search.Under.TheVariants.{At}
 use Rattle.reader.proofs.Begun.{Fit, begun_hit}
-use Rattle.reader.specs.Items.{Holder, inside, message, in_turn_lem, manner, parts_of, optionals, Placed, pending, up_to_mandatory, within, awaits}
+use Rattle.reader.specs.Items.{Holder, inside, message, in_turn, manner, parts_of, optionals, Placed, pending, up_to_mandatory, within, awaits}
 use Rattle.reader.specs.Items.{first}
 use Rattle.reader.proofs.Items.{Clear, first_same, pending_free, pending_come}
 
@@ -136,7 +136,7 @@ module _ (T : Table) (s : List ℕ) where
   lone_one t j came = lone_pending came j (drop j (optionals (t ∷ []))) (drop_distinct j (optionals (t ∷ [])) (λ i e. refl, tt))
 
   -- at most one of the parts that are awaited is begun
-  pub lone_awaits : (h : Holder) → GoodHolder T h → (j : ℕ) (came : List ℕ) → ((p : ℕ) → manner h ≡ in_turn_lem → get_or came p 0 ≡ 0) → Lone Begun (awaits h j came)
+  pub lone_awaits : (h : Holder) → GoodHolder T h → (j : ℕ) (came : List ℕ) → ((p : ℕ) → manner h ≡ in_turn → get_or came p 0 ≡ 0) → Lone Begun (awaits h j came)
   unfolding GoodHolder GoodBody Distinct manner parts_of within
   lone_awaits (inside (Plain k)) d j came clear = lone_pending came j (drop j []) (drop_distinct j [] tt)
   lone_awaits (inside (Sequence ms)) d j came clear = lone_sequence came (λ p. clear p refl) j (drop j ms) (drop_apart j ms d)
@@ -161,7 +161,7 @@ module _ (T : Table) (s : List ℕ) (code : ℕ) (known : Tells T s code) where
   itself_begun : (t : ℕ) → starts_with (T t) code ≡ true → begun T t s ≡ true
   itself_begun t e = known t ∙ ap hit (search_itself t e)
 
-  module _ (h : Holder) (good : GoodHolder T h) (j : ℕ) (came : List ℕ) (clear : (p : ℕ) → manner h ≡ in_turn_lem → get_or came p 0 ≡ 0) where
+  module _ (h : Holder) (good : GoodHolder T h) (j : ℕ) (came : List ℕ) (clear : (p : ℕ) → manner h ≡ in_turn → get_or came p 0 ≡ 0) where
     -- the first that begins with the code itself is the one that is begun
     pub direct_next : (x : Placed) → first (λ x. starts_with (T x.1.type) code) (awaits h j came) ≡ some x
         → first (λ x. begun T x.1.type s) (awaits h j came) ≡ some x

@@ -34,7 +34,7 @@ use Rattle.coding.specs.Reading.{begun, not_awaited, read_value}
 use Rattle.coding.proofs.Refusals.{value_shorter}
 use Rattle.coding.proofs.Sound.{value_sound}
 use Rattle.reader.specs.Answers.{cap, told, size}
-use Rattle.reader.specs.Items.{Holder, inside, message, Manner, in_turn_lem, each_once, repeated, single, manner, parts_of, Placed}
+use Rattle.reader.specs.Items.{Holder, inside, message, Manner, in_turn, each_once, repeated, single, manner, parts_of, Placed}
 use Rattle.reader.specs.Items.{up_to_mandatory, within, left, some_of, remains, lacks, since, following, noted, is_single, first, next}
 use Rattle.reader.specs.Items.{node_size, blank, read_held}
 use Rattle.reader.specs.Placing.{kind_of, onward, node_of}
@@ -63,7 +63,7 @@ use Rattle.reader.proofs.PlacedTurns.{since_onward}
 use Rattle.reader.proofs.Searching.{Parted, type_low}
 use Rattle.reader.proofs.Spans.{Spanned}
 use Rattle.reader.proofs.Tagging.{its_record}
-use Rattle.reader.proofs.Told.{told_refused, told_done_lem, tell_refused, tell_done}
+use Rattle.reader.proofs.Told.{told_refused, told_done, tell_refused, tell_done}
 
 node_small : (h : Holder) → length (parts_of h) ≤ 16 → node_size h ≤ 20
 unfolding node_size parts_of
@@ -98,14 +98,14 @@ notes_are (message t) came place last (inr x) = x.1
 
 noted_length : (v : Manner) (came : List ℕ) (p : ℕ) → length (noted v came p) ≡ length came
 unfolding noted
-noted_length in_turn_lem came p = refl
+noted_length in_turn came p = refl
 noted_length each_once came p = length-set came p 1
 noted_length repeated came p = refl
 noted_length single came p = refl
 
 noted_clear : (v : Manner) (came : List ℕ) (p : ℕ) → (v ≡ each_once → ⊥) → noted v came p ≡ came
 unfolding noted
-noted_clear in_turn_lem came p n = refl
+noted_clear in_turn came p n = refl
 noted_clear each_once came p n = absurd (n refl)
 noted_clear repeated came p n = refl
 noted_clear single came p n = refl
@@ -193,7 +193,7 @@ within_some v f (y ∷ l) x e = refl
 within_some v f [] x e = absurd (none-ne-some x (sym (none_within v) ∙ e))
   where
     none_within : (v : Manner) → first f (within v []) ≡ none
-    none_within in_turn_lem = refl
+    none_within in_turn = refl
     none_within each_once = refl
     none_within repeated = refl
     none_within single = refl
@@ -507,7 +507,7 @@ module _ {Q : Setting} {P : Turn Q} {X : Comes P} (Y : Valued X) where
   -- or accepted
   module _ (end n : ℕ) (q : Y.r ≡ Done end n) where
     abbrev Its : (v : Value) × (u : List ℕ) × (Below ≡ got v u) × (end ≡ length P.m - length u) × (n ≡ cap (length (octets v)))
-    Its = told_done_lem P.m size Below Y.r is_said end n q
+    Its = told_done P.m size Below Y.r is_said end n q
 
     its_behind : (Its.1 ≡ drop (length P.m - length Its.1) P.m) × (P.at < length P.m - length Its.1)
     its_behind = value_behind (T Q) (P.level - X.depth) X.type P.m P.at P.low Its.0 Its.1 Its.2

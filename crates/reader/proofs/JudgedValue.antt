@@ -52,7 +52,7 @@ use Rattle.reader.proofs.Tagging.{its_entry}
 use Rattle.reader.proofs.Weighing.{by_whole}
 use Rattle.reader.proofs.Opening.{its_count, its_few}
 use Rattle.reader.proofs.Tails.{Sane, leaves, stops, tail_less, Closes, held_sane, not_none}
-use Rattle.reader.proofs.Told.{told_refused, told_done_lem, tell_refused}
+use Rattle.reader.proofs.Told.{told_refused, told_done, tell_refused}
 use Rattle.reader.proofs.ValueParts.{Item, Filling, Part, Rest, Bare, left_part, item_unsized, no_choice, P, S, C}
 use Rattle.reader.proofs.ValueParts.{size_c, size_part}
 use Rattle.reader.proofs.ValueParts.{contents_within, is_plain, leaf_read, leaf_lead, leaf_string, Held, Fine, fine, reads, its_notes}
@@ -174,7 +174,7 @@ module _ {b index : List ℕ} {w : ℕ} {m : List ℕ} {first level : ℕ} (Y : 
         pub over_leaf : Over b (record_of b w) level (P Y) Y.item.at Y.item.end (Y.start + u) i
         unfolding behind then octets
         over_leaf =
-            let (x, s, e, f, g) = told_done_lem (C Y) leaf_size (behind (length m - Y.item.end) local.answer) y local.told_so u i d in
+            let (x, s, e, f, g) = told_done (C Y) leaf_size (behind (length m - Y.item.end) local.answer) y local.told_so u i d in
             let r = its local.answer local.reads_so x s e in
             record {
               within = omega (arith, size_c Y, Y.within.ordered, Y.within.high);
@@ -239,7 +239,7 @@ module _ {b index : List ℕ} {w : ℕ} {m : List ℕ} {first level : ℕ} (Y : 
       module _ (u i : ℕ) (d : y ≡ Done u i) where
         pub over_items : Over b (record_of b w) level (P Y) Y.item.at Y.item.end (Y.start + u) i
         over_items =
-            let (v, s, x, f, g) = told_done_lem (C Y) size (Held Y plain) y ey u i d in
+            let (v, s, x, f, g) = told_done (C Y) size (Held Y plain) y ey u i d in
             record {
               within = omega (arith, size_c Y, Y.within.ordered, Y.within.high);
               small = omega arith;
@@ -345,7 +345,7 @@ module _ (b m : List ℕ) (n t : ℕ) (some : length m ≡ 0 → ⊥) (w : ℕ)
     pub message_trailing : u < length m → Refused Trailing (length m - u) ≡ Whole
     unfolding told then if none_left
     message_trailing l =
-        let (v, s, x, f, g) = told_done_lem m size Root y its_answer u i d in
+        let (v, s, x, f, g) = told_done m size Root y its_answer u i d in
         let k : length m - u ≡ length s = omega (arith, rest_length v s x) in
         rw (its_whole, x, k) (go v s (omega arith))
       where
@@ -357,7 +357,7 @@ module _ (b m : List ℕ) (n t : ℕ) (some : length m ≡ 0 → ⊥) (w : ℕ)
     pub message_done : length m ≤ u → Done u i ≡ Whole
     unfolding told then if none_left
     message_done l =
-        let (v, s, x, f, g) = told_done_lem m size Root y its_answer u i d in
+        let (v, s, x, f, g) = told_done m size Root y its_answer u i d in
         rw (its_whole, x) (go v s (omega (arith, rest_length v s x)) f g)
       where
         go : (v : Value) (s : List ℕ) → length s ≡ 0 → u ≡ length m - length s → i ≡ cap (length (octets v))

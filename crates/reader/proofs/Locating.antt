@@ -17,7 +17,7 @@ use Rattle.table.specs.Reading.{table_in, count_in}
 use Rattle.records.specs.Entries.{unpacked}
 use Rattle.coding.specs.Reading.{read_value}
 use Rattle.coding.proofs.FirstTags.{good}
-use Rattle.reader.specs.Items.{Holder, inside, message, Manner, in_turn_lem, each_once, repeated, single, manner, parts_of, since, next, blank}
+use Rattle.reader.specs.Items.{Holder, inside, message, Manner, in_turn, each_once, repeated, single, manner, parts_of, since, next, blank}
 use Rattle.reader.specs.Records.{Ready, Known}
 use Rattle.reader.specs.Sought.{held, Sound, tabled_count, Sought}
 use Rattle.reader.specs.Placing.{end_at, Spotted}
@@ -36,7 +36,7 @@ passed_more ns j k f z i l h =
 
 -- what an entry of the kind of a SET stands for
 once_is : (k : Manner) → turns_by k ≡ false → by_member k ≡ true → k ≡ each_once
-once_is in_turn_lem e f = absurd (true≢false e)
+once_is in_turn e f = absurd (true≢false e)
 once_is each_once e f = refl
 once_is repeated e f = absurd (true≢false (sym f))
 once_is single e f = absurd (true≢false (sym f))
@@ -48,7 +48,7 @@ the_members (inside (Plain k)) e = absurd (true≢false (ap is_single_lem e))
   where
     is_single_lem : Manner → Bool
     is_single_lem single = true
-    is_single_lem in_turn_lem = false
+    is_single_lem in_turn = false
     is_single_lem each_once = false
     is_single_lem repeated = false
 the_members (inside (Sequence ms)) e = absurd (true≢false (ap turns_by e))

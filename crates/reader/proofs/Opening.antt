@@ -35,7 +35,7 @@ use Rattle.coding.specs.Value.{Value}
 use Rattle.coding.specs.Reading.{read_wrapped, read_kind}
 use Rattle.reader.specs.Codes.{own_either, either_at, either as first_either}
 use Rattle.reader.specs.Records.{Ready, record_in, IsRecord, read_record}
-use Rattle.reader.specs.Wraps.{ended, shut, closing, note_of, Around, identifiers, Headed, read_bare, sent_as, AwaitsTag, behind_last, is_tag, no_tag_lem}
+use Rattle.reader.specs.Wraps.{ended, shut, closing, note_of, Around, identifiers, Headed, read_bare, sent_as, AwaitsTag, behind_last, is_tag, no_tag}
 use Rattle.reader.specs.Wraps.{must_go_on, EntersTag, goes_on, is_over, Opens}
 use Rattle.reader.specs.declared.tags.Tag.{Tag as TagRead}
 use Rattle.reader.specs.declared.tags.Tag.TheVariants.{Read as ReadTag, Refused as NoTag}
@@ -397,7 +397,7 @@ module _ (b : List ℕ) (r : Record) (F : Fit r) (m : List ℕ) (om : Octets m) 
           -- the identifier that is awaited next
           rest_refused : (c : ReadingCause) → AwaitsTag r (suc j) U (NoTag c) → (n : ℕ) → read_wrapped Rest (read_bare b n r) U ≡ refused c (length U)
           unfolding read_wrapped
-          rest_refused c (no_tag_lem w e) n =
+          rest_refused c (no_tag w e) n =
               test (ltb (suc j) Count)
               (λ t.
               let k = ltb-true (suc j) Count t in

@@ -37,7 +37,7 @@ use Rattle.reader.specs.Placed.{Fits}
 use Rattle.reader.specs.declared.answer.Judged.{Judged}
 use Rattle.reader.specs.declared.answer.Judged.TheVariants.{Done, Refused}
 use Rattle.reader.proofs.ItemsKinds.{message_whole}
-use Rattle.reader.proofs.Told.{told_refused, told_done_lem}
+use Rattle.reader.proofs.Told.{told_refused, told_done}
 
 pub ready : (b index : List ℕ) (n : ℕ) → Filled b index n → Passes b (table_in b) n → Ready b index
 ready b index n F P = let q = F.count in record { passes = rw q at P; filled = rw q at F }
@@ -100,7 +100,7 @@ module _ (T : Table) (t : ℕ) (m : List ℕ) (r : Judged) (p : r ≡ told m siz
         size : s ≡ cap (size value)
 
       accepted : Accepted
-      accepted = let (v, w, x, _, y) = told_done_lem m size (read_message T 24 t m) r p e s d in record { value = v; rest = w; is = x; size = y }
+      accepted = let (v, w, x, _, y) = told_done m size (read_message T 24 t m) r p e s d in record { value = v; rest = w; is = x; size = y }
 
       lacks : min 16384 (length buf) < size accepted.value → Says (read_outcome T n t m buf) (refusal (of_message ValueRoom)) buf
       unfolding after_reading

@@ -23,7 +23,7 @@ use Rattle.coding.specs.Value.{Value}
 use Rattle.coding.specs.Reading.{begun, nothing, read_value}
 use Rattle.coding.proofs.FirstTags.{Good}
 use Rattle.ber.specs.Told.{mode}
-use Rattle.reader.specs.Items.{Holder, inside, Manner, in_turn_lem, each_once, repeated, single, manner, parts_of, Placed, pending, within, left}
+use Rattle.reader.specs.Items.{Holder, inside, Manner, in_turn, each_once, repeated, single, manner, parts_of, Placed, pending, within, left}
 use Rattle.reader.specs.Items.{awaits, some_of, following, noted, is_single, first, Hand, read_part, read_items, filled, blank}
 use Rattle.reader.specs.Placing.{Noted}
 use Rattle.reader.specs.Placing.{end_at, Spotted}
@@ -59,7 +59,7 @@ pending_alike h k (m ∷ ms) = rw (alike_at h k, pending_alike h (suc k) ms) ref
 
 noted_alike : {l r : List ℕ} → Alike l r → (k : Manner) (p : ℕ) → Alike (noted k l p) (noted k r p)
 unfolding noted
-noted_alike h in_turn_lem p = h
+noted_alike h in_turn p = h
 noted_alike h each_once p = alike_set h p 0 0
 noted_alike h repeated p = h
 noted_alike h single p = h

@@ -23,7 +23,7 @@ use Rattle.coding.specs.Reading.{begun, not_awaited, read_value}
 use Rattle.coding.proofs.Sound.{not_awaited_lem}
 use Rattle.coding.proofs.Refusals.{value_shorter}
 use Rattle.ber.specs.Told.{mode}
-use Rattle.reader.specs.Items.{Holder, inside, message, in_turn_lem, manner, parts_of, Placed, awaits}
+use Rattle.reader.specs.Items.{Holder, inside, message, in_turn, manner, parts_of, Placed, awaits}
 use Rattle.reader.specs.Items.{remains, lacks, since, following, noted, is_single, first, Hand, read_part, next, read_items, assemble, node_size}
 use Rattle.reader.specs.Items.{blank}
 use Rattle.reader.specs.Placing.{bodies, kind_of, holds_one, onward, said, finished_in, end_at}
@@ -216,7 +216,7 @@ onto T r h (suc k) j came hand md s =
     (x ∷ y.0, y.1 ∙ append_snoc hand x y.0)
 
 -- the members of a SEQUENCE come in the table's order
-pub rows : (T : Table) (r : ℕ → List ℕ → Answer ReadingCause Value) (h : Holder) → manner h ≡ in_turn_lem
+pub rows : (T : Table) (r : ℕ → List ℕ → Answer ReadingCause Value) (h : Holder) → manner h ≡ in_turn
     → (k j : ℕ) (came : List ℕ) (hand : Hand) (b : Bool) (s : List ℕ) (all : Hand) (last : List ℕ)
     → Row hand j → j ≤ length (parts_of h) → read_items T r h k j came hand (mode b) s ≡ got all last → Row all (length (parts_of h))
 unfolding is_single following noted

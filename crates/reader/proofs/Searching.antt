@@ -22,7 +22,7 @@ use Rattle.records.specs.declared.entry.Entry.{Entry}
 use Rattle.records.specs.declared.entry.Span.{Span}
 use Rattle.coding.specs.Awaited.{types}
 use Rattle.reader.specs.Codes.{starts_with, search_in, hit}
-use Rattle.reader.specs.Items.{Holder, inside, message, Manner, in_turn_lem, each_once, repeated, single, manner, parts_of, optionals, Placed, left}
+use Rattle.reader.specs.Items.{Holder, inside, message, Manner, in_turn, each_once, repeated, single, manner, parts_of, optionals, Placed, left}
 use Rattle.reader.specs.Items.{awaits, remains, some_of, since, is_single, first}
 use Rattle.reader.specs.Records.{Ready, Known, of_record, of_message, holder_in, Begins, Finds}
 use Rattle.reader.specs.Sought.{held, Sound, place_of, tabled, tabled_count, direct, unfit_cause, Indirect}
@@ -86,7 +86,7 @@ some_any (x ∷ l) = refl
 
 not_single : (v : Manner) → by_member v ≡ true → is_single v ≡ false
 unfolding is_single
-not_single in_turn_lem e = refl
+not_single in_turn e = refl
 not_single each_once e = refl
 not_single repeated e = refl
 not_single single e = absurd (true≢false (sym e))
@@ -157,13 +157,13 @@ module _ {b index : List ℕ} {w : ℕ} {came : List ℕ} {e : Entry} {s : Span}
   pub near : (k : ℕ) → k < s.count → s.first + s.step * k < 8192
   near = spanned.near
 
-  is_turn : e.kind ≡ 16 → manner H ≡ in_turn_lem
+  is_turn : e.kind ≡ 16 → manner H ≡ in_turn
   is_turn q = turn_is (manner H) (sym (entry_of D.sound.ready w D.sound.known).sequence ∙ eq-eqb (unpacked w).kind 16 (sym kind_is ∙ q))
 
-  no_turn : (e.kind ≡ 16 → ⊥) → manner H ≡ in_turn_lem → ⊥
+  no_turn : (e.kind ≡ 16 → ⊥) → manner H ≡ in_turn → ⊥
   no_turn n = turn_not (manner H) (sym (entry_of D.sound.ready w D.sound.known).sequence ∙ ne_eqb (unpacked w).kind 16 (λ z. n (kind_is ∙ z)))
 
-  pub clear_turn : manner H ≡ in_turn_lem → (p : ℕ) → get_or came p 0 ≡ 0
+  pub clear_turn : manner H ≡ in_turn → (p : ℕ) → get_or came p 0 ≡ 0
   clear_turn q = D.sound.clear (λ z. true≢false (ap turns_by (sym q ∙ z)))
 
   -- the i-th part from which on others are left
@@ -172,8 +172,8 @@ module _ {b index : List ℕ} {w : ℕ} {came : List ℕ} {e : Entry} {s : Span}
   since_is i j (inl x) = rw (is_turn x.0) x.1
   since_is i j (inr x) = x.1 ∙ go (manner H) (no_turn x.0)
     where
-      go : (v : Manner) → (v ≡ in_turn_lem → ⊥) → 0 ≡ since v j
-      go in_turn_lem n = absurd (n refl)
+      go : (v : Manner) → (v ≡ in_turn → ⊥) → 0 ≡ since v j
+      go in_turn n = absurd (n refl)
       go each_once n = refl
       go repeated n = refl
       go single n = refl
@@ -183,7 +183,7 @@ module _ {b index : List ℕ} {w : ℕ} {came : List ℕ} {e : Entry} {s : Span}
   since_again i j q = go (manner H) q
     where
       go : (v : Manner) → i ≡ since v j → since v i ≡ i
-      go in_turn_lem q = refl
+      go in_turn q = refl
       go each_once q = sym q
       go repeated q = sym q
       go single q = sym q
@@ -204,7 +204,7 @@ module _ {b index : List ℕ} {w : ℕ} {came : List ℕ} {e : Entry} {s : Span}
 
     -- a part that a SEQUENCE may pass over
     abbrev pub May : Type 0
-    May = manner H ≡ in_turn_lem → AtK.part.optional ≡ true
+    May = manner H ≡ in_turn → AtK.part.optional ≡ true
 
     pub may_optional : e.kind ≡ 16 → (o : Bool) → o ≡ eqb (get_or b (s.first + s.step * k + 1) 0) 1 → o ≡ true → May
     may_optional q o eo y = λ z. sym (optional_is q) ∙ sym eo ∙ y
@@ -336,7 +336,7 @@ module _ {b index : List ℕ} {w : ℕ} {came : List ℕ} {e : Entry} {s : Span}
             → first UnderIt (awaits H k came) ≡ none
         indirect_stop z q v o eo y = awaits_stop H came k UnderIt C.part C.is z (under_none q) (is_turn v) (sym (C.optional v) ∙ sym eo ∙ y)
 
-        skip : get_or came k 0 ≡ 0 → r ≡ Nothing → (manner H ≡ in_turn_lem → C.part.optional ≡ true)
+        skip : get_or came k 0 ≡ 0 → r ≡ Nothing → (manner H ≡ in_turn → C.part.optional ≡ true)
             → first UnderIt (awaits H k came) ≡ first UnderIt (awaits H (k + 1) came)
         skip z q y = awaits_skip H came k UnderIt C.part C.is z (under_none q) y
 

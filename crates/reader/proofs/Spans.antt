@@ -23,7 +23,7 @@ use Rattle.records.specs.Entries.{unpacked, span_of, Entered}
 use Rattle.records.specs.declared.entry.Entry.{Entry}
 use Rattle.records.specs.declared.entry.Span.{Span}
 use Rattle.records.proofs.Promises.{entered_kind, entered_members, entered_choice, entered_list}
-use Rattle.reader.specs.Items.{Holder, inside, message, Manner, in_turn_lem, each_once, repeated, single, manner, parts_of, optionals, Placed}
+use Rattle.reader.specs.Items.{Holder, inside, message, Manner, in_turn, each_once, repeated, single, manner, parts_of, optionals, Placed}
 use Rattle.reader.specs.Items.{pending, up_to_mandatory, within, left, awaits, first}
 use Rattle.reader.specs.Records.{Ready, holder_in, Known, of_record, of_message}
 use Rattle.reader.specs.Sought.{held, tabled, tabled_count}
@@ -175,7 +175,7 @@ module _ {b : List ℕ} {e : Entry} {r : Record} (x : Entered b e r) (short : le
 
 -- the kind of an entry says how its items come
 abbrev pub turns_by : Manner → Bool
-turns_by in_turn_lem = true
+turns_by in_turn = true
 turns_by each_once = false
 turns_by repeated = false
 turns_by single = false
@@ -196,18 +196,18 @@ turn_kind (SequenceOf t) = refl
 turn_kind (SetOf t) = refl
 turn_kind (Choice ts) = refl
 
-pub turn_is : (w : Manner) → turns_by w ≡ true → w ≡ in_turn_lem
-turn_is in_turn_lem e = refl
+pub turn_is : (w : Manner) → turns_by w ≡ true → w ≡ in_turn
+turn_is in_turn e = refl
 turn_is each_once e = absurd (true≢false (sym e))
 turn_is repeated e = absurd (true≢false (sym e))
 turn_is single e = absurd (true≢false (sym e))
 
-pub turn_not : (w : Manner) → turns_by w ≡ false → w ≡ in_turn_lem → ⊥
+pub turn_not : (w : Manner) → turns_by w ≡ false → w ≡ in_turn → ⊥
 turn_not w e q = true≢false (rw q at e)
 
 -- each of its members comes at most once
 abbrev pub by_member : Manner → Bool
-by_member in_turn_lem = true
+by_member in_turn = true
 by_member each_once = true
 by_member repeated = false
 by_member single = false
@@ -262,26 +262,26 @@ module _ {b index : List ℕ} (R : Ready b index) where
 module _ (f : Placed → Bool) where
   within_hit : (w : Manner) (x : Placed) (l : List Placed) → f x ≡ true → first f (within w (x ∷ l)) ≡ some x
   unfolding within up_to_mandatory first if
-  within_hit in_turn_lem x l g = rw g refl
+  within_hit in_turn x l g = rw g refl
   within_hit each_once x l g = rw g refl
   within_hit repeated x l g = rw g refl
   within_hit single x l g = rw g refl
 
-  within_skip : (w : Manner) (x : Placed) (l : List Placed) → f x ≡ false → (w ≡ in_turn_lem → x.1.optional ≡ true)
+  within_skip : (w : Manner) (x : Placed) (l : List Placed) → f x ≡ false → (w ≡ in_turn → x.1.optional ≡ true)
       → first f (within w (x ∷ l)) ≡ first f (within w l)
   unfolding within up_to_mandatory first if
-  within_skip in_turn_lem x l g o = rw (g, o refl) refl
+  within_skip in_turn x l g o = rw (g, o refl) refl
   within_skip each_once x l g o = rw g refl
   within_skip repeated x l g o = rw g refl
   within_skip single x l g o = rw g refl
 
-  within_stop : (x : Placed) (l : List Placed) → f x ≡ false → x.1.optional ≡ false → first f (within in_turn_lem (x ∷ l)) ≡ none
+  within_stop : (x : Placed) (l : List Placed) → f x ≡ false → x.1.optional ≡ false → first f (within in_turn (x ∷ l)) ≡ none
   unfolding within up_to_mandatory first if
   within_stop x l g o = rw (g, o) refl
 
   within_none : (w : Manner) → first f (within w []) ≡ none
   unfolding within up_to_mandatory first
-  within_none in_turn_lem = refl
+  within_none in_turn = refl
   within_none each_once = refl
   within_none repeated = refl
   within_none single = refl
@@ -307,11 +307,11 @@ module _ (h : Holder) (came : List ℕ) (i : ℕ) where
       pub awaits_hit : get_or came i 0 ≡ 0 → f (i, m) ≡ true → first f (awaits h i came) ≡ some (i, m)
       awaits_hit z g = rw (left_free m p z) (within_hit f (manner h) (i, m) (left h (i + 1) came) g)
 
-      pub awaits_skip : get_or came i 0 ≡ 0 → f (i, m) ≡ false → (manner h ≡ in_turn_lem → m.optional ≡ true)
+      pub awaits_skip : get_or came i 0 ≡ 0 → f (i, m) ≡ false → (manner h ≡ in_turn → m.optional ≡ true)
           → first f (awaits h i came) ≡ first f (awaits h (i + 1) came)
       awaits_skip z g o = rw (left_free m p z) (within_skip f (manner h) (i, m) (left h (i + 1) came) g o)
 
-      pub awaits_stop : get_or came i 0 ≡ 0 → f (i, m) ≡ false → manner h ≡ in_turn_lem → m.optional ≡ false → first f (awaits h i came) ≡ none
+      pub awaits_stop : get_or came i 0 ≡ 0 → f (i, m) ≡ false → manner h ≡ in_turn → m.optional ≡ false → first f (awaits h i came) ≡ none
       awaits_stop z g t o = rw (left_free m p z, t) (within_stop f (i, m) (left h (i + 1) came) g o)
 
       pub awaits_come : (get_or came i 0 ≡ 0 → ⊥) → first f (awaits h i came) ≡ first f (awaits h (i + 1) came)

@@ -34,7 +34,7 @@ use Rattle.records.proofs.Promises.{entered_tags, entered_tag, entered_bit}
 use Rattle.coding.specs.Tags.{identifier_of, last, before, explicit_tags, own_tag, explicit}
 use Rattle.reader.specs.Codes.{own_either, either_at, coded}
 use Rattle.reader.specs.Records.{Ready, record_in, IsRecord}
-use Rattle.reader.specs.Wraps.{identifiers, sent_as, AwaitsTag, behind_last, is_tag, no_tag_lem, EntersTag, goes_on, is_over}
+use Rattle.reader.specs.Wraps.{identifiers, sent_as, AwaitsTag, behind_last, is_tag, no_tag, EntersTag, goes_on, is_over}
 use Rattle.reader.specs.declared.tags.Tag.{Tag as TagRead}
 use Rattle.reader.specs.declared.tags.Tag.TheVariants.{Read as ReadTag, Refused as NoTag}
 use Rattle.reader.proofs.Starts.{coded_one, coded_is, coded_parts, coded_other, either_entry, either_explicit}
@@ -270,7 +270,7 @@ module _ {b index : List ℕ} (R : Ready b index) {w : ℕ} (I : IsRecord b inde
 
       pub awaits_unread : (c : ReadingCause) → y ≡ NoIdentifier c → AwaitsTag r j m (NoTag c)
       unfolding then
-      awaits_unread c q = no_tag_lem {c = c} within (rw (identifier_refused m y ey c q) refl)
+      awaits_unread c q = no_tag {c = c} within (rw (identifier_refused m y ey c q) refl)
 
       module _ (code end : ℕ) (q : y ≡ Read code end) (k : ℕ)
           (ek : k ≡ code_by (get_or b (tag_place e j) 0) (ltb j e.explicit || not e.simple) (two b (tag_place e j + 1))) where
@@ -311,7 +311,7 @@ module _ {b index : List ℕ} (R : Ready b index) {w : ℕ} (I : IsRecord b inde
 
         not_awaited_lem : coded (either_at r j) k code ≡ false → AwaitsTag r j m (NoTag NotAwaited)
         unfolding then if
-        not_awaited_lem z = no_tag_lem {c = NotAwaited} within (rw (Is.1, its_sent, z) refl)
+        not_awaited_lem z = no_tag {c = NotAwaited} within (rw (Is.1, its_sent, z) refl)
 
         pub awaits_tag : code ≡ k → AwaitsTag r j m (ReadTag end)
         awaits_tag z = is_awaited (coded_is (either_at r j) k code (sym z))

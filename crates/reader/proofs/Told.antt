@@ -21,11 +21,11 @@ module _ {A : Type 0} (m : List ℕ) (f : A → ℕ) where
       let z : i ≡ l = cc in
       rw (q, z) refl
 
-  pub told_done_lem : (x : Answer ReadingCause A) (y : Judged) → y ≡ told m f x → (e n : ℕ) → y ≡ Done e n
+  pub told_done : (x : Answer ReadingCause A) (y : Judged) → y ≡ told m f x → (e n : ℕ) → y ≡ Done e n
       → (a : A) × (u : List ℕ) × (x ≡ got a u) × (e ≡ length m - length u) × (n ≡ cap (f a))
   unfolding told
-  told_done_lem (got a u) y q e n d = (a, u, refl, cc, cc)
-  told_done_lem (refused k i) y q e n d = let z : ◌≡◌ {A = ℕ} 0 1 = cc in absurd (omega arith)
+  told_done (got a u) y q e n d = (a, u, refl, cc, cc)
+  told_done (refused k i) y q e n d = let z : ◌≡◌ {A = ℕ} 0 1 = cc in absurd (omega arith)
 
   pub tell_refused : (x : Answer ReadingCause A) (c : ReadingCause) (l : ℕ) → x ≡ refused c l → Refused c l ≡ told m f x
   unfolding told

@@ -19,11 +19,11 @@ pub data Holder : Type 0 where
 
 -- how they come: in the order of the parts, each part at most once in any order, one part again and again, or one item of any part
 pub data Manner : Type 0 where
-  in_turn_lem each_once repeated single : Manner
+  in_turn each_once repeated single : Manner
 
 unfoldable pub manner : Holder → Manner
 manner (inside (Plain k)) = single
-manner (inside (Sequence ms)) = in_turn_lem
+manner (inside (Sequence ms)) = in_turn
 manner (inside (Set ms)) = each_once
 manner (inside (SequenceOf t)) = repeated
 manner (inside (SetOf t)) = repeated
@@ -61,7 +61,7 @@ up_to_mandatory [] = []
 up_to_mandatory (x ∷ l) = x ∷ if x.1.optional (up_to_mandatory l) λ _. []
 
 unfoldable pub within : Manner → List Placed → List Placed
-within in_turn_lem l = up_to_mandatory l
+within in_turn l = up_to_mandatory l
 within each_once l = l
 within repeated l = l
 within single l = l
@@ -88,26 +88,26 @@ lacks h j came = any (λ x. not x.1.optional) (left h j came)
 
 -- from which part on others are left, if j parts were passed
 unfoldable pub since : Manner → ℕ → ℕ
-since in_turn_lem j = j
+since in_turn j = j
 since each_once j = 0
 since repeated j = 0
 since single j = 0
 
 -- after an item of the part at place p: from which part on others are left, and what is noted
 unfoldable pub following : Manner → ℕ → ℕ
-following in_turn_lem p = suc p
+following in_turn p = suc p
 following each_once p = 0
 following repeated p = 0
 following single p = 0
 
 unfoldable pub noted : Manner → List ℕ → ℕ → List ℕ
-noted in_turn_lem came p = came
+noted in_turn came p = came
 noted each_once came p = set_at came p 1
 noted repeated came p = came
 noted single came p = came
 
 unfoldable pub is_single : Manner → Bool
-is_single in_turn_lem = false
+is_single in_turn = false
 is_single each_once = false
 is_single repeated = false
 is_single single = true

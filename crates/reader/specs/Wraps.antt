@@ -74,7 +74,7 @@ sent_as e o i = same o i || (e && same (in_parts o) i)
 pub data AwaitsTag (r : Record) (j : ℕ) (m : List ℕ) : Tag → Type 0 where
   behind_last : length (identifiers r) ≤ j → AwaitsTag r j m (ReadTag 0)
   is_tag : (end : ℕ) → j < length (identifiers r) → Headed m 0 end (either_at r j) (code_of (get_or (identifiers r) j [])) → AwaitsTag r j m (ReadTag end)
-  no_tag_lem : {c : ReadingCause} → j < length (identifiers r)
+  no_tag : {c : ReadingCause} → j < length (identifiers r)
       → then (read_identifier m) (λ i s. if (sent_as (either_at r j) (get_or (identifiers r) j []) i) (got i s) λ _. refused NotAwaited (length m)) ≡ refused c (length m)
       → AwaitsTag r j m (NoTag c)
 

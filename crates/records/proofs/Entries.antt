@@ -41,8 +41,8 @@ data Owned (b : List ℕ) (p : ℕ) : ℕ → Body → Type 0 where
   generalized_time : Owned b p 24 (Plain (Time Generalized))
   sequence : Counted 2 0 16 b p → Owned b p 16 (Sequence (members_at b (p + 1) (get_or b p 0)))
   set : Counted 2 0 16 b p → Owned b p 17 (Set (members_at b (p + 1) (get_or b p 0)))
-  sequence_of_lem : p < length b → Owned b p 48 (SequenceOf (get_or b p 0))
-  set_of_lem : p < length b → Owned b p 49 (SetOf (get_or b p 0))
+  sequence_of : p < length b → Owned b p 48 (SequenceOf (get_or b p 0))
+  set_of : p < length b → Owned b p 49 (SetOf (get_or b p 0))
   choice : Counted 1 1 16 b p → Owned b p 50 (Choice (every_at 1 b (p + 1) (get_or b p 0)))
 
 module _ (b : List ℕ) (p : ℕ) where
@@ -76,8 +76,8 @@ owned b p k =
     at k 24 (OwnedAt b p) (λ h. generalized_time) λ e₂₄.
     at k 16 (OwnedAt b p) (λ h. sequence (members_counted b p h)) λ e₁₆.
     at k 17 (OwnedAt b p) (λ h. set (members_counted b p h)) λ e₁₇.
-    at k 48 (OwnedAt b p) (λ h. sequence_of_lem (reference_there b p h)) λ e₄₈.
-    at k 49 (OwnedAt b p) (λ h. set_of_lem (reference_there b p h)) λ e₄₉.
+    at k 48 (OwnedAt b p) (λ h. sequence_of (reference_there b p h)) λ e₄₈.
+    at k 49 (OwnedAt b p) (λ h. set_of (reference_there b p h)) λ e₄₉.
     at k 50 (OwnedAt b p) (λ h. choice (choice_counted b p h)) λ e₅₀.
     λ h.
     let z : own_end b k p ≡ 0 =
@@ -98,8 +98,8 @@ module _ {b : List ℕ} {p : ℕ} where
   kind_owned generalized_time = refl
   kind_owned (sequence c) = refl
   kind_owned (set c) = refl
-  kind_owned (sequence_of_lem h) = refl
-  kind_owned (set_of_lem h) = refl
+  kind_owned (sequence_of h) = refl
+  kind_owned (set_of h) = refl
   kind_owned (choice c) = refl
 
 choice_kind : (x : Body) → eqb (kind x) 50 ≡ is_choice x
@@ -214,8 +214,8 @@ module _ {b : List ℕ} {p : ℕ} where
   span_owned generalized_time = refl
   span_owned (sequence c) = sym (types_every b (p + 1) (get_or b p 0))
   span_owned (set c) = sym (types_every b (p + 1) (get_or b p 0))
-  span_owned (sequence_of_lem h) = refl
-  span_owned (set_of_lem h) = refl
+  span_owned (sequence_of h) = refl
+  span_owned (set_of h) = refl
   span_owned (choice c) = refl
 
   part_owned : {k : ℕ} {x : Body} → Owned b p k x → let s = span_of b k p in (j : ℕ) → j < s.count → s.first + s.step * j < length b
@@ -228,8 +228,8 @@ module _ {b : List ℕ} {p : ℕ} where
   part_owned (enumerated c) j h = absurd (omega arith)
   part_owned (sequence c) j h = omega arith
   part_owned (set c) j h = omega arith
-  part_owned (sequence_of_lem l) j h = omega arith
-  part_owned (set_of_lem l) j h = omega arith
+  part_owned (sequence_of l) j h = omega arith
+  part_owned (set_of l) j h = omega arith
   part_owned (choice c) j h = omega arith
   part_owned utc_time j h = elim h [ ]
   part_owned generalized_time j h = elim h [ ]

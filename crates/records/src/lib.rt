@@ -1,3 +1,4 @@
 // Reads of a table's records through the entries of the index that the check fills (FORMATS, "Tables").
 #![tactic(auto)]
+
 pub mod entry;

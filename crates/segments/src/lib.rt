@@ -1,5 +1,6 @@
 // Strings in segments (X.690, 8.6.4 and 8.7.3): judged, with how long the contents are that they join to; and joined.
 #![tactic(auto)]
+
 ghost use Rattle.std.specs.Prelude.{◌≡◌, ◌<◌, length, drop};
 ghost use Rattle.octets.specs.Answer.{got};
 ghost use Rattle.octets.specs.Buffers.{put, put_end};

@@ -35,13 +35,13 @@ use Rattle.table.proofs.Decided.{dangling_sound, dangling_complete, mistagged_so
 use Rattle.table.proofs.Decided.{circular_complete, sharing_sound, sharing_complete, infinite_true, infinite_false}
 
 -- the numbers are 1 to 6, and no two causes share one
-pub ranged_lem : (c : CheckCause) → (1 ≤ cause_number c) × (cause_number c < 7)
-ranged_lem TableShape = (omega arith, omega arith)
-ranged_lem NoRecord = (omega arith, omega arith)
-ranged_lem WrongTag = (omega arith, omega arith)
-ranged_lem ChoiceLoop = (omega arith, omega arith)
-ranged_lem SharedTag = (omega arith, omega arith)
-ranged_lem NoValue = (omega arith, omega arith)
+pub in_range_lem : (c : CheckCause) → (1 ≤ cause_number c) × (cause_number c < 7)
+in_range_lem TableShape = (omega arith, omega arith)
+in_range_lem NoRecord = (omega arith, omega arith)
+in_range_lem WrongTag = (omega arith, omega arith)
+in_range_lem ChoiceLoop = (omega arith, omega arith)
+in_range_lem SharedTag = (omega arith, omega arith)
+in_range_lem NoValue = (omega arith, omega arith)
 
 -- the cause with a number
 unfoldable numbered : ℕ → CheckCause
@@ -172,7 +172,7 @@ module _ (b : List ℕ) (T : Table) (n : ℕ) (beyond : (t : ℕ) → n ≤ t �
         λ s. before d q (omega (arith, eqb-false (cause_number d) k s)) y)
 
   judged : (k : ℕ) (xs : List Test) → InOrder k xs → Before b k → Right b (in_turn T n xs)
-  judged k [] o before = λ c p h. before c p (omega (arith, o, (ranged_lem c).1)) h
+  judged k [] o before = λ c p h. before c p (omega (arith, o, (in_range_lem c).1)) h
   judged k (x ∷ xs) o before = step k x o.0 xs before (judged (suc k) xs o.1)
 
 module _ (b : List ℕ) (octets : Octets b) where
@@ -202,7 +202,7 @@ module _ (b : List ℕ) (octets : Octets b) where
       test (too_long b)
       (λ e. rw e (record {
         holds = misshapen (over_long (omega (arith, ltb-true)));
-        earlier = λ d q h x. omega (arith, (ranged_lem d).0);
+        earlier = λ d q h x. omega (arith, (in_range_lem d).0);
         lower = λ q h x. omega arith;
       }))
       λ e.
@@ -211,12 +211,12 @@ module _ (b : List ℕ) (octets : Octets b) where
       (λ w.
       let f = scan_spells b octets short w in
       rw (e, w) (judged b _ _ f.beyond (to_rule f) from_rule 2 record_causes (in_order b _ _ f.beyond (to_rule f) from_rule)
-      (λ d q h x. spells_not_misshapen octets f.spells (shape_of d q (omega (arith, (ranged_lem d).0)) x))))
+      (λ d q h x. spells_not_misshapen octets f.spells (shape_of d q (omega (arith, (in_range_lem d).0)) x))))
       λ w.
       let m = scan_misshapen b octets short w in
       rw (e, w) (record {
         holds = misshapen m;
-        earlier = λ d q h x. omega (arith, (ranged_lem d).0);
+        earlier = λ d q h x. omega (arith, (in_range_lem d).0);
         lower = λ q h x. omega (arith, misshapen_unique octets (shape_of TableShape q refl x) m);
       })
 

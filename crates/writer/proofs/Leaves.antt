@@ -198,18 +198,18 @@ module _ (v : List ℕ) (p : ℕ) (r : Extent) where
     time_short h z = none_measured (time_number k) (own_time_lem k v p ∙ rw (lt-ltb (length v) (p + 7) h) refl) z
 
     module _ (h : p + 7 ≤ length v) (t : DateTime) (et : t ≡ time_at v p) (w : Bool) (ew : w ≡ in_range k t) where
-      ranged_lem : (b : Bool) → w ≡ b → in_range k (time_at v p) ≡ b
-      ranged_lem b f = rw (← et) (sym ew ∙ f)
+      in_range_lem : (b : Bool) → w ≡ b → in_range k (time_at v p) ≡ b
+      in_range_lem b f = rw (← et) (sym ew ∙ f)
 
       pub time_outside : w ≡ false → Nothing r → Measures (time_number k) v p r
       unfolding time_end
-      time_outside f z = none_measured (time_number k) (own_time_lem k v p ∙ rw (le-ltb (length v) (p + 7) h, ranged_lem false f) refl) z
+      time_outside f z = none_measured (time_number k) (own_time_lem k v p ∙ rw (le-ltb (length v) (p + 7) h, in_range_lem false f) refl) z
 
       pub time_measured : w ≡ true → r.size ≡ time_size k → r.end ≡ p + 7 → Measures (time_number k) v p r
       unfolding time_end encode
       time_measured f s e =
           record {
-            ends = e ∙ sym (own_time_lem k v p ∙ rw (le-ltb (length v) (p + 7) h, ranged_lem true f) refl);
+            ends = e ∙ sym (own_time_lem k v p ∙ rw (le-ltb (length v) (p + 7) h, in_range_lem true f) refl);
             sized = λ _. s ∙ sym (rw (leaf_time k v p) (length_time k (time_at v p)));
             small = rw s (time_few k);
           }

@@ -16,7 +16,7 @@ use Rattle.dates.specs.declared.DateTime.{DateTime}
 use Rattle.dates.specs.declared.TimeKind.{TimeKind}
 use Rattle.dates.specs.declared.TimeKind.TheVariants.{Utc, Generalized}
 use Rattle.dates.specs.Calendar.{leap, february, month_days, years, is_date, is_time_of_day, in_range}
-use Rattle.dates.proofs.Ranges.{ranged_lem}
+use Rattle.dates.proofs.Ranges.{in_range_lem}
 use Rattle.x690.specs.Time.{two_digits, year_digits, later_digits, time_digits, time_size, spelled, time_of, is_time}
 
 -- the octets of a text
@@ -92,7 +92,7 @@ year_octets Generalized y h = every_append (two_octets (y / 100) (omega arith)) 
 pub time_octets_lem : (k : TimeKind) (t : DateTime) → in_range k t ≡ true → AllOctets (time_digits k t)
 unfolding time_digits later_digits two_digits
 time_octets_lem k t e =
-    let (y, m, d, h, n, s) = ranged_lem k t e in
+    let (y, m, d, h, n, s) = in_range_lem k t e in
     every_append (year_octets k t.year y)
     (every_append (two_octets t.month (omega arith))
     (every_append (two_octets t.day (omega arith))

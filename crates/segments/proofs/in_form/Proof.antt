@@ -5,7 +5,6 @@ use borrow.Author.Rules.{rules}
 use Rattle.x690.specs.Segments.{in_form}
 use Rattle.segments.proofs.in_form.Statement.{statement}
 use Rattle.segments.proofs.in_form.Tie as tie
-use Rattle.simple.proofs.bit_string.are_bits.Reads as are_bits_reads
 
 pub in_form_spec : {M : Type 1} → statement M
 unfolding in_form

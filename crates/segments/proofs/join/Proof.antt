@@ -10,9 +10,6 @@ use Rattle.segments.proofs.JoinCode.{Joins, joins_first, joins_none, joins_over,
 use Rattle.segments.proofs.JoinCode.{joins_entered, joins_opened, joins_added}
 use Rattle.segments.proofs.join.Statement.{statement}
 use Rattle.segments.proofs.join.Tie as tie
-use Rattle.ber.proofs.length.read.Reads as read_reads
-use Rattle.segments.proofs.put_carried.Reads as put_carried_reads
-use Rattle.segments.proofs.unused_in.Reads as unused_in_reads
 
 abbrev invariant-loop : tie.invariant-loop-at
 invariant-loop m bits buf₀ to at₀ next₀ unused₀ open₀ buf at next unused «open» =
@@ -40,8 +37,7 @@ join_spec =
     joins_none (joins_mark c.loop-at.invariant.4 c.loop-at.invariant.1 c.loop-at-test.true c.if-first-eq0.true (omega (arith, c.if-m-at-lt2.false)))
     (omega (arith, c.if-m-at-lt2.false)) c.if-open-eq0.true)  -- returns-2
     (λ c. omega (arith, c.if-m-at-lt2.false))  -- loop-less
-    (λ c.
-    (
+    (λ c. (
       omega (arith, c.if-m-at-lt2.false),
       omega (arith, c.if-open-eq0.false),
       omega (arith, c.loop-at.invariant.2),

@@ -6,9 +6,6 @@ use Rattle.octets.specs.Answer.{if}
 use Rattle.segments.specs.Segments.{told_primitive}
 use Rattle.segments.proofs.primitive.Statement.{statement}
 use Rattle.segments.proofs.primitive.Tie as tie
-use Rattle.segments.proofs.in_form.Reads as in_form_reads
-use Rattle.segments.proofs.refused.Reads as refused_reads
-use Rattle.segments.proofs.unused_in.Reads as unused_in_reads
 
 pub primitive_spec : {M : Type 1} → statement M
 unfolding told_primitive if

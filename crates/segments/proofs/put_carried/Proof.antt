@@ -9,9 +9,6 @@ use Rattle.ber.proofs.Headers.{room, no_room, put_nothing}
 use Rattle.segments.proofs.SegmentCode.{carried_is, carried_none, carried_put}
 use Rattle.segments.proofs.put_carried.Statement.{statement}
 use Rattle.segments.proofs.put_carried.Tie as tie
-use Rattle.segments.proofs.least.Reads as least_reads
-use Rattle.octets.proofs.copy.Reads as copy_reads
-use Rattle.octets.proofs.holds.Reads as holds_reads
 
 pub put_carried_spec : {M : Type 1} → statement M
 put_carried_spec =

@@ -9,8 +9,6 @@ use Rattle.segments.specs.Segments.{kind_of}
 use Rattle.segments.proofs.SegmentCode.{tag_none, tag_told}
 use Rattle.segments.proofs.read_tag.Statement.{statement}
 use Rattle.segments.proofs.read_tag.Tie as tie
-use Rattle.ber.proofs.identifier.read.Reads as read_reads
-use Rattle.segments.proofs.tag.Reads as tag_reads
 
 pub read_tag_spec : {M : Type 1} → statement M
 unfolding if

@@ -5,7 +5,6 @@ use borrow.Author.Rules.{rules}
 use Rattle.segments.specs.Segments.{unused_in}
 use Rattle.segments.proofs.unused_in.Statement.{statement}
 use Rattle.segments.proofs.unused_in.Tie as tie
-use Rattle.octets.proofs.octet.Reads as octet_reads
 
 pub unused_in_spec : {M : Type 1} → statement M
 unfolding unused_in

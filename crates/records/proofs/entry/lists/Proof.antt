@@ -36,8 +36,7 @@ lists_spec =
     c.if-not-holds.true)  -- returns-2
     (λ c. natural c.args.z c.ranges.z
     c.if-z-lt0.false)  -- cast-k
-    (λ c.
-    (
+    (λ c. (
       listed_room c.args.table.now c.args.e.own _ c.octet-left.ensures.0 c.args.z _ c.holds.ensures
           c.if-not-holds.false,
       refl,

@@ -1,7 +1,6 @@
 -- `records::entry::tag_code` meets its contract: by what is read at the tag's place, and by the test of its constructed bit.
 -- Assumes nothing.
 use mathlib.Core.Bool.{not, ◌||◌}
-use mathlib.Core.Logic.{⊎_elim}
 use mathlib.Core.Path.{◌≡◌, ◌∙◌}
 use lib.Dec.{ltb}
 use borrow.Author.Rules.{rules}
