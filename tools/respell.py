@@ -25,7 +25,7 @@ reckonings-right tagBegins last-segment conversions-right range-cases second-cas
 # A field of a record that would fall together with the definition that it speaks of.
 FIELDS = {("coding", "in-range"): "ranged", ("link", "in-range"): "ranged"}
 # Names that stay alike, since no file has both.
-APART = {"no-time", "noTime", "no-tag", "noTag", "in-turn", "inTurn", "sequence-of", "sequenceOf", "set-of", "setOf"}
+APART = {"no-time", "noTime", "no-tag", "noTag", "in-turn", "in_turn", "sequence-of", "sequenceOf", "set-of", "setOf"}
 DECLARED = re.compile(r"^(\s*)(?:(?:pub|abbrev|unfoldable|instance)\s+)*([^\s:(){}λ.,;=]+) : ")
 HEADED = re.compile(r"^\s*(?:(?:pub|unfoldable|abbrev)\s+)*(?:data|record|ruleset)\s+([^\s:(){}]+)")
 USE = re.compile(r"^\s*(?:pub )?(?:ghost )?use ([^\s{]+)\.\{([^}]*)\}", re.M)
