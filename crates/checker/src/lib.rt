@@ -1,5 +1,6 @@
 // The check of a type table's octets, and the index of its records (FORMATS, "Tables", "Order of refusals").
 #![tactic(auto)]
+
 mod finite;
 mod first_tags;
 mod index;

@@ -1,5 +1,6 @@
 // The link engine: check a type table, write a value as a message, read a message into a value.
 #![tactic(auto)]
+
 ghost use Rattle.std.specs.Prelude.{◌≡◌};
 ghost use Rattle.table.specs.Verdict.{verdict};
 ghost use Rattle.coding.specs.Calls.{check_answer, whole_write, whole_read};

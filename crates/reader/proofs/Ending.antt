@@ -15,7 +15,6 @@ use Rattle.octets.proofs.Tests.{test}
 use Rattle.ber.specs.declared.ending.End.{End}
 use Rattle.ber.specs.declared.ending.End.TheVariants.{More, Over as EndsAt, Broken}
 use Rattle.table.specs.Syntax.{Plain, Sequence, Set, SequenceOf, SetOf, Choice}
-use Rattle.table.specs.Octets.{kind}
 use Rattle.records.specs.Entries.{unpacked}
 use Rattle.records.specs.declared.entry.Entry.{Entry}
 use Rattle.reader.specs.Items.{Holder, inside, message, manner, is_single, parts_of, optionals, pending, lacks}

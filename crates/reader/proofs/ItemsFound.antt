@@ -4,7 +4,7 @@ use borrow.Author.Tests.{eqb-true, eqb-false, lt-ltb, ltb-true, ltb-false}
 use lib.Dec.{eqb, ltb}
 use lib.ListN.{length, get_or, take, drop, length-drop}
 use lib.Seq.{drop-drop}
-use mathlib.Core.Bool.{Bool, true, false, ◌||◌, true≢false}
+use mathlib.Core.Bool.{Bool, true, ◌||◌, true≢false}
 use mathlib.Core.List.{List, [], ◌∷◌}
 use mathlib.Core.Option.{some}
 use mathlib.Core.Path.{◌≡◌, refl, sym, ap, ◌∙◌}
@@ -14,12 +14,11 @@ use Rattle.x690.specs.declared.ReadingCause.TheVariants.{MessageLevel}
 use Rattle.octets.specs.Answer.{got, refused, then, if}
 use Rattle.octets.specs.Numbers.{Octets}
 use Rattle.octets.proofs.Tests.{test}
-use Rattle.ber.specs.Codes.{code, code_of}
+use Rattle.ber.specs.Codes.{code_of}
 use Rattle.x690.specs.Reading.{read_identifier}
 use Rattle.ber.proofs.Codes.{code_short, code_long, read_code_small}
 use Rattle.ber.proofs.Places.{some_at, part_to_end}
 use Rattle.table.specs.Syntax.{Tag, Member, Body, Record, Table, constructed}
-use Rattle.table.specs.Octets.{kind}
 use Rattle.table.specs.Reading.{table_in, count_in}
 use Rattle.table.specs.Passes.{Nested}
 use Rattle.records.specs.Entries.{unpacked, untagged, more, outermost_code}
@@ -44,7 +43,7 @@ use Rattle.reader.proofs.ItemsSearch.{Lone, GoodHolder, lone_awaits, Tells, tell
 use Rattle.reader.proofs.ItemsWay.{way_level, way_value}
 use Rattle.reader.proofs.Searching.{Parted, spanned, type_low, clear_turn}
 use Rattle.reader.proofs.Finding.{good_held}
-use Rattle.reader.proofs.Spans.{PartAt, its, awaits_hit}
+use Rattle.reader.proofs.Spans.{PartAt, awaits_hit}
 use Rattle.reader.proofs.Opening.{octets_drop}
 use Rattle.reader.proofs.Tagging.{record_is}
 

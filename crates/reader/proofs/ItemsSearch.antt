@@ -5,7 +5,7 @@ use lib.Dec.{eqb}
 use lib.ListN.{get_or, drop}
 use mathlib.Core.Bool.{Bool, true, false, true≢false}
 use mathlib.Core.List.{List, [], ◌∷◌}
-use mathlib.Core.Option.{Option, some, none-ne-some}
+use mathlib.Core.Option.{some, none-ne-some}
 use mathlib.Core.Path.{◌≡◌, refl, sym, ap, ◌∙◌}
 use Prim.Native.Nat.{ℕ, zero, suc}
 use Rattle.x690.specs.declared.ReadingCause.{ReadingCause}

@@ -6,7 +6,7 @@ use lib.Seq.{drop-drop, drop-append_seam}
 use mathlib.Core.Bool.{Bool, true, false, not, ◌||◌, true≢false}
 use mathlib.Core.List.{List, [], ◌∷◌}
 use mathlib.Core.Logic.{◌⊎◌, inl, inr}
-use mathlib.Core.Option.{Option, some, none, none-ne-some}
+use mathlib.Core.Option.{some, none, none-ne-some}
 use mathlib.Core.Path.{◌≡◌, refl, sym, ap, ◌∙◌}
 use native.Mathlib.Omega.{arith}
 use Prim.Native.Nat.{ℕ, suc, ◌+◌, ◌-◌, ◌*◌, ◌/◌, ◌≤◌, ◌<◌}
@@ -16,14 +16,12 @@ use Rattle.octets.specs.Answer.{Answer, got, refused, then, if}
 use Rattle.octets.specs.Numbers.{Octets}
 use Rattle.octets.proofs.Answer.{got_holds}
 use Rattle.octets.proofs.Tests.{test}
-use Rattle.ber.specs.Codes.{code}
 use Rattle.ber.specs.Told.{end_of, mode}
 use Rattle.ber.specs.declared.ending.End.{End}
 use Rattle.ber.specs.declared.ending.End.TheVariants.{More as GoesOn, Over as EndsAt, Broken as BrokenBy}
 use Rattle.ber.proofs.Ends.{end_more, end_over, end_broken}
 use Rattle.ber.proofs.Places.{part_to_end}
 use Rattle.table.specs.Syntax.{Plain, Sequence, Set, SequenceOf, SetOf, Choice, Record, Table}
-use Rattle.table.specs.Octets.{kind}
 use Rattle.table.specs.Reading.{table_in}
 use Rattle.records.specs.Entries.{unpacked, span_of}
 use Rattle.records.specs.declared.entry.Entry.{Entry}

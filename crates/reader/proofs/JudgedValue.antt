@@ -5,7 +5,6 @@ use lib.Seq.{drop-drop}
 use mathlib.Core.Bool.{Bool, true, false, not, false≢true}
 use mathlib.Core.List.{List, [], ◌∷◌}
 use mathlib.Core.Logic.{◌⊎◌, inl, inr}
-use mathlib.Core.Option.{some}
 use mathlib.Core.Path.{◌≡◌, refl, sym, ap, subst, ◌∙◌}
 use native.Mathlib.Omega.{arith}
 use Prim.Native.Nat.{ℕ, ◌+◌, ◌-◌, ◌≤◌, ◌<◌}
@@ -27,7 +26,6 @@ use Rattle.table.specs.Reading.{body_at, table_in, count_in}
 use Rattle.records.specs.Entries.{unpacked, Entered}
 use Rattle.records.specs.declared.entry.Entry.{Entry}
 use Rattle.coding.specs.Content.{segmented}
-use Rattle.coding.specs.Tags.{explicit}
 use Rattle.coding.specs.Value.{Value, leaf, Leaf, octets}
 use Rattle.coding.specs.Reading.{read_value, read_message}
 use Rattle.reader.specs.Answers.{cap, told, size}
@@ -43,7 +41,6 @@ use Rattle.reader.specs.declared.answer.Judged.{Judged}
 use Rattle.reader.specs.declared.answer.Judged.TheVariants.{Done, Refused}
 use Rattle.reader.specs.declared.tags.Opened.{Opened}
 use Rattle.reader.specs.declared.tags.Opened.TheVariants.{Refused as NotOpened}
-use Rattle.reader.proofs.Items.{over}
 use Rattle.reader.proofs.ItemsKinds.{message_whole}
 use Rattle.reader.proofs.Bodies.{record_of, its_body, its_kind}
 use Rattle.reader.proofs.LeafReading.{leaf_end, leaf_shift}

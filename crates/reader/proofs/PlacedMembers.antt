@@ -17,7 +17,6 @@ use Rattle.octets.proofs.Answer.{refused≢got, got_value, got_rest, got_holds}
 use Rattle.octets.proofs.Tests.{test}
 use Rattle.ber.specs.Told.{mode}
 use Rattle.table.specs.Syntax.{Member, Plain, Sequence, Set, SequenceOf, SetOf, Choice, Table}
-use Rattle.table.specs.Octets.{kind}
 use Rattle.table.specs.Reading.{table_in, count_in}
 use Rattle.records.specs.Entries.{unpacked, span_of}
 use Rattle.records.specs.declared.entry.Entry.{Entry}

@@ -24,7 +24,7 @@ use Rattle.coding.proofs.Sound.{not_awaited_lem}
 use Rattle.coding.proofs.Refusals.{value_shorter}
 use Rattle.ber.specs.Told.{mode}
 use Rattle.reader.specs.Items.{Holder, inside, message, in_turn, manner, parts_of, Placed, awaits}
-use Rattle.reader.specs.Items.{remains, lacks, since, following, noted, is_single, first, Hand, read_part, next, read_items, assemble, node_size}
+use Rattle.reader.specs.Items.{remains, lacks, since, following, noted, is_single, Hand, read_part, next, read_items, assemble, node_size}
 use Rattle.reader.specs.Items.{blank}
 use Rattle.reader.specs.Placing.{bodies, kind_of, holds_one, onward, said, finished_in, end_at}
 use Rattle.reader.proofs.Items.{found_of, awaits_found, first_passes}

@@ -36,7 +36,6 @@ use Rattle.records.specs.Entries.{unpacked, Entered, outermost_code, explicit_co
 use Rattle.records.specs.declared.entry.Entry.{Entry}
 use Rattle.records.proofs.Promises.{entered_kind, entered_enumerated}
 use Rattle.coding.specs.Content.{listed, segmented, Content, c_boolean, c_integer, c_bits, c_string, c_null, c_enumerated, c_time}
-use Rattle.coding.specs.Tags.{explicit}
 use Rattle.coding.specs.Value.{Leaf, time, Value, leaf, leaf_octets, octets}
 use Rattle.coding.specs.Reading.{read_value}
 use Rattle.coding.proofs.Content.{content_sound}

@@ -5,12 +5,11 @@ use lib.ListN.{length, get_or, take, drop, length-drop}
 use lib.Seq.{take-length, take-take, length-take-le, drop-drop, get_or-take, get_or-drop}
 use mathlib.Core.Bool.{Bool, true, false, not, true≢false, false≢true}
 use mathlib.Core.List.{List, [], ◌∷◌, ◌++◌}
-use mathlib.Core.Option.{some}
 use mathlib.Core.Path.{◌≡◌, refl, sym, ap, ◌∙◌}
 use native.Mathlib.Omega.{arith}
 use Prim.Native.Nat.{ℕ, ◌+◌, ◌-◌, ◌≤◌, ◌<◌}
 use Rattle.x690.specs.declared.ReadingCause.{ReadingCause}
-use Rattle.octets.specs.Answer.{Answer, got, refused, then, if, behind}
+use Rattle.octets.specs.Answer.{Answer, got, refused, then, behind}
 use Rattle.octets.specs.Numbers.{Octets}
 use Rattle.octets.proofs.Answer.{got_holds}
 use Rattle.octets.proofs.Tests.{test}

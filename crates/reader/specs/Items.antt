@@ -4,7 +4,7 @@
 use Rattle.std.specs.Prelude.{Bool, true, false, not, List, [], ◌∷◌, ◌++◌, map, ℕ, zero, suc, ◌+◌, eqb, length, get_or, drop, set as set_at, replicate}
 use Rattle.std.proofs.Math.Option.{Option, some, none}
 use Rattle.x690.specs.declared.ReadingCause.{ReadingCause}
-use Rattle.x690.specs.declared.ReadingCause.TheVariants.{Cut, NotAwaited, Trailing}
+use Rattle.x690.specs.declared.ReadingCause.TheVariants.{NotAwaited, Trailing}
 use Rattle.octets.specs.Answer.{Answer, got, refused, then, if}
 use Rattle.octets.specs.Lists.{any}
 use Rattle.x690.specs.Reading.{Mode, at_end}

@@ -1,5 +1,6 @@
 // Reads messages into values: a message is judged, which finds every refusal, and its value is then placed into a lent buffer.
 #![tactic(auto)]
+
 mod answer;
 mod came;
 mod contents;

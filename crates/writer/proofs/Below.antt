@@ -14,7 +14,7 @@ use Rattle.octets.specs.Answer.{Answer, got, refused, then, if}
 use Rattle.octets.proofs.Tests.{test}
 use Rattle.table.specs.Syntax.{Table}
 use Rattle.table.specs.Fields.{constructed_of}
-use Rattle.coding.specs.Value.{Leaf, Value, leaf}
+use Rattle.coding.specs.Value.{Leaf, Value}
 use Rattle.coding.specs.Form.{encode}
 use Rattle.coding.specs.Judging.{Node, a_leaf, node_kind, agrees, read_node, judge_below, judge_value}
 use Rattle.writer.specs.Nodes.{end_at, node_at}

@@ -1,6 +1,7 @@
 // Writes values as messages: the octets of a value are judged against a table and a type, and its form is put into a lent buffer. `lone` judges
 // octets with no table: whether they are one node.
 #![tactic(auto)]
+
 mod contents;
 mod frame;
 mod judge;

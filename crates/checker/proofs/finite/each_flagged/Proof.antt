@@ -1,11 +1,9 @@
 -- `checker::finite::each_flagged` meets its contract. The loop's invariant: the test of the members that are left is the whole test. The measure is their count.
 -- Assumes nothing.
-use mathlib.Core.Logic.{⊎_elim}
 use mathlib.Core.Path.{◌≡◌, refl, sym, ◌∙◌}
 use Prim.Native.Nat.{◌+◌, ◌*◌}
 use native.Mathlib.Omega.{arith}
 use borrow.Author.Rules.{rules}
-use borrow.Author.Tests.{not-true, not-false}
 use Rattle.table.specs.Reading.{members_at}
 use Rattle.checker.specs.Marks.{is_flagged}
 use Rattle.checker.proofs.Marks.{present, present_stops, present_optional, present_flagged, present_ends}
@@ -40,9 +38,9 @@ each_flagged_spec =
     (λ c. (
       omega arith,
       elim c.if-not-optional.branch [
-        lts.then-not-optional+else-not-flagged w ↦ present_flagged (is_flagged _) _ _ _ _ c.loop-left.invariant.1 c.loop-left-test.true
-            (rw (← w.octet.ensures.0, ← w.flagged.ensures) w.if-not-flagged.false) |
-        lts.else-not-optional w ↦ present_optional (is_flagged _) _ _ _ _ c.loop-left.invariant.1 c.loop-left-test.true
+        | lts.then-not-optional+else-not-flagged w ↦ present_flagged (is_flagged _) _ _ _ _ c.loop-left.invariant.1 c.loop-left-test.true
+            (rw (← w.octet.ensures.0, ← w.flagged.ensures) w.if-not-flagged.false)
+        | lts.else-not-optional w ↦ present_optional (is_flagged _) _ _ _ _ c.loop-left.invariant.1 c.loop-left-test.true
             (sym c.optional.ensures ∙ w.if-not-optional.false)
       ],
     ))  -- loop-again

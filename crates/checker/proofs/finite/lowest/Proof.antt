@@ -2,7 +2,6 @@
 -- The measure is how many have no mark. Assumes nothing.
 use mathlib.Core.Path.{◌≡◌, refl, sym, ◌∙◌}
 use lib.ListN.{length, replicate}
-use borrow.Author.Tests.{not-true, not-false}
 use Rattle.table.specs.Reading.{table_in}
 use Rattle.table.specs.Walk.{free}
 use Rattle.checker.specs.Marks.{Raised, same}

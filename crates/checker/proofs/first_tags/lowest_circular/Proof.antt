@@ -2,7 +2,6 @@
 -- Assumes nothing.
 use borrow.Author.Rules.{rules}
 use Prim.Native.Nat.{◌-◌}
-use mathlib.Core.Logic.{⊎_elim}
 use mathlib.Core.Path.{refl, sym, ◌∙◌}
 use native.Mathlib.Omega.{arith}
 use Rattle.octets.proofs.Search.{Rest, rest_first, rest_here, rest_next, rest_none}
@@ -45,7 +44,7 @@ lowest_circular_spec =
     (λ c. search rules)  -- add-t
     (λ c. omega arith)  -- loop-less
     (λ c. rest_next _ _ _ c.loop-t.invariant c.loop-t-test.true (elim c.if-first-eq-UNTAGGED.branch [
-      lts.then-first-eq-UNTAGGED+else-is_circular w ↦ circular_is _ _ (filled_beyond c.requires.0) _ _ c.loop-t-test.true w.is_circular.ensures ∙ w.if-is_circular.false |
-      lts.else-first-eq-UNTAGGED w ↦ no_circle _ _ _ (below_none (c.requires.0.entered _ c.loop-t-test.true) (λ z. w.if-first-eq-UNTAGGED.false (c.first.ensures ∙ z)))
+      | lts.then-first-eq-UNTAGGED+else-is_circular w ↦ circular_is _ _ (filled_beyond c.requires.0) _ _ c.loop-t-test.true w.is_circular.ensures ∙ w.if-is_circular.false
+      | lts.else-first-eq-UNTAGGED w ↦ no_circle _ _ _ (below_none (c.requires.0.entered _ c.loop-t-test.true) (λ z. w.if-first-eq-UNTAGGED.false (c.first.ensures ∙ z)))
     ]))  -- loop-again
     (λ c. rest_none _ _ _ c.loop-t.invariant c.loop-t-test.false))  -- returns-2

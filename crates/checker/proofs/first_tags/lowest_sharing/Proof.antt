@@ -3,7 +3,6 @@
 use borrow.Author.Rules.{rules}
 use borrow.Author.Tests.{not-true, not-false}
 use Prim.Native.Nat.{◌-◌}
-use mathlib.Core.Logic.{⊎_elim}
 use mathlib.Core.Path.{sym, ◌∙◌}
 use native.Mathlib.Omega.{arith}
 use Rattle.octets.proofs.Search.{Rest, rest_first, rest_here, rest_next, rest_none}
@@ -41,7 +40,7 @@ lowest_sharing_spec =
     (λ c. search rules)  -- add-t
     (λ c. omega arith)  -- loop-less
     (λ c. rest_next _ _ _ c.loop-t.invariant c.loop-t-test.true (elim c.if-not-e.branch [
-      lts.then-not-e+else-is_sharing w ↦ sharing_is _ _ (filled_beyond c.requires.0) _ _ w.is_sharing.ensures ∙ w.if-is_sharing.false |
-      lts.else-not-e w ↦ no_sharing _ _ _ (not-true _ (sym (entry_at c.requires.0 _ c.loop-t-test.true c.unpack-e.ensures).simple ∙ not-false _ w.if-not-e.false))
+      | lts.then-not-e+else-is_sharing w ↦ sharing_is _ _ (filled_beyond c.requires.0) _ _ w.is_sharing.ensures ∙ w.if-is_sharing.false
+      | lts.else-not-e w ↦ no_sharing _ _ _ (not-true _ (sym (entry_at c.requires.0 _ c.loop-t-test.true c.unpack-e.ensures).simple ∙ not-false _ w.if-not-e.false))
     ]))  -- loop-again
     (λ c. rest_none _ _ _ c.loop-t.invariant c.loop-t-test.false))  -- returns-2

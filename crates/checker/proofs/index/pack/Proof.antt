@@ -1,6 +1,5 @@
 -- `checker::index::pack` meets its contract: the high octet goes by the test, and each part is below the next one's unit.
 -- Assumes nothing.
-use mathlib.Core.Logic.{⊎_elim}
 use mathlib.Core.Path.{◌≡◌, ◌∙◌}
 use Prim.Native.Nat.{◌<◌}
 use native.Mathlib.Omega.{arith}

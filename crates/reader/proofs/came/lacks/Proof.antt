@@ -1,8 +1,6 @@
 -- `reader::came::lacks` meets its contract. What the members from the k-th on say is what all from the i-th on say.
 -- Assumes nothing.
-use borrow.Author.Tests.{not-true, not-false}
 use mathlib.Core.Bool.{not, ◌||◌}
-use mathlib.Core.Logic.{⊎_elim}
 use mathlib.Core.Path.{◌≡◌, refl, sym, ap, ◌∙◌}
 use native.Mathlib.Omega.{arith}
 use Prim.Native.Nat.{◌-◌}
@@ -69,10 +67,10 @@ lacks_spec =
     let a = c.args in
     let q = c.requires in
     c.loop-k.invariant ∙ elim c.if-came-k-eq0.branch [
-      lts.then-came-k-eq0+else-any+else-not-optional x ↦
+      | lts.then-came-k-eq0+else-any+else-not-optional x ↦
           lacks_skip q.1.ready _ q.1.known _ (at-span c.before.before.before.before.before.before.before.before) q.2 a.came.now _ a.any
-              c.loop-k-test.true x.optional.result x.optional.ensures x.if-came-k-eq0.true x.if-any.false x.if-not-optional.false |
-      lts.else-came-k-eq0 x ↦
+          c.loop-k-test.true x.optional.result x.optional.ensures x.if-came-k-eq0.true x.if-any.false x.if-not-optional.false
+      | lts.else-came-k-eq0 x ↦
           lacks_come q.1.ready _ q.1.known _ (at-span c.before.before.before.before.before.before.before.before) q.2 a.came.now _ a.any c.loop-k-test.true x.if-came-k-eq0.false
     ])  -- loop-again
     (λ c.

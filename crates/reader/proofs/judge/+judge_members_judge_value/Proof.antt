@@ -1,12 +1,12 @@
 -- The judge of a value and of the items in it: one law for each way through it, by the levels that are left.
 -- Assumes nothing.
-use mathlib.Core.Bool.{false, true≢false}
-use mathlib.Core.Logic.{⊎_elim, inl, inr}
+use mathlib.Core.Bool.{true≢false}
+use mathlib.Core.Logic.{inl, inr}
 use mathlib.Core.Path.{◌≡◌, sym, ap, ◌∙◌, refl}
 use native.Mathlib.Omega.{arith}
 use Prim.Native.Nat.{ℕ, ◌+◌, ◌-◌, ◌*◌, ◌≤◌, ◌<◌}
 use borrow.Author.Rules.{rules}
-use borrow.Author.Tests.{eqb-true, not-true, not-false}
+use borrow.Author.Tests.{eqb-true}
 use lib.ListN.{length, take}
 use Rattle.reader.proofs.ItemsFound.{item_same, item_found}
 use Rattle.reader.proofs.JudgedMembers.{Judging, Setting, count_few, judging_first, judging_sound}
@@ -173,21 +173,21 @@ comes t c =
       from = x.from;
       is =
           elim x.branch [
-            judge_members_lts.then-not-fits+in-Part v ↦
-                item_same v.way'-is v.place-is v.record-is v.depth-is v.from-is (item_found _ _ P.low v.search.ensures.1 v.in-Part.is) |
-            judge_members_lts.else-not-fits v ↦
+            | judge_members_lts.then-not-fits+in-Part v ↦
+                item_same v.way'-is v.place-is v.record-is v.depth-is v.from-is (item_found _ _ P.low v.search.ensures.1 v.in-Part.is)
+            | judge_members_lts.else-not-fits v ↦
                 let y = v.if-not-fits.false in
                 elim c.if-j-s.branch [
-                  judge_members_lts.then-j-s+then-came-j-eq0 u ↦
+                  | judge_members_lts.then-j-s+then-came-j-eq0 u ↦
                       item_same v.way'-is v.place-is (v.record-is ∙ u.record-is) v.depth-is v.from-is
-                          (item_here P i u.if-j-s.true u.if-came-j-eq0.true _ _ u.part-record.ensures.0 u.first.ensures (eqb-true _ _ (sym u.fits-is ∙ y)) _) |
-                  judge_members_lts.else-j-s u ↦ absurd (true≢false (sym y ∙ u.fits-is))
+                      (item_here P i u.if-j-s.true u.if-came-j-eq0.true _ _ u.part-record.ensures.0 u.first.ensures (eqb-true _ _ (sym u.fits-is ∙ y)) _)
+                  | judge_members_lts.else-j-s u ↦ absurd (true≢false (sym y ∙ u.fits-is))
                 ]
           ];
       ways =
           elim x.branch [
-            judge_members_lts.then-not-fits+in-Part v ↦ ap length v.way'-is ∙ v.search.ensures.0 |
-            judge_members_lts.else-not-fits v ↦ ap length v.way'-is ∙ c.loop-end.invariant.1
+            | judge_members_lts.then-not-fits+in-Part v ↦ ap length v.way'-is ∙ v.search.ensures.0
+            | judge_members_lts.else-not-fits v ↦ ap length v.way'-is ∙ c.loop-end.invariant.1
           ];
     }
 
@@ -223,16 +223,14 @@ judge-members-half t =
     (λ c. search rules)  -- judge-members-enum-told
     (λ c. search rules)  -- judge-members-enum-known-end
     (λ c κs. search rules)  -- judge-members-done-requires
-    (λ c.
-    (
+    (λ c. (
       c.loop-end.invariant.1,
       c.done.ensures ∙ judged_over (turn t (c.before.before)) _ c.in-Over.is,
     ))  -- judge-members-returns
     (λ c. search rules)  -- judge-members-enum-known-cause
     (λ c. omega arith)  -- judge-members-sub-refused
     (λ c κs. search rules)  -- judge-members-refused-requires
-    (λ c.
-    (
+    (λ c. (
       c.loop-end.invariant.1,
       c.refused.ensures ∙ judged_stopped (turn t (c.before.before)) _ c.in-Refused.is,
     ))  -- judge-members-returns-2
@@ -263,8 +261,7 @@ judge-members-half t =
     (λ c. search rules)  -- judge-members-enum-known-cause-2
     (λ c. omega arith)  -- judge-members-sub-refused-2
     (λ c κs. search rules)  -- judge-members-refused-requires-2
-    (λ c.
-    (
+    (λ c. (
       c.search.ensures.0,
       c.refused-in-Refused-search.ensures ∙ judged_unfit (turn t c.before.before.before.before.before.before.before.before.before.before) c.in-Item.is _ _ _ c.search.ensures.1
           c.in-Refused-search.is,
@@ -300,8 +297,7 @@ judge-members-half t =
     ))  -- judge-members-judge-value-requires
     (λ c. search rules)  -- judge-members-enum-known-cause-3
     (λ c κs. search rules)  -- judge-members-refused-requires-4
-    (λ c.
-    (
+    (λ c. (
       c.judge_value.ensures.0,
       c.refused-in-Refused-judge_value.ensures ∙ judged_refused (valued t (c.before.before)) _ _ c.in-Refused-judge_value.is,
     ))  -- judge-members-returns-5
@@ -311,8 +307,7 @@ judge-members-half t =
     (λ c κs. sizes_few (valued t c.before) _ _ c.in-Done.is)  -- judge-members-grow-requires
     (λ c κs. search rules)  -- judge-members-holds-one-requires
     (λ c κs. search rules)  -- judge-members-done-requires-2
-    (λ c.
-    (
+    (λ c. (
       c.judge_value.ensures.0,
       c.done-then-holds_one.ensures ∙ judged_one (valued t (c.before.before.before.before.before)) _ _ c.in-Done.is _ c.grow-total.ensures _
           c.holds_one.ensures c.if-holds_one.true,
@@ -326,8 +321,8 @@ judge-members-half t =
       c.judge_value.ensures.0,
       judged_turn Y _ _ c.in-Done.is _ c.grow-total.ensures _ c.holds_one.ensures c.if-holds_one.false
           _ (elim c.if-e-eq-SET.branch [
-            judge_members_lts.then-e-eq-SET v ↦ inl (v.if-e-eq-SET.true, v.came-is) |
-            judge_members_lts.else-e-eq-SET v ↦ inr (v.if-e-eq-SET.false, v.came-is)
+            | judge_members_lts.then-e-eq-SET v ↦ inl (v.if-e-eq-SET.true, v.came-is)
+            | judge_members_lts.else-e-eq-SET v ↦ inr (v.if-e-eq-SET.false, v.came-is)
           ]),
     ))  -- judge-members-loop-again
 
@@ -366,9 +361,9 @@ at_under t c =
     let q = c.requires.1 in
     let u = c.unpack-e in
     elim c.if-e-gt0.branch [
-      judge_value_lts.then-e-gt0+in-Inside z ↦
-          rw (z.notes-is, z.at-is, z.end-is, z.from-is) (under_tags q.ready q.is a.m.now a.at _ z.«open».result z.«open».ensures.1 z.in-Inside.x z.in-Inside.is) |
-      judge_value_lts.else-e-gt0 z ↦
+      | judge_value_lts.then-e-gt0+in-Inside z ↦
+          rw (z.notes-is, z.at-is, z.end-is, z.from-is) (under_tags q.ready q.is a.m.now a.at _ z.«open».result z.«open».ensures.1 z.in-Inside.x z.in-Inside.is)
+      | judge_value_lts.else-e-gt0 z ↦
           rw (z.notes-is, z.at-is, z.end-is, z.from-is) (under_bare q.ready q.is u.result u.ensures a.m.now a.at a.from z.if-e-gt0.false q.headed _)
     ]
 
@@ -400,9 +395,9 @@ abbrev at-contents : (t : ℕ) (c : judge_value_lts.Joined-e-ne-CHOICE (judge-va
 at-contents t c =
     let x = at_item t c.before.before.before in
     elim c.if-e-ne-CHOICE.branch [
-      judge_value_lts.then-e-ne-CHOICE+in-Read z ↦
-          rw (z.start-is, z.stop-is, z.indefinite-is) (contents_sized x z.if-e-ne-CHOICE.true z.read.result (z.read.ensures.0 _) z.in-Read.x z.in-Read.is) |
-      judge_value_lts.else-e-ne-CHOICE z ↦ rw (z.start-is, z.stop-is, z.indefinite-is) (contents_bare x z.if-e-ne-CHOICE.false)
+      | judge_value_lts.then-e-ne-CHOICE+in-Read z ↦
+          rw (z.start-is, z.stop-is, z.indefinite-is) (contents_sized x z.if-e-ne-CHOICE.true z.read.result (z.read.ensures.0 _) z.in-Read.x z.in-Read.is)
+      | judge_value_lts.else-e-ne-CHOICE z ↦ rw (z.start-is, z.stop-is, z.indefinite-is) (contents_bare x z.if-e-ne-CHOICE.false)
     ]
 
 abbrev at-filling : (t : ℕ) (c : judge_value_lts.Joined-e-ne-CHOICE (judge-value-claims t) (judge-value-at t) judge_value.Post) →
@@ -425,17 +420,17 @@ abbrev at_over : (t : ℕ) (c : judge_value_lts.Joined-e (judge-value-claims t) 
 at_over t c =
     let y = at-filling t c.before in
     elim c.if-e.branch [
-      judge_value_lts.then-e+then-size-eq0+in-Done z ↦
-          rw (z.stop-is, z.size-is) (over_leaf y z.if-e.true z.judge_segments.result z.judge_segments.ensures z.in-Done.x z.in-Done.y z.in-Done.is) |
-      judge_value_lts.then-e+else-size-eq0 z ↦
+      | judge_value_lts.then-e+then-size-eq0+in-Done z ↦
+          rw (z.stop-is, z.size-is) (over_leaf y z.if-e.true z.judge_segments.result z.judge_segments.ensures z.in-Done.x z.in-Done.y z.in-Done.is)
+      | judge_value_lts.then-e+else-size-eq0 z ↦
           rw (z.stop-is, z.size-is)
           (elim z.if-not-indefinite.branch [
-            judge_value_lts.then-not-indefinite x ↦
+            | judge_value_lts.then-not-indefinite x ↦
                 over_sized y z.if-e.true x.if-not-indefinite.true _ (x.size-is ∙ x.contents_size-size.ensures.0) z.if-size-eq0.false
-                    (omega (arith, x.size-is, x.contents_size-size.ensures.1)) |
-            judge_value_lts.else-not-indefinite x ↦ absurd (z.if-size-eq0.false x.size-is)
-          ]) |
-      judge_value_lts.else-e+in-Done-judge_members z ↦
+                (omega (arith, x.size-is, x.contents_size-size.ensures.1))
+            | judge_value_lts.else-not-indefinite x ↦ absurd (z.if-size-eq0.false x.size-is)
+          ])
+      | judge_value_lts.else-e+in-Done-judge_members z ↦
           rw (z.stop-is, z.size-is)
           (over_items y z.if-e.false z.judge_members.result z.judge_members.ensures.1 z.in-Done-judge_members.x z.in-Done-judge_members.y z.in-Done-judge_members.is)
     ]
@@ -455,9 +450,9 @@ abbrev at-way : (t : ℕ) (c : judge_value_lts.Joined-e (judge-value-claims t) (
 at-way t c =
     let w = c.requires.1.ways in
     elim c.if-e.branch [
-      judge_value_lts.then-e+then-size-eq0+in-Done z ↦ rw z.way'-is w |
-      judge_value_lts.then-e+else-size-eq0 z ↦ rw z.way'-is w |
-      judge_value_lts.else-e+in-Done-judge_members z ↦ rw z.way'-is z.judge_members.ensures.0
+      | judge_value_lts.then-e+then-size-eq0+in-Done z ↦ rw z.way'-is w
+      | judge_value_lts.then-e+else-size-eq0 z ↦ rw z.way'-is w
+      | judge_value_lts.else-e+in-Done-judge_members z ↦ rw z.way'-is z.judge_members.ensures.0
     ]
 
 -- the half of `judge_value`
@@ -482,8 +477,7 @@ judge-value-half t =
     (λ c κs. tt)  -- judge-value-refused-requires
     (λ c.
     let q = c.requires.1 in
-    let o = c.«open» in
-    (
+    let o = c.«open» in (
       q.ways,
       c.refused.ensures ∙ value_unopened q.ready q.is _ _ _ o.result o.ensures.1 c.in-Refused.cause c.in-Refused.left c.in-Refused.is
           c.args.level,
@@ -494,8 +488,7 @@ judge-value-half t =
     (λ c κs. tt)  -- judge-value-read-requires
     (λ c. search rules)  -- judge-value-enum-known-cause-2
     (λ c κs. tt)  -- judge-value-refused-requires-2
-    (λ c.
-    (
+    (λ c. (
       c.requires.1.ways,
       c.refused-in-Refused-read.ensures ∙ value_unread (at_item t c.before.before.before.before.before.before) c.if-e-ne-CHOICE.true _ (c.read.ensures.0 _) c.in-Refused-read.cause c.in-Refused-read.is,
     ))  -- judge-value-returns-2
@@ -522,16 +515,15 @@ judge-value-half t =
       omega (arith, q.short),
       c.if-e.true,
       λ h. elim c.if-not-indefinite.branch [
-        judge_value_lts.then-not-indefinite x ↦ sym x.contents_size-size.ensures.0 ∙ sym x.size-is ∙ c.if-size-eq0.true |
-        judge_value_lts.else-not-indefinite x ↦ absurd (true≢false (sym x.if-not-indefinite.false ∙ h))
+        | judge_value_lts.then-not-indefinite x ↦ sym x.contents_size-size.ensures.0 ∙ sym x.size-is ∙ c.if-size-eq0.true
+        | judge_value_lts.else-not-indefinite x ↦ absurd (true≢false (sym x.if-not-indefinite.false ∙ h))
       ],
     ))  -- judge-value-judge-segments-requires
     (λ c. search rules)  -- judge-value-enum-known-cause-3
     (λ c κs. tt)  -- judge-value-refused-requires-3
     (λ c.
     let y = at-filling t (c.before.before.before.before.before.before.before.before.before.before) in
-    let r = c.judge_segments in
-    (
+    let r = c.judge_segments in (
       c.requires.1.ways,
       c.refused-in-Refused-judge_segments.ensures ∙ value_wrong y c.if-e.true r.result r.ensures c.in-Refused-judge_segments.cause c.in-Refused-judge_segments.n c.in-Refused-judge_segments.is,
     ))  -- judge-value-returns-3
@@ -570,8 +562,7 @@ judge-value-half t =
     (λ c κs. tt)  -- judge-value-refused-requires-4
     (λ c.
     let y = at-filling t c.before.before.before.before.before.before.before.before in
-    let r = c.judge_members in
-    (
+    let r = c.judge_members in (
       r.ensures.0,
       c.refused-in-Refused-judge_members.ensures ∙ value_unheld y c.if-e.false r.result r.ensures.1 c.in-Refused-judge_members.cause c.in-Refused-judge_members.n c.in-Refused-judge_members.is,
     ))  -- judge-value-returns-4

@@ -38,8 +38,7 @@ judge_spec =
     (λ c κs. tt)  -- refused-requires-3
     (λ c.
     let w = c.whole in
-    let r = c.judge_members in
-    (
+    let r = c.judge_members in (
       r.ensures.0,
       c.refused-then-end-m.ensures ∙ message_trailing _ _ 24 _ c.if-m-eq0.false w.result w.ensures r.result r.ensures.1
           c.in-Done.end c.in-Done.size c.in-Done.is c.if-end-m.true,
@@ -47,16 +46,14 @@ judge_spec =
     (λ c κs. tt)  -- done-requires
     (λ c.
     let w = c.whole in
-    let r = c.judge_members in
-    (
+    let r = c.judge_members in (
       r.ensures.0,
       c.refused-in-Refused.ensures ∙ message_refused _ _ 24 _ c.if-m-eq0.false w.result w.ensures r.result r.ensures.1
           c.in-Refused.cause c.in-Refused.left c.in-Refused.is,
     ))  -- returns-3
     (λ c.
     let w = c.whole in
-    let r = c.judge_members in
-    (
+    let r = c.judge_members in (
       r.ensures.0,
       c.done.ensures ∙ message_done _ _ 24 _ c.if-m-eq0.false w.result w.ensures r.result r.ensures.1
           c.in-Done.end c.in-Done.size c.in-Done.is c.if-end-m.false,

@@ -1,8 +1,7 @@
 -- `reader::judge::next` meets its contract.
 -- Assumes nothing.
 use borrow.Author.Rules.{rules}
-use borrow.Author.Tests.{not-true, not-false}
-use mathlib.Core.Logic.{⊎_elim, inl, inr}
+use mathlib.Core.Logic.{inl, inr}
 use mathlib.Core.Path.{◌≡◌, refl}
 use Rattle.reader.specs.Items.{manner, since}
 use Rattle.reader.specs.Sought.{held}

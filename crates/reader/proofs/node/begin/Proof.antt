@@ -44,8 +44,7 @@ begin_spec =
     ))  -- returns-2
     (λ c. search rules)  -- add-result-2
     (λ c. simp length-sets at (ap length c.begin_node.ensures))  -- same-length-2
-    (λ c.
-    (
+    (λ c. (
       ap (λ (k : ℕ). c.args.to + k) c.node_size-size.ensures,
       c.begin_node.ensures ∙ ap (sets _ _) (sym (opening_others _ _ c.if-kind-eq-MESSAGE.false (sym c.has_members.ensures
           ∙ c.if-has_members.false))),

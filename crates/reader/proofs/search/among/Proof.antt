@@ -68,8 +68,7 @@ among_spec =
     (λ c κs.
     code_most c.requires.0 _ (one c.before.before).small)  -- begins-requires
     (λ c. omega (arith, (one c.before.before.before.before).room))  -- add-t28
-    (λ c.
-    (
+    (λ c. (
       simp length-set c.loop-j.invariant.0,
       among_found (turn c.before.before.before.before.before.before.before.before) c.if-j-s.true c.octet-a.ensures.0 c.begins.ensures c.if-begins.true,
     ))  -- returns
@@ -80,8 +79,7 @@ among_spec =
     (λ c. omega (arith, (one c.before.before.before.before.before.before.before).room))  -- add-depth
     (λ c.
     fewer_under (turn c.before.before.before.before.before.before.before.before.before.before.before) c.if-j-s.true c.octet-a.ensures.0)  -- loop-less
-    (λ c.
-    (
+    (λ c. (
       simp length-set c.loop-j.invariant.0,
       among_down (turn c.before.before.before.before.before.before.before.before.before.before.before) c.if-j-s.true c.octet-a.ensures.0 c.begins.ensures _ c.first.ensures
           c.if-first-eq-UNTAGGED.true,
@@ -89,8 +87,7 @@ among_spec =
     (λ c. omega (arith, (one c.before.before.before.before.before.before.before).few))  -- add-j
     (λ c.
     fewer_beside (turn c.before.before.before.before.before.before.before.before.before.before.before) c.if-j-s.true c.octet-a.ensures.0)  -- loop-less-2
-    (λ c.
-    (
+    (λ c. (
       simp length-set c.loop-j.invariant.0,
       among_next (turn c.before.before.before.before.before.before.before.before.before.before.before) c.if-j-s.true c.octet-a.ensures.0 c.begins.ensures c.if-begins.false _
           c.first.ensures c.if-first-eq-UNTAGGED.false,

@@ -1,7 +1,5 @@
 -- `reader::search::direct` meets its contract. What is found among the parts from the k-th on is what is found among all.
 -- Assumes nothing.
-use borrow.Author.Tests.{not-true, not-false}
-use mathlib.Core.Logic.{⊎_elim}
 use mathlib.Core.Path.{◌≡◌, refl, sym, ◌∙◌}
 use native.Mathlib.Omega.{arith}
 use Prim.Native.Nat.{◌-◌}
@@ -54,18 +52,18 @@ direct_spec =
     (λ c κs. tt)  -- optional-requires
     (λ c.
     sym (c.loop-k.invariant ∙ direct_stop (at-parts (c.before.before.before.before.before.before.before.before.before.before.before.before)) _ c.loop-k-test.true _ (elim c.if-came-k-eq0.branch [
-      lts.then-came-k-eq0+else-begins x ↦ other_code (at-parts (c.before.before.before.before.before.before.before.before.before.before.before.before)) _ c.loop-k-test.true _ x.octet-t.result x.begins.result x.octet-t.ensures.0 x.begins.ensures x.if-begins.false |
-      lts.else-came-k-eq0 x ↦ other_come (at-parts (c.before.before.before.before.before.before.before.before.before.before.before.before)) _ c.loop-k-test.true _ x.if-came-k-eq0.false
+      | lts.then-came-k-eq0+else-begins x ↦ other_code (at-parts (c.before.before.before.before.before.before.before.before.before.before.before.before)) _ c.loop-k-test.true _ x.octet-t.result x.begins.result x.octet-t.ensures.0 x.begins.ensures x.if-begins.false
+      | lts.else-came-k-eq0 x ↦ other_come (at-parts (c.before.before.before.before.before.before.before.before.before.before.before.before)) _ c.loop-k-test.true _ x.if-came-k-eq0.false
     ]) c.if-e-eq-SEQUENCE.true _ c.optional.ensures c.if-not-optional.true))  -- returns-2
     (λ c.
     omega (arith, few (at-parts c.before.before.before.before.before.before.before.before.before.before), c.loop-k-test.true))  -- add-k
     (λ c. omega (arith, c.loop-k-test.true))  -- loop-less
     (λ c.
     c.loop-k.invariant ∙ direct_skip (at-parts (c.before.before.before.before.before.before.before.before.before.before)) _ c.loop-k-test.true _ (elim c.if-came-k-eq0.branch [
-      lts.then-came-k-eq0+else-begins x ↦ other_code (at-parts (c.before.before.before.before.before.before.before.before.before.before)) _ c.loop-k-test.true _ x.octet-t.result x.begins.result x.octet-t.ensures.0 x.begins.ensures x.if-begins.false |
-      lts.else-came-k-eq0 x ↦ other_come (at-parts (c.before.before.before.before.before.before.before.before.before.before)) _ c.loop-k-test.true _ x.if-came-k-eq0.false
+      | lts.then-came-k-eq0+else-begins x ↦ other_code (at-parts (c.before.before.before.before.before.before.before.before.before.before)) _ c.loop-k-test.true _ x.octet-t.result x.begins.result x.octet-t.ensures.0 x.begins.ensures x.if-begins.false
+      | lts.else-came-k-eq0 x ↦ other_come (at-parts (c.before.before.before.before.before.before.before.before.before.before)) _ c.loop-k-test.true _ x.if-came-k-eq0.false
     ]) (elim c.if-e-eq-SEQUENCE.branch [
-      lts.then-e-eq-SEQUENCE+else-not-optional x ↦ may_optional (at-parts (c.before.before.before.before.before.before.before.before.before.before)) _ c.loop-k-test.true x.if-e-eq-SEQUENCE.true x.optional.result x.optional.ensures x.if-not-optional.false |
-      lts.else-e-eq-SEQUENCE x ↦ may_other (at-parts (c.before.before.before.before.before.before.before.before.before.before)) _ c.loop-k-test.true x.if-e-eq-SEQUENCE.false
+      | lts.then-e-eq-SEQUENCE+else-not-optional x ↦ may_optional (at-parts (c.before.before.before.before.before.before.before.before.before.before)) _ c.loop-k-test.true x.if-e-eq-SEQUENCE.true x.optional.result x.optional.ensures x.if-not-optional.false
+      | lts.else-e-eq-SEQUENCE x ↦ may_other (at-parts (c.before.before.before.before.before.before.before.before.before.before)) _ c.loop-k-test.true x.if-e-eq-SEQUENCE.false
     ]))  -- loop-again
     (λ c. sym (c.loop-k.invariant ∙ direct_end (at-parts c.before.before.before) _ _ c.loop-k-test.false)))  -- returns-3

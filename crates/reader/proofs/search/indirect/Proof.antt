@@ -1,9 +1,9 @@
 -- `reader::search::indirect` meets its contract. What is found among the parts from the k-th on is what is found among all.
 -- Assumes nothing.
 use borrow.Author.Rules.{rules}
-use borrow.Author.Tests.{not-true, not-false, eq-eqb, ne_eqb}
+use borrow.Author.Tests.{eq-eqb, ne_eqb}
 use lib.ListN.{length}
-use mathlib.Core.Logic.{⊎_elim, inl, inr}
+use mathlib.Core.Logic.{inl, inr}
 use mathlib.Core.Path.{◌≡◌, refl, ap, ◌∙◌}
 use native.Mathlib.Omega.{arith}
 use Prim.Native.Nat.{◌-◌}
@@ -81,8 +81,7 @@ indirect_spec =
     ))  -- seek-requires
     (λ c. search rules)  -- enum_told
     (λ c. search rules)  -- enum-known-record
-    (λ c.
-    (
+    (λ c. (
       c.seek.ensures.0,
       indirect_part (at-parts c.before.before.before.before.before.before.before.before.before.before.before) _ _ _ (at-candidate c.before.before.before) _ _ c.seek.ensures.1 _ _ _ _
           c.loop-k.invariant.1 c.if-came-k-eq0.true c.in-At.is,
@@ -103,8 +102,7 @@ indirect_spec =
     (λ c κs.
     let q = c.requires in
     (_, q.0, q.1))  -- unawaited-requires
-    (λ c.
-    (
+    (λ c. (
       c.seek.ensures.0,
       indirect_none (at-parts c.before.before.before.before.before.before.before.before.before.before.before.before.before.before.before.before.before.before) _ _ _ _ (c.loop-k.invariant.1 ∙ indirect_stop (at-parts c.before.before.before.before.before.before.before.before.before.before.before.before.before.before.before.before.before.before) _ _ _ (at-candidate c.before.before.before.before.before.before.before.before.before.before) _ _
           c.seek.ensures.1 c.if-came-k-eq0.true c.in-Nothing.is c.if-e-eq-SEQUENCE.true _ c.optional.ensures
@@ -116,20 +114,20 @@ indirect_spec =
     (λ c.
     let l = c.loop-k in
     elim c.if-came-k-eq0.branch [
-      lts.then-came-k-eq0+in-Nothing+then-e-eq-SEQUENCE+else-not-optional x ↦ (
+      | lts.then-came-k-eq0+in-Nothing+then-e-eq-SEQUENCE+else-not-optional x ↦ (
         ap length x.way'-is ∙ x.seek.ensures.0,
         l.invariant.1 ∙ indirect_optional (at-parts c.before.before.before.before.before.before.before) _ _ x.if-whole-2.t
             (candidate (at-parts c.before.before.before.before.before.before.before) _ _ x.if-whole-2.t (at_count c.before.before.before.before.before) c.loop-k-test.true (elim x.if-whole-2.branch [ lts.then-whole-2 y ↦ inl (eq-eqb _ _ y.if-whole-2.true, y.t-is) | lts.else-whole-2 y ↦ inr (ne_eqb _ _ y.if-whole-2.false, y.t-is ∙ y.octet-t.ensures.0) ]))
             _ x.seek.result x.seek.ensures.1 x.if-came-k-eq0.true x.in-Nothing.is x.if-e-eq-SEQUENCE.true
             x.optional.result x.optional.ensures x.if-not-optional.false,
-      ) |
-      lts.then-came-k-eq0+in-Nothing+else-e-eq-SEQUENCE x ↦ (
+      )
+      | lts.then-came-k-eq0+in-Nothing+else-e-eq-SEQUENCE x ↦ (
         ap length x.way'-is ∙ x.seek.ensures.0,
         l.invariant.1 ∙ indirect_other (at-parts c.before.before.before.before.before.before.before) _ _ x.if-whole-2.t
             (candidate (at-parts c.before.before.before.before.before.before.before) _ _ x.if-whole-2.t (at_count c.before.before.before.before.before) c.loop-k-test.true (elim x.if-whole-2.branch [ lts.then-whole-2 y ↦ inl (eq-eqb _ _ y.if-whole-2.true, y.t-is) | lts.else-whole-2 y ↦ inr (ne_eqb _ _ y.if-whole-2.false, y.t-is ∙ y.octet-t.ensures.0) ]))
             _ x.seek.result x.seek.ensures.1 x.if-came-k-eq0.true x.in-Nothing.is x.if-e-eq-SEQUENCE.false,
-      ) |
-      lts.else-came-k-eq0 x ↦ (
+      )
+      | lts.else-came-k-eq0 x ↦ (
         ap length x.way'-is ∙ l.invariant.0,
         l.invariant.1 ∙ indirect_come (at-parts c.before.before.before.before.before.before.before) _ _ _ (at_count c.before.before.before.before.before) c.loop-k-test.true x.if-came-k-eq0.false,
       )

@@ -4,7 +4,7 @@ use borrow.Author.Rules.{rules}
 use mathlib.Core.Path.{◌≡◌}
 use Rattle.reader.specs.Items.{manner, since}
 use Rattle.reader.specs.Sought.{held}
-use mathlib.Core.Logic.{⊎_elim, inl, inr}
+use mathlib.Core.Logic.{inl, inr}
 use native.Mathlib.Omega.{arith}
 use Rattle.reader.proofs.Searching.{Parted, near, since_is, since_again}
 use Rattle.reader.proofs.Finding.{sought_unread, code_small, sought_direct, sought_indirect}
@@ -50,8 +50,7 @@ search_spec =
           c.if-place-s.true,
     ))  -- add-octet
     (λ c κs. tt)  -- octet-requires
-    (λ c.
-    (
+    (λ c. (
       c.requires.1,
       rw (← (at-since c.before.before.before.before.before.before.before.before)) (sought_direct (at-parts c.before.before.before.before.before.before.before.before.before.before) _ (λ n. omega (arith, c.shared_slice_known-2-1.given n)) _
           c.read.ensures _ _ _ _ c.in-Read.is _ c.direct-place.ensures c.if-place-s.true _ c.octet-record.ensures.0),
@@ -65,14 +64,12 @@ search_spec =
           c.if-e-eq-SEQUENCE.i a.way.now _ _ c.in-Read.is,
       q.1,
     ))  -- indirect-requires
-    (λ c.
-    (
+    (λ c. (
       c.requires.1,
       rw (← (at-since c.before.before.before)) (sought_unread (at-parts c.before.before.before.before.before) _ (λ n. omega (arith, c.shared_slice_known-2-1.given n)) _
           c.read.ensures _ _ _ c.in-Refused.is _ c.unawaited.ensures),
     ))  -- returns-2
-    (λ c.
-    (
+    (λ c. (
       c.indirect.ensures.0,
       rw (← (at-since c.before.before.before.before.before.before.before)) (sought_indirect (at-parts c.before.before.before.before.before.before.before.before.before) c.args.m.now (λ n. omega (
         arith,

@@ -1,6 +1,5 @@
 -- `reader::search::unawaited` meets its contract.
 -- Assumes nothing.
-use borrow.Author.Tests.{not-true, not-false}
 use mathlib.Core.Path.{sym, ap}
 use Rattle.x690.specs.declared.ReadingCause.{ReadingCause}
 use Rattle.reader.specs.declared.search.Found.TheVariants.{Refused}

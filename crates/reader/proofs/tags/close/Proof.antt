@@ -4,7 +4,7 @@ use borrow.Author.Rules.{rules}
 use lib.Seq.{length-take-le}
 use mathlib.Core.Path.{refl, sym}
 use native.Mathlib.Omega.{arith}
-use Prim.Native.Nat.{◌-◌, ◌≤◌}
+use Prim.Native.Nat.{◌≤◌}
 use Rattle.reader.proofs.Wrapping.{Closing, close_none, close_end, close_near, close_more, close_broken, close_turn, close_done}
 use Rattle.reader.proofs.tags.close.Statement.{statement}
 use Rattle.reader.proofs.tags.close.Tie as tie

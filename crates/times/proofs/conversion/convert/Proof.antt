@@ -1,8 +1,7 @@
 -- `times::conversion::convert` meets its contract: the version, then the node, then its counterpart, then the room.
 -- Assumes nothing.
-use mathlib.Core.Path.{refl, ap, ◌∙◌}
+use mathlib.Core.Path.{refl}
 use borrow.Author.Rules.{rules}
-use borrow.Author.Tests.{not-true, not-false}
 use Rattle.coding.proofs.Conversion.{version_refused, node_refused, time_refused, counterpart_put, outcome_is}
 use Rattle.times.proofs.conversion.convert.Statement.{statement}
 use Rattle.times.proofs.conversion.convert.Tie as tie

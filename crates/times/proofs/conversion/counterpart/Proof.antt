@@ -2,7 +2,6 @@
 -- Assumes nothing.
 use mathlib.Core.Path.{ap}
 use borrow.Author.Rules.{rules}
-use borrow.Author.Tests.{not-true, not-false}
 use Rattle.coding.specs.Conversion.{counterpart}
 use Rattle.coding.specs.declared.Given.TheVariants.{Time}
 use Rattle.times.proofs.conversion.counterpart.Statement.{statement}

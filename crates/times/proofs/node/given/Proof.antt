@@ -7,7 +7,7 @@ use lib.ListN.{length, get_or, drop, length-drop}
 use lib.Seq.{take_all}
 use native.Mathlib.Omega.{arith}
 use borrow.Author.Rules.{rules}
-use borrow.Author.Tests.{not-true, not-false, eq-eqb, ne_eqb}
+use borrow.Author.Tests.{eq-eqb, ne_eqb}
 use Rattle.dates.specs.Own.{time_at}
 use Rattle.coding.specs.Value.{time_number}
 use Rattle.coding.specs.declared.Given.TheVariants.{Time}

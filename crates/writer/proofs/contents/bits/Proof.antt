@@ -2,7 +2,6 @@
 -- Assumes nothing.
 use mathlib.Core.Path.{refl}
 use native.Mathlib.Omega.{arith}
-use borrow.Author.Tests.{not-true, not-false}
 use Rattle.writer.proofs.Leaves.{bits_short, bits_cut, bits_unclear, bits_measured}
 use borrow.Author.Rules.{rules}
 use Rattle.writer.proofs.contents.bits.Statement.{statement}

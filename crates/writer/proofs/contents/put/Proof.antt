@@ -1,6 +1,5 @@
 -- `writer::contents::put` meets its contract.
 -- Assumes nothing.
-use mathlib.Core.Logic.{⊎_elim}
 use mathlib.Core.Path.{refl, sym, ap, ◌∙◌}
 use native.Mathlib.Omega.{arith}
 use lib.ListN.{length, set, length-set}
@@ -31,8 +30,8 @@ put_spec =
     let a = c.args in (
       boolean_end_lem a.kind a.v.now a.p c.requires.2 c.if-kind-eq-BOOLEAN.true,
       elim c.if-v-p-eq1.branch [
-        lts.then-v-p-eq1 w ↦ rw (encode_true a.kind a.v.now a.p c.requires.2 c.if-kind-eq-BOOLEAN.true w.if-v-p-eq1.true) (ap (set a.buf.now a.to) w.buf-is) |
-        lts.else-v-p-eq1 w ↦ rw (encode_false a.kind a.v.now a.p c.requires.2 c.if-kind-eq-BOOLEAN.true w.if-v-p-eq1.false) (ap (set a.buf.now a.to) w.buf-is)
+        | lts.then-v-p-eq1 w ↦ rw (encode_true a.kind a.v.now a.p c.requires.2 c.if-kind-eq-BOOLEAN.true w.if-v-p-eq1.true) (ap (set a.buf.now a.to) w.buf-is)
+        | lts.else-v-p-eq1 w ↦ rw (encode_false a.kind a.v.now a.p c.requires.2 c.if-kind-eq-BOOLEAN.true w.if-v-p-eq1.false) (ap (set a.buf.now a.to) w.buf-is)
       ],
     ))  -- returns
     (λ c κs.

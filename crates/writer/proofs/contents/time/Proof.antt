@@ -1,7 +1,6 @@
 -- `writer::contents::time` meets its contract.
 -- Assumes nothing.
 use mathlib.Core.Path.{refl}
-use borrow.Author.Tests.{not-true, not-false}
 use Rattle.writer.proofs.Leaves.{time_short, time_outside, time_measured}
 use borrow.Author.Rules.{rules}
 use Rattle.writer.proofs.contents.time.Statement.{statement}

@@ -1,6 +1,5 @@
 -- The judge of what stands in a node: one law for each way through it, by the levels that are left.
 -- Assumes nothing.
-use mathlib.Core.Logic.{⊎_elim}
 use mathlib.Core.Path.{refl, sym, ◌∙◌}
 use native.Mathlib.Omega.{arith}
 use Prim.Native.Nat.{ℕ, ◌+◌, ◌-◌, ◌*◌, ◌≤◌, ◌<◌}
@@ -150,10 +149,10 @@ at-said : (t : ℕ) (c : judge_members_lts.Joined-is_simple (judge-members-claim
 at-said t c =
     let m = at-member t c.before.before.before.before.before.before.before.before in
     elim c.if-is_simple.branch [
-      judge_members_lts.then-is_simple w ↦
+      | judge_members_lts.then-is_simple w ↦
           leaf_said m c.unpack-r.result c.unpack-r.ensures (c.marked.ensures.yes c.if-not-marked.false) _ _ _ _ c.is_simple.ensures w.if-is_simple.true
-              w.judge_leaf-judged.ensures w.notes-is w.judged-is |
-      judge_members_lts.else-is_simple w ↦ built_said m _ _ _ _ w.judge_built-judged.ensures w.notes-is w.judged-is
+          w.judge_leaf-judged.ensures w.notes-is w.judged-is
+      | judge_members_lts.else-is_simple w ↦ built_said m _ _ _ _ w.judge_built-judged.ensures w.notes-is w.judged-is
     ]
 
 pub +judge_built_judge_members_spec : {M : Type 1} → statement M

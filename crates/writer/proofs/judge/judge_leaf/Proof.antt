@@ -1,6 +1,5 @@
 -- `writer::judge::judge_leaf` meets its contract.
 -- Assumes nothing.
-use borrow.Author.Tests.{not-true, not-false}
 use Rattle.writer.proofs.Simple.{leaf_shape, leaf_level, leaf_ill, leaf_done}
 use borrow.Author.Rules.{rules}
 use Rattle.writer.proofs.judge.judge_leaf.Statement.{statement}

@@ -2,7 +2,6 @@
 -- Assumes nothing.
 use mathlib.Core.Path.{sym, ◌∙◌}
 use native.Mathlib.Omega.{arith}
-use borrow.Author.Tests.{not-true, not-false}
 use Rattle.writer.proofs.Alone.{lone_long, lone_unmarked, lone_leaf, lone_members, lone_list, lone_none}
 use borrow.Author.Rules.{rules}
 use Rattle.writer.proofs.lone.is_lone.Statement.{statement}

@@ -1,10 +1,8 @@
 -- `writer::node::is_complete` meets its contract.
 -- Assumes nothing.
-use mathlib.Core.Logic.{⊎_elim}
 use mathlib.Core.Path.{◌≡◌, refl}
 use native.Mathlib.Omega.{arith}
 use Prim.Native.Nat.{◌+◌, ◌*◌, ◌≤◌}
-use borrow.Author.Tests.{not-true, not-false}
 use Rattle.table.specs.Reading.{members_at, every_at}
 use Rattle.coding.specs.Judging.{flags, agreeing}
 use Rattle.writer.proofs.Agreement.{complete_ends, complete_present, complete_stops, complete_optional}
@@ -46,9 +44,9 @@ is_complete_spec =
         c.loop-left.invariant.2,
       ),
       elim c.if-v-mark-ne1.branch [
-        lts.then-v-mark-ne1+else-not-optional w ↦ complete_optional a.table.now c.loop-left.at c.loop-left.left a.v.now c.loop-left.mark _
-            c.loop-left.invariant.3 c.loop-left-test.true w.if-v-mark-ne1.true _ w.optional.ensures w.if-not-optional.false |
-        lts.else-v-mark-ne1 w ↦ complete_present a.table.now c.loop-left.at c.loop-left.left a.v.now c.loop-left.mark _
+        | lts.then-v-mark-ne1+else-not-optional w ↦ complete_optional a.table.now c.loop-left.at c.loop-left.left a.v.now c.loop-left.mark _
+            c.loop-left.invariant.3 c.loop-left-test.true w.if-v-mark-ne1.true _ w.optional.ensures w.if-not-optional.false
+        | lts.else-v-mark-ne1 w ↦ complete_present a.table.now c.loop-left.at c.loop-left.left a.v.now c.loop-left.mark _
             c.loop-left.invariant.3 c.loop-left-test.true w.if-v-mark-ne1.false
       ],
     ))  -- loop-again

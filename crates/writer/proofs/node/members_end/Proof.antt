@@ -1,6 +1,5 @@
 -- `writer::node::members_end` meets its contract.
 -- Assumes nothing.
-use borrow.Author.Tests.{not-true, not-false}
 use Rattle.writer.proofs.Nodes.{members_shaped, members_shapeless}
 use borrow.Author.Rules.{rules}
 use Rattle.writer.proofs.node.members_end.Statement.{statement}
