@@ -4,9 +4,6 @@ use native.Mathlib.Omega.{arith}
 use borrow.Author.Rules.{rules}
 use Rattle.link.proofs.pack.Statement.{statement}
 use Rattle.link.proofs.pack.Tie as tie
-use Rattle.link.proofs.pack.Reads as reads
-use Rattle.link.proofs.pack.Lts as lts
-use Rattle.link.proofs.join.Reads as join_reads
 
 pub pack_spec : {M : Type 1} → statement M
 pack_spec =

@@ -1,6 +1,6 @@
 -- `cases::line::line_of`: the line of each answer, and the buffers are long enough.
 -- Assumes nothing.
-use Rattle.std.proofs.Common.{rules, arith, length}
+use Rattle.std.proofs.Common.{rules, arith}
 use lib.ListN.{length-take}
 use lib.Seq.{take_all}
 use Rattle.cases.specs.Output.{output_line}
