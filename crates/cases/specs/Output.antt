@@ -9,7 +9,7 @@ use Rattle.coding.specs.Calls.{check_answer, whole_write, whole_read}
 use Rattle.table.specs.Verdict.{verdict}
 
 -- FORMATS, "The program of cases": the digits of a number, ones last and no zero in front; zero has none. The first argument bounds how many are looked for.
--- `glyph` is the octet of a digit: `0` to `9`, then `a` to `f`.
+-- `hex_digit_ascii` is the octet of a digit: `0` to `9`, then `a` to `f`.
 unfoldable pub figures : ℕ → ℕ → List ℕ
 figures zero n = []
 figures (suc k) zero = []
