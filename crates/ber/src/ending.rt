@@ -5,52 +5,37 @@ ghost use Rattle.ber.specs.Told.{end_of};
 
 use x690::ReadingCause;
 
-// An item follows; or the contents are over, and what stands behind them begins at `end`; or neither.
-#[derive(Clone, Copy)]
-pub enum End {
-    More,
-    Over { end: usize },
-    Broken { cause: ReadingCause },
-}
-
-// Whether contents that 00 00 closes are over at a place of m.
-fn indefinite_end(m: &[u8], at: usize) -> End
+// Where contents are over that 00 00 closes, if they are at a place of m; none if an item follows.
+fn indefinite_end(m: &[u8], at: usize) -> Result<Option<usize>, ReadingCause>
     ensures { result ≡ end_of true (length m.now) (drop at m.now) }
 {
     if m.len() <= at {
-        return End::Broken {
-            cause: ReadingCause::Cut,
-        };
+        return Err(ReadingCause::Cut);
     }
     if m[at] != 0 {
-        return End::More;
+        return Ok(None);
     }
     let second = at + 1;
     if m.len() <= second {
-        return End::Broken {
-            cause: ReadingCause::Cut,
-        };
+        return Err(ReadingCause::Cut);
     }
     if m[second] != 0 {
-        return End::Broken {
-            cause: ReadingCause::Forbidden,
-        };
+        return Err(ReadingCause::Forbidden);
     }
-    let end = at + 2;
-    End::Over { end }
+    Ok(Some(at + 2))
 }
 
-// Whether contents are over at a place of m; 00 00 closes them if `indefinite`.
-pub fn read(m: &[u8], at: usize, indefinite: bool) -> End
+// Where what stands after contents begins, if they are over at a place of m; none if an item follows. 00 00 closes them if `indefinite`.
+pub fn read(m: &[u8], at: usize, indefinite: bool) -> Result<Option<usize>, ReadingCause>
     ensures { result ≡ end_of indefinite (length m.now) (drop at m.now) }
 {
     if indefinite {
         return indefinite_end(m, at);
     }
     if m.len() <= at {
-        return End::Over { end: m.len() };
+        return Ok(Some(m.len()));
     }
-    End::More
+    Ok(None)
 }
 
 // Whether contents that were read before are over at a place of m, to which they were read.

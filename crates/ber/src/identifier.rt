@@ -8,11 +8,11 @@ ghost use Rattle.ber.specs.Told.{told_identifier};
 use octets::holds;
 use x690::ReadingCause;
 
-// A code, and where the octets end; or why there is none.
-#[derive(Clone, Copy)]
-pub enum Identifier {
-    Read { code: u32, end: usize },
-    Refused { cause: ReadingCause },
+// Identifier octets that were read: their code, and where they end.
+#[derive(Clone, Copy, Debug, PartialEq, Eq)]
+pub struct Identifier {
+    pub code: u32,
+    pub end: usize,
 }
 
 // The code of a tag, primitive or constructed.
@@ -39,50 +39,42 @@ fn follow(n: u32, d: u32) -> u32
     if 65536 < k { 65536 } else { k }
 }
 
-// The long form, behind its leading octet.
-fn read_long(m: &[u8], lead: u32) -> Identifier
+// The long form, after its leading octet.
+fn read_long(m: &[u8], lead: u32) -> Result<Identifier, ReadingCause>
     requires { (0 < length m.now) × (lead ≡ get_or m.now 0 0) × (31 ≤ lead % 32) }
     ensures { result ≡ told_identifier (length m.now) (read_identifier m.now) }
 {
     let mut n: u32 = 0;
-    let mut i: usize = 1;
-    while i < m.len() {
+    for i in 1..m.len() {
         let d = m[i] as u32;
         n = follow(n, d);
-        i += 1;
         if d < 128 {
             let f = m[1];
             if f == 128 {
-                return Identifier::Refused {
-                    cause: ReadingCause::Forbidden,
-                };
+                return Err(ReadingCause::Forbidden);
             }
             if f < 31 {
-                return Identifier::Refused {
-                    cause: ReadingCause::Forbidden,
-                };
+                return Err(ReadingCause::Forbidden);
             }
-            let code = lead + 256 * n;
-            return Identifier::Read { code, end: i };
+            return Ok(Identifier {
+                code: lead + 256 * n,
+                end: i + 1,
+            });
         }
     }
-    Identifier::Refused {
-        cause: ReadingCause::Cut,
-    }
+    Err(ReadingCause::Cut)
 }
 
 // The identifier that m begins with.
-pub fn read(m: &[u8]) -> Identifier
+pub fn read(m: &[u8]) -> Result<Identifier, ReadingCause>
     ensures { result ≡ told_identifier (length m.now) (read_identifier m.now) }
 {
     if m.len() == 0 {
-        return Identifier::Refused {
-            cause: ReadingCause::Cut,
-        };
+        return Err(ReadingCause::Cut);
     }
     let lead = m[0] as u32;
     if lead % 32 < 31 {
-        return Identifier::Read { code: lead, end: 1 };
+        return Ok(Identifier { code: lead, end: 1 });
     }
     read_long(m, lead)
 }

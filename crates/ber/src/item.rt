@@ -3,11 +3,20 @@ ghost use Rattle.std.specs.Prelude.{◌≡◌, ◌++◌, ◌≤◌, length};
 ghost use Rattle.octets.specs.Buffers.{put, put_end};
 ghost use Rattle.ber.specs.Codes.{code_octets};
 ghost use Rattle.x690.specs.Length.{length_octets};
-ghost use Rattle.ber.specs.Skipping.{open_end, item_end};
+ghost use Rattle.ber.specs.Told.{told_length};
+ghost use Rattle.ber.specs.Skipping.{headed, open_end, item_end};
 
-use crate::identifier::Identifier;
-use crate::length::Length;
+use crate::length::Extent;
 use crate::{identifier, length};
+use x690::ReadingCause;
+
+// The extent of the item that m begins with, whichever it is.
+fn extent(m: &[u8]) -> Result<Extent, ReadingCause>
+    ensures { result ≡ told_length (length m.now) (headed m.now) }
+{
+    let i = identifier::read(m)?;
+    length::read(m, i.end)
+}
 
 // Where indefinite contents end that begin at a place of m. Those that no reader accepts go to the end of m.
 fn open_end(m: &[u8], start: usize) -> usize
@@ -26,19 +35,14 @@ fn open_end(m: &[u8], start: usize) -> usize
             open -= 1;
         } else {
             let rest = &m[at..];
-            match identifier::read(rest) {
-                Identifier::Refused { cause: _ } => return m.len(),
-                Identifier::Read { code: _, end } => match length::read(rest, end) {
-                    Length::Refused { cause: _ } => return m.len(),
-                    Length::Read(x) => {
-                        if x.indefinite {
-                            at += x.start;
-                            open += 1;
-                        } else {
-                            at += x.end;
-                        }
-                    }
-                },
+            let Ok(x) = extent(rest) else {
+                return m.len();
+            };
+            if x.indefinite {
+                at += x.start;
+                open += 1;
+            } else {
+                at += x.end;
             }
         }
     }
@@ -49,15 +53,13 @@ fn open_end(m: &[u8], start: usize) -> usize
 pub fn end(m: &[u8], from: usize) -> usize
     ensures { result ≡ item_end m.now from }
 {
-    match length::read(m, from) {
-        Length::Refused { cause: _ } => m.len(),
-        Length::Read(x) => {
-            if x.indefinite {
-                return open_end(m, x.start);
-            }
-            x.end
-        }
+    let Ok(x) = length::read(m, from) else {
+        return m.len();
+    };
+    if x.indefinite {
+        return open_end(m, x.start);
     }
+    x.end
 }
 
 // How many octets stand before n contents octets in the definite item of a code.

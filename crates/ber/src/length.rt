@@ -6,7 +6,6 @@ ghost use Rattle.x690.specs.Length.{longest_field, length_octets};
 ghost use Rattle.x690.specs.Reading.{read_length};
 ghost use Rattle.ber.specs.Told.{told_length, again_at};
 ghost use Rattle.ber.specs.declared.length.Extent.{Extent};
-ghost use Rattle.ber.specs.declared.length.Length.TheVariants.{Read as ReadLength};
 
 use octets::holds;
 use x690::ReadingCause;
@@ -15,44 +14,31 @@ use x690::ReadingCause;
 const LONGEST_FIELD: usize = 4;
 
 // Where the contents begin and end, and whether 00 00 closes them; then their end is that of m.
-#[derive(Clone, Copy)]
+#[derive(Clone, Copy, Debug, PartialEq, Eq)]
 pub struct Extent {
     pub start: usize,
     pub end: usize,
     pub indefinite: bool,
 }
 
-#[derive(Clone, Copy)]
-pub enum Length {
-    Read(Extent),
-    Refused { cause: ReadingCause },
-}
-
 // The long form with k octets from `at` on, which count less than 2^32.
-fn read_long(m: &[u8], at: usize, k: usize) -> Length
+fn read_long(m: &[u8], at: usize, k: usize) -> Result<Extent, ReadingCause>
     requires { (0 < at) × (at ≤ length m.now) × (0 < k) × (k ≤ longest_field) × (get_or m.now (at - 1) 0 ≡ 128 + k) }
     ensures { (l : ℕ) → result ≡ told_length (length m.now) (read_length l (drop (at - 1) m.now)) }
 {
     let start = at + k;
     if m.len() < start {
-        return Length::Refused {
-            cause: ReadingCause::Cut,
-        };
+        return Err(ReadingCause::Cut);
     }
     let mut n: usize = 0;
-    let mut p = at;
-    while p < start {
-        let d = m[p] as usize;
-        n = n * 256 + d;
-        p += 1;
+    for p in at..start {
+        n = n * 256 + m[p] as usize;
     }
     let end = start + n;
     if m.len() < end {
-        return Length::Refused {
-            cause: ReadingCause::Cut,
-        };
+        return Err(ReadingCause::Cut);
     }
-    Length::Read(Extent {
+    Ok(Extent {
         start,
         end,
         indefinite: false,
@@ -60,12 +46,12 @@ fn read_long(m: &[u8], at: usize, k: usize) -> Length
 }
 
 // The forms but the short one: `first` is the first octet, and the next is at `at`.
-fn read_other(m: &[u8], at: usize, first: usize) -> Length
+fn read_other(m: &[u8], at: usize, first: usize) -> Result<Extent, ReadingCause>
     requires { (0 < at) × (at ≤ length m.now) × (first ≡ get_or m.now (at - 1) 0) × (128 ≤ first) × (first < 256) }
     ensures { (l : ℕ) → result ≡ told_length (length m.now) (read_length l (drop (at - 1) m.now)) }
 {
     if first == 128 {
-        return Length::Read(Extent {
+        return Ok(Extent {
             start: at,
             end: m.len(),
             indefinite: true,
@@ -76,37 +62,29 @@ fn read_other(m: &[u8], at: usize, first: usize) -> Length
         return read_long(m, at, k);
     }
     if first < 255 {
-        return Length::Refused {
-            cause: ReadingCause::LengthField,
-        };
+        return Err(ReadingCause::LengthField);
     }
-    Length::Refused {
-        cause: ReadingCause::Forbidden,
-    }
+    Err(ReadingCause::Forbidden)
 }
 
 // The length octets at a place of m. Of a length that is read at most four octets stand between the first one and the contents, and a
 // definite one is below 2^32 (FORMATS, "Messages").
-pub fn read(m: &[u8], at: usize) -> Length
+pub fn read(m: &[u8], at: usize) -> Result<Extent, ReadingCause>
     ensures { ((l : ℕ) → result ≡ told_length (length m.now) (read_length l (drop at m.now)))
-        × ((x : Extent) → result ≡ ReadLength x → x.start ≤ at + 1 + longest_field)
-        × ((x : Extent) → result ≡ ReadLength x → x.indefinite ≡ false → x.end - x.start < 2 ^ 32) }
+        × ((x : Extent) → result ≡ Ok x → x.start ≤ at + 1 + longest_field)
+        × ((x : Extent) → result ≡ Ok x → x.indefinite ≡ false → x.end - x.start < 2 ^ 32) }
 {
     if m.len() <= at {
-        return Length::Refused {
-            cause: ReadingCause::Cut,
-        };
+        return Err(ReadingCause::Cut);
     }
     let first = m[at] as usize;
     let start = at + 1;
     if first < 128 {
         let end = start + first;
         if m.len() < end {
-            return Length::Refused {
-                cause: ReadingCause::Cut,
-            };
+            return Err(ReadingCause::Cut);
         }
-        return Length::Read(Extent {
+        return Ok(Extent {
             start,
             end,
             indefinite: false,
@@ -136,10 +114,7 @@ pub fn again(m: &[u8], at: usize) -> Extent
             indefinite: false,
         };
     }
-    match read_other(m, start, first) {
-        Length::Read(x) => x,
-        Length::Refused { cause: _ } => none,
-    }
+    read_other(m, start, first).unwrap_or(none)
 }
 
 // How many octets the length n has.

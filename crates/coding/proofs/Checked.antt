@@ -9,9 +9,7 @@ use Rattle.octets.specs.Numbers.{Octets}
 use Rattle.table.specs.Syntax.{Table}
 use Rattle.table.specs.Reading.{table_in, count_in}
 use Rattle.table.specs.Passes.{Passes}
-use Rattle.table.specs.Verdict.{verdict}
-use Rattle.table.specs.declared.Verdict.{Verdict}
-use Rattle.table.specs.declared.Verdict.TheVariants.{Passed, Refused}
+use Rattle.table.specs.Verdict.{verdict, Verdict, no_flaw, flawed}
 use Rattle.table.proofs.Theorems.{passes}
 use Rattle.table.proofs.Promises.{passed_short}
 use Rattle.coding.specs.Outcome.{Outcome, Told, refusal, table_cause, of_table}
@@ -23,14 +21,14 @@ Says x r buf = (r ≡ x.answer) × (buf ≡ x.buffer)
 
 module _ (b : List ℕ) (x : Verdict) (is : x ≡ verdict b) where
   -- the table is refused
-  pub out_table : (buf : List ℕ) (f : Table → ℕ → Outcome) (k : CheckCause) (p : ℕ) → x ≡ Refused k p
+  pub out_table : (buf : List ℕ) (f : Table → ℕ → Outcome) (k : CheckCause) (p : ℕ) → x ≡ flawed k p
       → Says (after_check b buf f (verdict b)) (refusal (of_table (table_cause k p))) buf
   unfolding after_check
-  out_table buf f k p e = let q : verdict b ≡ Refused k p = sym is ∙ e in (rw q, rw q)
+  out_table buf f k p e = let q : verdict b ≡ flawed k p = sym is ∙ e in (rw q, rw q)
 
   -- or passes: what the check fills counts its records, and what follows is by these
-  module _ (e : x ≡ Passed) where
-    passed : verdict b ≡ Passed
+  module _ (e : x ≡ no_flaw) where
+    passed : verdict b ≡ no_flaw
     passed = sym is ∙ e
 
     module _ {Filled : Type 0} (n : ℕ) (fill : length b ≤ 8192 → Filled) (count : Filled → n ≡ count_in b) where

@@ -1,5 +1,6 @@
 -- Conversions of times: what is done and what is refused, exactly; and what was converted is converted back to what it was.
 -- Assumes nothing.
+use Rattle.std.specs.Prelude.{Ok, Err}
 use mathlib.Core.Bool.{Bool, true, false, false≢true}
 use mathlib.Core.List.{List, [], ◌∷◌, ◌++◌}
 use mathlib.Core.Logic.{◌↔◌}
@@ -21,12 +22,10 @@ use Rattle.dates.specs.Calendar.{leap, february, month_days, years, is_date, is_
 use Rattle.dates.specs.Own.{time_octets, time_at}
 use Rattle.dates.specs.Century.{is_version, first_year, in_window, in_year, to_utc, window_year, to_generalized}
 use Rattle.dates.proofs.Centuries.{Around2000, windows, same_range, forth_and_back, shortens_one}
-use Rattle.coding.specs.declared.Given.{Given}
-use Rattle.coding.specs.declared.Given.TheVariants.{Time, Refused as Wrong}
 use Rattle.coding.specs.Outcome.{Unknown, value_cause, ValueRoom, Refusal, of_table, of_value, of_message, Told, done, refusal, Outcome, refuse, write_at_start}
 use Rattle.coding.specs.Value.{leaf_octets}
 use Rattle.coding.specs.Judging.{need, own_time, read_own, read_node}
-use Rattle.coding.specs.Reckoning.{childless, is_whole, is_lone, given, time_node}
+use Rattle.coding.specs.Reckoning.{childless, is_whole, is_lone, given, time_node, Given}
 use Rattle.coding.specs.Conversion.{other_kind, counterpart, converted, placed, whole_conversion, whole_to_generalized, whole_to_utc, Same, Counterparts, Converts, Refuses, no_version, no_node, no_time, no_room}
 use Rattle.coding.proofs.Reckoning.{accepted, given_stands, stands_given, given_shape, Fault, none_wrong, shape, type, given_fault}
 
@@ -67,30 +66,30 @@ unfolding if then none_left leap february month_days years is_date is_time_of_da
 conversions_right = (refl, refl, refl, refl, refl, refl, refl, refl, refl, refl, refl, refl, refl, refl)
 
 -- a time that is given is one
-one_time : {t u : DateTime} → Time t ≡ Time u → t ≡ u
+one_time : {t u : DateTime} → ◌≡◌ {A = Given} (Ok t) (Ok u) → t ≡ u
 one_time e = cc
 
 -- What a time becomes by a window is the same time, of the other kind and in range; and there is no other.
 
 module _ (f : ℕ) (w : Around2000 f) where
-  pub becomes_same : (k : TimeKind) (t u : DateTime) → in_range k t ≡ true → (counterpart f k t ≡ Time u) ↔ Same f k t u
+  pub becomes_same : (k : TimeKind) (t u : DateTime) → in_range k t ≡ true → (counterpart f k t ≡ Ok u) ↔ Same f k t u
   unfolding counterpart
-  becomes_same Utc t u r = let s = shortens_one f w t u r in (λ e. s.1 (sym (one_time e)), λ h. ap Time (sym (s.0 h)))
+  becomes_same Utc t u r = let s = shortens_one f w t u r in (λ e. s.1 (sym (one_time e)), λ h. ap Ok (sym (s.0 h)))
   becomes_same Generalized t u r = (
     λ e. test (in_window f t.year) (λ i. record { inside = i; digits = sym (one_time (rw i at e)) }) λ i. absurd (false≢true (ap accepted (rw i at e))),
-    λ h. rw h.inside (ap Time (sym h.digits)),
+    λ h. rw h.inside (ap Ok (sym h.digits)),
   )
 
   same_in_range : (k : TimeKind) (t u : DateTime) → in_range k t ≡ true → Same f k t u → in_range (other_kind k) u ≡ true
   same_in_range Utc t u r h = ap (in_range Generalized) ((shortens_one f w t u r).0 h) ∙ (forth_and_back f w t r).2
   same_in_range Generalized t u r h = ap (in_range Utc) h.digits ∙ same_range f w t h.inside ∙ r
 
-outside : (f : ℕ) (k : TimeKind) (t : DateTime) (c : JudgingCause) → counterpart f k t ≡ Wrong c → c ≡ IllTyped
+outside : (f : ℕ) (k : TimeKind) (t : DateTime) (c : JudgingCause) → counterpart f k t ≡ Err c → c ≡ IllTyped
 unfolding counterpart
 outside f Utc t c e = absurd (false≢true (sym (ap accepted e)))
 outside f Generalized t c e =
     test (in_window f t.year) (λ i. absurd (false≢true (sym (ap accepted (rw i at e))))) λ i.
-    let q : Wrong IllTyped ≡ Wrong c = rw i at e in cc
+    let q : ◌≡◌ {A = Given} (Err IllTyped) (Err c) = rw i at e in cc
 
 turned : (f : ℕ) (k : TimeKind) (t u : DateTime) → Same f k t u → Same f (other_kind k) u t
 turned f Utc t u h = h
@@ -100,10 +99,10 @@ twice : (k : TimeKind) → other_kind (other_kind k) ≡ k
 twice Utc = refl
 twice Generalized = refl
 
-one_length : {m n : ℕ} → done m ≡ done n → m ≡ n
+one_length : {m n : ℕ} → ◌≡◌ {A = Told} (done m) (done n) → m ≡ n
 one_length e = cc
 
-one_refusal : {q r : Refusal} → refusal q ≡ refusal r → q ≡ r
+one_refusal : {q r : Refusal} → ◌≡◌ {A = Told} (refusal q) (refusal r) → q ≡ r
 one_refusal e = cc
 
 abbrev finished : Outcome → Bool
@@ -118,30 +117,30 @@ module _ (k : TimeKind) (v : ℕ) (s buf : List ℕ) where
   first = first_year v
 
   -- a counterpart is what the octets are converted to
-  converted_to : {t u : DateTime} → Counterparts k v s t u → converted first k (given k s) ≡ Time u
+  converted_to : {t u : DateTime} → Counterparts k v s t u → converted first k (given k s) ≡ Ok u
   unfolding converted
   converted_to {t} {u} h = rw (stands_given k s t h.stands) ((becomes_same first (windows v) k t u h.stands.ranged).1 h.same)
 
   -- and if they are converted to none, they have none
   data Converted : Given → Type 0 where
-    one : {t u : DateTime} → Counterparts k v s t u → Converted (Time u)
-    not_alone : is_lone s ≡ false → Converted (Wrong ValueShape)
-    none : is_lone s ≡ true → ((t u : DateTime) → Counterparts k v s t u → ⊥) → Converted (Wrong IllTyped)
+    one : {t u : DateTime} → Counterparts k v s t u → Converted (Ok u)
+    not_alone : is_lone s ≡ false → Converted (Err ValueShape)
+    none : is_lone s ≡ true → ((t u : DateTime) → Counterparts k v s t u → ⊥) → Converted (Err IllTyped)
 
   converted_one : AllOctets s → Converted (converted first k (given k s))
   unfolding converted
   converted_one o = judged (given k s) refl (given_fault k s)
     where
-      became : is_lone s ≡ true → {t : DateTime} → given k s ≡ Time t → (g : Given) → counterpart first k t ≡ g → Converted g
-      became l {t} e (Time u) q =
+      became : is_lone s ≡ true → {t : DateTime} → given k s ≡ Ok t → (g : Given) → counterpart first k t ≡ g → Converted g
+      became l {t} e (Ok u) q =
           let h = given_stands k s o t e in
           one (record { stands = h; same = (becomes_same first (windows v) k t u h.ranged).0 q })
-      became l {t} e (Wrong c) q = rw (outside first k t c q) (none l λ a b h. false≢true (ap accepted (sym q ∙ rw e at (converted_to h))))
+      became l {t} e (Err c) q = rw (outside first k t c q) (none l λ a b h. false≢true (ap accepted (sym q ∙ rw e at (converted_to h))))
 
       judged : (g : Given) → given k s ≡ g → Fault s g → Converted (converted first k g)
-      judged (Time t) e (none_wrong l) = became l e (counterpart first k t) refl
-      judged (Wrong c) e (shape l) = not_alone l
-      judged (Wrong c) e (type l) = none l λ a b h. false≢true (ap accepted (rw e at (converted_to h)))
+      judged (Ok t) e (none_wrong l) = became l e (counterpart first k t) refl
+      judged (Err c) e (shape l) = not_alone l
+      judged (Err c) e (type l) = none l λ a b h. false≢true (ap accepted (rw e at (converted_to h)))
 
   -- what the rules say is done or refused is so
   converted_done : (x : Outcome) → Converts k v s buf x → whole_conversion k v s buf ≡ x
@@ -239,24 +238,24 @@ module _ (k : TimeKind) (v : ℕ) (s buf : List ℕ) {y : Bool} (i : y ≡ is_ve
   version_refused h = rw (← i, h) refl
 
   module _ (h : y ≡ true) {g : Given} (e : g ≡ given k s) where
-    pub node_refused : {c : JudgingCause} → g ≡ Wrong c → whole_conversion k v s buf ≡ refuse (of_value (value_cause c 0)) buf
+    pub node_refused : {c : JudgingCause} → g ≡ Err c → whole_conversion k v s buf ≡ refuse (of_value (value_cause c 0)) buf
     unfolding whole_conversion converted placed
     node_refused q = rw (← i, h, ← e, q) refl
 
-    module _ {t : DateTime} (q : g ≡ Time t) {d : Given} (j : d ≡ counterpart (first_year v) k t) where
-      pub time_refused : {c : JudgingCause} → d ≡ Wrong c → whole_conversion k v s buf ≡ refuse (of_value (value_cause c 0)) buf
+    module _ {t : DateTime} (q : g ≡ Ok t) {d : Given} (j : d ≡ counterpart (first_year v) k t) where
+      pub time_refused : {c : JudgingCause} → d ≡ Err c → whole_conversion k v s buf ≡ refuse (of_value (value_cause c 0)) buf
       unfolding whole_conversion converted placed
       time_refused r = rw (← i, h, ← e, q, ← j, r) refl
 
-      pub counterpart_put : {u : DateTime} → d ≡ Time u → whole_conversion k v s buf ≡ placed (other_kind k) buf (Time u)
+      pub counterpart_put : {u : DateTime} → d ≡ Ok u → whole_conversion k v s buf ≡ placed (other_kind k) buf (Ok u)
       unfolding whole_conversion converted
       counterpart_put r = rw (← i, h, ← e, q, ← j, r) refl
 
-pub put_refused : (k : TimeKind) (t : DateTime) (buf : List ℕ) → length buf < 10 → placed k buf (Time t) ≡ refuse (of_message ValueRoom) buf
+pub put_refused : (k : TimeKind) (t : DateTime) (buf : List ℕ) → length buf < 10 → placed k buf (Ok t) ≡ refuse (of_message ValueRoom) buf
 unfolding placed
 put_refused k t buf h = rw (lt-leb 10 (length buf) h) refl
 
-pub put_done : (k : TimeKind) (t : DateTime) (buf : List ℕ) → 10 ≤ length buf → placed k buf (Time t) ≡ write_at_start (time_node k t) buf
+pub put_done : (k : TimeKind) (t : DateTime) (buf : List ℕ) → 10 ≤ length buf → placed k buf (Ok t) ≡ write_at_start (time_node k t) buf
 unfolding placed
 put_done k t buf h = rw (le-leb 10 (length buf) h) refl
 

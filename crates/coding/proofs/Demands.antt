@@ -2,6 +2,7 @@
 -- What its words mean is in `specs/Demands`. That the functions' answers are these outcomes is in their contracts (`engine`), and for C in
 -- `link/proofs/Boundary`.
 -- Assumes nothing.
+use Rattle.std.specs.Prelude.{Ok, Err}
 use mathlib.Core.List.{List, [], ◌++◌, append-nil}
 use mathlib.Core.Logic.{◌↔◌}
 use mathlib.Core.Path.{◌≡◌, refl, sym, ap, subst, ◌∙◌}
@@ -19,9 +20,7 @@ use Rattle.table.specs.Syntax.{Record, Table, table}
 use Rattle.table.specs.declared.CheckCause.{CheckCause}
 use Rattle.table.specs.Cause.{Breaks, FirstCause}
 use Rattle.table.specs.Passes.{Passes}
-use Rattle.table.specs.Verdict.{verdict}
-use Rattle.table.specs.declared.Verdict.{Verdict}
-use Rattle.table.specs.declared.Verdict.TheVariants.{Passed, Refused}
+use Rattle.table.specs.Verdict.{verdict, Verdict}
 use Rattle.table.proofs.Theorems.{rules_kept, named_first, first_named, passed_none, none_passed}
 use Rattle.coding.specs.Value.{Leaf, Value, leaf, octets, depth}
 use Rattle.coding.specs.Encodes.{Encodes, Arrives}
@@ -96,11 +95,11 @@ module _ (b : List ℕ) (o : Octets b) where
   check_refuses c p = (λ e. by (verdict b) refl e, λ x. ap check_answer (first_named b o c p x))
     where
       by : (v : Verdict) → verdict b ≡ v → check_answer v ≡ refusal (of_table (table_cause c p)) → FirstCause b c p
-      by Passed q e = done≢refusal e
-      by (Refused d r) q e =
-          let z : table_cause d r ≡ table_cause c p = cc in
-          let s = same_table d c r p z in
-          rw (← s.0, ← s.1) (named_first b o d r q)
+      by (Ok u) q e = done≢refusal e
+      by (Err x) q e =
+          let z : table_cause x.cause x.place ≡ table_cause c p = cc in
+          let s = same_table x.cause c x.place p z in
+          rw (← s.0, ← s.1) (named_first b o x.cause x.place q)
 
   -- check: the table passes where no cause holds
   pub check_passes : (check_answer (verdict b) ≡ done 0) ↔ ((c : CheckCause) (p : ℕ) → Breaks b p c → ⊥)
@@ -108,8 +107,8 @@ module _ (b : List ℕ) (o : Octets b) where
   check_passes = (λ e. by (verdict b) refl e, λ h. ap check_answer (none_passed b o h))
     where
       by : (v : Verdict) → verdict b ≡ v → check_answer v ≡ done 0 → (c : CheckCause) (p : ℕ) → Breaks b p c → ⊥
-      by Passed q e = passed_none b o q
-      by (Refused d r) q e = done≢refusal (sym e)
+      by (Ok u) q e = passed_none b o q
+      by (Err x) q e = done≢refusal (sym e)
 
   module _ (t : ℕ) (m buf : List ℕ) (o' : Octets m) where
     -- read, 1 to 6
@@ -168,8 +167,8 @@ unfolding check_answer
 check_answers b = by (verdict b)
   where
     by : (v : Verdict) → Answers of_table (check_answer v)
-    by Passed = is_done 0
-    by (Refused c p) = of_the_table (table_cause c p)
+    by (Ok u) = is_done 0
+    by (Err x) = of_the_table (table_cause x.cause x.place)
 
 pub read_answers : (b : List ℕ) (t : ℕ) (m buf : List ℕ) → Answers of_message (whole_read b t m buf).answer
 unfolding whole_read read_outcome

@@ -1,5 +1,6 @@
 -- Reckonings with times: they are done exactly with two GeneralizedTimes, and refused by 11 or 12.
 -- Assumes nothing.
+use Rattle.std.specs.Prelude.{Ok, Err}
 use mathlib.Core.Bool.{Bool, true, false, false≢true}
 use mathlib.Core.List.{List, [], ◌∷◌, ◌++◌, append-nil}
 use mathlib.Core.Logic.{◌↔◌, ◌⊎◌, inl, inr}
@@ -26,16 +27,12 @@ use Rattle.dates.specs.Calendar.{leap, february, month_days, years, is_date, is_
 use Rattle.dates.specs.Seconds.{sum, year_days, day_number, seconds_of, elapsed, ordered, fields, order}
 use Rattle.dates.specs.Own.{time_octets, time_at}
 use Rattle.dates.proofs.TimeOctets.{time_back}
-use Rattle.coding.specs.declared.Given.{Given}
-use Rattle.coding.specs.declared.Given.TheVariants.{Time, Refused as Wrong}
 use Rattle.coding.specs.Value.{time_number, boolean, integer, bits, string, null, enumerated, time, leaf_octets}
 use Rattle.coding.specs.Judging.{Node, a_leaf, a_sequence, a_set, a_sequence_of, a_set_of, a_choice, need, read_own, read_node, leaf_kind, node_kind}
 use Rattle.coding.specs.Judging.{flags, own_members, own_count, own_time, own_choice}
 use Rattle.coding.specs.Outcome.{longest_value, value_cause, Refusal, of_value}
 use Rattle.coding.specs.Shaped.{LeafShaped}
-use Rattle.coding.specs.declared.Reckoned.{Reckoned}
-use Rattle.coding.specs.declared.Reckoned.TheVariants.{Is, Refused}
-use Rattle.coding.specs.Reckoning.{childless, is_whole, is_lone, given, reckoned_by, whole_order, whole_seconds, time_node, Stands, Reckons}
+use Rattle.coding.specs.Reckoning.{childless, is_whole, is_lone, given, reckoned_by, whole_order, whole_seconds, time_node, Stands, Reckons, Given, Reckoned}
 use Rattle.coding.proofs.Nodes.{node_octets, NodeShaped, node_sound, node_complete}
 use Rattle.coding.proofs.Judging.{leaf_octets_lem}
 
@@ -50,18 +47,18 @@ abbrev utc : List ℕ
 utc = 0x56 ∷ 0x41 ∷ 23 ∷ 0 ∷ 0 ∷ 1 ∷ 1 ∷ 0 ∷ 0 ∷ 0 ∷ []
 
 abbrev eleven : Reckoned
-eleven = Refused (of_value (value_cause ValueShape 0))
+eleven = Err (of_value (value_cause ValueShape 0))
 
 abbrev twelve : Reckoned
-twelve = Refused (of_value (value_cause IllTyped 0))
+twelve = Err (of_value (value_cause IllTyped 0))
 
 -- the order of two, and the seconds from the first to the second; 11 before 12, and the first before the second
 pub reckonings_right :
-    (whole_order january march ≡ Is (negsuc 0))
-    × (whole_order january january ≡ Is (pos 0))
-    × (whole_order march january ≡ Is (pos 1))
-    × (whole_seconds january march ≡ Is (pos 5184000))
-    × (whole_seconds march january ≡ Is (negsuc 5183999))
+    (whole_order january march ≡ Ok (negsuc 0))
+    × (whole_order january january ≡ Ok (pos 0))
+    × (whole_order march january ≡ Ok (pos 1))
+    × (whole_seconds january march ≡ Ok (pos 5184000))
+    × (whole_seconds march january ≡ Ok (negsuc 5183999))
     × (whole_seconds utc [] ≡ twelve)
     × (whole_seconds [] utc ≡ eleven)
     × (whole_seconds january utc ≡ twelve)
@@ -134,8 +131,8 @@ unfolding is_lone
 alone s o e = alone_read s o (read_node s) refl (both (leb (length s) longest_value) (is_whole (read_node s)) e).1
 
 abbrev pub accepted : Given → Bool
-accepted (Time t) = true
-accepted (Wrong c) = false
+accepted (Ok t) = true
+accepted (Err c) = false
 
 lone_time : (k : TimeKind) (s : List ℕ) → AllOctets s → is_lone s ≡ true → eqb (get_or s 2 0) (time_number k) ≡ true → Stands k s (time_at s 3)
 lone_time k s o l n =
@@ -146,16 +143,16 @@ lone_time k s o l n =
     record { octets = i ∙ ap (time_node k) (sym t); ranged = ap (in_range k) t ∙ r }
 
 abbrev counted : Reckoned → Bool
-counted (Is z) = true
-counted (Refused r) = false
+counted (Ok z) = true
+counted (Err r) = false
 
 -- what is given is a time of its kind in range, whole and alone
-pub given_stands : (k : TimeKind) (s : List ℕ) → AllOctets s → (t : DateTime) → given k s ≡ Time t → Stands k s t
+pub given_stands : (k : TimeKind) (s : List ℕ) → AllOctets s → (t : DateTime) → given k s ≡ Ok t → Stands k s t
 unfolding given
 given_stands k s o t e =
     test (is_lone s) (λ l.
     test (eqb (get_or s 2 0) (time_number k)) (λ n.
-    let q : time_at s 3 ≡ t = let i : Time (time_at s 3) ≡ Time t = rw (l, n) at e in cc in
+    let q : time_at s 3 ≡ t = let i : ◌≡◌ {A = Given} (Ok (time_at s 3)) (Ok t) = rw (l, n) at e in cc in
     subst (Stands k s) q (lone_time k s o l n))
     λ n. absurd (false≢true (ap accepted (rw (l, n) at e))))
     λ l. absurd (false≢true (ap accepted (rw l at e)))
@@ -165,7 +162,7 @@ unfolding leaf_octets time_octets
 time_short k t = refl
 
 -- and every such is given
-pub stands_given : (k : TimeKind) (s : List ℕ) (t : DateTime) → Stands k s t → given k s ≡ Time t
+pub stands_given : (k : TimeKind) (s : List ℕ) (t : DateTime) → Stands k s t → given k s ≡ Ok t
 unfolding given is_lone is_whole childless none_left
 stands_given k s t h =
     let i : s ≡ node_octets (a_leaf (time k t)) = h.octets ∙ leaf_octets_lem (time k t) in
@@ -178,18 +175,18 @@ stands_given k s t h =
 
 -- Done exactly with two GeneralizedTimes in range, and with what f says of them.
 pub reckons_exactly : (f : DateTime → DateTime → ℤ) (s t : List ℕ) → AllOctets s → AllOctets t → (z : ℤ)
-    → (reckoned_by f (given Generalized s) (given Generalized t) ≡ Is z) ↔ Reckons f s t z
+    → (reckoned_by f (given Generalized s) (given Generalized t) ≡ Ok z) ↔ Reckons f s t z
 unfolding reckoned_by
 reckons_exactly f s t o p z = (there (given Generalized s) (given Generalized t) refl refl, back)
   where
-    there : (x y : Given) → given Generalized s ≡ x → given Generalized t ≡ y → reckoned_by f x y ≡ Is z → Reckons f s t z
-    there (Time a) (Time b) d e h =
-        record { first = a; second = b; a_time = given_stands Generalized s o a d; another = given_stands Generalized t p b e; is = let i : Is (f a b) ≡ Is z = h in cc }
-    there (Time a) (Wrong c) d e h = absurd (false≢true (ap counted h))
-    there (Wrong c) y d e h = absurd (false≢true (ap counted h))
+    there : (x y : Given) → given Generalized s ≡ x → given Generalized t ≡ y → reckoned_by f x y ≡ Ok z → Reckons f s t z
+    there (Ok a) (Ok b) d e h =
+        record { first = a; second = b; a_time = given_stands Generalized s o a d; another = given_stands Generalized t p b e; is = let i : ◌≡◌ {A = Reckoned} (Ok (f a b)) (Ok z) = h in cc }
+    there (Ok a) (Err c) d e h = absurd (false≢true (ap counted h))
+    there (Err c) y d e h = absurd (false≢true (ap counted h))
 
-    back : Reckons f s t z → reckoned_by f (given Generalized s) (given Generalized t) ≡ Is z
-    back r = rw (stands_given Generalized s r.first r.a_time, stands_given Generalized t r.second r.another) (ap Is r.is)
+    back : Reckons f s t z → reckoned_by f (given Generalized s) (given Generalized t) ≡ Ok z
+    back r = rw (stands_given Generalized s r.first r.a_time, stands_given Generalized t r.second r.another) (ap Ok r.is)
 
 -- the steps by which the code finds what is given
 
@@ -201,38 +198,38 @@ pub lone_some : (s : List ℕ) → is_lone s ≡ true → 3 ≤ length s
 unfolding is_lone
 lone_some s e = read_some s (both (leb (length s) longest_value) (is_whole (read_node s)) e).1
 
-pub given_shape : (k : TimeKind) (s : List ℕ) → is_lone s ≡ false → Wrong ValueShape ≡ given k s
+pub given_shape : (k : TimeKind) (s : List ℕ) → is_lone s ≡ false → Err ValueShape ≡ given k s
 unfolding given
 given_shape k s l = rw l
 
-pub given_type : (k : TimeKind) (s : List ℕ) → is_lone s ≡ true → eqb (get_or s 2 0) (time_number k) ≡ false → Wrong IllTyped ≡ given k s
+pub given_type : (k : TimeKind) (s : List ℕ) → is_lone s ≡ true → eqb (get_or s 2 0) (time_number k) ≡ false → Err IllTyped ≡ given k s
 unfolding given
 given_type k s l n = rw (l, n)
 
-pub given_time : (k : TimeKind) (s : List ℕ) → is_lone s ≡ true → eqb (get_or s 2 0) (time_number k) ≡ true → Time (time_at (drop 3 s) 0) ≡ given k s
+pub given_time : (k : TimeKind) (s : List ℕ) → is_lone s ≡ true → eqb (get_or s 2 0) (time_number k) ≡ true → Ok (time_at (drop 3 s) 0) ≡ given k s
 unfolding given time_at
 given_time k s l n = rw (l, n) (simp get_or-drop)
 
 -- the steps by which it answers
 module _ (f : DateTime → DateTime → ℤ) (s t : List ℕ) {x : Given} (e : x ≡ given Generalized s) where
-  pub first_refused : {c : JudgingCause} → x ≡ Wrong c → {r : Reckoned} → r ≡ Refused (of_value (value_cause c 0)) → r ≡ reckoned_by f (given Generalized s) (given Generalized t)
+  pub first_refused : {c : JudgingCause} → x ≡ Err c → {r : Reckoned} → r ≡ Err (of_value (value_cause c 0)) → r ≡ reckoned_by f (given Generalized s) (given Generalized t)
   unfolding reckoned_by
   first_refused q h = rw (← e, q) h
 
-  module _ {a : DateTime} (q : x ≡ Time a) {y : Given} (g : y ≡ given Generalized t) where
-    pub second_refused : {c : JudgingCause} → y ≡ Wrong c → {r : Reckoned} → r ≡ Refused (of_value (value_cause c 0)) → r ≡ reckoned_by f (given Generalized s) (given Generalized t)
+  module _ {a : DateTime} (q : x ≡ Ok a) {y : Given} (g : y ≡ given Generalized t) where
+    pub second_refused : {c : JudgingCause} → y ≡ Err c → {r : Reckoned} → r ≡ Err (of_value (value_cause c 0)) → r ≡ reckoned_by f (given Generalized s) (given Generalized t)
     unfolding reckoned_by
     second_refused k h = rw (← e, q, ← g, k) h
 
-    pub both_given : {b : DateTime} → y ≡ Time b → {z : ℤ} → z ≡ f a b → Is z ≡ reckoned_by f (given Generalized s) (given Generalized t)
+    pub both_given : {b : DateTime} → y ≡ Ok b → {z : ℤ} → z ≡ f a b → Ok z ≡ reckoned_by f (given Generalized s) (given Generalized t)
     unfolding reckoned_by
-    both_given k h = rw (← e, q, ← g, k) (ap Is h)
+    both_given k h = rw (← e, q, ← g, k) (ap Ok h)
 
 -- what is not given is 11 or 12
 pub data Fault (s : List ℕ) : Given → Type 0 where
-  none_wrong : {t : DateTime} → is_lone s ≡ true → Fault s (Time t)
-  shape : is_lone s ≡ false → Fault s (Wrong ValueShape)
-  type : is_lone s ≡ true → Fault s (Wrong IllTyped)
+  none_wrong : {t : DateTime} → is_lone s ≡ true → Fault s (Ok t)
+  shape : is_lone s ≡ false → Fault s (Err ValueShape)
+  type : is_lone s ≡ true → Fault s (Err IllTyped)
 
 pub given_fault : (k : TimeKind) (s : List ℕ) → Fault s (given k s)
 unfolding given
@@ -242,14 +239,14 @@ given_fault k s =
     λ l. rw l (shape l)
 
 -- A refusal is 11 or 12, and its place is 0.
-pub reckoning_refuses : (f : DateTime → DateTime → ℤ) (s t : List ℕ) (r : Refusal) → reckoned_by f (given Generalized s) (given Generalized t) ≡ Refused r
+pub reckoning_refuses : (f : DateTime → DateTime → ℤ) (s t : List ℕ) (r : Refusal) → reckoned_by f (given Generalized s) (given Generalized t) ≡ Err r
     → (r ≡ of_value (value_cause ValueShape 0)) ⊎ (r ≡ of_value (value_cause IllTyped 0))
 unfolding reckoned_by
 reckoning_refuses f s t r = told (given_fault Generalized s) (given_fault Generalized t)
   where
-    told : {x y : Given} → Fault s x → Fault t y → reckoned_by f x y ≡ Refused r → (r ≡ of_value (value_cause ValueShape 0)) ⊎ (r ≡ of_value (value_cause IllTyped 0))
+    told : {x y : Given} → Fault s x → Fault t y → reckoned_by f x y ≡ Err r → (r ≡ of_value (value_cause ValueShape 0)) ⊎ (r ≡ of_value (value_cause IllTyped 0))
     told (none_wrong l) (none_wrong m) h = absurd (false≢true (sym (ap counted h)))
-    told (none_wrong l) (shape m) h = inl (let i : Refused (of_value (value_cause ValueShape 0)) ≡ Refused r = h in cc)
-    told (none_wrong l) (type m) h = inr (let i : Refused (of_value (value_cause IllTyped 0)) ≡ Refused r = h in cc)
-    told (shape l) y h = inl (let i : Refused (of_value (value_cause ValueShape 0)) ≡ Refused r = h in cc)
-    told (type l) y h = inr (let i : Refused (of_value (value_cause IllTyped 0)) ≡ Refused r = h in cc)
+    told (none_wrong l) (shape m) h = inl (let i : ◌≡◌ {A = Reckoned} (Err (of_value (value_cause ValueShape 0))) (Err r) = h in cc)
+    told (none_wrong l) (type m) h = inr (let i : ◌≡◌ {A = Reckoned} (Err (of_value (value_cause IllTyped 0))) (Err r) = h in cc)
+    told (shape l) y h = inl (let i : ◌≡◌ {A = Reckoned} (Err (of_value (value_cause ValueShape 0))) (Err r) = h in cc)
+    told (type l) y h = inr (let i : ◌≡◌ {A = Reckoned} (Err (of_value (value_cause IllTyped 0))) (Err r) = h in cc)

@@ -1,5 +1,6 @@
 -- From the octets of a table to the records that they are: a call refuses with the table's first cause, or with 7, or goes on with the records.
 -- Assumes nothing.
+use Rattle.std.specs.Prelude.{Ok, Err}
 use borrow.Author.Tests.{ltb-true, ltb-false, lt-ltb, le-ltb}
 use mathlib.Core.Bool.{not}
 use mathlib.Core.List.{List}
@@ -15,9 +16,7 @@ use Rattle.octets.proofs.Tests.{test}
 use Rattle.table.specs.Syntax.{Record, Table, table}
 use Rattle.table.specs.Cause.{FirstCause}
 use Rattle.table.specs.Reading.{scan, look}
-use Rattle.table.specs.Verdict.{verdict}
-use Rattle.table.specs.declared.Verdict.{Verdict}
-use Rattle.table.specs.declared.Verdict.TheVariants.{Passed, Refused}
+use Rattle.table.specs.Verdict.{verdict, Verdict}
 use Rattle.table.specs.declared.CheckCause.{CheckCause}
 use Rattle.table.proofs.Theorems.{records_found, named_first, first_named, passed_none, none_passed, passed_records}
 use Rattle.coding.specs.Outcome.{TableCause, Unknown, table_cause, Refusal, of_table, refusal, Outcome, refuse}
@@ -64,8 +63,8 @@ module _ (b : List ℕ) (t : ℕ) (buf : List ℕ) (g : Table → Outcome) where
     stage = by (verdict b) refl
       where
         by : (v : Verdict) → verdict b ≡ v → Stage
-        by (Refused c p) e = at_table c p (named_first b o c p e)
-        by Passed e =
+        by (Err x) e = at_table x.cause x.place (named_first b o x.cause x.place e)
+        by (Ok u) e =
             let x = passed_records b o e in
             let a : Accepted b x.0 = record { spells = x.1; no_cause = passed_none b o e } in
             test (ltb t (length x.0)) (λ h. at_records x.0 a (ltb-true t (length x.0) h))
@@ -105,8 +104,8 @@ module _ (b : List ℕ) (t : ℕ) (buf : List ℕ) (g : Table → Outcome) where
 
   after_unchanged : ((T : Table) → Unchanged buf (g T)) → (v : Verdict) → Unchanged buf (after_check b buf step v)
   unfolding after_check
-  after_unchanged f Passed = step_unchanged f (look b (scan b).offsets) (length (scan b).offsets)
-  after_unchanged f (Refused c p) = λ r z. refl
+  after_unchanged f (Ok u) = step_unchanged f (look b (scan b).offsets) (length (scan b).offsets)
+  after_unchanged f (Err x) = λ r z. refl
 
   -- a refusal leaves the buffer as it was, whatever the octets are
   pub call_unchanged : ((T : Table) → Unchanged buf (g T)) → Unchanged buf call
@@ -119,8 +118,8 @@ module _ (b : List ℕ) (t : ℕ) (buf : List ℕ) (g : Table → Outcome) where
 
     after_answers : (v : Verdict) → Answers of (after_check b buf step v).answer
     unfolding after_check
-    after_answers Passed = step_answers (look b (scan b).offsets) (length (scan b).offsets)
-    after_answers (Refused c p) = of_the_table (table_cause c p)
+    after_answers (Ok u) = step_answers (look b (scan b).offsets) (length (scan b).offsets)
+    after_answers (Err x) = of_the_table (table_cause x.cause x.place)
 
     pub call_answers : Answers of call.answer
     call_answers = after_answers (verdict b)

@@ -31,10 +31,9 @@ use Rattle.table.specs.Reading.{tags_at, numbers_at, members_at, every_at, body_
 use Rattle.table.specs.Decide.{round, rounds, found, dangling, wrong_tags, reach_step, circular, same_tag, begins as first_begins, first_step, first_of_both}
 use Rattle.table.specs.Decide.{share, reached, pair, sharing, finite_body, finite_step, infinite}
 use Rattle.table.specs.Cause.{FirstCause}
-use Rattle.table.specs.Verdict.{judge_choices, judge, verdict}
+use Rattle.table.specs.Verdict.{judge_choices, judge, verdict, no_flaw}
 use Rattle.x690.specs.declared.ReadingCause.TheVariants.{Cut, Trailing}
 use Rattle.table.specs.declared.CheckCause.TheVariants.{TableShape}
-use Rattle.table.specs.declared.Verdict.TheVariants.{Passed}
 use Rattle.table.proofs.Theorems.{passed_none}
 use Rattle.coding.specs.Value.{Value, leaf, integer, boolean, string, set, set_of, slots, bag, leaf_octets, count, presence, octets, depth}
 use Rattle.coding.specs.Tags.{identifier_of, last, before, explicit_tags, own_tag, explicit}
@@ -107,7 +106,7 @@ list_table : Octets N
 unfolding all
 list_table = octets_by N refl
 
-passed : (verdict S ≡ Passed) × (verdict O ≡ Passed) × (verdict N ≡ Passed)
+passed : (verdict S ≡ no_flaw) × (verdict O ≡ no_flaw) × (verdict N ≡ no_flaw)
 unfolding any all joined tabulate lowest_from references is_choice universal rising body_below tags_below siblings runs_on tags_at numbers_at members_at every_at body_at
     record_at counted_end enumerated_end members_end own_end record_end scan_from scan look round rounds found dangling wrong_tags reach_step circular same_tag
     first_begins first_step first_of_both share reached pair sharing finite_body finite_step infinite judge_choices judge verdict

@@ -1,15 +1,13 @@
 -- The outcomes of check, write and read as they are computed from octets. What they come to is said by rules alone in `Demands`.
 -- Assumes nothing.
-use Rattle.std.specs.Prelude.{not, List, ℕ, ◌-◌, min, ltb, leb, length}
+use Rattle.std.specs.Prelude.{not, List, ℕ, ◌-◌, min, ltb, leb, length, Ok, Err}
 use Rattle.x690.specs.declared.ReadingCause.{ReadingCause}
 use Rattle.coding.specs.declared.JudgingCause.{JudgingCause}
 use Rattle.coding.specs.declared.JudgingCause.TheVariants.{ValueShape}
 use Rattle.octets.specs.Answer.{Answer, got, refused, if}
 use Rattle.table.specs.Syntax.{Table}
-use Rattle.table.specs.Verdict.{verdict}
+use Rattle.table.specs.Verdict.{verdict, Verdict}
 use Rattle.table.specs.Reading.{scan, look}
-use Rattle.table.specs.declared.Verdict.{Verdict}
-use Rattle.table.specs.declared.Verdict.TheVariants.{Passed, Refused}
 use Rattle.coding.specs.Value.{Value, octets}
 use Rattle.coding.specs.Form.{form_at}
 use Rattle.coding.specs.Reading.{read_message}
@@ -47,8 +45,8 @@ write_outcome T n t b buf =
 
 -- 1 to 6 first, in every call; x is what follows for the records by number and their count
 unfoldable pub after_check : List ℕ → List ℕ → (Table → ℕ → Outcome) → Verdict → Outcome
-after_check b buf x Passed = x (look b (scan b).offsets) (length (scan b).offsets)
-after_check b buf x (Refused c p) = refuse (of_table (table_cause c p)) buf
+after_check b buf x (Ok u) = x (look b (scan b).offsets) (length (scan b).offsets)
+after_check b buf x (Err f) = refuse (of_table (table_cause f.cause f.place)) buf
 
 -- write: the octets b of a table, a type, the octets v of a value, a buffer
 unfoldable pub whole_write : List ℕ → ℕ → List ℕ → List ℕ → Outcome
@@ -60,5 +58,5 @@ whole_read b t m buf = after_check b buf (λ T n. read_outcome T n t m buf) (ver
 
 -- check: nothing is written
 unfoldable pub check_answer : Verdict → Told
-check_answer Passed = done 0
-check_answer (Refused c p) = refusal (of_table (table_cause c p))
+check_answer (Ok u) = done 0
+check_answer (Err f) = refusal (of_table (table_cause f.cause f.place))

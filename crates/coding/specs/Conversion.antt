@@ -1,6 +1,6 @@
 -- A UTCTime as a GeneralizedTime by a link version's window, and back, on octets, with 7, 11, 12 and 27 (FORMATS, "Centuries").
 -- Assumes nothing.
-use Rattle.std.specs.Prelude.{true, false, not, List, ◌≡◌, ℕ, ◌≤◌, ◌<◌, leb, length}
+use Rattle.std.specs.Prelude.{true, false, not, List, ◌≡◌, ℕ, ◌≤◌, ◌<◌, leb, length, Ok, Err}
 use Rattle.coding.specs.declared.JudgingCause.TheVariants.{ValueShape, IllTyped}
 use Rattle.octets.specs.Tests.{if}
 use Rattle.dates.specs.declared.DateTime.{DateTime}
@@ -8,9 +8,7 @@ use Rattle.dates.specs.declared.TimeKind.{TimeKind}
 use Rattle.dates.specs.declared.TimeKind.TheVariants.{Utc, Generalized}
 use Rattle.dates.specs.Century.{is_version, first_year, in_window, to_utc, to_generalized, Shortens}
 use Rattle.coding.specs.Outcome.{Unknown, value_cause, ValueRoom, Refusal, of_table, of_value, of_message, Outcome, refuse, write_at_start}
-use Rattle.coding.specs.Reckoning.{is_lone, given, time_node, Stands}
-use Rattle.coding.specs.declared.Given.{Given}
-use Rattle.coding.specs.declared.Given.TheVariants.{Time, Refused as Wrong}
+use Rattle.coding.specs.Reckoning.{is_lone, given, time_node, Stands, Given}
 
 abbrev pub other_kind : TimeKind → TimeKind
 other_kind Utc = Generalized
@@ -18,17 +16,17 @@ other_kind Generalized = Utc
 
 -- what a time of a kind is as one of the other, by the window from f on; a GeneralizedTime outside it is nothing (12)
 unfoldable pub counterpart : ℕ → TimeKind → DateTime → Given
-counterpart f Utc u = Time (to_generalized f u)
-counterpart f Generalized g = if (not (in_window f g.year)) (Wrong IllTyped) λ _. Time (to_utc g)
+counterpart f Utc u = Ok (to_generalized f u)
+counterpart f Generalized g = if (not (in_window f g.year)) (Err IllTyped) λ _. Ok (to_utc g)
 
 unfoldable pub converted : ℕ → TimeKind → Given → Given
-converted f k (Wrong c) = Wrong c
-converted f k (Time t) = counterpart f k t
+converted f k (Err c) = Err c
+converted f k (Ok t) = counterpart f k t
 
 -- the node of a time in the buffer, if that has room for its ten octets (27)
 unfoldable pub placed : TimeKind → List ℕ → Given → Outcome
-placed k buf (Wrong c) = refuse (of_value (value_cause c 0)) buf
-placed k buf (Time t) =
+placed k buf (Err c) = refuse (of_value (value_cause c 0)) buf
+placed k buf (Ok t) =
     if (not (leb 10 (length buf))) (refuse (of_message ValueRoom) buf) λ _.
     write_at_start (time_node k t) buf
 

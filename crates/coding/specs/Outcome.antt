@@ -1,7 +1,7 @@
 -- The refusals with their numbers and places, and the outcomes of check, write, read and conversions of times: the answer, and what the lent
 -- buffer then holds (FORMATS, "Refusals" and "Limits").
 -- Assumes nothing.
-use Rattle.std.specs.Prelude.{List, ◌++◌, ℕ, length, drop}
+use Rattle.std.specs.Prelude.{List, ◌++◌, ℕ, length, drop, Result}
 use Rattle.x690.specs.declared.ReadingCause.{ReadingCause}
 use Rattle.table.specs.declared.CheckCause.{CheckCause}
 use Rattle.coding.specs.declared.JudgingCause.{JudgingCause}
@@ -14,8 +14,7 @@ pub use Rattle.coding.specs.declared.MessageCause.{MessageCause}
 pub use Rattle.coding.specs.declared.MessageCause.TheVariants.{MessageLength, ValueRoom}
 pub use Rattle.coding.specs.declared.Refusal.{Refusal}
 pub use Rattle.coding.specs.declared.Refusal.TheVariants.{Table as of_table, Value as of_value, Message as of_message}
-pub use Rattle.coding.specs.declared.Answer.{Answer as Told}
-pub use Rattle.coding.specs.declared.Answer.TheVariants.{Done as done, Refused as refusal}
+pub use Rattle.std.specs.Prelude.{Ok as done, Err as refusal}
 
 -- the limits of a value and of a message
 abbrev pub levels : ℕ
@@ -91,7 +90,11 @@ number_of r = (report_of r).number
 abbrev pub place_of : Refusal → ℕ
 place_of r = (report_of r).place
 
--- what is told, and what the lent buffer then holds; done tells the length written
+-- done, with the length written; or refused
+abbrev pub Told : Type 0
+Told = Result ℕ Refusal
+
+-- what is told, and what the lent buffer then holds
 pub record Outcome : Type 0 where
   pub answer : Told
   pub buffer : List ℕ

@@ -1,53 +1,10 @@
-// Refusals (FORMATS, "Refusals"): what the check, the judging or the reading refuses, as a cause of its stage at a place; and the number and
-// the place of every refusal.
+// The number and the place of every refusal (FORMATS, "Refusals").
 #![tactic(auto)]
 
 ghost use Rattle.std.specs.Prelude.{◌≡◌, ◌<◌};
-ghost use Rattle.coding.specs.Outcome.{table_cause, value_cause, message_cause, table_report, value_report, message_report, number_of, place_of};
+ghost use Rattle.coding.specs.Outcome.{table_report, value_report, message_report, number_of, place_of};
 
-use coding::{JudgingCause, MessageCause, Refusal, Report, TableCause, ValueCause};
-use table::CheckCause;
-use x690::ReadingCause;
-
-// What the check of a table refuses, at a record.
-pub fn table_cause(cause: CheckCause, place: usize) -> TableCause
-    ensures { result ≡ table_cause cause place }
-{
-    match cause {
-        CheckCause::TableShape => TableCause::TableShape(place),
-        CheckCause::NoRecord => TableCause::NoRecord(place),
-        CheckCause::WrongTag => TableCause::WrongTag(place),
-        CheckCause::ChoiceLoop => TableCause::ChoiceLoop(place),
-        CheckCause::SharedTag => TableCause::SharedTag(place),
-        CheckCause::NoValue => TableCause::NoValue(place),
-    }
-}
-
-// What the judging of a value refuses, at an octet of it.
-pub fn value_cause(cause: JudgingCause, place: usize) -> ValueCause
-    ensures { result ≡ value_cause cause place }
-{
-    match cause {
-        JudgingCause::ValueShape => ValueCause::ValueShape(place),
-        JudgingCause::IllTyped => ValueCause::IllTyped(place),
-        JudgingCause::ValueLevel => ValueCause::ValueLevel(place),
-    }
-}
-
-// What the reading of a message refuses, at an octet of it.
-pub fn message_cause(cause: ReadingCause, place: usize) -> MessageCause
-    ensures { result ≡ message_cause cause place }
-{
-    match cause {
-        ReadingCause::Cut => MessageCause::Cut(place),
-        ReadingCause::Forbidden => MessageCause::Forbidden(place),
-        ReadingCause::NotAwaited => MessageCause::NotAwaited(place),
-        ReadingCause::Contents => MessageCause::Contents(place),
-        ReadingCause::Trailing => MessageCause::Trailing(place),
-        ReadingCause::MessageLevel => MessageCause::MessageLevel(place),
-        ReadingCause::LengthField => MessageCause::LengthField(place),
-    }
-}
+use coding::{MessageCause, Refusal, Report, TableCause, ValueCause};
 
 fn report(number: u64, place: usize) -> Report
     ensures { (result.number ≡ number) × (result.place ≡ place) }

@@ -1,7 +1,7 @@
 -- Strings in segments, as the code answers: what is read of them, and what is gathered of them by headers alone, in the order in which the
 -- octets stand (X.690, 8.6.4 and 8.7.3).
 -- Assumes nothing.
-use Rattle.std.specs.Prelude.{Bool, true, false, not, ◌||◌, List, [], ◌∷◌, ◌≡◌, ℕ, zero, suc, ◌+◌, ◌-◌, ◌≤◌, length, get_or, take, drop, ltb, eqb}
+use Rattle.std.specs.Prelude.{Bool, true, false, not, ◌||◌, List, [], ◌∷◌, ◌≡◌, ℕ, zero, suc, ◌+◌, ◌-◌, ◌≤◌, length, get_or, take, drop, ltb, eqb, Result, Ok, Err}
 use Rattle.std.proofs.lemmas.List.Edits.{sets}
 use Rattle.x690.specs.declared.ReadingCause.{ReadingCause}
 use Rattle.x690.specs.declared.ReadingCause.TheVariants.{NotAwaited, Contents}
@@ -10,8 +10,8 @@ use Rattle.octets.specs.Buffers.{put, put_end}
 use Rattle.octets.specs.Lists.{same}
 use Rattle.x690.specs.Reading.{read_identifier, Size, definite, indefinite, read_length}
 use Rattle.x690.specs.Segments.{Kind, bit_string, octet_string, universal, segment_tag, join, in_form, Gathered}
-use Rattle.segments.specs.declared.Segments.{Segments}
-use Rattle.segments.specs.declared.Segments.TheVariants.{Read, Refused}
+use Rattle.x690.specs.declared.Unread.{Unread}
+use Rattle.segments.specs.declared.Gathered.{Gathered as Gathering}
 use Rattle.segments.specs.declared.Joined.{Joined}
 
 abbrev pub kind_of : Bool → Kind
@@ -29,15 +29,15 @@ carried bit_string c = drop 1 c
 carried octet_string c = c
 
 -- n octets were lent
-unfoldable pub told_segments : Kind → ℕ → Answer ReadingCause Gathered → Segments
-told_segments k n (got g u) = Read (record { end = n - length u; size = length g.0; unused = unused_in k g.0; back = g.1 })
-told_segments k n (refused c l) = Refused c l
+unfoldable pub told_segments : Kind → ℕ → Answer ReadingCause Gathered → Result Gathering Unread
+told_segments k n (got g u) = Ok (record { end = n - length u; size = length g.0; unused = unused_in k g.0; back = g.1 })
+told_segments k n (refused c l) = Err (record { cause = c; left = l })
 
 -- a primitive segment with the contents c, which ends at a place; l octets are left where it begins
-unfoldable pub told_primitive : Kind → List ℕ → ℕ → ℕ → Segments
+unfoldable pub told_primitive : Kind → List ℕ → ℕ → ℕ → Result Gathering Unread
 told_primitive k c end l =
-    if (not (in_form k c)) (Refused Contents l) λ _.
-    Read (record { end = end; size = length c; unused = unused_in k c; back = end })
+    if (not (in_form k c)) (Err (record { cause = Contents; left = l })) λ _.
+    Ok (record { end = end; size = length c; unused = unused_in k c; back = end })
 
 -- the identifier octets (22, 23) of a segment (24)
 unfoldable pub read_tag : Kind → List ℕ → Answer ReadingCause (List ℕ)

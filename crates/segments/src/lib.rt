@@ -8,22 +8,19 @@ ghost use Rattle.x690.specs.Reading.{read_identifier};
 ghost use Rattle.x690.specs.Segments.{universal, segment_tag, empty, in_form, read_all, read_segment, deepest};
 ghost use Rattle.ber.specs.Told.{told_identifier, mode};
 ghost use Rattle.segments.specs.Segments.{kind_of, unused_in, carried, told_segments, told_primitive, read_tag, joining, told_joined};
-ghost use Rattle.segments.specs.declared.Segments.TheVariants.{Refused};
 
-use ber::ending::End;
 use ber::identifier::Identifier;
-use ber::length::Length;
 use ber::{ending, identifier, length};
 use octets::{copy, holds, octet};
 use simple::bit_string::are_bits;
-use x690::ReadingCause;
+use x690::{ReadingCause, Unread};
 
 // Segments nest at most so deep.
 const DEEPEST: usize = 4;
 
 // Where segments end, how many octets the contents have that they join to, how many bits of the last are unused, and how many octets
 // before the end the last primitive one begins.
-#[derive(Clone, Copy)]
+#[derive(Clone, Copy, Debug, PartialEq, Eq)]
 pub struct Gathered {
     pub end: usize,
     pub size: usize,
@@ -31,16 +28,10 @@ pub struct Gathered {
     pub back: usize,
 }
 
-#[derive(Clone, Copy)]
-pub enum Segments {
-    Read(Gathered),
-    Refused { cause: ReadingCause, left: usize },
-}
-
-fn refused(cause: ReadingCause, left: usize) -> Segments
-    ensures { result ≡ Refused cause left }
+fn refused(cause: ReadingCause, left: usize) -> Unread
+    ensures { result ≡ record { cause = cause; left = left } }
 {
-    Segments::Refused { cause, left }
+    Unread { cause, left }
 }
 
 // The contents of no segment have so many octets: of a BIT STRING the number of unused bits.
@@ -58,24 +49,18 @@ fn tag(bits: bool) -> u32
 }
 
 // The identifier that m begins with, if it is a segment's.
-fn read_tag(m: &[u8], bits: bool) -> Identifier
+fn read_tag(m: &[u8], bits: bool) -> Result<Identifier, ReadingCause>
     ensures { result ≡ told_identifier (length m.now) (read_tag (kind_of bits) m.now) }
 {
+    let i = identifier::read(m)?;
     let t = tag(bits);
-    match identifier::read(m) {
-        Identifier::Refused { cause } => Identifier::Refused { cause },
-        Identifier::Read { code, end } => {
-            if code == t {
-                return Identifier::Read { code, end };
-            }
-            if code == t + 32 {
-                return Identifier::Read { code, end };
-            }
-            Identifier::Refused {
-                cause: ReadingCause::NotAwaited,
-            }
-        }
+    if i.code == t {
+        return Ok(i);
     }
+    if i.code == t + 32 {
+        return Ok(i);
+    }
+    Err(ReadingCause::NotAwaited)
 }
 
 // Whether a primitive segment may have the contents c.
@@ -99,14 +84,14 @@ fn unused_in(c: &[u8], bits: bool) -> usize
 }
 
 // A primitive segment with the contents c, which ends at `end`; `left` octets are left where it begins.
-fn primitive(c: &[u8], bits: bool, end: usize, left: usize) -> Segments
+fn primitive(c: &[u8], bits: bool, end: usize, left: usize) -> Result<Gathered, Unread>
     ensures { result ≡ told_primitive (kind_of bits) c.now end left }
 {
     if !in_form(c, bits) {
-        return refused(ReadingCause::Contents, left);
+        return Err(refused(ReadingCause::Contents, left));
     }
     let unused = unused_in(c, bits);
-    Segments::Read(Gathered {
+    Ok(Gathered {
         end,
         size: c.len(),
         unused,
@@ -116,42 +101,45 @@ fn primitive(c: &[u8], bits: bool, end: usize, left: usize) -> Segments
 
 // The segment that m begins with, whose identifier ends at `from`; those in it nest less than `depth` deep.
 #[cycle(all_segment)]
-fn segment(m: &[u8], from: usize, constructed: bool, bits: bool, depth: usize) -> Segments
+fn segment(
+    m: &[u8],
+    from: usize,
+    constructed: bool,
+    bits: bool,
+    depth: usize,
+) -> Result<Gathered, Unread>
     requires { read_identifier m.now ≡ got (segment_tag (kind_of bits) constructed) (drop from m.now) }
     ensures { result ≡ told_segments (kind_of bits) (length m.now) (read_segment (kind_of bits) depth m.now) }
 {
     let left = m.len();
     if depth == 0 {
-        return refused(ReadingCause::MessageLevel, left);
+        return Err(refused(ReadingCause::MessageLevel, left));
     }
-    match length::read(m, from) {
-        Length::Refused { cause } => refused(cause, left),
-        Length::Read(x) => {
-            let start = x.start;
-            let stop = x.end;
-            let c = &m[start..stop];
-            if !constructed {
-                if x.indefinite {
-                    return refused(ReadingCause::Forbidden, left);
-                }
-                return primitive(c, bits, stop, left);
-            }
-            match all(c, x.indefinite, bits, depth - 1) {
-                Segments::Refused { cause, left: n } => refused(cause, n + (left - stop)),
-                Segments::Read(y) => Segments::Read(Gathered {
-                    end: start + y.end,
-                    size: y.size,
-                    unused: y.unused,
-                    back: y.back,
-                }),
-            }
+    let x = match length::read(m, from) {
+        Ok(x) => x,
+        Err(cause) => return Err(refused(cause, left)),
+    };
+    let start = x.start;
+    let stop = x.end;
+    let c = &m[start..stop];
+    if !constructed {
+        if x.indefinite {
+            return Err(refused(ReadingCause::Forbidden, left));
         }
+        return primitive(c, bits, stop, left);
+    }
+    match all(c, x.indefinite, bits, depth - 1) {
+        Ok(y) => Ok(Gathered {
+            end: start + y.end,
+            ..y
+        }),
+        Err(e) => Err(refused(e.cause, e.left + (left - stop))),
     }
 }
 
 // The segments in the contents m, which 00 00 closes if `indefinite`; they nest at most `depth` deep.
 #[cycle(all_segment)]
-fn all(m: &[u8], indefinite: bool, bits: bool, depth: usize) -> Segments
+fn all(m: &[u8], indefinite: bool, bits: bool, depth: usize) -> Result<Gathered, Unread>
     ensures { let k = kind_of bits in result ≡ told_segments k (length m.now) (read_all k (read_segment k depth) (mode indefinite) m.now) }
 {
     let one = least(bits);
@@ -162,47 +150,42 @@ fn all(m: &[u8], indefinite: bool, bits: bool, depth: usize) -> Segments
     loop {
         let left = m.len() - at;
         match ending::read(m, at, indefinite) {
-            End::Broken { cause } => return refused(cause, left),
-            End::Over { end } => {
-                return Segments::Read(Gathered {
+            Err(cause) => return Err(refused(cause, left)),
+            Ok(Some(end)) => {
+                return Ok(Gathered {
                     end,
                     size,
                     unused,
                     back: back + (end - at),
                 });
             }
-            End::More => {}
+            Ok(None) => {}
         }
         let rest = &m[at..];
-        match read_tag(rest, bits) {
-            Identifier::Refused { cause } => return refused(cause, left),
-            Identifier::Read { code, end } => {
-                if 0 < unused {
-                    return refused(ReadingCause::Contents, left + back);
-                }
-                match segment(rest, end, 32 <= code, bits, depth) {
-                    Segments::Refused { cause, left: n } => return refused(cause, n),
-                    Segments::Read(x) => {
-                        at += x.end;
-                        size = size - one + x.size;
-                        unused = x.unused;
-                        back = x.back;
-                    }
-                }
-            }
+        let i = match read_tag(rest, bits) {
+            Ok(i) => i,
+            Err(cause) => return Err(refused(cause, left)),
+        };
+        if 0 < unused {
+            return Err(refused(ReadingCause::Contents, left + back));
         }
+        let x = segment(rest, i.end, 32 <= i.code, bits, depth)?;
+        at += x.end;
+        size = size - one + x.size;
+        unused = x.unused;
+        back = x.back;
     }
 }
 
 // The segments of a string in the contents m, which 00 00 closes if `indefinite`.
-pub fn read(m: &[u8], indefinite: bool, bits: bool) -> Segments
+pub fn read(m: &[u8], indefinite: bool, bits: bool) -> Result<Gathered, Unread>
     ensures { let k = kind_of bits in result ≡ told_segments k (length m.now) (read_all k (read_segment k deepest) (mode indefinite) m.now) }
 {
     all(m, indefinite, bits, DEEPEST)
 }
 
 // Where segments end in the message, and what they carry in the buffer; how many bits of the last are unused.
-#[derive(Clone, Copy)]
+#[derive(Clone, Copy, Debug, PartialEq, Eq)]
 pub struct Joined {
     pub end: usize,
     pub next: usize,
@@ -261,29 +244,25 @@ pub fn join(m: &[u8], bits: bool, buf: &mut [u8], to: usize) -> Joined
                 };
             }
         } else {
-            match length::read(m, at + 1) {
-                Length::Refused { cause: _ } => {
-                    return Joined {
-                        end: m.len(),
-                        next,
-                        unused,
-                    };
+            let Ok(x) = length::read(m, at + 1) else {
+                return Joined {
+                    end: m.len(),
+                    next,
+                    unused,
+                };
+            };
+            let start = x.start;
+            let stop = x.end;
+            if 32 <= first {
+                at = start;
+                if x.indefinite {
+                    open += 1;
                 }
-                Length::Read(x) => {
-                    let start = x.start;
-                    let stop = x.end;
-                    if 32 <= first {
-                        at = start;
-                        if x.indefinite {
-                            open += 1;
-                        }
-                    } else {
-                        let c = &m[start..stop];
-                        next = put_carried(c, bits, buf, next);
-                        unused = unused_in(c, bits);
-                        at = stop;
-                    }
-                }
+            } else {
+                let c = &m[start..stop];
+                next = put_carried(c, bits, buf, next);
+                unused = unused_in(c, bits);
+                at = stop;
             }
         }
     }

@@ -5,6 +5,7 @@ use mathlib.Core.List.{List, [], ◌∷◌}
 use mathlib.Core.Path.{◌≡◌, refl, sym, ap, ◌∙◌, subst, fun_ext}
 use Prim.Native.Nat.{ℕ, suc, ◌≤◌, ◌<◌}
 use native.Mathlib.Omega.{arith}
+use Rattle.std.specs.Prelude.{Ok, Err}
 use lib.Dec.{ltb, eqb}
 use lib.ListN.{length}
 use borrow.Author.Tests.{ltb-true, ltb-false, eqb-true, eqb-false}
@@ -22,11 +23,9 @@ use Rattle.table.specs.Reading.{scan, look}
 use Rattle.table.specs.Decide.{dangling as Decide·dangling, mistagged as Decide·mistagged, circular as Decide·circular, sharing as Decide·sharing}
 use Rattle.table.specs.Decide.{infinite as is_infinite}
 use Rattle.table.specs.Cause.{cause_number, Holds, Breaks, misshapen, dangling, mistagged, circular, sharing, infinite, FirstCause}
-use Rattle.table.specs.Verdict.{Test, in_turn, record_causes, judge, too_long, verdict}
+use Rattle.table.specs.Verdict.{Test, in_turn, record_causes, judge, too_long, Verdict, verdict}
 use Rattle.table.specs.Passes.{Passes}
 use Rattle.table.specs.Walk.{Named}
-use Rattle.table.specs.declared.Verdict.{Verdict}
-use Rattle.table.specs.declared.Verdict.TheVariants.{Passed, Refused}
 use Rattle.table.proofs.Scan.{Found, all_table, table_beyond, scan_spells, scan_misshapen}
 use Rattle.table.proofs.Spelled.{spells_scan, spells_looks, spells_not_misshapen, misshapen_unique}
 use Rattle.table.proofs.Straight.{ends, below_there}
@@ -71,8 +70,8 @@ Before b k = (d : CheckCause) (q : ℕ) → cause_number d < k → Breaks b q d 
 
 -- what the verdict is to say
 abbrev pub Right : List ℕ → Verdict → Type 0
-Right b Passed = (c : CheckCause) (p : ℕ) → Breaks b p c → ⊥
-Right b (Refused c p) = FirstCause b c p
+Right b (Ok u) = (c : CheckCause) (p : ℕ) → Breaks b p c → ⊥
+Right b (Err x) = FirstCause b x.cause x.place
 
 -- a table whose causes are those of the octets
 module _ (b : List ℕ) (T : Table) (n : ℕ) (beyond : (t : ℕ) → n ≤ t → T t ≡ absent)

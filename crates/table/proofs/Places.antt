@@ -5,6 +5,7 @@ use mathlib.Core.List.{List, [], ◌∷◌, ◌++◌}
 use mathlib.Core.Path.{◌≡◌, subst}
 use Prim.Native.Nat.{ℕ, zero, suc, ◌+◌, ◌≤◌}
 use native.Mathlib.Omega.{arith}
+use Rattle.std.specs.Prelude.{Ok, Err}
 use lib.Dec.{ltb, eqb}
 use lib.ListN.{length, length-append}
 use borrow.Author.Tests.{ltb-true, ltb-false}
@@ -14,13 +15,11 @@ use Rattle.table.specs.Syntax.{Table}
 use Rattle.table.specs.Reading.{record_end, scan_from, scan, look}
 use Rattle.table.specs.declared.CheckCause.{CheckCause}
 use Rattle.table.specs.declared.CheckCause.TheVariants.{TableShape}
-use Rattle.table.specs.Verdict.{Test, in_turn, record_causes, judge, too_long, verdict}
-use Rattle.table.specs.declared.Verdict.{Verdict}
-use Rattle.table.specs.declared.Verdict.TheVariants.{Passed, Refused}
+use Rattle.table.specs.Verdict.{Test, in_turn, record_causes, judge, too_long, Verdict, no_flaw, flawed, verdict}
 
 abbrev Within : ℕ → Verdict → Type 0
-Within n Passed = Unit {0}
-Within n (Refused c p) = p ≤ n
+Within n (Ok u) = Unit {0}
+Within n (Err x) = x.place ≤ n
 
 scanned : (b : List ℕ) (k : ℕ) (os : List ℕ) (o : ℕ) → length (scan_from b k os o).offsets ≤ length os + k
 unfolding scan_from
@@ -45,12 +44,12 @@ within b =
     (test (not (scan b).whole) (λ f. rw f (omega arith)) λ f. rw f
     (judged (look b (scan b).offsets) (length (scan b).offsets) 128 record_causes (omega arith)))
 
-pub place_small : (b : List ℕ) (c : CheckCause) (p : ℕ) → verdict b ≡ Refused c p → p ≤ 128
+pub place_small : (b : List ℕ) (c : CheckCause) (p : ℕ) → verdict b ≡ flawed c p → p ≤ 128
 place_small b c p e = subst (Within 128) e (within b)
 
-pub passed_short : (b : List ℕ) → verdict b ≡ Passed → length b ≤ 8192
+pub passed_short : (b : List ℕ) → verdict b ≡ no_flaw → length b ≤ 8192
 unfolding verdict
 passed_short b e = test (too_long b) (λ f. absurd (refused (rw f at e))) λ f. omega (arith, ltb-false)
   where
-    refused : Refused TableShape 0 ≡ Passed → ⊥
+    refused : flawed TableShape 0 ≡ no_flaw → ⊥
     refused z = let o : ◌≡◌ {A = ℕ} 0 1 = cc in omega arith

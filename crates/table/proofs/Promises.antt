@@ -12,8 +12,7 @@ use Rattle.table.specs.Syntax.{Record, constructed}
 use Rattle.table.specs.Octets.{record_shaped, body_shaped}
 use Rattle.table.specs.Reading.{members_at, every_at, body_at}
 use Rattle.table.specs.Fields.{constructed_of}
-use Rattle.table.specs.Verdict.{verdict}
-use Rattle.table.specs.declared.Verdict.TheVariants.{Passed, Refused}
+use Rattle.table.specs.Verdict.{no_flaw, flawed, verdict}
 use Rattle.table.proofs.Pieces as pieces
 use Rattle.table.proofs.Reading as reading
 use Rattle.table.proofs.Fields as fields
@@ -22,10 +21,10 @@ use Rattle.table.proofs.Places as places
 
 -- The verdict, of any list: the place of a refusal, and the length of what passes.
 
-pub place_small : (b : List ℕ) (c : CheckCause) (p : ℕ) → verdict b ≡ Refused c p → p ≤ 128
+pub place_small : (b : List ℕ) (c : CheckCause) (p : ℕ) → verdict b ≡ flawed c p → p ≤ 128
 place_small = places.place_small
 
-pub passed_short : (b : List ℕ) → verdict b ≡ Passed → length b ≤ 8192
+pub passed_short : (b : List ℕ) → verdict b ≡ no_flaw → length b ≤ 8192
 passed_short = places.passed_short
 
 -- The body of kind k whose own part begins at p: the constructed bit goes by the kind alone.

@@ -6,6 +6,7 @@ use mathlib.Core.List.{List}
 use mathlib.Core.Path.{◌≡◌, refl, sym, subst, ◌∙◌}
 use Prim.Native.Nat.{ℕ, ◌≤◌}
 use native.Mathlib.Omega.{arith}
+use Rattle.std.specs.Prelude.{Ok, Err}
 use lib.Dec.{ltb}
 use lib.ListN.{length}
 use borrow.Author.Tests.{ltb-true, ltb-false}
@@ -16,10 +17,8 @@ use Rattle.table.specs.Syntax.{Record, table}
 use Rattle.table.specs.Octets.{Spells, Misshapen}
 use Rattle.table.specs.Reading.{scan, look}
 use Rattle.table.specs.Cause.{cause_number, Breaks, FirstCause}
-use Rattle.table.specs.Verdict.{verdict}
+use Rattle.table.specs.Verdict.{Verdict, no_flaw, flawed, verdict}
 use Rattle.table.specs.Passes.{Passes}
-use Rattle.table.specs.declared.Verdict.{Verdict}
-use Rattle.table.specs.declared.Verdict.TheVariants.{Passed, Refused}
 use Rattle.table.proofs.Scan.{scan_spells}
 use Rattle.table.proofs.Spelled.{unique, spells_scan, spells_not_misshapen, misshapen_unique}
 use Rattle.table.proofs.Causes.{same_cause, Right, looks, right, sound, keeps}
@@ -49,21 +48,21 @@ told b o v e = subst (Right b) e (right b o)
 
 module _ (b : List ℕ) (o : Octets b) where
   -- The cause that the verdict names is the first: none with a lower number holds, nor the same at a lower record.
-  pub named_first : (c : CheckCause) (p : ℕ) → verdict b ≡ Refused c p → FirstCause b c p
-  named_first c p e = told b o (Refused c p) e
+  pub named_first : (c : CheckCause) (p : ℕ) → verdict b ≡ flawed c p → FirstCause b c p
+  named_first c p e = told b o (flawed c p) e
 
-  -- The verdict is passed where no cause holds, and nowhere else.
-  pub passed_none : verdict b ≡ Passed → (c : CheckCause) (p : ℕ) → Breaks b p c → ⊥
-  passed_none e = told b o Passed e
+  -- The verdict is no_flaw where no cause holds, and nowhere else.
+  pub passed_none : verdict b ≡ no_flaw → (c : CheckCause) (p : ℕ) → Breaks b p c → ⊥
+  passed_none e = told b o no_flaw e
 
-  by_verdict : {X : Type 0} → (verdict b ≡ Passed → X) → ((c : CheckCause) (p : ℕ) → verdict b ≡ Refused c p → X) → X
+  by_verdict : {X : Type 0} → (verdict b ≡ no_flaw → X) → ((c : CheckCause) (p : ℕ) → verdict b ≡ flawed c p → X) → X
   by_verdict {X} f g = by (verdict b) refl
     where
       by : (v : Verdict) → verdict b ≡ v → X
-      by Passed e = f e
-      by (Refused c p) e = g c p e
+      by (Ok u) e = f e
+      by (Err x) e = g x.cause x.place e
 
-  pub none_passed : ((c : CheckCause) (p : ℕ) → Breaks b p c → ⊥) → verdict b ≡ Passed
+  pub none_passed : ((c : CheckCause) (p : ℕ) → Breaks b p c → ⊥) → verdict b ≡ no_flaw
   none_passed h = by_verdict (λ e. e) λ c p e. absurd (h c p (named_first c p e).holds)
 
   one_first : (c d : CheckCause) (p q : ℕ) → FirstCause b c p → FirstCause b d q → (c ≡ d) × (p ≡ q)
@@ -76,7 +75,7 @@ module _ (b : List ℕ) (o : Octets b) where
       (s, omega (arith, ltb-false p q e₃, ltb-false q p e₄))
 
   -- The first cause is the one that the verdict names.
-  pub first_named : (c : CheckCause) (p : ℕ) → FirstCause b c p → verdict b ≡ Refused c p
+  pub first_named : (c : CheckCause) (p : ℕ) → FirstCause b c p → verdict b ≡ flawed c p
   first_named c p x =
       by_verdict (λ e. absurd (passed_none e c p x.holds)) λ d q e.
       let s = one_first d c q p (named_first d q e) x in e ∙ rw (s.0, s.1)
@@ -86,9 +85,9 @@ module _ (b : List ℕ) (o : Octets b) where
   rules_kept x h = keeps b o h x
 
   -- A table that passes is the octets of records, and reading finds them.
-  pub passed_records : verdict b ≡ Passed → (rs : List Record) × Spells b rs × (look b (scan b).offsets ≡ table rs) × (length (scan b).offsets ≡ length rs)
+  pub passed_records : verdict b ≡ no_flaw → (rs : List Record) × Spells b rs × (look b (scan b).offsets ≡ table rs) × (length (scan b).offsets ≡ length rs)
   passed_records e = let f = sound b o (passed_none e) in (f.records, f.spells, looks b o f.spells, sym f.count)
 
   -- Of what is read of it, all that the crates above rely on.
-  pub passes : verdict b ≡ Passed → Passes b (look b (scan b).offsets) (length (scan b).offsets)
+  pub passes : verdict b ≡ no_flaw → Passes b (look b (scan b).offsets) (length (scan b).offsets)
   passes e = let (rs, x, l, n) = passed_records e in rw (l, n) (rules_kept x (passed_none e))

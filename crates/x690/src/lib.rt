@@ -3,7 +3,7 @@
 
 // Why the reading of a message refuses, 22 to 26, 28 and 29 (FORMATS, "Refusals"). The place is made of the octets that are left, where the
 // message is known.
-#[derive(Clone, Copy)]
+#[derive(Clone, Copy, Debug, PartialEq, Eq)]
 pub enum ReadingCause {
     Cut,
     Forbidden,
@@ -12,4 +12,11 @@ pub enum ReadingCause {
     Trailing,
     MessageLevel,
     LengthField,
+}
+
+// Why reading refuses, and how many octets are left from the place of the refusal to the end of those that were given.
+#[derive(Clone, Copy, Debug, PartialEq, Eq)]
+pub struct Unread {
+    pub cause: ReadingCause,
+    pub left: usize,
 }
