@@ -197,7 +197,7 @@ module _ (m : List ℕ) (start : ℕ) where
       pass_refused f g = let (l, q) = head_refused (drop at m) x a f g in to_end (onward ∙ rw q refl)
 
       module _ (y : Extent) (g : x ≡ Ok y) (in_m : at ≤ length m) where
-        pub pass_sized : y.indefinite ≡ false → (at < at + y.end) × (at + y.end ≤ length m) × Stands m start (at + y.end) k
+        pub pass_sized : y.indefinite ≡ false → (0 < y.end) × (at + y.end ≤ length m) × Stands m start (at + y.end) k
         pass_sized h =
             let (p, l, u, v) = head_definite (drop at m) x a y g h in
             let j : y.start + (y.end - y.start) ≡ y.end = omega arith in
@@ -206,7 +206,7 @@ module _ (m : List ℕ) (start : ℕ) where
             rw (p, drop-drop (y.end - y.start) y.start (drop at m), j, drop-drop y.end at m, ← counted) refl in
             (omega arith, w, turn (at + y.end) k (omega arith) w (onward ∙ q))
 
-        pub pass_opened : y.indefinite ≡ true → (at < at + y.start) × (at + y.start ≤ length m) × Stands m start (at + y.start) (k + 1)
+        pub pass_opened : y.indefinite ≡ true → (0 < y.start) × (at + y.start ≤ length m) × Stands m start (at + y.start) (k + 1)
         pass_opened h =
             let (p, l, u) = head_indefinite (drop at m) x a y g h in
             let n : suc (suc (k - 1)) ≡ k + 1 = omega arith in

@@ -10,6 +10,7 @@ use mathlib.Core.Path.{◌≡◌, refl, sym, ap, ◌∙◌}
 use native.Mathlib.Omega.{arith}
 use Prim.Native.Nat.{ℕ, suc, ◌+◌, ◌-◌, ◌*◌, ◌%◌, ◌≤◌, ◌<◌, min}
 use Rattle.std.specs.Prelude.{Result, Ok, Err}
+use Rattle.std.specs.Result.{result_unwrap_or}
 use Rattle.x690.specs.declared.ReadingCause.{ReadingCause}
 use Rattle.x690.specs.declared.ReadingCause.TheVariants.{Cut, Forbidden, LengthField}
 use Rattle.octets.specs.Answer.{Answer, got, refused, then, if}
@@ -21,7 +22,7 @@ use Rattle.octets.proofs.Lists.{behind, length_behind}
 use Rattle.ber.specs.Codes.{spelled, code_of}
 use Rattle.x690.specs.Length.{unsigned, longest_field, Length, short, long}
 use Rattle.x690.specs.Reading.{read_following, read_identifier, Size, definite, indefinite, read_length, read_long, fit}
-use Rattle.ber.specs.Told.{told_identifier, told_length, no_extent, extent_of, again_at}
+use Rattle.ber.specs.Told.{told_identifier, told_length, no_extent, again_at}
 use Rattle.ber.specs.declared.identifier.Identifier.{Identifier}
 use Rattle.ber.specs.declared.length.Extent.{Extent}
 use Rattle.x690.proofs.Identifiers.{identifier_sound, identifier_some}
@@ -434,15 +435,9 @@ module _ (m : List ℕ) (at : ℕ) where
     again_short k = rw (lt-leb (length m) at h, lt-ltb (get_or m at 0) 128 k)
 
     module _ (k : 128 ≤ get_or m at 0) (r : Result Extent ReadingCause) (a : Here m at r) where
-      again_other : again_at m at ≡ extent_of r
+      pub again_other : again_at m at ≡ result_unwrap_or r no_extent
       unfolding again_at if
       again_other = rw (lt-leb (length m) at h, le-ltb (get_or m at 0) 128 k, ← a 0)
-
-      pub again_read : (e : Extent) → r ≡ Ok e → e ≡ again_at m at
-      again_read e d = sym (again_other ∙ ap extent_of d)
-
-      pub again_no : (f : ReadingCause) → r ≡ Err f → no_extent ≡ again_at m at
-      again_no f d = sym (again_other ∙ ap extent_of d)
 
   -- it is the extent of what was read
   pub again_told : (l : ℕ) (x : Extent) (z : Size) (w : List ℕ) → x ≡ again_at m at → read_length l (drop at m) ≡ got z w
@@ -456,7 +451,7 @@ module _ (m : List ℕ) (at : ℕ) where
       (λ s. short h (ltb-true (get_or m at 0) 128 s))
       λ s. rw (again_other h (ltb-false (get_or m at 0) 128 s) (told_length (length m) (got z w)) λ k. rw (length_anywhere l k (drop at m) q), q) (told z))
     where
-      told : (z : Size) → Ok (extent_of (told_length (length m) (got z w))) ≡ told_length (length m) (got z w)
+      told : (z : Size) → Ok (result_unwrap_or (told_length (length m) (got z w)) no_extent) ≡ told_length (length m) (got z w)
       told (definite n) = refl
       told indefinite = refl
 

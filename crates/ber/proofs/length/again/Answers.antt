@@ -1,7 +1,8 @@
 -- `ber::length::again` meets its contract.
 -- Assumes nothing.
+use Rattle.std.proofs.Common.{sym, ◌∙◌}
 use Rattle.ber.proofs.Places.{one_back}
-use Rattle.ber.proofs.Told.{again_none, again_short, again_read, again_no}
+use Rattle.ber.proofs.Told.{again_none, again_short, again_other}
 use Rattle.ber.proofs.length.again.Goals as goal
 
 pub returns-then-m-at : goal.returns-then-m-at
@@ -11,4 +12,4 @@ pub returns-then-first-lt128 : goal.returns-then-first-lt128
 returns-then-first-lt128 c = again_short c.args.m.now _ c.if-m-at.false c.if-first-lt128.true
 
 pub returns : goal.returns
-returns c = ?
+returns c = c.unwrap_or.ensures ∙ sym (again_other c.args.m.now _ c.if-m-at.false c.if-first-lt128.false _ λ l. rw one_back at (c.read_other.ensures l))
