@@ -1,4 +1,4 @@
--- Laws of buffers: what a loop that copies has written, octets that have room, and a part that was lent on.
+-- Laws of buffers: octets that have room, and a part that was lent on.
 -- Assumes nothing.
 use mathlib.Core.List.{List, ◌++◌, append-nil, append_assoc}
 use mathlib.Core.Path.{◌≡◌, refl, sym, ◌∙◌}
