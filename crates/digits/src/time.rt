@@ -2,6 +2,7 @@
 ghost use Rattle.std.specs.Prelude.{◌≡◌, true, ◌<◌, ◌≤◌, ◌+◌, ◌%◌, length};
 ghost use Rattle.std.proofs.lemmas.List.Edits.{sets};
 ghost use Rattle.octets.specs.Buffers.{filled};
+ghost use Rattle.octets.specs.Numbers.{if_below};
 ghost use Rattle.dates.specs.Calendar.{years, in_range};
 ghost use Rattle.x690.specs.Time.{two_digits, year_digits, later_digits, time_digits, time_size, time_of, is_time};
 ghost use Rattle.digits.specs.Times.{pair_at, year_size, year_in, time_from, time_read, last_digits};
@@ -20,35 +21,41 @@ pub fn size(kind: TimeKind) -> usize
     }
 }
 
-// The number that two digits at a place spell; 100 if they are not both digits, so that no time in range has it.
+// The number that two digits at a place spell, if both octets are digits.
 #[tactic(auto, unfolding(crate::specs::Times::pair_at, crate::specs::Times::is_digit))]
-fn pair(c: &[u8], at: usize) -> u8
+fn pair(c: &[u8], at: usize) -> Option<u8>
     requires { at + 1 < length c.now }
-    ensures { (result ≡ pair_at c.now at) × (result ≤ 100) }
+    ensures { result ≡ if_below 100 (pair_at c.now at) }
 {
     let (a, b) = (c[at], c[at + 1]);
     if a.is_ascii_digit() && b.is_ascii_digit() {
-        (a - b'0') * 10 + (b - b'0')
+        Some((a - b'0') * 10 + (b - b'0'))
     } else {
-        100
+        None
     }
 }
 
+// The same; 100, which no time in range has, if they are not.
+#[tactic(auto, using(crate::proofs::TimeCode::pair_most))]
+fn number(c: &[u8], at: usize) -> u8
+    requires { at + 1 < length c.now }
+    ensures { result ≡ pair_at c.now at }
+{
+    pair(c, at).unwrap_or(100)
+}
+
 // The year of contents that are as long as those of a time; one out of range if it is not in digits.
-#[tactic(auto, unfolding(crate::specs::Times::year_in, x690::specs::Time::time_size))]
+#[tactic(auto, using(crate::proofs::TimeCode::pair_most), unfolding(crate::specs::Times::year_in, x690::specs::Time::time_size))]
 fn year(kind: TimeKind, c: &[u8]) -> u16
     requires { length c.now ≡ time_size kind }
     ensures { result ≡ year_in kind c.now }
 {
     match kind {
-        TimeKind::Utc => pair(c, 0) as u16,
-        TimeKind::Generalized => {
-            let low = pair(c, 2) as u16;
-            if low == 100 {
-                return 10000;
-            }
-            pair(c, 0) as u16 * 100 + low
-        }
+        TimeKind::Utc => u16::from(number(c, 0)),
+        TimeKind::Generalized => match pair(c, 2) {
+            Some(low) => u16::from(number(c, 0)) * 100 + u16::from(low),
+            None => 10000,
+        },
     }
 }
 
@@ -71,11 +78,11 @@ fn from(year: u16, c: &[u8], at: usize) -> DateTime
 {
     DateTime {
         year,
-        month: pair(c, at),
-        day: pair(c, at + 2),
-        hour: pair(c, at + 4),
-        minute: pair(c, at + 6),
-        second: pair(c, at + 8),
+        month: number(c, at),
+        day: number(c, at + 2),
+        hour: number(c, at + 4),
+        minute: number(c, at + 6),
+        second: number(c, at + 8),
     }
 }
 
