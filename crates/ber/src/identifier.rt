@@ -15,6 +15,7 @@ pub struct Identifier {
 }
 
 // The code of a tag, primitive or constructed.
+#[tactic(auto, using(crate::proofs::Codes::code_short, crate::proofs::Codes::code_long, crate::proofs::Codes::bit_small))]
 pub fn code_of(class: u8, constructed: bool, number: u16) -> u32
     ensures { (result ≡ code class constructed number) × (result < 16793600) }
 {
@@ -39,6 +40,7 @@ fn follow(n: u32, d: u32) -> u32
 }
 
 // The long form, after its leading octet.
+#[tactic(auto, using(crate::proofs::Told::follow_next, crate::proofs::Told::long_zero, crate::proofs::Told::long_few, crate::proofs::Told::long_read))]
 fn read_long(m: &[u8], lead: u32) -> Result<Identifier, ReadingCause>
     requires { (0 < length m.now) × (lead ≡ get_or m.now 0 0) × (31 ≤ lead % 32) }
     ensures { result ≡ told_identifier (length m.now) (read_identifier m.now) }
@@ -65,6 +67,7 @@ fn read_long(m: &[u8], lead: u32) -> Result<Identifier, ReadingCause>
 }
 
 // The identifier that m begins with.
+#[tactic(auto, using(crate::proofs::Told::identifier_none, crate::proofs::Told::identifier_short))]
 pub fn read(m: &[u8]) -> Result<Identifier, ReadingCause>
     ensures { result ≡ told_identifier (length m.now) (read_identifier m.now) }
 {

@@ -45,6 +45,7 @@ fn read_long(m: &[u8], at: usize, k: usize) -> Result<Extent, ReadingCause>
 }
 
 // The forms but the short one: `first` is the first octet, and the next is at `at`.
+#[tactic(auto, using(crate::proofs::Told::length_open, crate::proofs::Told::length_over, crate::proofs::Told::length_reserved))]
 fn read_other(m: &[u8], at: usize, first: usize) -> Result<Extent, ReadingCause>
     requires { (0 < at) × (at ≤ length m.now) × (first ≡ get_or m.now (at - 1) 0) × (128 ≤ first) × (first < 256) }
     ensures { (l : ℕ) → result ≡ told_length (length m.now) (read_length l (drop (at - 1) m.now)) }
@@ -68,6 +69,7 @@ fn read_other(m: &[u8], at: usize, first: usize) -> Result<Extent, ReadingCause>
 
 // The length octets at a place of m. Of a length that is read at most four octets stand between the first one and the contents, and a
 // definite one is below 2^32 (FORMATS, "Messages").
+#[tactic(auto, using(crate::proofs::Told::length_ruled, crate::proofs::Told::length_none, crate::proofs::Told::length_short, crate::proofs::Told::length_short_no, octets::proofs::Permutations::all_octets))]
 pub fn read(m: &[u8], at: usize) -> Result<Extent, ReadingCause>
     ensures { ((l : ℕ) → result ≡ told_length (length m.now) (read_length l (drop at m.now)))
         × ((x : Extent) → result ≡ Ok x → x.start ≤ at + 1 + longest_field)
@@ -93,6 +95,7 @@ pub fn read(m: &[u8], at: usize) -> Result<Extent, ReadingCause>
 }
 
 // The length octets at a place of m where a length was read before; if none can be read there, an extent of no octets.
+#[tactic(auto, using(crate::proofs::Told::again_none, crate::proofs::Told::again_short))]
 pub fn again(m: &[u8], at: usize) -> Extent
     ensures { result ≡ again_at m.now at }
 {
