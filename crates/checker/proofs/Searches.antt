@@ -6,12 +6,12 @@ use mathlib.Core.Path.{◌≡◌, refl, sym, ap, ◌∙◌}
 use Prim.Native.Nat.{ℕ, zero, suc, ◌+◌, ◌*◌, ◌≤◌, ◌<◌}
 use native.Mathlib.Nat.{one-mul}
 use native.Mathlib.Omega.{arith}
-use borrow.Author.Tests.{lt-ltb, le-ltb, ltb-true, ltb-false}
+use borrow.Author.Tests.{lt-ltb, le-ltb, ltb-true, ltb-false, eqb-true, eqb-false}
 use lib.Dec.{eqb, ltb}
 use lib.ListN.{get_or}
 use denote.Param.Members.{Mut}
 use denote.Ref.{Bor}
-use Rattle.std.specs.Prelude.{Option, Some, None, MatchOption}
+use Rattle.std.specs.Prelude.{Option, Some, None, MatchOption, unwrap_or}
 use Rattle.std.specs.declared.ops.Range.{Range}
 use Rattle.std.specs.Bool.{⊤}
 use Rattle.std.specs.Fn.{CalledAt}
@@ -20,8 +20,8 @@ use Rattle.std.specs.List.{FoldsTo, range_with_len, list_any, list_all}
 use Rattle.std.proofs.iter.Yields.{nat_range_steps}
 use Rattle.std.proofs.lemmas.Iterator.{first_from_Range}
 use Rattle.octets.specs.Lists.{any, all, lowest}
-use Rattle.octets.proofs.Search.{lowest_passes, before_lowest}
-use Rattle.octets.specs.Numbers.{if_below}
+use Rattle.octets.proofs.Search.{lowest_most, lowest_passes, before_lowest}
+use Rattle.octets.specs.Numbers.{unless_zero, if_below}
 use Rattle.octets.proofs.Tests.{test}
 use Rattle.table.specs.Reading.{members_at, every_at}
 
@@ -98,3 +98,17 @@ lowest_over f n u {j} {r} ran called =
 -- octets that stand side by side
 pub any_next : (f : ℕ → Bool) (b : List ℕ) (p n : ℕ) → list_any (λ k. f (get_or b (p + k) 0)) (range_with_len 0 n) ≡ any f (every_at 1 b p n)
 any_next f b p n = simp one-mul at (any_places f 1 b p n)
+
+-- the same where n stands for none
+pub lowest_or : (f : ℕ → Bool) (n : ℕ) {r : Option ℕ} → r ≡ if_below n (lowest f n) → unwrap_or r n ≡ lowest f n
+lowest_or f n e =
+    test (ltb (lowest f n) n)
+    (λ t. rw (e, t))
+    λ t. rw (e, t) (omega (arith, ltb-false (lowest f n) n t, lowest_most f n))
+
+-- what an answer says of the number that stands for it
+pub zero_is : {n : ℕ} → ◌≡◌ {A = Option ℕ} None (unless_zero n) → n ≡ 0
+zero_is {n} e = test (eqb n 0) (λ t. eqb-true n 0 t) λ t. let z = rw t at e in absurd (cc)
+
+pub end_is : {n k : ℕ} → ◌≡◌ {A = Option ℕ} (Some k) (unless_zero n) → (k ≡ n) × (n ≡ 0 → ⊥)
+end_is {n} {k} e = test (eqb n 0) (λ t. let z = rw t at e in absurd (cc)) λ t. let z = rw t at e in (cc, eqb-false n 0 t)

@@ -34,6 +34,7 @@ fn lowest_like(index: &[u64; 128], t: usize) -> usize
 }
 
 // For each of n records the one that stands for its first tag.
+#[tactic(auto, using(crate::proofs::Alike::like_in_low))]
 pub(crate) fn stand_ins(table: &[u8], index: &[u64; 128], n: usize) -> [u8; 128]
     requires { Filled table.now index.now n }
     ensures { (t : ℕ) → t < n → get_or result t 0 ≡ like (table_in table.now) t }
@@ -148,8 +149,10 @@ fn run_length(table: &[u8], at: usize, left: usize) -> usize
     requires { (0 < left) × (at + 3 * left ≤ 100000) }
     ensures { result ≡ suc (lowest (λ k. not (optional_in table.now at k)) (left - 1)) }
 {
-    let last = (0..left - 1).find(|&k| !optional(table, at + 2 * k));
-    last.map_or(left, |k| k + 1)
+    match (0..left - 1).find(|&k| !optional(table, at + 2 * k)) {
+        Some(k) => k + 1,
+        None => left,
+    }
 }
 
 // Whether two members of one run have a first tag in common.

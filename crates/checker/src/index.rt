@@ -44,6 +44,7 @@ fn explicit(kind: u8, tags: u8) -> u8
 }
 
 // An entry as one number.
+#[tactic(auto, unfolding(records::specs::Entries::packed))]
 fn pack(code: u32, own: u16, kind: u8, explicit: u8, simple: bool) -> u64
     requires { explicit < 128 }
     ensures { result ≡ packed (record { code = code; own = own; kind = kind; explicit = explicit; simple = simple }) }
@@ -57,6 +58,7 @@ fn pack(code: u32, own: u16, kind: u8, explicit: u8, simple: bool) -> u64
 }
 
 // The entry of the record at o, which is shaped.
+#[tactic(auto, using(records::proofs::Entries::heads, records::proofs::Entries::explicit_small), unfolding(records::specs::Entries::entry_at))]
 fn entry(table: &[u8], o: usize) -> u64
     requires { (length table.now ≤ 8192) × (0 < record_end table.now o) }
     ensures { result ≡ number_at table.now o }
