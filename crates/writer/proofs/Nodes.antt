@@ -1,13 +1,16 @@
 -- Nodes by their kinds: where they end, and which are leaves.
 -- Assumes nothing.
-use mathlib.Core.Bool.{Bool, true, false, not, ◌&&◌, ◌||◌, false≢true}
+use mathlib.Core.Bool.{Bool, true, false, not, ◌||◌, false≢true}
 use mathlib.Core.List.{List}
 use mathlib.Core.Path.{◌≡◌, refl, sym, ap, ◌∙◌}
-use Prim.Native.Nat.{ℕ, ◌+◌, ◌≤◌, ◌<◌}
+use Prim.Native.Nat.{ℕ, zero, suc, ◌+◌, ◌-◌, ◌≤◌, ◌<◌}
 use native.Mathlib.Omega.{arith}
-use borrow.Author.Tests.{lt-ltb, le-ltb, le-leb, eq-eqb, ne_eqb, ltb-false, leb-true}
-use lib.Dec.{ltb, leb, eqb}
-use lib.ListN.{length, get_or}
+use borrow.Author.Tests.{lt-ltb, le-ltb, eq-eqb, ne_eqb, ltb-true, ltb-false}
+use lib.Dec.{ltb, eqb}
+use lib.ListN.{length, get_or, take, drop, length-take, length-drop}
+use lib.Seq.{get_or-take, get_or-drop}
+use Rattle.std.specs.Prelude.{Option, Some}
+use Rattle.octets.specs.Numbers.{unless_zero}
 use Rattle.octets.proofs.Tests.{test, at, or_by, or_false}
 use Rattle.octets.proofs.Lists.{both}
 use Rattle.octets.specs.Lists.{all}
@@ -163,23 +166,52 @@ module _ (v : List ℕ) (at : ℕ) where
           no = λ e. rw (le-ltb (length v) (at + 3) h, eq-eqb (get_or v at 0) 0x56 f, e) refl;
         }
 
--- presence octets, with the test of their room
-module _ (v : List ℕ) (p : ℕ) (t : Bool) (et : t ≡ (leb (p + 1 + get_or v p 0) (length v) && all (λ x. ltb x 2) (every_at 1 v (p + 1) (get_or v p 0)))) where
-  pub members_shaped : t ≡ true → p + 1 + get_or v p 0 ≡ members_end v p
+-- flags are octets below 2
+flags_each : (v : List ℕ) (q n : ℕ) → all (λ x. ltb x 2) (every_at 1 v q n) ≡ true → (k : ℕ) → k < n → get_or v (q + k) 0 < 2
+unfolding all every_at
+flags_each v q zero h k g = absurd (omega arith)
+flags_each v q (suc n) h zero g = let z : q + 0 ≡ q = omega arith in rw z (ltb-true (get_or v q 0) 2 (both (ltb (get_or v q 0) 2) (all (λ x. ltb x 2) (every_at 1 v (q + 1) n)) h).0)
+flags_each v q (suc n) h (suc k) g =
+    let z : q + 1 + k ≡ q + suc k = omega arith in
+    rw z at (flags_each v (q + 1) n (both (ltb (get_or v q 0) 2) (all (λ x. ltb x 2) (every_at 1 v (q + 1) n)) h).1 k (omega arith))
+
+each_flags : (v : List ℕ) (q n : ℕ) → ((k : ℕ) → k < n → get_or v (q + k) 0 < 2) → all (λ x. ltb x 2) (every_at 1 v q n) ≡ true
+unfolding all every_at
+each_flags v q zero h = refl
+each_flags v q (suc n) h =
+    let z : q + 0 ≡ q = omega arith in
+    rw (lt-ltb (get_or v q 0) 2 (rw z at (h 0 (omega arith))), each_flags v (q + 1) n (λ k g. let e : q + suc k ≡ q + 1 + k = omega arith in rw e at (h (suc k) (omega arith)))) refl
+
+-- presence octets that are there, and whether each of their slice is below 2
+module _ (v : List ℕ) (p n : ℕ) (en : n ≡ get_or v p 0) (l : p + 1 + n ≤ length v) where
+  abbrev Slice : List ℕ
+  Slice = take (p + 1 + n - (p + 1)) (drop (p + 1) v)
+
+  slice_octet : (k : ℕ) → k < n → get_or Slice k 0 ≡ get_or v (p + 1 + k) 0
+  slice_octet k h = get_or-take (p + 1 + n - (p + 1)) (drop (p + 1) v) k 0 (omega arith) ∙ get_or-drop (p + 1) v k 0
+
+  slice_long : length Slice ≡ n
+  slice_long = simp (length-take, length-drop) (omega arith)
+
+  pub members_shaped : ((k : ℕ) → k < length Slice → get_or Slice k 0 < 2) → members_end v p ≡ p + 1 + n
   unfolding members_end
   members_shaped f =
-      let z = both (leb (p + 1 + get_or v p 0) (length v)) (all (λ x. ltb x 2) (every_at 1 v (p + 1) (get_or v p 0))) (sym et ∙ f) in
-      let l = leb-true (p + 1 + get_or v p 0) (length v) z.0 in
-      rw (le-ltb (length v) (p + 1) (omega arith), le-ltb (length v) (p + 1 + get_or v p 0) l, z.1) refl
+      let g = each_flags v (p + 1) n (λ k h. rw (← slice_octet k h) (f k (rw slice_long h))) in
+      rw (← en, le-ltb (length v) (p + 1) (omega arith), le-ltb (length v) (p + 1 + n) l, g) refl
 
-  pub members_shapeless : t ≡ false → 0 ≡ members_end v p
+  pub members_shapeless : (((k : ℕ) → k < length Slice → get_or Slice k 0 < 2) → ⊥) → members_end v p ≡ 0
   unfolding members_end
   members_shapeless f =
-      test (ltb (length v) (p + 1)) (λ a. rw a refl) λ a.
-      test (ltb (length v) (p + 1 + get_or v p 0)) (λ c. rw (a, c) refl) λ c.
-      let l : leb (p + 1 + get_or v p 0) (length v) ≡ true = le-leb (p + 1 + get_or v p 0) (length v) (ltb-false (length v) (p + 1 + get_or v p 0) c) in
-      let g : all (λ x. ltb x 2) (every_at 1 v (p + 1) (get_or v p 0)) ≡ false = sym (rw l at et) ∙ f in
-      rw (a, c, g) refl
+      test (all (λ x. ltb x 2) (every_at 1 v (p + 1) n))
+      (λ g. absurd (f (λ k h. let h' : k < n = rw slice_long at h in rw (slice_octet k h') (flags_each v (p + 1) n g k h'))))
+      λ g. rw (← en, le-ltb (length v) (p + 1) (omega arith), le-ltb (length v) (p + 1 + n) l, g) refl
+
+pub shaped_some : (n : ℕ) → 0 < n → ◌≡◌ {A = Option ℕ} (Some n) (unless_zero n)
+shaped_some n h = let e : eqb n 0 ≡ false = ne_eqb n 0 (λ z. omega arith) in rw e refl
+
+pub members_short : (v : List ℕ) (p : ℕ) → length v < p + 1 + get_or v p 0 → members_end v p ≡ 0
+unfolding members_end
+members_short v p l = test (ltb (length v) (p + 1)) (λ a. rw a refl) λ a. rw (a, lt-ltb (length v) (p + 1 + get_or v p 0) l) refl
 
 -- where the own part of a constructed kind ends
 module _ (v : List ℕ) (k p : ℕ) (c : constructed_of k ≡ true) where
