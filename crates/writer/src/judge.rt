@@ -52,13 +52,7 @@ fn suits(table: &[u8], e: Entry, v: &[u8], kind: u8, p: usize) -> bool
 }
 
 // A leaf: where it ends, and how many contents octets it has.
-fn judge_leaf(
-    table: &[u8],
-    e: Entry,
-    v: &[u8],
-    at: usize,
-    level: usize,
-) -> Result<Judged, Unfit>
+fn judge_leaf(table: &[u8], e: Entry, v: &[u8], at: usize, level: usize) -> Result<Judged, Unfit>
     requires { (length v.now ≤ 16384)
         × IsMarked v.now at
         × (constructed_of (get_or v.now (at + 2) 0) ≡ false)

@@ -16,7 +16,7 @@ judge_built-returns-then-is_none t c =
     let a = c.args in
     let q = c.requires in
     let N : Node a.table.now a.index.now a.v.now a.t a.at =
-        record { octets = λ k. omega (arith, c.type_inv.table k); ready = q.0; there = q.1; marked = q.2; constructed = q.3 } in
+    record { octets = λ k. omega (arith, c.type_inv.table k); ready = q.0; there = q.1; marked = q.2; constructed = q.3 } in
     rw c.unfit.ensures (built_shape N a.level (own_none _ _ _ c.own_end.ensures c.is_none.ensures c.if-is_none.true) a.notes.now)
 
 pub judge_built-returns-then-level-eq0 : goal.judge_built-returns-then-level-eq0
@@ -24,7 +24,7 @@ judge_built-returns-then-level-eq0 t c =
     let a = c.args in
     let q = c.requires in
     let N : Node a.table.now a.index.now a.v.now a.t a.at =
-        record { octets = λ k. omega (arith, c.type_inv.table k); ready = q.0; there = q.1; marked = q.2; constructed = q.3 } in
+    record { octets = λ k. omega (arith, c.type_inv.table k); ready = q.0; there = q.1; marked = q.2; constructed = q.3 } in
     let s = own_some _ _ _ c.own_end.ensures c.is_none.ensures c.if-is_none.false in
     rw c.unfit-then-level-eq0.ensures (built_level N a.level s c.if-level-eq0.true a.notes.now)
 
@@ -33,7 +33,7 @@ judge_built-agrees-requires t c =
     let a = c.args in
     let q = c.requires in
     let N : Node a.table.now a.index.now a.v.now a.t a.at =
-        record { octets = λ k. omega (arith, c.type_inv.table k); ready = q.0; there = q.1; marked = q.2; constructed = q.3 } in
+    record { octets = λ k. omega (arith, c.type_inv.table k); ready = q.0; there = q.1; marked = q.2; constructed = q.3 } in
     let s = own_some _ _ _ c.own_end.ensures c.is_none.ensures c.if-is_none.false in
     (omega (arith, q.2.0, q.0.little), q.3, s, built_known N a.level s _ c.unpack.ensures)
 
@@ -42,7 +42,7 @@ judge_built-returns-then-not-agrees t c =
     let a = c.args in
     let q = c.requires in
     let N : Node a.table.now a.index.now a.v.now a.t a.at =
-        record { octets = λ k. omega (arith, c.type_inv.table k); ready = q.0; there = q.1; marked = q.2; constructed = q.3 } in
+    record { octets = λ k. omega (arith, c.type_inv.table k); ready = q.0; there = q.1; marked = q.2; constructed = q.3 } in
     let s = own_some _ _ _ c.own_end.ensures c.is_none.ensures c.if-is_none.false in
     rw c.unfit-then-not-agrees.ensures
     (built_ill N a.level s _ c.unpack.ensures c.if-level-eq0.false _ c.agrees.ensures c.if-not-agrees.true a.notes.now)
@@ -52,7 +52,7 @@ judge_built-judge_members-requires t c =
     let a = c.args in
     let q = c.requires in
     let N : Node a.table.now a.index.now a.v.now a.t a.at =
-        record { octets = λ k. omega (arith, c.type_inv.table k); ready = q.0; there = q.1; marked = q.2; constructed = q.3 } in
+    record { octets = λ k. omega (arith, c.type_inv.table k); ready = q.0; there = q.1; marked = q.2; constructed = q.3 } in
     let s = own_some _ _ _ c.own_end.ensures c.is_none.ensures c.if-is_none.false in (
       omega (arith, c.decreases, c.if-level-eq0.false),
       (
@@ -67,7 +67,7 @@ judge_built-returns-in_err-judged t c =
     let a = c.args in
     let q = c.requires in
     let N : Node a.table.now a.index.now a.v.now a.t a.at =
-        record { octets = λ k. omega (arith, c.type_inv.table k); ready = q.0; there = q.1; marked = q.2; constructed = q.3 } in
+    record { octets = λ k. omega (arith, c.type_inv.table k); ready = q.0; there = q.1; marked = q.2; constructed = q.3 } in
     let s = own_some _ _ _ c.own_end.ensures c.is_none.ensures c.if-is_none.false in
     let p = err_from_is_err_and c.from_residual.result c.from_residual.ensures.1 in
     rw (p.1, p.2)
@@ -86,7 +86,7 @@ judge_built-returns t c =
     let q = c.requires in
     let d = c.in_ok-judged.judged in
     let N : Node a.table.now a.index.now a.v.now a.t a.at =
-        record { octets = λ k. omega (arith, c.type_inv.table k); ready = q.0; there = q.1; marked = q.2; constructed = q.3 } in
+    record { octets = λ k. omega (arith, c.type_inv.table k); ready = q.0; there = q.1; marked = q.2; constructed = q.3 } in
     let s = own_some _ _ _ c.own_end.ensures c.is_none.ensures c.if-is_none.false in
     built_done N a.level s (unpacked (get_or a.index.now a.t 0)) refl c.if-level-eq0.false _ (rw c.unpack.ensures at c.agrees.ensures) c.if-not-agrees.false _
     a.notes.now _ c.judge_members.ensures d.end d.size c.in_ok-judged.was q.4
@@ -140,24 +140,24 @@ pub judge_members-size-requires : goal.judge_members-size-requires
 judge_members-size-requires t c =
     let m = member c.requires.0 c.requires.1 c.loop-i.invariant c.unpack-e.ensures c.count-n.ensures.0 c.loop-i-test.true c.in-Some.t c.in-Some.ensures in
     let S : Said m (Ok c.if-is_simple.judged) c.if-is_simple.notes =
-        elim c.if-is_simple.branch [
-          | judge_members-then-is_simple+in_ok-judged w ↦
-              rw (w.judged-is, w.notes-is)
-              (member_fit m _ _ (leaf_said m c.unpack-r.result c.unpack-r.ensures (c.marked.ensures.yes c.if-not-marked.false) _ c.is_simple.ensures w.if-is_simple.true _ w.judge_leaf.ensures) _ w.in_ok-judged.was)
-          | judge_members-else-is_simple+in_ok-judged-2 w ↦ rw (w.judged-is, w.notes-is) (member_fit m _ _ w.judge_built.ensures _ w.in_ok-judged-2.was)
-        ] in
+    elim c.if-is_simple.branch [
+      | judge_members-then-is_simple+in_ok-judged w ↦
+          rw (w.judged-is, w.notes-is)
+          (member_fit m _ _ (leaf_said m c.unpack-r.result c.unpack-r.ensures (c.marked.ensures.yes c.if-not-marked.false) _ c.is_simple.ensures w.if-is_simple.true _ w.judge_leaf.ensures) _ w.in_ok-judged.was)
+      | judge_members-else-is_simple+in_ok-judged-2 w ↦ rw (w.judged-is, w.notes-is) (member_fit m _ _ w.judge_built.ensures _ w.in_ok-judged-2.was)
+    ] in
     (rw (← c.unpack-r.ensures) (entry_known m c.unpack-r.result c.unpack-r.ensures), member_small m _ _ S)
 
 pub judge_members-loop-i-preserved : goal.judge_members-loop-i-preserved
 judge_members-loop-i-preserved t c =
     let m = member c.requires.0 c.requires.1 c.loop-i.invariant c.unpack-e.ensures c.count-n.ensures.0 c.loop-i-test.true c.in-Some.t c.in-Some.ensures in
     let S : Said m (Ok c.if-is_simple.judged) c.if-is_simple.notes =
-        elim c.if-is_simple.branch [
-          | judge_members-then-is_simple+in_ok-judged w ↦
-              rw (w.judged-is, w.notes-is)
-              (member_fit m _ _ (leaf_said m c.unpack-r.result c.unpack-r.ensures (c.marked.ensures.yes c.if-not-marked.false) _ c.is_simple.ensures w.if-is_simple.true _ w.judge_leaf.ensures) _ w.in_ok-judged.was)
-          | judge_members-else-is_simple+in_ok-judged-2 w ↦ rw (w.judged-is, w.notes-is) (member_fit m _ _ w.judge_built.ensures _ w.in_ok-judged-2.was)
-        ] in
+    elim c.if-is_simple.branch [
+      | judge_members-then-is_simple+in_ok-judged w ↦
+          rw (w.judged-is, w.notes-is)
+          (member_fit m _ _ (leaf_said m c.unpack-r.result c.unpack-r.ensures (c.marked.ensures.yes c.if-not-marked.false) _ c.is_simple.ensures w.if-is_simple.true _ w.judge_leaf.ensures) _ w.in_ok-judged.was)
+      | judge_members-else-is_simple+in_ok-judged-2 w ↦ rw (w.judged-is, w.notes-is) (member_fit m _ _ w.judge_built.ensures _ w.in_ok-judged-2.was)
+    ] in
     member_done m c.unpack-r.result c.unpack-r.ensures _ _ S _ _ (rw (← c.unpack-r.ensures) at c.size.ensures.0) c.grow-total.ensures.0
 
 pub judge_members-returns : goal.judge_members-returns

@@ -52,10 +52,10 @@ put-next-requires t c =
     let m = member c.requires l.i l.at l.next l.buf (l.invariant.still c.requires) l.invariant.within l.auto.buf c.unpack-e.ensures c.count-n.ensures.0
     c.loop-i-test.true c.in-Some.t c.in-Some.ensures c.unpack-r.ensures in
     let z : Sized m c.if-r.size =
-        elim c.if-r.branch [
-          | then-r w ↦ sized_leaf m w.if-r.true _ _ w.size-size.ensures.0 w.size-is
-          | else-r w ↦ sized_built m w.if-r.false _ w.size-is
-        ] in
+    elim c.if-r.branch [
+      | then-r w ↦ sized_leaf m w.if-r.true _ _ w.size-size.ensures.0 w.size-is
+      | else-r w ↦ sized_built m w.if-r.false _ w.size-is
+    ] in
     (rw (← c.unpack-r.ensures) (put_known m), put_capped m _ z, rw (← c.unpack-r.ensures) (put_front m _ z))
 
 pub put-at-requires : goal.put-at-requires
@@ -65,20 +65,20 @@ put-at-requires t c =
     let m = member c.requires l.i l.at l.next l.buf (l.invariant.still c.requires) l.invariant.within l.auto.buf c.unpack-e.ensures c.count-n.ensures.0
     c.loop-i-test.true c.in-Some.t c.in-Some.ensures c.unpack-r.ensures in
     let z : Sized m c.if-r.size =
-        elim c.if-r.branch [
-          | then-r w ↦ sized_leaf m w.if-r.true _ _ w.size-size.ensures.0 w.size-is
-          | else-r w ↦ sized_built m w.if-r.false _ w.size-is
-        ] in
+    elim c.if-r.branch [
+      | then-r w ↦ sized_leaf m w.if-r.true _ _ w.size-size.ensures.0 w.size-is
+      | else-r w ↦ sized_built m w.if-r.false _ w.size-is
+    ] in
     let q : Fronted m =
-        record {
-          size = c.if-r.size;
-          sized = z;
-          next = c.put-next.result;
-          buf = c.put-next.new.buf;
-          nexts = rw (← c.unpack-r.ensures) at c.put-next.ensures.0;
-          bufs = rw (← c.unpack-r.ensures) at c.put-next.ensures.1;
-          same = c.put-next.auto.buf;
-        } in
+    record {
+      size = c.if-r.size;
+      sized = z;
+      next = c.put-next.result;
+      buf = c.put-next.new.buf;
+      nexts = rw (← c.unpack-r.ensures) at c.put-next.ensures.0;
+      bufs = rw (← c.unpack-r.ensures) at c.put-next.ensures.1;
+      same = c.put-next.auto.buf;
+    } in
     let r = put_room q c.if-r-2.true in
     ((put_near m).1, put_simple m c.if-r-2.true, put_own m, r.0, r.1)
 
@@ -89,20 +89,20 @@ overflow_add-next t c =
     let m = member c.requires l.i l.at l.next l.buf (l.invariant.still c.requires) l.invariant.within l.auto.buf c.unpack-e.ensures c.count-n.ensures.0
     c.loop-i-test.true c.in-Some.t c.in-Some.ensures c.unpack-r.ensures in
     let z : Sized m c.if-r.size =
-        elim c.if-r.branch [
-          | then-r w ↦ sized_leaf m w.if-r.true _ _ w.size-size.ensures.0 w.size-is
-          | else-r w ↦ sized_built m w.if-r.false _ w.size-is
-        ] in
+    elim c.if-r.branch [
+      | then-r w ↦ sized_leaf m w.if-r.true _ _ w.size-size.ensures.0 w.size-is
+      | else-r w ↦ sized_built m w.if-r.false _ w.size-is
+    ] in
     let q : Fronted m =
-        record {
-          size = c.if-r.size;
-          sized = z;
-          next = c.put-next.result;
-          buf = c.put-next.new.buf;
-          nexts = rw (← c.unpack-r.ensures) at c.put-next.ensures.0;
-          bufs = rw (← c.unpack-r.ensures) at c.put-next.ensures.1;
-          same = c.put-next.auto.buf;
-        } in
+    record {
+      size = c.if-r.size;
+      sized = z;
+      next = c.put-next.result;
+      buf = c.put-next.new.buf;
+      nexts = rw (← c.unpack-r.ensures) at c.put-next.ensures.0;
+      bufs = rw (← c.unpack-r.ensures) at c.put-next.ensures.1;
+      same = c.put-next.auto.buf;
+    } in
     omega (arith, (put_room q c.if-r-2.true).1, c.put-next.auto.buf, c.loop-i.auto.buf, c.well_formed)
 
 pub put_members-y-requires : goal.put_members-y-requires
@@ -112,21 +112,20 @@ put_members-y-requires t c =
     let m = member c.requires l.i l.at l.next l.buf (l.invariant.still c.requires) l.invariant.within l.auto.buf c.unpack-e.ensures c.count-n.ensures.0
     c.loop-i-test.true c.in-Some.t c.in-Some.ensures c.unpack-r.ensures in
     let z : Sized m c.if-r.size =
-        elim c.if-r.branch [
-          | then-r w ↦ sized_leaf m w.if-r.true _ _ w.size-size.ensures.0 w.size-is
-          | else-r w ↦ sized_built m w.if-r.false _ w.size-is
-        ] in
+    elim c.if-r.branch [
+      | then-r w ↦ sized_leaf m w.if-r.true _ _ w.size-size.ensures.0 w.size-is
+      | else-r w ↦ sized_built m w.if-r.false _ w.size-is
+    ] in
     let q : Fronted m =
-        record {
-          size = c.if-r.size;
-          sized = z;
-          next = c.put-next.result;
-          buf = c.put-next.new.buf;
-          nexts = rw (← c.unpack-r.ensures) at c.put-next.ensures.0;
-          bufs = rw (← c.unpack-r.ensures) at c.put-next.ensures.1;
-          same = c.put-next.auto.buf;
-        } in
-    (
+    record {
+      size = c.if-r.size;
+      sized = z;
+      next = c.put-next.result;
+      buf = c.put-next.new.buf;
+      nexts = rw (← c.unpack-r.ensures) at c.put-next.ensures.0;
+      bufs = rw (← c.unpack-r.ensures) at c.put-next.ensures.1;
+      same = c.put-next.auto.buf;
+    } in (
       omega (arith, (put_near m).0, c.loop-i.invariant.onward, c.decreases),
       rw (← c.unpack-r.ensures) (put_under q (λ k. omega (arith, c.type_inv.table k)) c.if-r-2.false),
     )
@@ -135,33 +134,33 @@ pub loop-i-preserved : goal.loop-i-preserved
 loop-i-preserved t c =
     let a = c.args in
     let after : (Y : Puts a.table.now a.index.now a.v.now a.notes.now (unpacked a.w) a.p a.to a.buf.now)
-        → (c.loop-i.at ≤ c.if-r-2.at) × (c.if-r-2.at ≤ length a.v.now) × Still Y (c.loop-i.i + 1) c.if-r-2.at c.if-r-2.next c.if-r-2.buf =
-        λ Y.
-            let l = c.loop-i in
-            let m = member Y l.i l.at l.next l.buf (l.invariant.still Y) l.invariant.within l.auto.buf c.unpack-e.ensures c.count-n.ensures.0
-            c.loop-i-test.true c.in-Some.t c.in-Some.ensures c.unpack-r.ensures in
-            let z : Sized m c.if-r.size =
-                elim c.if-r.branch [
-                  | then-r w ↦ sized_leaf m w.if-r.true _ _ w.size-size.ensures.0 w.size-is
-                  | else-r w ↦ sized_built m w.if-r.false _ w.size-is
-                ] in
-            let q : Fronted m =
-                record {
-                  size = c.if-r.size;
-                  sized = z;
-                  next = c.put-next.result;
-                  buf = c.put-next.new.buf;
-                  nexts = rw (← c.unpack-r.ensures) at c.put-next.ensures.0;
-                  bufs = rw (← c.unpack-r.ensures) at c.put-next.ensures.1;
-                  same = c.put-next.auto.buf;
-                } in
-            elim c.if-r-2.branch [
-              | then-r-2 w ↦ rw (w.at-is, w.next-is, w.buf-is) (put_leaf q w.if-r-2.true _ _ w.put-at.ensures.0 w.put-at.ensures.1)
-              | else-r-2 w ↦
-                  let e = rw (← c.unpack-r.ensures) at w.put_members-y.ensures in
-                  rw (w.at-is, w.next-is, w.buf-is) (put_built q (λ k. omega (arith, c.type_inv.table k)) w.if-r-2.false _ _
-                  (e (put_under q (λ k. omega (arith, c.type_inv.table k)) w.if-r-2.false)))
-            ] in
+    → (c.loop-i.at ≤ c.if-r-2.at) × (c.if-r-2.at ≤ length a.v.now) × Still Y (c.loop-i.i + 1) c.if-r-2.at c.if-r-2.next c.if-r-2.buf =
+    λ Y.
+    let l = c.loop-i in
+    let m = member Y l.i l.at l.next l.buf (l.invariant.still Y) l.invariant.within l.auto.buf c.unpack-e.ensures c.count-n.ensures.0
+    c.loop-i-test.true c.in-Some.t c.in-Some.ensures c.unpack-r.ensures in
+    let z : Sized m c.if-r.size =
+    elim c.if-r.branch [
+      | then-r w ↦ sized_leaf m w.if-r.true _ _ w.size-size.ensures.0 w.size-is
+      | else-r w ↦ sized_built m w.if-r.false _ w.size-is
+    ] in
+    let q : Fronted m =
+    record {
+      size = c.if-r.size;
+      sized = z;
+      next = c.put-next.result;
+      buf = c.put-next.new.buf;
+      nexts = rw (← c.unpack-r.ensures) at c.put-next.ensures.0;
+      bufs = rw (← c.unpack-r.ensures) at c.put-next.ensures.1;
+      same = c.put-next.auto.buf;
+    } in
+    elim c.if-r-2.branch [
+      | then-r-2 w ↦ rw (w.at-is, w.next-is, w.buf-is) (put_leaf q w.if-r-2.true _ _ w.put-at.ensures.0 w.put-at.ensures.1)
+      | else-r-2 w ↦
+          let e = rw (← c.unpack-r.ensures) at w.put_members-y.ensures in
+          rw (w.at-is, w.next-is, w.buf-is) (put_built q (λ k. omega (arith, c.type_inv.table k)) w.if-r-2.false _ _
+          (e (put_under q (λ k. omega (arith, c.type_inv.table k)) w.if-r-2.false)))
+    ] in
     record { onward = omega (arith, c.loop-i.invariant.onward, (after c.requires).0); within = (after c.requires).1; still = λ Y. (after Y).2 }
 
 pub returns : goal.returns
