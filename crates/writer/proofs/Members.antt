@@ -138,9 +138,6 @@ module _ {b index v : List ℕ} {e : Entry} {p n : ℕ} {first : List ℕ} (m : 
   pub member_there : m.t < count_in b
   member_there = rw m.is (m.stands.types m.i m.one (rw (← m.is) m.there))
 
-  pub member_few : m.t < 128
-  member_few = let h = member_there in let f = m.ready.filled.few in omega arith
-
   pub member_unmarked : (r : Bool) → Marked v m.at r → r ≡ false → RowSaid b v e p n first (unfit ValueShape m.at) m.notes
   member_unmarked r k f =
       let x = value_shape T m.t v m.at m.so_far.within n (λ _. []) (k.no f) in (

@@ -5,13 +5,13 @@ use mathlib.Core.List.{List}
 use mathlib.Core.Path.{◌≡◌, refl, sym, ap, ◌∙◌}
 use Prim.Native.Nat.{ℕ, zero, suc, ◌+◌, ◌-◌, ◌≤◌, ◌<◌}
 use native.Mathlib.Omega.{arith}
-use borrow.Author.Tests.{lt-ltb, le-ltb, eq-eqb, ne_eqb, ltb-true, ltb-false}
+use borrow.Author.Tests.{lt-ltb, le-ltb, ne_eqb, ltb-true, ltb-false}
 use lib.Dec.{ltb, eqb}
 use lib.ListN.{length, get_or, take, drop, length-take, length-drop}
 use lib.Seq.{get_or-take, get_or-drop}
 use Rattle.std.specs.Prelude.{Option, Some}
 use Rattle.octets.specs.Numbers.{unless_zero}
-use Rattle.octets.proofs.Tests.{test, at, or_by, or_false}
+use Rattle.octets.proofs.Tests.{test, at, or_false}
 use Rattle.octets.proofs.Lists.{both}
 use Rattle.octets.specs.Lists.{all}
 use Rattle.dates.specs.declared.TimeKind.TheVariants.{Utc, Generalized}
@@ -20,7 +20,7 @@ use Rattle.table.specs.Octets.{kind}
 use Rattle.table.specs.Reading.{every_at, body_at}
 use Rattle.table.specs.Fields.{constructed_of}
 use Rattle.coding.specs.Judging.{a_leaf, leaf_kind, node_kind, agrees}
-use Rattle.writer.specs.Nodes.{fixed_end, members_end, own_end, end_at, leaf_of, node_of, node_at, Marked}
+use Rattle.writer.specs.Nodes.{fixed_end, members_end, own_end, end_at, leaf_of, node_of, node_at}
 use Rattle.writer.proofs.Forms.{agreed_kind}
 
 none : {X : Type 0} → 0 < 0 → X
@@ -147,25 +147,6 @@ long_end v p k =
 pub built_long : (v : List ℕ) (p : ℕ) → 0 < end_at v p → constructed_of (get_or v (p + 2) 0) ≡ true → p + 4 ≤ end_at v p
 built_long v p h g = let w = long_end v (p + 3) (get_or v (p + 2) 0) g (own_shaped v p h) in rw (own_end_is v p h) (omega arith)
 
--- the mark of a node
-module _ (v : List ℕ) (at : ℕ) where
-  pub unmarked_short : length v < at + 3 → Marked v at false
-  unfolding end_at
-  unmarked_short h = record { yes = λ e. absurd (false≢true e); no = λ e. rw (lt-ltb (length v) (at + 3) h) refl }
-
-  module _ (h : at + 3 ≤ length v) where
-    pub unmarked_first : (get_or v at 0 ≡ 0x56 → ⊥) → Marked v at false
-    unfolding end_at
-    unmarked_first f = record { yes = λ e. absurd (false≢true e); no = λ e. rw (le-ltb (length v) (at + 3) h, ne_eqb (get_or v at 0) 0x56 f) refl }
-
-    pub marked_second : get_or v at 0 ≡ 0x56 → Marked v at (eqb (get_or v (at + 1) 0) 0x41)
-    unfolding end_at
-    marked_second f =
-        record {
-          yes = λ e. (h, rw (le-ltb (length v) (at + 3) h, eq-eqb (get_or v at 0) 0x56 f, e) refl);
-          no = λ e. rw (le-ltb (length v) (at + 3) h, eq-eqb (get_or v at 0) 0x56 f, e) refl;
-        }
-
 -- flags are octets below 2
 flags_each : (v : List ℕ) (q n : ℕ) → all (λ x. ltb x 2) (every_at 1 v q n) ≡ true → (k : ℕ) → k < n → get_or v (q + k) 0 < 2
 unfolding all every_at
@@ -213,36 +194,13 @@ pub members_short : (v : List ℕ) (p : ℕ) → length v < p + 1 + get_or v p 0
 unfolding members_end
 members_short v p l = test (ltb (length v) (p + 1)) (λ a. rw a refl) λ a. rw (a, lt-ltb (length v) (p + 1 + get_or v p 0) l) refl
 
--- where the own part of a constructed kind ends
-module _ (v : List ℕ) (k p : ℕ) (c : constructed_of k ≡ true) where
-  module _ (t : Bool) (et : t ≡ (eqb k 16 || eqb k 17)) where
-    pub end_members : t ≡ true → members_end v p ≡ own_end k v p
-    unfolding own_end
-    end_members h =
-        let (e₁, e₂, e₃, e₄, e₅, e₁₀, e₂₃, e₂₄) = not_simple k c in
-        rw (e₁, e₂, e₃, e₄, e₅, e₁₀, e₂₃, e₂₄) (or_by (eqb k 16) (eqb k 17) (sym et ∙ h) (λ a. rw a refl) λ a. test (eqb k 16) (λ d. rw d refl) λ d. rw (d, a) refl)
-
-    module _ (h : t ≡ false) (s : Bool) (es : s ≡ (eqb k 48 || eqb k 49)) where
-      none_of : (eqb k 16 ≡ false) × (eqb k 17 ≡ false)
-      none_of = or_false (eqb k 16) (eqb k 17) (sym et ∙ h)
-
-      pub end_list : s ≡ true → fixed_end v (p + 2) ≡ own_end k v p
-      unfolding own_end
-      end_list g =
-          let (e₁, e₂, e₃, e₄, e₅, e₁₀, e₂₃, e₂₄) = not_simple k c in
-          rw (e₁, e₂, e₃, e₄, e₅, e₁₀, e₂₃, e₂₄, none_of.0, none_of.1) (or_by (eqb k 48) (eqb k 49) (sym es
-          ∙ g) (λ a. rw a refl) λ a. test (eqb k 48) (λ d. rw d refl) λ d. rw (d, a) refl)
-
-      module _ (g : s ≡ false) where
-        no_list : (eqb k 48 ≡ false) × (eqb k 49 ≡ false)
-        no_list = or_false (eqb k 48) (eqb k 49) (sym es ∙ g)
-
-        pub end_choice : k ≡ 50 → fixed_end v (p + 1) ≡ own_end k v p
-        unfolding own_end
-        end_choice f = rw f refl
-
-        pub end_none : (k ≡ 50 → ⊥) → 0 ≡ own_end k v p
-        unfolding own_end
-        end_none f =
-            let (e₁, e₂, e₃, e₄, e₅, e₁₀, e₂₃, e₂₄) = not_simple k c in
-            rw (e₁, e₂, e₃, e₄, e₅, e₁₀, e₂₃, e₂₄, none_of.0, none_of.1, no_list.0, no_list.1, ne_eqb k 50 f) refl
+-- no own part of another constructed kind is shaped
+pub end_none : (v : List ℕ) (k p : ℕ) → constructed_of k ≡ true → (t : Bool) → t ≡ (eqb k 16 || eqb k 17) → t ≡ false
+    → (s : Bool) → s ≡ (eqb k 48 || eqb k 49) → s ≡ false → (k ≡ 50 → ⊥)
+    → 0 ≡ own_end k v p
+unfolding own_end
+end_none v k p c t et h s es g f =
+    let (e₁, e₂, e₃, e₄, e₅, e₁₀, e₂₃, e₂₄) = not_simple k c in
+    let m = or_false (eqb k 16) (eqb k 17) (sym et ∙ h) in
+    let l = or_false (eqb k 48) (eqb k 49) (sym es ∙ g) in
+    rw (e₁, e₂, e₃, e₄, e₅, e₁₀, e₂₃, e₂₄, m.0, m.1, l.0, l.1, ne_eqb k 50 f) refl

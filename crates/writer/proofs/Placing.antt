@@ -180,9 +180,6 @@ module _ {b index v notes : List ℕ} {e : Entry} {p to : ℕ} {first : List ℕ
     pub sized_built : (size : ℕ) → size ≡ note_at notes m.at → Sized size
     sized_built size es = built_size turn built size notes (first_noted T v X.level m.t Rest m.at notes present.1) es
 
-    pub put_note : note_at notes m.at < 8194
-    put_note = size_small turn (note_at notes m.at) (sized_built (note_at notes m.at) refl)
-
   module _ (size : ℕ) (Z : Sized size) where
     front_is : heads (constructed (record_in b m.x).body) (record_in b m.x).tags size ≡ heads (constructed (T m.t).body) (T m.t).tags size
     front_is = ap (λ (r : Record). heads (constructed r.body) r.tags size) is_record
