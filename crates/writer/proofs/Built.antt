@@ -20,10 +20,8 @@ use Rattle.writer.specs.Known.{record_in, Known}
 use Rattle.writer.specs.Standing.{start_at, row_in, Standing}
 use Rattle.writer.specs.Ready.{Ready}
 use Rattle.writer.specs.Rows.{contents_form}
-use Rattle.writer.specs.Told.{told}
+use Rattle.writer.specs.Told.{Ruling, fit, unfit, told}
 use Rattle.writer.specs.Notes.{row_at, Noted, NotedRow, Noting}
-use Rattle.writer.specs.declared.judge.Judged.{Judged}
-use Rattle.writer.specs.declared.judge.Judged.TheVariants.{Done, Refused}
 use Rattle.writer.proofs.Nodes.{node_kind_lem}
 use Rattle.writer.proofs.Known.{known, known_record}
 use Rattle.writer.proofs.Finding.{at_stands, at_start, at_row}
@@ -33,7 +31,7 @@ use Rattle.writer.proofs.Below.{stands, positive, value_shape, value_level, valu
 use Rattle.writer.proofs.Notes.{noting_none, noting_refused, value_noting}
 
 -- what is to be shown of an answer for a value of type t at a place, and of the notes before and after
-abbrev pub NodeSaid : List ℕ → List ℕ → ℕ → ℕ → ℕ → Judged → List ℕ → List ℕ → Type 0
+abbrev pub NodeSaid : List ℕ → List ℕ → ℕ → ℕ → ℕ → Ruling → List ℕ → List ℕ → Type 0
 NodeSaid b v t at n r first last =
     (r ≡ told (contents_form (table_in b) (n - 1) (table_in b t).body) v (judge_value (table_in b) n t (drop at v)))
     × Noting at first last r (λ m. Noted (table_in b) v m n t at)
@@ -55,7 +53,7 @@ module _ {b index v : List ℕ} {t at : ℕ} (N : Node b index v t at) (n : ℕ)
   within : at ≤ length v
   within = let l = N.marked.0 in omega arith
 
-  pub built_shape : N.end ≡ 0 → (l : List ℕ) → NodeSaid b v t at n (Refused at ValueShape) l l
+  pub built_shape : N.end ≡ 0 → (l : List ℕ) → NodeSaid b v t at n (unfit ValueShape at) l l
   built_shape z l = (value_shape T t v at within n _ (N.marked.1 ∙ sym N.ends ∙ z), noting_none at l ValueShape at (λ m. Noted T v m n t at))
 
   module _ (s : N.end ≡ 0 → ⊥) where
@@ -65,7 +63,7 @@ module _ {b index v : List ℕ} {t at : ℕ} (N : Node b index v t at) (n : ℕ)
     shaped : 0 < end_at v at
     shaped = rw N.marked.1 own_there
 
-    pub built_level : n ≡ 0 → (l : List ℕ) → NodeSaid b v t at n (Refused at ValueLevel) l l
+    pub built_level : n ≡ 0 → (l : List ℕ) → NodeSaid b v t at n (unfit ValueLevel at) l l
     built_level z l = (value_level T t v at within n shaped _ z, noting_none at l ValueLevel at (λ m. Noted T v m n t at))
 
     module _ (e : Entry) (ee : e ≡ unpacked (get_or index t 0)) where
@@ -79,7 +77,7 @@ module _ {b index v : List ℕ} {t at : ℕ} (N : Node b index v t at) (n : ℕ)
         agreed : (w : Bool) → r ≡ w → agrees (T t).body (node_at v at) ≡ w
         agreed w f = rw (← is_record) (sym er ∙ f)
 
-        pub built_ill : r ≡ false → (l : List ℕ) → NodeSaid b v t at n (Refused at IllTyped) l l
+        pub built_ill : r ≡ false → (l : List ℕ) → NodeSaid b v t at n (unfit IllTyped at) l l
         built_ill f l = (value_ill T t v at within n shaped z _ (agreed false f), noting_none at l IllTyped at (λ m. Noted T v m n t at))
 
         module _ (f : r ≡ true) where
@@ -95,7 +93,7 @@ module _ {b index v : List ℕ} {t at : ℕ} (N : Node b index v t at) (n : ℕ)
           row_is : row_in b e v (at + 3) ≡ row_at T v t at
           row_is = at_row b e built_known v at shaped t is_record (agreed true f) N.octets N.constructed end_in N.ready.passes N.there
 
-          module _ (y : Judged) (first last : List ℕ) (S : RowSaid b v e (at + 3) (n - 1) first y last) where
+          module _ (y : Ruling) (first last : List ℕ) (S : RowSaid b v e (at + 3) (n - 1) first y last) where
             at_row_said : (y ≡ JudgedRow T (n - 1) v (row_at T v t at) (end_at v at)) × Noting (end_at v at) first last y (λ m. NotedRow T v m (n - 1) (row_at T v
                 t at) (end_at v at))
             at_row_said = rw (start_is, row_is) at S
@@ -103,12 +101,12 @@ module _ {b index v : List ℕ} {t at : ℕ} (N : Node b index v t at) (n : ℕ)
             is_told : y ≡ told (contents_form T (n - 1) (T t).body) v (judge_value T n t (drop at v))
             is_told = at_row_said.0 ∙ value_row T t v at within n shaped z (agreed true f) (rw (node_kind_lem (get_or v (at + 2) 0) v (at + 3) own_there) N.constructed)
 
-            pub built_refused : (k : JudgingCause) (q : ℕ) → y ≡ Refused q k → NodeSaid b v t at n (Refused q k) first last
+            pub built_refused : (k : JudgingCause) (q : ℕ) → y ≡ unfit k q → NodeSaid b v t at n (unfit k q) first last
             built_refused k q d =
                 let g = (stands v at within shaped).onward in
                 (sym d ∙ is_told, noting_refused at (end_at v at) first last y k q _ _ (omega arith) at_row_said.1)
 
-            pub built_done : (u s : ℕ) → y ≡ Done u s → length first ≡ 4096 → NodeSaid b v t at n (Done u s) first (set last (at / 4) s)
+            pub built_done : (u s : ℕ) → y ≡ fit u s → length first ≡ 4096 → NodeSaid b v t at n (fit u s) first (set last (at / 4) s)
             built_done u s d l =
                 let g = at_row_said.1.long in
                 let h = N.ready.little in

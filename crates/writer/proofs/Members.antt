@@ -21,10 +21,8 @@ use Rattle.writer.specs.Known.{record_in, Known}
 use Rattle.writer.specs.Standing.{start_at, count_at, below_at, row_from, row_in, Standing}
 use Rattle.writer.specs.Ready.{Ready}
 use Rattle.writer.specs.Rows.{judge_row, row_form, contents_form}
-use Rattle.writer.specs.Told.{told}
+use Rattle.writer.specs.Told.{Ruling, fit, unfit, told}
 use Rattle.writer.specs.Notes.{Noted, NotedRow, Noting}
-use Rattle.writer.specs.declared.judge.Judged.{Judged}
-use Rattle.writer.specs.declared.judge.Judged.TheVariants.{Done, Refused}
 use Rattle.writer.proofs.Frames.{cap_below}
 use Rattle.writer.proofs.Known.{known, known_record, ready_tagged}
 use Rattle.writer.proofs.Simple.{known_simple}
@@ -43,7 +41,7 @@ pub record GoingOn (b v : List ℕ) (e : Entry) (p n : ℕ) (first : List ℕ) (
       (λ m. NotedRow (table_in b) v m n (row_from b e v p i (count_at e v p - i)) at) (λ m. NotedRow (table_in b) v m n (row_in b e v p) (start_at e v p))
 
 -- what is to be shown of an answer
-abbrev pub RowSaid : List ℕ → List ℕ → Entry → ℕ → ℕ → List ℕ → Judged → List ℕ → Type 0
+abbrev pub RowSaid : List ℕ → List ℕ → Entry → ℕ → ℕ → List ℕ → Ruling → List ℕ → Type 0
 RowSaid b v e p n first r last =
     (r ≡ told (row_form (table_in b) n (row_in b e v p)) v (judge_row (table_in b) n (row_in b e v p) (drop (start_at e v p) v)))
     × Noting (start_at e v p) first last r (λ m. NotedRow (table_in b) v m n (row_in b e v p) (start_at e v p))
@@ -59,7 +57,7 @@ module _ (b v : List ℕ) (e : Entry) (p n : ℕ) (first : List ℕ) where
       })
 
   module _ (i at total : ℕ) (l : List ℕ) (G : GoingOn b v e p n first i at total l) where
-    pub members_end_lem : count_at e v p ≤ i → RowSaid b v e p n first (Done at total) l
+    pub members_end_lem : count_at e v p ≤ i → RowSaid b v e p n first (fit at total) l
     members_end_lem h =
         let q = row_over b e v p i (count_at e v p) h in (
           row_end (table_in b) n _ v at total (rw q at G.left) G.within G.small,
@@ -108,24 +106,24 @@ module _ {b index v : List ℕ} {e : Entry} {p n : ℕ} {first : List ℕ} (m : 
   pub member_few : m.t < 128
   member_few = let h = member_there in let f = m.ready.filled.few in omega arith
 
-  pub member_unmarked : (r : Bool) → Marked v m.at r → r ≡ false → RowSaid b v e p n first (Refused m.at ValueShape) m.notes
+  pub member_unmarked : (r : Bool) → Marked v m.at r → r ≡ false → RowSaid b v e p n first (unfit ValueShape m.at) m.notes
   member_unmarked r k f =
       let x = value_shape T m.t v m.at m.so_far.within n (λ _. []) (k.no f) in (
-        row_refused T n _ v m.at m.total m.t Rest left_now (λ _. []) (Refused m.at ValueShape) ValueShape m.at x refl,
+        row_refused T n _ v m.at m.total m.t Rest left_now (λ _. []) (unfit ValueShape m.at) ValueShape m.at x refl,
         going_stopped going_now ValueShape m.at,
       )
 
   -- what is said of it
-  abbrev pub Said : Judged → List ℕ → Type 0
+  abbrev pub Said : Ruling → List ℕ → Type 0
   Said y last = (y ≡ told (contents_form T (n - 1) (T m.t).body) v (judge_value T n m.t (drop m.at v))) × Noting m.at m.notes last y (λ l. Noted
       T v l n m.t m.at)
 
-  module _ (y : Judged) (last : List ℕ) (S : Said y last) where
-    pub member_refused : (k : JudgingCause) (q : ℕ) → y ≡ Refused q k → RowSaid b v e p n first (Refused q k) last
+  module _ (y : Ruling) (last : List ℕ) (S : Said y last) where
+    pub member_refused : (k : JudgingCause) (q : ℕ) → y ≡ unfit k q → RowSaid b v e p n first (unfit k q) last
     member_refused k q d =
         (row_refused T n _ v m.at m.total m.t Rest left_now _ y k q S.0 d, going_refused going_now last y k q S.1)
 
-    module _ (u s : ℕ) (d : y ≡ Done u s) where
+    module _ (u s : ℕ) (d : y ≡ fit u s) where
       pub member_small : s < 8194
       member_small = told_small _ v _ y u s S.0 d
 
@@ -140,7 +138,7 @@ module _ {b index v : List ℕ} {e : Entry} {p n : ℕ} {first : List ℕ} (m : 
     entry_record : record_in b x ≡ T m.t
     entry_record = rw ex (known_record b index m.ready.filled m.t member_there)
 
-    pub leaf_said : IsMarked v m.at → (y r : Judged) (last : List ℕ) (s : Bool) → s ≡ not (constructed_of (get_or v (m.at + 2) 0)) → s ≡ true
+    pub leaf_said : IsMarked v m.at → (y r : Ruling) (last : List ℕ) (s : Bool) → s ≡ not (constructed_of (get_or v (m.at + 2) 0)) → s ≡ true
         → ((T : Table) (t : ℕ) → (T t).body ≡ (record_in b x).body → r ≡ told (contents_form T (n - 1) (T t).body) v (judge_value T n t (drop m.at v)))
         → last ≡ m.notes → y ≡ r → Said y last
     leaf_said M y r last s es f tells el ey =
@@ -148,7 +146,7 @@ module _ {b index v : List ℕ} {e : Entry} {p n : ℕ} {first : List ℕ} (m : 
         let g = ey ∙ tells T m.t (ap (λ (r : Record). r.body) (sym entry_record)) in
         (g, rw el (leaf_noting T v n m.t m.at m.so_far.within k _ y g m.notes))
 
-    pub member_done : (y : Judged) (last : List ℕ) → Said y last → (u s : ℕ) → y ≡ Done u s → (k total : ℕ) → k ≡ framed (record_in b x).tags s
+    pub member_done : (y : Ruling) (last : List ℕ) → Said y last → (u s : ℕ) → y ≡ fit u s → (k total : ℕ) → k ≡ framed (record_in b x).tags s
         → total ≡ cap (m.total + k)
         → GoingOn b v e p n first (m.i + 1) u total last
     member_done y last S u s d k total ek et =
@@ -161,5 +159,5 @@ module _ {b index v : List ℕ} {e : Entry} {p n : ℕ} {first : List ℕ} (m : 
           going = going_turn going_now last y u s S.1 d z.onward (λ l. row_noted T v n m.t Rest m.at u k z l);
         }
 
-  pub built_said : (y r : Judged) (last l : List ℕ) → Said r l → last ≡ l → y ≡ r → Said y last
+  pub built_said : (y r : Ruling) (last l : List ℕ) → Said r l → last ≡ l → y ≡ r → Said y last
   built_said y r last l S el ey = rw (el, ey) S

@@ -18,10 +18,8 @@ use Rattle.writer.specs.Leaves.{Measures}
 use Rattle.writer.specs.Frames.{cap}
 use Rattle.writer.specs.Known.{record_in, Known}
 use Rattle.writer.specs.Rows.{contents_form}
-use Rattle.writer.specs.Told.{told}
+use Rattle.writer.specs.Told.{Ruling, fit, unfit, told}
 use Rattle.writer.specs.declared.contents.Extent.{Extent}
-use Rattle.writer.specs.declared.judge.Judged.{Judged}
-use Rattle.writer.specs.declared.judge.Judged.TheVariants.{Done, Refused}
 use Rattle.writer.proofs.Nodes.{leaf_node}
 use Rattle.writer.proofs.Below.{positive, value_shape, value_level, value_ill, value_leaf}
 
@@ -31,7 +29,7 @@ known_simple b e K = K.entered.simple ∙ ap not (constructed_of_lem b e.kind e.
 
 module _ (b : List ℕ) (e : Entry) (v : List ℕ) (at n : ℕ) (M : IsMarked v at) (x : Extent) (m : Measures (get_or v (at + 2) 0) v (at + 3) x)
     (T : Table) (t : ℕ) (same : (T t).body ≡ (record_in b e).body) where
-  abbrev Tells : Judged
+  abbrev Tells : Ruling
   Tells = told (contents_form T (n - 1) (T t).body) v (judge_value T n t (drop at v))
 
   within : at ≤ length v
@@ -40,24 +38,24 @@ module _ (b : List ℕ) (e : Entry) (v : List ℕ) (at n : ℕ) (M : IsMarked v 
   end_is : x.end ≡ end_at v at
   end_is = m.ends ∙ sym M.1
 
-  pub leaf_shape : x.end ≡ 0 → Refused at ValueShape ≡ Tells
+  pub leaf_shape : x.end ≡ 0 → unfit ValueShape at ≡ Tells
   leaf_shape h = value_shape T t v at within n _ (sym end_is ∙ h)
 
   module _ (h : x.end ≡ 0 → ⊥) where
     is_shaped : 0 < end_at v at
     is_shaped = positive x.end (end_at v at) end_is h
 
-    pub leaf_level : n ≡ 0 → Refused at ValueLevel ≡ Tells
+    pub leaf_level : n ≡ 0 → unfit ValueLevel at ≡ Tells
     leaf_level z = value_level T t v at within n is_shaped _ z
 
     module _ (z : n ≡ 0 → ⊥) (r : Bool) (er : r ≡ agrees (record_in b e).body (node_of (get_or v (at + 2) 0) v (at + 3))) where
       agreed : (w : Bool) → r ≡ w → agrees (T t).body (node_of (get_or v (at + 2) 0) v (at + 3)) ≡ w
       agreed w f = rw same (sym er ∙ f)
 
-      pub leaf_ill : r ≡ false → Refused at IllTyped ≡ Tells
+      pub leaf_ill : r ≡ false → unfit IllTyped at ≡ Tells
       leaf_ill f = value_ill T t v at within n is_shaped z _ (agreed false f)
 
-      pub leaf_done : r ≡ true → constructed_of (get_or v (at + 2) 0) ≡ false → (size : ℕ) → size ≡ cap (0 + x.size) → Done x.end size ≡ Tells
+      pub leaf_done : r ≡ true → constructed_of (get_or v (at + 2) 0) ≡ false → (size : ℕ) → size ≡ cap (0 + x.size) → fit x.end size ≡ Tells
       leaf_done f k size es =
           let l = m.sized (rw M.1 at is_shaped) in
           let q : 0 + x.size ≡ length (encode (leaf_of (get_or v (at + 2) 0) v (at + 3))) = omega arith in

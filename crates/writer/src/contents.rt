@@ -10,7 +10,7 @@ ghost use Rattle.table.specs.Fields.{constructed_of};
 ghost use Rattle.coding.specs.Value.{time_number};
 ghost use Rattle.coding.specs.Form.{encode};
 ghost use Rattle.writer.specs.Nodes.{own_end, leaf_of, clear_at};
-ghost use Rattle.writer.specs.Leaves.{Measures};
+ghost use Rattle.writer.specs.Leaves.{Measures, MeasuresSome};
 
 use crate::node::fixed_end;
 use clock::{calendar, own};
@@ -31,7 +31,7 @@ pub fn two(v: &[u8], p: usize) -> usize
 }
 
 // Where the own part of a leaf ends, and how many contents octets it has; an end of 0 if it is not shaped.
-#[derive(Clone, Copy)]
+#[derive(Clone, Copy, Debug, PartialEq, Eq)]
 pub struct Extent {
     pub end: usize,
     pub size: usize,
@@ -182,8 +182,21 @@ fn time(v: &[u8], p: usize, kind: TimeKind) -> Extent
     Extent { end, size }
 }
 
+// The leaf of a kind, if it is shaped.
+pub fn measure(kind: u8, v: &[u8], p: usize) -> Option<Extent>
+    requires { (p < 20000)
+        × (constructed_of kind ≡ false) }
+    ensures { MeasuresSome kind v.now p result }
+{
+    let x = measured(kind, v, p);
+    if x.end == 0 {
+        return None;
+    }
+    Some(x)
+}
+
 // The leaf of a kind.
-pub fn measure(kind: u8, v: &[u8], p: usize) -> Extent
+fn measured(kind: u8, v: &[u8], p: usize) -> Extent
     requires { (p < 20000)
         × (constructed_of kind ≡ false) }
     ensures { Measures kind v.now p result }
@@ -219,7 +232,7 @@ pub fn end(kind: u8, v: &[u8], p: usize) -> usize
         return boolean(v, p).end;
     }
     if kind == INTEGER {
-        return fixed_end(v, p + 8);
+        return fixed_end(v, p + 8).unwrap_or(0);
     }
     if kind == BIT_STRING {
         return bits(v, p).end;
@@ -231,7 +244,7 @@ pub fn end(kind: u8, v: &[u8], p: usize) -> usize
         return p;
     }
     if kind == ENUMERATED {
-        return fixed_end(v, p + 2);
+        return fixed_end(v, p + 2).unwrap_or(0);
     }
     time(v, p, time_kind(kind)).end
 }

@@ -1,13 +1,13 @@
--- `writer::contents::measure` meets its contract.
+-- `writer::contents::measured` meets its contract.
 -- Assumes nothing.
 use mathlib.Core.Path.{refl}
 use Rattle.writer.proofs.Leaves.{same_kind, time_left, null_measured}
 use borrow.Author.Rules.{rules}
-use Rattle.writer.proofs.contents.measure.Statement.{statement}
-use Rattle.writer.proofs.contents.measure.Tie as tie
+use Rattle.writer.proofs.contents.measured.Statement.{statement}
+use Rattle.writer.proofs.contents.measured.Tie as tie
 
-pub measure_spec : {M : Type 1} → statement M
-measure_spec =
+pub measured_spec : {M : Type 1} → statement M
+measured_spec =
     tie.close
     (tie.spec
     (λ c κs. search rules)  -- boolean-requires
