@@ -67,7 +67,7 @@ pub fn is_lone(v: &[u8]) -> bool
     }
     let kind = v[2];
     if !constructed(kind as usize) {
-        return contents::end(kind, v, 3) == v.len();
+        return contents::measure(kind, v, 3).is_some_and(|x| x.end == v.len());
     }
     if has_members(kind) {
         return no_member(v, 3);
