@@ -17,7 +17,6 @@ use clock::{calendar, own};
 use dates::{DateTime, TimeKind};
 use digits::time;
 use kinds::{BIT_STRING, BOOLEAN, ENUMERATED, INTEGER, NULL, OCTET_STRING, time_kind};
-use octets::copy;
 use simple::{bit_string, integer};
 
 // The number that two octets at p stand for.
@@ -65,6 +64,7 @@ fn seven(v: &[u8], p: usize) -> DateTime
 }
 
 // Whether n bits from p on have 0 behind them to the end of their last octet, the one before e.
+#[tactic(auto, using(crate::proofs::Leaves::clear_whole, crate::proofs::Leaves::clear_part))]
 fn clear(v: &[u8], p: usize, e: usize, n: usize) -> bool
     requires { (p < 30000)
         × (n < 65536)
@@ -174,25 +174,15 @@ pub fn size(kind: u8, v: &[u8], p: usize) -> usize
     ensures { (result ≡ length (encode (leaf_of kind v.now p)))
         × (result < 65536) }
 {
-    if kind == BOOLEAN {
-        return 1;
+    match kind {
+        BOOLEAN => 1,
+        INTEGER => integer::size(eight(v, p)),
+        BIT_STRING => (two(v, p) + 7) / 8 + 1,
+        OCTET_STRING => two(v, p),
+        NULL => 0,
+        ENUMERATED => number_size(two(v, p)),
+        _ => time::size(time_kind(kind)),
     }
-    if kind == INTEGER {
-        return integer::size(eight(v, p));
-    }
-    if kind == BIT_STRING {
-        return (two(v, p) + 7) / 8 + 1;
-    }
-    if kind == OCTET_STRING {
-        return two(v, p);
-    }
-    if kind == NULL {
-        return 0;
-    }
-    if kind == ENUMERATED {
-        return number_size(two(v, p));
-    }
-    time::size(time_kind(kind))
 }
 
 // Copies n octets of v from p on into the buffer.
@@ -203,8 +193,7 @@ fn put_part(v: &[u8], p: usize, n: usize, buf: &mut [u8], to: usize)
 {
     let end = p + n;
     let last = to + n;
-    let c = &v[p..end];
-    copy(c, &mut buf[to..last]);
+    buf[to..last].copy_from_slice(&v[p..end]);
 }
 
 // Puts the `size` contents octets of an integer.
@@ -240,35 +229,36 @@ pub fn put(kind: u8, size: usize, v: &[u8], p: usize, buf: &mut [u8], to: usize)
     ensures { (result ≡ own_end kind v.now p)
         × (buf.new ≡ sets buf.old to (encode (leaf_of kind v.now p))) }
 {
-    if kind == BOOLEAN {
-        buf[to] = if v[p] == 1 { 255 } else { 0 };
-        return p + 1;
+    match kind {
+        BOOLEAN => {
+            buf[to] = if v[p] == 1 { 255 } else { 0 };
+            p + 1
+        }
+        INTEGER => {
+            put_integer(eight(v, p), size, buf, to);
+            p + 8
+        }
+        BIT_STRING => {
+            let count = two(v, p);
+            let n = size - 1;
+            buf[to] = (8 * n - count) as u8;
+            let start = p + 2;
+            put_part(v, start, n, buf, to + 1);
+            start + n
+        }
+        OCTET_STRING => {
+            let start = p + 2;
+            put_part(v, start, size, buf, to);
+            start + size
+        }
+        NULL => p,
+        ENUMERATED => {
+            put_integer(two(v, p) as i64, size, buf, to);
+            p + 2
+        }
+        _ => {
+            put_time(time_kind(kind), size, v, p, buf, to);
+            p + 7
+        }
     }
-    if kind == INTEGER {
-        put_integer(eight(v, p), size, buf, to);
-        return p + 8;
-    }
-    if kind == BIT_STRING {
-        let count = two(v, p);
-        let n = size - 1;
-        buf[to] = (8 * n - count) as u8;
-        let next = to + 1;
-        let start = p + 2;
-        put_part(v, start, n, buf, next);
-        return start + n;
-    }
-    if kind == OCTET_STRING {
-        let start = p + 2;
-        put_part(v, start, size, buf, to);
-        return start + size;
-    }
-    if kind == NULL {
-        return p;
-    }
-    if kind == ENUMERATED {
-        put_integer(two(v, p) as i64, size, buf, to);
-        return p + 2;
-    }
-    put_time(time_kind(kind), size, v, p, buf, to);
-    p + 7
 }
