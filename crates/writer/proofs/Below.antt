@@ -43,9 +43,6 @@ pub record Stands (v : List ℕ) (p : ℕ) : Type 0 where
 pub stands : (v : List ℕ) (p : ℕ) → p ≤ length v → 0 < end_at v p → Stands v p
 stands v p h k = let z = reads_good (node_reads v p h) k in record { is = z.0; onward = z.1; within = z.2 }
 
-pub positive : (r x : ℕ) → r ≡ x → (r ≡ 0 → ⊥) → 0 < x
-positive r x e h = test (ltb 0 x) (λ t. ltb-true 0 x t) λ t. absurd (h (let k : x ≤ 0 = ltb-false 0 x t in omega arith))
-
 -- what is answered at a place, by what stands there
 module _ (T : Table) (t : ℕ) (v : List ℕ) (p : ℕ) (h : p ≤ length v) where
   no_node : (n : ℕ) → end_at v p ≡ 0 → judge_value T n t (drop p v) ≡ refused ValueShape (length (drop p v))

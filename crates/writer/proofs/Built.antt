@@ -1,12 +1,16 @@
 -- What the judge says of a constructed node, and what it notes: one law for each way out.
 -- Assumes nothing.
-use mathlib.Core.Bool.{Bool, true, false}
+use mathlib.Core.Bool.{Bool, true, false, not, false≢true}
 use mathlib.Core.List.{List}
-use mathlib.Core.Path.{◌≡◌, sym, ◌∙◌}
+use mathlib.Core.Path.{◌≡◌, refl, sym, ◌∙◌}
 use Prim.Native.Nat.{ℕ, ◌+◌, ◌-◌, ◌/◌, ◌≤◌, ◌<◌}
 use native.Mathlib.Omega.{arith}
+use borrow.Author.Tests.{eqb-true, eqb-false}
+use lib.Dec.{eqb}
 use lib.ListN.{length, get_or, drop, set}
-use Rattle.octets.specs.Numbers.{Octets}
+use Rattle.std.specs.Prelude.{Option, is_some}
+use Rattle.octets.specs.Numbers.{Octets, unless_zero}
+use Rattle.octets.proofs.Tests.{test}
 use Rattle.coding.specs.declared.JudgingCause.{JudgingCause}
 use Rattle.coding.specs.declared.JudgingCause.TheVariants.{ValueShape, IllTyped, ValueLevel}
 use Rattle.table.specs.Syntax.{Table}
@@ -27,7 +31,7 @@ use Rattle.writer.proofs.Known.{known, known_record}
 use Rattle.writer.proofs.Finding.{at_stands, at_start, at_row}
 use Rattle.writer.proofs.Judging.{JudgedRow}
 use Rattle.writer.proofs.Members.{RowSaid}
-use Rattle.writer.proofs.Below.{stands, positive, value_shape, value_level, value_ill, value_row}
+use Rattle.writer.proofs.Below.{stands, value_shape, value_level, value_ill, value_row}
 use Rattle.writer.proofs.Notes.{noting_none, noting_refused, value_noting}
 
 -- what is to be shown of an answer for a value of type t at a place, and of the notes before and after
@@ -36,15 +40,24 @@ NodeSaid b v t at n r first last =
     (r ≡ told (contents_form (table_in b) (n - 1) (table_in b t).body) v (judge_value (table_in b) n t (drop at v)))
     × Noting at first last r (λ m. Noted (table_in b) v m n t at)
 
--- the mark of a constructed kind at a place, where its own part would end, and the entry of record t
+-- where an own part ends, as the code tells it
+pub own_none : (n : ℕ) (r : Option ℕ) (x : Bool) → r ≡ unless_zero n → is_some r ≡ not x → x ≡ true → n ≡ 0
+own_none n r x e i h =
+    test (eqb n 0) (λ t. eqb-true n 0 t) λ t.
+    let z : is_some r ≡ true = rw (e, t) refl in absurd (false≢true (sym (rw h at i) ∙ z))
+
+pub own_some : (n : ℕ) (r : Option ℕ) (x : Bool) → r ≡ unless_zero n → is_some r ≡ not x → x ≡ false → 0 < n
+own_some n r x e i h =
+    test (eqb n 0) (λ t. let z : is_some r ≡ false = rw (e, t) refl in absurd (false≢true (sym z ∙ rw h at i)))
+    λ t. let z = eqb-false n 0 t in omega arith
+
+-- the mark of a constructed kind at a place, and the entry of record t
 pub record Node (b index v : List ℕ) (t at : ℕ) : Type 0 where
   pub octets : Octets b
   pub ready : Ready b index v
   pub there : t < count_in b
   pub marked : IsMarked v at
   pub constructed : constructed_of (get_or v (at + 2) 0) ≡ true
-  pub end : ℕ
-  pub ends : end ≡ own_end (get_or v (at + 2) 0) v (at + 3)
 
 module _ {b index v : List ℕ} {t at : ℕ} (N : Node b index v t at) (n : ℕ) where
   abbrev T : Table
@@ -53,13 +66,10 @@ module _ {b index v : List ℕ} {t at : ℕ} (N : Node b index v t at) (n : ℕ)
   within : at ≤ length v
   within = let l = N.marked.0 in omega arith
 
-  pub built_shape : N.end ≡ 0 → (l : List ℕ) → NodeSaid b v t at n (unfit ValueShape at) l l
-  built_shape z l = (value_shape T t v at within n _ (N.marked.1 ∙ sym N.ends ∙ z), noting_none at l ValueShape at (λ m. Noted T v m n t at))
+  pub built_shape : own_end (get_or v (at + 2) 0) v (at + 3) ≡ 0 → (l : List ℕ) → NodeSaid b v t at n (unfit ValueShape at) l l
+  built_shape z l = (value_shape T t v at within n _ (N.marked.1 ∙ z), noting_none at l ValueShape at (λ m. Noted T v m n t at))
 
-  module _ (s : N.end ≡ 0 → ⊥) where
-    pub own_there : 0 < own_end (get_or v (at + 2) 0) v (at + 3)
-    own_there = positive N.end (own_end (get_or v (at + 2) 0) v (at + 3)) N.ends s
-
+  module _ (own_there : 0 < own_end (get_or v (at + 2) 0) v (at + 3)) where
     shaped : 0 < end_at v at
     shaped = rw N.marked.1 own_there
 

@@ -34,7 +34,7 @@ unfits_alike {c} {k} {a} {p} z =
     (ap (λ (u : Unfit). u.cause) q, ap (λ (u : Unfit). u.place) q)
 
 -- the answers apart
-pub apart : {X : Type 0} {e k : ℕ} {c : JudgingCause} {p : ℕ} → fit e k ≡ unfit c p → X
+pub apart : {X : Type 0} {d : Judged} {u : Unfit} → ◌≡◌ {A = Ruling} (Ok d) (Err u) → X
 apart z = let o : ◌≡◌ {A = ℕ} 0 1 = cc in absurd (omega arith)
 
 module _ {A : Type 0} (f : A → List ℕ) (v : List ℕ) where

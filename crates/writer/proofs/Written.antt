@@ -156,34 +156,34 @@ module _ (T : Table) (n t : ℕ) (v buf : List ℕ) where
                 let z : sets buf 0 m ≡ take 0 buf ++ m ++ drop (0 + length m) buf = sets-eq m buf 0 (omega arith) in
                 (rw o (simp (run, f) (ap (λ (z : ℕ). answered z) (sym y))), c ∙ z ∙ rw o (simp (run, f, zero-add)))
 
--- a buffer of more than 8,192 octets: only the first so many are written
-module _ (buf : List ℕ) (long : 8192 < length buf) where
+-- only the first m octets of a buffer are written, at most 8,192
+module _ (buf : List ℕ) (m : ℕ) (em : m ≡ min (length buf) 8192) where
   abbrev Front : List ℕ
-  Front = take 8192 buf
+  Front = take m buf
 
-  front_length : length Front ≡ 8192
-  front_length = length-take-le 8192 buf (omega arith)
+  front_length : length Front ≡ m
+  front_length = length-take-le m buf (omega arith)
 
   abbrev Grown : Outcome → Outcome → Type 0
-  Grown x y = (x.answer ≡ y.answer) × (x.buffer ++ drop 8192 buf ≡ y.buffer)
+  Grown x y = (x.answer ≡ y.answer) × (x.buffer ++ drop m buf ≡ y.buffer)
 
   grown_refuse : (r : Refusal) → Grown (refuse r Front) (refuse r buf)
-  grown_refuse r = (refl, take-append-drop 8192 buf)
+  grown_refuse r = (refl, take-append-drop m buf)
 
-  grown_write : (w : List ℕ) → length w ≤ 8192 → Grown (write_at_start w Front) (write_at_start w buf)
+  grown_write : (w : List ℕ) → length w ≤ m → Grown (write_at_start w Front) (write_at_start w buf)
   grown_write w h =
       let l = front_length in
-      let q : drop (length w) Front ++ drop 8192 buf ≡ drop (length w) buf = sym (drop-append-le (length w) Front (drop 8192 buf) (omega arith))
-      ∙ ap (drop (length w)) (take-append-drop 8192 buf) in
-      (refl, append_assoc w (drop (length w) Front) (drop 8192 buf) ∙ ap (λ (l : List ℕ). w ++ l) q)
+      let q : drop (length w) Front ++ drop m buf ≡ drop (length w) buf = sym (drop-append-le (length w) Front (drop m buf) (omega arith))
+      ∙ ap (drop (length w)) (take-append-drop m buf) in
+      (refl, append_assoc w (drop (length w) Front) (drop m buf) ∙ ap (λ (l : List ℕ). w ++ l) q)
 
   grown_judged : (f : Value → List ℕ) (v : List ℕ) (a : Answer JudgingCause Value) → Grown (after_judging f v Front a) (after_judging f v buf a)
   unfolding after_judging if
   grown_judged f v (got x r) =
       let l = front_length in
-      let m : min 8192 (length Front) ≡ 8192 = omega arith in
-      let k : min 8192 (length buf) ≡ 8192 = omega arith in
-      rw (m, k) (test (leb (length (f x)) 8192) (λ t. rw t (grown_write (f x) (leb-true _ _ t))) λ t. rw t (grown_refuse (of_value MessageRoom)))
+      let j : min 8192 (length Front) ≡ m = omega arith in
+      let k : min 8192 (length buf) ≡ m = omega arith in
+      rw (j, k) (test (leb (length (f x)) m) (λ t. rw t (grown_write (f x) (leb-true _ _ t))) λ t. rw t (grown_refuse (of_value MessageRoom)))
   grown_judged f v (refused c l) = grown_refuse (of_value (value_cause c (length v - l)))
 
   grown : (T : Table) (n t : ℕ) (v : List ℕ) → Grown (write_outcome T n t v Front) (write_outcome T n t v buf)
@@ -193,12 +193,8 @@ module _ (buf : List ℕ) (long : 8192 < length buf) where
       (λ a. test (leb (length v) 16384) (λ c. rw (a, c) (grown_judged (form_at T 24 t) v (judge_whole T 24 t v))) λ c. rw (a, c) (grown_refuse (of_value (value_cause ValueShape 0))))
       (λ a. rw a (grown_refuse (of_table Unknown)))
 
-  pub out_front : (T : Table) (n t : ℕ) (v : List ℕ) (r : Told) (w : List ℕ) → Says (write_outcome T n t v Front) r w
-      → Says (write_outcome T n t v buf) r (w ++ drop 8192 buf)
-  out_front T n t v r w S = let g = grown T n t v in (S.0 ∙ g.0, ap (λ (l : List ℕ). l ++ drop 8192 buf) S.1 ∙ g.1)
+  pub out_front : (T : Table) (n t : ℕ) (v : List ℕ) (r : Told) (w : List ℕ) → Says (write_outcome T n t v Front) r w → Says (write_outcome T n t v buf) r (w ++ drop m buf)
+  out_front T n t v r w S = let g = grown T n t v in (S.0 ∙ g.0, ap (λ (l : List ℕ). l ++ drop m buf) S.1 ∙ g.1)
 
   pub front_room : length Front ≤ 8192
   front_room = let l = front_length in omega arith
-
-  pub front_count : 8192 ≡ length Front
-  front_count = sym front_length

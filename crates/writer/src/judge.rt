@@ -12,7 +12,7 @@ ghost use Rattle.writer.specs.Known.{record_in, Known};
 ghost use Rattle.writer.specs.Standing.{start_at, row_in, Standing};
 ghost use Rattle.writer.specs.Ready.{Ready};
 ghost use Rattle.writer.specs.Rows.{judge_row, row_form, contents_form};
-ghost use Rattle.writer.specs.Told.{told};
+ghost use Rattle.writer.specs.Told.{unfit, told};
 ghost use Rattle.writer.specs.Notes.{Noted, NotedRow, Noting};
 
 use crate::contents::two;
@@ -28,10 +28,10 @@ pub struct Judged {
     pub size: usize,
 }
 
-fn unfit(cause: JudgingCause, place: usize) -> Unfit
-    ensures { (result.cause ≡ cause) × (result.place ≡ place) }
+fn unfit(cause: JudgingCause, place: usize) -> Result<Judged, Unfit>
+    ensures { result ≡ unfit cause place }
 {
-    Unfit { cause, place }
+    Err(Unfit { cause, place })
 }
 
 // Whether the shaped leaf of a kind with its own part at p agrees with a record.
@@ -52,13 +52,7 @@ fn suits(table: &[u8], e: Entry, v: &[u8], kind: u8, p: usize) -> bool
 }
 
 // A leaf: where it ends, and how many contents octets it has.
-fn judge_leaf(
-    table: &[u8],
-    e: Entry,
-    v: &[u8],
-    at: usize,
-    level: usize,
-) -> Result<Judged, Unfit>
+fn judge_leaf(table: &[u8], e: Entry, v: &[u8], at: usize, level: usize) -> Result<Judged, Unfit>
     requires { (length v.now ≤ 16384)
         × IsMarked v.now at
         × (constructed_of (get_or v.now (at + 2) 0) ≡ false)
@@ -69,13 +63,13 @@ fn judge_leaf(
     let kind = v[at + 2];
     let p = at + 3;
     let Some(x) = contents::measure(kind, v, p) else {
-        return Err(unfit(JudgingCause::ValueShape, at));
+        return unfit(JudgingCause::ValueShape, at);
     };
     if level == 0 {
-        return Err(unfit(JudgingCause::ValueLevel, at));
+        return unfit(JudgingCause::ValueLevel, at);
     }
     if !suits(table, e, v, kind, p) {
-        return Err(unfit(JudgingCause::IllTyped, at));
+        return unfit(JudgingCause::IllTyped, at);
     }
     Ok(Judged {
         end: x.end,
@@ -118,14 +112,14 @@ fn judge_built(
     let kind = v[at + 2];
     let p = at + 3;
     if node::own_end(v, kind, p).is_none() {
-        return Err(unfit(JudgingCause::ValueShape, at));
+        return unfit(JudgingCause::ValueShape, at);
     }
     if level == 0 {
-        return Err(unfit(JudgingCause::ValueLevel, at));
+        return unfit(JudgingCause::ValueLevel, at);
     }
     let w = index[t];
     if !node::agrees(table, unpack(w), v, kind, p) {
-        return Err(unfit(JudgingCause::IllTyped, at));
+        return unfit(JudgingCause::IllTyped, at);
     }
     let judged = judge_members(table, index, w, v, p, level - 1, notes)?;
     notes[at / 4] = judged.size as u16;
@@ -163,7 +157,7 @@ fn judge_members(
             continue;
         };
         if !node::marked(v, at) {
-            return Err(unfit(JudgingCause::ValueShape, at));
+            return unfit(JudgingCause::ValueShape, at);
         }
         let x = index[t];
         let r = unpack(x);

@@ -1,6 +1,6 @@
 // The constructed nodes of a value (FORMATS, "Values"): their shape, whether they agree with a record, and what stands in them. A node's
 // own part is at p. A message counts as a node without an own part, in which one value stands.
-ghost use Rattle.std.specs.Prelude.{◌≡◌, true, ◌<◌, ◌≤◌, ◌+◌, Some, None, ltb, length};
+ghost use Rattle.std.specs.Prelude.{◌≡◌, true, ◌<◌, ◌≤◌, ◌+◌, ◌↔◌, Some, None, IsTrue, EachIndex, slice_index, ltb, length};
 ghost use Rattle.octets.specs.Tests.{if};
 ghost use Rattle.octets.specs.Numbers.{unless_zero, if_below};
 ghost use Rattle.table.specs.Fields.{constructed_of};
@@ -15,6 +15,7 @@ use octets::octet;
 use records::entry::{Entry, Span, optional, part, parts};
 
 // Whether the octets of a node with its mark are there, to its kind.
+#[tactic(auto, unfolding(crate::specs::Nodes::end_at))]
 pub fn marked(v: &[u8], at: usize) -> bool
     requires { at ≤ 16384 }
     ensures { Marked v.now at result }
@@ -29,6 +30,13 @@ pub fn marked(v: &[u8], at: usize) -> bool
     v[second] == 0x41
 }
 
+// Whether each octet is 0 or 1.
+fn are_flags(octets: &[u8]) -> bool
+    ensures { IsTrue result ↔ EachIndex octets.now (λ k. slice_index octets.now k < 2) }
+{
+    octets.iter().all(|x| *x < 2)
+}
+
 // Where the presence of members ends, if it is shaped.
 fn members_end(v: &[u8], p: usize) -> Option<usize>
     requires { p < 20000 }
@@ -36,8 +44,13 @@ fn members_end(v: &[u8], p: usize) -> Option<usize>
 {
     let start = p + 1;
     let end = start + octet(v, p);
-    let present = v.get(start..end)?;
-    present.iter().all(|x| *x < 2).then_some(end)
+    if v.len() < end {
+        return None;
+    }
+    if !are_flags(&v[start..end]) {
+        return None;
+    }
+    Some(end)
 }
 
 // e, if so many octets are there.
@@ -51,6 +64,7 @@ pub fn fixed_end(v: &[u8], e: usize) -> Option<usize>
 }
 
 // Where the own part of a node of a constructed kind ends, if it is shaped.
+#[tactic(auto, unfolding(crate::specs::Nodes::own_end, crate::specs::Nodes::members_end, crate::specs::Nodes::fixed_end))]
 pub fn own_end(v: &[u8], kind: u8, p: usize) -> Option<usize>
     requires { (p < 20000)
         × (constructed_of kind ≡ true) }
@@ -62,7 +76,10 @@ pub fn own_end(v: &[u8], kind: u8, p: usize) -> Option<usize>
     if is_list(kind) {
         return fixed_end(v, p + 2);
     }
-    fixed_end(v, p + 1)
+    if kind == CHOICE {
+        return fixed_end(v, p + 1);
+    }
+    None
 }
 
 // Whether the mandatory ones of the n members from p on are present; which are present says v, from q on.
@@ -108,6 +125,7 @@ pub fn agrees(table: &[u8], e: Entry, v: &[u8], kind: u8, p: usize) -> bool
 }
 
 // Where the first value begins that stands in a node.
+#[tactic(auto, unfolding(crate::specs::Standing::start_at))]
 pub fn start(e: Entry, v: &[u8], p: usize) -> usize
     requires { start_at e v.now p ≤ length v.now }
     ensures { result ≡ start_at e v.now p }
@@ -125,6 +143,7 @@ pub fn start(e: Entry, v: &[u8], p: usize) -> usize
 }
 
 // How many values stand in it, at most.
+#[tactic(auto, unfolding(crate::specs::Standing::start_at, crate::specs::Standing::count_at))]
 pub fn count(e: Entry, v: &[u8], p: usize) -> usize
     requires { start_at e v.now p ≤ length v.now }
     ensures { (result ≡ count_at e v.now p)
@@ -140,6 +159,7 @@ pub fn count(e: Entry, v: &[u8], p: usize) -> usize
 }
 
 // The record number of the i-th of them, where s are the parts of e; none for a member that is not present.
+#[tactic(auto, unfolding(crate::specs::Standing::start_at, crate::specs::Standing::count_at, crate::specs::Standing::part_of, crate::specs::Standing::below_at))]
 pub fn below(table: &[u8], e: Entry, s: Span, v: &[u8], p: usize, i: usize) -> Option<usize>
     requires { (s ≡ parts_of table.now e)
         × Standing table.now v.now e p
