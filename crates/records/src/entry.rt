@@ -1,6 +1,6 @@
 // The entries of a table's index, one number a record: what is looked up of a record, and the places in the table to which it leads
 // (FORMATS, "Tables"). Every function is total.
-ghost use Rattle.std.specs.Prelude.{◌≡◌, true, false, not, ◌&&◌, ◌||◌, ◌<◌, ◌+◌, ◌-◌, ◌*◌, eqb, leb, ltb, length, get_or};
+ghost use Rattle.std.specs.Prelude.{◌≡◌, true, false, not, ◌&&◌, ◌||◌, ◌<◌, ◌+◌, ◌-◌, ◌*◌, ◌^◌, eqb, leb, ltb, length, get_or};
 ghost use Rattle.octets.specs.Numbers.{two};
 ghost use Rattle.ber.specs.Codes.{code};
 ghost use Rattle.table.specs.Reading.{numbers_at};
@@ -151,6 +151,14 @@ pub fn parts(table: &[u8], e: Entry) -> Span
         count: 0,
         step: 0,
     }
+}
+
+// The record number of the j-th part, whose place does not wrap; behind the table 0.
+pub fn part(table: &[u8], s: Span, j: usize) -> usize
+    ensures { (s.first + s.step * j < 2 ^ 64 → result ≡ get_or table.now (s.first + s.step * j) 0)
+        × (result < 256) }
+{
+    octet(table, s.first.wrapping_add(s.step.wrapping_mul(j)))
 }
 
 // Whether the member at p is optional.
