@@ -2,5 +2,4 @@
 -- Assumes nothing.
 pub mod Digits
 pub mod Lines
-pub mod Operations
 pub mod Examples
