@@ -8,6 +8,7 @@ use native.Mathlib.Omega.{arith}
 use Prim.Native.Nat.{ℕ, ◌+◌, ◌-◌, ◌≤◌, ◌<◌}
 use lib.Dec.{leb, eqb}
 use lib.ListN.{length, get_or, drop, length-drop}
+use Rattle.std.specs.Prelude.{Option, Some, None, Result, Ok, Err}
 use Rattle.x690.specs.declared.ReadingCause.{ReadingCause}
 use Rattle.x690.specs.declared.ReadingCause.TheVariants.{Cut, Forbidden}
 use Rattle.octets.specs.Answer.{Answer, refused, if, none_left}
@@ -15,37 +16,35 @@ use Rattle.octets.proofs.Tests.{test}
 use Rattle.ber.proofs.Places.{none_at, some_at}
 use Rattle.x690.specs.Reading.{at_end}
 use Rattle.ber.specs.Told.{mode, end_of}
-use Rattle.ber.specs.declared.ending.End.{End}
-use Rattle.ber.specs.declared.ending.End.TheVariants.{More, Over, Broken}
 
 module _ (m : List ℕ) (at : ℕ) where
-  pub ends_none : length m ≤ at → Broken Cut ≡ end_of true (length m) (drop at m)
+  pub ends_none : length m ≤ at → Err Cut ≡ end_of true (length m) (drop at m)
   unfolding end_of if none_left
   ends_none k = rw (none_at m at k)
 
-  pub ends_more : at < length m → (get_or m at 0 ≡ 0 → ⊥) → More ≡ end_of true (length m) (drop at m)
+  pub ends_more : at < length m → (get_or m at 0 ≡ 0 → ⊥) → Ok None ≡ end_of true (length m) (drop at m)
   unfolding end_of if none_left
   ends_more h e = rw (some_at m at h, ne_eqb (get_or m at 0) 0 e)
 
-  pub ends_half : at < length m → get_or m at 0 ≡ 0 → length m ≤ at + 1 → Broken Cut ≡ end_of true (length m) (drop at m)
+  pub ends_half : at < length m → get_or m at 0 ≡ 0 → length m ≤ at + 1 → Err Cut ≡ end_of true (length m) (drop at m)
   unfolding end_of if none_left
   ends_half h e k = rw (some_at m at h, eq-eqb (get_or m at 0) 0 e, none_at m (at + 1) k)
 
-  pub ends_wrong : at + 1 < length m → get_or m at 0 ≡ 0 → (get_or m (at + 1) 0 ≡ 0 → ⊥) → Broken Forbidden ≡ end_of true (length m) (drop at m)
+  pub ends_wrong : at + 1 < length m → get_or m at 0 ≡ 0 → (get_or m (at + 1) 0 ≡ 0 → ⊥) → Err Forbidden ≡ end_of true (length m) (drop at m)
   unfolding end_of if none_left
   ends_wrong h e f = rw (some_at m at (omega arith), eq-eqb (get_or m at 0) 0 e, some_at m (at + 1) h, ne_eqb (get_or m (at + 1) 0) 0 f)
 
-  pub ends_over : at + 1 < length m → get_or m at 0 ≡ 0 → get_or m (at + 1) 0 ≡ 0 → Over (at + 2) ≡ end_of true (length m) (drop at m)
+  pub ends_over : at + 1 < length m → get_or m at 0 ≡ 0 → get_or m (at + 1) 0 ≡ 0 → Ok (Some (at + 2)) ≡ end_of true (length m) (drop at m)
   unfolding end_of if none_left
   ends_over h e f =
       let w : length m - length (drop (at + 1 + 1) m) ≡ at + 2 = omega (arith, length-drop (at + 1 + 1) m) in
       rw (some_at m at (omega arith), eq-eqb (get_or m at 0) 0 e, some_at m (at + 1) h, eq-eqb (get_or m (at + 1) 0) 0 f, w)
 
-  pub ends_closed : length m ≤ at → Over (length m) ≡ end_of false (length m) (drop at m)
+  pub ends_closed : length m ≤ at → Ok (Some (length m)) ≡ end_of false (length m) (drop at m)
   unfolding end_of if none_left
   ends_closed k = rw (none_at m at k)
 
-  pub ends_not : at < length m → More ≡ end_of false (length m) (drop at m)
+  pub ends_not : at < length m → Ok None ≡ end_of false (length m) (drop at m)
   unfolding end_of if none_left
   ends_not h = rw (some_at m at h)
 
@@ -65,10 +64,10 @@ module _ (m : List ℕ) (at : ℕ) where
 
 -- what an end says of reading on
 module _ {A : Type 0} (f : List ℕ → Answer ReadingCause A) (x : Unit {0} → Answer ReadingCause A) (m : List ℕ) (at : ℕ) where
-  abbrev Tells : Bool → End → Type 0
-  Tells k More = (at_end (mode k) (drop at m) f x ≡ x tt) × (at < length m)
-  Tells k (Over e) = (at_end (mode k) (drop at m) f x ≡ f (drop e m)) × (at ≤ length m → at ≤ e) × (e ≤ length m)
-  Tells k (Broken c) = at_end (mode k) (drop at m) f x ≡ refused c (length (drop at m))
+  abbrev Tells : Bool → Result (Option ℕ) ReadingCause → Type 0
+  Tells k (Ok None) = (at_end (mode k) (drop at m) f x ≡ x tt) × (at < length m)
+  Tells k (Ok (Some e)) = (at_end (mode k) (drop at m) f x ≡ f (drop e m)) × (at ≤ length m → at ≤ e) × (e ≤ length m)
+  Tells k (Err c) = at_end (mode k) (drop at m) f x ≡ refused c (length (drop at m))
 
   tells_closed : Tells false (end_of false (length m) (drop at m))
   unfolding at_end if none_left
@@ -103,13 +102,13 @@ module _ {A : Type 0} (f : List ℕ → Answer ReadingCause A) (x : Unit {0} →
   tells true = tells_indefinite
   tells false = tells_closed
 
-  pub end_more : (k : Bool) (r : End) → r ≡ end_of k (length m) (drop at m) → r ≡ More → (at_end (mode k) (drop at m) f x ≡ x tt) × (at < length m)
+  pub end_more : (k : Bool) (r : Result (Option ℕ) ReadingCause) → r ≡ end_of k (length m) (drop at m) → r ≡ Ok None → (at_end (mode k) (drop at m) f x ≡ x tt) × (at < length m)
   end_more k r e d = rw (← e, d) at (tells k)
 
-  pub end_over : (k : Bool) (r : End) (u : ℕ) → at ≤ length m → r ≡ end_of k (length m) (drop at m) → r ≡ Over u
+  pub end_over : (k : Bool) (r : Result (Option ℕ) ReadingCause) (u : ℕ) → at ≤ length m → r ≡ end_of k (length m) (drop at m) → r ≡ Ok (Some u)
       → (at_end (mode k) (drop at m) f x ≡ f (drop u m)) × (at ≤ u) × (u ≤ length m)
-  end_over k r u h e d = let t : Tells k (Over u) = rw (← e, d) at (tells k) in (t.0, t.1 h, t.2)
+  end_over k r u h e d = let t : Tells k (Ok (Some u)) = rw (← e, d) at (tells k) in (t.0, t.1 h, t.2)
 
-  pub end_broken : (k : Bool) (r : End) (c : ReadingCause) → r ≡ end_of k (length m) (drop at m) → r ≡ Broken c
+  pub end_broken : (k : Bool) (r : Result (Option ℕ) ReadingCause) (c : ReadingCause) → r ≡ end_of k (length m) (drop at m) → r ≡ Err c
       → at_end (mode k) (drop at m) f x ≡ refused c (length (drop at m))
   end_broken k r c e d = rw (← e, d) at (tells k)

@@ -10,6 +10,7 @@ use borrow.Author.Tests.{ne_eqb}
 use lib.Dec.{ltb, eqb}
 use lib.ListN.{length, get_or, drop, length-drop}
 use lib.Seq.{drop-append_seam, drop-drop, get_or-drop}
+use Rattle.std.specs.Prelude.{Result, Ok, Err}
 use Rattle.x690.specs.declared.ReadingCause.{ReadingCause}
 use Rattle.x690.specs.declared.ReadingCause.TheVariants.{Cut}
 use Rattle.octets.specs.Answer.{Answer, got, refused, then, if}
@@ -19,11 +20,8 @@ use Rattle.x690.specs.Reading.{read_following, read_identifier, Size, definite, 
 use Rattle.ber.specs.Skipping.{headed, Passed, behind_all, closes, jumps, opens, Skips, sized, unsized, after, left_open, open_end, item_end}
 use Rattle.ber.specs.Told.{told_identifier, told_length}
 use Rattle.ber.specs.declared.identifier.Identifier.{Identifier}
-use Rattle.ber.specs.declared.identifier.Identifier.TheVariants.{Read, Refused as NoIdentifier}
-use Rattle.ber.specs.declared.length.Length.{Length}
-use Rattle.ber.specs.declared.length.Length.TheVariants.{Read as ReadLength, Refused as NoLength}
 use Rattle.ber.specs.declared.length.Extent.{Extent}
-use Rattle.ber.proofs.Told.{identifier_read, identifier_refused, Room, length_rest, length_anywhere, length_definite, length_indefinite, length_refused}
+use Rattle.ber.proofs.Told.{identifier_read, identifier_refused, says_definite, says_open, says_no, Room, length_rest, length_anywhere, length_definite, length_indefinite, length_refused}
 use Rattle.ber.proofs.Places.{left_at, Left, left_all, left_none, left_of, left_few, left_back}
 use Rattle.x690.proofs.Identifiers.{identifier_sound}
 
@@ -109,31 +107,41 @@ passed_left (opens {b = b} {s = s} {r = r} z e p) (suc n) h =
     let (q, f, o, l, room) = headed_left (b ∷ s) e in
     rw (ne_eqb b 0 (λ y. omega arith), e) (passed_left p n (omega (arith, ap length f, length-drop q (b ∷ s))))
 
--- the header at the front of s, by the code's answers
-module _ (s : List ℕ) (r : Identifier) (a : r ≡ told_identifier (length s) (read_identifier s)) where
-  head_none : (f : ReadingCause) → r ≡ NoIdentifier f → headed s ≡ refused f (length s)
+-- the extent of the item at the front of s, by the answer of the code on its identifier
+module _ (s : List ℕ) (r : Result Identifier ReadingCause) (a : r ≡ told_identifier (length s) (read_identifier s)) where
+  pub extent_none : (f : ReadingCause) → r ≡ Err f → Err f ≡ told_length (length s) (headed s)
+  unfolding headed then told_length
+  extent_none f d = rw (identifier_refused s r a f d) refl
+
+  pub extent_here : (z : Identifier) → r ≡ Ok z → headed s ≡ read_length (length s) (drop z.end s)
   unfolding headed then
-  head_none f d = rw (identifier_refused s r a f d)
+  extent_here z d = let (i, q, k, low, high) = identifier_read s r a z d in rw q
 
-  module _ (c e : ℕ) (d : r ≡ Read c e) (x : Length) (b : (l : ℕ) → x ≡ told_length (length s) (read_length l (drop e s))) where
-    behind_identifier : headed s ≡ read_length (length s) (drop e s)
-    unfolding headed then
-    behind_identifier = let (i, q, k, low, high) = identifier_read s r a c e d in rw q
+-- the header at the front of s, by the answer of the code
+module _ (s : List ℕ) (x : Result Extent ReadingCause) (a : x ≡ told_length (length s) (headed s)) where
+  head_refused : (f : ReadingCause) → x ≡ Err f → (l : ℕ) × (headed s ≡ refused f l)
+  head_refused f g = says_no (length s) (headed s) f (sym g ∙ a)
 
-    head_refused : (f : ReadingCause) → x ≡ NoLength f → headed s ≡ refused f (length s)
-    head_refused f g = behind_identifier ∙ length_refused s e (length s) x (b (length s)) f g
+  module _ (y : Extent) (g : x ≡ Ok y) where
+    head_definite : y.indefinite ≡ false
+        → (headed s ≡ got (definite (y.end - y.start)) (drop y.start s)) × (0 < y.start) × (y.start ≤ y.end) × (y.end ≤ length s)
+    head_definite h =
+        let (k, w, q, b, e) = says_definite (length s) y (headed s) (sym g ∙ a) h in
+        let (p, f, low, high, room) = headed_left s q in
+        let z = ap length f ∙ length-drop p s in
+        let es : y.start ≡ p = omega arith in
+        let ek : k ≡ y.end - y.start = omega arith in
+        let ew : w ≡ drop y.start s = f ∙ ap (λ (j : ℕ). drop j s) (sym es) in
+        (q ∙ rw (ek, ew), omega arith, omega arith, omega arith)
 
-    module _ (y : Extent) (g : x ≡ ReadLength y) where
-      head_definite : y.indefinite ≡ false
-          → (headed s ≡ got (definite (y.end - y.start)) (drop y.start s)) × (0 < y.start) × (y.start ≤ y.end) × (y.end ≤ length s)
-      head_definite h =
-          let (q, l, k, u) = length_definite s e (length s) x (b (length s)) y g h in
-          (behind_identifier ∙ q, omega arith, k, u)
-
-      head_indefinite : y.indefinite ≡ true → (headed s ≡ got indefinite (drop y.start s)) × (0 < y.start) × (y.start ≤ length s)
-      head_indefinite h =
-          let (q, l, k, u) = length_indefinite s e (length s) x (b (length s)) y g h in
-          (behind_identifier ∙ q, omega arith, k)
+    head_indefinite : y.indefinite ≡ true → (headed s ≡ got indefinite (drop y.start s)) × (0 < y.start) × (y.start ≤ length s)
+    head_indefinite h =
+        let (w, q, b, e) = says_open (length s) y (headed s) (sym g ∙ a) h in
+        let (p, f, low, high, room) = headed_left s q in
+        let z = ap length f ∙ length-drop p s in
+        let es : y.start ≡ p = omega arith in
+        let ew : w ≡ drop y.start s = f ∙ ap (λ (j : ℕ). drop j s) (sym es) in
+        (q ∙ rw ew, omega arith, omega arith)
 
 -- the loop: what is left of m at a place inside k items is what is left at the start
 pub record Stands (m : List ℕ) (start at k : ℕ) : Type 0 where
@@ -181,35 +189,31 @@ module _ (m : List ℕ) (start : ℕ) where
         turn (at + 2) (k - 1) (omega arith) h
         (open_close S.turns (k - 1) (drop at m) (octet_at ∙ z) ∙ ap (left_open S.turns (k - 1)) (drop-drop 2 at m))
 
-    module _ (z : get_or m at 0 ≡ 0 → ⊥) (r : Identifier) (a : r ≡ told_identifier (length (drop at m)) (read_identifier (drop at m))) where
+    module _ (z : get_or m at 0 ≡ 0 → ⊥) (x : Result Extent ReadingCause) (a : x ≡ told_length (length (drop at m)) (headed (drop at m))) where
       onward : left_open (suc S.turns) (suc (k - 1)) (drop at m) ≡ after (left_open S.turns) (suc (k - 1)) (headed (drop at m))
       onward = open_header S.turns (k - 1) (drop at m) λ e. z (sym octet_at ∙ e)
 
-      pub pass_none : (f : ReadingCause) → r ≡ NoIdentifier f → length m ≡ open_end m start
-      pass_none f d = to_end (onward ∙ rw (head_none (drop at m) r a f d))
+      pub pass_refused : (f : ReadingCause) → x ≡ Err f → length m ≡ open_end m start
+      pass_refused f g = let (l, q) = head_refused (drop at m) x a f g in to_end (onward ∙ rw q refl)
 
-      module _ (c e : ℕ) (d : r ≡ Read c e) (x : Length) (b : (l : ℕ) → x ≡ told_length (length (drop at m)) (read_length l (drop e (drop at m)))) where
-        pub pass_refused : (f : ReadingCause) → x ≡ NoLength f → length m ≡ open_end m start
-        pass_refused f g = to_end (onward ∙ rw (head_refused (drop at m) r a c e d x b f g))
+      module _ (y : Extent) (g : x ≡ Ok y) (in_m : at ≤ length m) where
+        pub pass_sized : y.indefinite ≡ false → (0 < y.end) × (at + y.end ≤ length m) × Stands m start (at + y.end) k
+        pass_sized h =
+            let (p, l, u, v) = head_definite (drop at m) x a y g h in
+            let j : y.start + (y.end - y.start) ≡ y.end = omega arith in
+            let w : at + y.end ≤ length m = omega (arith, length-drop at m) in
+            let q : after (left_open S.turns) (suc (k - 1)) (headed (drop at m)) ≡ left_open S.turns k (drop (at + y.end) m) =
+            rw (p, drop-drop (y.end - y.start) y.start (drop at m), j, drop-drop y.end at m, ← counted) refl in
+            (omega arith, w, turn (at + y.end) k (omega arith) w (onward ∙ q))
 
-        module _ (y : Extent) (g : x ≡ ReadLength y) (in_m : at ≤ length m) where
-          pub pass_sized : y.indefinite ≡ false → (at < at + y.end) × (at + y.end ≤ length m) × Stands m start (at + y.end) k
-          pass_sized h =
-              let (p, l, u, v) = head_definite (drop at m) r a c e d x b y g h in
-              let j : y.start + (y.end - y.start) ≡ y.end = omega arith in
-              let w : at + y.end ≤ length m = omega (arith, length-drop at m) in
-              let q : after (left_open S.turns) (suc (k - 1)) (headed (drop at m)) ≡ left_open S.turns k (drop (at + y.end) m) =
-              rw (p, drop-drop (y.end - y.start) y.start (drop at m), j, drop-drop y.end at m, ← counted) refl in
-              (omega arith, w, turn (at + y.end) k (omega arith) w (onward ∙ q))
-
-          pub pass_opened : y.indefinite ≡ true → (at < at + y.start) × (at + y.start ≤ length m) × Stands m start (at + y.start) (k + 1)
-          pass_opened h =
-              let (p, l, u) = head_indefinite (drop at m) r a c e d x b y g h in
-              let n : suc (suc (k - 1)) ≡ k + 1 = omega arith in
-              let w : at + y.start ≤ length m = omega (arith, length-drop at m) in
-              let q : after (left_open S.turns) (suc (k - 1)) (headed (drop at m)) ≡ left_open S.turns (k + 1) (drop (at + y.start) m) =
-              rw (p, drop-drop y.start at m, n) refl in
-              (omega arith, w, turn (at + y.start) (k + 1) (omega arith) w (onward ∙ q))
+        pub pass_opened : y.indefinite ≡ true → (0 < y.start) × (at + y.start ≤ length m) × Stands m start (at + y.start) (k + 1)
+        pass_opened h =
+            let (p, l, u) = head_indefinite (drop at m) x a y g h in
+            let n : suc (suc (k - 1)) ≡ k + 1 = omega arith in
+            let w : at + y.start ≤ length m = omega (arith, length-drop at m) in
+            let q : after (left_open S.turns) (suc (k - 1)) (headed (drop at m)) ≡ left_open S.turns (k + 1) (drop (at + y.start) m) =
+            rw (p, drop-drop y.start at m, n) refl in
+            (omega arith, w, turn (at + y.start) (k + 1) (omega arith) w (onward ∙ q))
 
 -- an item whose identifier ends at a place
 module _ (m : List ℕ) (from : ℕ) where
@@ -222,12 +226,12 @@ module _ (m : List ℕ) (from : ℕ) where
       λ z w x. let (p, e, low, high, room) = length_rest m from 0 z w x in ((p, e, high), room)
 
   -- its end, by the code's answers
-  module _ (x : Length) (b : (l : ℕ) → x ≡ told_length (length m) (read_length l (drop from m))) where
-    pub skip_none : (f : ReadingCause) → x ≡ NoLength f → length m ≡ item_end m from
+  module _ (x : Result Extent ReadingCause) (b : (l : ℕ) → x ≡ told_length (length m) (read_length l (drop from m))) where
+    pub skip_none : (f : ReadingCause) → x ≡ Err f → length m ≡ item_end m from
     unfolding item_end
     skip_none f d = rw (length_refused m from 0 x (b 0) f d) (omega arith)
 
-    module _ (y : Extent) (g : x ≡ ReadLength y) where
+    module _ (y : Extent) (g : x ≡ Ok y) where
       pub skip_sized : y.indefinite ≡ false → y.end ≡ item_end m from
       unfolding item_end left_open
       skip_sized h =

@@ -9,6 +9,8 @@ use mathlib.Core.List.{List, [], ◌∷◌, ◌++◌}
 use mathlib.Core.Path.{◌≡◌, refl, sym, ap, ◌∙◌}
 use native.Mathlib.Omega.{arith}
 use Prim.Native.Nat.{ℕ, suc, ◌+◌, ◌-◌, ◌*◌, ◌%◌, ◌≤◌, ◌<◌, min}
+use Rattle.std.specs.Prelude.{Result, Ok, Err}
+use Rattle.std.specs.Result.{result_unwrap_or}
 use Rattle.x690.specs.declared.ReadingCause.{ReadingCause}
 use Rattle.x690.specs.declared.ReadingCause.TheVariants.{Cut, Forbidden, LengthField}
 use Rattle.octets.specs.Answer.{Answer, got, refused, then, if}
@@ -18,28 +20,25 @@ use Rattle.octets.proofs.Tests.{test}
 use Rattle.octets.proofs.Permutations.{every_left, every_right}
 use Rattle.octets.proofs.Lists.{behind, length_behind}
 use Rattle.ber.specs.Codes.{spelled, code_of}
-use Rattle.x690.specs.Length.{unsigned, longest_field, Length as Octets, short, long}
+use Rattle.x690.specs.Length.{unsigned, longest_field, Length, short, long}
 use Rattle.x690.specs.Reading.{read_following, read_identifier, Size, definite, indefinite, read_length, read_long, fit}
-use Rattle.ber.specs.Told.{told_identifier, told_length, no_extent, extent_of, again_at}
+use Rattle.ber.specs.Told.{told_identifier, told_length, no_extent, again_at}
 use Rattle.ber.specs.declared.identifier.Identifier.{Identifier}
-use Rattle.ber.specs.declared.identifier.Identifier.TheVariants.{Read, Refused as NoIdentifier}
-use Rattle.ber.specs.declared.length.Length.{Length}
-use Rattle.ber.specs.declared.length.Length.TheVariants.{Read as ReadLength, Refused as NoLength}
 use Rattle.ber.specs.declared.length.Extent.{Extent}
 use Rattle.x690.proofs.Identifiers.{identifier_sound, identifier_some}
 use Rattle.x690.proofs.Lengths.{counts, field, length_sound, length_complete, Shape, is_definite, is_indefinite}
 use Rattle.ber.proofs.Places.{left_at, none_at, some_at, from_before}
 
 -- m is an identifier, as the code answers
-abbrev Identified : List ℕ → Identifier → Type 0
+abbrev Identified : List ℕ → Result Identifier ReadingCause → Type 0
 Identified m r = r ≡ told_identifier (length m) (read_identifier m)
 
-pub identifier_none : (m : List ℕ) → length m ≡ 0 → Identified m (NoIdentifier Cut)
+pub identifier_none : (m : List ℕ) → length m ≡ 0 → Identified m (Err Cut)
 unfolding told_identifier read_identifier if
 identifier_none [] h = refl
 identifier_none (b ∷ s) h = absurd (omega arith)
 
-pub identifier_short : (m : List ℕ) → 0 < length m → get_or m 0 0 % 32 < 31 → Identified m (Read (get_or m 0 0) 1)
+pub identifier_short : (m : List ℕ) → 0 < length m → get_or m 0 0 % 32 < 31 → Identified m (Ok (record { code = get_or m 0 0; end = 1 }))
 unfolding told_identifier read_identifier code_of if
 identifier_short [] h k = absurd (omega arith)
 identifier_short (b ∷ s) h k = let e : suc (length s) - length s ≡ 1 = omega arith in rw (lt-ltb (b % 32) 31 k, e)
@@ -75,20 +74,20 @@ follow_next m i n F h k =
     }
 
 module _ (i n : ℕ) where
-  pub long_cut : (m : List ℕ) → 0 < length m → 31 ≤ get_or m 0 0 % 32 → Following m i n → length m ≤ i → Identified m (NoIdentifier Cut)
+  pub long_cut : (m : List ℕ) → 0 < length m → 31 ≤ get_or m 0 0 % 32 → Following m i n → length m ≤ i → Identified m (Err Cut)
   unfolding told_identifier read_identifier read_following if then
   long_cut [] h low F k = absurd (omega arith)
   long_cut (b ∷ s) h low F k = rw (le-ltb (b % 32) 31 low, F.whole _, none_at (b ∷ s) i k)
 
   pub long_zero : (m : List ℕ) → 0 < length m → 31 ≤ get_or m 0 0 % 32 → Following m i n → i < length m → get_or m i 0 < 128 → get_or m 1 0 ≡ 128
-      → Identified m (NoIdentifier Forbidden)
+      → Identified m (Err Forbidden)
   unfolding told_identifier read_identifier read_following if then
   long_zero [] h low F k z e = absurd (omega arith)
   long_zero (b ∷ s) h low F k z e =
       rw (le-ltb (b % 32) 31 low, F.whole _, some_at (b ∷ s) i k, lt-ltb (get_or (b ∷ s) i 0) 128 z, F.starts, eq-eqb (get_or (b ∷ s) 1 0) 128 e)
 
   pub long_few : (m : List ℕ) → 0 < length m → 31 ≤ get_or m 0 0 % 32 → Following m i n → i < length m → get_or m i 0 < 128 → (get_or m 1 0 ≡ 128 → ⊥)
-      → get_or m 1 0 < 31 → Identified m (NoIdentifier Forbidden)
+      → get_or m 1 0 < 31 → Identified m (Err Forbidden)
   unfolding told_identifier read_identifier read_following if then
   long_few [] h low F k z e f = absurd (omega arith)
   long_few (b ∷ s) h low F k z e f =
@@ -103,7 +102,7 @@ module _ (i n : ℕ) where
       )
 
   pub long_read : (m : List ℕ) → 0 < length m → 31 ≤ get_or m 0 0 % 32 → Following m i n → i < length m → get_or m i 0 < 128 → (get_or m 1 0 ≡ 128 → ⊥)
-      → 31 ≤ get_or m 1 0 → Identified m (Read (get_or m 0 0 + 256 * min 65536 (n * 128 + get_or m i 0 % 128)) (i + 1))
+      → 31 ≤ get_or m 1 0 → Identified m (Ok (record { code = get_or m 0 0 + 256 * min 65536 (n * 128 + get_or m i 0 % 128); end = i + 1 }))
   unfolding told_identifier read_identifier read_following if then spelled
   long_read [] h low F k z e f = absurd (omega arith)
   long_read (b ∷ s) h low F k z e f =
@@ -127,25 +126,25 @@ unsigned_least n [] = omega arith
 unsigned_least n (d ∷ l) = let h = unsigned_least (n * 256 + d) l in omega arith
 
 -- length octets are at a place of m, as the code answers
-abbrev Here : List ℕ → ℕ → Length → Type 0
+abbrev Here : List ℕ → ℕ → Result Extent ReadingCause → Type 0
 Here m at r = (l : ℕ) → r ≡ told_length (length m) (read_length l (drop at m))
 
 -- n octets of contents, from `start` on
 module _ (m : List ℕ) (start n l : ℕ) where
-  fits : start + n ≤ length m → ReadLength (record { start = start; end = start + n; indefinite = false }) ≡ told_length (length m) (fit l n (drop start m))
+  fits : start + n ≤ length m → Ok (record { start = start; end = start + n; indefinite = false }) ≡ told_length (length m) (fit l n (drop start m))
   unfolding told_length fit if
   fits h =
       let g : n ≤ length (drop start m) = rw length-drop (omega arith) in
       rw (le-leb n (length (drop start m)) g, left_at m start (omega arith))
 
-  fits_not : length m < start + n → start ≤ length m → NoLength Cut ≡ told_length (length m) (fit l n (drop start m))
+  fits_not : length m < start + n → start ≤ length m → Err Cut ≡ told_length (length m) (fit l n (drop start m))
   unfolding told_length fit if
   fits_not h k =
       let g : length (drop start m) < n = rw length-drop (omega arith) in
       rw (lt-leb n (length (drop start m)) g)
 
 module _ (m : List ℕ) (at : ℕ) where
-  pub length_none : length m ≤ at → Here m at (NoLength Cut)
+  pub length_none : length m ≤ at → Here m at (Err Cut)
   unfolding told_length read_length if
   length_none k l = rw (none_at m at k)
 
@@ -154,10 +153,10 @@ module _ (m : List ℕ) (at : ℕ) where
   short_form h s l = rw (some_at m at h, lt-ltb (get_or m at 0) 128 s)
 
   pub length_short : at < length m → get_or m at 0 < 128 → at + 1 + get_or m at 0 ≤ length m
-      → Here m at (ReadLength (record { start = at + 1; end = at + 1 + get_or m at 0; indefinite = false }))
+      → Here m at (Ok (record { start = at + 1; end = at + 1 + get_or m at 0; indefinite = false }))
   length_short h l f p = rw (short_form h l p) (fits m (at + 1) (get_or m at 0) p f)
 
-  pub length_short_no : at < length m → get_or m at 0 < 128 → length m < at + 1 + get_or m at 0 → Here m at (NoLength Cut)
+  pub length_short_no : at < length m → get_or m at 0 < 128 → length m < at + 1 + get_or m at 0 → Here m at (Err Cut)
   length_short_no h l f p = rw (short_form h l p) (fits_not m (at + 1) (get_or m at 0) p f (omega arith))
 
 octets_from : (m : List ℕ) (at : ℕ) → AllOctets m → AllOctets (drop at m)
@@ -189,7 +188,7 @@ module _ (m : List ℕ) (at k : ℕ) where
 
 -- behind a first octet of another form
 module _ (m : List ℕ) (at : ℕ) (some : 0 < at) (there : at ≤ length m) where
-  pub length_open : get_or m (at - 1) 0 ≡ 128 → Here m (at - 1) (ReadLength (record { start = at; end = length m; indefinite = true }))
+  pub length_open : get_or m (at - 1) 0 ≡ 128 → Here m (at - 1) (Ok (record { start = at; end = length m; indefinite = true }))
   unfolding told_length read_length if
   length_open e p = rw (from_before m at some there, e, left_at m at there)
 
@@ -200,11 +199,11 @@ module _ (m : List ℕ) (at : ℕ) (some : 0 < at) (there : at ≤ length m) whe
         let b = get_or m (at - 1) 0 in
         rw (from_before m at some there, le-ltb b 128 (omega arith), ne_eqb b 128 (λ e. omega arith), lt-leb (b - 128) longest_field over)
 
-    pub length_over : get_or m (at - 1) 0 < 255 → Here m (at - 1) (NoLength LengthField)
+    pub length_over : get_or m (at - 1) 0 < 255 → Here m (at - 1) (Err LengthField)
     unfolding told_length if
     length_over h l = rw (over_field l, lt-ltb (get_or m (at - 1) 0) 255 h)
 
-    pub length_reserved : 255 ≤ get_or m (at - 1) 0 → Here m (at - 1) (NoLength Forbidden)
+    pub length_reserved : 255 ≤ get_or m (at - 1) 0 → Here m (at - 1) (Err Forbidden)
     unfolding told_length if
     length_reserved h l = rw (over_field l, le-ltb (get_or m (at - 1) 0) 255 h)
 
@@ -222,7 +221,7 @@ module _ (m : List ℕ) (at : ℕ) (some : 0 < at) (there : at ≤ length m) whe
           le-leb k longest_field k_few,
         )
 
-    pub length_few : length m < at + k → Here m (at - 1) (NoLength Cut)
+    pub length_few : length m < at + k → Here m (at - 1) (Err Cut)
     unfolding told_length read_long if
     length_few f l =
         let g : length (drop at m) < k = rw length-drop (omega arith) in
@@ -235,10 +234,10 @@ module _ (m : List ℕ) (at : ℕ) (some : 0 < at) (there : at ≤ length m) whe
           let g : k ≤ length (drop at m) = rw length-drop (omega arith) in
           rw (long_form l, le-leb k (length (drop at m)) g, spells, drop-drop k at m)
 
-      pub length_long : at + k + n ≤ length m → Here m (at - 1) (ReadLength (record { start = at + k; end = at + k + n; indefinite = false }))
+      pub length_long : at + k + n ≤ length m → Here m (at - 1) (Ok (record { start = at + k; end = at + k + n; indefinite = false }))
       length_long g l = rw (whole_form l) (fits m (at + k) n l g)
 
-      pub length_long_no : length m < at + k + n → Here m (at - 1) (NoLength Cut)
+      pub length_long_no : length m < at + k + n → Here m (at - 1) (Err Cut)
       length_long_no g l = rw (whole_form l) (fits_not m (at + k) n l g f)
 
 -- the place of a refusal is where l octets are left
@@ -289,37 +288,38 @@ the_refusal {A} {c} {l} {k} x h e = let q : Faulty {A = A} l (refused c k) = rw 
 
 -- what an answer says of an identifier
 module _ (n : ℕ) where
-  abbrev pub Says : Answer ReadingCause (List ℕ) → Identifier → Type 0
-  Says x (Read c e) = (i : List ℕ) × (w : List ℕ) × (x ≡ got i w) × (code_of i ≡ c) × (n - length w ≡ e)
-  Says x (NoIdentifier c) = (l : ℕ) × (x ≡ refused c l)
+  abbrev pub Says : Answer ReadingCause (List ℕ) → Result Identifier ReadingCause → Type 0
+  Says x (Ok y) = (i : List ℕ) × (w : List ℕ) × (x ≡ got i w) × (code_of i ≡ y.code) × (n - length w ≡ y.end)
+  Says x (Err c) = (l : ℕ) × (x ≡ refused c l)
 
   pub says : (x : Answer ReadingCause (List ℕ)) → Says x (told_identifier n x)
   unfolding told_identifier
   says (got i w) = (i, w, refl, refl, refl)
   says (refused c l) = (l, refl)
 
-module _ (m : List ℕ) (r : Identifier) (a : r ≡ told_identifier (length m) (read_identifier m)) where
+module _ (m : List ℕ) (r : Result Identifier ReadingCause) (a : r ≡ told_identifier (length m) (read_identifier m)) where
   its_some : (i w : List ℕ) → read_identifier m ≡ got i w → 0 < length i
   its_some i w x = got_holds (identifier_some m) x
 
-  pub identifier_read : (c e : ℕ) → r ≡ Read c e → (i : List ℕ) × (read_identifier m ≡ got i (drop e m)) × (code_of i ≡ c) × (0 < e) × (e ≤ length m)
-  identifier_read c e d =
-      let (i, w, x, k, q) : Says (length m) (read_identifier m) (Read c e) = rw (← a, d) at (says (length m) (read_identifier m)) in
+  pub identifier_read : (z : Identifier) → r ≡ Ok z
+      → (i : List ℕ) × (read_identifier m ≡ got i (drop z.end m)) × (code_of i ≡ z.code) × (0 < z.end) × (z.end ≤ length m)
+  identifier_read z d =
+      let (i, w, x, k, q) : Says (length m) (read_identifier m) (Ok z) = rw (← a, d) at (says (length m) (read_identifier m)) in
       let y = got_holds (identifier_sound m) x in
       let o = its_some i w x in
       let l = rw length-append at (ap length y) in
-      let z : length i ≡ e = omega arith in
+      let n : length i ≡ z.end = omega arith in
       let b : drop (length i) m ≡ w = ap (drop (length i)) y ∙ drop-append_seam i w in
-      (i, x ∙ rw (← b, z), k, omega arith, omega arith)
+      (i, x ∙ rw (← b, n), k, omega arith, omega arith)
 
-  pub identifier_refused : (f : ReadingCause) → r ≡ NoIdentifier f → read_identifier m ≡ refused f (length m)
+  pub identifier_refused : (f : ReadingCause) → r ≡ Err f → read_identifier m ≡ refused f (length m)
   identifier_refused f d =
-      let (l, x) : Says (length m) (read_identifier m) (NoIdentifier f) = rw (← a, d) at (says (length m) (read_identifier m)) in
+      let (l, x) : Says (length m) (read_identifier m) (Err f) = rw (← a, d) at (says (length m) (read_identifier m)) in
       the_refusal (read_identifier m) (identifier_faulty m) x
 
 -- what an answer says of a length
 module _ (n : ℕ) (e : Extent) where
-  says_definite : (x : Answer ReadingCause Size) → ReadLength e ≡ told_length n x → e.indefinite ≡ false
+  pub says_definite : (x : Answer ReadingCause Size) → Ok e ≡ told_length n x → e.indefinite ≡ false
       → (k : ℕ) × (w : List ℕ) × (x ≡ got (definite k) w) × (e.start ≡ n - length w) × (e.end ≡ n - length w + k)
   unfolding told_length
   says_definite (got (definite k) w) p q =
@@ -330,7 +330,7 @@ module _ (n : ℕ) (e : Extent) where
       absurd (true≢false (sym (ap (λ (x : Extent). x.indefinite) h) ∙ q))
   says_definite (refused c l) p q = let z : ◌≡◌ {A = ℕ} 0 1 = cc in absurd (omega arith)
 
-  says_open : (x : Answer ReadingCause Size) → ReadLength e ≡ told_length n x → e.indefinite ≡ true
+  pub says_open : (x : Answer ReadingCause Size) → Ok e ≡ told_length n x → e.indefinite ≡ true
       → (w : List ℕ) × (x ≡ got indefinite w) × (e.start ≡ n - length w) × (e.end ≡ n)
   unfolding told_length
   says_open (got (definite k) w) p q =
@@ -341,13 +341,13 @@ module _ (n : ℕ) (e : Extent) where
       (w, refl, ap (λ (x : Extent). x.start) h, ap (λ (x : Extent). x.end) h)
   says_open (refused c l) p q = let z : ◌≡◌ {A = ℕ} 0 1 = cc in absurd (omega arith)
 
-says_no : (n : ℕ) (x : Answer ReadingCause Size) (f : ReadingCause) → NoLength f ≡ told_length n x → (l : ℕ) × (x ≡ refused f l)
+pub says_no : (n : ℕ) (x : Answer ReadingCause Size) (f : ReadingCause) → Err f ≡ told_length n x → (l : ℕ) × (x ≡ refused f l)
 unfolding told_length
 says_no n (got (definite k) w) f e = let z : ◌≡◌ {A = ℕ} 0 1 = cc in absurd (omega arith)
 says_no n (got indefinite w) f e = let z : ◌≡◌ {A = ℕ} 0 1 = cc in absurd (omega arith)
 says_no n (refused c l) f e = let q : f ≡ c = cc in (l, rw q)
 
-octets_some : {n : ℕ} {m : List ℕ} → Octets n m → 0 < length m
+octets_some : {n : ℕ} {m : List ℕ} → Length n m → 0 < length m
 octets_some (short h e) = rw e (omega arith)
 octets_some (long ds a b c e) = rw e (omega arith)
 
@@ -368,8 +368,8 @@ module _ (m : List ℕ) (at l : ℕ) where
       let y = length_behind m at q w h k in
       (at + length q, sym (behind m at q w k), omega arith, y, room)
 
-  module _ (r : Length) (a : r ≡ told_length (length m) (read_length l (drop at m))) where
-    module _ (e : Extent) (d : r ≡ ReadLength e) where
+  module _ (r : Result Extent ReadingCause) (a : r ≡ told_length (length m) (read_length l (drop at m))) where
+    module _ (e : Extent) (d : r ≡ Ok e) where
       pub length_definite : e.indefinite ≡ false
           → (read_length l (drop at m) ≡ got (definite (e.end - e.start)) (drop e.start m)) × (at < e.start) × (e.start ≤ e.end) × (e.end ≤ length m)
       length_definite q =
@@ -404,15 +404,15 @@ module _ (m : List ℕ) (at l : ℕ) where
           small : {n : ℕ} → read_length l (drop at m) ≡ got (definite n) (drop e.start m) → n < 4294967296
           small x = let (p, q, k, c) = got_holds (field l (drop at m) (octets_from m at o)) x in c
 
-    pub length_refused : (f : ReadingCause) → r ≡ NoLength f → read_length l (drop at m) ≡ refused f l
+    pub length_refused : (f : ReadingCause) → r ≡ Err f → read_length l (drop at m) ≡ refused f l
     length_refused f d =
         let (j, x) = says_no (length m) (read_length l (drop at m)) f (sym d ∙ a) in
         the_refusal (read_length l (drop at m)) (length_faulty l (drop at m)) x
 
 -- whatever is read at a place keeps the rule
-pub length_ruled : (m : List ℕ) (at : ℕ) (r : Length) → AllOctets m → Here m at r
-    → Here m at r × ((x : Extent) → r ≡ ReadLength x → x.start ≤ at + 1 + longest_field)
-    × ((x : Extent) → r ≡ ReadLength x → x.indefinite ≡ false → x.end - x.start < 4294967296)
+pub length_ruled : (m : List ℕ) (at : ℕ) (r : Result Extent ReadingCause) → AllOctets m → Here m at r
+    → Here m at r × ((x : Extent) → r ≡ Ok x → x.start ≤ at + 1 + longest_field)
+    × ((x : Extent) → r ≡ Ok x → x.indefinite ≡ false → x.end - x.start < 4294967296)
 length_ruled m at r o h = (h, (λ x e. omega (arith, (extent_field m at 0 r (h 0) x e o).0)), λ x e. (extent_field m at 0 r (h 0) x e o).1)
 
 -- the length octets of contents that were read before
@@ -434,20 +434,14 @@ module _ (m : List ℕ) (at : ℕ) where
     unfolding again_at if
     again_short k = rw (lt-leb (length m) at h, lt-ltb (get_or m at 0) 128 k)
 
-    module _ (k : 128 ≤ get_or m at 0) (r : Length) (a : Here m at r) where
-      again_other : again_at m at ≡ extent_of r
+    module _ (k : 128 ≤ get_or m at 0) (r : Result Extent ReadingCause) (a : Here m at r) where
+      pub again_other : again_at m at ≡ result_unwrap_or r no_extent
       unfolding again_at if
       again_other = rw (lt-leb (length m) at h, le-ltb (get_or m at 0) 128 k, ← a 0)
 
-      pub again_read : (e : Extent) → r ≡ ReadLength e → e ≡ again_at m at
-      again_read e d = sym (again_other ∙ ap extent_of d)
-
-      pub again_no : (f : ReadingCause) → r ≡ NoLength f → no_extent ≡ again_at m at
-      again_no f d = sym (again_other ∙ ap extent_of d)
-
   -- it is the extent of what was read
   pub again_told : (l : ℕ) (x : Extent) (z : Size) (w : List ℕ) → x ≡ again_at m at → read_length l (drop at m) ≡ got z w
-      → ReadLength x ≡ told_length (length m) (read_length l (drop at m))
+      → Ok x ≡ told_length (length m) (read_length l (drop at m))
   unfolding read_length told_length
   again_told l x z w e q =
       rw e
@@ -457,11 +451,11 @@ module _ (m : List ℕ) (at : ℕ) where
       (λ s. short h (ltb-true (get_or m at 0) 128 s))
       λ s. rw (again_other h (ltb-false (get_or m at 0) 128 s) (told_length (length m) (got z w)) λ k. rw (length_anywhere l k (drop at m) q), q) (told z))
     where
-      told : (z : Size) → ReadLength (extent_of (told_length (length m) (got z w))) ≡ told_length (length m) (got z w)
+      told : (z : Size) → Ok (result_unwrap_or (told_length (length m) (got z w)) no_extent) ≡ told_length (length m) (got z w)
       told (definite n) = refl
       told indefinite = refl
 
-      short : at < length m → get_or m at 0 < 128 → ReadLength (again_at m at) ≡ told_length (length m) (read_length l (drop at m))
+      short : at < length m → get_or m at 0 < 128 → Ok (again_at m at) ≡ told_length (length m) (read_length l (drop at m))
       short h s =
           let e = at + 1 + get_or m at 0 in
           test (leb e (length m)) (λ t. rw (← again_short h s) (length_short m at h s (leb-true e (length m) t) l))

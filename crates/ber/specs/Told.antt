@@ -1,6 +1,7 @@
 -- What the functions that read X.690's octets answer, in terms of the reading of items; n octets were lent (X.690, 8.1).
 -- Assumes nothing.
 use Rattle.std.specs.Prelude.{Bool, true, false, not, List, ℕ, ◌+◌, ◌-◌, ltb, leb, eqb, length, get_or, drop, Option, Some, None, Result, Ok, Err}
+use Rattle.std.specs.Result.{result_unwrap_or}
 use Rattle.x690.specs.declared.ReadingCause.{ReadingCause}
 use Rattle.x690.specs.declared.ReadingCause.TheVariants.{Cut, Forbidden}
 use Rattle.octets.specs.Answer.{Answer, got, refused, if, none_left}
@@ -37,14 +38,9 @@ end_of true n s =
 abbrev pub no_extent : Extent
 no_extent = record { start = 0; end = 0; indefinite = false }
 
--- of a length that is read; else no octets
-abbrev pub extent_of : Result Extent ReadingCause → Extent
-extent_of (Ok x) = x
-extent_of (Err c) = no_extent
-
 -- The extent of the length at a place of m where one was read before. So contents in the short form are not tried whether they fit (X.690, 8.1.3.4).
 unfoldable pub again_at : List ℕ → ℕ → Extent
 again_at m at =
     if (leb (length m) at) no_extent λ _.
     if (ltb (get_or m at 0) 128) (record { start = at + 1; end = at + 1 + get_or m at 0; indefinite = false }) λ _.
-    extent_of (told_length (length m) (read_length 0 (drop at m)))
+    result_unwrap_or (told_length (length m) (read_length 0 (drop at m))) no_extent

@@ -7,7 +7,6 @@ ghost use Rattle.x690.specs.Reading.{read_length};
 ghost use Rattle.ber.specs.Told.{told_length, again_at};
 ghost use Rattle.ber.specs.declared.length.Extent.{Extent};
 
-use octets::holds;
 use x690::ReadingCause;
 
 // At most so many octets stand behind the first one.
@@ -118,6 +117,7 @@ pub fn again(m: &[u8], at: usize) -> Extent
 }
 
 // How many octets the length n has.
+#[tactic(auto, using(crate::proofs::Headers::length_one, crate::proofs::Headers::length_two, crate::proofs::Headers::length_three))]
 pub fn size(n: u16) -> usize
     ensures { (result ≡ length (length_octets n)) × (result < 4) }
 {
@@ -131,27 +131,17 @@ pub fn size(n: u16) -> usize
 }
 
 // Puts the length n; where it ends, or the place itself if there is no room.
+#[tactic(auto, using(crate::proofs::Headers::length_one, crate::proofs::Headers::length_two, crate::proofs::Headers::length_three))]
 pub fn put(n: u16, buf: &mut [u8], to: usize) -> usize
     ensures { let w = length_octets n in
         (result ≡ put_end buf.old to w)
         × (buf.new ≡ put buf.old to w) }
 {
-    if !holds(buf, to, size(n)) {
-        return to;
-    }
     if n < 128 {
-        buf[to] = n as u8;
-        return to + 1;
+        return crate::put(&[n as u8], buf, to);
     }
-    let a = to + 1;
     if n < 256 {
-        buf[to] = 129;
-        buf[a] = n as u8;
-        return to + 2;
+        return crate::put(&[129, n as u8], buf, to);
     }
-    let b = to + 2;
-    buf[to] = 130;
-    buf[a] = (n / 256) as u8;
-    buf[b] = (n % 256) as u8;
-    to + 3
+    crate::put(&[130, (n / 256) as u8, (n % 256) as u8], buf, to)
 }

@@ -39,43 +39,32 @@ pub const MESSAGE: u8 = 51;
 pub fn has_members(kind: u8) -> bool
     ensures { result ≡ (eqb kind 16 || eqb kind 17) }
 {
-    if kind == SEQUENCE {
-        return true;
-    }
-    kind == SET
+    matches!(kind, SEQUENCE | SET)
 }
 
 // Whether what a kind holds is elements of one type.
 pub fn is_list(kind: u8) -> bool
     ensures { result ≡ (eqb kind 48 || eqb kind 49) }
 {
-    if kind == SEQUENCE_OF {
-        return true;
-    }
-    kind == SET_OF
+    matches!(kind, SEQUENCE_OF | SET_OF)
 }
 
 // Whether a kind is a string, which may come in segments.
 pub fn is_string(kind: u8) -> bool
     ensures { result ≡ (eqb kind 3 || eqb kind 4) }
 {
-    if kind == BIT_STRING {
-        return true;
-    }
-    kind == OCTET_STRING
+    matches!(kind, BIT_STRING | OCTET_STRING)
 }
 
 // Whether what a kind holds is one item.
 pub fn holds_one(kind: u8) -> bool
     ensures { result ≡ (eqb kind 50 || eqb kind 51) }
 {
-    if kind == CHOICE {
-        return true;
-    }
-    kind == MESSAGE
+    matches!(kind, CHOICE | MESSAGE)
 }
 
 // Which time a kind is, if it is one.
+#[tactic(auto, unfolding(table::specs::Fields::time_kind))]
 pub fn time_kind(kind: u8) -> TimeKind
     ensures { result ≡ time_kind kind }
 {
@@ -94,6 +83,7 @@ const IDENTIFIER: [u8; 50] = [
 ];
 
 // The UNIVERSAL number of a kind; 0 for a CHOICE.
+#[tactic(auto, using(crate::proofs::Identifiers::universal_table, crate::proofs::Identifiers::universal_beyond))]
 pub fn universal(kind: usize) -> usize
     ensures { result ≡ universal_of kind }
 {
@@ -104,6 +94,7 @@ pub fn universal(kind: usize) -> usize
 }
 
 // Whether a kind is constructed.
+#[tactic(auto, using(crate::proofs::Identifiers::constructed_table, crate::proofs::Identifiers::constructed_beyond))]
 pub fn constructed(kind: usize) -> bool
     ensures { result ≡ constructed_of kind }
 {

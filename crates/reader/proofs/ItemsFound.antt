@@ -10,6 +10,8 @@ use mathlib.Core.Option.{some}
 use mathlib.Core.Path.{◌≡◌, refl, sym, ap, ◌∙◌}
 use native.Mathlib.Omega.{arith}
 use Prim.Native.Nat.{ℕ, zero, suc, ◌+◌, ◌-◌, ◌*◌, ◌%◌, ◌≤◌, ◌<◌}
+use Rattle.std.specs.Prelude.{Result, Ok}
+use Rattle.x690.specs.declared.ReadingCause.{ReadingCause}
 use Rattle.x690.specs.declared.ReadingCause.TheVariants.{MessageLevel}
 use Rattle.octets.specs.Answer.{got, refused, then, if}
 use Rattle.octets.specs.Numbers.{Octets}
@@ -33,8 +35,6 @@ use Rattle.reader.specs.Sought.{held, Sought}
 use Rattle.reader.specs.Ways.{Leads, here, wrapped}
 use Rattle.reader.specs.Wraps.{Headed}
 use Rattle.reader.specs.declared.search.Choice.{Choice as Chosen}
-use Rattle.reader.specs.declared.search.Found.{Found}
-use Rattle.reader.specs.declared.search.Found.TheVariants.{Part}
 use Rattle.reader.proofs.Among.{code_is}
 use Rattle.reader.proofs.Begun.{Fit, fit, nested_all}
 use Rattle.reader.proofs.Starts.{coded_is, coded_least}
@@ -155,7 +155,7 @@ pub record AtItem (b : List ℕ) (h : Holder) (m : List ℕ) (at i : ℕ) (came 
 
 -- what was sought
 pub item_sought : {b : List ℕ} {h : Holder} {m : List ℕ} {at i : ℕ} {came way : List ℕ} (x : Chosen) → at ≤ length m
-    → Sought b h i came (drop at m) way (Part x)
+    → Sought b h i came (drop at m) way (Ok x)
     → AtItem b h m at i came way x.place x.record x.depth (at + x.from)
 item_sought {m = m} {at = at} x low q =
     record {
@@ -180,8 +180,8 @@ item_same e f g h k X = rw (e, f, g, h, k) X
 abbrev pub rest_of : List ℕ → ℕ → List ℕ
 rest_of m at = take (length m - at) (drop at m)
 
-pub item_found : {b : List ℕ} {h : Holder} {m : List ℕ} {at i : ℕ} {came way : List ℕ} (r : Found) (x : Chosen) → at ≤ length m
-    → Sought b h i came (rest_of m at) way r → r ≡ Part x
+pub item_found : {b : List ℕ} {h : Holder} {m : List ℕ} {at i : ℕ} {came way : List ℕ} (r : Result Chosen ReadingCause) (x : Chosen) → at ≤ length m
+    → Sought b h i came (rest_of m at) way r → r ≡ Ok x
     → AtItem b h m at i came way x.place x.record x.depth (at + x.from)
 item_found {m = m} {at = at} r x low q ex = item_sought x low (rw (part_to_end m at, ex) at q)
 

@@ -10,6 +10,7 @@ use borrow.Author.Tests.{eqb-true, eqb-false, ltb-true, ltb-false}
 use lib.Dec.{eqb, ltb}
 use lib.ListN.{length, get_or, take, drop, length-append, length-drop}
 use lib.Seq.{sets, length-sets, length-take-le}
+use Rattle.std.specs.Prelude.{Ok}
 use Rattle.x690.specs.declared.ReadingCause.{ReadingCause}
 use Rattle.octets.specs.Answer.{Answer, got, refused, then, if, none_left}
 use Rattle.octets.specs.Numbers.{Octets}
@@ -33,7 +34,6 @@ use Rattle.reader.specs.Records.{Ready, Known, record_in, read_record}
 use Rattle.reader.specs.Sought.{held, Sound, Sought, tabled_count}
 use Rattle.reader.specs.Ways.{wrapped}
 use Rattle.reader.specs.declared.search.Choice.{Choice as ChoiceFound}
-use Rattle.reader.specs.declared.search.Found.TheVariants.{Part}
 use Rattle.reader.specs.declared.node.Placed.{Placed as Spot}
 use Rattle.reader.specs.Placing.{kind_of, has_members, holds_one, onward, node_of, opening_of, absent_in, finished_in, noted_in, said}
 use Rattle.reader.specs.Placing.{flags, way_octets, end_at, Spotted}
@@ -428,7 +428,7 @@ module _ {b index : List ℕ} {w : ℕ} {m : List ℕ} {indefinite : Bool} {firs
 
     -- the part that the search found
     abbrev pub FindsPart : ChoiceFound → List ℕ → Type 0
-    FindsPart x way = Sought b (held b w) (since (manner (held b w)) j) blank (drop at m) way (Part x)
+    FindsPart x way = Sought b (held b w) (since (manner (held b w)) j) blank (drop at m) way (Ok x)
 
     module _ (x : ChoiceFound) (way : List ℕ) (ways : length way ≡ 128) (F : FindsPart x way) where
       abbrev FoundItem : AtItem b (held b w) m at (since (manner (held b w)) j) blank way x.place x.record x.depth (at + x.from)

@@ -10,6 +10,7 @@ use mathlib.Core.Option.{some, none}
 use mathlib.Core.Path.{◌≡◌, refl, sym, ap, ◌∙◌}
 use native.Mathlib.Omega.{arith}
 use Prim.Native.Nat.{ℕ, zero, suc, ◌+◌, ◌*◌, ◌≤◌, ◌<◌}
+use Rattle.std.specs.Prelude.{Option, None, Result, Err}
 use Rattle.x690.specs.declared.ReadingCause.{ReadingCause}
 use Rattle.x690.specs.declared.ReadingCause.TheVariants.{NotAwaited, Trailing}
 use Rattle.octets.specs.Answer.{if}
@@ -21,15 +22,13 @@ use Rattle.records.specs.Entries.{unpacked, span_of}
 use Rattle.records.specs.declared.entry.Entry.{Entry}
 use Rattle.records.specs.declared.entry.Span.{Span}
 use Rattle.coding.specs.Awaited.{types}
-use Rattle.reader.specs.Codes.{starts_with, search_in, hit}
+use Rattle.reader.specs.Codes.{under, starts_with, search_in, hit}
 use Rattle.reader.specs.Items.{Holder, inside, message, Manner, in_turn, each_once, repeated, single, manner, parts_of, optionals, Placed, left}
 use Rattle.reader.specs.Items.{awaits, remains, some_of, since, is_single, first}
 use Rattle.reader.specs.Records.{Ready, Known, of_record, of_message, holder_in, Begins, Finds}
 use Rattle.reader.specs.Sought.{held, Sound, place_of, tabled, tabled_count, direct, unfit_cause, Indirect}
-use Rattle.reader.specs.declared.search.Found.{Found}
-use Rattle.reader.specs.declared.search.Found.TheVariants.{Refused}
+use Rattle.reader.specs.declared.search.Choice.{Choice as Chosen}
 use Rattle.reader.specs.declared.search.Under.{Under}
-use Rattle.reader.specs.declared.search.Under.TheVariants.{Nothing, At}
 use Rattle.reader.proofs.Among.{starts_is}
 use Rattle.reader.proofs.Items.{pending_free, no_cons}
 use Rattle.reader.proofs.ItemsSearch.{optional_types}
@@ -321,30 +320,30 @@ module _ {b index : List ℕ} {w : ℕ} {came : List ℕ} {e : Entry} {s : Span}
       pub candidate_low : t < count_in b
       candidate_low = let q = part_low D.sound.ready w D.sound.known k C.part _ C.is in let z = C.type in rw z q
 
-      module _ (way : List ℕ) (r : Under) (F : Finds b code way t r) where
-        under_none : r ≡ Nothing → UnderIt (k, C.part) ≡ false
+      module _ (way : List ℕ) (r : Option Under) (F : Finds b code way t r) where
+        under_none : r ≡ None → UnderIt (k, C.part) ≡ false
         under_none q = ap (λ (u : ℕ). hit (search_in (table_in b) 129 u code)) (sym C.type) ∙ ap hit (rw q at F)
 
-        pub indirect_part : (i from u d : ℕ) → first UnderIt (awaits H i came) ≡ first UnderIt (awaits H k came) → get_or came k 0 ≡ 0 → r ≡ At u d
-            → (part : Member) × (first UnderIt (awaits H i came) ≡ some (k, part)) × (from ≡ from) × Finds b code way part.type (At u d)
+        pub indirect_part : (i from u d : ℕ) → first UnderIt (awaits H i came) ≡ first UnderIt (awaits H k came) → get_or came k 0 ≡ 0 → r ≡ under u d
+            → (part : Member) × (first UnderIt (awaits H i came) ≡ some (k, part)) × (from ≡ from) × Finds b code way part.type (under u d)
         indirect_part i from u d v z q =
-            let G : Finds b code way t (At u d) = rw q at F in
+            let G : Finds b code way t (under u d) = rw q at F in
             let y = ap (λ (u : ℕ). hit (search_in (table_in b) 129 u code)) (sym C.type) ∙ ap hit G.0 in
             (C.part, v ∙ awaits_hit H came k UnderIt C.part C.is z y, refl, rw C.type at G)
 
-        pub indirect_stop : get_or came k 0 ≡ 0 → r ≡ Nothing → e.kind ≡ 16 → (o : Bool) → o ≡ eqb (get_or b (s.first + s.step * k + 1) 0) 1 → o ≡ false
+        pub indirect_stop : get_or came k 0 ≡ 0 → r ≡ None → e.kind ≡ 16 → (o : Bool) → o ≡ eqb (get_or b (s.first + s.step * k + 1) 0) 1 → o ≡ false
             → first UnderIt (awaits H k came) ≡ none
         indirect_stop z q v o eo y = awaits_stop H came k UnderIt C.part C.is z (under_none q) (is_turn v) (sym (C.optional v) ∙ sym eo ∙ y)
 
-        skip : get_or came k 0 ≡ 0 → r ≡ Nothing → (manner H ≡ in_turn → C.part.optional ≡ true)
+        skip : get_or came k 0 ≡ 0 → r ≡ None → (manner H ≡ in_turn → C.part.optional ≡ true)
             → first UnderIt (awaits H k came) ≡ first UnderIt (awaits H (k + 1) came)
         skip z q y = awaits_skip H came k UnderIt C.part C.is z (under_none q) y
 
-        pub indirect_optional : get_or came k 0 ≡ 0 → r ≡ Nothing → e.kind ≡ 16 → (o : Bool) → o ≡ eqb (get_or b (s.first + s.step * k + 1) 0) 1 → o ≡ true
+        pub indirect_optional : get_or came k 0 ≡ 0 → r ≡ None → e.kind ≡ 16 → (o : Bool) → o ≡ eqb (get_or b (s.first + s.step * k + 1) 0) 1 → o ≡ true
             → first UnderIt (awaits H k came) ≡ first UnderIt (awaits H (k + 1) came)
         indirect_optional z q v o eo y = skip z q (λ _. sym (C.optional v) ∙ sym eo ∙ y)
 
-        pub indirect_other : get_or came k 0 ≡ 0 → r ≡ Nothing → (e.kind ≡ 16 → ⊥) → first UnderIt (awaits H k came) ≡ first UnderIt (awaits H (k + 1) came)
+        pub indirect_other : get_or came k 0 ≡ 0 → r ≡ None → (e.kind ≡ 16 → ⊥) → first UnderIt (awaits H k came) ≡ first UnderIt (awaits H (k + 1) came)
         indirect_other z q n = skip z q (λ v. absurd (no_turn n v))
 
     pub indirect_come : (n k : ℕ) → Counted n → k < n → (get_or came k 0 ≡ 0 → ⊥) → first UnderIt (awaits H k came) ≡ first UnderIt (awaits H (k + 1) came)
@@ -353,6 +352,6 @@ module _ {b index : List ℕ} {w : ℕ} {came : List ℕ} {e : Entry} {s : Span}
     pub indirect_end : (n k : ℕ) → Counted n → n ≤ k → first UnderIt (awaits H k came) ≡ none
     indirect_end n k c l = awaits_none H came k UnderIt (omega (arith, part_count n c))
 
-    pub indirect_none : (i from : ℕ) (way : List ℕ) → first UnderIt (awaits H i came) ≡ none → (r : Found) → r ≡ Refused (unfit_cause H i came NotAwaited)
+    pub indirect_none : (i from : ℕ) (way : List ℕ) → first UnderIt (awaits H i came) ≡ none → (r : Result Chosen ReadingCause) → r ≡ Err (unfit_cause H i came NotAwaited)
         → Indirect b H i came code from way r
     indirect_none i from way v r q = rw q (v, refl)

@@ -5,7 +5,7 @@ ghost use Rattle.table.specs.Reading.{body_at};
 ghost use Rattle.records.specs.Entries.{Entered};
 ghost use Rattle.reader.specs.Weights.{weight, size_by};
 ghost use Rattle.std.proofs.lemmas.List.Edits.{sets};
-ghost use Rattle.octets.specs.Numbers.{octets_of};
+ghost use Rattle.octets.specs.Numbers.{octets_of, unless_zero};
 ghost use Rattle.x690.specs.Integer.{integer_of, eight_of};
 ghost use Rattle.x690.specs.BitString.{masked};
 ghost use Rattle.x690.specs.Time.{time_of, is_time};
@@ -27,78 +27,77 @@ use kinds::{
 };
 use octets::copy;
 use records::entry::{Entry, lists};
-use segments::Segments;
 use simple::{bit_string, integer};
-use x690::ReadingCause;
+use x690::{ReadingCause, Unread};
 
-// How many octets the value of contents of a simple record has, in an item that begins with the octet `lead`; 0 if they are wrong for it, or
+// How many octets the value of contents of a simple record has, in an item that begins with the octet `lead`; none if they are wrong for it, or
 // come in segments.
-pub fn contents_size(table: &[u8], e: Entry, lead: u8, c: &[u8]) -> usize
+pub fn contents_size(table: &[u8], e: Entry, lead: u8, c: &[u8]) -> Option<usize>
     requires { (r : Record) × Entered table.now e r × (length c.now ≤ 8192) }
-    ensures { (result ≡ size_by (body_at table.now e.kind e.own) lead c.now) × (result < 16386) }
+    ensures { let n = size_by (body_at table.now e.kind e.own) lead c.now in (result ≡ unless_zero n) × (n < 16386) }
 {
     let n = c.len();
     let k = e.kind;
     if k == BOOLEAN {
         if n != 1 {
-            return 0;
+            return None;
         }
-        return 4;
+        return Some(4);
     }
     if k == INTEGER {
         if integer::is_integer(c) {
-            return 11;
+            return Some(11);
         }
-        return 0;
+        return None;
     }
     if k == BIT_STRING {
         if in_segments(lead) {
-            return 0;
+            return None;
         }
         if bit_string::are_bits(c) {
-            return n + 4;
+            return Some(n + 4);
         }
-        return 0;
+        return None;
     }
     if k == OCTET_STRING {
         if in_segments(lead) {
-            return 0;
+            return None;
         }
-        return n + 5;
+        return Some(n + 5);
     }
     if k == NULL {
         if n != 0 {
-            return 0;
+            return None;
         }
-        return 3;
+        return Some(3);
     }
     if k == ENUMERATED {
         if !integer::is_integer(c) {
-            return 0;
+            return None;
         }
         let z = integer::of(c);
         if lists(table, e, z) {
-            return 5;
+            return Some(5);
         }
-        return 0;
+        return None;
     }
     if k < UTC_TIME {
-        return 0;
+        return None;
     }
     if GENERALIZED_TIME < k {
-        return 0;
+        return None;
     }
     time_size(time_kind(k), c)
 }
 
-// How many octets the value of a time's contents has; 0 if they are wrong for it.
-fn time_size(kind: TimeKind, c: &[u8]) -> usize
-    ensures { (result ≡ weight (decode (Time kind) 0 c.now [])) × (result < 16386) }
+// How many octets the value of a time's contents has; none if they are wrong for it.
+fn time_size(kind: TimeKind, c: &[u8]) -> Option<usize>
+    ensures { let n = weight (decode (Time kind) 0 c.now []) in (result ≡ unless_zero n) × (n < 16386) }
 {
     if time::is_time(kind, c) {
-        return 10;
+        return Some(10);
     }
-    0
+    None
 }
 
 // Whether an item is constructed, by its leading octet; one of a simple kind then is a string in segments.
@@ -130,7 +129,7 @@ pub fn judge_segments(
     indefinite: bool,
     left: usize,
     behind: usize,
-) -> Judged
+) -> Result<Judged, Unread>
     requires { (r : Record) × Entered table.now e r
         × (is_in_segments lead ≡ true → (e.kind ≡ 3) ⊎ (e.kind ≡ 4))
         × (length c.now ≤ 8192)
@@ -142,26 +141,26 @@ pub fn judge_segments(
 {
     if in_segments(lead) {
         return match segments::read(c, indefinite, e.kind == BIT_STRING) {
-            Segments::Refused { cause, left: n } => Judged::Refused {
-                cause,
-                left: n + behind,
-            },
-            Segments::Read(x) => Judged::Done {
+            Ok(x) => Ok(Judged {
                 end: x.end,
                 size: string_size(e.kind, x.size),
-            },
+            }),
+            Err(u) => Err(Unread {
+                cause: u.cause,
+                left: u.left + behind,
+            }),
         };
     }
     if indefinite {
-        return Judged::Refused {
+        return Err(Unread {
             cause: ReadingCause::Forbidden,
             left,
-        };
+        });
     }
-    Judged::Refused {
+    Err(Unread {
         cause: ReadingCause::Contents,
         left,
-    }
+    })
 }
 
 fn one_if(x: bool) -> u8
