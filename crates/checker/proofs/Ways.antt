@@ -8,17 +8,15 @@ use borrow.Author.Tests.{lt-ltb, le-ltb}
 use lib.ListN.{length}
 use Rattle.table.specs.declared.CheckCause.TheVariants.{TableShape}
 use Rattle.table.specs.Reading.{scan, table_in, count_in}
-use Rattle.table.specs.Verdict.{judge, verdict}
-use Rattle.table.specs.declared.Verdict.{Verdict}
-use Rattle.table.specs.declared.Verdict.TheVariants.{Refused}
+use Rattle.table.specs.Verdict.{Verdict, flawed, judge, verdict}
 use Rattle.checker.specs.Index.{index_in, count_after, index_after}
 
 module _ (b : List ℕ) where
-  verdict_long : 8192 < length b → Refused TableShape 0 ≡ verdict b
+  verdict_long : 8192 < length b → flawed TableShape 0 ≡ verdict b
   unfolding verdict
   verdict_long h = rw (lt-ltb 8192 (length b) h)
 
-  verdict_misshapen : length b ≤ 8192 → false ≡ (scan b).whole → Refused TableShape (count_in b) ≡ verdict b
+  verdict_misshapen : length b ≤ 8192 → false ≡ (scan b).whole → flawed TableShape (count_in b) ≡ verdict b
   unfolding verdict
   verdict_misshapen h w = rw (le-ltb 8192 (length b) h, ← w)
 
@@ -30,7 +28,7 @@ module _ (b : List ℕ) where
   abbrev pub Into : List ℕ → List ℕ → Verdict → ℕ → Type 0
   Into before after v n = (v ≡ verdict b) × (n ≡ count_after b) × (after ≡ index_after b before)
 
-  pub into_long : (index : List ℕ) → 8192 < length b → Into index index (Refused TableShape 0) 0
+  pub into_long : (index : List ℕ) → 8192 < length b → Into index index (flawed TableShape 0) 0
   unfolding count_after index_after
   into_long index h = let l = lt-ltb 8192 (length b) h in (verdict_long h, rw l, rw l)
 
@@ -39,7 +37,7 @@ module _ (b : List ℕ) where
     unfolding count_after index_after
     into v e = let l = le-ltb 8192 (length b) h in (e, rw l c, rw l i)
 
-    pub into_misshapen : false ≡ (scan b).whole → Into before after (Refused TableShape n) n
+    pub into_misshapen : false ≡ (scan b).whole → Into before after (flawed TableShape n) n
     into_misshapen w = into _ (rw c (verdict_misshapen h w))
 
     pub into_judged : (v : Verdict) → true ≡ (scan b).whole → v ≡ judge (table_in b) n → Into before after v n

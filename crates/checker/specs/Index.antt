@@ -1,9 +1,11 @@
 -- What the check leaves in the index that it is lent, and how many records it counts (FORMATS, "Tables").
 -- Assumes nothing.
-use Rattle.std.specs.Prelude.{List, ◌++◌, map, ℕ, ◌-◌, length, replicate}
+use Rattle.std.specs.Prelude.{not, List, ◌++◌, map, ℕ, ◌-◌, length, replicate, Result, Ok, Err}
 use Rattle.octets.specs.Tests.{if}
 use Rattle.table.specs.Reading.{scan, count_in}
 use Rattle.table.specs.Verdict.{too_long}
+use Rattle.table.specs.declared.CheckCause.TheVariants.{TableShape}
+use Rattle.table.specs.declared.Flaw.{Flaw}
 use Rattle.records.specs.Entries.{packed, entry_at}
 
 -- the number of the record at o
@@ -17,6 +19,10 @@ numbered b os = map (number_at b) os ++ replicate (128 - length os) 0
 -- the whole index: of the records that the scan finds, all or those before the first that is not shaped
 abbrev pub index_in : List ℕ → List ℕ
 index_in b = numbered b (scan b).offsets
+
+-- how many records the scan finds, if it is whole; else the flaw at the first that is not shaped
+abbrev pub scanned : List ℕ → Result ℕ Flaw
+scanned b = if (not (scan b).whole) (Err (record { cause = TableShape; place = count_in b })) λ _. Ok (count_in b)
 
 -- Over 8,192 octets are not looked at: no record is counted, and the index stays as it was.
 unfoldable pub count_after : List ℕ → ℕ

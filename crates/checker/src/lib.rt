@@ -8,14 +8,14 @@ mod references;
 mod shape;
 mod tags;
 
-ghost use Rattle.std.specs.Prelude.{◌≡◌};
-ghost use Rattle.table.specs.Verdict.{judge_choices, judge, verdict};
+ghost use Rattle.std.specs.Prelude.{◌≡◌, MatchOption};
+ghost use Rattle.table.specs.Verdict.{no_flaw, flawed, judge_choices, judge, verdict};
 ghost use Rattle.table.specs.Walk.{Named};
 ghost use Rattle.table.specs.Reading.{table_in};
 ghost use Rattle.records.specs.Entries.{Filled};
 ghost use Rattle.checker.specs.Index.{count_after, index_after};
 
-use table::{CheckCause, Verdict};
+use table::{CheckCause, Flaw};
 
 // Octets of a table.
 const LONGEST_TABLE: usize = 8192;
@@ -23,60 +23,42 @@ const LONGEST_TABLE: usize = 8192;
 // The verdict on a table, and how many records it has.
 #[derive(Clone, Copy)]
 pub struct Counted {
-    pub verdict: Verdict,
+    pub verdict: Result<(), Flaw>,
     pub count: usize,
 }
 
+// The verdict by one cause, and the record that was found to have it, if one was.
+fn unless_found(cause: CheckCause, found: Option<usize>) -> Result<(), Flaw>
+    ensures { MatchOption found (result ≡ no_flaw) (λ p. result ≡ flawed cause p) }
+{
+    match found {
+        Some(place) => Err(Flaw { cause, place }),
+        None => Ok(()),
+    }
+}
+
 // The verdict by the rules 4 to 6, on n records that keep the rules 1 to 3 (FORMATS, "Order of refusals").
-fn judge_choices(table: &[u8], index: &[u64; 128], n: usize) -> Verdict
+fn judge_choices(table: &[u8], index: &[u64; 128], n: usize) -> Result<(), Flaw>
     requires { Filled table.now index.now n × Named (table_in table.now) n }
     ensures { result ≡ judge_choices (table_in table.now) n }
 {
-    let mut nodes = [0u8; 128];
-    first_tags::stand_ins(table, index, n, &mut nodes);
-    let p = first_tags::lowest_circular(table, index, &nodes, n);
-    if p < n {
-        return Verdict::Refused {
-            cause: CheckCause::ChoiceLoop,
-            place: p,
-        };
-    }
-    let p = first_tags::lowest_sharing(table, index, &nodes, n);
-    if p < n {
-        return Verdict::Refused {
-            cause: CheckCause::SharedTag,
-            place: p,
-        };
-    }
-    let p = finite::lowest(table, index, n);
-    if p < n {
-        return Verdict::Refused {
-            cause: CheckCause::NoValue,
-            place: p,
-        };
-    }
-    Verdict::Passed
+    let nodes = first_tags::stand_ins(table, index, n);
+    let circular = first_tags::lowest_circular(table, index, &nodes, n);
+    unless_found(CheckCause::ChoiceLoop, circular)?;
+    let sharing = first_tags::lowest_sharing(table, index, &nodes, n);
+    unless_found(CheckCause::SharedTag, sharing)?;
+    unless_found(CheckCause::NoValue, finite::lowest(table, index, n))
 }
 
 // The verdict by the rules 2 to 6 on n records.
-fn judge_records(table: &[u8], index: &[u64; 128], n: usize) -> Verdict
+fn judge_records(table: &[u8], index: &[u64; 128], n: usize) -> Result<(), Flaw>
     requires { Filled table.now index.now n }
     ensures { result ≡ judge (table_in table.now) n }
 {
-    let p = references::lowest(table, index, n);
-    if p < n {
-        return Verdict::Refused {
-            cause: CheckCause::NoRecord,
-            place: p,
-        };
-    }
-    let p = tags::lowest(table, index, n);
-    if p < n {
-        return Verdict::Refused {
-            cause: CheckCause::WrongTag,
-            place: p,
-        };
-    }
+    let dangling = references::lowest(table, index, n);
+    unless_found(CheckCause::NoRecord, dangling)?;
+    let mistagged = tags::lowest(table, index, n);
+    unless_found(CheckCause::WrongTag, mistagged)?;
     judge_choices(table, index, n)
 }
 
@@ -90,30 +72,24 @@ pub fn check_into(table: &[u8], index: &mut [u64; 128]) -> Counted
 {
     if LONGEST_TABLE < table.len() {
         return Counted {
-            verdict: Verdict::Refused {
-                cause: CheckCause::TableShape,
-                place: 0,
-            },
+            verdict: Err(index::misshapen(0)),
             count: 0,
         };
     }
-    let made = index::fill(table, index);
-    let count = made.count;
-    if !made.whole {
-        return Counted {
-            verdict: Verdict::Refused {
-                cause: CheckCause::TableShape,
-                place: count,
-            },
+    match index::fill(table, index) {
+        Ok(count) => Counted {
+            verdict: judge_records(table, index, count),
             count,
-        };
+        },
+        Err(flaw) => Counted {
+            verdict: Err(flaw),
+            count: flaw.place,
+        },
     }
-    let verdict = judge_records(table, index, count);
-    Counted { verdict, count }
 }
 
 // The check of a table.
-pub fn check(table: &[u8]) -> Verdict
+pub fn check(table: &[u8]) -> Result<(), Flaw>
     ensures { result ≡ verdict table.now }
 {
     let mut index = [0u64; 128];
