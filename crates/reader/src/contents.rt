@@ -37,13 +37,13 @@ pub fn contents_size(table: &[u8], e: Entry, lead: u8, c: &[u8]) -> Option<usize
 {
     let n = c.len();
     match e.kind {
-        BOOLEAN if n == 1 => Some(4),
-        INTEGER if integer::is_integer(c) => Some(11),
-        BIT_STRING if !in_segments(lead) && bit_string::are_bits(c) => Some(n + 4),
-        OCTET_STRING if !in_segments(lead) => Some(n + 5),
-        NULL if n == 0 => Some(3),
-        ENUMERATED if integer::is_integer(c) && lists(table, e, integer::of(c)) => Some(5),
-        UTC_TIME | GENERALIZED_TIME if time::is_time(time_kind(e.kind), c) => Some(10),
+        BOOLEAN => (n == 1).then_some(4),
+        INTEGER => integer::is_integer(c).then_some(11),
+        BIT_STRING => (!in_segments(lead) && bit_string::are_bits(c)).then_some(n + 4),
+        OCTET_STRING => (!in_segments(lead)).then_some(n + 5),
+        NULL => (n == 0).then_some(3),
+        ENUMERATED => (integer::is_integer(c) && lists(table, e, integer::of(c))).then_some(5),
+        UTC_TIME | GENERALIZED_TIME => time::is_time(time_kind(e.kind), c).then_some(10),
         _ => None,
     }
 }
