@@ -87,28 +87,24 @@ pub fn judge_segments(
     ensures { let d = c.now in
         result ≡ told d leaf_size (read_leaf_in (body_at table.now e.kind e.own) (is_in_segments lead) indefinite left behind d) }
 {
-    if in_segments(lead) {
-        return match segments::read(c, indefinite, e.kind == BIT_STRING) {
-            Ok(x) => Ok(Judged {
-                end: x.end,
-                size: string_size(e.kind, x.size),
-            }),
-            Err(u) => Err(Unread {
-                cause: u.cause,
-                left: u.left + behind,
-            }),
+    if !in_segments(lead) {
+        let cause = if indefinite {
+            ReadingCause::Forbidden
+        } else {
+            ReadingCause::Contents
         };
+        return Err(Unread { cause, left });
     }
-    if indefinite {
-        return Err(Unread {
-            cause: ReadingCause::Forbidden,
-            left,
-        });
+    match segments::read(c, indefinite, e.kind == BIT_STRING) {
+        Ok(x) => Ok(Judged {
+            end: x.end,
+            size: string_size(e.kind, x.size),
+        }),
+        Err(u) => Err(Unread {
+            cause: u.cause,
+            left: u.left + behind,
+        }),
     }
-    Err(Unread {
-        cause: ReadingCause::Contents,
-        left,
-    })
 }
 
 // What stands behind the mark and the kind, by the kind; where it ends.
