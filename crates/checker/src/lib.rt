@@ -15,20 +15,20 @@ ghost use Rattle.table.specs.Reading.{table_in};
 ghost use Rattle.records.specs.Entries.{Filled};
 ghost use Rattle.checker.specs.Index.{count_after, index_after};
 
-use table::{CheckCause, Verdict};
+use table::{CheckCause, Flaw};
 
 // Octets of a table.
 const LONGEST_TABLE: usize = 8192;
 
 // The verdict on a table, and how many records it has.
-#[derive(Clone, Copy)]
+#[derive(Clone, Copy, Debug, PartialEq, Eq)]
 pub struct Counted {
-    pub verdict: Verdict,
+    pub verdict: Result<(), Flaw>,
     pub count: usize,
 }
 
 // The verdict by the rules 4 to 6, on n records that keep the rules 1 to 3 (FORMATS, "Order of refusals").
-fn judge_choices(table: &[u8], index: &[u64; 128], n: usize) -> Verdict
+fn judge_choices(table: &[u8], index: &[u64; 128], n: usize) -> Result<(), Flaw>
     requires { Filled table.now index.now n × Named (table_in table.now) n }
     ensures { result ≡ judge_choices (table_in table.now) n }
 {
@@ -36,46 +36,46 @@ fn judge_choices(table: &[u8], index: &[u64; 128], n: usize) -> Verdict
     first_tags::stand_ins(table, index, n, &mut nodes);
     let p = first_tags::lowest_circular(table, index, &nodes, n);
     if p < n {
-        return Verdict::Refused {
+        return Err(Flaw {
             cause: CheckCause::ChoiceLoop,
             place: p,
-        };
+        });
     }
     let p = first_tags::lowest_sharing(table, index, &nodes, n);
     if p < n {
-        return Verdict::Refused {
+        return Err(Flaw {
             cause: CheckCause::SharedTag,
             place: p,
-        };
+        });
     }
     let p = finite::lowest(table, index, n);
     if p < n {
-        return Verdict::Refused {
+        return Err(Flaw {
             cause: CheckCause::NoValue,
             place: p,
-        };
+        });
     }
-    Verdict::Passed
+    Ok(())
 }
 
 // The verdict by the rules 2 to 6 on n records.
-fn judge_records(table: &[u8], index: &[u64; 128], n: usize) -> Verdict
+fn judge_records(table: &[u8], index: &[u64; 128], n: usize) -> Result<(), Flaw>
     requires { Filled table.now index.now n }
     ensures { result ≡ judge (table_in table.now) n }
 {
     let p = references::lowest(table, index, n);
     if p < n {
-        return Verdict::Refused {
+        return Err(Flaw {
             cause: CheckCause::NoRecord,
             place: p,
-        };
+        });
     }
     let p = tags::lowest(table, index, n);
     if p < n {
-        return Verdict::Refused {
+        return Err(Flaw {
             cause: CheckCause::WrongTag,
             place: p,
-        };
+        });
     }
     judge_choices(table, index, n)
 }
@@ -90,10 +90,10 @@ pub fn check_into(table: &[u8], index: &mut [u64; 128]) -> Counted
 {
     if LONGEST_TABLE < table.len() {
         return Counted {
-            verdict: Verdict::Refused {
+            verdict: Err(Flaw {
                 cause: CheckCause::TableShape,
                 place: 0,
-            },
+            }),
             count: 0,
         };
     }
@@ -101,10 +101,10 @@ pub fn check_into(table: &[u8], index: &mut [u64; 128]) -> Counted
     let count = made.count;
     if !made.whole {
         return Counted {
-            verdict: Verdict::Refused {
+            verdict: Err(Flaw {
                 cause: CheckCause::TableShape,
                 place: count,
-            },
+            }),
             count,
         };
     }
@@ -113,7 +113,7 @@ pub fn check_into(table: &[u8], index: &mut [u64; 128]) -> Counted
 }
 
 // The check of a table.
-pub fn check(table: &[u8]) -> Verdict
+pub fn check(table: &[u8]) -> Result<(), Flaw>
     ensures { result ≡ verdict table.now }
 {
     let mut index = [0u64; 128];
