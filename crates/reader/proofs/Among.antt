@@ -17,6 +17,7 @@ use Rattle.table.specs.Passes.{Nested}
 use Rattle.table.specs.Rules.{siblings}
 use Rattle.table.specs.Reading.{every_at, table_in, count_in}
 use Rattle.records.specs.Entries.{unpacked, counted}
+use Rattle.records.specs.declared.entry.Entry.{Entry}
 use Rattle.records.specs.declared.entry.Span.{Span}
 use Rattle.records.proofs.Promises.{entered_choice}
 use Rattle.reader.specs.Codes.{first_of, untagged, starts_with, under}
@@ -116,6 +117,10 @@ pub record Turn (b ix : List ℕ) (code : ℕ) (way : List ℕ) (t d x j : ℕ) 
   pub wide : length way ≡ 128
   pub amid : Amid b code way t d x j
   pub spans : s ≡ counted b (unpacked (get_or ix x 0)).own 1
+
+pub turn_at : {b ix : List ℕ} {code : ℕ} {way : List ℕ} {t d x j : ℕ} {e : Entry} {s : Span} → Ready b ix → code < untagged → length way ≡ 128
+    → Amid b code way t d x j → e ≡ unpacked (get_or ix x 0) → s ≡ counted b e.own 1 → Turn b ix code way t d x j s
+turn_at R h l a e q = record { ready = R; tag = h; wide = l; amid = a; spans = rw e at q }
 
 module _ {b ix : List ℕ} {code : ℕ} {way : List ℕ} {t d x j : ℕ} {s : Span} (P : Turn b ix code way t d x j s) where
   abbrev Tb : Table

@@ -29,6 +29,7 @@ use Rattle.ber.proofs.Told.{length_definite, length_indefinite, length_refused}
 use Rattle.table.specs.Syntax.{Tag, Body, Plain, Sequence, Set, SequenceOf, SetOf, Choice, Record, Table, is_choice}
 use Rattle.table.specs.Reading.{table_in}
 use Rattle.records.specs.Entries.{all_but_last, unpacked, first_code, explicit_count}
+use Rattle.records.specs.declared.entry.Entry.{Entry}
 use Rattle.coding.specs.Content.{segmented}
 use Rattle.coding.specs.Tags.{identifier_of, before, explicit_tags, own_tag, explicit}
 use Rattle.coding.specs.Value.{Value}
@@ -492,6 +493,10 @@ module _ {b index : List ℕ} (R : Ready b index) {w : ℕ} (I : IsRecord b inde
   its_count =
       let t = record_in b (unpacked w) in
       (its_entry R I).explicit ∙ ap explicit_count (sym (its_record R I)) ∙ sym (count_of t.tags t.body (its_fit R I).tagged)
+
+  -- a tag is left to open
+  pub tag_left : {e : Entry} {j : ℕ} → e ≡ unpacked w → j < e.explicit → j < length (explicit (record_in b (unpacked w)))
+  tag_left {e} {j} q l = omega (arith, its_count, ap (λ (x : Entry). x.explicit) q)
 
   pub its_first : (unpacked w).code ≡ first_code (record_in b (unpacked w))
   its_first = (its_entry R I).code ∙ ap (λ (x : Record). first_code x) (sym (its_record R I))

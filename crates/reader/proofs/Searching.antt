@@ -1,6 +1,6 @@
 -- The loops that search the parts for the one that an item begins.
 -- Assumes nothing.
-use borrow.Author.Tests.{eq-eqb, ne_eqb, eqb-true, eqb-false, ltb-true, ltb-false}
+use borrow.Author.Tests.{eq-eqb, ne_eqb, eqb-true, eqb-false, lt-ltb, le-ltb, ltb-true, ltb-false}
 use lib.Dec.{eqb, ltb}
 use lib.ListN.{length, get_or, drop}
 use mathlib.Core.Bool.{Bool, true, false, not, ◌||◌, true≢false}
@@ -10,11 +10,12 @@ use mathlib.Core.Option.{some, none}
 use mathlib.Core.Path.{◌≡◌, refl, sym, ap, ◌∙◌}
 use native.Mathlib.Omega.{arith}
 use Prim.Native.Nat.{ℕ, zero, suc, ◌+◌, ◌*◌, ◌≤◌, ◌<◌}
-use Rattle.std.specs.Prelude.{Option, None, Result, Err}
+use Rattle.std.specs.Prelude.{Option, Some, None, Result, Err}
 use Rattle.x690.specs.declared.ReadingCause.{ReadingCause}
 use Rattle.x690.specs.declared.ReadingCause.TheVariants.{NotAwaited, Trailing}
 use Rattle.octets.specs.Answer.{if}
 use Rattle.octets.specs.Lists.{any}
+use Rattle.octets.specs.Numbers.{if_below}
 use Rattle.octets.proofs.Tests.{test}
 use Rattle.table.specs.Syntax.{Member, Body, Plain, Sequence, Set, SequenceOf, SetOf, Choice, references}
 use Rattle.table.specs.Reading.{table_in, count_in}
@@ -140,6 +141,10 @@ pub record Parted (b index : List ℕ) (w : ℕ) (came : List ℕ) (e : Entry) (
   pub entry : e ≡ unpacked w
   pub span : s ≡ span_of b e.kind e.own
 
+pub parted : {b index : List ℕ} {w : ℕ} {came : List ℕ} {e : Entry} {s : Span} → Sound b index w came → e ≡ unpacked w → s ≡ span_of b e.kind e.own
+    → Parted b index w came e s
+parted z e s = record { sound = z; entry = e; span = s }
+
 module _ {b index : List ℕ} {w : ℕ} {came : List ℕ} {e : Entry} {s : Span} (D : Parted b index w came e s) where
   abbrev H : Holder
   H = held b w
@@ -253,6 +258,15 @@ module _ {b index : List ℕ} {w : ℕ} {came : List ℕ} {e : Entry} {s : Span}
   pub direct_end : (k code : ℕ) → s.count ≤ k → direct b H k came code ≡ s.count
   direct_end k code l =
       ap (place_of (tabled_count H)) (tabled_none H came k (λ x. starts_with (table_in b x.1.type) code) (omega (arith, spanned.count))) ∙ sym spanned.count
+
+  -- as it is answered
+  pub direct_place : (i k code : ℕ) → k < s.count → direct b H i came code ≡ k → ◌≡◌ {A = Option ℕ} (Some k) (if_below (tabled_count H) (direct b H i came code))
+  unfolding if
+  direct_place i k code l e = rw (e, ← spanned.count, lt-ltb k s.count l) refl
+
+  pub direct_no_place : (i code : ℕ) → direct b H i came code ≡ s.count → ◌≡◌ {A = Option ℕ} None (if_below (tabled_count H) (direct b H i came code))
+  unfolding if
+  direct_no_place i code e = rw (e, ← spanned.count, le-ltb s.count s.count (omega arith)) refl
 
   -- all parts, a message's one with them
   whole_is : eqb e.kind 51 ≡ true → H ≡ message e.own

@@ -48,13 +48,15 @@ fn next(
         return Ok(None);
     }
     let i = if e.kind == SEQUENCE { j } else { 0 };
-    let over = ending::read(m, at, indefinite)?;
-    if over.is_some() && has_members(e.kind) {
+    let Some(end) = ending::read(m, at, indefinite)? else {
+        return Ok(None);
+    };
+    if has_members(e.kind) {
         if lacks(table, w, i, came, false) {
             return Err(ReadingCause::NotAwaited);
         }
     }
-    Ok(over)
+    Ok(Some(end))
 }
 
 // The contents of the item at x of m, whose record has a kind. A CHOICE has no length of its own.

@@ -1,6 +1,6 @@
 // The search for the part of a record that an item begins: a member, an element or an alternative, or a record under one through
 // CHOICEs without tags (X.690, 8.13).
-ghost use Rattle.std.specs.Prelude.{◌≡◌, List, ℕ, ◌≤◌, ◌<◌, ◌+◌, ◌*◌, length, get_or};
+ghost use Rattle.std.specs.Prelude.{◌≡◌, List, ℕ, ◌≤◌, ◌<◌, length};
 ghost use Rattle.table.specs.Reading.{table_in, count_in};
 ghost use Rattle.records.specs.Entries.{unpacked};
 ghost use Rattle.reader.specs.Codes.{untagged, first_of};
@@ -13,19 +13,8 @@ use crate::came::lacks;
 use ber::identifier;
 use kinds::{MESSAGE, SEQUENCE, has_members, is_string};
 use octets::octet;
-use records::entry::{Span, UNTAGGED, alternatives, first, optional, parts, unpack};
+use records::entry::{UNTAGGED, alternatives, first, optional, part, parts, unpack};
 use x690::ReadingCause;
-
-// The record of the j-th part of a span that lies in the table.
-pub fn part(table: &[u8], s: Span, j: usize) -> usize
-    requires { (s.first + s.step * j < length table.now)
-        × (s.first + s.step * j < 8192) }
-    ensures { (result ≡ get_or table.now (s.first + s.step * j) 0)
-        × (result < 256) }
-{
-    let p = s.first + s.step * j;
-    table[p] as usize
-}
 
 // Whether an item with the code begins the record of w itself. A string that stands under no explicit tag may be constructed too: then it is
 // in segments.
@@ -168,13 +157,7 @@ fn direct(
 }
 
 // Why an item is refused: the cause given, or that it stands where nothing is awaited.
-fn unawaited(
-    table: &[u8],
-    w: u64,
-    i: usize,
-    came: &[u16; 16],
-    cause: ReadingCause,
-) -> ReadingCause
+fn unawaited(table: &[u8], w: u64, i: usize, came: &[u16; 16], cause: ReadingCause) -> ReadingCause
     requires { (index : List ℕ) × Sound table.now index w came.now × (since (manner (held table.now w)) i ≡ i) }
     ensures { result ≡ unfit_cause (held table.now w) i came.now cause }
 {
@@ -210,7 +193,7 @@ fn indirect(
             let t = if whole {
                 e.own as usize
             } else {
-                octet(table, s.first + s.step * k)
+                part(table, s, k)
             };
             if let Some(x) = seek(table, index, t, code, way) {
                 return Ok(Choice {
@@ -254,7 +237,7 @@ fn seek_part(
     let Some(place) = direct(table, index, w, i, came, x.code) else {
         return indirect(table, index, w, i, came, x.code, x.end, way);
     };
-    let record = octet(table, s.first + s.step * place);
+    let record = part(table, s, place);
     Ok(Choice {
         place,
         record,

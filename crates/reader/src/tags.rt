@@ -59,21 +59,14 @@ fn awaited(table: &[u8], w: u64, j: usize, m: &[u8]) -> Result<usize, ReadingCau
 }
 
 // Whether an item follows in the contents m of a tag, which 00 00 closes if `indefinite`; then the j-th tag of w is awaited.
-fn enter(
-    table: &[u8],
-    w: u64,
-    j: usize,
-    m: &[u8],
-    indefinite: bool,
-) -> Result<usize, ReadingCause>
+fn enter(table: &[u8], w: u64, j: usize, m: &[u8], indefinite: bool) -> Result<usize, ReadingCause>
     requires { (index : List ℕ) × Ready table.now index × IsRecord table.now index w }
     ensures { EntersTag (record_in table.now (unpacked w)) j m.now indefinite result }
 {
-    let over = ending::read(m, 0, indefinite)?;
-    if over.is_some() {
-        return Err(ReadingCause::NotAwaited);
+    match ending::read(m, 0, indefinite)? {
+        None => awaited(table, w, j, m),
+        Some(_) => Err(ReadingCause::NotAwaited),
     }
-    awaited(table, w, j, m)
 }
 
 // Opens the explicit tags of w; the outermost begins at `at`, and its identifier ends at `from`.
@@ -101,16 +94,28 @@ pub fn open(
     let mut from = from;
     for j in 0..count {
         let around = &m[..end];
-        let left = m.len() - at;
-        let x = length::read(around, from).map_err(|cause| Unread { cause, left })?;
+        let x = match length::read(around, from) {
+            Ok(x) => x,
+            Err(cause) => {
+                return Err(Unread {
+                    cause,
+                    left: m.len() - at,
+                });
+            }
+        };
         notes[j] = note(end, x.indefinite);
         at = x.start;
         end = x.end;
         let inside = &m[at..end];
-        let left = m.len() - at;
-        let next = enter(table, w, j + 1, inside, x.indefinite)
-            .map_err(|cause| Unread { cause, left })?;
-        from = at + next;
+        match enter(table, w, j + 1, inside, x.indefinite) {
+            Ok(next) => from = at + next,
+            Err(cause) => {
+                return Err(Unread {
+                    cause,
+                    left: m.len() - at,
+                });
+            }
+        }
     }
     Ok(Inner { at, from, end })
 }
@@ -138,11 +143,19 @@ pub fn close(
         let n = notes[j];
         let around = &m[..end];
         let left = m.len() - at;
-        let over =
-            ending::read(around, at, n % 2 == 1).map_err(|cause| Unread { cause, left })?;
-        let cause = ReadingCause::Trailing;
-        at = over.ok_or(Unread { cause, left })?;
-        end = n as usize / 2;
+        match ending::read(around, at, n % 2 == 1) {
+            Ok(Some(x)) => {
+                at = x;
+                end = n as usize / 2;
+            }
+            Ok(None) => {
+                return Err(Unread {
+                    cause: ReadingCause::Trailing,
+                    left,
+                });
+            }
+            Err(cause) => return Err(Unread { cause, left }),
+        }
     }
     Ok(Judged { end: at, size })
 }
