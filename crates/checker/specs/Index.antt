@@ -1,9 +1,10 @@
--- What the check leaves in the index that it is lent, and how many records it counts (FORMATS, "Tables").
+-- What the check leaves in the index that it is lent, how many records it counts, and what it says of one cause (FORMATS, "Tables").
 -- Assumes nothing.
-use Rattle.std.specs.Prelude.{not, List, ◌++◌, map, ℕ, ◌-◌, length, replicate, Result, Ok, Err}
+use Rattle.std.specs.Prelude.{not, List, ◌++◌, map, ℕ, ◌-◌, length, replicate, Option, Some, None, Result, Ok, Err}
 use Rattle.octets.specs.Tests.{if}
 use Rattle.table.specs.Reading.{scan, count_in}
-use Rattle.table.specs.Verdict.{too_long}
+use Rattle.table.specs.Verdict.{Verdict, no_flaw, flawed, too_long}
+use Rattle.table.specs.declared.CheckCause.{CheckCause}
 use Rattle.table.specs.declared.CheckCause.TheVariants.{TableShape}
 use Rattle.table.specs.declared.Flaw.{Flaw}
 use Rattle.records.specs.Entries.{packed, entry_at}
@@ -30,3 +31,8 @@ count_after b = if (too_long b) 0 λ _. count_in b
 
 unfoldable pub index_after : List ℕ → List ℕ → List ℕ
 index_after b before = if (too_long b) before λ _. index_in b
+
+-- the verdict by one cause, and the record that was found to have it, if one was
+abbrev pub unless_found : CheckCause → Option ℕ → Verdict
+unless_found c None = no_flaw
+unless_found c (Some p) = flawed c p

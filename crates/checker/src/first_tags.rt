@@ -1,8 +1,8 @@
 // 4 and 5: a CHOICE without tags that comes back to itself, and first tags that two parts in one run share (FORMATS, "Tables" and "Refusals").
-ghost use Rattle.std.specs.Prelude.{◌≡◌, true, false, not, ℕ, suc, ◌+◌, ◌-◌, ◌*◌, ◌≤◌, ◌<◌, get_or, replicate};
+ghost use Rattle.std.specs.Prelude.{◌≡◌, true, false, not, ℕ, suc, ◌+◌, ◌-◌, ◌*◌, ◌≤◌, ◌<◌, get_or};
 ghost use Rattle.octets.specs.Lists.{lowest};
 ghost use Rattle.octets.specs.Numbers.{if_below};
-ghost use Rattle.table.specs.Rules.{Circular, Clash, Sharing};
+ghost use Rattle.table.specs.Rules.{Clash};
 ghost use Rattle.table.specs.Reading.{every_at, table_in, count_in};
 ghost use Rattle.table.specs.Decide.{circular, sharing};
 ghost use Rattle.table.specs.Walk.{like, Named, Straight};
@@ -99,18 +99,22 @@ fn gather_under(
     false
 }
 
-// Whether the CHOICE without tags t reaches itself through such CHOICEs alone.
+// Whether record t is a CHOICE without tags that reaches itself through such CHOICEs alone.
 fn is_circular(table: &[u8], index: &[u64; 128], nodes: &[u8; 128], t: usize) -> bool
-    requires { Gathers table.now index.now nodes.now (replicate 129 0) t × ((unpacked (get_or index.now t 0)).code ≡ untagged) }
-    ensures { let T = table_in table.now in (result ≡ true → Circular T t) × (result ≡ false → Circular T t → ⊥) }
+    requires { let b = table.now in
+        Filled b index.now (count_in b) × StandIns (table_in b) (count_in b) nodes.now × Named (table_in b) (count_in b) × (t < count_in b) }
+    ensures { result ≡ circular (table_in table.now) (count_in table.now) t }
 {
+    if first(index[t]) != UNTAGGED {
+        return false;
+    }
     let mut flags = [0u8; 129];
     flags[MARK] = 1;
     gather_under(table, index, nodes, &mut flags, t);
     flags[t] != 0
 }
 
-// The lowest of n records that is such a CHOICE.
+// The lowest of n records that is one.
 pub(crate) fn lowest_circular(
     table: &[u8],
     index: &[u64; 128],
@@ -120,7 +124,7 @@ pub(crate) fn lowest_circular(
     requires { Filled table.now index.now n × StandIns (table_in table.now) n nodes.now × Named (table_in table.now) n }
     ensures { result ≡ if_below n (lowest (circular (table_in table.now) n) n) }
 {
-    (0..n).find(|&t| first(index[t]) == UNTAGGED && is_circular(table, index, nodes, t))
+    (0..n).find(|&t| is_circular(table, index, nodes, t))
 }
 
 // Whether two of the parts have a first tag in common.
@@ -149,10 +153,10 @@ fn run_length(table: &[u8], at: usize, left: usize) -> usize
     requires { (0 < left) × (at + 3 * left ≤ 100000) }
     ensures { result ≡ suc (lowest (λ k. not (optional_in table.now at k)) (left - 1)) }
 {
-    match (0..left - 1).find(|&k| !optional(table, at + 2 * k)) {
-        Some(k) => k + 1,
-        None => left,
-    }
+    let last = (0..left - 1)
+        .find(|&k| !optional(table, at + 2 * k))
+        .unwrap_or(left - 1);
+    last + 1
 }
 
 // Whether two members of one run have a first tag in common.
@@ -180,13 +184,16 @@ fn clash_in_a_run(table: &[u8], index: &[u64; 128], nodes: &[u8; 128], s: Span) 
     false
 }
 
-// Whether a record is refused: a SEQUENCE if two members of one run share a first tag, a SET or a CHOICE if any two parts do.
+// Whether a record is refused: a SEQUENCE if two members of one run share a first tag, a SET or a CHOICE if any two parts do; a simple one never.
 fn is_sharing(table: &[u8], index: &[u64; 128], nodes: &[u8; 128], t: usize) -> bool
     requires { let b = table.now in
         Filled b index.now (count_in b) × StandIns (table_in b) (count_in b) nodes.now × Straight (table_in b) (count_in b) × (t < count_in b) }
-    ensures { let T = table_in table.now in (result ≡ true → Sharing T t) × (result ≡ false → Sharing T t → ⊥) }
+    ensures { result ≡ sharing (table_in table.now) (count_in table.now) t }
 {
     let e = unpack(index[t]);
+    if e.simple {
+        return false;
+    }
     let s = parts(table, e);
     if e.kind == SEQUENCE {
         return clash_in_a_run(table, index, nodes, s);
@@ -204,5 +211,5 @@ pub(crate) fn lowest_sharing(
     requires { Filled table.now index.now n × StandIns (table_in table.now) n nodes.now × Straight (table_in table.now) n }
     ensures { result ≡ if_below n (lowest (sharing (table_in table.now) n) n) }
 {
-    (0..n).find(|&t| !unpack(index[t]).simple && is_sharing(table, index, nodes, t))
+    (0..n).find(|&t| is_sharing(table, index, nodes, t))
 }

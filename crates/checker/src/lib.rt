@@ -8,12 +8,12 @@ mod references;
 mod shape;
 mod tags;
 
-ghost use Rattle.std.specs.Prelude.{◌≡◌, MatchOption};
-ghost use Rattle.table.specs.Verdict.{no_flaw, flawed, judge_choices, judge, verdict};
+ghost use Rattle.std.specs.Prelude.{◌≡◌};
+ghost use Rattle.table.specs.Verdict.{judge_choices, judge, verdict};
 ghost use Rattle.table.specs.Walk.{Named};
 ghost use Rattle.table.specs.Reading.{table_in};
 ghost use Rattle.records.specs.Entries.{Filled};
-ghost use Rattle.checker.specs.Index.{count_after, index_after};
+ghost use Rattle.checker.specs.Index.{unless_found, count_after, index_after};
 
 use table::{CheckCause, Flaw};
 
@@ -29,7 +29,7 @@ pub struct Counted {
 
 // The verdict by one cause, and the record that was found to have it, if one was.
 fn unless_found(cause: CheckCause, found: Option<usize>) -> Result<(), Flaw>
-    ensures { MatchOption found (result ≡ no_flaw) (λ p. result ≡ flawed cause p) }
+    ensures { result ≡ unless_found cause found }
 {
     match found {
         Some(place) => Err(Flaw { cause, place }),
@@ -38,6 +38,7 @@ fn unless_found(cause: CheckCause, found: Option<usize>) -> Result<(), Flaw>
 }
 
 // The verdict by the rules 4 to 6, on n records that keep the rules 1 to 3 (FORMATS, "Order of refusals").
+#[tactic(auto, unfolding(table::specs::Verdict::judge_choices))]
 fn judge_choices(table: &[u8], index: &[u64; 128], n: usize) -> Result<(), Flaw>
     requires { Filled table.now index.now n × Named (table_in table.now) n }
     ensures { result ≡ judge_choices (table_in table.now) n }
@@ -51,6 +52,7 @@ fn judge_choices(table: &[u8], index: &[u64; 128], n: usize) -> Result<(), Flaw>
 }
 
 // The verdict by the rules 2 to 6 on n records.
+#[tactic(auto, unfolding(table::specs::Verdict::judge_choices, table::specs::Verdict::judge))]
 fn judge_records(table: &[u8], index: &[u64; 128], n: usize) -> Result<(), Flaw>
     requires { Filled table.now index.now n }
     ensures { result ≡ judge (table_in table.now) n }

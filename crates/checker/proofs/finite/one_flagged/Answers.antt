@@ -1,5 +1,5 @@
 -- The chain tests each alternative.
-use Rattle.std.proofs.Common.{rules, tests, ◌∙◌, ◌||◌, ◌+◌, ◌*◌, eqb, get_or, refl, arith}
+use Rattle.std.proofs.Common.{rules, tests, ◌∙◌, ◌+◌, get_or, refl, arith}
 use Rattle.std.proofs.lemmas.Iterator.{YieldsList-from_range}
 use Rattle.std.proofs.lemmas.Iterator.Search.{any_from_yields_List}
 use Rattle.checker.specs.Marks.{is_flagged}

@@ -4,7 +4,7 @@ use Rattle.table.proofs.Walk.{same_size}
 use Rattle.checker.proofs.Alike.{below_none}
 use Rattle.checker.proofs.Gather.{going_from, going_mark, next_in, next_turn, gathered_seen, gathered_met, gathered_alone, gathered_under}
 use Rattle.checker.proofs.Gather.{under_met, under_done, stand_in, stand_in_small, stand_in_within, gathers_at}
-use Rattle.checker.proofs.Gather.{put_fewer, put_mark, put_gathers, alternatives_near, alternatives_below}
+use Rattle.checker.proofs.Gather.{put_fewer, put_mark, put_gathers, alternatives_below}
 use Rattle.checker.proofs.first_tags.+gather_gather_under.Goals as goal
 
 pub gather-bounds-flags-q : goal.gather-bounds-flags-q

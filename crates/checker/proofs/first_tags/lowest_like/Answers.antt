@@ -1,5 +1,5 @@
 -- The ways through the search for the record that stands for a first tag.
-use Rattle.std.proofs.Common.{rules, tests, ◌∙◌, sym, eqb, get_or}
+use Rattle.std.proofs.Common.{rules, tests, ◌∙◌, eqb, get_or}
 use Rattle.records.specs.Entries.{unpacked}
 use Rattle.checker.specs.Gathering.{tag_of}
 use Rattle.checker.proofs.Alike.{like_none, like_some}

@@ -1,5 +1,5 @@
 -- The chain tests each part's octet.
-use Rattle.std.proofs.Common.{rules, tests, ◌≡◌, ◌∙◌, ◌+◌, ◌*◌, leb, get_or, refl, arith}
+use Rattle.std.proofs.Common.{rules, tests, ◌∙◌, ◌+◌, ◌*◌, leb, get_or, refl, arith}
 use Rattle.std.proofs.lemmas.Iterator.{YieldsList-from_range}
 use Rattle.std.proofs.lemmas.Iterator.Search.{any_from_yields_List}
 use Rattle.checker.proofs.Searches.{any_places}

@@ -1,5 +1,5 @@
 -- The chain asks each record in turn.
-use Rattle.std.proofs.Common.{rules, tests}
+use Rattle.std.proofs.Common.{rules}
 use Rattle.table.specs.Decide.{dangling}
 use Rattle.table.specs.Reading.{table_in}
 use Rattle.checker.proofs.Rules.{entry_at}

@@ -1,5 +1,5 @@
 -- A simple record names none; any other names its parts.
-use Rattle.std.proofs.Common.{◌≡◌, ◌∙◌, ap, arith}
+use Rattle.std.proofs.Common.{◌∙◌, ap, arith}
 use Rattle.octets.specs.Lists.{any}
 use Rattle.checker.proofs.Rules.{near_span, none_named}
 use Rattle.records.proofs.Entries.{entered_span}
