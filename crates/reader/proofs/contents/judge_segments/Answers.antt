@@ -21,7 +21,7 @@ string_size-requires c =
 
 pub overflow_add-result : goal.overflow_add-result
 overflow_add-result c =
-    omega (arith, c.requires.3, c.requires.4, parts_left c.args.e.kind c.args.indefinite c.args.c.now c.read.ensures _ _ c.in-Err.is)
+    omega (arith, c.requires.3, c.requires.4, parts_left c.args.e.kind c.args.indefinite c.args.c.now c.read.ensures _ c.in-Err.is)
 
 pub returns-in-Ok : goal.returns-in-Ok
 returns-in-Ok c =
@@ -33,4 +33,4 @@ pub returns-in-Err : goal.returns-in-Err
 returns-in-Err c =
     let a = c.args in
     let i = sym c.in_segments.ensures ∙ c.if-not-in_segments.false in
-    rw i (parts_refused a.e.kind a.indefinite a.c.now c.read.ensures _ a.e.own a.left a.behind (c.requires.2 i) _ _ c.in-Err.is)
+    rw i (parts_refused a.e.kind a.indefinite a.c.now c.read.ensures _ a.e.own a.left a.behind (c.requires.2 i) _ c.in-Err.is)
