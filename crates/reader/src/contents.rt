@@ -195,17 +195,15 @@ pub fn place_segments(kind: u8, c: &[u8], buf: &mut [u8], to: usize) -> Placed
     let start = to + 5;
     let bits = kind == BIT_STRING;
     let x = segments::join(c, bits, buf, start);
-    let end = x.end;
-    let next = x.next;
-    let n = next - start;
-    let number = to + 3;
-    if !bits {
-        put_number(buf, number, n);
-        return Placed { end, next };
+    let n = x.next - start;
+    if bits {
+        bit_string::mask(x.unused, &mut buf[start..x.next]);
+        put_number(buf, to + 3, 8 * n - x.unused);
+    } else {
+        put_number(buf, to + 3, n);
     }
-    let unused = x.unused;
-    let part = &mut buf[start..next];
-    bit_string::mask(unused, part);
-    put_number(buf, number, 8 * n - unused);
-    Placed { end, next }
+    Placed {
+        end: x.end,
+        next: x.next,
+    }
 }
