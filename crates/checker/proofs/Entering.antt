@@ -3,15 +3,18 @@
 use mathlib.Core.Bool.{Bool, true, false}
 use mathlib.Core.List.{List, [], ◌∷◌, ◌++◌, map, map-append, append_assoc}
 use mathlib.Core.Path.{◌≡◌, refl, sym, ap, ◌∙◌}
+use Rattle.std.specs.Prelude.{Result, Ok, Err}
 use Prim.Native.Nat.{ℕ, suc, ◌+◌, ◌-◌, ◌≤◌, ◌<◌}
 use native.Mathlib.Omega.{arith}
 use lib.ListN.{length, set, replicate, length-set, length-append, length-map}
 use lib.Seq.{set_at}
 use borrow.Author.Tests.{eq-eqb, ne_eqb}
 use Rattle.octets.specs.Numbers.{Octets}
-use Rattle.table.specs.Reading.{record_end, scan_from, scan, count_in}
+use Rattle.table.specs.Reading.{record_end, scan_from, scan}
+use Rattle.table.specs.declared.CheckCause.TheVariants.{TableShape}
+use Rattle.table.specs.declared.Flaw.{Flaw}
 use Rattle.table.proofs.Reading.{record_back}
-use Rattle.checker.specs.Index.{number_at, numbered, index_in}
+use Rattle.checker.specs.Index.{number_at, numbered, scanned, index_in}
 
 -- the index is that of the records at these n places, and the scan goes on at `at`
 pub record Entering (b index : List ℕ) (n at : ℕ) : Type 0 where
@@ -39,35 +42,36 @@ numbered_next b places n at c h =
     let s = set_at (map (number_at b) places) 0 (replicate (128 - (n + 1)) 0) (number_at b at) n (length-map places (number_at b) ∙ c) in
     rw (c, q, longer places n at c, s, map-append, append_assoc)
 
--- the whole index
-abbrev Whole : List ℕ → List ℕ → Bool → ℕ → Type 0
-Whole b index w n = (w ≡ (scan b).whole) × (n ≡ count_in b) × (index ≡ index_in b)
+-- the whole index, or that of the records before the first that is not shaped
+module _ (b index places : List ℕ) (n : ℕ) (c : length places ≡ n) (i : index ≡ numbered b places) where
+  stopped : record { whole = false; offsets = places } ≡ scan b → (◌≡◌ {A = Result ℕ Flaw} (Err (record { cause = TableShape; place = n })) (scanned b)) × (index ≡ index_in b)
+  stopped e = (rw (← e, c), i ∙ ap (λ s. numbered b s.offsets) e)
 
-whole : (b index places : List ℕ) (n : ℕ) (w : Bool) → record { whole = w; offsets = places } ≡ scan b → length places ≡ n → index ≡ numbered b places
-    → Whole b index w n
-whole b index places n w e c i = (ap (λ s. s.whole) e, sym c ∙ ap (λ s. length s.offsets) e, i ∙ ap (λ s. numbered b s.offsets) e)
+  whole : record { whole = true; offsets = places } ≡ scan b → (◌≡◌ {A = Result ℕ Flaw} (Ok n) (scanned b)) × (index ≡ index_in b)
+  whole e = (rw (← e, c), i ∙ ap (λ s. numbered b s.offsets) e)
 
 module _ (b index : List ℕ) (n at : ℕ) (f : Entering b index n at) where
-  pub entering_stops : n < 128 → record_end b at ≡ 0 → Whole b index false n
+  pub entering_stops : n < 128 → record_end b at ≡ 0 → (◌≡◌ {A = Result ℕ Flaw} (Err (record { cause = TableShape; place = n })) (scanned b)) × (index ≡ index_in b)
   unfolding scan_from
   entering_stops h e =
       let q : 128 - n ≡ suc (128 - (n + 1)) = omega arith in
-      whole b index f.places n false (rw (q, eq-eqb (record_end b at) 0 e) at f.scans) f.count f.is
+      stopped b index f.places n f.count f.is (rw (q, eq-eqb (record_end b at) 0 e) at f.scans)
 
-  pub entering_ends : 128 ≤ n → Whole b index false n
+  pub entering_ends : 128 ≤ n → (◌≡◌ {A = Result ℕ Flaw} (Err (record { cause = TableShape; place = 128 })) (scanned b)) × (index ≡ index_in b)
   unfolding scan_from
-  entering_ends h = let q : 128 - n ≡ 0 = omega arith in whole b index f.places n false (rw q at f.scans) f.count f.is
+  entering_ends h = let q : 128 - n ≡ 0 = omega arith in
+      stopped b index f.places 128 (omega (arith, f.count, f.few)) f.is (rw q at f.scans)
 
   module _ (h : n < 128) (d : record_end b at ≡ 0 → ⊥) (w : ℕ) (x : w ≡ number_at b at) where
     next : set index n w ≡ numbered b (f.places ++ (at ∷ []))
     next = rw (x, f.is) (numbered_next b f.places n at f.count h)
 
-    pub entering_whole : record_end b at ≡ length b → Whole b (set index n w) true (n + 1)
+    pub entering_whole : record_end b at ≡ length b → (◌≡◌ {A = Result ℕ Flaw} (Ok (n + 1)) (scanned b)) × (set index n w ≡ index_in b)
     unfolding scan_from
     entering_whole e =
         let q : 128 - n ≡ suc (128 - (n + 1)) = omega arith in
-        whole b (set index n w) (f.places ++ (at ∷ [])) (n + 1) true
-        (rw (q, ne_eqb (record_end b at) 0 d, eq-eqb (record_end b at) (length b) e) at f.scans) (longer f.places n at f.count) next
+        whole b (set index n w) (f.places ++ (at ∷ [])) (n + 1) (longer f.places n at f.count) next
+        (rw (q, ne_eqb (record_end b at) 0 d, eq-eqb (record_end b at) (length b) e) at f.scans)
 
     pub entering_next : Octets b → length b ≤ 8192 → (record_end b at ≡ length b → ⊥) → Entering b (set index n w) (n + 1) (record_end b at)
     unfolding scan_from

@@ -2,45 +2,42 @@
 -- Assumes nothing.
 use mathlib.Core.Bool.{true, false}
 use mathlib.Core.List.{List}
-use mathlib.Core.Path.{◌≡◌, ◌∙◌}
+use mathlib.Core.Path.{◌≡◌, sym, ◌∙◌}
 use Prim.Native.Nat.{ℕ, ◌≤◌, ◌<◌}
 use borrow.Author.Tests.{lt-ltb, le-ltb}
 use lib.ListN.{length}
+use Rattle.std.specs.Prelude.{Result, Ok, Err}
+use Rattle.octets.proofs.Tests.{test}
 use Rattle.table.specs.declared.CheckCause.TheVariants.{TableShape}
+use Rattle.table.specs.declared.Flaw.{Flaw}
 use Rattle.table.specs.Reading.{scan, table_in, count_in}
-use Rattle.table.specs.Verdict.{judge, verdict}
-use Rattle.table.specs.declared.Verdict.{Verdict}
-use Rattle.table.specs.declared.Verdict.TheVariants.{Refused}
-use Rattle.checker.specs.Index.{index_in, count_after, index_after}
+use Rattle.table.specs.Verdict.{Verdict, flawed, judge, verdict}
+use Rattle.checker.specs.Index.{scanned, index_in, count_after, index_after}
 
 module _ (b : List ℕ) where
-  verdict_long : 8192 < length b → Refused TableShape 0 ≡ verdict b
-  unfolding verdict
-  verdict_long h = rw (lt-ltb 8192 (length b) h)
+  -- what the scan answers
+  scanned_whole : {n : ℕ} → ◌≡◌ {A = Result ℕ Flaw} (Ok n) (scanned b) → ((scan b).whole ≡ true) × (n ≡ count_in b)
+  scanned_whole q = test (scan b).whole (λ e. let z = rw e at q in (e, cc)) λ e. let z = rw e at q in absurd (cc)
 
-  verdict_misshapen : length b ≤ 8192 → false ≡ (scan b).whole → Refused TableShape (count_in b) ≡ verdict b
-  unfolding verdict
-  verdict_misshapen h w = rw (le-ltb 8192 (length b) h, ← w)
-
-  verdict_judged : length b ≤ 8192 → true ≡ (scan b).whole → judge (table_in b) (count_in b) ≡ verdict b
-  unfolding verdict
-  verdict_judged h w = rw (le-ltb 8192 (length b) h, ← w)
+  scanned_flaw : {f : Flaw} → ◌≡◌ {A = Result ℕ Flaw} (Err f) (scanned b) → ((scan b).whole ≡ false) × (f ≡ record { cause = TableShape; place = count_in b })
+  scanned_flaw q = test (scan b).whole (λ e. let z = rw e at q in absurd (cc)) λ e. let z = rw e at q in (e, cc)
 
   -- what is so of the verdict v, the count n and the index after, where the index was before
   abbrev pub Into : List ℕ → List ℕ → Verdict → ℕ → Type 0
   Into before after v n = (v ≡ verdict b) × (n ≡ count_after b) × (after ≡ index_after b before)
 
-  pub into_long : (index : List ℕ) → 8192 < length b → Into index index (Refused TableShape 0) 0
-  unfolding count_after index_after
-  into_long index h = let l = lt-ltb 8192 (length b) h in (verdict_long h, rw l, rw l)
+  pub into_long : (index : List ℕ) → 8192 < length b → Into index index (flawed TableShape 0) 0
+  unfolding verdict count_after index_after
+  into_long index h = let l = lt-ltb 8192 (length b) h in (rw l, rw l, rw l)
 
-  module _ (before after : List ℕ) (n : ℕ) (h : length b ≤ 8192) (c : n ≡ count_in b) (i : after ≡ index_in b) where
-    into : (v : Verdict) → v ≡ verdict b → Into before after v n
-    unfolding count_after index_after
-    into v e = let l = le-ltb 8192 (length b) h in (e, rw l c, rw l i)
+  module _ (before after : List ℕ) (h : length b ≤ 8192) (i : after ≡ index_in b) where
+    pub into_misshapen : {f : Flaw} → ◌≡◌ {A = Result ℕ Flaw} (Err f) (scanned b) → Into before after (Err f) f.place
+    unfolding verdict count_after index_after
+    into_misshapen q = let l = le-ltb 8192 (length b) h in let (w, e) = scanned_flaw q in rw e (rw (l, w), rw l, rw l i)
 
-    pub into_misshapen : false ≡ (scan b).whole → Into before after (Refused TableShape n) n
-    into_misshapen w = into _ (rw c (verdict_misshapen h w))
+    pub into_judged : {n : ℕ} {v : Verdict} → ◌≡◌ {A = Result ℕ Flaw} (Ok n) (scanned b) → v ≡ judge (table_in b) n → Into before after v n
+    unfolding verdict count_after index_after
+    into_judged q j = let l = le-ltb 8192 (length b) h in let (w, e) = scanned_whole q in (rw (l, w) (rw e at j), rw l e, rw l i)
 
-    pub into_judged : (v : Verdict) → true ≡ (scan b).whole → v ≡ judge (table_in b) n → Into before after v n
-    into_judged v w e = into v (e ∙ rw c (verdict_judged h w))
+pub counted : (b : List ℕ) {n : ℕ} → ◌≡◌ {A = Result ℕ Flaw} (Ok n) (scanned b) → n ≡ count_in b
+counted b q = (scanned_whole b q).1

@@ -1,9 +1,12 @@
--- What the check leaves in the index that it is lent, and how many records it counts (FORMATS, "Tables").
+-- What the check leaves in the index that it is lent, how many records it counts, and what it says of one cause (FORMATS, "Tables").
 -- Assumes nothing.
-use Rattle.std.specs.Prelude.{List, ◌++◌, map, ℕ, ◌-◌, length, replicate}
+use Rattle.std.specs.Prelude.{not, List, ◌++◌, map, ℕ, ◌-◌, length, replicate, Option, Some, None, Result, Ok, Err}
 use Rattle.octets.specs.Tests.{if}
 use Rattle.table.specs.Reading.{scan, count_in}
-use Rattle.table.specs.Verdict.{too_long}
+use Rattle.table.specs.Verdict.{Verdict, no_flaw, flawed, too_long}
+use Rattle.table.specs.declared.CheckCause.{CheckCause}
+use Rattle.table.specs.declared.CheckCause.TheVariants.{TableShape}
+use Rattle.table.specs.declared.Flaw.{Flaw}
 use Rattle.records.specs.Entries.{packed, entry_at}
 
 -- the number of the record at o
@@ -18,9 +21,18 @@ numbered b os = map (number_at b) os ++ replicate (128 - length os) 0
 abbrev pub index_in : List ℕ → List ℕ
 index_in b = numbered b (scan b).offsets
 
+-- how many records the scan finds, if it is whole; else the flaw at the first that is not shaped
+abbrev pub scanned : List ℕ → Result ℕ Flaw
+scanned b = if (not (scan b).whole) (Err (record { cause = TableShape; place = count_in b })) λ _. Ok (count_in b)
+
 -- Over 8,192 octets are not looked at: no record is counted, and the index stays as it was.
 unfoldable pub count_after : List ℕ → ℕ
 count_after b = if (too_long b) 0 λ _. count_in b
 
 unfoldable pub index_after : List ℕ → List ℕ → List ℕ
 index_after b before = if (too_long b) before λ _. index_in b
+
+-- the verdict by one cause, and the record that was found to have it, if one was
+abbrev pub unless_found : CheckCause → Option ℕ → Verdict
+unless_found c None = no_flaw
+unless_found c (Some p) = flawed c p

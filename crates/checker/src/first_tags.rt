@@ -1,7 +1,8 @@
 // 4 and 5: a CHOICE without tags that comes back to itself, and first tags that two parts in one run share (FORMATS, "Tables" and "Refusals").
-ghost use Rattle.std.specs.Prelude.{◌≡◌, true, false, not, ℕ, suc, ◌+◌, ◌-◌, ◌*◌, ◌≤◌, ◌<◌, length, get_or, replicate};
+ghost use Rattle.std.specs.Prelude.{◌≡◌, true, false, not, ℕ, suc, ◌+◌, ◌-◌, ◌*◌, ◌≤◌, ◌<◌, get_or};
 ghost use Rattle.octets.specs.Lists.{lowest};
-ghost use Rattle.table.specs.Rules.{Circular, Clash, Sharing};
+ghost use Rattle.octets.specs.Numbers.{if_below};
+ghost use Rattle.table.specs.Rules.{Clash};
 ghost use Rattle.table.specs.Reading.{every_at, table_in, count_in};
 ghost use Rattle.table.specs.Decide.{circular, sharing};
 ghost use Rattle.table.specs.Walk.{like, Named, Straight};
@@ -29,26 +30,20 @@ fn lowest_like(index: &[u64; 128], t: usize) -> usize
     if tag == UNTAGGED {
         return t;
     }
-    let mut u = 0;
-    while u < t {
-        if first_tag(index[u]) == tag {
-            return u;
-        }
-        u += 1;
-    }
-    t
+    (0..t).find(|&u| first_tag(index[u]) == tag).unwrap_or(t)
 }
 
-// Writes for each of n records the one that stands for its first tag.
-pub(crate) fn stand_ins(table: &[u8], index: &[u64; 128], n: usize, nodes: &mut [u8; 128])
-    requires { Filled table.now index.now n × (length nodes.old ≡ 128) }
-    ensures { (t : ℕ) → t < n → get_or nodes.new t 0 ≡ like (table_in table.now) t }
+// For each of n records the one that stands for its first tag.
+#[tactic(auto, using(crate::proofs::Alike::like_in_low))]
+pub(crate) fn stand_ins(table: &[u8], index: &[u64; 128], n: usize) -> [u8; 128]
+    requires { Filled table.now index.now n }
+    ensures { (t : ℕ) → t < n → get_or result t 0 ≡ like (table_in table.now) t }
 {
-    let mut t = 0;
-    while t < n {
+    let mut nodes = [0u8; 128];
+    for t in 0..n {
         nodes[t] = lowest_like(index, t) as u8;
-        t += 1;
     }
+    nodes
 }
 
 // Where the mark stands that a walk puts: behind the flags of the 128 records. As a parameter it would widen each frame of `gather` and
@@ -96,50 +91,40 @@ fn gather_under(
     ensures { GatheredUnder (table_in table.now) (get_or flags.old 128 0) flags.old t result flags.new }
 {
     let s = alternatives(table, unpack(index[t]));
-    let mut at = s.first;
-    let mut left = s.count;
-    while 0 < left {
-        let a = octet(table, at);
-        if gather(table, index, nodes, flags, a) {
+    for at in s.first..s.first + s.count {
+        if gather(table, index, nodes, flags, octet(table, at)) {
             return true;
         }
-        at += 1;
-        left -= 1;
     }
     false
 }
 
-// Whether the CHOICE without tags t reaches itself through such CHOICEs alone.
+// Whether record t is a CHOICE without tags that reaches itself through such CHOICEs alone.
 fn is_circular(table: &[u8], index: &[u64; 128], nodes: &[u8; 128], t: usize) -> bool
-    requires { Gathers table.now index.now nodes.now (replicate 129 0) t × ((unpacked (get_or index.now t 0)).code ≡ untagged) }
-    ensures { let T = table_in table.now in (result ≡ true → Circular T t) × (result ≡ false → Circular T t → ⊥) }
+    requires { let b = table.now in
+        Filled b index.now (count_in b) × StandIns (table_in b) (count_in b) nodes.now × Named (table_in b) (count_in b) × (t < count_in b) }
+    ensures { result ≡ circular (table_in table.now) (count_in table.now) t }
 {
+    if first(index[t]) != UNTAGGED {
+        return false;
+    }
     let mut flags = [0u8; 129];
     flags[MARK] = 1;
     gather_under(table, index, nodes, &mut flags, t);
     flags[t] != 0
 }
 
-// The lowest of n records that is such a CHOICE; n if there is none.
+// The lowest of n records that is one.
 pub(crate) fn lowest_circular(
     table: &[u8],
     index: &[u64; 128],
     nodes: &[u8; 128],
     n: usize,
-) -> usize
+) -> Option<usize>
     requires { Filled table.now index.now n × StandIns (table_in table.now) n nodes.now × Named (table_in table.now) n }
-    ensures { result ≡ lowest (circular (table_in table.now) n) n }
+    ensures { result ≡ if_below n (lowest (circular (table_in table.now) n) n) }
 {
-    let mut t = 0;
-    while t < n {
-        if first(index[t]) == UNTAGGED {
-            if is_circular(table, index, nodes, t) {
-                return t;
-            }
-        }
-        t += 1;
-    }
-    n
+    (0..n).find(|&t| is_circular(table, index, nodes, t))
 }
 
 // Whether two of the parts have a first tag in common.
@@ -152,19 +137,13 @@ fn clash(table: &[u8], index: &[u64; 128], nodes: &[u8; 128], s: Span) -> bool
     if s.count < 2 {
         return false;
     }
-    let mut at = s.first;
-    let mut left = s.count;
     let mut flags = [0u8; 129];
-    let mut mark: u8 = 1;
-    while 0 < left {
-        let a = octet(table, at);
-        flags[MARK] = mark;
+    for k in 0..s.count {
+        flags[MARK] = k as u8 + 1;
+        let a = octet(table, s.first + s.step * k);
         if gather(table, index, nodes, &mut flags, a) {
             return true;
         }
-        mark += 1;
-        at += s.step;
-        left -= 1;
     }
     false
 }
@@ -174,15 +153,10 @@ fn run_length(table: &[u8], at: usize, left: usize) -> usize
     requires { (0 < left) × (at + 3 * left ≤ 100000) }
     ensures { result ≡ suc (lowest (λ k. not (optional_in table.now at k)) (left - 1)) }
 {
-    let last = left - 1;
-    let mut k = 0;
-    while k < last {
-        if !optional(table, at + 2 * k) {
-            return k + 1;
-        }
-        k += 1;
-    }
-    left
+    let last = (0..left - 1)
+        .find(|&k| !optional(table, at + 2 * k))
+        .unwrap_or(left - 1);
+    last + 1
 }
 
 // Whether two members of one run have a first tag in common.
@@ -210,13 +184,16 @@ fn clash_in_a_run(table: &[u8], index: &[u64; 128], nodes: &[u8; 128], s: Span) 
     false
 }
 
-// Whether a record is refused: a SEQUENCE if two members of one run share a first tag, a SET or a CHOICE if any two parts do.
+// Whether a record is refused: a SEQUENCE if two members of one run share a first tag, a SET or a CHOICE if any two parts do; a simple one never.
 fn is_sharing(table: &[u8], index: &[u64; 128], nodes: &[u8; 128], t: usize) -> bool
     requires { let b = table.now in
         Filled b index.now (count_in b) × StandIns (table_in b) (count_in b) nodes.now × Straight (table_in b) (count_in b) × (t < count_in b) }
-    ensures { let T = table_in table.now in (result ≡ true → Sharing T t) × (result ≡ false → Sharing T t → ⊥) }
+    ensures { result ≡ sharing (table_in table.now) (count_in table.now) t }
 {
     let e = unpack(index[t]);
+    if e.simple {
+        return false;
+    }
     let s = parts(table, e);
     if e.kind == SEQUENCE {
         return clash_in_a_run(table, index, nodes, s);
@@ -224,20 +201,15 @@ fn is_sharing(table: &[u8], index: &[u64; 128], nodes: &[u8; 128], t: usize) -> 
     clash(table, index, nodes, s)
 }
 
-// The lowest of n records with such parts; n if there is none.
-pub(crate) fn lowest_sharing(table: &[u8], index: &[u64; 128], nodes: &[u8; 128], n: usize) -> usize
+// The lowest of n records with such parts.
+pub(crate) fn lowest_sharing(
+    table: &[u8],
+    index: &[u64; 128],
+    nodes: &[u8; 128],
+    n: usize,
+) -> Option<usize>
     requires { Filled table.now index.now n × StandIns (table_in table.now) n nodes.now × Straight (table_in table.now) n }
-    ensures { result ≡ lowest (sharing (table_in table.now) n) n }
+    ensures { result ≡ if_below n (lowest (sharing (table_in table.now) n) n) }
 {
-    let mut t = 0;
-    while t < n {
-        let e = unpack(index[t]);
-        if !e.simple {
-            if is_sharing(table, index, nodes, t) {
-                return t;
-            }
-        }
-        t += 1;
-    }
-    n
+    (0..n).find(|&t| is_sharing(table, index, nodes, t))
 }

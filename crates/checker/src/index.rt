@@ -1,24 +1,20 @@
 // The index of a table: an entry for each of its records (FORMATS, "Tables").
 ghost use Rattle.std.specs.Prelude.{◌≤◌, ◌<◌, length, ◌≡◌, eqb};
 ghost use Rattle.octets.specs.Tests.{if};
-ghost use Rattle.table.specs.Reading.{record_end, scan, count_in};
+ghost use Rattle.table.specs.declared.CheckCause.TheVariants.{TableShape};
+ghost use Rattle.table.specs.Reading.{record_end};
 ghost use Rattle.records.specs.Entries.{packed, outermost_in, all_but_last};
-ghost use Rattle.checker.specs.Index.{number_at, index_in};
+ghost use Rattle.checker.specs.Index.{number_at, scanned, index_in};
 
 use crate::shape::record_end;
 use ber::identifier::code_of;
 use kinds::{CHOICE, constructed};
 use octets::{octet, two};
 use records::entry::{LACKING, UNTAGGED};
-
-// How many records were indexed. Whole if nothing is left behind them.
-#[derive(Clone, Copy)]
-pub struct Count {
-    pub count: usize,
-    pub whole: bool,
-}
+use table::{CheckCause, Flaw};
 
 // The code of the outermost identifier of a record with as many tags, the first at p, simple or not.
+#[tactic(auto, unfolding(records::specs::Entries::outermost_in))]
 fn outermost(table: &[u8], simple: bool, tags: u8, p: usize) -> u32
     requires { p < 65536 }
     ensures { result ≡ outermost_in table.now p tags simple }
@@ -48,6 +44,7 @@ fn explicit(kind: u8, tags: u8) -> u8
 }
 
 // An entry as one number.
+#[tactic(auto, unfolding(records::specs::Entries::packed))]
 fn pack(code: u32, own: u16, kind: u8, explicit: u8, simple: bool) -> u64
     requires { explicit < 128 }
     ensures { result ≡ packed (record { code = code; own = own; kind = kind; explicit = explicit; simple = simple }) }
@@ -61,14 +58,13 @@ fn pack(code: u32, own: u16, kind: u8, explicit: u8, simple: bool) -> u64
 }
 
 // The entry of the record at o, which is shaped.
+#[tactic(auto, using(records::proofs::Entries::heads, records::proofs::Entries::explicit_small), unfolding(records::specs::Entries::entry_at))]
 fn entry(table: &[u8], o: usize) -> u64
     requires { (length table.now ≤ 8192) × (0 < record_end table.now o) }
     ensures { result ≡ number_at table.now o }
 {
-    let a = o + 2;
-    let b = o + 3;
-    let kind = table[a];
-    let tags = table[b];
+    let kind = table[o + 2];
+    let tags = table[o + 3];
     let p = o + 4;
     let own = p + 3 * tags as usize;
     let simple = !constructed(kind as usize);
@@ -76,34 +72,33 @@ fn entry(table: &[u8], o: usize) -> u64
     pack(code, own as u16, kind, explicit(kind, tags), simple)
 }
 
-// Fills the index, from record to record. It is stored whole first: only then is it known how many numbers it has.
-pub(crate) fn fill(table: &[u8], index: &mut [u64; 128]) -> Count
+// What is wrong with a table whose record t is not shaped, or where octets follow 128 records.
+pub(crate) fn misshapen(t: usize) -> Flaw
+    ensures { result ≡ record { cause = TableShape; place = t } }
+{
+    Flaw {
+        cause: CheckCause::TableShape,
+        place: t,
+    }
+}
+
+// Fills the index, from record to record, and says how many there are if nothing is left behind them. It is stored whole first: only then
+// is it known how many numbers it has.
+pub(crate) fn fill(table: &[u8], index: &mut [u64; 128]) -> Result<usize, Flaw>
     requires { length table.now ≤ 8192 }
-    ensures { let b = table.now in
-        (result.whole ≡ (scan b).whole)
-        × (result.count ≡ count_in b)
-        × (index.new ≡ index_in b) }
+    ensures { (result ≡ scanned table.now) × (index.new ≡ index_in table.now) }
 {
     *index = [0u64; 128];
-    let mut count: usize = 0;
     let mut at: usize = 0;
-    while count < 128 {
-        let end = record_end(table, at);
-        if end == 0 {
-            return Count {
-                count,
-                whole: false,
-            };
-        }
+    for count in 0..128 {
+        let Some(end) = record_end(table, at) else {
+            return Err(misshapen(count));
+        };
         index[count] = entry(table, at);
-        count += 1;
         if end == table.len() {
-            return Count { count, whole: true };
+            return Ok(count + 1);
         }
         at = end;
     }
-    Count {
-        count,
-        whole: false,
-    }
+    Err(misshapen(128))
 }

@@ -13,7 +13,7 @@ ghost use Rattle.table.specs.Verdict.{judge_choices, judge, verdict};
 ghost use Rattle.table.specs.Walk.{Named};
 ghost use Rattle.table.specs.Reading.{table_in};
 ghost use Rattle.records.specs.Entries.{Filled};
-ghost use Rattle.checker.specs.Index.{count_after, index_after};
+ghost use Rattle.checker.specs.Index.{unless_found, count_after, index_after};
 
 use table::{CheckCause, Flaw};
 
@@ -21,62 +21,46 @@ use table::{CheckCause, Flaw};
 const LONGEST_TABLE: usize = 8192;
 
 // The verdict on a table, and how many records it has.
-#[derive(Clone, Copy, Debug, PartialEq, Eq)]
+#[derive(Clone, Copy)]
 pub struct Counted {
     pub verdict: Result<(), Flaw>,
     pub count: usize,
 }
 
+// The verdict by one cause, and the record that was found to have it, if one was.
+fn unless_found(cause: CheckCause, found: Option<usize>) -> Result<(), Flaw>
+    ensures { result ≡ unless_found cause found }
+{
+    match found {
+        Some(place) => Err(Flaw { cause, place }),
+        None => Ok(()),
+    }
+}
+
 // The verdict by the rules 4 to 6, on n records that keep the rules 1 to 3 (FORMATS, "Order of refusals").
+#[tactic(auto, unfolding(table::specs::Verdict::judge_choices))]
 fn judge_choices(table: &[u8], index: &[u64; 128], n: usize) -> Result<(), Flaw>
     requires { Filled table.now index.now n × Named (table_in table.now) n }
     ensures { result ≡ judge_choices (table_in table.now) n }
 {
-    let mut nodes = [0u8; 128];
-    first_tags::stand_ins(table, index, n, &mut nodes);
-    let p = first_tags::lowest_circular(table, index, &nodes, n);
-    if p < n {
-        return Err(Flaw {
-            cause: CheckCause::ChoiceLoop,
-            place: p,
-        });
-    }
-    let p = first_tags::lowest_sharing(table, index, &nodes, n);
-    if p < n {
-        return Err(Flaw {
-            cause: CheckCause::SharedTag,
-            place: p,
-        });
-    }
-    let p = finite::lowest(table, index, n);
-    if p < n {
-        return Err(Flaw {
-            cause: CheckCause::NoValue,
-            place: p,
-        });
-    }
-    Ok(())
+    let nodes = first_tags::stand_ins(table, index, n);
+    let circular = first_tags::lowest_circular(table, index, &nodes, n);
+    unless_found(CheckCause::ChoiceLoop, circular)?;
+    let sharing = first_tags::lowest_sharing(table, index, &nodes, n);
+    unless_found(CheckCause::SharedTag, sharing)?;
+    unless_found(CheckCause::NoValue, finite::lowest(table, index, n))
 }
 
 // The verdict by the rules 2 to 6 on n records.
+#[tactic(auto, unfolding(table::specs::Verdict::judge_choices, table::specs::Verdict::judge))]
 fn judge_records(table: &[u8], index: &[u64; 128], n: usize) -> Result<(), Flaw>
     requires { Filled table.now index.now n }
     ensures { result ≡ judge (table_in table.now) n }
 {
-    let p = references::lowest(table, index, n);
-    if p < n {
-        return Err(Flaw {
-            cause: CheckCause::NoRecord,
-            place: p,
-        });
-    }
-    let p = tags::lowest(table, index, n);
-    if p < n {
-        return Err(Flaw {
-            cause: CheckCause::WrongTag,
-            place: p,
-        });
-    }
+    let dangling = references::lowest(table, index, n);
+    unless_found(CheckCause::NoRecord, dangling)?;
+    let mistagged = tags::lowest(table, index, n);
+    unless_found(CheckCause::WrongTag, mistagged)?;
     judge_choices(table, index, n)
 }
 
@@ -90,26 +74,20 @@ pub fn check_into(table: &[u8], index: &mut [u64; 128]) -> Counted
 {
     if LONGEST_TABLE < table.len() {
         return Counted {
-            verdict: Err(Flaw {
-                cause: CheckCause::TableShape,
-                place: 0,
-            }),
+            verdict: Err(index::misshapen(0)),
             count: 0,
         };
     }
-    let made = index::fill(table, index);
-    let count = made.count;
-    if !made.whole {
-        return Counted {
-            verdict: Err(Flaw {
-                cause: CheckCause::TableShape,
-                place: count,
-            }),
+    match index::fill(table, index) {
+        Ok(count) => Counted {
+            verdict: judge_records(table, index, count),
             count,
-        };
+        },
+        Err(flaw) => Counted {
+            verdict: Err(flaw),
+            count: flaw.place,
+        },
     }
-    let verdict = judge_records(table, index, count);
-    Counted { verdict, count }
 }
 
 // The check of a table.

@@ -1,6 +1,7 @@
 // 2: a record number that is not there (FORMATS, "Refusals").
 ghost use Rattle.std.specs.Prelude.{◌≡◌, ◌<◌, leb};
 ghost use Rattle.octets.specs.Lists.{any, lowest};
+ghost use Rattle.octets.specs.Numbers.{if_below};
 ghost use Rattle.table.specs.Reading.{every_at, table_in};
 ghost use Rattle.table.specs.Decide.{dangling};
 ghost use Rattle.table.specs.Syntax.{Record, references};
@@ -14,16 +15,7 @@ fn dangling(table: &[u8], s: Span, n: usize) -> bool
     requires { Near s }
     ensures { result ≡ any (λ x. leb n x) (every_at s.step table.now s.first s.count) }
 {
-    let mut at = s.first;
-    let mut left = s.count;
-    while 0 < left {
-        if n <= octet(table, at) {
-            return true;
-        }
-        at += s.step;
-        left -= 1;
-    }
-    false
+    (0..s.count).any(|k| n <= octet(table, s.first + s.step * k))
 }
 
 // Whether a record names such a number; a simple one names none.
@@ -36,18 +28,10 @@ fn names_beyond(table: &[u8], e: Entry, n: usize) -> bool
     dangling(table, parts(table, e), n)
 }
 
-// The lowest of n records that names one that is not there; n if none does.
-pub(crate) fn lowest(table: &[u8], index: &[u64; 128], n: usize) -> usize
+// The lowest of n records that names one that is not there.
+pub(crate) fn lowest(table: &[u8], index: &[u64; 128], n: usize) -> Option<usize>
     requires { Filled table.now index.now n }
-    ensures { result ≡ lowest (dangling (table_in table.now) n) n }
+    ensures { result ≡ if_below n (lowest (dangling (table_in table.now) n) n) }
 {
-    let mut t = 0;
-    while t < n {
-        let e = unpack(index[t]);
-        if names_beyond(table, e, n) {
-            return t;
-        }
-        t += 1;
-    }
-    n
+    (0..n).find(|&t| names_beyond(table, unpack(index[t]), n))
 }

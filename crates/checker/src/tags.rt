@@ -1,6 +1,6 @@
 // 3: a tag that is missing, or a UNIVERSAL tag out of place (FORMATS, "Tables" and "Refusals").
 ghost use Rattle.std.specs.Prelude.{◌≡◌, not, ◌&&◌, ◌<◌, ◌+◌, eqb, get_or};
-ghost use Rattle.octets.specs.Numbers.{two};
+ghost use Rattle.octets.specs.Numbers.{two, if_below};
 ghost use Rattle.octets.specs.Lists.{any, lowest};
 ghost use Rattle.table.specs.Syntax.{Record};
 ghost use Rattle.table.specs.Reading.{every_at, table_in};
@@ -17,19 +17,11 @@ fn any_universal(table: &[u8], p: usize, n: usize) -> bool
     requires { (p < 65536) × (n < 256) }
     ensures { result ≡ any (λ x. eqb x 0) (every_at 3 table.now p n) }
 {
-    let mut at = p;
-    let mut left = n;
-    while 0 < left {
-        if octet(table, at) == 0 {
-            return true;
-        }
-        at += 3;
-        left -= 1;
-    }
-    false
+    (0..n).any(|k| octet(table, p + 3 * k) == 0)
 }
 
 // Whether one of the explicit tags is; most records have none.
+#[tactic(auto, unfolding(octets::specs::Lists::any, table::specs::Reading::every_at))]
 fn explicit_universal(table: &[u8], e: Entry) -> bool
     ensures { result ≡ any (λ x. eqb x 0) (every_at 3 table.now (tag_place e 0) e.explicit) }
 {
@@ -67,18 +59,10 @@ fn wrong(table: &[u8], e: Entry) -> bool
     wrong_own(table, e.kind, tag_place(e, e.explicit as usize))
 }
 
-// The lowest of n records with such tags; n if there is none.
-pub(crate) fn lowest(table: &[u8], index: &[u64; 128], n: usize) -> usize
+// The lowest of n records with such tags.
+pub(crate) fn lowest(table: &[u8], index: &[u64; 128], n: usize) -> Option<usize>
     requires { Filled table.now index.now n }
-    ensures { result ≡ lowest (mistagged (table_in table.now)) n }
+    ensures { result ≡ if_below n (lowest (mistagged (table_in table.now)) n) }
 {
-    let mut t = 0;
-    while t < n {
-        let e = unpack(index[t]);
-        if wrong(table, e) {
-            return t;
-        }
-        t += 1;
-    }
-    n
+    (0..n).find(|&t| wrong(table, unpack(index[t])))
 }

@@ -2,14 +2,14 @@
 #![tactic(auto)]
 
 // What a time is given as: the year of a UTCTime has two digits, that of a GeneralizedTime four.
-#[derive(Clone, Copy)]
+#[derive(Clone, Copy, Debug, PartialEq, Eq)]
 pub enum TimeKind {
     Utc,
     Generalized,
 }
 
 // A date and a time of day.
-#[derive(Clone, Copy)]
+#[derive(Clone, Copy, Debug, PartialEq, Eq, PartialOrd, Ord)]
 pub struct DateTime {
     pub year: u16,
     pub month: u8,

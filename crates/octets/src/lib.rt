@@ -26,23 +26,14 @@ pub fn two(s: &[u8], at: usize) -> usize
 pub fn holds(s: &[u8], at: usize, n: usize) -> bool
     ensures { result ≡ leb (at + n) (length s.now) }
 {
-    if s.len() < at {
-        return false;
-    }
-    n <= s.len() - at
+    at <= s.len() && n <= s.len() - at
 }
 
 // Copies octets over a part that has as many; one that has not stays.
 pub fn copy(c: &[u8], part: &mut [u8])
     ensures { part.new ≡ filled part.old c.now }
 {
-    let n = c.len();
-    if n != part.len() {
-        return;
-    }
-    let mut i: usize = 0;
-    while i < n {
-        part[i] = c[i];
-        i += 1;
+    if c.len() == part.len() {
+        part.copy_from_slice(c);
     }
 }

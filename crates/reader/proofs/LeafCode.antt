@@ -105,11 +105,11 @@ abbrev all_in : ℕ → Bool → List ℕ → Answer ReadingCause Gathered
 all_in kind z c = read_all (kind_in kind) (read_segment (kind_in kind) deepest) (mode z) c
 
 module _ (kind : ℕ) (z : Bool) (c : List ℕ) {r : Result Extents Unread} (a : r ≡ told_segments (kind_in kind) (length c) (all_in kind z c)) where
-  parts_stop : (f : ReadingCause) (n : ℕ) → r ≡ unread f n → (all_in kind z c ≡ refused f n) × (n ≤ length c)
-  parts_stop f n e = all_refused (kind_in kind) deepest c r z a f n e
+  parts_stop : (y : Unread) → r ≡ Err y → (all_in kind z c ≡ refused y.cause y.left) × (y.left ≤ length c)
+  parts_stop y e = all_refused (kind_in kind) deepest c r z a y e
 
-  pub parts_left : (f : ReadingCause) (n : ℕ) → r ≡ unread f n → n ≤ length c
-  parts_left f n e = (parts_stop f n e).1
+  pub parts_left : (y : Unread) → r ≡ Err y → y.left ≤ length c
+  parts_left y e = (parts_stop y e).1
 
   parts_came : (y : Extents) → r ≡ Ok y → Came (kind_in kind) 0 (length (empty (kind_in kind))) c (all_in kind z c) y
   parts_came y e = all_came (kind_in kind) deepest c r z a y e
@@ -119,9 +119,9 @@ module _ (kind : ℕ) (z : Bool) (c : List ℕ) {r : Result Extents Unread} (a :
 
   -- l octets are left where the item begins, and j behind c
   module _ (b : List ℕ) (own l j : ℕ) (s : (kind ≡ 3) ⊎ (kind ≡ 4)) where
-    pub parts_refused : (f : ReadingCause) (n : ℕ) → r ≡ unread f n → unread f (n + j) ≡ told c leaf_size (read_leaf_in (body_at b kind own) true z l j c)
+    pub parts_refused : (y : Unread) → r ≡ Err y → unread y.cause (y.left + j) ≡ told c leaf_size (read_leaf_in (body_at b kind own) true z l j c)
     unfolding read_leaf_in read_leaf read_segments then behind told
-    parts_refused f n e = let I = is_string b kind own s in rw (I.body, I.segments, (parts_stop f n e).0) refl
+    parts_refused y e = let I = is_string b kind own s in rw (I.body, I.segments, (parts_stop y e).0) refl
 
     pub parts_done : (y : Extents) → r ≡ Ok y → (n : ℕ) → (kind ≡ 3 → n ≡ y.size + 4) × (kind ≡ 4 → n ≡ y.size + 5) → length c ≤ 8192
         → judged y.end n ≡ told c leaf_size (read_leaf_in (body_at b kind own) true z l j c)

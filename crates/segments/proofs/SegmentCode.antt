@@ -11,6 +11,7 @@ use lib.Dec.{eqb, leb}
 use lib.ListN.{length, get_or, take, drop, length-append, length-drop, drop_of_length-le}
 use lib.Seq.{sets-eq, drop-drop, drop-append_seam, length-take-le}
 use Rattle.std.specs.Prelude.{Option, Some, None, Result, Ok, Err}
+use Rattle.std.specs.Result.{MatchResult, IsErrAnd}
 use Rattle.x690.specs.declared.ReadingCause.{ReadingCause}
 use Rattle.x690.specs.declared.ReadingCause.TheVariants.{NotAwaited, Contents, MessageLevel, Forbidden}
 use Rattle.octets.specs.Answer.{Answer, got, refused, then, if, behind}
@@ -41,6 +42,17 @@ use Rattle.ber.proofs.Ends.{end_more, end_over, end_broken}
 use Rattle.ber.proofs.Told.{Says, says, the_refusal, Faulty, then_faulty, identifier_faulty, identifier_read, identifier_refused}
 use Rattle.ber.proofs.Told.{length_definite, length_indefinite, length_refused}
 use Rattle.segments.proofs.Joining.{length_join, Within, takes, stops, segment_within, all_within}
+
+-- what was given to `map_err`, by what it answers
+pub mapped_ok : {T E D : Type 0} (P : E → D → Type 0) (r : Result T E) {q : Result T D} {x : T} → q ≡ Ok x
+    → MatchResult r (λ x. q ≡ Ok x) (λ e. IsErrAnd q (λ d. P e d)) → r ≡ Ok x
+mapped_ok P (Ok y) {q = q} {x = x} e h = let f : y ≡ x = cc in ap Ok f
+mapped_ok P (Err y) e h = absurd (rw e at h)
+
+pub mapped_err : {T E D : Type 0} (P : E → D → Type 0) (r : Result T E) {q : Result T D} {d : D} → q ≡ Err d
+    → MatchResult r (λ x. q ≡ Ok x) (λ e. IsErrAnd q (λ d. P e d)) → (e : E) × (r ≡ Err e) × P e d
+mapped_err P (Ok y) e h = let o : ◌≡◌ {A = ℕ} 0 1 = cc in absurd (omega arith)
+mapped_err P (Err y) e h = (y, refl, rw e at h)
 
 -- the identifier of a segment, by its code
 tag_code : (k : Kind) (b : Bool) → code 0 b (universal k) ≡ universal k + 32 * bit b
@@ -222,6 +234,10 @@ pub record Begun (k : Kind) (m : List ℕ) (d : ℕ) : Type 0 where
   pub constructed : Bool
   pub is : read_identifier m ≡ got (segment_tag k constructed) (drop from m)
   pub deep : d ≡ 0 → ⊥
+
+abbrev pub begun : {k : Kind} {m : List ℕ} {d : ℕ} (from : ℕ) (constructed : Bool)
+    → read_identifier m ≡ got (segment_tag k constructed) (drop from m) → (d ≡ 0 → ⊥) → Begun k m d
+begun from constructed e h = record { from = from; constructed = constructed; is = e; deep = h }
 
 module _ {k : Kind} {m : List ℕ} {d : ℕ} (B : Begun k m d) where
   header_is : read_header (segment_tag k B.constructed) m ≡ read_length (length m) (drop B.from m)

@@ -1,0 +1,12 @@
+-- Records that were found were flagged one after another, from none. The measure is how many have no mark.
+use Rattle.std.proofs.Common.{◌≡◌, length, replicate}
+use Rattle.table.specs.Reading.{table_in}
+use Rattle.table.specs.Walk.{free}
+use Rattle.checker.specs.Marks.{Raised}
+use Rattle.checker.proofs.finite.lowest.Given as goal
+
+abbrev pub invariant-loop : goal.invariant-loop
+invariant-loop l = (length l.flags ≡ 128) × Raised (table_in l.table) (replicate 128 0) l.flags
+
+abbrev pub decreases-loop : goal.decreases-loop
+decreases-loop l = free l.flags

@@ -1,0 +1,14 @@
+-- The chain asks each record in turn.
+use Rattle.std.proofs.Common.{rules}
+use Rattle.table.specs.Decide.{dangling}
+use Rattle.table.specs.Reading.{table_in}
+use Rattle.checker.proofs.Rules.{entry_at}
+use Rattle.checker.proofs.Searches.{lowest_over}
+use Rattle.checker.proofs.references.lowest.Goals as goal
+
+pub returns : goal.returns
+unfolding dangling
+returns c =
+    let a = c.args in
+    lowest_over (dangling (table_in a.table.now) a.n) a.n _ c.find.ensures.ran
+    (λ x b q k. (search rules, λ h. search (rules, entry_at c.requires x h)))

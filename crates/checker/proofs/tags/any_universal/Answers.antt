@@ -1,0 +1,13 @@
+-- The chain tests the class of each tag.
+use Rattle.std.proofs.Common.{rules, tests, ◌∙◌, ◌+◌, ◌*◌, eqb, get_or, refl, arith}
+use Rattle.std.proofs.lemmas.Iterator.{YieldsList-from_range}
+use Rattle.std.proofs.lemmas.Iterator.Search.{any_from_yields_List}
+use Rattle.checker.proofs.Searches.{any_places}
+use Rattle.checker.proofs.tags.any_universal.Goals as goal
+
+pub returns : goal.returns
+returns c =
+    let a = c.args in
+    any_from_yields_List (λ k. eqb (get_or a.table.now (a.p + 3 * k) 0) 0) _ _ c.any.result c.any.ensures.ran
+    (YieldsList-from_range 0 a.n a.n refl (omega arith)) (λ x b q k. search (rules, tests))
+    ∙ any_places (λ x. eqb x 0) 3 a.table.now a.p a.n
