@@ -1,6 +1,6 @@
 -- `reader::search::seek_part` meets its contract.
 -- Assumes nothing.
-use Rattle.std.proofs.Common.{◌≡◌, inl, inr, arith}
+use Rattle.std.proofs.Common.{◌≡◌, ap, inl, inr, Err, arith}
 use Rattle.reader.specs.Items.{manner, since}
 use Rattle.reader.specs.Sought.{held}
 use Rattle.reader.proofs.Searching.{parted, near, since_is, since_again, place_found}
@@ -26,8 +26,9 @@ returns-in-Err c =
       | then-e-eq-SEQUENCE x ↦ inl (x.if-e-eq-SEQUENCE.true, x.i-is)
       | else-e-eq-SEQUENCE x ↦ inr (x.if-e-eq-SEQUENCE.false, x.i-is)
     ]) in
-    let e = c.unawaited.ensures in
-    (c.requires.1, rw e (rw (← i) (sought_unread D _ (λ k. omega (arith, c.type_inv.m k)) _ c.read.ensures _ c.args.way.now _ c.in-Err.is _ e)))
+    (c.requires.1,
+    rw (← i)
+    (sought_unread D _ (λ k. omega (arith, c.type_inv.m k)) _ c.read.ensures _ c.args.way.now _ c.in-Err.is (Err c.unawaited.result) (ap Err c.unawaited.ensures)))
 
 pub indirect-requires : goal.indirect-requires
 indirect-requires c =
