@@ -37,6 +37,7 @@ use Rattle.reader.specs.Items.{up_to_mandatory, within, left, some_of, remains, 
 use Rattle.reader.specs.Items.{node_size, blank, read_held}
 use Rattle.reader.specs.Placing.{kind_of, onward, node_of}
 use Rattle.reader.specs.Codes.{either}
+use Rattle.reader.specs.Judging.{ToJudge}
 use Rattle.reader.specs.Records.{Ready, Known, IsRecord, record_in, read_record}
 use Rattle.reader.specs.Sought.{held, Sound, unfit, Sought}
 use Rattle.reader.specs.Standing.{at_ending, standing}
@@ -50,7 +51,7 @@ use Rattle.reader.proofs.ItemsGoing.{going_full, going_unawaited, going_refused,
 use Rattle.reader.proofs.ItemsKinds.{blank_clear}
 use Rattle.reader.proofs.ItemsSizes.{is_plain}
 use Rattle.reader.proofs.ItemsWay.{wrapped_size}
-use Rattle.reader.proofs.ItemsFound.{AtItem, item_found, item_fits, rest_of, item_level, item_value, item_headed}
+use Rattle.reader.proofs.ItemsFound.{AtItem, item_found, rest_of, item_level, item_value, item_headed}
 use Rattle.reader.proofs.Held.{held_some, held_kind, held_one, held_span, held_few, held_node, held_onward, onward_most}
 use Rattle.reader.proofs.PlacedTurns.{since_onward}
 use Rattle.reader.proofs.Searching.{Parted, type_low}
@@ -288,6 +289,33 @@ pub record Turn (Q : Setting) : Type 0 where
   pub y : Result (Option ℕ) ReadingCause
   pub stands : y ≡ standing (H Q) (since (manner (H Q)) j) came (end_of indefinite (length m) (drop at m))
 
+pub setting_of : {b index m way : List ℕ} {w level : ℕ} {e : Entry} {s : Span} → ToJudge b index w m level way → e ≡ unpacked w → s ≡ span_of b e.kind e.own
+    → Setting
+setting_of {b} {index} {w = w} {e = e} {s = s} q ee es =
+    record { b = b; index = index; w = w; e = e; s = s; ready = q.ready; known = q.known; holds = q.holds; entry = ee; span = es }
+
+pub turn_of : {b index m way : List ℕ} {w level : ℕ} {e : Entry} {s : Span} (q : ToJudge b index w m level way) (ee : e ≡ unpacked w) (es : s ≡ span_of b e.kind e.own)
+    → {indefinite : Bool} {came : List ℕ} {total at j : ℕ} {y : Result (Option ℕ) ReadingCause} → Octets m → at ≤ length m
+    → Judging b w m indefinite level came total at j → y ≡ standing (held b w) (since (manner (held b w)) j) came (end_of indefinite (length m) (drop at m))
+    → Turn (setting_of q ee es)
+turn_of {m = m} {level = level} q ee es {indefinite} {came} {total} {at} {j} {y} o l s d =
+    record {
+      m = m;
+      indefinite = indefinite;
+      level = level;
+      came = came;
+      total = total;
+      at = at;
+      j = j;
+      octets = o;
+      short = q.short;
+      levels = q.levels;
+      low = l;
+      so_far = s;
+      y = y;
+      stands = d;
+    }
+
 module _ {Q : Setting} (P : Turn Q) where
   -- from which part on others are left; what is left of m; how values are read; all that is judged; and whether contents end here
   abbrev I : ℕ
@@ -397,13 +425,6 @@ module _ {Q : Setting} (P : Turn Q) where
         item_found r x P.low q ex in
         omega (arith, F.low, P.short)
 
-    -- of the part at hand
-    pub item_here : P.j < Q.s.count → get_or P.came P.j 0 ≡ 0 → (t f : ℕ) → t ≡ get_or Q.b (Q.s.first + Q.s.step * P.j) 0
-        → f ≡ (unpacked (get_or Q.index t 0)).code → f ≡ get_or P.m P.at 0 → (way : List ℕ)
-        → AtItem Q.b (H Q) P.m P.at I P.came way P.j t 0 (P.at + 1)
-    item_here l z t f et ef q way =
-        item_fits its_parted P.m P.octets P.at item_there P.j l z t f et ef q way
-
 -- an item of a part
 pub record Comes {Q : Setting} (P : Turn Q) : Type 0 where
   pub item : P.y ≡ Ok None
@@ -414,6 +435,21 @@ pub record Comes {Q : Setting} (P : Turn Q) : Type 0 where
   pub from : ℕ
   pub is : AtItem Q.b (H Q) P.m P.at (I P) P.came way place type depth from
   pub ways : length way ≡ 128
+
+-- as the search found it
+pub comes_of : {Q : Setting} (P : Turn Q) → P.y ≡ Ok None → {r : Result Chosen ReadingCause} {x : Chosen} {way : List ℕ}
+    → (length way ≡ 128) × Sought Q.b (H Q) (I P) P.came (rest_of P.m P.at) way r → r ≡ Ok x → Comes P
+comes_of P d {r} {x} {way} s e =
+    record {
+      item = d;
+      way = way;
+      place = x.place;
+      type = x.«record»;
+      depth = x.depth;
+      from = P.at + x.from;
+      is = item_found r x P.low s.1 e;
+      ways = s.0;
+    }
 
 module _ {Q : Setting} {P : Turn Q} (X : Comes P) where
   abbrev TypeOf : ℕ

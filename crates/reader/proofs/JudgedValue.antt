@@ -8,7 +8,7 @@ use mathlib.Core.Logic.{◌⊎◌, inl, inr}
 use mathlib.Core.Path.{◌≡◌, refl, sym, ap, subst, ◌∙◌}
 use native.Mathlib.Omega.{arith}
 use Prim.Native.Nat.{ℕ, ◌+◌, ◌-◌, ◌≤◌, ◌<◌}
-use Rattle.std.specs.Prelude.{Result, Ok, Err}
+use Rattle.std.specs.Prelude.{Option, Some, None, Result, Ok, Err}
 use Rattle.x690.specs.declared.ReadingCause.{ReadingCause}
 use Rattle.x690.specs.declared.Unread.{Unread}
 use Rattle.x690.specs.declared.ReadingCause.TheVariants.{Cut, Trailing}
@@ -17,6 +17,7 @@ use Rattle.octets.proofs.Answer.{refused≢got}
 use Rattle.octets.proofs.Tests.{test}
 use Rattle.x690.specs.Reading.{closed, read_length}
 use Rattle.x690.specs.Segments.{in_either}
+use Rattle.octets.specs.Numbers.{unless_zero}
 use Rattle.ber.specs.Told.{told_length}
 use Rattle.ber.proofs.Told.{length_refused}
 use Rattle.table.specs.Syntax.{Simple, Boolean, Integer, BitString, OctetString, Null, Enumerated, Time, Body, Plain}
@@ -33,7 +34,6 @@ use Rattle.reader.specs.Items.{Holder, message}
 use Rattle.reader.specs.Items.{read_held}
 use Rattle.reader.specs.Records.{Ready, IsRecord, Known, of_message, holder_in, read_record}
 use Rattle.reader.specs.Sought.{held}
-use Rattle.reader.specs.Codes.{own_either}
 use Rattle.reader.specs.Leaves.{is_in_segments, read_leaf, read_leaf_in, leaf_size}
 use Rattle.reader.specs.Weights.{size_by}
 use Rattle.reader.specs.Wraps.{closing, Around, read_bare, Opens}
@@ -43,7 +43,7 @@ use Rattle.reader.proofs.Bodies.{record_of, its_body, its_kind}
 use Rattle.reader.proofs.LeafReading.{leaf_end, leaf_shift}
 use Rattle.reader.proofs.LeafCode.{whole_done}
 use Rattle.reader.proofs.Tagging.{its_entry}
-use Rattle.reader.proofs.Weighing.{by_whole}
+use Rattle.reader.proofs.Weighing.{by_whole, by_parts}
 use Rattle.reader.proofs.Opening.{its_count, its_few}
 use Rattle.reader.proofs.Tails.{Sane, leaves, stops, tail_less, Closes, held_sane, not_none}
 use Rattle.reader.proofs.Told.{told_refused, told_done, tell_refused}
@@ -62,9 +62,35 @@ pub record Over (b : List ℕ) (r : Record) (n : ℕ) (p : List ℕ) (at end sto
   pub is : read_bare b n r (drop at p) ≡ got value (drop stop p)
   pub sized : count ≡ cap (length (octets value))
 
-either_kind : (k : Simple) → in_either (segmented k) ≡ true → {y : Body} → y ≡ Plain k → own_either y ≡ true
-unfolding own_either
-either_kind k e q = rw q e
+-- contents that have a size by themselves
+sized_by : {n i : ℕ} {x : Option ℕ} → x ≡ unless_zero n → x ≡ Some i → (i ≡ n) × (n ≡ 0 → ⊥)
+unfolding if
+sized_by {n} {i} e f =
+    test (eqb n 0)
+    (λ t. let q : ◌≡◌ {A = Option ℕ} (Some i) None = sym f ∙ e ∙ rw t refl in let z : ◌≡◌ {A = ℕ} 0 1 = cc in absurd (omega arith))
+    λ t. let q : ◌≡◌ {A = Option ℕ} (Some i) (Some n) = sym f ∙ e ∙ rw t refl in (cc, eqb-false n 0 t)
+
+pub unsized_by : {n : ℕ} {x : Option ℕ} → x ≡ unless_zero n → x ≡ None → n ≡ 0
+unfolding if
+unsized_by {n} e f =
+    test (eqb n 0) (λ t. eqb-true n 0 t)
+    λ t. let q : ◌≡◌ {A = Option ℕ} None (Some n) = sym f ∙ e ∙ rw t refl in let z : ◌≡◌ {A = ℕ} 0 1 = cc in absurd (omega arith)
+
+module _ {b : List ℕ} {e : Entry} {r : Record} (X : Entered b e r) (lead : ℕ) (c : List ℕ) (f : is_in_segments lead ≡ true → (e.kind ≡ 3) ⊎ (e.kind ≡ 4)) where
+  by_itself : {n : ℕ} → n ≡ size_by (body_at b e.kind e.own) lead c → (n ≡ 0 → ⊥) → is_in_segments lead ≡ false
+  by_itself {n} en some = test (is_in_segments lead) (λ t. absurd (some (en ∙ sym (none (f t) t)))) (λ t. t)
+    where
+      none : (e.kind ≡ 3) ⊎ (e.kind ≡ 4) → is_in_segments lead ≡ true → 0 ≡ size_by (body_at b e.kind e.own) lead c
+      none (inl q) t = by_parts X lead c q refl t
+      none (inr q) t = by_parts X lead c q refl t
+
+  pub sized_done : e.simple ≡ true → {z : Bool} → z ≡ false → (l j i : ℕ) {x : Option ℕ} → x ≡ unless_zero (size_by (body_at b e.kind e.own) lead c)
+      → size_by (body_at b e.kind e.own) lead c < 16386 → x ≡ Some i
+      → judged (length c) i ≡ told c leaf_size (read_leaf_in (body_at b e.kind e.own) (is_in_segments lead) z l j c)
+  sized_done s {z} o l j i q h g =
+      let (en, some) = sized_by q g in
+      let w = by_itself en (λ v. some (sym en ∙ v)) in
+      rw w (whole_done X s z l j c o (en ∙ sym (by_whole X lead c w refl)) (λ v. some (sym en ∙ v)) (omega arith))
 
 -- a string by the number of its kind
 string_kind : (k : Simple) → in_either (segmented k) ≡ true → {n : ℕ} → n ≡ kind (Plain k) → (n ≡ 3) ⊎ (n ≡ 4)
@@ -185,28 +211,6 @@ module _ {b index : List ℕ} {w : ℕ} {m : List ℕ} {first level : ℕ} (Y : 
 
         pub leaf_high : Y.start + u ≤ 8192
         leaf_high = omega (arith, over_leaf.within, Y.item.under.high, Y.item.short)
-
-    -- contents that have a size by themselves
-    module _ (sized : Y.indefinite ≡ false) (i : ℕ) (ei : i ≡ size_by (body_at b Y.item.entry.kind Y.item.entry.own) Lead (C Y)) (some : i ≡ 0 → ⊥) where
-      whole : is_in_segments Lead ≡ false
-      unfolding size_by if
-      whole =
-          test (is_in_segments Lead)
-          (λ t.
-          let (k, q) = is_plain Y simple in
-          let z : own_either (body_at b Y.item.entry.kind Y.item.entry.own) ≡ true = either_kind k (leaf_string Y simple k q (sym (leaf_lead Y simple k q) ∙ t))
-          (ap (λ (x : Entry). body_at b x.kind x.own) Y.item.entered ∙ its_body Y.item.ready Y.item.known ∙ q) in
-          absurd (some (ei ∙ rw (z, t) refl)))
-          λ t. t
-
-      pub over_sized : i < 16386 → Over b (record_of b w) level (P Y) Y.item.at Y.item.end Y.stop i
-      over_sized small =
-          let e = whole_done its_entered simple Y.indefinite (length m - Y.item.at) (length m - Y.stop) (C Y) sized
-          (ei ∙ sym (by_whole its_entered Lead (C Y) whole refl)) some small in
-          let o = over_leaf (judged (length (C Y)) i) (e ∙ ap (λ (p : Bool). told (C Y) leaf_size (read_leaf_in (body_at b Y.item.entry.kind Y.item.entry.own) p
-          Y.indefinite (length m - Y.item.at) (length m - Y.stop) (C Y))) (sym whole)) (length (C Y)) i refl in
-          let s : Y.start + length (C Y) ≡ Y.stop = omega (arith, size_c Y, Y.within.ordered) in
-          subst (λ (j : ℕ). Over b (record_of b w) level (P Y) Y.item.at Y.item.end j i) s o
 
   -- items
   module _ (plain : Y.item.entry.simple ≡ false) where

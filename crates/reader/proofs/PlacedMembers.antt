@@ -39,7 +39,7 @@ use Rattle.reader.specs.Placing.{kind_of, has_members, holds_one, onward, node_o
 use Rattle.reader.specs.Placing.{flags, way_octets, end_at, Spotted}
 use Rattle.reader.specs.Placed.{Fits, Final, IsPlaced, held_in, value_in, ToPlaceValue, Following}
 use Rattle.reader.specs.Wraps.{Headed}
-use Rattle.reader.proofs.ItemsFound.{AtItem, item_sought, item_fits, item_tagged, item_level, item_value, item_headed}
+use Rattle.reader.proofs.ItemsFound.{AtItem, item_sought, item_tagged, item_level, item_value, item_headed}
 use Rattle.reader.proofs.PlacedWays.{way_length, inner_under}
 use Rattle.reader.proofs.Searching.{Parted, type_low}
 use Rattle.reader.proofs.Tagging.{record_is}
@@ -412,19 +412,6 @@ module _ {b index : List ℕ} {w : ℕ} {m : List ℕ} {indefinite : Bool} {firs
               tagged = item_tagged X.given.ready X.given.octets I;
               headed = item_headed X.given.ready X.given.octets I;
             })
-
-    -- the part at hand, as it stands in the table, if the item begins it with one octet
-    module _ (l : j < s.count) (t : ℕ) (et : t ≡ get_or b (s.first + s.step * j) 0) where
-      pub part_low : t < count_in b
-      part_low = type_low parted j l t et
-
-      pub chosen_here : (f : ℕ) → f ≡ (unpacked (get_or index t 0)).code → f ≡ get_or m at 0 → Chosen j buf at next j t (at + 1)
-      unfolding way_octets
-      chosen_here f ef q =
-          let z : j - j ≡ 0 = omega arith in
-          item_chosen
-          (item_fits parted m X.given.octets at coming_low j l (blank_clear j) t f et ef q [])
-          (omega arith) refl (omega arith) (λ _. rw z refl) (λ _. refl)
 
     -- the part that the search found
     abbrev pub FindsPart : ChoiceFound → List ℕ → Type 0

@@ -268,6 +268,18 @@ module _ {b index : List ℕ} {w : ℕ} {came : List ℕ} {e : Entry} {s : Span}
   unfolding if
   direct_no_place i code e = rw (e, ← spanned.count, le-ltb s.count s.count (omega arith)) refl
 
+  pub place_found : {x : Option ℕ} (i code place : ℕ) → x ≡ if_below (tabled_count H) (direct b H i came code) → x ≡ Some place
+      → (place ≡ direct b H i came code) × (place < s.count)
+  unfolding if
+  place_found i code place e f =
+      let d = direct b H i came code in
+      test (ltb d (tabled_count H))
+      (λ t.
+      let q : ◌≡◌ {A = Option ℕ} (Some place) (Some d) = sym f ∙ e ∙ rw t refl in
+      let p : place ≡ d = cc in
+      (p, omega (arith, ltb-true d (tabled_count H) t, spanned.count)))
+      λ t. let q : ◌≡◌ {A = Option ℕ} (Some place) None = sym f ∙ e ∙ rw t refl in let z : ◌≡◌ {A = ℕ} 0 1 = cc in absurd (omega arith)
+
   -- all parts, a message's one with them
   whole_is : eqb e.kind 51 ≡ true → H ≡ message e.own
   unfolding holder_in if
@@ -301,6 +313,10 @@ module _ {b index : List ℕ} {w : ℕ} {came : List ℕ} {e : Entry} {s : Span}
 
   abbrev pub Typed : ℕ → ℕ → Type 0
   Typed k t = ((eqb e.kind 51 ≡ true) × (t ≡ e.own)) ⊎ ((eqb e.kind 51 ≡ false) × (t ≡ get_or b (s.first + s.step * k) 0))
+
+  pub typed_part : {n k t p : ℕ} → Counted n → k < n → eqb e.kind 51 ≡ false → t ≡ p
+      → (s.first + s.step * k < 18446744073709551616 → p ≡ get_or b (s.first + s.step * k) 0) → Typed k t
+  typed_part {n} {k} c l q et ep = inr (q, et ∙ ep (omega (arith, near k (table_part n k c l q))))
 
   pub record Candidate (k t : ℕ) : Type 0 where
     pub part : Member
