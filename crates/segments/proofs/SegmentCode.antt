@@ -82,7 +82,7 @@ module _ (k : Kind) (m : List ℕ) (r : Result Identifier ReadingCause) (a : r �
   tag_none f d = rw (identifier_refused m r a f d) refl
 
   module _ (o : Octets m) (z : Identifier) (d : r ≡ Ok z) (t : ℕ) (h : t ≡ universal k) where
-    pub tag_told : told_identifier (length m) (read_tag k m) ≡ if (not (eqb z.code t || eqb z.code (t + 32))) (Err NotAwaited) λ _. Ok z
+    tag_told : told_identifier (length m) (read_tag k m) ≡ if (not (eqb z.code t || eqb z.code (t + 32))) (Err NotAwaited) λ _. Ok z
     unfolding read_tag told_identifier segment_tag then if
     tag_told =
         let (i, x, y, low, high) = identifier_read m r a z d in
@@ -92,6 +92,21 @@ module _ (k : Kind) (m : List ℕ) (r : Result Identifier ReadingCause) (a : r �
         let v : universal k + 32 * bit true ≡ t + 32 = omega arith in
         rw (x, p, q, tag_code k false, tag_code k true, u, v, y)
         (test (eqb z.code t || eqb z.code (t + 32)) (λ g. rw g (rw (left_at m z.end high, y) refl)) λ g. rw g refl)
+
+    pub tag_primitive : z.code ≡ t → Ok z ≡ told_identifier (length m) (read_tag k m)
+    unfolding if
+    tag_primitive e = sym (tag_told ∙ rw (eq-eqb z.code t e) refl)
+
+    pub tag_constructed : z.code ≡ t + 32 → Ok z ≡ told_identifier (length m) (read_tag k m)
+    unfolding if
+    tag_constructed e = sym (tag_told ∙ test (eqb z.code t) (λ g. rw g refl) λ g. rw (g, eq-eqb z.code (t + 32) e) refl)
+
+    pub tag_other : (z.code ≡ t → ⊥) → (z.code ≡ t + 32 → ⊥) → Err NotAwaited ≡ told_identifier (length m) (read_tag k m)
+    unfolding if
+    tag_other e f = sym (tag_told ∙ rw (ne_eqb z.code t e, ne_eqb z.code (t + 32) f) refl)
+
+-- for the code that reads an identifier
+pub ruleset tags = (tag_none, tag_primitive, tag_constructed, tag_other)
 
 -- what its answer says
 tag_faulty : (k : Kind) (s : List ℕ) → Faulty (length s) (read_tag k s)

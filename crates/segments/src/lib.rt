@@ -44,6 +44,7 @@ fn tag(bits: bool) -> u32
 }
 
 // The identifier that m begins with, if it is a segment's.
+#[tactic(auto, using(crate::proofs::SegmentCode::tags))]
 fn read_tag(m: &[u8], bits: bool) -> Result<Identifier, ReadingCause>
     ensures { result ≡ told_identifier (length m.now) (read_tag (kind_of bits) m.now) }
 {
