@@ -16,7 +16,7 @@ use mir.Syntax.{w64}
 use mir.Val.{SFits, to_z, of_z}
 use mir.Facts.{Fits-of_z}
 use mir.ValLaws.{to_z_pos, to_z-neg, to_z-of_z}
-use Rattle.core.specs.Int.{to_be_bytes, from_be_bytes}
+use Rattle.std.specs.Int.{to_be_bytes, from_be_bytes}
 use Rattle.octets.specs.Buffers.{filled}
 use Rattle.octets.specs.Tests.{if}
 use Rattle.octets.specs.Numbers.{Octets}
