@@ -44,7 +44,7 @@ gather_under-loop-at-init t c =
     let q : s.first + s.count - s.first ≡ s.count = omega arith in (
       c.requires.0.marks,
       omega arith,
-      rw q (going_from _ (alternatives_below c.requires.0 c.unpack.ensures c.alternatives-s.ensures (λ i. omega (arith, c.type_inv.table i)) c.requires.1)),
+      rw q (going_from _ (alternatives_below c.requires.0 c.unpack.ensures c.alternatives-s.ensures c.args.w.now.octets c.requires.1)),
     )
 
 pub gather_under-gather-requires : goal.gather_under-gather-requires
@@ -71,3 +71,6 @@ gather_under-loop-at-preserved t c =
 
 pub gather_under-returns : goal.gather_under-returns
 gather_under-returns t c = under_done _ _ _ _ _ _ _ c.loop-at.invariant.2 (omega arith) c.loop-at.invariant.1
+
+pub gather_under-overflow_add-at-end : goal.gather_under-overflow_add-at-end
+gather_under-overflow_add-at-end t c = rw c.alternatives-s.ensures (omega (arith, c.args.w.now.octets c.unpack.result.own))

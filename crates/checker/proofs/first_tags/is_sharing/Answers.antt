@@ -14,7 +14,7 @@ returns-then-e c =
 pub clash_in_a_run-requires : goal.clash_in_a_run-requires
 clash_in_a_run-requires c =
     let (x, r, m, h) = c.requires in (
-      compares x h c.unpack-e.ensures c.parts-s.ensures (λ i. omega (arith, c.type_inv.table i)) r m,
+      compares x h c.unpack-e.ensures c.parts-s.ensures c.args.w.now.octets r m,
       members_two_apart x h c.unpack-e.ensures c.parts-s.ensures c.if-e-eq-SEQUENCE.true,
     )
 
@@ -26,7 +26,7 @@ returns-then-e-eq-SEQUENCE c =
 pub clash-requires : goal.clash-requires
 clash-requires c =
     let (x, r, m, h) = c.requires in
-    compares x h c.unpack-e.ensures c.parts-s.ensures (λ i. omega (arith, c.type_inv.table i)) r m
+    compares x h c.unpack-e.ensures c.parts-s.ensures c.args.w.now.octets r m
 
 pub returns : goal.returns
 returns c =
