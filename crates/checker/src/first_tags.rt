@@ -7,7 +7,7 @@ ghost use Rattle.table.specs.Reading.{every_at, table_in, count_in};
 ghost use Rattle.table.specs.Decide.{circular, sharing};
 ghost use Rattle.table.specs.Walk.{like, Named, Straight};
 ghost use Rattle.records.specs.Entries.{unpacked, untagged, Filled};
-ghost use Rattle.checker.specs.Gathering.{like_in, tag_of, StandIns, Gathers, Gathered, GatheredUnder, Compares, optional_in};
+ghost use Rattle.checker.specs.Gathering.{like_in, tag_of, StandIns, Gathered, GatheredUnder, Compares, optional_in};
 
 use kinds::SEQUENCE;
 use octets::octet;
@@ -53,6 +53,9 @@ pub(crate) struct Known<'a> {
     pub index: &'a [u64; 128],
     pub nodes: &'a [u8; 128],
     ghost octets: { Octets table.now },
+    ghost filled: { Filled table.now index.now (count_in table.now) },
+    ghost ready: { StandIns (table_in table.now) (count_in table.now) nodes.now },
+    ghost named: { Named (table_in table.now) (count_in table.now) },
 }
 
 // Where the mark stands that a walk puts: behind the flags of the 128 records. As a parameter it would widen each frame of `gather` and
@@ -62,7 +65,7 @@ const MARK: usize = 128;
 // Marks what stands for record t, and for the records under it through CHOICEs without tags. True if another mark was met.
 #[cycle(gather_gather_under)]
 fn gather(w: &Known, flags: &mut [u8; 129], t: usize) -> bool
-    requires { Gathers w.now.table.now w.now.index.now w.now.nodes.now flags.old t }
+    requires { t < count_in w.now.table.now }
     ensures { Gathered (table_in w.now.table.now) (get_or flags.old 128 0) flags.old t result flags.new }
 {
     let q = w.nodes[t] as usize;
@@ -84,7 +87,7 @@ fn gather(w: &Known, flags: &mut [u8; 129], t: usize) -> bool
 // The same for the alternatives of the CHOICE without tags t.
 #[cycle(gather_gather_under)]
 fn gather_under(w: &Known, flags: &mut [u8; 129], t: usize) -> bool
-    requires { Gathers w.now.table.now w.now.index.now w.now.nodes.now flags.old t × ((unpacked (get_or w.now.index.now t 0)).code ≡ untagged) }
+    requires { (t < count_in w.now.table.now) × ((unpacked (get_or w.now.index.now t 0)).code ≡ untagged) }
     ensures { GatheredUnder (table_in w.now.table.now) (get_or flags.old 128 0) flags.old t result flags.new }
 {
     let s = alternatives(w.table, unpack(w.index[t]));
@@ -98,8 +101,7 @@ fn gather_under(w: &Known, flags: &mut [u8; 129], t: usize) -> bool
 
 // Whether record t is a CHOICE without tags that reaches itself through such CHOICEs alone.
 fn is_circular(w: &Known, t: usize) -> bool
-    requires { let b = w.now.table.now in
-        Filled b w.now.index.now (count_in b) × StandIns (table_in b) (count_in b) w.now.nodes.now × Named (table_in b) (count_in b) × (t < count_in b) }
+    requires { t < count_in w.now.table.now }
     ensures { result ≡ circular (table_in w.now.table.now) (count_in w.now.table.now) t }
 {
     if first(w.index[t]) != UNTAGGED {
@@ -113,7 +115,7 @@ fn is_circular(w: &Known, t: usize) -> bool
 
 // The lowest of n records that is one.
 pub(crate) fn lowest_circular(w: &Known, n: usize) -> Option<usize>
-    requires { Filled w.now.table.now w.now.index.now n × StandIns (table_in w.now.table.now) n w.now.nodes.now × Named (table_in w.now.table.now) n }
+    requires { n ≡ count_in w.now.table.now }
     ensures { result ≡ if_below n (lowest (circular (table_in w.now.table.now) n) n) }
 {
     (0..n).find(|&t| is_circular(w, t))
@@ -121,7 +123,7 @@ pub(crate) fn lowest_circular(w: &Known, n: usize) -> Option<usize>
 
 // Whether two of the parts have a first tag in common.
 fn clash(w: &Known, s: Span) -> bool
-    requires { Compares w.now.table.now w.now.index.now w.now.nodes.now s }
+    requires { Compares w.now.table.now s }
     ensures { let b = w.now.table.now in
         let C = Clash (table_in b) (every_at s.step b s.first s.count) (λ k. true) in
         (result ≡ true → C) × (result ≡ false → C → ⊥) }
@@ -153,7 +155,7 @@ fn run_length(table: &[u8], at: usize, left: usize) -> usize
 
 // Whether two members of one run have a first tag in common.
 fn clash_in_a_run(w: &Known, s: Span) -> bool
-    requires { Compares w.now.table.now w.now.index.now w.now.nodes.now s × (s.step ≡ 2) }
+    requires { Compares w.now.table.now s × (s.step ≡ 2) }
     ensures { let b = w.now.table.now in
         let C = Clash (table_in b) (every_at 2 b s.first s.count) (optional_in b s.first) in
         (result ≡ true → C) × (result ≡ false → C → ⊥) }
@@ -178,8 +180,7 @@ fn clash_in_a_run(w: &Known, s: Span) -> bool
 
 // Whether a record is refused: a SEQUENCE if two members of one run share a first tag, a SET or a CHOICE if any two parts do; a simple one never.
 fn is_sharing(w: &Known, t: usize) -> bool
-    requires { let b = w.now.table.now in
-        Filled b w.now.index.now (count_in b) × StandIns (table_in b) (count_in b) w.now.nodes.now × Straight (table_in b) (count_in b) × (t < count_in b) }
+    requires { let b = w.now.table.now in Straight (table_in b) (count_in b) × (t < count_in b) }
     ensures { result ≡ sharing (table_in w.now.table.now) (count_in w.now.table.now) t }
 {
     let e = unpack(w.index[t]);
@@ -195,7 +196,7 @@ fn is_sharing(w: &Known, t: usize) -> bool
 
 // The lowest of n records with such parts.
 pub(crate) fn lowest_sharing(w: &Known, n: usize) -> Option<usize>
-    requires { Filled w.now.table.now w.now.index.now n × StandIns (table_in w.now.table.now) n w.now.nodes.now × Straight (table_in w.now.table.now) n }
+    requires { (n ≡ count_in w.now.table.now) × Straight (table_in w.now.table.now) n }
     ensures { result ≡ if_below n (lowest (sharing (table_in w.now.table.now) n) n) }
 {
     (0..n).find(|&t| is_sharing(w, t))
