@@ -5,7 +5,6 @@ ghost use Rattle.ber.specs.Codes.{code, code_octets};
 ghost use Rattle.x690.specs.Reading.{read_identifier};
 ghost use Rattle.ber.specs.Told.{told_identifier};
 
-use octets::holds;
 use x690::ReadingCause;
 
 // Identifier octets that were read: their code, and where they end.
@@ -16,6 +15,7 @@ pub struct Identifier {
 }
 
 // The code of a tag, primitive or constructed.
+#[tactic(auto, using(crate::proofs::Codes::codes))]
 pub fn code_of(class: u8, constructed: bool, number: u16) -> u32
     ensures { (result ≡ code class constructed number) × (result < 16793600) }
 {
@@ -40,6 +40,7 @@ fn follow(n: u32, d: u32) -> u32
 }
 
 // The long form, after its leading octet.
+#[tactic(auto, using(crate::proofs::Told::long_identifiers))]
 fn read_long(m: &[u8], lead: u32) -> Result<Identifier, ReadingCause>
     requires { (0 < length m.now) × (lead ≡ get_or m.now 0 0) × (31 ≤ lead % 32) }
     ensures { result ≡ told_identifier (length m.now) (read_identifier m.now) }
@@ -66,6 +67,7 @@ fn read_long(m: &[u8], lead: u32) -> Result<Identifier, ReadingCause>
 }
 
 // The identifier that m begins with.
+#[tactic(auto, using(crate::proofs::Told::identifiers))]
 pub fn read(m: &[u8]) -> Result<Identifier, ReadingCause>
     ensures { result ≡ told_identifier (length m.now) (read_identifier m.now) }
 {
@@ -80,6 +82,7 @@ pub fn read(m: &[u8]) -> Result<Identifier, ReadingCause>
 }
 
 // How many octets the identifier of a code has.
+#[tactic(auto, using(crate::proofs::Codes::octets))]
 pub fn size(code: u32) -> usize
     ensures { (result ≡ length (code_octets code)) × (result < 5) }
 {
@@ -96,33 +99,24 @@ pub fn size(code: u32) -> usize
 }
 
 // Puts the identifier of a code; where it ends, or the place itself if there is no room.
+#[tactic(auto, using(crate::proofs::Codes::octets))]
 pub fn put(code: u32, buf: &mut [u8], to: usize) -> usize
     ensures { let w = code_octets code in
         (result ≡ put_end buf.old to w)
         × (buf.new ≡ put buf.old to w) }
 {
-    if !holds(buf, to, size(code)) {
-        return to;
-    }
-    buf[to] = (code % 256) as u8;
+    let lead = (code % 256) as u8;
     if code < 256 {
-        return to + 1;
+        return crate::put(&[lead], buf, to);
     }
-    let a = to + 1;
     if code < 32768 {
-        buf[a] = (code / 256) as u8;
-        return to + 2;
+        return crate::put(&[lead, (code / 256) as u8], buf, to);
     }
-    let b = to + 2;
-    let low = code / 256 % 128;
+    let low = (code / 256 % 128) as u8;
     if code < 4194304 {
-        buf[a] = (128 + code / 32768) as u8;
-        buf[b] = low as u8;
-        return to + 3;
+        return crate::put(&[lead, (128 + code / 32768) as u8, low], buf, to);
     }
-    let c = to + 3;
-    buf[a] = (128 + code / 4194304 % 128) as u8;
-    buf[b] = (128 + code / 32768 % 128) as u8;
-    buf[c] = low as u8;
-    to + 4
+    let high = (128 + code / 4194304 % 128) as u8;
+    let middle = (128 + code / 32768 % 128) as u8;
+    crate::put(&[lead, high, middle, low], buf, to)
 }

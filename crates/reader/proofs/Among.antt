@@ -9,6 +9,7 @@ use mathlib.Core.Path.{◌≡◌, refl, sym, ap, ◌∙◌}
 use native.Mathlib.Numerals.{add-one}
 use native.Mathlib.Omega.{arith}
 use Prim.Native.Nat.{ℕ, zero, suc, ◌+◌, ◌-◌, ◌*◌, ◌/◌, ◌%◌, ◌≤◌, ◌<◌}
+use Rattle.std.specs.Prelude.{None}
 use Rattle.octets.proofs.Members.{place_in}
 use Rattle.octets.proofs.Tests.{test}
 use Rattle.table.specs.Syntax.{Record, Table, references}
@@ -16,12 +17,12 @@ use Rattle.table.specs.Passes.{Nested}
 use Rattle.table.specs.Rules.{siblings}
 use Rattle.table.specs.Reading.{every_at, table_in, count_in}
 use Rattle.records.specs.Entries.{unpacked, counted}
+use Rattle.records.specs.declared.entry.Entry.{Entry}
 use Rattle.records.specs.declared.entry.Span.{Span}
 use Rattle.records.proofs.Promises.{entered_choice}
-use Rattle.reader.specs.Codes.{first_of, untagged, starts_with}
+use Rattle.reader.specs.Codes.{first_of, untagged, starts_with, under}
 use Rattle.reader.specs.Ways.{here}
 use Rattle.reader.specs.Records.{Ready, Begins, Finds}
-use Rattle.reader.specs.declared.search.Under.TheVariants.{Nothing, At}
 use Rattle.reader.proofs.Begun.{Fit, bare, first_most, fit, nested, nested_all}
 use Rattle.reader.proofs.ItemsWay.{Looking, look_first, look_found, look_down, look_next, look_none, look_back, look_above, look_deep}
 use Rattle.reader.proofs.ItemsWay.{turns_left, fewer_down, fewer_next, fewer_back, search_here, search_other}
@@ -99,13 +100,13 @@ module _ {b ix : List ℕ} (R : Ready b ix) where
       record { looking = look_first T F (nested_all b T (count_in b) R.passes) code (λ z. omega arith) way t e; low = h; deep = omega arith }
 
   -- a record itself
-  pub seek_here : (code : ℕ) (way : List ℕ) (t : ℕ) (g : Bool) → code < untagged → t < count_in b → Begins (get_or ix t 0) code g → g ≡ true → Finds b code way t (At t 0)
+  pub seek_here : (code : ℕ) (way : List ℕ) (t : ℕ) (g : Bool) → code < untagged → t < count_in b → Begins (get_or ix t 0) code g → g ≡ true → Finds b code way t (under t 0)
   seek_here code way t g tag h eg e =
       let q = sym (starts_is code t g h eg) ∙ e in
       (search_here T F (nested_all b T (count_in b) R.passes) code (λ z. omega arith) t q, here, q, h)
 
   pub seek_other : (code : ℕ) (way : List ℕ) (t : ℕ) (g : Bool) (f : ℕ) → code < untagged → t < count_in b → Begins (get_or ix t 0) code g → g ≡ false
-      → f ≡ (unpacked (get_or ix t 0)).code → (f ≡ untagged → ⊥) → Finds b code way t Nothing
+      → f ≡ (unpacked (get_or ix t 0)).code → (f ≡ untagged → ⊥) → Finds b code way t None
   seek_other code way t g f tag h eg e ef n =
       search_other T F (nested_all b T (count_in b) R.passes) code (λ z. omega arith) t (sym (starts_is code t g h eg) ∙ e) (λ z. n (code_is t f h ef ∙ z))
 
@@ -116,6 +117,10 @@ pub record Turn (b ix : List ℕ) (code : ℕ) (way : List ℕ) (t d x j : ℕ) 
   pub wide : length way ≡ 128
   pub amid : Amid b code way t d x j
   pub spans : s ≡ counted b (unpacked (get_or ix x 0)).own 1
+
+pub turn_at : {b ix : List ℕ} {code : ℕ} {way : List ℕ} {t d x j : ℕ} {e : Entry} {s : Span} → Ready b ix → code < untagged → length way ≡ 128
+    → Amid b code way t d x j → e ≡ unpacked (get_or ix x 0) → s ≡ counted b e.own 1 → Turn b ix code way t d x j s
+turn_at R h l a e q = record { ready = R; tag = h; wide = l; amid = a; spans = rw e at q }
 
 module _ {b ix : List ℕ} {code : ℕ} {way : List ℕ} {t d x j : ℕ} {s : Span} (P : Turn b ix code way t d x j s) where
   abbrev Tb : Table
@@ -167,7 +172,7 @@ module _ {b ix : List ℕ} {code : ℕ} {way : List ℕ} {t d x j : ℕ} {s : Sp
       room_way : d < length way
       room_way = omega (arith, next.room, P.wide)
 
-      pub among_found : g ≡ true → Finds b code Noted t (At a (d + 1))
+      pub among_found : g ≡ true → Finds b code Noted t (under a (d + 1))
       among_found e =
           let y = look_found Tb Fb N code not_tag way t d x j P.amid.looking within next.few room_way (sym its_start ∙ e) in
           rw (add-one, is_part) (y.0, y.1, sym its_start ∙ e, rw is_part at next.small)
@@ -206,7 +211,7 @@ module _ {b ix : List ℕ} {code : ℕ} {way : List ℕ} {t d x j : ℕ} {s : Sp
     beyond : length (siblings (Tb x).body) ≤ j
     beyond = omega (arith, its.count)
 
-    pub among_none : d ≡ 0 → Finds b code way t Nothing
+    pub among_none : d ≡ 0 → Finds b code way t None
     among_none z = look_none Tb Fb N code not_tag way t d x j P.amid.looking beyond z
 
     module _ (z : d ≡ 0 → ⊥) where

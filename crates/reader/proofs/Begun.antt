@@ -8,6 +8,7 @@ use mathlib.Core.List.{List, [], ◌∷◌, Memᴰ as In}
 use mathlib.Core.Path.{◌≡◌, refl, sym, ap, ◌∙◌}
 use native.Mathlib.Omega.{arith}
 use Prim.Native.Nat.{ℕ, zero, suc, ◌+◌, ◌≤◌, ◌<◌}
+use Rattle.std.specs.Prelude.{Option, Some, None}
 use Rattle.x690.specs.declared.ReadingCause.{ReadingCause}
 use Rattle.octets.specs.Answer.{Answer, got, refused, if}
 use Rattle.octets.specs.Lists.{any, all, same}
@@ -28,9 +29,8 @@ use Rattle.coding.specs.Content.{segmented}
 use Rattle.coding.specs.Tags.{identifier_of, last, before, explicit_tags, own_tag, explicit}
 use Rattle.coding.specs.Awaited.{begins_body, begins_item, begins_in, begins}
 use Rattle.coding.specs.Reading.{passes, begun}
-use Rattle.reader.specs.Codes.{untagged, none, peeked, first_of, own_either, either, coded, starts_with, hit, pick, among, search_in}
+use Rattle.reader.specs.Codes.{untagged, none, peeked, first_of, own_either, either, coded, starts_with, under, hit, pick, among, search_in}
 use Rattle.reader.specs.declared.search.Under.{Under}
-use Rattle.reader.specs.declared.search.Under.TheVariants.{Nothing, At}
 use Rattle.reader.proofs.Starts.{either_none, either_one, either_more, coded_one, coded_other}
 
 -- what a table that passes says of the tags of a record
@@ -88,12 +88,12 @@ first_most r f = go r.tags f.fine
     go [] h = omega arith
     go (g ∷ gs) h = let x = outermost_below g gs r.body h.0 in omega arith
 
-hit_pick : (x y : Under) → hit (pick x y) ≡ (hit x || hit y)
+hit_pick : (x y : Option Under) → hit (pick x y) ≡ (hit x || hit y)
 unfolding pick
-hit_pick Nothing y = refl
-hit_pick (At u d) y = refl
+hit_pick None y = refl
+hit_pick (Some x) y = refl
 
-hit_among : (f : ℕ → Bool) (g : ℕ → Under) → ((a : ℕ) → f a ≡ hit (g a)) → (ts : List ℕ) → any f ts ≡ hit (among g ts)
+hit_among : (f : ℕ → Bool) (g : ℕ → Option Under) → ((a : ℕ) → f a ≡ hit (g a)) → (ts : List ℕ) → any f ts ≡ hit (among g ts)
 unfolding any among
 hit_among f g h [] = refl
 hit_among f g h (t ∷ ts) = rw (hit_pick (g t) (among g ts), h t, hit_among f g h ts) refl
@@ -104,17 +104,17 @@ any_none [] = refl
 any_none (t ∷ ts) = any_none ts
 
 -- one step of the search
-abbrev Over : ℕ → Bool → ℕ → ℕ → (ℕ → Under) → List ℕ → Under
-Over t d first c g ts = if (coded d first c) (At t 0) λ _. if (not (eqb first untagged)) Nothing λ _. among g ts
+abbrev Over : ℕ → Bool → ℕ → ℕ → (ℕ → Option Under) → List ℕ → Option Under
+Over t d first c g ts = if (coded d first c) (under t 0) λ _. if (not (eqb first untagged)) None λ _. among g ts
 
-abbrev pub Step : Table → ℕ → ℕ → (ℕ → Under) → Under
+abbrev pub Step : Table → ℕ → ℕ → (ℕ → Option Under) → Option Under
 Step T t c f = Over t (either (T t)) (first_of (T t)) c f (siblings (T t).body)
 
-over_tagged : (t : ℕ) (d : Bool) (c e : ℕ) (g : ℕ → Under) (ts : List ℕ) → e < untagged → hit (Over t d e c g ts) ≡ coded d e c
+over_tagged : (t : ℕ) (d : Bool) (c e : ℕ) (g : ℕ → Option Under) (ts : List ℕ) → e < untagged → hit (Over t d e c g ts) ≡ coded d e c
 unfolding if
 over_tagged t d c e g ts h = let q = ne_eqb e untagged (λ z. omega arith) in test (coded d e c) (λ f. rw f refl) (λ f. rw (f, q) refl)
 
-over_choice : (t : ℕ) (d : Bool) (c : ℕ) (g : ℕ → Under) (ts : List ℕ) → (untagged ≡ c → ⊥) → (untagged + 32 ≡ c → ⊥) → Over t d untagged c g ts ≡ among g ts
+over_choice : (t : ℕ) (d : Bool) (c : ℕ) (g : ℕ → Option Under) (ts : List ℕ) → (untagged ≡ c → ⊥) → (untagged + 32 ≡ c → ⊥) → Over t d untagged c g ts ≡ among g ts
 unfolding if
 over_choice t d c g ts h k = rw (coded_other d untagged c h k) refl
 
@@ -133,7 +133,7 @@ unfolding identifier_of
 parts_tag q = parts_identifier q.class q.number
 
 -- an identifier that is read, and one that is not
-module _ (t : ℕ) (f : ℕ → Bool) (g : ℕ → Under) (ih : (a : ℕ) → f a ≡ hit (g a)) where
+module _ (t : ℕ) (f : ℕ → Bool) (g : ℕ → Option Under) (ih : (a : ℕ) → f a ≡ hit (g a)) where
   module _ (s i w : List ℕ) (o : Octets s) (e : read_identifier s ≡ got i w) where
     its_code : (q : Tag) (b : Bool) → Fine q → same i (identifier_of b q) ≡ eqb (code q.class b q.number) (code_of i)
     unfolding identifier_of
@@ -219,7 +219,7 @@ nested_more T zero j t h d = nested_none T j t d
 nested_more T (suc k) zero t h d = absurd (omega arith)
 nested_more T (suc k) (suc j) t h d = λ a m. nested_more T k j a (omega arith) (d a m)
 
-among_same : (f g : ℕ → Under) (ts : List ℕ) → ((a : ℕ) → In a ts → f a ≡ g a) → among f ts ≡ among g ts
+among_same : (f g : ℕ → Option Under) (ts : List ℕ) → ((a : ℕ) → In a ts → f a ≡ g a) → among f ts ≡ among g ts
 unfolding among
 among_same f g [] h = refl
 among_same f g (t ∷ ts) h = rw (h t (In.head refl), among_same f g ts (λ a m. h a (In.tail m))) refl
@@ -229,7 +229,7 @@ is_false true e = refl
 is_false false e = sym e
 
 module _ (T : Table) (F : (t : ℕ) → Fit (T t)) where
-  step_same : (t c : ℕ) (f g : ℕ → Under) → ((a : ℕ) → In a (below T t) → f a ≡ g a) → Step T t c f ≡ Step T t c g
+  step_same : (t c : ℕ) (f g : ℕ → Option Under) → ((a : ℕ) → In a (below T t) → f a ≡ g a) → Step T t c f ≡ Step T t c g
   unfolding if
   step_same t c f g h =
       test (starts_with (T t) c) (λ e. rw e refl) λ e.

@@ -7,20 +7,18 @@ use mathlib.Core.Bool.{Bool, true, false, not, ◌||◌, true≢false}
 use mathlib.Core.List.{List, [], ◌∷◌}
 use mathlib.Core.Path.{◌≡◌, refl, sym, ap, ◌∙◌}
 use Prim.Native.Nat.{ℕ, zero, suc}
+use Rattle.std.specs.Prelude.{Option, Some, None, Result, Ok, Err}
 use Rattle.x690.specs.declared.ReadingCause.{ReadingCause}
 use Rattle.x690.specs.declared.ReadingCause.TheVariants.{NotAwaited}
 use Rattle.octets.specs.Answer.{if}
 use Rattle.octets.specs.Lists.{any}
 use Rattle.octets.proofs.Tests.{test}
-use Rattle.ber.specs.declared.ending.End.{End}
-use Rattle.ber.specs.declared.ending.End.TheVariants.{More, Over as EndsAt, Broken}
 use Rattle.table.specs.Syntax.{Plain, Sequence, Set, SequenceOf, SetOf, Choice}
 use Rattle.records.specs.Entries.{unpacked}
 use Rattle.records.specs.declared.entry.Entry.{Entry}
 use Rattle.reader.specs.Items.{Holder, inside, message, manner, is_single, parts_of, optionals, pending, lacks}
 use Rattle.reader.specs.Sought.{held, Sound}
 use Rattle.reader.specs.Standing.{at_ending, standing}
-use Rattle.reader.specs.declared.judge.Standing.TheVariants.{Item, Over, Refused}
 use Rattle.reader.proofs.Held.{held_one}
 use Rattle.reader.proofs.Items.{pending_free, pending_come}
 use Rattle.reader.proofs.Spans.{by_member, entry_of}
@@ -47,42 +45,42 @@ list_lacks (inside (Choice ts)) i came s n = absurd (true≢false s)
 list_lacks (message t) i came s n = absurd (true≢false s)
 
 module _ {b index : List ℕ} {w : ℕ} {came : List ℕ} (Z : Sound b index w came) (plain : (unpacked w).simple ≡ false) (e : Entry) (ee : e ≡ unpacked w)
-    (g : Bool) (eg : g ≡ (eqb e.kind 50 || eqb e.kind 51)) (i : ℕ) (y : End) where
+    (g : Bool) (eg : g ≡ (eqb e.kind 50 || eqb e.kind 51)) (i : ℕ) (y : Result (Option ℕ) ReadingCause) where
   abbrev H : Holder
   H = held b w
 
   one_is : g ≡ is_single (manner H)
   one_is = eg ∙ held_one Z.ready Z.known plain e ee
 
-  pub stands_one : g ≡ true → Item ≡ standing H i came y
+  pub stands_one : g ≡ true → Ok None ≡ standing H i came y
   unfolding standing if
   stands_one q = rw (← one_is, q) refl
 
-  module _ (q : g ≡ false) (z : End) (ez : z ≡ y) where
+  module _ (q : g ≡ false) (z : Result (Option ℕ) ReadingCause) (ez : z ≡ y) where
     at_ending_lem : standing H i came y ≡ at_ending H i came z
     unfolding standing if
     at_ending_lem = rw (← one_is, q, ez) refl
 
-    pub stands_more : z ≡ More → Item ≡ standing H i came y
+    pub stands_more : z ≡ Ok None → Ok None ≡ standing H i came y
     unfolding at_ending
     stands_more d = sym (at_ending_lem ∙ rw d refl)
 
-    pub stands_broken : (c : ReadingCause) → z ≡ Broken c → Refused c ≡ standing H i came y
+    pub stands_broken : (c : ReadingCause) → z ≡ Err c → Err c ≡ standing H i came y
     unfolding at_ending
     stands_broken c d = sym (at_ending_lem ∙ rw d refl)
 
-    module _ (u : ℕ) (d : z ≡ EndsAt u) (k : Bool) (ek : k ≡ (eqb e.kind 16 || eqb e.kind 17)) where
-      pub stands_list : k ≡ false → Over u ≡ standing H i came y
+    module _ (u : ℕ) (d : z ≡ Ok (Some u)) (k : Bool) (ek : k ≡ (eqb e.kind 16 || eqb e.kind 17)) where
+      pub stands_list : k ≡ false → Ok (Some u) ≡ standing H i came y
       unfolding at_ending if
       stands_list n =
           let v : by_member (manner H) ≡ false = sym (ek ∙ ap (λ (x : Entry). eqb x.kind 16 || eqb x.kind 17) ee ∙ (entry_of Z.ready w Z.known).members) ∙ n in
           sym (at_ending_lem ∙ rw (d, list_lacks H i came (sym one_is ∙ q) v) refl)
 
       module _ (r : Bool) (er : r ≡ lacks H i came) where
-        pub stands_lacking : r ≡ true → Refused NotAwaited ≡ standing H i came y
+        pub stands_lacking : r ≡ true → Err NotAwaited ≡ standing H i came y
         unfolding at_ending if
         stands_lacking v = sym (at_ending_lem ∙ rw (d, ← er, v) refl)
 
-        pub stands_over : r ≡ false → Over u ≡ standing H i came y
+        pub stands_over : r ≡ false → Ok (Some u) ≡ standing H i came y
         unfolding at_ending if
         stands_over v = sym (at_ending_lem ∙ rw (d, ← er, v) refl)

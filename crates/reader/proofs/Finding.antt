@@ -8,6 +8,7 @@ use mathlib.Core.Option.{Option, some, none}
 use mathlib.Core.Path.{◌≡◌, refl, sym, ap, ◌∙◌}
 use native.Mathlib.Omega.{arith}
 use Prim.Native.Nat.{ℕ, suc, ◌+◌, ◌*◌, ◌≤◌, ◌<◌}
+use Rattle.std.specs.Prelude.{Result, Ok, Err}
 use Rattle.x690.specs.declared.ReadingCause.{ReadingCause}
 use Rattle.x690.specs.declared.ReadingCause.TheVariants.{NotAwaited}
 use Rattle.octets.specs.Answer.{got, refused, if, then}
@@ -17,7 +18,6 @@ use Rattle.ber.specs.Codes.{code_of}
 use Rattle.x690.specs.Reading.{read_identifier}
 use Rattle.ber.specs.Told.{told_identifier}
 use Rattle.ber.specs.declared.identifier.Identifier.{Identifier}
-use Rattle.ber.specs.declared.identifier.Identifier.TheVariants.{Read, Refused as NoIdentifier}
 use Rattle.ber.proofs.Codes.{read_code_small}
 use Rattle.ber.proofs.Told.{identifier_read, identifier_refused}
 use Rattle.table.specs.Syntax.{Member, Table}
@@ -27,14 +27,12 @@ use Rattle.records.specs.declared.entry.Entry.{Entry}
 use Rattle.records.specs.declared.entry.Span.{Span}
 use Rattle.coding.specs.Reading.{passes, begun, not_awaited}
 use Rattle.coding.proofs.FirstTags.{good}
-use Rattle.reader.specs.Codes.{untagged, starts_with, peeked}
+use Rattle.reader.specs.Codes.{under, untagged, starts_with, peeked}
 use Rattle.reader.specs.Items.{Holder, manner, parts_of, Placed, awaits, remains, is_single, first, next}
 use Rattle.reader.specs.Records.{Ready, Known, of_record, of_message, holder_in, Finds}
 use Rattle.reader.specs.Sought.{held, place_of, tabled_count, direct, unfit, unfit_cause, Indirect, Sought}
 use Rattle.reader.specs.Ways.{here}
-use Rattle.reader.specs.declared.search.Found.{Found}
-use Rattle.reader.specs.declared.search.Found.TheVariants.{Part, Refused}
-use Rattle.reader.specs.declared.search.Under.TheVariants.{At}
+use Rattle.reader.specs.declared.search.Choice.{Choice as Chosen}
 use Rattle.reader.proofs.Begun.{fit}
 use Rattle.reader.proofs.Items.{found_of, awaits_found, first_none, first_passes}
 use Rattle.reader.proofs.ItemsSearch.{GoodHolder, Tells, tells, search_itself, direct_next, indirect_next}
@@ -61,7 +59,7 @@ good_held {b} R w (of_record t h q) =
 good_held R w (of_message t h q) = rw q tt
 
 module _ {b index : List ℕ} {w : ℕ} {came : List ℕ} {e : Entry} {s : Span} (D : Parted b index w came e s)
-    (m : List ℕ) (o : Octets m) (y : Identifier) (ey : y ≡ told_identifier (length m) (read_identifier m)) (i : ℕ) (way : List ℕ) where
+    (m : List ℕ) (o : Octets m) (y : Result Identifier ReadingCause) (ey : y ≡ told_identifier (length m) (read_identifier m)) (i : ℕ) (way : List ℕ) where
   abbrev H : Holder
   H = held b w
 
@@ -69,7 +67,7 @@ module _ {b index : List ℕ} {w : ℕ} {came : List ℕ} {e : Entry} {s : Span}
   T = table_in b
 
   -- no identifier
-  module _ (f : ReadingCause) (q : y ≡ NoIdentifier f) where
+  module _ (f : ReadingCause) (q : y ≡ Err f) where
     none_read : read_identifier m ≡ refused f (length m)
     none_read = identifier_refused m y ey f q
 
@@ -81,14 +79,14 @@ module _ {b index : List ℕ} {w : ℕ} {came : List ℕ} {e : Entry} {s : Span}
     unfolding begun passes
     none_begun x = rw none_read refl
 
-    pub sought_unread : (r : Found) → r ≡ Refused (unfit_cause H i came f) → Sought b H i came m way r
+    pub sought_unread : (r : Result Chosen ReadingCause) → r ≡ Err (unfit_cause H i came f) → Sought b H i came m way r
     sought_unread r er =
         rw er (first_none (λ x. begun T x.1.type m) (awaits H i came) none_begun, unfit_is H i came m f unread)
 
   -- an identifier
-  module _ (code end : ℕ) (q : y ≡ Read code end) where
+  module _ (code end : ℕ) (q : y ≡ Ok (record { code = code; end = end })) where
     abbrev Is : (a : List ℕ) × (read_identifier m ≡ got a (drop end m)) × (code_of a ≡ code) × (0 < end) × (end ≤ length m)
-    Is = identifier_read m y ey code end q
+    Is = identifier_read m y ey (record { code = code; end = end }) q
 
     pub code_small : code < untagged
     code_small = omega (arith, read_code_small m Is.0 (drop end m) o Is.1, Is.2)
@@ -124,14 +122,14 @@ module _ {b index : List ℕ} {w : ℕ} {came : List ℕ} {e : Entry} {s : Span}
       begins_itself : starts_with (T AtPlace.part.type) code ≡ true
       begins_itself = first_passes (λ x. starts_with (T x.1.type) code) (awaits H i came) (place, AtPlace.part) its_first
 
-      its_way : Finds b code way AtPlace.part.type (At AtPlace.part.type 0)
+      its_way : Finds b code way AtPlace.part.type (under AtPlace.part.type 0)
       its_way =
           let t = AtPlace.part.type in
           (search_itself T m code its_tells t begins_itself, here, begins_itself, type_low D place l t (sym AtPlace.type))
 
       pub sought_direct : (t : ℕ) → t ≡ get_or b (s.first + s.step * place) 0
           → (part : Member) × (a : List ℕ) × (next T H i came m ≡ some (place, part)) × (read_identifier m ≡ got a (drop end m)) × (0 < end) × (end ≤ length m)
-          × Finds b (code_of a) way part.type (At t 0)
+          × Finds b (code_of a) way part.type (under t 0)
       sought_direct t et =
           let z = et ∙ AtPlace.type in (
             AtPlace.part,
@@ -144,8 +142,8 @@ module _ {b index : List ℕ} {w : ℕ} {came : List ℕ} {e : Entry} {s : Span}
           )
 
     -- a part under which a record begins with the code
-    pub sought_indirect : (r : Found) → Indirect b H i came code end way r → Sought b H i came m way r
-    sought_indirect (Part x) h =
+    pub sought_indirect : (r : Result Chosen ReadingCause) → Indirect b H i came code end way r → Sought b H i came m way r
+    sought_indirect (Ok x) h =
         let d = h.2 in
         (h.0, Is.0, indirect_next T m code its_tells (awaits H i came) ∙ h.1, rw d Is.1, rw d Is.3, rw d Is.4, rw Is.2 h.3)
-    sought_indirect (Refused c) h = (indirect_next T m code its_tells (awaits H i came) ∙ h.0, rw h.1 (unfit_is H i came m NotAwaited all_unawaited))
+    sought_indirect (Err c) h = (indirect_next T m code its_tells (awaits H i came) ∙ h.0, rw h.1 (unfit_is H i came m NotAwaited all_unawaited))

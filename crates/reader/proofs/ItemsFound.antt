@@ -10,6 +10,8 @@ use mathlib.Core.Option.{some}
 use mathlib.Core.Path.{◌≡◌, refl, sym, ap, ◌∙◌}
 use native.Mathlib.Omega.{arith}
 use Prim.Native.Nat.{ℕ, zero, suc, ◌+◌, ◌-◌, ◌*◌, ◌%◌, ◌≤◌, ◌<◌}
+use Rattle.std.specs.Prelude.{Result, Ok}
+use Rattle.x690.specs.declared.ReadingCause.{ReadingCause}
 use Rattle.x690.specs.declared.ReadingCause.TheVariants.{MessageLevel}
 use Rattle.octets.specs.Answer.{got, refused, then, if}
 use Rattle.octets.specs.Numbers.{Octets}
@@ -33,8 +35,6 @@ use Rattle.reader.specs.Sought.{held, Sought}
 use Rattle.reader.specs.Ways.{Leads, here, wrapped}
 use Rattle.reader.specs.Wraps.{Headed}
 use Rattle.reader.specs.declared.search.Choice.{Choice as Chosen}
-use Rattle.reader.specs.declared.search.Found.{Found}
-use Rattle.reader.specs.declared.search.Found.TheVariants.{Part}
 use Rattle.reader.proofs.Among.{code_is}
 use Rattle.reader.proofs.Begun.{Fit, fit, nested_all}
 use Rattle.reader.proofs.Starts.{coded_is, coded_least}
@@ -132,9 +132,9 @@ short_first r = go r.tags r.body
         (λ q. let z = code_short c d n (ltb-true n 31 q) in omega (arith, ltb-true n 31 q))
         λ q. let z = code_long c d n (ltb-false n 31 q) in absurd (omega (arith, ltb-false n 31 q))
 
-read_one : (m : List ℕ) (at : ℕ) → at < length m → get_or m at 0 % 32 < 31 → read_identifier (drop at m) ≡ got (get_or m at 0 ∷ []) (drop (at + 1) m)
+read_one : (m : List ℕ) → 0 < length m → get_or m 0 0 % 32 < 31 → read_identifier m ≡ got (get_or m 0 0 ∷ []) (drop 1 m)
 unfolding read_identifier if
-read_one m at h k = rw (some_at m at h, lt-ltb (get_or m at 0 % 32) 31 k) refl
+read_one m h k = rw (some_at m 0 h, lt-ltb (get_or m 0 0 % 32) 31 k) refl
 
 -- whose code tells what begins so
 code_tells : {b index : List ℕ} → Ready b index → (s : List ℕ) → Octets s → (i u : List ℕ) → read_identifier s ≡ got i u → Tells (table_in b) s (code_of i)
@@ -155,7 +155,7 @@ pub record AtItem (b : List ℕ) (h : Holder) (m : List ℕ) (at i : ℕ) (came 
 
 -- what was sought
 pub item_sought : {b : List ℕ} {h : Holder} {m : List ℕ} {at i : ℕ} {came way : List ℕ} (x : Chosen) → at ≤ length m
-    → Sought b h i came (drop at m) way (Part x)
+    → Sought b h i came (drop at m) way (Ok x)
     → AtItem b h m at i came way x.place x.record x.depth (at + x.from)
 item_sought {m = m} {at = at} x low q =
     record {
@@ -180,15 +180,15 @@ item_same e f g h k X = rw (e, f, g, h, k) X
 abbrev pub rest_of : List ℕ → ℕ → List ℕ
 rest_of m at = take (length m - at) (drop at m)
 
-pub item_found : {b : List ℕ} {h : Holder} {m : List ℕ} {at i : ℕ} {came way : List ℕ} (r : Found) (x : Chosen) → at ≤ length m
-    → Sought b h i came (rest_of m at) way r → r ≡ Part x
+pub item_found : {b : List ℕ} {h : Holder} {m : List ℕ} {at i : ℕ} {came way : List ℕ} (r : Result Chosen ReadingCause) (x : Chosen) → at ≤ length m
+    → Sought b h i came (rest_of m at) way r → r ≡ Ok x
     → AtItem b h m at i came way x.place x.record x.depth (at + x.from)
 item_found {m = m} {at = at} r x low q ex = item_sought x low (rw (part_to_end m at, ex) at q)
 
--- or the part at hand, which begins with the octet at the place
+-- the part at hand, which begins with the first octet
 module _ {b index : List ℕ} {w : ℕ} {came : List ℕ} {e : Entry} {s : Span} (D : Parted b index w came e s)
-    (m : List ℕ) (o : Octets m) (at : ℕ) (here_is : at < length m) (j : ℕ) (l : j < s.count) (z : get_or came j 0 ≡ 0)
-    (t f : ℕ) (et : t ≡ get_or b (s.first + s.step * j) 0) (ef : f ≡ (unpacked (get_or index t 0)).code) (q : f ≡ get_or m at 0) where
+    (m : List ℕ) (o : Octets m) (here_is : 0 < length m) (j : ℕ) (l : j < s.count) (z : get_or came j 0 ≡ 0)
+    (t f : ℕ) (et : t ≡ get_or b (s.first + s.step * j) 0) (ef : f ≡ (unpacked (get_or index t 0)).code) (q : f ≡ get_or m 0 0) where
   abbrev Records : Table
   Records = table_in b
 
@@ -198,42 +198,39 @@ module _ {b index : List ℕ} {w : ℕ} {came : List ℕ} {e : Entry} {s : Span}
   its_number : t < count_in b
   its_number = type_low D j l t et
 
-  its_code : get_or m at 0 ≡ first_of (Records t)
+  its_code : get_or m 0 0 ≡ first_of (Records t)
   its_code = sym q ∙ code_is D.sound.ready t f its_number ef
 
-  its_read : read_identifier (drop at m) ≡ got (get_or m at 0 ∷ []) (drop (at + 1) m)
-  its_read = let k = o at in let c = its_code in read_one m at here_is (rw c (short_first (Records t) (omega arith)))
+  its_read : read_identifier m ≡ got (get_or m 0 0 ∷ []) (drop 1 m)
+  its_read = let k = o 0 in let c = its_code in read_one m here_is (rw c (short_first (Records t) (omega arith)))
 
-  its_first : starts_with (Records t) (code_of (get_or m at 0 ∷ [])) ≡ true
+  its_first : starts_with (Records t) (code_of (get_or m 0 0 ∷ [])) ≡ true
   unfolding code_of
-  its_first = coded_is _ (first_of (Records t)) (get_or m at 0) (sym its_code)
+  its_first = coded_is _ (first_of (Records t)) (get_or m 0 0) (sym its_code)
 
-  its_tells : Tells Records (drop at m) (code_of (get_or m at 0 ∷ []))
-  its_tells = code_tells D.sound.ready (drop at m) (octets_drop m o at) (get_or m at 0 ∷ []) (drop (at + 1) m) its_read
+  its_tells : Tells Records m (code_of (get_or m 0 0 ∷ []))
+  its_tells = code_tells D.sound.ready m (o) (get_or m 0 0 ∷ []) (drop 1 m) its_read
 
-  its_begun : begun Records t (drop at m) ≡ true
+  its_begun : begun Records t m ≡ true
   its_begun =
-      let c = code_of (get_or m at 0 ∷ []) in
-      its_tells t ∙ ap hit (search_itself Records (drop at m) c its_tells t its_first)
+      let c = code_of (get_or m 0 0 ∷ []) in
+      its_tells t ∙ ap hit (search_itself Records m c its_tells t its_first)
 
   abbrev PartJ : PartAt b Held (unpacked w).kind s j
   PartJ = (spanned D).at j l
 
-  pub item_fits : (way : List ℕ) → AtItem b Held m at (since (manner Held) j) came way j t 0 (at + 1)
-  item_fits way =
+  pub sought_fits : (way : List ℕ) → Sought b Held (since (manner Held) j) came m way (Ok (record { place = j; «record» = t; depth = 0; from = 1 }))
+  sought_fits way =
       let y : t ≡ PartJ.part.type = et ∙ PartJ.type in
-      record {
-        part = PartJ.part;
-        identifier = get_or m at 0 ∷ [];
-        found = next_at Records Held (good_held D.sound.ready w D.sound.known) came (drop at m) (λ p v. clear_turn D v p)
-            j PartJ.part PartJ.is z (rw (← y) its_begun);
-        read = its_read;
-        further = omega arith;
-        low = omega arith;
-        leads = rw (← y) here;
-        its = its_first;
-        there = its_number;
-      }
+      let i = get_or m 0 0 ∷ [] in (
+        PartJ.part,
+        i,
+        next_at Records Held (good_held D.sound.ready w D.sound.known) came m (λ p v. clear_turn D v p) j PartJ.part PartJ.is z (rw (← y) its_begun),
+        its_read,
+        omega arith,
+        omega arith,
+        (rw (← y) (search_itself Records m (code_of i) its_tells t its_first), rw (← y) here, its_first, its_number),
+      )
 
 -- what is read of it
 module _ {b index : List ℕ} (R : Ready b index) {h : Holder} {m : List ℕ} (o : Octets m) {at i : ℕ} {came way : List ℕ} {place number depth from : ℕ}

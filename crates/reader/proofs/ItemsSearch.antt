@@ -18,8 +18,7 @@ use Rattle.table.specs.Syntax.{Member, Plain, Sequence, Set, SequenceOf, SetOf, 
 use Rattle.coding.specs.Awaited.{types, awaited, begins}
 use Rattle.coding.specs.Reading.{passes, begun}
 use Rattle.coding.proofs.FirstTags.{Distinct, Apart, GoodBody}
-use Rattle.reader.specs.Codes.{starts_with, peeked, hit, search_in}
-use Rattle.reader.specs.declared.search.Under.TheVariants.{At}
+use Rattle.reader.specs.Codes.{under, starts_with, peeked, hit, search_in}
 use Rattle.reader.proofs.Begun.{Fit, begun_hit}
 use Rattle.reader.specs.Items.{Holder, inside, message, in_turn, manner, parts_of, optionals, Placed, pending, up_to_mandatory, within, awaits}
 use Rattle.reader.specs.Items.{first}
@@ -154,7 +153,7 @@ pub tells : (T : Table) → ((t : ℕ) → Fit (T t)) → (s : List ℕ) → Oct
 tells T fine s o t = begun_hit T fine t s o
 
 module _ (T : Table) (s : List ℕ) (code : ℕ) (known : Tells T s code) where
-  pub search_itself : (t : ℕ) → starts_with (T t) code ≡ true → search_in T 129 t code ≡ At t 0
+  pub search_itself : (t : ℕ) → starts_with (T t) code ≡ true → search_in T 129 t code ≡ under t 0
   unfolding search_in if
   search_itself t e = rw e refl
 

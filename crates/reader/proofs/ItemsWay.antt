@@ -10,6 +10,7 @@ use mathlib.Core.List.{List, [], ◌∷◌, Memᴰ as In}
 use mathlib.Core.Path.{◌≡◌, refl, sym, ap, ◌∙◌}
 use native.Mathlib.Omega.{arith}
 use Prim.Native.Nat.{ℕ, zero, suc, ◌+◌, ◌-◌, ◌*◌, ◌/◌, ◌%◌, ◌≤◌, ◌<◌}
+use Rattle.std.specs.Prelude.{Option, Some, None}
 use Rattle.x690.specs.declared.ReadingCause.{ReadingCause}
 use Rattle.x690.specs.declared.ReadingCause.TheVariants.{MessageLevel}
 use Rattle.octets.specs.Answer.{Answer, got, refused, then, if}
@@ -20,9 +21,8 @@ use Rattle.table.specs.Rules.{siblings, below}
 use Rattle.table.specs.Passes.{Nested}
 use Rattle.coding.specs.Value.{Value, choice, octets}
 use Rattle.coding.specs.Reading.{begun, read_wrapped, read_kind, choose, read_value}
-use Rattle.reader.specs.Codes.{first_of, untagged, starts_with, hit, pick, among, search_in}
+use Rattle.reader.specs.Codes.{under, first_of, untagged, starts_with, hit, pick, among, search_in}
 use Rattle.reader.specs.declared.search.Under.{Under as Found}
-use Rattle.reader.specs.declared.search.Under.TheVariants.{Nothing, At}
 use Rattle.reader.proofs.Begun.{Fit}
 use Rattle.reader.specs.Ways.{Leads, here, through, wrapped}
 use Rattle.reader.proofs.Begun.{search_step, bare, bare_either}
@@ -31,17 +31,17 @@ use Rattle.reader.proofs.Items.{then_self, then_same, then_then}
 use Rattle.reader.proofs.ItemsSearch.{Tells}
 
 -- among alternatives
-module _ (f : ℕ → Found) where
+module _ (f : ℕ → Option Found) where
   abbrev Missed : List ℕ → ℕ → Type 0
-  Missed l j = (i : ℕ) → i < j → f (get_or l i 0) ≡ Nothing
+  Missed l j = (i : ℕ) → i < j → f (get_or l i 0) ≡ None
 
-  among_at : (l : List ℕ) (j : ℕ) → j < length l → Missed l j → (u e : ℕ) → f (get_or l j 0) ≡ At u e → among f l ≡ At u (suc e)
+  among_at : (l : List ℕ) (j : ℕ) → j < length l → Missed l j → (u e : ℕ) → f (get_or l j 0) ≡ under u e → among f l ≡ under u (suc e)
   unfolding among pick
   among_at [] j h m u e g = absurd (omega arith)
   among_at (a ∷ l) zero h m u e g = rw g refl
   among_at (a ∷ l) (suc j) h m u e g = rw (m 0 (omega arith)) (among_at l j (omega arith) (λ i k. m (suc i) (omega arith)) u e g)
 
-  among_none : (l : List ℕ) → Missed l (length l) → among f l ≡ Nothing
+  among_none : (l : List ℕ) → Missed l (length l) → among f l ≡ None
   unfolding among pick
   among_none [] m = refl
   among_none (a ∷ l) m = rw (m 0 (omega arith)) (among_none l (λ i k. m (suc i) (omega arith)))
@@ -50,21 +50,21 @@ module _ (f : ℕ → Found) where
 pub record Looking (T : Table) (code : ℕ) (way : List ℕ) (t d x j : ℕ) : Type 0 where
   pub led : Leads T code way t d x
   pub bare : first_of (T x) ≡ untagged
-  pub missed : (i : ℕ) → i < j → search_in T 129 (get_or (siblings (T x).body) i 0) code ≡ Nothing
+  pub missed : (i : ℕ) → i < j → search_in T 129 (get_or (siblings (T x).body) i 0) code ≡ None
 
 module _ (T : Table) (F : (t : ℕ) → Fit (T t)) (N : (t : ℕ) → Nested T 128 t) (code : ℕ) (tag : code ≡ untagged → ⊥) where
-  abbrev Search : ℕ → Found
+  abbrev Search : ℕ → Option Found
   Search a = search_in T 129 a code
 
   abbrev Parts : ℕ → List ℕ
   Parts x = siblings (T x).body
 
   -- one record
-  pub search_here : (a : ℕ) → starts_with (T a) code ≡ true → Search a ≡ At a 0
+  pub search_here : (a : ℕ) → starts_with (T a) code ≡ true → Search a ≡ under a 0
   unfolding search_in if
   search_here a e = rw e refl
 
-  pub search_other : (a : ℕ) → starts_with (T a) code ≡ false → (first_of (T a) ≡ untagged → ⊥) → Search a ≡ Nothing
+  pub search_other : (a : ℕ) → starts_with (T a) code ≡ false → (first_of (T a) ≡ untagged → ⊥) → Search a ≡ None
   unfolding search_in if
   search_other a e g = rw (e, ne_eqb (first_of (T a)) untagged g) refl
 
@@ -77,10 +77,10 @@ module _ (T : Table) (F : (t : ℕ) → Fit (T t)) (N : (t : ℕ) → Nested T 1
   search_bare x e = search_step T F x code (N x) ∙ rw (bare_starts x e, eq-eqb (first_of (T x)) untagged e) refl
 
   -- what is found at the end of a way is found from its beginning
-  pub leads_found : {way : List ℕ} {t d x : ℕ} → Leads T code way t d x → (u e : ℕ) → Search x ≡ At u e → Search t ≡ At u (d + e)
-  leads_found here u e g = g ∙ ap (At u) (omega arith)
+  pub leads_found : {way : List ℕ} {t d x : ℕ} → Leads T code way t d x → (u e : ℕ) → Search x ≡ under u e → Search t ≡ under u (d + e)
+  leads_found here u e g = g ∙ ap (under u) (omega arith)
   leads_found (through {d} {x} j l b n s h m) u e g =
-      leads_found l u (suc e) (search_bare x b ∙ among_at Search (Parts x) j h m u e g) ∙ ap (At u) (omega arith)
+      leads_found l u (suc e) (search_bare x b ∙ among_at Search (Parts x) j h m u e g) ∙ ap (under u) (omega arith)
 
   -- notes behind the way do not matter
   pub leads_set : {way : List ℕ} {t d x : ℕ} (p v : ℕ) → d ≤ p → Leads T code way t d x → Leads T code (set_at way p v) t d x
@@ -90,8 +90,8 @@ module _ (T : Table) (F : (t : ℕ) → Fit (T t)) (N : (t : ℕ) → Nested T 1
   pub look_first : (way : List ℕ) (t : ℕ) → first_of (T t) ≡ untagged → Looking T code way t 0 t 0
   look_first way t b = record { led = here; bare = b; missed = λ i h. absurd (omega arith) }
 
-  missed_next : (l : List ℕ) (j : ℕ) → ((i : ℕ) → i < j → Search (get_or l i 0) ≡ Nothing) → Search (get_or l j 0) ≡ Nothing → (i : ℕ) → i < suc j
-      → Search (get_or l i 0) ≡ Nothing
+  missed_next : (l : List ℕ) (j : ℕ) → ((i : ℕ) → i < j → Search (get_or l i 0) ≡ None) → Search (get_or l j 0) ≡ None → (i : ℕ) → i < suc j
+      → Search (get_or l i 0) ≡ None
   missed_next l j m e i h = test (eqb i j) (λ q. rw (eqb-true i j q) e) λ q. m i (omega (arith, eqb-false i j q))
 
   module _ (way : List ℕ) (t d x j : ℕ) (S : Looking T code way t d x j) where
@@ -106,8 +106,8 @@ module _ (T : Table) (F : (t : ℕ) → Fit (T t)) (N : (t : ℕ) → Nested T 1
       look_led : Leads T code Noted t (suc d) Alternative
       look_led = through j (leads_set d (16 * x + j) (omega arith) S.led) S.bare (get_or-set_same way d (16 * x + j) 0 room) s h S.missed
 
-      pub look_found : starts_with (T Alternative) code ≡ true → (Search t ≡ At Alternative (suc d)) × Leads T code Noted t (suc d) Alternative
-      look_found e = (leads_found look_led Alternative 0 (search_here Alternative e) ∙ ap (At Alternative) (omega arith), look_led)
+      pub look_found : starts_with (T Alternative) code ≡ true → (Search t ≡ under Alternative (suc d)) × Leads T code Noted t (suc d) Alternative
+      look_found e = (leads_found look_led Alternative 0 (search_here Alternative e) ∙ ap (under Alternative) (omega arith), look_led)
 
       pub look_down : first_of (T Alternative) ≡ untagged → Looking T code Noted t (suc d) Alternative 0
       look_down e = record { led = look_led; bare = e; missed = λ i k. absurd (omega arith) }
@@ -122,13 +122,13 @@ module _ (T : Table) (F : (t : ℕ) → Fit (T t)) (N : (t : ℕ) → Nested T 1
 
     -- no alternative is left
     module _ (h : length (Parts x) ≤ j) where
-      none_under : Search x ≡ Nothing
+      none_under : Search x ≡ None
       none_under = search_bare x S.bare ∙ among_none Search (Parts x) (λ i k. S.missed i (omega arith))
 
-      pub look_none : d ≡ 0 → Search t ≡ Nothing
+      pub look_none : d ≡ 0 → Search t ≡ None
       look_none z = at_start S.led z none_under
         where
-          at_start : {d x : ℕ} → Leads T code way t d x → d ≡ 0 → Search x ≡ Nothing → Search t ≡ Nothing
+          at_start : {d x : ℕ} → Leads T code way t d x → d ≡ 0 → Search x ≡ None → Search t ≡ None
           at_start here z e = e
           at_start (through j l b n s k m) z e = absurd (omega arith)
 
@@ -136,7 +136,7 @@ module _ (T : Table) (F : (t : ℕ) → Fit (T t)) (N : (t : ℕ) → Nested T 1
       pub look_back : (c : ℕ) → d ≡ suc c → Looking T code way t c (get_or way c 0 / 16) (suc (get_or way c 0 % 16))
       look_back c z = back S.led z none_under
         where
-          back : {d x : ℕ} → Leads T code way t d x → d ≡ suc c → Search x ≡ Nothing → Looking T code way t c (get_or way c 0 / 16) (suc (get_or way c 0 % 16))
+          back : {d x : ℕ} → Leads T code way t d x → d ≡ suc c → Search x ≡ None → Looking T code way t c (get_or way c 0 / 16) (suc (get_or way c 0 % 16))
           back here z e = absurd (omega arith)
           back (through {d} {x} j l b n s k m) z e =
               let q : d ≡ c = omega arith in
@@ -249,13 +249,13 @@ wrapped_size way (suc d) v = wrapped_size way d (choice (get_or way d 0 % 16) v)
 
 module _ (T : Table) (F : (t : ℕ) → Fit (T t)) (N : (t : ℕ) → Nested T 128 t) (code : ℕ) (tag : code ≡ untagged → ⊥) (s : List ℕ)
     (known : Tells T s code) where
-  hit_begun : (a u e : ℕ) → search_in T 129 a code ≡ At u e → begun T a s ≡ true
+  hit_begun : (a u e : ℕ) → search_in T 129 a code ≡ under u e → begun T a s ≡ true
   hit_begun a u e g = known a ∙ ap hit g
 
-  miss_begun : (a : ℕ) → search_in T 129 a code ≡ Nothing → begun T a s ≡ false
+  miss_begun : (a : ℕ) → search_in T 129 a code ≡ None → begun T a s ≡ false
   miss_begun a g = known a ∙ ap hit g
 
-  choose_at : (r : ℕ → List ℕ → Answer ReadingCause Value) (ts : List ℕ) (n j : ℕ) → j < length ts → ((i : ℕ) → i < j → search_in T 129 (get_or ts i 0) code ≡ Nothing)
+  choose_at : (r : ℕ → List ℕ → Answer ReadingCause Value) (ts : List ℕ) (n j : ℕ) → j < length ts → ((i : ℕ) → i < j → search_in T 129 (get_or ts i 0) code ≡ None)
       → begun T (get_or ts j 0) s ≡ true
       → choose T r ts n s ≡ then (r (get_or ts j 0) s) λ v s₁. got (choice (n + j) v) s₁
   unfolding choose if
@@ -270,7 +270,7 @@ module _ (T : Table) (F : (t : ℕ) → Fit (T t)) (N : (t : ℕ) → Nested T 1
   bare_value k x e = let b = bare (T x) (F x) e in rw (b.untold, b.is) refl
 
   -- k levels are left at the end of the way
-  leads_value : {way : List ℕ} {t d x : ℕ} → Leads T code way t d x → (u e : ℕ) → search_in T 129 x code ≡ At u e → (k : ℕ)
+  leads_value : {way : List ℕ} {t d x : ℕ} → Leads T code way t d x → (u e : ℕ) → search_in T 129 x code ≡ under u e → (k : ℕ)
       → read_value T (d + k) t s ≡ then (read_value T k x s) λ v s₁. got (wrapped way d v) s₁
   unfolding wrapped
   leads_value {t = t} here u e g k = let q : 0 + k ≡ k = omega arith in rw q (sym (then_self (read_value T k t s)))
@@ -286,12 +286,12 @@ module _ (T : Table) (F : (t : ℕ) → Fit (T t)) (N : (t : ℕ) → Nested T 1
       ∙ then_then (read_value T k a s) (λ v s₁. got (choice (0 + j) v) s₁) (λ v s₁. got (wrapped way d v) s₁)
       ∙ then_same (read_value T k a s) _ _ (λ v s₁ _. wrapped_on way d j v s₁))
 
-  leads_prefix : {way : List ℕ} {t d x : ℕ} → Leads T code way t d x → (u e : ℕ) → search_in T 129 x code ≡ At u e → (n : ℕ) → n ≤ d
-      → (y : ℕ) × (i : ℕ) × Leads T code way t n y × (search_in T 129 y code ≡ At u i)
+  leads_prefix : {way : List ℕ} {t d x : ℕ} → Leads T code way t d x → (u e : ℕ) → search_in T 129 x code ≡ under u e → (n : ℕ) → n ≤ d
+      → (y : ℕ) × (i : ℕ) × Leads T code way t n y × (search_in T 129 y code ≡ under u i)
   leads_prefix {way} {t} {d} {x} l u e g n h = test (eqb n d) (λ q. (x, e, rw (eqb-true n d q) l, g)) λ q. shorter l e g (omega (arith, eqb-false n d q))
     where
-      shorter : {d x : ℕ} → Leads T code way t d x → (e : ℕ) → search_in T 129 x code ≡ At u e → n < d
-          → (y : ℕ) × (i : ℕ) × Leads T code way t n y × (search_in T 129 y code ≡ At u i)
+      shorter : {d x : ℕ} → Leads T code way t d x → (e : ℕ) → search_in T 129 x code ≡ under u e → n < d
+          → (y : ℕ) × (i : ℕ) × Leads T code way t n y × (search_in T 129 y code ≡ under u i)
       shorter here e g h = absurd (omega arith)
       shorter (through {d} {x} j l b a w k m) e g h =
           let y = search_bare T F N code tag x b ∙ among_at (λ a. search_in T 129 a code) (siblings (T x).body) j k m u e g in

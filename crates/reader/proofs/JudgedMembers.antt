@@ -10,15 +10,15 @@ use mathlib.Core.Option.{some, none, none-ne-some}
 use mathlib.Core.Path.{◌≡◌, refl, sym, ap, ◌∙◌}
 use native.Mathlib.Omega.{arith}
 use Prim.Native.Nat.{ℕ, suc, ◌+◌, ◌-◌, ◌*◌, ◌/◌, ◌≤◌, ◌<◌}
+use Rattle.std.specs.Prelude.{Option, Some, None, Result, Ok, Err}
 use Rattle.x690.specs.declared.ReadingCause.{ReadingCause}
+use Rattle.x690.specs.declared.Unread.{Unread}
 use Rattle.x690.specs.declared.ReadingCause.TheVariants.{Cut, NotAwaited, Trailing, MessageLevel}
 use Rattle.octets.specs.Answer.{Answer, got, refused, then, if}
 use Rattle.octets.specs.Numbers.{Octets}
 use Rattle.octets.proofs.Answer.{got_holds}
 use Rattle.octets.proofs.Tests.{test}
 use Rattle.ber.specs.Told.{end_of, mode}
-use Rattle.ber.specs.declared.ending.End.{End}
-use Rattle.ber.specs.declared.ending.End.TheVariants.{More as GoesOn, Over as EndsAt, Broken as BrokenBy}
 use Rattle.ber.proofs.Ends.{end_more, end_over, end_broken}
 use Rattle.ber.proofs.Places.{part_to_end}
 use Rattle.table.specs.Syntax.{Plain, Sequence, Set, SequenceOf, SetOf, Choice, Record, Table}
@@ -31,31 +31,27 @@ use Rattle.coding.specs.Value.{Value, octets}
 use Rattle.coding.specs.Reading.{begun, not_awaited, read_value}
 use Rattle.coding.proofs.Refusals.{value_shorter}
 use Rattle.coding.proofs.Sound.{value_sound}
-use Rattle.reader.specs.Answers.{cap, told, size}
+use Rattle.reader.specs.Answers.{judged, unread, cap, told, size}
 use Rattle.reader.specs.Items.{Holder, inside, message, Manner, in_turn, each_once, repeated, single, manner, parts_of, Placed}
 use Rattle.reader.specs.Items.{up_to_mandatory, within, left, some_of, remains, lacks, since, following, noted, is_single, first, next}
 use Rattle.reader.specs.Items.{node_size, blank, read_held}
 use Rattle.reader.specs.Placing.{kind_of, onward, node_of}
 use Rattle.reader.specs.Codes.{either}
+use Rattle.reader.specs.Judging.{ToJudge}
 use Rattle.reader.specs.Records.{Ready, Known, IsRecord, record_in, read_record}
 use Rattle.reader.specs.Sought.{held, Sound, unfit, Sought}
 use Rattle.reader.specs.Standing.{at_ending, standing}
 use Rattle.reader.specs.Ways.{wrapped}
 use Rattle.reader.specs.Wraps.{Headed}
 use Rattle.reader.specs.declared.answer.Judged.{Judged}
-use Rattle.reader.specs.declared.answer.Judged.TheVariants.{Done, Refused}
-use Rattle.reader.specs.declared.judge.Standing.{Standing}
-use Rattle.reader.specs.declared.judge.Standing.TheVariants.{Item, Over as Ends, Refused as Stops}
 use Rattle.reader.specs.declared.search.Choice.{Choice as Chosen}
-use Rattle.reader.specs.declared.search.Found.{Found}
-use Rattle.reader.specs.declared.search.Found.TheVariants.{Part, Refused as NotFound}
 use Rattle.reader.proofs.Items.{More, unawaited_on, found_of, awaits_found}
 use Rattle.reader.proofs.ItemsGoing.{Going, since_first, going_first, going_over, going_lacking, going_broken}
 use Rattle.reader.proofs.ItemsGoing.{going_full, going_unawaited, going_refused, going_turn, one_unawaited, one_refused, one_done}
 use Rattle.reader.proofs.ItemsKinds.{blank_clear}
 use Rattle.reader.proofs.ItemsSizes.{is_plain}
 use Rattle.reader.proofs.ItemsWay.{wrapped_size}
-use Rattle.reader.proofs.ItemsFound.{AtItem, item_found, item_fits, rest_of, item_level, item_value, item_headed}
+use Rattle.reader.proofs.ItemsFound.{AtItem, item_found, rest_of, item_level, item_value, item_headed}
 use Rattle.reader.proofs.Held.{held_some, held_kind, held_one, held_span, held_few, held_node, held_onward, onward_most}
 use Rattle.reader.proofs.PlacedTurns.{since_onward}
 use Rattle.reader.proofs.Searching.{Parted, type_low}
@@ -110,56 +106,56 @@ noted_clear single came p n = refl
 
 -- where contents end, or go on
 module _ (h : Holder) (i : ℕ) (came : List ℕ) where
-  ends_over : (x : End) (u : ℕ) → at_ending h i came x ≡ Ends u → (x ≡ EndsAt u) × (lacks h i came ≡ false)
+  ends_over : (x : Result (Option ℕ) ReadingCause) (u : ℕ) → at_ending h i came x ≡ Ok (Some u) → (x ≡ Ok (Some u)) × (lacks h i came ≡ false)
   unfolding at_ending if
-  ends_over GoesOn u e = let z : ◌≡◌ {A = ℕ} 0 1 = cc in absurd (omega arith)
-  ends_over (EndsAt v) u e =
+  ends_over (Ok None) u e = let z : ◌≡◌ {A = ℕ} 0 1 = cc in absurd (omega arith)
+  ends_over (Ok (Some v)) u e =
       test (lacks h i came)
-      (λ l. let d : Stops NotAwaited ≡ Ends u = rw l at e in let z : ◌≡◌ {A = ℕ} 0 1 = cc in absurd (omega arith))
-      λ l. let d : Ends v ≡ Ends u = rw l at e in let q : v ≡ u = cc in (ap (λ (y : ℕ). EndsAt y) q, l)
-  ends_over (BrokenBy f) u e = let z : ◌≡◌ {A = ℕ} 0 1 = cc in absurd (omega arith)
+      (λ l. let d : ◌≡◌ {A = Result (Option ℕ) ReadingCause} (Err NotAwaited) (Ok (Some u)) = rw l at e in let z : ◌≡◌ {A = ℕ} 0 1 = cc in absurd (omega arith))
+      λ l. let d : ◌≡◌ {A = Result (Option ℕ) ReadingCause} (Ok (Some v)) (Ok (Some u)) = rw l at e in let q : v ≡ u = cc in (ap (λ (y : ℕ). Ok (Some y)) q, l)
+  ends_over (Err f) u e = let z : ◌≡◌ {A = ℕ} 0 1 = cc in absurd (omega arith)
 
-  abbrev Stopped : End → ReadingCause → Type 0
+  abbrev Stopped : Result (Option ℕ) ReadingCause → ReadingCause → Type 0
   Stopped x c =
-      ((u : ℕ) × (x ≡ EndsAt u) × (lacks h i came ≡ true) × (c ≡ NotAwaited)) ⊎ ((f : ReadingCause) × (x ≡ BrokenBy f) × (c ≡ f))
+      ((u : ℕ) × (x ≡ Ok (Some u)) × (lacks h i came ≡ true) × (c ≡ NotAwaited)) ⊎ ((f : ReadingCause) × (x ≡ Err f) × (c ≡ f))
 
-  ends_stopped : (x : End) (c : ReadingCause) → at_ending h i came x ≡ Stops c → Stopped x c
+  ends_stopped : (x : Result (Option ℕ) ReadingCause) (c : ReadingCause) → at_ending h i came x ≡ Err c → Stopped x c
   unfolding at_ending if
-  ends_stopped GoesOn c e = let z : ◌≡◌ {A = ℕ} 0 1 = cc in absurd (omega arith)
-  ends_stopped (EndsAt v) c e =
+  ends_stopped (Ok None) c e = let z : ◌≡◌ {A = ℕ} 0 1 = cc in absurd (omega arith)
+  ends_stopped (Ok (Some v)) c e =
       test (lacks h i came)
-      (λ l. let d : Stops NotAwaited ≡ Stops c = rw l at e in let q : NotAwaited ≡ c = cc in inl (v, refl, l, sym q))
-      λ l. let d : Ends v ≡ Stops c = rw l at e in let z : ◌≡◌ {A = ℕ} 0 1 = cc in absurd (omega arith)
-  ends_stopped (BrokenBy f) c e = let q : f ≡ c = cc in inr (f, refl, sym q)
+      (λ l. let d : ◌≡◌ {A = Result (Option ℕ) ReadingCause} (Err NotAwaited) (Err c) = rw l at e in let q : NotAwaited ≡ c = cc in inl (v, refl, l, sym q))
+      λ l. let d : ◌≡◌ {A = Result (Option ℕ) ReadingCause} (Ok (Some v)) (Err c) = rw l at e in let z : ◌≡◌ {A = ℕ} 0 1 = cc in absurd (omega arith)
+  ends_stopped (Err f) c e = let q : f ≡ c = cc in inr (f, refl, sym q)
 
-  ends_item : (x : End) → at_ending h i came x ≡ Item → x ≡ GoesOn
+  ends_item : (x : Result (Option ℕ) ReadingCause) → at_ending h i came x ≡ Ok None → x ≡ Ok None
   unfolding at_ending if
-  ends_item GoesOn e = refl
-  ends_item (EndsAt v) e =
+  ends_item (Ok None) e = refl
+  ends_item (Ok (Some v)) e =
       test (lacks h i came)
-      (λ l. let d : Stops NotAwaited ≡ Item = rw l at e in let z : ◌≡◌ {A = ℕ} 0 1 = cc in absurd (omega arith))
-      λ l. let d : Ends v ≡ Item = rw l at e in let z : ◌≡◌ {A = ℕ} 0 1 = cc in absurd (omega arith)
-  ends_item (BrokenBy f) e = let z : ◌≡◌ {A = ℕ} 0 1 = cc in absurd (omega arith)
+      (λ l. let d : ◌≡◌ {A = Result (Option ℕ) ReadingCause} (Err NotAwaited) (Ok None) = rw l at e in let z : ◌≡◌ {A = ℕ} 0 1 = cc in absurd (omega arith))
+      λ l. let d : ◌≡◌ {A = Result (Option ℕ) ReadingCause} (Ok (Some v)) (Ok None) = rw l at e in let z : ◌≡◌ {A = ℕ} 0 1 = cc in absurd (omega arith)
+  ends_item (Err f) e = let z : ◌≡◌ {A = ℕ} 0 1 = cc in absurd (omega arith)
 
-  module _ (x : End) where
+  module _ (x : Result (Option ℕ) ReadingCause) where
     many_stands : is_single (manner h) ≡ false → standing h i came x ≡ at_ending h i came x
     unfolding standing if
     many_stands n = rw n refl
 
-    one_stands : is_single (manner h) ≡ true → standing h i came x ≡ Item
+    one_stands : is_single (manner h) ≡ true → standing h i came x ≡ Ok None
     unfolding standing if
     one_stands n = rw n refl
 
-    over_many : (u : ℕ) → standing h i came x ≡ Ends u → is_single (manner h) ≡ false
+    over_many : (u : ℕ) → standing h i came x ≡ Ok (Some u) → is_single (manner h) ≡ false
     over_many u e =
         test (is_single (manner h))
-        (λ q. let d : Item ≡ Ends u = sym (one_stands q) ∙ e in let z : ◌≡◌ {A = ℕ} 0 1 = cc in absurd (omega arith))
+        (λ q. let d : ◌≡◌ {A = Result (Option ℕ) ReadingCause} (Ok None) (Ok (Some u)) = sym (one_stands q) ∙ e in let z : ◌≡◌ {A = ℕ} 0 1 = cc in absurd (omega arith))
         λ q. q
 
-    stopped_many : (c : ReadingCause) → standing h i came x ≡ Stops c → is_single (manner h) ≡ false
+    stopped_many : (c : ReadingCause) → standing h i came x ≡ Err c → is_single (manner h) ≡ false
     stopped_many c e =
         test (is_single (manner h))
-        (λ q. let d : Item ≡ Stops c = sym (one_stands q) ∙ e in let z : ◌≡◌ {A = ℕ} 0 1 = cc in absurd (omega arith))
+        (λ q. let d : ◌≡◌ {A = Result (Option ℕ) ReadingCause} (Ok None) (Err c) = sym (one_stands q) ∙ e in let z : ◌≡◌ {A = ℕ} 0 1 = cc in absurd (omega arith))
         λ q. q
 
 -- before the item at a place of m
@@ -290,8 +286,35 @@ pub record Turn (Q : Setting) : Type 0 where
   pub levels : level < 25
   pub low : at ≤ length m
   pub so_far : Judging Q.b Q.w m indefinite level came total at j
-  pub y : Standing
+  pub y : Result (Option ℕ) ReadingCause
   pub stands : y ≡ standing (H Q) (since (manner (H Q)) j) came (end_of indefinite (length m) (drop at m))
+
+pub setting_of : {b index m way : List ℕ} {w level : ℕ} {e : Entry} {s : Span} → ToJudge b index w m level way → e ≡ unpacked w → s ≡ span_of b e.kind e.own
+    → Setting
+setting_of {b} {index} {w = w} {e = e} {s = s} q ee es =
+    record { b = b; index = index; w = w; e = e; s = s; ready = q.ready; known = q.known; holds = q.holds; entry = ee; span = es }
+
+pub turn_of : {b index m way : List ℕ} {w level : ℕ} {e : Entry} {s : Span} (q : ToJudge b index w m level way) (ee : e ≡ unpacked w) (es : s ≡ span_of b e.kind e.own)
+    → {indefinite : Bool} {came : List ℕ} {total at j : ℕ} {y : Result (Option ℕ) ReadingCause} → Octets m → at ≤ length m
+    → Judging b w m indefinite level came total at j → y ≡ standing (held b w) (since (manner (held b w)) j) came (end_of indefinite (length m) (drop at m))
+    → Turn (setting_of q ee es)
+turn_of {m = m} {level = level} q ee es {indefinite} {came} {total} {at} {j} {y} o l s d =
+    record {
+      m = m;
+      indefinite = indefinite;
+      level = level;
+      came = came;
+      total = total;
+      at = at;
+      j = j;
+      octets = o;
+      short = q.short;
+      levels = q.levels;
+      low = l;
+      so_far = s;
+      y = y;
+      stands = d;
+    }
 
 module _ {Q : Setting} (P : Turn Q) where
   -- from which part on others are left; what is left of m; how values are read; all that is judged; and whether contents end here
@@ -307,10 +330,10 @@ module _ {Q : Setting} (P : Turn Q) where
   abbrev W : Answer ReadingCause Value
   W = read_held (T Q) (read_value (T Q) P.level) (H Q) (mode P.indefinite) P.m
 
-  abbrev E : End
+  abbrev E : Result (Option ℕ) ReadingCause
   E = end_of P.indefinite (length P.m) (drop P.at P.m)
 
-  refused_here : (c : ReadingCause) → W ≡ refused c (length Rest) → Refused c (length P.m - P.at) ≡ told P.m size W
+  refused_here : (c : ReadingCause) → W ≡ refused c (length Rest) → unread c (length P.m - P.at) ≡ told P.m size W
   refused_here c x = tell_refused P.m size W c (length P.m - P.at) (x ∙ ap (refused c) (length-drop P.at P.m))
 
   total_few : P.total < 16386
@@ -334,7 +357,7 @@ module _ {Q : Setting} (P : Turn Q) where
     type_few t et = omega (arith, type_low its_parted P.j l t et, Q.ready.filled.few)
 
   -- contents that are over
-  pub judged_over : (u : ℕ) → P.y ≡ Ends u → Done u P.total ≡ told P.m size W
+  pub judged_over : (u : ℕ) → P.y ≡ Ok (Some u) → judged u P.total ≡ told P.m size W
   judged_over u d =
       let n = over_many (H Q) I P.came E u (sym P.stands ∙ d) in
       let (a, l) = ends_over (H Q) I P.came E u (sym (many_stands (H Q) I P.came E n) ∙ sym P.stands ∙ d) in
@@ -345,14 +368,14 @@ module _ {Q : Setting} (P : Turn Q) where
       (end_over {A = ℕ} (λ z. got 0 z) (λ z. refused Cut 0) P.m P.at P.indefinite E u P.low refl a).2 g.size
 
   -- that lack a part, or are broken
-  pub judged_stopped : (c : ReadingCause) → P.y ≡ Stops c → Refused c (length P.m - P.at) ≡ told P.m size W
+  pub judged_stopped : (c : ReadingCause) → P.y ≡ Err c → unread c (length P.m - P.at) ≡ told P.m size W
   unfolding if
   judged_stopped c d = go (ends_stopped (H Q) I P.came E c (sym (many_stands (H Q) I P.came E N) ∙ sym P.stands ∙ d))
     where
       N : is_single (manner (H Q)) ≡ false
       N = stopped_many (H Q) I P.came E c (sym P.stands ∙ d)
 
-      go : Stopped (H Q) I P.came E c → Refused c (length P.m - P.at) ≡ told P.m size W
+      go : Stopped (H Q) I P.came E c → unread c (length P.m - P.at) ≡ told P.m size W
       go (inl (u, a, l, q)) =
           rw q (refused_here NotAwaited
           (going_lacking W (T Q) R (H Q) (mode P.indefinite) P.m P.at I P.came P.total P.so_far.going N (drop u P.m)
@@ -363,8 +386,8 @@ module _ {Q : Setting} (P : Turn Q) where
           (λ A g z. end_broken {A = A} g z P.m P.at P.indefinite E f refl a)))
 
   -- an item
-  module _ (d : P.y ≡ Item) where
-    goes_on : is_single (manner (H Q)) ≡ false → E ≡ GoesOn
+  module _ (d : P.y ≡ Ok None) where
+    goes_on : is_single (manner (H Q)) ≡ false → E ≡ Ok None
     goes_on n = ends_item (H Q) I P.came E (sym (many_stands (H Q) I P.came E n) ∙ sym P.stands ∙ d)
 
     its_more : is_single (manner (H Q)) ≡ false → More (mode P.indefinite) Rest
@@ -376,11 +399,11 @@ module _ {Q : Setting} (P : Turn Q) where
         λ q. (end_more {A = ℕ} (λ z. got 0 z) (λ z. refused Cut 0) P.m P.at P.indefinite E refl (goes_on q)).1
 
     -- of no part that is awaited
-    pub judged_unfit : (way : List ℕ) (c : ReadingCause) (r : Found) → Sought Q.b (H Q) I P.came (rest_of P.m P.at) way r → r ≡ NotFound c
-        → Refused c (length P.m - P.at) ≡ told P.m size W
+    pub judged_unfit : (way : List ℕ) (c : ReadingCause) (r : Result Chosen ReadingCause) → Sought Q.b (H Q) I P.came (rest_of P.m P.at) way r → r ≡ Err c
+        → unread c (length P.m - P.at) ≡ told P.m size W
     unfolding unfit if
     judged_unfit way c r q₀ ec =
-        let q : Sought Q.b (H Q) I P.came Rest way (NotFound c) = rw (part_to_end P.m P.at, ec) at q₀ in
+        let q : Sought Q.b (H Q) I P.came Rest way (Err c) = rw (part_to_end P.m P.at, ec) at q₀ in
         let x = unfit_alike {A = List ℕ} {B = Value} (H Q) I P.came Rest c (length Rest) q.1 in
         refused_here c (whole q.0 ∙ x)
       where
@@ -395,23 +418,16 @@ module _ {Q : Setting} (P : Turn Q) where
             λ r. rw (n, r) (going_full W (T Q) R (H Q) (mode P.indefinite) P.m P.at I P.came P.total P.so_far.going n (its_more n) r)
 
     -- of a part that was sought
-    pub found_low : (way : List ℕ) (x : Chosen) (r : Found) → Sought Q.b (H Q) I P.came (rest_of P.m P.at) way r → r ≡ Part x
+    pub found_low : (way : List ℕ) (x : Chosen) (r : Result Chosen ReadingCause) → Sought Q.b (H Q) I P.came (rest_of P.m P.at) way r → r ≡ Ok x
         → P.at + x.from ≤ 8192
     found_low way x r q ex =
         let F : AtItem Q.b (H Q) P.m P.at I P.came way x.place x.record x.depth (P.at + x.from) =
         item_found r x P.low q ex in
         omega (arith, F.low, P.short)
 
-    -- of the part at hand
-    pub item_here : P.j < Q.s.count → get_or P.came P.j 0 ≡ 0 → (t f : ℕ) → t ≡ get_or Q.b (Q.s.first + Q.s.step * P.j) 0
-        → f ≡ (unpacked (get_or Q.index t 0)).code → f ≡ get_or P.m P.at 0 → (way : List ℕ)
-        → AtItem Q.b (H Q) P.m P.at I P.came way P.j t 0 (P.at + 1)
-    item_here l z t f et ef q way =
-        item_fits its_parted P.m P.octets P.at item_there P.j l z t f et ef q way
-
 -- an item of a part
 pub record Comes {Q : Setting} (P : Turn Q) : Type 0 where
-  pub item : P.y ≡ Item
+  pub item : P.y ≡ Ok None
   pub way : List ℕ
   pub place : ℕ
   pub type : ℕ
@@ -419,6 +435,21 @@ pub record Comes {Q : Setting} (P : Turn Q) : Type 0 where
   pub from : ℕ
   pub is : AtItem Q.b (H Q) P.m P.at (I P) P.came way place type depth from
   pub ways : length way ≡ 128
+
+-- as the search found it
+pub comes_of : {Q : Setting} (P : Turn Q) → P.y ≡ Ok None → {r : Result Chosen ReadingCause} {x : Chosen} {way : List ℕ}
+    → (length way ≡ 128) × Sought Q.b (H Q) (I P) P.came (rest_of P.m P.at) way r → r ≡ Ok x → Comes P
+comes_of P d {r} {x} {way} s e =
+    record {
+      item = d;
+      way = way;
+      place = x.place;
+      type = x.«record»;
+      depth = x.depth;
+      from = P.at + x.from;
+      is = item_found r x P.low s.1 e;
+      ways = s.0;
+    }
 
 module _ {Q : Setting} {P : Turn Q} (X : Comes P) where
   abbrev TypeOf : ℕ
@@ -452,7 +483,7 @@ module _ {Q : Setting} {P : Turn Q} (X : Comes P) where
       (its_more P X.item n) some_remain (X.place, X.is.part) X.is.found c l q
 
   -- under more CHOICEs than there are levels
-  pub judged_level : P.level ≤ X.depth → Refused MessageLevel (length P.m - P.at) ≡ told P.m size (W P)
+  pub judged_level : P.level ≤ X.depth → unread MessageLevel (length P.m - P.at) ≡ told P.m size (W P)
   unfolding if
   judged_level h =
       refused_here P MessageLevel (part_refused MessageLevel (length (Rest P)) (item_level Q.ready P.octets X.is P.level h))
@@ -470,7 +501,7 @@ module _ {Q : Setting} {P : Turn Q} (X : Comes P) where
 -- whose value was judged
 pub record Valued {Q : Setting} {P : Turn Q} (X : Comes P) : Type 0 where
   pub deep : X.depth < P.level
-  pub r : Judged
+  pub r : Result Judged Unread
   pub said : r ≡ told P.m size (read_record (T Q) (P.level - X.depth - 1) (record_in Q.b (unpacked (EntryOf X))) (Rest P))
 
 module _ {Q : Setting} {P : Turn Q} {X : Comes P} (Y : Valued X) where
@@ -497,13 +528,13 @@ module _ {Q : Setting} {P : Turn Q} {X : Comes P} (Y : Valued X) where
   depth_few = omega (arith, Y.deep, P.levels)
 
   -- and refused
-  pub judged_refused : (c : ReadingCause) (l : ℕ) → Y.r ≡ Refused c l → Refused c l ≡ told P.m size (W P)
+  pub judged_refused : (c : ReadingCause) (l : ℕ) → Y.r ≡ unread c l → unread c l ≡ told P.m size (W P)
   unfolding then
   judged_refused c l q =
       tell_refused P.m size (W P) c l (part_refused X c l (through_way ∙ ap Through (told_refused P.m size Below Y.r is_said c l q)))
 
   -- or accepted
-  module _ (end n : ℕ) (q : Y.r ≡ Done end n) where
+  module _ (end n : ℕ) (q : Y.r ≡ judged end n) where
     abbrev Its : (v : Value) × (u : List ℕ) × (Below ≡ got v u) × (end ≡ length P.m - length u) × (n ≡ cap (length (octets v)))
     Its = told_done P.m size Below Y.r is_said end n q
 
@@ -532,7 +563,7 @@ module _ {Q : Setting} {P : Turn Q} {X : Comes P} (Y : Valued X) where
 
       module _ (k : Bool) (ek : k ≡ (eqb Q.e.kind 50 || eqb Q.e.kind 51)) where
         -- the only one
-        pub judged_one : k ≡ true → Done end last ≡ told P.m size (W P)
+        pub judged_one : k ≡ true → judged end last ≡ told P.m size (W P)
         judged_one z =
             let g =
             one_done (W P) (T Q) (R P) (H Q) (mode P.indefinite) P.m P.at (I P) P.came P.total P.so_far.going (one_is Q k ek ∙ z)

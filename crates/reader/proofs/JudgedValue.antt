@@ -8,16 +8,17 @@ use mathlib.Core.Logic.{◌⊎◌, inl, inr}
 use mathlib.Core.Path.{◌≡◌, refl, sym, ap, subst, ◌∙◌}
 use native.Mathlib.Omega.{arith}
 use Prim.Native.Nat.{ℕ, ◌+◌, ◌-◌, ◌≤◌, ◌<◌}
+use Rattle.std.specs.Prelude.{Option, Some, None, Result, Ok, Err}
 use Rattle.x690.specs.declared.ReadingCause.{ReadingCause}
+use Rattle.x690.specs.declared.Unread.{Unread}
 use Rattle.x690.specs.declared.ReadingCause.TheVariants.{Cut, Trailing}
 use Rattle.octets.specs.Answer.{Answer, got, refused, then, if, behind, none_left}
 use Rattle.octets.proofs.Answer.{refused≢got}
 use Rattle.octets.proofs.Tests.{test}
 use Rattle.x690.specs.Reading.{closed, read_length}
 use Rattle.x690.specs.Segments.{in_either}
+use Rattle.octets.specs.Numbers.{unless_zero}
 use Rattle.ber.specs.Told.{told_length}
-use Rattle.ber.specs.declared.length.Length.{Length}
-use Rattle.ber.specs.declared.length.Length.TheVariants.{Refused as NoLength}
 use Rattle.ber.proofs.Told.{length_refused}
 use Rattle.table.specs.Syntax.{Simple, Boolean, Integer, BitString, OctetString, Null, Enumerated, Time, Body, Plain}
 use Rattle.table.specs.Syntax.{Record, Table}
@@ -28,25 +29,21 @@ use Rattle.records.specs.declared.entry.Entry.{Entry}
 use Rattle.coding.specs.Content.{segmented}
 use Rattle.coding.specs.Value.{Value, leaf, Leaf, octets}
 use Rattle.coding.specs.Reading.{read_value, read_message}
-use Rattle.reader.specs.Answers.{cap, told, size}
+use Rattle.reader.specs.Answers.{judged, unread, cap, told, size}
 use Rattle.reader.specs.Items.{Holder, message}
 use Rattle.reader.specs.Items.{read_held}
 use Rattle.reader.specs.Records.{Ready, IsRecord, Known, of_message, holder_in, read_record}
 use Rattle.reader.specs.Sought.{held}
-use Rattle.reader.specs.Codes.{own_either}
 use Rattle.reader.specs.Leaves.{is_in_segments, read_leaf, read_leaf_in, leaf_size}
 use Rattle.reader.specs.Weights.{size_by}
 use Rattle.reader.specs.Wraps.{closing, Around, read_bare, Opens}
 use Rattle.reader.specs.declared.answer.Judged.{Judged}
-use Rattle.reader.specs.declared.answer.Judged.TheVariants.{Done, Refused}
-use Rattle.reader.specs.declared.tags.Opened.{Opened}
-use Rattle.reader.specs.declared.tags.Opened.TheVariants.{Refused as NotOpened}
 use Rattle.reader.proofs.ItemsKinds.{message_whole}
 use Rattle.reader.proofs.Bodies.{record_of, its_body, its_kind}
 use Rattle.reader.proofs.LeafReading.{leaf_end, leaf_shift}
 use Rattle.reader.proofs.LeafCode.{whole_done}
 use Rattle.reader.proofs.Tagging.{its_entry}
-use Rattle.reader.proofs.Weighing.{by_whole}
+use Rattle.reader.proofs.Weighing.{by_whole, by_parts}
 use Rattle.reader.proofs.Opening.{its_count, its_few}
 use Rattle.reader.proofs.Tails.{Sane, leaves, stops, tail_less, Closes, held_sane, not_none}
 use Rattle.reader.proofs.Told.{told_refused, told_done, tell_refused}
@@ -65,9 +62,35 @@ pub record Over (b : List ℕ) (r : Record) (n : ℕ) (p : List ℕ) (at end sto
   pub is : read_bare b n r (drop at p) ≡ got value (drop stop p)
   pub sized : count ≡ cap (length (octets value))
 
-either_kind : (k : Simple) → in_either (segmented k) ≡ true → {y : Body} → y ≡ Plain k → own_either y ≡ true
-unfolding own_either
-either_kind k e q = rw q e
+-- contents that have a size by themselves
+sized_by : {n i : ℕ} {x : Option ℕ} → x ≡ unless_zero n → x ≡ Some i → (i ≡ n) × (n ≡ 0 → ⊥)
+unfolding if
+sized_by {n} {i} e f =
+    test (eqb n 0)
+    (λ t. let q : ◌≡◌ {A = Option ℕ} (Some i) None = sym f ∙ e ∙ rw t refl in let z : ◌≡◌ {A = ℕ} 0 1 = cc in absurd (omega arith))
+    λ t. let q : ◌≡◌ {A = Option ℕ} (Some i) (Some n) = sym f ∙ e ∙ rw t refl in (cc, eqb-false n 0 t)
+
+pub unsized_by : {n : ℕ} {x : Option ℕ} → x ≡ unless_zero n → x ≡ None → n ≡ 0
+unfolding if
+unsized_by {n} e f =
+    test (eqb n 0) (λ t. eqb-true n 0 t)
+    λ t. let q : ◌≡◌ {A = Option ℕ} None (Some n) = sym f ∙ e ∙ rw t refl in let z : ◌≡◌ {A = ℕ} 0 1 = cc in absurd (omega arith)
+
+module _ {b : List ℕ} {e : Entry} {r : Record} (X : Entered b e r) (lead : ℕ) (c : List ℕ) (f : is_in_segments lead ≡ true → (e.kind ≡ 3) ⊎ (e.kind ≡ 4)) where
+  by_itself : {n : ℕ} → n ≡ size_by (body_at b e.kind e.own) lead c → (n ≡ 0 → ⊥) → is_in_segments lead ≡ false
+  by_itself {n} en some = test (is_in_segments lead) (λ t. absurd (some (en ∙ sym (none (f t) t)))) (λ t. t)
+    where
+      none : (e.kind ≡ 3) ⊎ (e.kind ≡ 4) → is_in_segments lead ≡ true → 0 ≡ size_by (body_at b e.kind e.own) lead c
+      none (inl q) t = by_parts X lead c q refl t
+      none (inr q) t = by_parts X lead c q refl t
+
+  pub sized_done : e.simple ≡ true → {z : Bool} → z ≡ false → (l j i : ℕ) {x : Option ℕ} → x ≡ unless_zero (size_by (body_at b e.kind e.own) lead c)
+      → size_by (body_at b e.kind e.own) lead c < 16386 → x ≡ Some i
+      → judged (length c) i ≡ told c leaf_size (read_leaf_in (body_at b e.kind e.own) (is_in_segments lead) z l j c)
+  sized_done s {z} o l j i q h g =
+      let (en, some) = sized_by q g in
+      let w = by_itself en (λ v. some (sym en ∙ v)) in
+      rw w (whole_done X s z l j c o (en ∙ sym (by_whole X lead c w refl)) (λ v. some (sym en ∙ v)) (omega arith))
 
 -- a string by the number of its kind
 string_kind : (k : Simple) → in_either (segmented k) ≡ true → {n : ℕ} → n ≡ kind (Plain k) → (n ≡ 3) ⊎ (n ≡ 4)
@@ -81,19 +104,19 @@ string_kind (Enumerated ns) e h = absurd (false≢true e)
 string_kind (Time q) e h = absurd (false≢true e)
 
 -- tags that were not opened
-pub value_unopened : {b index : List ℕ} (R : Ready b index) {w : ℕ} (I : IsRecord b index w) (m : List ℕ) (first : ℕ) (ns : List ℕ) (y : Opened)
-    → Opens b (record_of b w) m first ns y → (c : ReadingCause) (l : ℕ) → y ≡ NotOpened c l → (n : ℕ)
-    → Refused c l ≡ told m size (read_record (table_in b) n (record_of b w) (drop first m))
+pub value_unopened : {b index : List ℕ} (R : Ready b index) {w : ℕ} (I : IsRecord b index w) (m : List ℕ) (first : ℕ) (ns : List ℕ) (y : Result Inner Unread)
+    → Opens b (record_of b w) m first ns y → (c : ReadingCause) (l : ℕ) → y ≡ unread c l → (n : ℕ)
+    → unread c l ≡ told m size (read_record (table_in b) n (record_of b w) (drop first m))
 value_unopened {b} R {w} I m first ns y o c l e n =
     tell_refused m size (read_record (table_in b) n (record_of b w) (drop first m)) c l (tags_refused R I m first ns y o c l e n)
 
 module _ {b index : List ℕ} {w : ℕ} {m : List ℕ} {first level : ℕ} (X : Item b index w m first level) where
   -- what the answer has to be
-  abbrev pub Wanted : Judged
+  abbrev pub Wanted : Result Judged Unread
   Wanted = told m size (read_record (table_in b) level (record_of b w) (drop first m))
 
   -- a refusal of the item is one of the value
-  under_refused : (c : ReadingCause) (l : ℕ) → Bare X ≡ refused c l → Refused c (l + (length m - X.end)) ≡ Wanted
+  under_refused : (c : ReadingCause) (l : ℕ) → Bare X ≡ refused c l → unread c (l + (length m - X.end)) ≡ Wanted
   unfolding told
   under_refused c l e =
       rw (
@@ -103,13 +126,13 @@ module _ {b index : List ℕ} {w : ℕ} {m : List ℕ} {first level : ℕ} (X : 
             X.under.around,
       ) refl
 
-  item_unfit : (c : ReadingCause) → Bare X ≡ refused c (length (Rest X)) → Refused c (length m - X.at) ≡ Wanted
+  item_unfit : (c : ReadingCause) → Bare X ≡ refused c (length (Rest X)) → unread c (length m - X.at) ≡ Wanted
   item_unfit c e =
       let z : length m - X.at ≡ length (Rest X) + (length m - X.end) = omega (arith, left_part X, X.under.some, X.under.high) in
       rw z (under_refused c (length (Rest X)) e)
 
-  pub value_unread : (X.entry.kind ≡ 50 → ⊥) → (z : Length) → z ≡ told_length (length (Part X)) (read_length (length (Rest X)) (drop X.from (Part X)))
-      → (c : ReadingCause) → z ≡ NoLength c → Refused c (length m - X.at) ≡ Wanted
+  pub value_unread : (X.entry.kind ≡ 50 → ⊥) → (z : Result Extent ReadingCause) → z ≡ told_length (length (Part X)) (read_length (length (Rest X)) (drop X.from (Part X)))
+      → (c : ReadingCause) → z ≡ Err c → unread c (length m - X.at) ≡ Wanted
   value_unread k z az c q =
       item_unfit c (item_unsized X (no_choice X k) c (length (Rest X)) (length_refused (Part X) X.from (length (Rest X)) z az c q))
 
@@ -128,7 +151,7 @@ module _ {b index : List ℕ} {w : ℕ} {m : List ℕ} {first level : ℕ} (Y : 
     its_entered : Entered b Y.item.entry (table_in b Y.item.known.0)
     its_entered = rw Y.item.entered (its_entry Y.item.ready Y.item.known)
 
-    module _ (y : Judged) (ey : y ≡ told (C Y) leaf_size (read_leaf_in (body_at b Y.item.entry.kind Y.item.entry.own) (is_in_segments Lead) Y.indefinite
+    module _ (y : Result Judged Unread) (ey : y ≡ told (C Y) leaf_size (read_leaf_in (body_at b Y.item.entry.kind Y.item.entry.own) (is_in_segments Lead) Y.indefinite
         (length m - Y.item.at) (length m - Y.stop) (C Y))) where
       -- the same in the octets around the item, with what stands behind those
       record Local : Type 0 where
@@ -156,18 +179,18 @@ module _ {b index : List ℕ} {w : ℕ} {m : List ℕ} {first level : ℕ} (Y : 
             reads_so = leaf_read Y simple k q;
           }
 
-      pub value_wrong : (c : ReadingCause) (l : ℕ) → y ≡ Refused c l → Refused c l ≡ Wanted Y.item
+      pub value_wrong : (c : ReadingCause) (l : ℕ) → y ≡ unread c l → unread c l ≡ Wanted Y.item
       unfolding behind then
       value_wrong c l d = go local.answer local.reads_so (told_refused (C Y) leaf_size (behind (length m - Y.item.end) local.answer) y local.told_so c l d)
         where
-          go : (x : Answer ReadingCause Leaf) → Bare Y.item ≡ leaf_end (C Y) (drop Y.start (P Y)) x → behind (length m - Y.item.end) x ≡ refused c l → Refused c l ≡ Wanted Y.item
+          go : (x : Answer ReadingCause Leaf) → Bare Y.item ≡ leaf_end (C Y) (drop Y.start (P Y)) x → behind (length m - Y.item.end) x ≡ refused c l → unread c l ≡ Wanted Y.item
           go (got x s) r e = refused≢got (sym e)
           go (refused a j) r e =
               let z : a ≡ c = cc in
               let v : j + (length m - Y.item.end) ≡ l = cc in
               rw (← z, ← v) (under_refused Y.item a j r)
 
-      module _ (u i : ℕ) (d : y ≡ Done u i) where
+      module _ (u i : ℕ) (d : y ≡ judged u i) where
         pub over_leaf : Over b (record_of b w) level (P Y) Y.item.at Y.item.end (Y.start + u) i
         unfolding behind then octets
         over_leaf =
@@ -189,43 +212,21 @@ module _ {b index : List ℕ} {w : ℕ} {m : List ℕ} {first level : ℕ} (Y : 
         pub leaf_high : Y.start + u ≤ 8192
         leaf_high = omega (arith, over_leaf.within, Y.item.under.high, Y.item.short)
 
-    -- contents that have a size by themselves
-    module _ (sized : Y.indefinite ≡ false) (i : ℕ) (ei : i ≡ size_by (body_at b Y.item.entry.kind Y.item.entry.own) Lead (C Y)) (some : i ≡ 0 → ⊥) where
-      whole : is_in_segments Lead ≡ false
-      unfolding size_by if
-      whole =
-          test (is_in_segments Lead)
-          (λ t.
-          let (k, q) = is_plain Y simple in
-          let z : own_either (body_at b Y.item.entry.kind Y.item.entry.own) ≡ true = either_kind k (leaf_string Y simple k q (sym (leaf_lead Y simple k q) ∙ t))
-          (ap (λ (x : Entry). body_at b x.kind x.own) Y.item.entered ∙ its_body Y.item.ready Y.item.known ∙ q) in
-          absurd (some (ei ∙ rw (z, t) refl)))
-          λ t. t
-
-      pub over_sized : i < 16386 → Over b (record_of b w) level (P Y) Y.item.at Y.item.end Y.stop i
-      over_sized small =
-          let e = whole_done its_entered simple Y.indefinite (length m - Y.item.at) (length m - Y.stop) (C Y) sized
-          (ei ∙ sym (by_whole its_entered Lead (C Y) whole refl)) some small in
-          let o = over_leaf (Done (length (C Y)) i) (e ∙ ap (λ (p : Bool). told (C Y) leaf_size (read_leaf_in (body_at b Y.item.entry.kind Y.item.entry.own) p
-          Y.indefinite (length m - Y.item.at) (length m - Y.stop) (C Y))) (sym whole)) (length (C Y)) i refl in
-          let s : Y.start + length (C Y) ≡ Y.stop = omega (arith, size_c Y, Y.within.ordered) in
-          subst (λ (j : ℕ). Over b (record_of b w) level (P Y) Y.item.at Y.item.end j i) s o
-
   -- items
   module _ (plain : Y.item.entry.simple ≡ false) where
     few_left : (c : ReadingCause) (l : ℕ) (x : Answer ReadingCause Value) → Fine Y plain x → x ≡ refused c l → l ≤ length (C Y)
     few_left c l (got v u) s q = refused≢got (sym q)
     few_left c l (refused a i) (stops h) q = let z : i ≡ l = cc in omega arith
 
-    module _ (y : Judged) (ey : y ≡ told (C Y) size (Held Y plain)) where
-      module _ (c : ReadingCause) (l : ℕ) (d : y ≡ Refused c l) where
+    module _ (y : Result Judged Unread) (ey : y ≡ told (C Y) size (Held Y plain)) where
+      module _ (c : ReadingCause) (l : ℕ) (d : y ≡ unread c l) where
         its_refusal : Held Y plain ≡ refused c l
         its_refusal = told_refused (C Y) size (Held Y plain) y ey c l d
 
         pub items_low : l + (length m - Y.stop) ≤ 8192
         items_low = omega (arith, few_left c l (Held Y plain) (fine Y plain) its_refusal, size_c Y, contents_within Y, Y.item.short)
 
-        pub value_unheld : Refused c (l + (length m - Y.stop)) ≡ Wanted Y.item
+        pub value_unheld : unread c (l + (length m - Y.stop)) ≡ Wanted Y.item
         value_unheld =
             let q : l + (length m - Y.stop) ≡ l + (Y.item.end - Y.stop) + (length m - Y.item.end)
             = omega (arith, Y.within.high, Y.item.under.high) in
@@ -233,7 +234,7 @@ module _ {b index : List ℕ} {w : ℕ} {m : List ℕ} {first level : ℕ} (Y : 
             (under_refused Y.item c (l + (Y.item.end - Y.stop))
             (reads Y plain (refused c l) its_refusal (rw its_refusal at (fine Y plain))))
 
-      module _ (u i : ℕ) (d : y ≡ Done u i) where
+      module _ (u i : ℕ) (d : y ≡ judged u i) where
         pub over_items : Over b (record_of b w) level (P Y) Y.item.at Y.item.end (Y.start + u) i
         over_items =
             let (v, s, x, f, g) = told_done (C Y) size (Held Y plain) y ey u i d in
@@ -283,10 +284,10 @@ module _ {b index : List ℕ} {w : ℕ} {m : List ℕ} {first level : ℕ} (Z : 
       ap (told m size) (It.under.whole level ∙ ap (closing m ns It.end) Z.over.is)
       ∙ closing_size m ns It.end v Z.count (drop Z.stop (take It.end m)) size (λ (i : ℕ). i) q
 
-  pub value_closed : (y : Judged) → y ≡ told m (λ (i : ℕ). i) (closing m AllNotes It.end (Behind Z.count)) → y ≡ Wanted It
+  pub value_closed : (y : Result Judged Unread) → y ≡ told m (λ (i : ℕ). i) (closing m AllNotes It.end (Behind Z.count)) → y ≡ Wanted It
   value_closed y e = e ∙ ap (λ (l : List ℕ). told m (λ (i : ℕ). i) (closing m l It.end (Behind Z.count))) notes_same ∙ sym closed_is
 
-  pub value_over : It.entry.explicit ≤ 0 → Done Z.stop Z.count ≡ Wanted It
+  pub value_over : It.entry.explicit ≤ 0 → judged Z.stop Z.count ≡ Wanted It
   unfolding told closing Around
   value_over l =
       let z = no_notes It.ready It.known It.entry It.entered l It.notes in
@@ -302,18 +303,18 @@ pub message_known : {b index : List ℕ} (w t : ℕ) → t < count_in b → unpa
     → Known b index w × ((unpacked w).simple ≡ false)
 message_known w t h q = (of_message t h q, ap (λ (x : Entry). x.simple) q)
 
-pub message_empty : (T : Table) (n t : ℕ) (m : List ℕ) → length m ≡ 0 → Refused Cut 0 ≡ told m size (read_message T n t m)
+pub message_empty : (T : Table) (n t : ℕ) (m : List ℕ) → length m ≡ 0 → unread Cut 0 ≡ told m size (read_message T n t m)
 unfolding told read_message none_left if
 message_empty T n t [] z = refl
 message_empty T n t (x ∷ m) z = absurd (omega arith)
 
 module _ (b m : List ℕ) (n t : ℕ) (some : length m ≡ 0 → ⊥) (w : ℕ)
     (q : unpacked w ≡ record { code = 0; own = t; kind = 51; explicit = 0; simple = false })
-    (y : Judged) (ey : y ≡ told m size (read_held (table_in b) (read_value (table_in b) n) (held b w) closed m)) where
+    (y : Result Judged Unread) (ey : y ≡ told m size (read_held (table_in b) (read_value (table_in b) n) (held b w) closed m)) where
   abbrev Root : Answer ReadingCause Value
   Root = read_held (table_in b) (read_value (table_in b) n) (message t) closed m
 
-  abbrev Whole : Judged
+  abbrev Whole : Result Judged Unread
   Whole = told m size (read_message (table_in b) n t m)
 
   its_root : held b w ≡ message t
@@ -327,11 +328,11 @@ module _ (b m : List ℕ) (n t : ℕ) (some : length m ≡ 0 → ⊥) (w : ℕ)
   unfolding if
   its_whole = message_whole (table_in b) n t closed m ∙ rw (not_none m some) refl
 
-  pub message_refused : (c : ReadingCause) (l : ℕ) → y ≡ Refused c l → Refused c l ≡ Whole
+  pub message_refused : (c : ReadingCause) (l : ℕ) → y ≡ unread c l → unread c l ≡ Whole
   unfolding told then
   message_refused c l d = rw (its_whole, told_refused m size Root y its_answer c l d) refl
 
-  module _ (u i : ℕ) (d : y ≡ Done u i) where
+  module _ (u i : ℕ) (d : y ≡ judged u i) where
     rest_length : (v : Value) (s : List ℕ) → Root ≡ got v s → length s ≤ length m
     rest_length v s x = go (got v s) (rw x at (held_sane (table_in b) n (message t) closed m)) refl
       where
@@ -339,25 +340,25 @@ module _ (b m : List ℕ) (n t : ℕ) (some : length m ≡ 0 → ⊥) (w : ℕ)
         go (got a r) (leaves h p) e = let k : r ≡ s = cc in omega (arith, tail_less h, ap length k)
         go (refused c l) h e = refused≢got e
 
-    pub message_trailing : u < length m → Refused Trailing (length m - u) ≡ Whole
+    pub message_trailing : u < length m → unread Trailing (length m - u) ≡ Whole
     unfolding told then if none_left
     message_trailing l =
         let (v, s, x, f, g) = told_done m size Root y its_answer u i d in
         let k : length m - u ≡ length s = omega (arith, rest_length v s x) in
         rw (its_whole, x, k) (go v s (omega arith))
       where
-        go : (v : Value) (s : List ℕ) → 0 < length s → Refused Trailing (length s) ≡ told m size
+        go : (v : Value) (s : List ℕ) → 0 < length s → unread Trailing (length s) ≡ told m size
             (if (not (none_left s)) (refused Trailing (length s)) λ _. got v s)
         go v [] l = absurd (omega arith)
         go v (a ∷ s) l = refl
 
-    pub message_done : length m ≤ u → Done u i ≡ Whole
+    pub message_done : length m ≤ u → judged u i ≡ Whole
     unfolding told then if none_left
     message_done l =
         let (v, s, x, f, g) = told_done m size Root y its_answer u i d in
         rw (its_whole, x) (go v s (omega (arith, rest_length v s x)) f g)
       where
         go : (v : Value) (s : List ℕ) → length s ≡ 0 → u ≡ length m - length s → i ≡ cap (length (octets v))
-            → Done u i ≡ told m size (if (not (none_left s)) (refused Trailing (length s)) λ _. got v s)
+            → judged u i ≡ told m size (if (not (none_left s)) (refused Trailing (length s)) λ _. got v s)
         go v [] z f g = rw (f, g) refl
         go v (a ∷ s) z f g = absurd (omega arith)

@@ -11,7 +11,9 @@ use borrow.Author.Tests.{not-true, not-false, eqb-true}
 use lib.Dec.{eqb}
 use lib.ListN.{length, get_or, take, drop, length-append, length-drop, take-append-drop}
 use lib.Seq.{sets, sets-eq, length-sets, length-take-le, take_at, drop_at}
+use Rattle.std.specs.Prelude.{Result, Ok, Err}
 use Rattle.x690.specs.declared.ReadingCause.{ReadingCause}
+use Rattle.x690.specs.declared.Unread.{Unread}
 use Rattle.x690.specs.declared.ReadingCause.TheVariants.{Forbidden, Contents}
 use Rattle.octets.specs.Answer.{Answer, got, refused, then, if, behind, none_left}
 use Rattle.octets.specs.Numbers.{octets_of}
@@ -27,8 +29,6 @@ use Rattle.segments.specs.Segments.{kind_of, unused_in, carried, told_segments, 
 use Rattle.ber.specs.Told.{mode}
 use Rattle.segments.specs.declared.Gathered.{Gathered as Extents}
 use Rattle.segments.specs.declared.Joined.{Joined}
-use Rattle.segments.specs.declared.Segments.{Segments}
-use Rattle.segments.specs.declared.Segments.TheVariants.{Read as ReadSegments, Refused as NoSegments}
 use Rattle.segments.proofs.Gathering.{all_gathers}
 use Rattle.segments.proofs.JoinCode.{carried_empty, carried_join, join_is}
 use Rattle.segments.proofs.Joining.{empty_few}
@@ -41,10 +41,9 @@ use Rattle.records.specs.declared.entry.Entry.{Entry}
 use Rattle.coding.specs.Content.{segmented}
 use Rattle.coding.specs.Value.{Leaf, bits, string, leaf_octets}
 use Rattle.coding.specs.Reading.{decode}
-use Rattle.reader.specs.Answers.{told, cap}
+use Rattle.reader.specs.Answers.{judged, unread, told, cap}
 use Rattle.reader.specs.Leaves.{leaf_of, read_segments, read_leaf, read_leaf_in, leaf_size, Carried, by_segments, ToPlaceLeaf, LeafPlaced}
 use Rattle.reader.specs.Weights.{weight, leaf_weight}
-use Rattle.reader.specs.declared.answer.Judged.TheVariants.{Done, Refused}
 use Rattle.reader.proofs.Bodies.{plain_of}
 use Rattle.reader.proofs.LeafKinds.{bits_octets, string_octets, leaf_three, lawful_bits, leaf_placed}
 use Rattle.reader.proofs.LeafReading.{decode_only, decode_moves}
@@ -105,27 +104,27 @@ is_string b kind own (inr e) =
 abbrev all_in : ℕ → Bool → List ℕ → Answer ReadingCause Gathered
 all_in kind z c = read_all (kind_in kind) (read_segment (kind_in kind) deepest) (mode z) c
 
-module _ (kind : ℕ) (z : Bool) (c : List ℕ) {r : Segments} (a : r ≡ told_segments (kind_in kind) (length c) (all_in kind z c)) where
-  parts_stop : (f : ReadingCause) (n : ℕ) → r ≡ NoSegments f n → (all_in kind z c ≡ refused f n) × (n ≤ length c)
-  parts_stop f n e = all_refused (kind_in kind) deepest c r z a f n e
+module _ (kind : ℕ) (z : Bool) (c : List ℕ) {r : Result Extents Unread} (a : r ≡ told_segments (kind_in kind) (length c) (all_in kind z c)) where
+  parts_stop : (y : Unread) → r ≡ Err y → (all_in kind z c ≡ refused y.cause y.left) × (y.left ≤ length c)
+  parts_stop y e = all_refused (kind_in kind) deepest c r z a y e
 
-  pub parts_left : (f : ReadingCause) (n : ℕ) → r ≡ NoSegments f n → n ≤ length c
-  parts_left f n e = (parts_stop f n e).1
+  pub parts_left : (y : Unread) → r ≡ Err y → y.left ≤ length c
+  parts_left y e = (parts_stop y e).1
 
-  parts_came : (y : Extents) → r ≡ ReadSegments y → Came (kind_in kind) 0 (length (empty (kind_in kind))) c (all_in kind z c) y
+  parts_came : (y : Extents) → r ≡ Ok y → Came (kind_in kind) 0 (length (empty (kind_in kind))) c (all_in kind z c) y
   parts_came y e = all_came (kind_in kind) deepest c r z a y e
 
-  pub parts_few : (y : Extents) → r ≡ ReadSegments y → y.size ≤ length c + 1
+  pub parts_few : (y : Extents) → r ≡ Ok y → y.size ≤ length c + 1
   parts_few y e = let C = parts_came y e in omega (arith, empty_few (kind_in kind), C.high, C.inside)
 
   -- l octets are left where the item begins, and j behind c
   module _ (b : List ℕ) (own l j : ℕ) (s : (kind ≡ 3) ⊎ (kind ≡ 4)) where
-    pub parts_refused : (f : ReadingCause) (n : ℕ) → r ≡ NoSegments f n → Refused f (n + j) ≡ told c leaf_size (read_leaf_in (body_at b kind own) true z l j c)
+    pub parts_refused : (y : Unread) → r ≡ Err y → unread y.cause (y.left + j) ≡ told c leaf_size (read_leaf_in (body_at b kind own) true z l j c)
     unfolding read_leaf_in read_leaf read_segments then behind told
-    parts_refused f n e = let I = is_string b kind own s in rw (I.body, I.segments, (parts_stop f n e).0) refl
+    parts_refused y e = let I = is_string b kind own s in rw (I.body, I.segments, (parts_stop y e).0) refl
 
-    pub parts_done : (y : Extents) → r ≡ ReadSegments y → (n : ℕ) → (kind ≡ 3 → n ≡ y.size + 4) × (kind ≡ 4 → n ≡ y.size + 5) → length c ≤ 8192
-        → Done y.end n ≡ told c leaf_size (read_leaf_in (body_at b kind own) true z l j c)
+    pub parts_done : (y : Extents) → r ≡ Ok y → (n : ℕ) → (kind ≡ 3 → n ≡ y.size + 4) × (kind ≡ 4 → n ≡ y.size + 5) → length c ≤ 8192
+        → judged y.end n ≡ told c leaf_size (read_leaf_in (body_at b kind own) true z l j c)
     unfolding read_leaf_in read_leaf read_segments then behind told
     parts_done y e n f h =
         let I = is_string b kind own s in
@@ -158,23 +157,23 @@ module _ {b : List ℕ} {e : Entry} {r : Record} (X : Entered b e r) (s : e.simp
   its_simple : (k : Simple) × (body_at b e.kind e.own ≡ Plain k)
   its_simple = let (k, p) = plain_of r.body (not-true (constructed r.body) (sym X.simple ∙ s)) in (k, X.body ∙ p)
 
-  pub whole_open : z ≡ true → Refused Forbidden l ≡ told c leaf_size (read_leaf_in (body_at b e.kind e.own) false z l j c)
+  pub whole_open : z ≡ true → unread Forbidden l ≡ told c leaf_size (read_leaf_in (body_at b e.kind e.own) false z l j c)
   unfolding read_leaf_in read_leaf told
   whole_open f = rw (its_simple.1, f) refl
 
   module _ (f : z ≡ false) {n : ℕ} (a : n ≡ leaf_weight (body_at b e.kind e.own) c) where
-    pub whole_wrong : n ≡ 0 → Refused Contents l ≡ told c leaf_size (read_leaf_in (body_at b e.kind e.own) false z l j c)
+    pub whole_wrong : n ≡ 0 → unread Contents l ≡ told c leaf_size (read_leaf_in (body_at b e.kind e.own) false z l j c)
     unfolding read_leaf_in read_leaf leaf_weight told
     whole_wrong h = go its_simple.0 its_simple.1
       where
-        go : (k : Simple) → body_at b e.kind e.own ≡ Plain k → Refused Contents l ≡ told c leaf_size (read_leaf_in (body_at b e.kind e.own) false z l j c)
+        go : (k : Simple) → body_at b e.kind e.own ≡ Plain k → unread Contents l ≡ told c leaf_size (read_leaf_in (body_at b e.kind e.own) false z l j c)
         go k p = let g = rw p at a in rw (p, f, weight_none k c l n g h) refl
 
-    pub whole_done : (n ≡ 0 → ⊥) → n < 16386 → Done (length c) n ≡ told c leaf_size (read_leaf_in (body_at b e.kind e.own) false z l j c)
+    pub whole_done : (n ≡ 0 → ⊥) → n < 16386 → judged (length c) n ≡ told c leaf_size (read_leaf_in (body_at b e.kind e.own) false z l j c)
     unfolding read_leaf_in read_leaf leaf_weight told
     whole_done h i = go its_simple.0 its_simple.1
       where
-        go : (k : Simple) → body_at b e.kind e.own ≡ Plain k → Done (length c) n ≡ told c leaf_size (read_leaf_in (body_at b e.kind e.own) false z l j c)
+        go : (k : Simple) → body_at b e.kind e.own ≡ Plain k → judged (length c) n ≡ told c leaf_size (read_leaf_in (body_at b e.kind e.own) false z l j c)
         go k p =
             let g = rw p at a in
             let (x, d, o) = weight_some k c l n g h in

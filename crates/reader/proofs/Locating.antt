@@ -8,6 +8,7 @@ use native.Mathlib.Omega.{arith}
 use borrow.Author.Tests.{eqb-true, eqb-false}
 use lib.Dec.{eqb}
 use lib.ListN.{length, get_or, drop, set}
+use Rattle.std.specs.Prelude.{Result, Ok, Err}
 use Rattle.x690.specs.declared.ReadingCause.{ReadingCause}
 use Rattle.octets.specs.Answer.{none_left}
 use Rattle.octets.proofs.Tests.{test}
@@ -22,8 +23,6 @@ use Rattle.reader.specs.Records.{Ready, Known}
 use Rattle.reader.specs.Sought.{held, Sound, tabled_count, Sought}
 use Rattle.reader.specs.Placing.{end_at, Spotted}
 use Rattle.reader.specs.declared.search.Choice.{Choice as Chosen}
-use Rattle.reader.specs.declared.search.Found.{Found}
-use Rattle.reader.specs.declared.search.Found.TheVariants.{Part, Refused}
 use Rattle.reader.proofs.Spans.{turns_by, by_member, EntryOf, entry_of}
 use Rattle.reader.proofs.PlacedTurns.{over_at, awaited, over_at_lem}
 use Rattle.reader.proofs.PlacedSpots.{Spotting, spotting_first, spotted, spotted_none, spotting_turn}
@@ -83,9 +82,9 @@ unfolding manner since
 next_is b ns s h ms q = ap (λ (h : Holder). next (table_in b) h (since (manner h) 0) ns s) q
 
 -- a member that begins
-module _ {b index : List ℕ} (R : Ready b index) {w : ℕ} (known : Known b index w) (ns s way : List ℕ) (r : Found)
-    (S : Sought b (held b w) (since (manner (held b w)) 0) ns s way r) (x : Chosen) (q : r ≡ Part x) where
-  found_is : Sought b (held b w) (since (manner (held b w)) 0) ns s way (Part x)
+module _ {b index : List ℕ} (R : Ready b index) {w : ℕ} (known : Known b index w) (ns s way : List ℕ) (r : Result Chosen ReadingCause)
+    (S : Sought b (held b w) (since (manner (held b w)) 0) ns s way r) (x : Chosen) (q : r ≡ Ok x) where
+  found_is : Sought b (held b w) (since (manner (held b w)) 0) ns s way (Ok x)
   found_is = rw q at S
 
   pub place_low : (unpacked w).kind ≡ 17 → x.place < 16
@@ -120,15 +119,15 @@ module _ {b index : List ℕ} (R : Ready b index) {w : ℕ} (known : Known b ind
     pub located_over : over ≡ true → (e : ℕ) → e ≡ end_at indefinite at → (ms : List Member) → held b w ≡ inside (Set ms) → Spotted T ms indefinite m ns e
     located_over t e ee ms h = rw ee (spotted T ms indefinite m ns at low (L ms h) (sym over_is ∙ t))
 
-    module _ (more : over ≡ false) (way : List ℕ) (r : Found) (S : Sought b (held b w) (since (manner (held b w)) 0) ns (drop at m) way r) where
+    module _ (more : over ≡ false) (way : List ℕ) (r : Result Chosen ReadingCause) (S : Sought b (held b w) (since (manner (held b w)) 0) ns (drop at m) way r) where
       -- no member begins
-      pub located_none : (c : ReadingCause) → r ≡ Refused c → (e : ℕ) (ms : List Member) → held b w ≡ inside (Set ms) → Spotted T ms indefinite m ns e
+      pub located_none : (c : ReadingCause) → r ≡ Err c → (e : ℕ) (ms : List Member) → held b w ≡ inside (Set ms) → Spotted T ms indefinite m ns e
       located_none c q e ms h =
           let n = (rw q at S).0 in
           spotted_none T ms indefinite m ns at low (L ms h) (sym over_is ∙ more) (sym (next_is b ns (drop at m) (held b w) ms h) ∙ n) e
 
       -- one does, and is passed over
-      pub located_turn : (x : Chosen) → r ≡ Part x → (end : ℕ) → ((w : List ℕ) → Skips (drop at m) x.from w → drop end (drop at m) ≡ w)
+      pub located_turn : (x : Chosen) → r ≡ Ok x → (end : ℕ) → ((w : List ℕ) → Skips (drop at m) x.from w → drop end (drop at m) ≡ w)
           → Located (set ns x.place (at + 1)) (at + end)
       located_turn x q end skips ms h =
           let (part, i, n, d, f, g, y) = found_is R known ns (drop at m) way r S x q in

@@ -12,7 +12,9 @@ use mathlib.Core.Path.{◌≡◌, refl, sym, ap, subst, ◌∙◌}
 use native.Mathlib.Numerals.{add-one}
 use native.Mathlib.Omega.{arith}
 use Prim.Native.Nat.{ℕ, zero, suc, ◌+◌, ◌-◌, ◌/◌, ◌%◌, ◌≤◌, ◌<◌}
+use Rattle.std.specs.Prelude.{Result, Ok, Err}
 use Rattle.x690.specs.declared.ReadingCause.{ReadingCause}
+use Rattle.x690.specs.declared.Unread.{Unread}
 use Rattle.x690.specs.declared.ReadingCause.TheVariants.{Cut, Forbidden, NotAwaited}
 use Rattle.octets.specs.Answer.{Answer, got, refused, then, if, behind, none_left}
 use Rattle.octets.specs.Lists.{same}
@@ -22,24 +24,21 @@ use Rattle.ber.specs.Codes.{code_of}
 use Rattle.x690.specs.Reading.{Mode, closed, open_ended, passes, read_identifier, read_length, read_header, inside, read_constructed, read_primitive, at_end}
 use Rattle.x690.specs.Segments.{Kind, in_parts, in_either, heads, read_carried}
 use Rattle.ber.specs.Told.{told_length, mode}
-use Rattle.ber.specs.declared.length.Length.{Length}
-use Rattle.ber.specs.declared.length.Length.TheVariants.{Read as ReadLength, Refused as NoLength}
 use Rattle.ber.specs.declared.length.Extent.{Extent}
 use Rattle.ber.proofs.Told.{length_definite, length_indefinite, length_refused}
 use Rattle.table.specs.Syntax.{Tag, Body, Plain, Sequence, Set, SequenceOf, SetOf, Choice, Record, Table, is_choice}
 use Rattle.table.specs.Reading.{table_in}
 use Rattle.records.specs.Entries.{all_but_last, unpacked, first_code, explicit_count}
+use Rattle.records.specs.declared.entry.Entry.{Entry}
 use Rattle.coding.specs.Content.{segmented}
 use Rattle.coding.specs.Tags.{identifier_of, before, explicit_tags, own_tag, explicit}
 use Rattle.coding.specs.Value.{Value}
 use Rattle.coding.specs.Reading.{read_wrapped, read_kind}
+use Rattle.reader.specs.Answers.{judged, unread}
 use Rattle.reader.specs.Codes.{own_either, either_at, either as first_either}
 use Rattle.reader.specs.Records.{Ready, record_in, IsRecord, read_record}
 use Rattle.reader.specs.Wraps.{ended, shut, closing, note_of, Around, identifiers, Headed, read_bare, sent_as, AwaitsTag, behind_last, is_tag, no_tag}
 use Rattle.reader.specs.Wraps.{must_go_on, EntersTag, goes_on, is_over, Opens}
-use Rattle.reader.specs.declared.tags.Tag.{Tag as TagRead}
-use Rattle.reader.specs.declared.tags.Tag.TheVariants.{Read as ReadTag, Refused as NoTag}
-use Rattle.reader.specs.declared.tags.Opened.TheVariants.{Inside, Refused as NotOpened}
 use Rattle.reader.proofs.Starts.{and_true, and_false, coded_one}
 use Rattle.reader.proofs.Begun.{Fit}
 use Rattle.reader.proofs.Tagging.{first_code_lem, own_at, own_low, count_identifiers, same_at, its_entry, its_record, its_fit}
@@ -289,7 +288,7 @@ module _ (b : List ℕ) (r : Record) (F : Fit r) (m : List ℕ) (om : Octets m) 
 
   module _ (notes : List ℕ) (at from end j : ℕ) (S : Opening b r m first notes at from end j) where
     pub open_done : (count : ℕ) → count ≡ Count → 0 < Count → count ≤ j
-        → Opens b r m first (take count notes) (Inside (record { at = at; from = from; end = end }))
+        → Opens b r m first (take count notes) (Ok (record { at = at; from = from; end = end }))
     unfolding read_wrapped if
     open_done count ec l k =
         let q : j ≡ Count = omega (arith, S.within) in
@@ -342,20 +341,20 @@ module _ (b : List ℕ) (r : Record) (F : Fit r) (m : List ℕ) (om : Octets m) 
       under n = S.whole n ∙ ap (λ (z : List (List ℕ)). closing m (take j notes) end (read_wrapped z (read_bare b n r) (drop at P))) (wraps_at j l)
 
       refused_all : (c : ReadingCause) (k n₁ : ℕ) (ns : List ℕ) → ((n : ℕ) → read_wrapped (Id ∷ Rest) (read_bare b n r) (drop at P) ≡ refused c k)
-          → k + (length m - end) ≡ n₁ → n₁ ≤ length m → Opens b r m first ns (NotOpened c n₁)
+          → k + (length m - end) ≡ n₁ → n₁ ≤ length m → Opens b r m first ns (unread c n₁)
       refused_all c k n₁ ns e q h =
           (h, λ n. under n ∙ ap (closing m (take j notes) end) (e n) ∙ closing_refused m (length m) (take j notes) end c k S.around ∙ ap (refused c) q)
 
-      module _ (z : Length) (az : (k : ℕ) → z ≡ told_length (length P) (read_length k (drop from P))) where
-        pub open_unread : (c : ReadingCause) → z ≡ NoLength c → (ns : List ℕ)
-            → Opens b r m first ns (NotOpened c (length m - at))
+      module _ (z : Result Extent ReadingCause) (az : (k : ℕ) → z ≡ told_length (length P) (read_length k (drop from P))) where
+        pub open_unread : (c : ReadingCause) → z ≡ Err c → (ns : List ℕ)
+            → Opens b r m first ns (unread c (length m - at))
         open_unread c q ns =
             let k = length (drop at P) in
             let y = header_is ∙ length_refused P from k z (az k) c q in
             refused_all c k (length m - at) ns (λ n. wrapped_refused Id Rest (read_bare b n r) (drop at P) c k y)
             (omega (arith, left_part, S.some, S.high)) (omega arith)
 
-        module _ (x : Extent) (q : z ≡ ReadLength x) where
+        module _ (x : Extent) (q : z ≡ Ok x) where
           abbrev K : ℕ
           K = length (drop at P)
 
@@ -395,7 +394,7 @@ module _ (b : List ℕ) (r : Record) (F : Fit r) (m : List ℕ) (om : Octets m) 
               rw (header_is, y.0, t, a, d, h) refl
 
           -- the identifier that is awaited next
-          rest_refused : (c : ReadingCause) → AwaitsTag r (suc j) U (NoTag c) → (n : ℕ) → read_wrapped Rest (read_bare b n r) U ≡ refused c (length U)
+          rest_refused : (c : ReadingCause) → AwaitsTag r (suc j) U (Err c) → (n : ℕ) → read_wrapped Rest (read_bare b n r) U ≡ refused c (length U)
           unfolding read_wrapped
           rest_refused c (no_tag w e) n =
               test (ltb (suc j) Count)
@@ -412,7 +411,7 @@ module _ (b : List ℕ) (r : Record) (F : Fit r) (m : List ℕ) (om : Octets m) 
               ap (λ (a : List (List ℕ)). read_wrapped a (read_bare b n r) U) (ap (λ (i : ℕ). drop i (explicit r)) k ∙ drop-length (explicit r))
               ∙ item_refused (table_in b) _ (own_tag r) r.body U c (length U) v p y
 
-          no_entry : (c : ReadingCause) → EntersTag r (suc j) U x.indefinite (NoTag c) → (n : ℕ)
+          no_entry : (c : ReadingCause) → EntersTag r (suc j) U x.indefinite (Err c) → (n : ℕ)
               → Contents (read_wrapped Rest (read_bare b n r) U) ≡ refused c (length U)
           unfolding ended then
           no_entry c (goes_on g h a) n =
@@ -420,38 +419,38 @@ module _ (b : List ℕ) (r : Record) (F : Fit r) (m : List ℕ) (om : Octets m) 
           no_entry c (is_over h) n =
               stopping (mode x.indefinite) U [] (length U) c (length U) h (λ _. ended (mode x.indefinite) (read_wrapped Rest (read_bare b n r) U))
 
-          entry : (next : ℕ) → EntersTag r (suc j) U x.indefinite (ReadTag next)
-              → (must_go_on x.indefinite U ≡ got [] U) × (0 < length U) × AwaitsTag r (suc j) U (ReadTag next)
+          entry : (next : ℕ) → EntersTag r (suc j) U x.indefinite (Ok next)
+              → (must_go_on x.indefinite U ≡ got [] U) × (0 < length U) × AwaitsTag r (suc j) U (Ok next)
           entry next (goes_on g h a) = (g, h, a)
 
-          next_head : (next : ℕ) → AwaitsTag r (suc j) U (ReadTag next)
+          next_head : (next : ℕ) → AwaitsTag r (suc j) U (Ok next)
               → (suc j < length Ids → Headed U 0 next (either_at r (suc j)) (code_of (get_or Ids (suc j) []))) × (next ≤ length U)
           next_head next (behind_last k) = ((λ v. absurd (omega arith)), omega arith)
           next_head next (is_tag e v h) = ((λ _. h), h.low)
 
-          module _ (y : TagRead) (E : EntersTag r (j + 1) (take (x.end - x.start) (drop x.start m)) x.indefinite y) where
-            its : (u : TagRead) → y ≡ u → EntersTag r (suc j) U x.indefinite u
+          module _ (y : Result ℕ ReadingCause) (E : EntersTag r (j + 1) (take (x.end - x.start) (drop x.start m)) x.indefinite y) where
+            its : (u : Result ℕ ReadingCause) → y ≡ u → EntersTag r (suc j) U x.indefinite u
             its u e =
                 let q = add-one j in
                 let ep = slice_is x.start x.end m extent.1 (omega (arith, extent.2, S.high)) in
                 rw (q, ep, e) at E
 
-            pub open_refused : (c : ReadingCause) → y ≡ NoTag c → (ns : List ℕ) → Opens b r m first ns (NotOpened c (length m - x.start))
+            pub open_refused : (c : ReadingCause) → y ≡ Err c → (ns : List ℕ) → Opens b r m first ns (unread c (length m - x.start))
             open_refused c e ns =
                 let k = length U + (end - x.end) in
                 refused_all c k (length m - x.start) ns
-                (λ n. tag_inside (read_bare b n r) ∙ ap (sealed m end x.end x.indefinite) (no_entry c (its (NoTag c) e) n)
+                (λ n. tag_inside (read_bare b n r) ∙ ap (sealed m end x.end x.indefinite) (no_entry c (its (Err c) e) n)
                 ∙ sealed_refused m end x.end x.indefinite c (length U) extent.3)
                 (omega (arith, size_inside, extent.1, extent.2, S.high)) (omega arith)
 
-            module _ (next : ℕ) (e : y ≡ ReadTag next) where
+            module _ (next : ℕ) (e : y ≡ Ok next) where
               pub open_next : next ≤ length m
-              open_next = let q = (next_head next (entry next (its (ReadTag next) e)).2).1 in omega (arith, q, size_inside, extent.2, S.high)
+              open_next = let q = (next_head next (entry next (its (Ok next) e)).2).1 in omega (arith, q, size_inside, extent.2, S.high)
 
               pub open_turn : (note : ℕ) → note ≡ note_of end x.indefinite → j < length notes
                   → Opening b r m first (set notes j note) x.start (x.start + next) x.end (j + 1)
               open_turn note en g =
-                  let (a, s, w) = entry next (its (ReadTag next) e) in
+                  let (a, s, w) = entry next (its (Ok next) e) in
                   let (h, k) = next_head next w in
                   let half : note / 2 ≡ end = ap (λ (i : ℕ). i / 2) en ∙ note_half end x.indefinite in
                   let mark : eqb (note % 2) 1 ≡ x.indefinite = ap (λ (i : ℕ). eqb (i % 2) 1) en ∙ note_mark end x.indefinite in
@@ -494,6 +493,10 @@ module _ {b index : List ℕ} (R : Ready b index) {w : ℕ} (I : IsRecord b inde
   its_count =
       let t = record_in b (unpacked w) in
       (its_entry R I).explicit ∙ ap explicit_count (sym (its_record R I)) ∙ sym (count_of t.tags t.body (its_fit R I).tagged)
+
+  -- a tag is left to open
+  pub tag_left : {e : Entry} {j : ℕ} → e ≡ unpacked w → j < e.explicit → j < length (explicit (record_in b (unpacked w)))
+  tag_left {e} {j} q l = omega (arith, its_count, ap (λ (x : Entry). x.explicit) q)
 
   pub its_first : (unpacked w).code ≡ first_code (record_in b (unpacked w))
   its_first = (its_entry R I).code ∙ ap (λ (x : Record). first_code x) (sym (its_record R I))

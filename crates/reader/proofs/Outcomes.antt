@@ -10,7 +10,9 @@ use borrow.Author.Tests.{lt-ltb, le-ltb, le-leb, lt-leb}
 use lib.Dec.{ltb, leb}
 use lib.ListN.{length, take, drop}
 use lib.Seq.{sets, sets-eq}
+use Rattle.std.specs.Prelude.{Result, Ok as done, Err as refusal}
 use Rattle.x690.specs.declared.ReadingCause.{ReadingCause}
+use Rattle.x690.specs.declared.Unread.{Unread}
 use Rattle.x690.specs.declared.ReadingCause.TheVariants.{Trailing}
 use Rattle.octets.specs.Answer.{Answer, got, refused, then, if, none_left}
 use Rattle.octets.proofs.Answer.{run, refused≢got}
@@ -25,17 +27,15 @@ use Rattle.coding.specs.Reading.{read_value, read_message}
 use Rattle.coding.specs.declared.TableCause.TheVariants.{Unknown}
 use Rattle.coding.specs.declared.MessageCause.TheVariants.{MessageLength, ValueRoom}
 use Rattle.coding.specs.Outcome.{message_cause}
-use Rattle.coding.specs.Calls.{after_reading, read_outcome}
 use Rattle.coding.specs.declared.Refusal.TheVariants.{Table as of_table, Message as of_message}
-use Rattle.coding.specs.declared.Answer.TheVariants.{Done as done, Refused as refusal}
+use Rattle.coding.specs.Calls.{after_reading, read_outcome}
 use Rattle.coding.proofs.Checked.{Says}
 use Rattle.coding.proofs.Refusals.{Within, answers, names, message_says}
-use Rattle.reader.specs.Answers.{cap, told, size}
+use Rattle.reader.specs.Answers.{cap, judged, unread, told, size}
 use Rattle.reader.specs.Items.{message, read_held}
 use Rattle.reader.specs.Records.{Ready}
 use Rattle.reader.specs.Placed.{Fits}
 use Rattle.reader.specs.declared.answer.Judged.{Judged}
-use Rattle.reader.specs.declared.answer.Judged.TheVariants.{Done, Refused}
 use Rattle.reader.proofs.ItemsKinds.{message_whole}
 use Rattle.reader.proofs.Told.{told_refused, told_done}
 
@@ -71,8 +71,8 @@ module _ (T : Table) (n t : ℕ) (m buf : List ℕ) where
       let f : leb (length m) 8192 ≡ false = lt-leb (length m) 8192 l in
       (simp (run, e, f), simp (run, e, f))
 
-module _ (T : Table) (t : ℕ) (m : List ℕ) (r : Judged) (p : r ≡ told m size (read_message T 24 t m)) where
-  pub refused_within : (c : ReadingCause) (l : ℕ) → r ≡ Refused c l → l ≤ length m
+module _ (T : Table) (t : ℕ) (m : List ℕ) (r : Result Judged Unread) (p : r ≡ told m size (read_message T 24 t m)) where
+  pub refused_within : (c : ReadingCause) (l : ℕ) → r ≡ unread c l → l ≤ length m
   refused_within c l e =
       within_low (read_message T 24 t m) (message_says T 24 t m) c l (told_refused m size (read_message T 24 t m) r p c l e)
 
@@ -85,13 +85,13 @@ module _ (T : Table) (t : ℕ) (m : List ℕ) (r : Judged) (p : r ≡ told m siz
         let f : leb (length m) 8192 ≡ true = le-leb (length m) 8192 l in
         simp (run, e, f, q)
 
-    pub out_refused : (c : ReadingCause) (i : ℕ) → r ≡ Refused c i → Says (read_outcome T n t m buf) (refusal (of_message (message_cause c (length m - i)))) buf
+    pub out_refused : (c : ReadingCause) (i : ℕ) → r ≡ unread c i → Says (read_outcome T n t m buf) (refusal (of_message (message_cause c (length m - i)))) buf
     unfolding after_reading
     out_refused c i e =
         let o = whole (refused c i) (told_refused m size (read_message T 24 t m) r p c i e) in
         (rw o, rw o)
 
-    module _ (e s : ℕ) (d : r ≡ Done e s) where
+    module _ (e s : ℕ) (d : r ≡ judged e s) where
       -- the value that was read, and how many octets it has
       record Accepted : Type 0 where
         value : Value

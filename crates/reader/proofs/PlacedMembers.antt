@@ -10,6 +10,7 @@ use borrow.Author.Tests.{eqb-true, eqb-false, ltb-true, ltb-false}
 use lib.Dec.{eqb, ltb}
 use lib.ListN.{length, get_or, take, drop, length-append, length-drop}
 use lib.Seq.{sets, length-sets, length-take-le}
+use Rattle.std.specs.Prelude.{Ok}
 use Rattle.x690.specs.declared.ReadingCause.{ReadingCause}
 use Rattle.octets.specs.Answer.{Answer, got, refused, then, if, none_left}
 use Rattle.octets.specs.Numbers.{Octets}
@@ -33,13 +34,12 @@ use Rattle.reader.specs.Records.{Ready, Known, record_in, read_record}
 use Rattle.reader.specs.Sought.{held, Sound, Sought, tabled_count}
 use Rattle.reader.specs.Ways.{wrapped}
 use Rattle.reader.specs.declared.search.Choice.{Choice as ChoiceFound}
-use Rattle.reader.specs.declared.search.Found.TheVariants.{Part}
 use Rattle.reader.specs.declared.node.Placed.{Placed as Spot}
 use Rattle.reader.specs.Placing.{kind_of, has_members, holds_one, onward, node_of, opening_of, absent_in, finished_in, noted_in, said}
 use Rattle.reader.specs.Placing.{flags, way_octets, end_at, Spotted}
 use Rattle.reader.specs.Placed.{Fits, Final, IsPlaced, held_in, value_in, ToPlaceValue, Following}
 use Rattle.reader.specs.Wraps.{Headed}
-use Rattle.reader.proofs.ItemsFound.{AtItem, item_sought, item_fits, item_tagged, item_level, item_value, item_headed}
+use Rattle.reader.proofs.ItemsFound.{AtItem, item_sought, item_tagged, item_level, item_value, item_headed}
 use Rattle.reader.proofs.PlacedWays.{way_length, inner_under}
 use Rattle.reader.proofs.Searching.{Parted, type_low}
 use Rattle.reader.proofs.Tagging.{record_is}
@@ -413,22 +413,9 @@ module _ {b index : List ℕ} {w : ℕ} {m : List ℕ} {indefinite : Bool} {firs
               headed = item_headed X.given.ready X.given.octets I;
             })
 
-    -- the part at hand, as it stands in the table, if the item begins it with one octet
-    module _ (l : j < s.count) (t : ℕ) (et : t ≡ get_or b (s.first + s.step * j) 0) where
-      pub part_low : t < count_in b
-      part_low = type_low parted j l t et
-
-      pub chosen_here : (f : ℕ) → f ≡ (unpacked (get_or index t 0)).code → f ≡ get_or m at 0 → Chosen j buf at next j t (at + 1)
-      unfolding way_octets
-      chosen_here f ef q =
-          let z : j - j ≡ 0 = omega arith in
-          item_chosen
-          (item_fits parted m X.given.octets at coming_low j l (blank_clear j) t f et ef q [])
-          (omega arith) refl (omega arith) (λ _. rw z refl) (λ _. refl)
-
     -- the part that the search found
     abbrev pub FindsPart : ChoiceFound → List ℕ → Type 0
-    FindsPart x way = Sought b (held b w) (since (manner (held b w)) j) blank (drop at m) way (Part x)
+    FindsPart x way = Sought b (held b w) (since (manner (held b w)) j) blank (drop at m) way (Ok x)
 
     module _ (x : ChoiceFound) (way : List ℕ) (ways : length way ≡ 128) (F : FindsPart x way) where
       abbrev FoundItem : AtItem b (held b w) m at (since (manner (held b w)) j) blank way x.place x.record x.depth (at + x.from)

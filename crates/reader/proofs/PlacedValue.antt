@@ -11,7 +11,9 @@ use mathlib.Core.Option.{Option, some, none}
 use mathlib.Core.Path.{◌≡◌, refl, sym, ap, subst, ◌∙◌}
 use native.Mathlib.Omega.{arith}
 use Prim.Native.Nat.{ℕ, zero, suc, ◌+◌, ◌-◌, ◌≤◌, ◌<◌}
+use Rattle.std.specs.Prelude.{Result, Ok, Err}
 use Rattle.x690.specs.declared.ReadingCause.{ReadingCause}
+use Rattle.x690.specs.declared.Unread.{Unread}
 use Rattle.octets.specs.Answer.{Answer, got, refused, then, if, behind}
 use Rattle.octets.specs.Lists.{any}
 use Rattle.octets.specs.Numbers.{Octets, two}
@@ -24,7 +26,6 @@ use Rattle.x690.specs.Reading.{Mode, Size, read_length}
 use Rattle.x690.specs.Segments.{Kind, bit_string, octet_string, universal, deepest, read_all, read_segment}
 use Rattle.x690.proofs.Times.{time_read_back, time_complete}
 use Rattle.ber.specs.Told.{told_length, again_at, mode}
-use Rattle.ber.specs.declared.length.Length.TheVariants.{Read as ReadLength}
 use Rattle.ber.specs.declared.length.Extent.{Extent}
 use Rattle.ber.proofs.Told.{again_told}
 use Rattle.dates.specs.declared.TimeKind.TheVariants.{Utc, Generalized}
@@ -40,7 +41,7 @@ use Rattle.coding.specs.Value.{Leaf, time, Value, leaf, leaf_octets, octets}
 use Rattle.coding.specs.Reading.{read_value}
 use Rattle.coding.proofs.Content.{content_sound}
 use Rattle.coding.proofs.Sound.{value_sound}
-use Rattle.reader.specs.Answers.{told}
+use Rattle.reader.specs.Answers.{judged, unread, told}
 use Rattle.reader.specs.Items.{Holder, message, next}
 use Rattle.reader.specs.Leaves.{leaf_of, Lawful, one_octet, one_to_eight, some_unused, any_octets, no_octet, small_number, a_time}
 use Rattle.reader.specs.Leaves.{is_in_segments, read_segments, read_leaf, Carried, by_itself, by_segments, ToPlaceLeaf, LeafPlaced}
@@ -49,15 +50,13 @@ use Rattle.reader.specs.Records.{Ready, of_record, of_message, holder_in, IsReco
 use Rattle.reader.specs.Sought.{held}
 use Rattle.reader.specs.Wraps.{closing, Around, read_bare, Opens}
 use Rattle.reader.specs.declared.answer.Judged.{Judged}
-use Rattle.reader.specs.declared.answer.Judged.TheVariants.{Done, Refused}
 use Rattle.reader.specs.declared.node.Placed.{Placed}
 use Rattle.reader.specs.declared.tags.Inner.{Inner}
-use Rattle.reader.specs.declared.tags.Opened.{Opened}
-use Rattle.reader.specs.declared.tags.Opened.TheVariants.{Inside, Refused as NotOpened}
 use Rattle.reader.proofs.Bodies.{record_of, nil_of, its_choice}
 use Rattle.reader.proofs.ClosedAlike.{closing_through}
 use Rattle.reader.proofs.Opening.{its_count, its_few}
 use Rattle.reader.proofs.Tagging.{its_entry, its_record}
+use Rattle.reader.proofs.Told.{same_judged}
 use Rattle.reader.proofs.ValueParts.{Under, Within, Item, Filling, under_bare, under_tags, tags_refused, no_choice, item_unsized, contents_bare}
 use Rattle.reader.proofs.ValueParts.{contents_sized, Rest as AroundRest, C, S, size_c, is_plain, leaf_read, leaf_lead}
 use Rattle.reader.proofs.ValueParts.{Held, Fine, fine, reads}
@@ -247,13 +246,13 @@ module _ {b index : List ℕ} {w : ℕ} {m : List ℕ} {at from : ℕ} {buf : Li
         accepted l (omega arith) (λ c. absurd (none_choice c)) (under_bare P.ready its_own (unpacked w) refl m at from none P.headed notes)
 
   -- explicit tags were opened
-  module _ (notes : List ℕ) (y : Opened) (O : Opens b R m at (take (unpacked w).explicit notes) y) where
-    pub must_open : (c : ReadingCause) (l : ℕ) → y ≡ NotOpened c l → ⊥
+  module _ (notes : List ℕ) (y : Result Inner Unread) (O : Opens b R m at (take (unpacked w).explicit notes) y) where
+    pub must_open : (c : ReadingCause) (l : ℕ) → y ≡ unread c l → ⊥
     must_open c l e = refused≢got (sym (tags_refused P.ready its_own m at _ y O c l e 24) ∙ P.fits.is)
 
-    pub under_open : length notes ≡ 4 → (x : Inner) → y ≡ Inside x → Accepted b w m at Val Rest notes x.at x.from x.end
+    pub under_open : length notes ≡ 4 → (x : Inner) → y ≡ Ok x → Accepted b w m at Val Rest notes x.at x.from x.end
     under_open l x e =
-        let q : Opens b R m at (take (unpacked w).explicit notes) (Inside x) = rw e at O in
+        let q : Opens b R m at (take (unpacked w).explicit notes) (Ok x) = rw e at O in
         accepted l (omega (arith, q.0)) (λ _. q.0) (under_tags P.ready its_own m at _ y O x e)
 
   module _ {notes : List ℕ} {at₁ from₁ end : ℕ} (U : Accepted b w m at Val Rest notes at₁ from₁ end) where
@@ -336,11 +335,11 @@ module _ {b index : List ℕ} {w : ℕ} {m : List ℕ} {at from : ℕ} {buf : Li
           → Contents b w m at at₁ end Val U.left x.start x.end x.indefinite
       read_contents k x again =
           let n = no_choice item k in
-          let W = contents_sized item k (ReadLength x) (its_length n (read_length (length (AroundRest item)) (drop from₁ (take end m))) refl) x refl in
+          let W = contents_sized item k (Ok x) (its_length n (read_length (length (AroundRest item)) (drop from₁ (take end m))) refl) x refl in
           contents_at x.start x.end x.indefinite W (omega (arith, U.low, W.further n))
         where
           its_length : is_choice R.body ≡ false → (y : Answer ReadingCause Size) → read_length (length (AroundRest item)) (drop from₁ (take end m)) ≡ y
-              → ReadLength x ≡ told_length (length (take end m)) (read_length (length (AroundRest item)) (drop from₁ (take end m)))
+              → Ok x ≡ told_length (length (take end m)) (read_length (length (AroundRest item)) (drop from₁ (take end m)))
           its_length n (got z u) e =
               again_told (take end m) from₁ (length (AroundRest item)) x z u again e
           its_length n (refused c l) e =
@@ -518,7 +517,7 @@ module _ {b index : List ℕ} {w : ℕ} {m : List ℕ} {at from : ℕ} {buf : Li
             subst (λ (i : ℕ). Around (length m) (take i notes) end) (sym k) U.under.around,
           )
 
-      module _ (e : Entry) (ee : e ≡ unpacked w) (y : Judged)
+      module _ (e : Entry) (ee : e ≡ unpacked w) (y : Result Judged Unread)
           (ey : y ≡ told m (λ (n : ℕ). n) (closing m (take e.explicit notes) end (got 0 (drop stop (take end m))))) where
         closed_told : y ≡ told m (λ (n : ℕ). n) (got 0 Rest)
         closed_told =
@@ -526,7 +525,7 @@ module _ {b index : List ℕ} {w : ℕ} {m : List ℕ} {at from : ℕ} {buf : Li
             ∙ ap (λ (u : List ℕ). told m (λ (n : ℕ). n) (closing m (take (unpacked w).explicit notes) end (got 0 u))) (sym S.behind)
             ∙ ap (told m (λ (n : ℕ). n)) (U.closes 0)
 
-        pub must_close : (c : ReadingCause) (l : ℕ) → y ≡ Refused c l → ⊥
+        pub must_close : (c : ReadingCause) (l : ℕ) → y ≡ unread c l → ⊥
         unfolding told
         must_close c l d = let q = sym d ∙ closed_told in let z : ◌≡◌ {A = ℕ} 0 1 = cc in omega arith
 
@@ -542,11 +541,10 @@ module _ {b index : List ℕ} {w : ℕ} {m : List ℕ} {at from : ℕ} {buf : Li
             let u : at + length q.piece ≡ length m - length Rest = omega (arith, length-drop (at + length q.piece) m, ap length f) in
             sym f ∙ ap (λ (i : ℕ). drop i m) u
 
-        pub closed_placed : (last n : ℕ) → y ≡ Done last n → IsPlaced (value_in b w (drop at m)) m to buf buf₁ (record { end = last; next = next })
+        pub closed_placed : (last n : ℕ) → y ≡ judged last n → IsPlaced (value_in b w (drop at m)) m to buf buf₁ (record { end = last; next = next })
         unfolding told
         closed_placed last n d =
-            let q = sym d ∙ closed_told in
-            let z : last ≡ length m - length Rest = cc in
+            let z : last ≡ length m - length Rest = ap (λ (x : Judged). x.end) (same_judged (sym d ∙ closed_told)) in
             ended_placed last (omega arith) (rest_behind ∙ ap (λ (i : ℕ). drop i m) (sym z))
 
 -- a whole message

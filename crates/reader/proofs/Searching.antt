@@ -1,6 +1,6 @@
 -- The loops that search the parts for the one that an item begins.
 -- Assumes nothing.
-use borrow.Author.Tests.{eq-eqb, ne_eqb, eqb-true, eqb-false, ltb-true, ltb-false}
+use borrow.Author.Tests.{eq-eqb, ne_eqb, eqb-true, eqb-false, lt-ltb, le-ltb, ltb-true, ltb-false}
 use lib.Dec.{eqb, ltb}
 use lib.ListN.{length, get_or, drop}
 use mathlib.Core.Bool.{Bool, true, false, not, ◌||◌, true≢false}
@@ -10,10 +10,12 @@ use mathlib.Core.Option.{some, none}
 use mathlib.Core.Path.{◌≡◌, refl, sym, ap, ◌∙◌}
 use native.Mathlib.Omega.{arith}
 use Prim.Native.Nat.{ℕ, zero, suc, ◌+◌, ◌*◌, ◌≤◌, ◌<◌}
+use Rattle.std.specs.Prelude.{Option, Some, None, Result, Err}
 use Rattle.x690.specs.declared.ReadingCause.{ReadingCause}
 use Rattle.x690.specs.declared.ReadingCause.TheVariants.{NotAwaited, Trailing}
 use Rattle.octets.specs.Answer.{if}
 use Rattle.octets.specs.Lists.{any}
+use Rattle.octets.specs.Numbers.{if_below}
 use Rattle.octets.proofs.Tests.{test}
 use Rattle.table.specs.Syntax.{Member, Body, Plain, Sequence, Set, SequenceOf, SetOf, Choice, references}
 use Rattle.table.specs.Reading.{table_in, count_in}
@@ -21,15 +23,13 @@ use Rattle.records.specs.Entries.{unpacked, span_of}
 use Rattle.records.specs.declared.entry.Entry.{Entry}
 use Rattle.records.specs.declared.entry.Span.{Span}
 use Rattle.coding.specs.Awaited.{types}
-use Rattle.reader.specs.Codes.{starts_with, search_in, hit}
+use Rattle.reader.specs.Codes.{under, starts_with, search_in, hit}
 use Rattle.reader.specs.Items.{Holder, inside, message, Manner, in_turn, each_once, repeated, single, manner, parts_of, optionals, Placed, left}
 use Rattle.reader.specs.Items.{awaits, remains, some_of, since, is_single, first}
 use Rattle.reader.specs.Records.{Ready, Known, of_record, of_message, holder_in, Begins, Finds}
 use Rattle.reader.specs.Sought.{held, Sound, place_of, tabled, tabled_count, direct, unfit_cause, Indirect}
-use Rattle.reader.specs.declared.search.Found.{Found}
-use Rattle.reader.specs.declared.search.Found.TheVariants.{Refused}
+use Rattle.reader.specs.declared.search.Choice.{Choice as Chosen}
 use Rattle.reader.specs.declared.search.Under.{Under}
-use Rattle.reader.specs.declared.search.Under.TheVariants.{Nothing, At}
 use Rattle.reader.proofs.Among.{starts_is}
 use Rattle.reader.proofs.Items.{pending_free, no_cons}
 use Rattle.reader.proofs.ItemsSearch.{optional_types}
@@ -140,6 +140,10 @@ pub record Parted (b index : List ℕ) (w : ℕ) (came : List ℕ) (e : Entry) (
   pub sound : Sound b index w came
   pub entry : e ≡ unpacked w
   pub span : s ≡ span_of b e.kind e.own
+
+pub parted : {b index : List ℕ} {w : ℕ} {came : List ℕ} {e : Entry} {s : Span} → Sound b index w came → e ≡ unpacked w → s ≡ span_of b e.kind e.own
+    → Parted b index w came e s
+parted z e s = record { sound = z; entry = e; span = s }
 
 module _ {b index : List ℕ} {w : ℕ} {came : List ℕ} {e : Entry} {s : Span} (D : Parted b index w came e s) where
   abbrev H : Holder
@@ -255,6 +259,27 @@ module _ {b index : List ℕ} {w : ℕ} {came : List ℕ} {e : Entry} {s : Span}
   direct_end k code l =
       ap (place_of (tabled_count H)) (tabled_none H came k (λ x. starts_with (table_in b x.1.type) code) (omega (arith, spanned.count))) ∙ sym spanned.count
 
+  -- as it is answered
+  pub direct_place : (i k code : ℕ) → k < s.count → direct b H i came code ≡ k → ◌≡◌ {A = Option ℕ} (Some k) (if_below (tabled_count H) (direct b H i came code))
+  unfolding if
+  direct_place i k code l e = rw (e, ← spanned.count, lt-ltb k s.count l) refl
+
+  pub direct_no_place : (i code : ℕ) → direct b H i came code ≡ s.count → ◌≡◌ {A = Option ℕ} None (if_below (tabled_count H) (direct b H i came code))
+  unfolding if
+  direct_no_place i code e = rw (e, ← spanned.count, le-ltb s.count s.count (omega arith)) refl
+
+  pub place_found : {x : Option ℕ} (i code place : ℕ) → x ≡ if_below (tabled_count H) (direct b H i came code) → x ≡ Some place
+      → (place ≡ direct b H i came code) × (place < s.count)
+  unfolding if
+  place_found i code place e f =
+      let d = direct b H i came code in
+      test (ltb d (tabled_count H))
+      (λ t.
+      let q : ◌≡◌ {A = Option ℕ} (Some place) (Some d) = sym f ∙ e ∙ rw t refl in
+      let p : place ≡ d = cc in
+      (p, omega (arith, ltb-true d (tabled_count H) t, spanned.count)))
+      λ t. let q : ◌≡◌ {A = Option ℕ} (Some place) None = sym f ∙ e ∙ rw t refl in let z : ◌≡◌ {A = ℕ} 0 1 = cc in absurd (omega arith)
+
   -- all parts, a message's one with them
   whole_is : eqb e.kind 51 ≡ true → H ≡ message e.own
   unfolding holder_in if
@@ -289,6 +314,10 @@ module _ {b index : List ℕ} {w : ℕ} {came : List ℕ} {e : Entry} {s : Span}
   abbrev pub Typed : ℕ → ℕ → Type 0
   Typed k t = ((eqb e.kind 51 ≡ true) × (t ≡ e.own)) ⊎ ((eqb e.kind 51 ≡ false) × (t ≡ get_or b (s.first + s.step * k) 0))
 
+  pub typed_part : {n k t p : ℕ} → Counted n → k < n → eqb e.kind 51 ≡ false → t ≡ p
+      → (s.first + s.step * k < 18446744073709551616 → p ≡ get_or b (s.first + s.step * k) 0) → Typed k t
+  typed_part {n} {k} c l q et ep = inr (q, et ∙ ep (omega (arith, near k (table_part n k c l q))))
+
   pub record Candidate (k t : ℕ) : Type 0 where
     pub part : Member
     pub is : drop k (parts_of H) ≡ part ∷ drop (suc k) (parts_of H)
@@ -321,30 +350,30 @@ module _ {b index : List ℕ} {w : ℕ} {came : List ℕ} {e : Entry} {s : Span}
       pub candidate_low : t < count_in b
       candidate_low = let q = part_low D.sound.ready w D.sound.known k C.part _ C.is in let z = C.type in rw z q
 
-      module _ (way : List ℕ) (r : Under) (F : Finds b code way t r) where
-        under_none : r ≡ Nothing → UnderIt (k, C.part) ≡ false
+      module _ (way : List ℕ) (r : Option Under) (F : Finds b code way t r) where
+        under_none : r ≡ None → UnderIt (k, C.part) ≡ false
         under_none q = ap (λ (u : ℕ). hit (search_in (table_in b) 129 u code)) (sym C.type) ∙ ap hit (rw q at F)
 
-        pub indirect_part : (i from u d : ℕ) → first UnderIt (awaits H i came) ≡ first UnderIt (awaits H k came) → get_or came k 0 ≡ 0 → r ≡ At u d
-            → (part : Member) × (first UnderIt (awaits H i came) ≡ some (k, part)) × (from ≡ from) × Finds b code way part.type (At u d)
+        pub indirect_part : (i from u d : ℕ) → first UnderIt (awaits H i came) ≡ first UnderIt (awaits H k came) → get_or came k 0 ≡ 0 → r ≡ under u d
+            → (part : Member) × (first UnderIt (awaits H i came) ≡ some (k, part)) × (from ≡ from) × Finds b code way part.type (under u d)
         indirect_part i from u d v z q =
-            let G : Finds b code way t (At u d) = rw q at F in
+            let G : Finds b code way t (under u d) = rw q at F in
             let y = ap (λ (u : ℕ). hit (search_in (table_in b) 129 u code)) (sym C.type) ∙ ap hit G.0 in
             (C.part, v ∙ awaits_hit H came k UnderIt C.part C.is z y, refl, rw C.type at G)
 
-        pub indirect_stop : get_or came k 0 ≡ 0 → r ≡ Nothing → e.kind ≡ 16 → (o : Bool) → o ≡ eqb (get_or b (s.first + s.step * k + 1) 0) 1 → o ≡ false
+        pub indirect_stop : get_or came k 0 ≡ 0 → r ≡ None → e.kind ≡ 16 → (o : Bool) → o ≡ eqb (get_or b (s.first + s.step * k + 1) 0) 1 → o ≡ false
             → first UnderIt (awaits H k came) ≡ none
         indirect_stop z q v o eo y = awaits_stop H came k UnderIt C.part C.is z (under_none q) (is_turn v) (sym (C.optional v) ∙ sym eo ∙ y)
 
-        skip : get_or came k 0 ≡ 0 → r ≡ Nothing → (manner H ≡ in_turn → C.part.optional ≡ true)
+        skip : get_or came k 0 ≡ 0 → r ≡ None → (manner H ≡ in_turn → C.part.optional ≡ true)
             → first UnderIt (awaits H k came) ≡ first UnderIt (awaits H (k + 1) came)
         skip z q y = awaits_skip H came k UnderIt C.part C.is z (under_none q) y
 
-        pub indirect_optional : get_or came k 0 ≡ 0 → r ≡ Nothing → e.kind ≡ 16 → (o : Bool) → o ≡ eqb (get_or b (s.first + s.step * k + 1) 0) 1 → o ≡ true
+        pub indirect_optional : get_or came k 0 ≡ 0 → r ≡ None → e.kind ≡ 16 → (o : Bool) → o ≡ eqb (get_or b (s.first + s.step * k + 1) 0) 1 → o ≡ true
             → first UnderIt (awaits H k came) ≡ first UnderIt (awaits H (k + 1) came)
         indirect_optional z q v o eo y = skip z q (λ _. sym (C.optional v) ∙ sym eo ∙ y)
 
-        pub indirect_other : get_or came k 0 ≡ 0 → r ≡ Nothing → (e.kind ≡ 16 → ⊥) → first UnderIt (awaits H k came) ≡ first UnderIt (awaits H (k + 1) came)
+        pub indirect_other : get_or came k 0 ≡ 0 → r ≡ None → (e.kind ≡ 16 → ⊥) → first UnderIt (awaits H k came) ≡ first UnderIt (awaits H (k + 1) came)
         indirect_other z q n = skip z q (λ v. absurd (no_turn n v))
 
     pub indirect_come : (n k : ℕ) → Counted n → k < n → (get_or came k 0 ≡ 0 → ⊥) → first UnderIt (awaits H k came) ≡ first UnderIt (awaits H (k + 1) came)
@@ -353,6 +382,6 @@ module _ {b index : List ℕ} {w : ℕ} {came : List ℕ} {e : Entry} {s : Span}
     pub indirect_end : (n k : ℕ) → Counted n → n ≤ k → first UnderIt (awaits H k came) ≡ none
     indirect_end n k c l = awaits_none H came k UnderIt (omega (arith, part_count n c))
 
-    pub indirect_none : (i from : ℕ) (way : List ℕ) → first UnderIt (awaits H i came) ≡ none → (r : Found) → r ≡ Refused (unfit_cause H i came NotAwaited)
+    pub indirect_none : (i from : ℕ) (way : List ℕ) → first UnderIt (awaits H i came) ≡ none → (r : Result Chosen ReadingCause) → r ≡ Err (unfit_cause H i came NotAwaited)
         → Indirect b H i came code from way r
     indirect_none i from way v r q = rw q (v, refl)

@@ -8,6 +8,7 @@ use mathlib.Core.List.{List, [], ◌∷◌, ◌++◌, map}
 use mathlib.Core.Path.{◌≡◌, refl, sym, ap, ◌∙◌}
 use native.Mathlib.Omega.{arith}
 use Prim.Native.Nat.{ℕ, zero, suc, ◌+◌, ◌-◌, ◌≤◌, ◌<◌}
+use Rattle.std.specs.Prelude.{Option, Some, None, Result, Ok, Err}
 use Rattle.x690.specs.declared.ReadingCause.{ReadingCause}
 use Rattle.x690.specs.declared.ReadingCause.TheVariants.{NotAwaited}
 use Rattle.octets.specs.Answer.{got, refused, then, if}
@@ -19,10 +20,7 @@ use Rattle.x690.specs.Identifier.{identifier}
 use Rattle.x690.specs.Reading.{read_identifier}
 use Rattle.x690.specs.Segments.{in_parts}
 use Rattle.ber.specs.Told.{told_identifier, end_of}
-use Rattle.ber.specs.declared.ending.End.{End}
-use Rattle.ber.specs.declared.ending.End.TheVariants.{More, Over, Broken}
 use Rattle.ber.specs.declared.identifier.Identifier.{Identifier}
-use Rattle.ber.specs.declared.identifier.Identifier.TheVariants.{Read, Refused as NoIdentifier}
 use Rattle.ber.proofs.Codes.{code_of_identifier, code_awaited}
 use Rattle.ber.proofs.Ends.{end_more, end_over, end_broken}
 use Rattle.ber.proofs.Told.{identifier_read, identifier_refused}
@@ -35,8 +33,6 @@ use Rattle.coding.specs.Tags.{identifier_of, last, before, explicit_tags, own_ta
 use Rattle.reader.specs.Codes.{own_either, either_at, coded}
 use Rattle.reader.specs.Records.{Ready, record_in, IsRecord}
 use Rattle.reader.specs.Wraps.{identifiers, sent_as, AwaitsTag, behind_last, is_tag, no_tag, EntersTag, goes_on, is_over}
-use Rattle.reader.specs.declared.tags.Tag.{Tag as TagRead}
-use Rattle.reader.specs.declared.tags.Tag.TheVariants.{Read as ReadTag, Refused as NoTag}
 use Rattle.reader.proofs.Starts.{coded_one, coded_is, coded_parts, coded_other, either_entry, either_explicit}
 use Rattle.reader.proofs.Begun.{AllFine, Fit, fit, eqb_turn, code_below, parts_tag, code_parts}
 use Rattle.reader.proofs.Spans.{or_true}
@@ -261,21 +257,21 @@ module _ {b index : List ℕ} (R : Ready b index) {w : ℕ} (I : IsRecord b inde
     how_many : n ≡ length (identifiers r)
     how_many = en ∙ ap tag_count ee ∙ its_tags
 
-    pub awaits_none : n ≤ j → AwaitsTag r j m (ReadTag 0)
+    pub awaits_none : n ≤ j → AwaitsTag r j m (Ok 0)
     awaits_none l = behind_last (omega (arith, how_many))
 
-    module _ (l : j < n) (o : Octets m) (y : Identifier) (ey : y ≡ told_identifier (length m) (read_identifier m)) where
+    module _ (l : j < n) (o : Octets m) (y : Result Identifier ReadingCause) (ey : y ≡ told_identifier (length m) (read_identifier m)) where
       within : j < length (identifiers r)
       within = omega (arith, how_many)
 
-      pub awaits_unread : (c : ReadingCause) → y ≡ NoIdentifier c → AwaitsTag r j m (NoTag c)
+      pub awaits_unread : (c : ReadingCause) → y ≡ Err c → AwaitsTag r j m (Err c)
       unfolding then
       awaits_unread c q = no_tag {c = c} within (rw (identifier_refused m y ey c q) refl)
 
-      module _ (code end : ℕ) (q : y ≡ Read code end) (k : ℕ)
+      module _ (code end : ℕ) (q : y ≡ Ok (record { code = code; end = end })) (k : ℕ)
           (ek : k ≡ code_by (get_or b (tag_place e j) 0) (ltb j e.explicit || not e.simple) (two b (tag_place e j + 1))) where
         abbrev Is : (a : List ℕ) × (read_identifier m ≡ got a (drop end m)) × (code_of a ≡ code) × (0 < end) × (end ≤ length m)
-        Is = identifier_read m y ey code end q
+        Is = identifier_read m y ey (record { code = code; end = end }) q
 
         in_tags : j < length (table_in b I.0).tags
         in_tags = omega (arith, en, ap tag_count ee, entered_tags its_entry)
@@ -305,26 +301,26 @@ module _ {b index : List ℕ} (R : Ready b index) {w : ℕ} (I : IsRecord b inde
             let l : j < length r.tags = omega (arith, within, count_identifiers r its_fit) in
             sent_at r its_fit j l m Is.0 (drop end m) o Is.1 ∙ its_coded
 
-        is_awaited : coded (either_at r j) k code ≡ true → AwaitsTag r j m (ReadTag end)
+        is_awaited : coded (either_at r j) k code ≡ true → AwaitsTag r j m (Ok end)
         is_awaited z =
             is_tag end within (record { identifier = Is.0; is = Is.1; coded = its_coded ∙ z; further = Is.3; low = Is.4 })
 
-        not_awaited_lem : coded (either_at r j) k code ≡ false → AwaitsTag r j m (NoTag NotAwaited)
+        not_awaited_lem : coded (either_at r j) k code ≡ false → AwaitsTag r j m (Err NotAwaited)
         unfolding then if
         not_awaited_lem z = no_tag {c = NotAwaited} within (rw (Is.1, its_sent, z) refl)
 
-        pub awaits_tag : code ≡ k → AwaitsTag r j m (ReadTag end)
+        pub awaits_tag : code ≡ k → AwaitsTag r j m (Ok end)
         awaits_tag z = is_awaited (coded_is (either_at r j) k code (sym z))
 
         -- not the code itself
         module _ (unlike : code ≡ k → ⊥) where
-          pub awaits_neither : (code ≡ k + 32 → ⊥) → AwaitsTag r j m (NoTag NotAwaited)
+          pub awaits_neither : (code ≡ k + 32 → ⊥) → AwaitsTag r j m (Err NotAwaited)
           awaits_neither z = not_awaited_lem (coded_other (either_at r j) k code (λ q. unlike (sym q)) (λ q. z (sym q)))
 
-          exactly : either_at r j ≡ false → AwaitsTag r j m (NoTag NotAwaited)
+          exactly : either_at r j ≡ false → AwaitsTag r j m (Err NotAwaited)
           exactly q = not_awaited_lem (rw q (coded_one k code ∙ ne_eqb k code (λ z. unlike (sym z))))
 
-          pub awaits_explicit : (e.explicit ≡ j → ⊥) → AwaitsTag r j m (NoTag NotAwaited)
+          pub awaits_explicit : (e.explicit ≡ j → ⊥) → AwaitsTag r j m (Err NotAwaited)
           awaits_explicit z =
               exactly (rw its_record (either_explicit its_entry j (λ q. z (ap (λ (x : Entry). x.explicit) ee ∙ q))))
 
@@ -334,20 +330,20 @@ module _ {b index : List ℕ} (R : Ready b index) {w : ℕ} (I : IsRecord b inde
                 rw its_record
                 (either_entry its_entry j g (eg ∙ ap (λ (x : Entry). eqb x.kind 3 || eqb x.kind 4) ee) (ap (λ (x : Entry). x.explicit) (sym ee) ∙ z))
 
-            pub awaits_string : code ≡ k + 32 → g ≡ true → AwaitsTag r j m (ReadTag end)
+            pub awaits_string : code ≡ k + 32 → g ≡ true → AwaitsTag r j m (Ok end)
             awaits_string q y = is_awaited (coded_parts (either_at r j) k code (its_either ∙ y) (sym q))
 
-            pub awaits_other : g ≡ false → AwaitsTag r j m (NoTag NotAwaited)
+            pub awaits_other : g ≡ false → AwaitsTag r j m (Err NotAwaited)
             awaits_other y = exactly (its_either ∙ y)
 
 -- in the contents of a tag
-module _ (r : Record) (j : ℕ) (m : List ℕ) (indefinite : Bool) (y : End) (ey : y ≡ end_of indefinite (length m) (drop 0 m)) where
-  pub enters_over : (u : ℕ) → y ≡ Over u → EntersTag r j m indefinite (NoTag NotAwaited)
+module _ (r : Record) (j : ℕ) (m : List ℕ) (indefinite : Bool) (y : Result (Option ℕ) ReadingCause) (ey : y ≡ end_of indefinite (length m) (drop 0 m)) where
+  pub enters_over : (u : ℕ) → y ≡ Ok (Some u) → EntersTag r j m indefinite (Err NotAwaited)
   enters_over u q = is_over (end_over {A = List ℕ} (λ _. refused NotAwaited (length m)) (λ _. got [] m) m 0 indefinite y u (omega arith) ey q).0
 
-  pub enters_broken : (c : ReadingCause) → y ≡ Broken c → EntersTag r j m indefinite (NoTag c)
+  pub enters_broken : (c : ReadingCause) → y ≡ Err c → EntersTag r j m indefinite (Err c)
   enters_broken c q =
       is_over (end_broken {A = List ℕ} (λ _. refused NotAwaited (length m)) (λ _. got [] m) m 0 indefinite y c ey q)
 
-  pub enters_more : y ≡ More → (t : TagRead) → AwaitsTag r j m t → EntersTag r j m indefinite t
+  pub enters_more : y ≡ Ok None → (t : Result ℕ ReadingCause) → AwaitsTag r j m t → EntersTag r j m indefinite t
   enters_more q t a = let h = end_more {A = List ℕ} (λ _. refused NotAwaited (length m)) (λ _. got [] m) m 0 indefinite y ey q in goes_on h.0 h.1 a

@@ -8,6 +8,7 @@ use mathlib.Core.Option.{Option, some, none}
 use mathlib.Core.Path.{◌≡◌, refl, sym, ap, ◌∙◌}
 use native.Mathlib.Omega.{arith}
 use Prim.Native.Nat.{ℕ, zero, suc, ◌+◌, ◌-◌, ◌≤◌, ◌<◌}
+use Rattle.std.specs.Prelude.{Err}
 use Rattle.x690.specs.declared.ReadingCause.{ReadingCause}
 use Rattle.x690.specs.declared.ReadingCause.TheVariants.{NotAwaited}
 use Rattle.octets.specs.Answer.{Answer, got, refused, then, if, none_left}
@@ -16,7 +17,6 @@ use Rattle.octets.proofs.Answer.{Holds, Taken, got_holds}
 use Rattle.x690.specs.Reading.{Mode, closed, open_ended, read_identifier}
 use Rattle.x690.specs.Reading.{at_end}
 use Rattle.ber.specs.Told.{told_identifier}
-use Rattle.ber.specs.declared.identifier.Identifier.TheVariants.{Refused as NoIdentifier}
 use Rattle.ber.proofs.Told.{identifier_refused}
 use Rattle.table.specs.Syntax.{Table}
 use Rattle.coding.specs.Value.{Value}
@@ -102,8 +102,8 @@ unawaited_sane {A} {P} s = go (read_identifier s) refl
     go : (x : Answer ReadingCause (List ℕ)) → read_identifier s ≡ x → Sane {A = A} P s (then x λ i s₁. refused NotAwaited (length s))
     go (got i u) e = stops {l = length s} (omega arith)
     go (refused c l) e =
-        let q : NoIdentifier c ≡ told_identifier (length s) (read_identifier s) = rw e refl in
-        let y = identifier_refused s (NoIdentifier c) q c refl in
+        let q : Err c ≡ told_identifier (length s) (read_identifier s) = rw e refl in
+        let y = identifier_refused s (Err c) q c refl in
         let z : ◌≡◌ {A = Answer ReadingCause (List ℕ)} (refused c l) (refused c (length s)) = sym e ∙ y in
         let v : l ≡ length s = cc in
         stops {l = l} (omega arith)

@@ -8,7 +8,9 @@ use mathlib.Core.List.{List, [], ◌∷◌, ◌++◌}
 use mathlib.Core.Path.{◌≡◌, refl, sym, ap, ◌∙◌}
 use native.Mathlib.Omega.{arith}
 use Prim.Native.Nat.{ℕ, ◌+◌, ◌-◌, ◌≤◌, ◌<◌}
+use Rattle.std.specs.Prelude.{Result, Ok, Err}
 use Rattle.x690.specs.declared.ReadingCause.{ReadingCause}
+use Rattle.x690.specs.declared.Unread.{Unread}
 use Rattle.octets.specs.Answer.{Answer, got, refused, then, behind}
 use Rattle.octets.specs.Numbers.{Octets}
 use Rattle.octets.proofs.Answer.{got_holds}
@@ -19,8 +21,6 @@ use Rattle.x690.specs.Reading.{read_constructed, read_identifier}
 use Rattle.x690.specs.Segments.{in_either}
 use Rattle.x690.proofs.Identifiers.{identifier_sound, identifier_some}
 use Rattle.ber.specs.Told.{told_length, mode}
-use Rattle.ber.specs.declared.length.Length.{Length}
-use Rattle.ber.specs.declared.length.Length.TheVariants.{Read as ReadLength}
 use Rattle.ber.specs.declared.length.Extent.{Extent}
 use Rattle.ber.proofs.Told.{length_definite, length_indefinite}
 use Rattle.table.specs.Syntax.{Simple, Body, Plain}
@@ -32,6 +32,7 @@ use Rattle.coding.specs.Tags.{own_tag, explicit}
 use Rattle.coding.specs.Content.{segmented}
 use Rattle.coding.specs.Value.{Value}
 use Rattle.coding.specs.Reading.{read_wrapped, read_value}
+use Rattle.reader.specs.Answers.{judged, unread}
 use Rattle.reader.specs.Codes.{own_either, either}
 use Rattle.reader.specs.Items.{Holder, inside, manner, is_single}
 use Rattle.reader.specs.Items.{read_held}
@@ -40,8 +41,6 @@ use Rattle.reader.specs.Leaves.{is_in_segments, read_leaf}
 use Rattle.reader.specs.Sought.{held}
 use Rattle.reader.specs.Wraps.{closing, Around, Headed, read_bare, Opens}
 use Rattle.reader.specs.declared.tags.Inner.{Inner}
-use Rattle.reader.specs.declared.tags.Opened.{Opened}
-use Rattle.reader.specs.declared.tags.Opened.TheVariants.{Inside, Refused as NotOpened}
 use Rattle.reader.proofs.Bodies.{record_of, nil_of, plain_of, no_alternatives, single_kind, Built, its_holder, its_built}
 use Rattle.reader.proofs.Bodies.{its_choice, its_simple}
 use Rattle.reader.proofs.Opening.{octets_drop, octets_take, slice_is, its_count, its_first, either_own}
@@ -111,13 +110,13 @@ module _ {b index : List ℕ} (R : Ready b index) {w : ℕ} (I : IsRecord b inde
         })
 
   -- with tags
-  module _ (m : List ℕ) (first : ℕ) (ns : List ℕ) (y : Opened) (o : Opens b r m first ns y) where
-    pub tags_refused : (c : ReadingCause) (l : ℕ) → y ≡ NotOpened c l → (n : ℕ) → read_record (table_in b) n r (drop first m) ≡ refused c l
-    tags_refused c l e = let (_, q) : Opens b r m first ns (NotOpened c l) = rw e at o in q
+  module _ (m : List ℕ) (first : ℕ) (ns : List ℕ) (y : Result Inner Unread) (o : Opens b r m first ns y) where
+    pub tags_refused : (c : ReadingCause) (l : ℕ) → y ≡ unread c l → (n : ℕ) → read_record (table_in b) n r (drop first m) ≡ refused c l
+    tags_refused c l e = let (_, q) : Opens b r m first ns (unread c l) = rw e at o in q
 
-    pub under_tags : (x : Inner) → y ≡ Inside x → Under b r m first ns x.at x.from x.end
+    pub under_tags : (x : Inner) → y ≡ Ok x → Under b r m first ns x.at x.from x.end
     under_tags x e =
-        let (_, i, h, a, g, q) : Opens b r m first ns (Inside x) = rw e at o in
+        let (_, i, h, a, g, q) : Opens b r m first ns (Ok x) = rw e at o in
         record { some = i; high = h; around = a; headed = g; whole = q }
 
 -- An item of a record where its tags are opened: what the value stands in, and where. The values in it have `level` levels.
@@ -201,8 +200,8 @@ module _ {b index : List ℕ} {w : ℕ} {m : List ℕ} {first level : ℕ} (X : 
         header = λ n. absurd (true≢false (sym (is_chosen y) ∙ n));
       }
 
-  module _ (k : X.entry.kind ≡ 50 → ⊥) (z : Length) (az : z ≡ told_length (length Part) (read_length (length Rest) (drop X.from Part))) where
-    pub contents_sized : (x : Extent) → z ≡ ReadLength x → Within Rec Part X.at X.end x.start x.end x.indefinite
+  module _ (k : X.entry.kind ≡ 50 → ⊥) (z : Result Extent ReadingCause) (az : z ≡ told_length (length Part) (read_length (length Rest) (drop X.from Part))) where
+    pub contents_sized : (x : Extent) → z ≡ Ok x → Within Rec Part X.at X.end x.start x.end x.indefinite
     contents_sized x q =
         let n = no_choice k in
         test x.indefinite

@@ -8,8 +8,11 @@ use mathlib.Core.Bool.{Bool, true, false, not, ◌&&◌, ◌||◌}
 use mathlib.Core.List.{List, [], ◌∷◌}
 use mathlib.Core.Path.{◌≡◌, refl, sym, ap, ◌∙◌}
 use native.Mathlib.Omega.{arith}
-use Prim.Native.Nat.{ℕ, suc, ◌+◌, ◌*◌, ◌≤◌}
+use Prim.Native.Nat.{ℕ, suc, ◌+◌, ◌*◌, ◌≤◌, ◌<◌}
+use Rattle.std.specs.Prelude.{Option, None}
+use Rattle.core.specs.Bool.{then_some}
 use Rattle.octets.specs.Answer.{if, none_left}
+use Rattle.octets.specs.Numbers.{unless_zero}
 use Rattle.octets.proofs.Tests.{test}
 use Rattle.octets.proofs.Lists.{both}
 use Rattle.x690.specs.Integer.{integer_of, minimal, eight}
@@ -44,6 +47,15 @@ listed_is : (ns : List ℕ) (z : ℤ) → lists_number ns z ≡ is_listed ns z
 unfolding is_listed listed
 listed_is ns (pos k) = refl
 listed_is ns (negsuc k) = refl
+
+-- The code's answer: none where a test fails, and the size where it holds.
+pub no_size : {m : ℕ} → 0 ≡ m → (◌≡◌ {A = Option ℕ} None (unless_zero m)) × (m < 16386)
+no_size q = rw (← q) (refl, omega arith)
+
+pub size_if : {n m : ℕ} (t : Bool) {r : Option ℕ} → r ≡ then_some t n → 0 < n → n < 16386 → (t ≡ true → n ≡ m) → (t ≡ false → 0 ≡ m)
+    → (r ≡ unless_zero m) × (m < 16386)
+size_if {n} true e l k f g = let q = f refl in (e ∙ rw (← q, ne_eqb n 0 (λ z. omega arith)) refl, rw (← q) k)
+size_if false e l k f g = let q = no_size (g refl) in (e ∙ q.0, q.1)
 
 -- times
 module _ (q : TimeKind) (c : List ℕ) where

@@ -9,17 +9,16 @@ use mathlib.Core.List.{List, [], ◌∷◌, ◌++◌}
 use mathlib.Core.Path.{◌≡◌, refl, sym, ap, ◌∙◌}
 use native.Mathlib.Omega.{arith}
 use Prim.Native.Nat.{ℕ, suc, ◌+◌, ◌-◌, ◌*◌, ◌/◌, ◌%◌, ◌≤◌, ◌<◌}
+use Rattle.std.specs.Prelude.{Option, Some, None, Result, Ok, Err}
 use Rattle.x690.specs.declared.ReadingCause.{ReadingCause}
+use Rattle.x690.specs.declared.Unread.{Unread}
 use Rattle.x690.specs.declared.ReadingCause.TheVariants.{Trailing}
 use Rattle.octets.specs.Answer.{Answer, got, refused, then, if, behind, none_left}
 use Rattle.ber.specs.Told.{end_of, mode}
-use Rattle.ber.specs.declared.ending.End.{End}
-use Rattle.ber.specs.declared.ending.End.TheVariants.{More, Over, Broken}
 use Rattle.ber.proofs.Ends.{end_more, end_over, end_broken}
-use Rattle.reader.specs.Answers.{cap, told}
+use Rattle.reader.specs.Answers.{cap, judged, unread, told}
 use Rattle.reader.specs.Wraps.{ended, shut, inner_end, closing, note_of, Around}
 use Rattle.reader.specs.declared.answer.Judged.{Judged}
-use Rattle.reader.specs.declared.answer.Judged.TheVariants.{Done, Refused}
 
 pub around_end : (n : ℕ) (ns : List ℕ) (e : ℕ) → Around n ns e → e ≤ n
 unfolding Around inner_end
@@ -87,10 +86,10 @@ unfolding shut then behind
 shut_over m outer inner true x a u e o z = e ∙ ap (λ (i : ℕ). got a (drop u (take i m))) (o refl)
 shut_over m outer inner false x a u e o z = rw (e, z refl) refl
 
-abbrev EndsAt : ℕ → End → Type 0
-EndsAt n More = Unit {0}
-EndsAt n (Over u) = u ≡ n
-EndsAt n (Broken c) = Unit {0}
+abbrev EndsAt : ℕ → Result (Option ℕ) ReadingCause → Type 0
+EndsAt n (Ok None) = Unit {0}
+EndsAt n (Ok (Some u)) = u ≡ n
+EndsAt n (Err c) = Unit {0}
 
 closed_end : (n : ℕ) (s : List ℕ) → EndsAt n (end_of false n s)
 unfolding end_of if none_left
@@ -103,7 +102,7 @@ pub record Closing (m notes : List ℕ) (count last first size at end j : ℕ) :
   pub whole : closing m (take count notes) last (got size (drop first (take last m))) ≡ closing m (take j notes) end (got size (drop at (take end m)))
 
 module _ (m notes : List ℕ) (count last first size : ℕ) where
-  abbrev pub Told : Judged
+  abbrev pub Told : Result Judged Unread
   Told = told m (λ (n : ℕ). n) (closing m (take count notes) last (got size (drop first (take last m))))
 
   pub close_none : Around (length m) (take count notes) last → Closing m notes count last first size first last count
@@ -113,7 +112,7 @@ module _ (m notes : List ℕ) (count last first size : ℕ) where
     pub close_end : end ≤ length m
     close_end = around_end (length m) (take j notes) end S.around
 
-    pub close_done : j ≤ 0 → at ≤ end → size < 16386 → Done at size ≡ Told
+    pub close_done : j ≤ 0 → at ≤ end → size < 16386 → judged at size ≡ Told
     unfolding told closing Around
     close_done z h g =
         let q : j ≡ 0 = omega arith in
@@ -134,7 +133,7 @@ module _ (m notes : List ℕ) (count last first size : ℕ) where
       pub close_near : n / 2 ≤ length m
       close_near = around_end (length m) (take (j - 1) notes) (n / 2) wider.0
 
-      module _ (k : Bool) (ek : k ≡ eqb (n % 2) 1) (r : End) (er : r ≡ end_of k (length (take end m)) (drop at (take end m))) where
+      module _ (k : Bool) (ek : k ≡ eqb (n % 2) 1) (r : Result (Option ℕ) ReadingCause) (er : r ≡ end_of k (length (take end m)) (drop at (take end m))) where
         whole_end : k ≡ true → end ≡ n / 2
         whole_end t = wider.2 (eqb-true (n % 2) 1 (sym ek ∙ t))
 
@@ -154,7 +153,7 @@ module _ (m notes : List ℕ) (count last first size : ℕ) where
         left_part = length-drop at (take end m) ∙ ap (λ (i : ℕ). i - at) size_part
 
         broken : (c : ReadingCause) → ended (mode k) (got size (drop at (take end m))) ≡ refused c (length (drop at (take end m)))
-            → Refused c (length m - at) ≡ Told
+            → unread c (length m - at) ≡ Told
         unfolding told
         broken c e =
             let (a, b, o) = wider in
@@ -167,16 +166,16 @@ module _ (m notes : List ℕ) (count last first size : ℕ) where
               q,
             ) refl
 
-        pub close_more : r ≡ More → Refused Trailing (length m - at) ≡ Told
+        pub close_more : r ≡ Ok None → unread Trailing (length m - at) ≡ Told
         unfolding ended then if
         close_more d = broken Trailing (end_more {A = ℕ} (λ w. got size w) (λ _. refused Trailing (length (drop at (take end m)))) (take end m) at k r er d).0
 
-        pub close_broken : (c : ReadingCause) → r ≡ Broken c → Refused c (length m - at) ≡ Told
+        pub close_broken : (c : ReadingCause) → r ≡ Err c → unread c (length m - at) ≡ Told
         unfolding ended then
         close_broken c d =
             broken c (end_broken {A = ℕ} (λ w. got size w) (λ _. refused Trailing (length (drop at (take end m)))) (take end m) at k r c er d)
 
-        pub close_turn : (u : ℕ) → r ≡ Over u → Closing m notes count last first size u (n / 2) (j - 1) × (u ≤ n / 2)
+        pub close_turn : (u : ℕ) → r ≡ Ok (Some u) → Closing m notes count last first size u (n / 2) (j - 1) × (u ≤ n / 2)
         unfolding ended then
         close_turn u d =
             let (y, b, g) = end_over {A = ℕ} (λ w. got size w) (λ _. refused Trailing (length (drop at (take end m)))) (take end m) at k r u inside_part er d in

@@ -1,6 +1,6 @@
 -- Identifiers by their codes, and the search for the record that an identifier begins (X.690, 8.13).
 -- Assumes nothing.
-use Rattle.std.specs.Prelude.{Bool, true, false, not, ◌&&◌, ◌||◌, List, [], ◌∷◌, ℕ, zero, suc, ◌+◌, eqb}
+use Rattle.std.specs.Prelude.{Bool, true, false, not, ◌&&◌, ◌||◌, List, [], ◌∷◌, ℕ, zero, suc, ◌+◌, eqb, Option, Some, None}
 use Rattle.x690.specs.declared.ReadingCause.{ReadingCause}
 use Rattle.octets.specs.Answer.{Answer, got, refused, if}
 use Rattle.ber.specs.Codes.{code_of}
@@ -10,7 +10,6 @@ use Rattle.table.specs.Rules.{siblings}
 use Rattle.records.specs.Entries.{untagged as no_tag, first_code, explicit_count}
 use Rattle.coding.specs.Content.{segmented}
 use Rattle.reader.specs.declared.search.Under.{Under}
-use Rattle.reader.specs.declared.search.Under.TheVariants.{Nothing, At}
 
 -- of a CHOICE without tags, and where no identifier can be read
 abbrev pub untagged : ℕ
@@ -51,24 +50,28 @@ coded e a c = eqb a c || (e && eqb (a + 32) c)
 abbrev pub starts_with : Record → ℕ → Bool
 starts_with r c = coded (either r) (first_of r) c
 
+-- the record u, under d CHOICEs
+abbrev pub under : ℕ → ℕ → Option Under
+under u d = Some (record { «record» = u; depth = d })
+
 -- something is found
-abbrev pub hit : Under → Bool
-hit Nothing = false
-hit (At u d) = true
+abbrev pub hit : Option Under → Bool
+hit None = false
+hit (Some x) = true
 
 -- the first of the records that f finds something under, which stands one CHOICE deeper
-unfoldable pub pick : Under → Under → Under
-pick Nothing y = y
-pick (At u d) y = At u (suc d)
+unfoldable pub pick : Option Under → Option Under → Option Under
+pick None y = y
+pick (Some x) y = under x.«record» (suc x.depth)
 
-unfoldable pub among : (ℕ → Under) → List ℕ → Under
-among f [] = Nothing
+unfoldable pub among : (ℕ → Option Under) → List ℕ → Option Under
+among f [] = None
 among f (t ∷ ts) = pick (f t) (among f ts)
 
 -- the record that the code begins, of t and those under it through fewer than k CHOICEs without tags, and how many stand above it
-unfoldable pub search_in : Table → ℕ → ℕ → ℕ → Under
-search_in T zero t c = Nothing
+unfoldable pub search_in : Table → ℕ → ℕ → ℕ → Option Under
+search_in T zero t c = None
 search_in T (suc k) t c =
-    if (starts_with (T t) c) (At t 0) λ _.
-    if (not (eqb (first_of (T t)) untagged)) Nothing λ _.
+    if (starts_with (T t) c) (under t 0) λ _.
+    if (not (eqb (first_of (T t)) untagged)) None λ _.
     among (λ a. search_in T k a c) (siblings (T t).body)

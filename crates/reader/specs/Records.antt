@@ -1,6 +1,6 @@
 -- What the reader relies on of a table and its index, and what an entry stands for (FORMATS, "Tables").
 -- Assumes nothing.
-use Rattle.std.specs.Prelude.{Bool, true, false, List, ◌≡◌, ℕ, ◌<◌, eqb, get_or}
+use Rattle.std.specs.Prelude.{Bool, true, false, List, ◌≡◌, ℕ, ◌<◌, eqb, get_or, Option, Some, None}
 use Rattle.x690.specs.declared.ReadingCause.{ReadingCause}
 use Rattle.octets.specs.Answer.{Answer, if}
 use Rattle.table.specs.Syntax.{Record, Table}
@@ -11,11 +11,10 @@ use Rattle.records.specs.declared.entry.Entry.{Entry}
 use Rattle.coding.specs.Value.{Value}
 use Rattle.coding.specs.Tags.{own_tag, explicit}
 use Rattle.coding.specs.Reading.{read_wrapped, read_kind, read_value}
-use Rattle.reader.specs.Codes.{starts_with, search_in}
+use Rattle.reader.specs.Codes.{starts_with, search_in, under}
 use Rattle.reader.specs.Items.{Holder, inside, message}
 use Rattle.reader.specs.Ways.{Leads}
 use Rattle.reader.specs.declared.search.Under.{Under}
-use Rattle.reader.specs.declared.search.Under.TheVariants.{Nothing, At}
 
 -- a table that passed, and its index
 pub record Ready (b index : List ℕ) : Type 0 where
@@ -48,7 +47,8 @@ unfoldable pub read_record : Table → ℕ → Record → List ℕ → Answer Re
 read_record T n r s = read_wrapped (explicit r) (read_kind T (λ u w. read_value T n u w) (own_tag r) r.body) s
 
 -- what the search finds under t: the record that the code begins, with the way to it
-abbrev pub Finds : List ℕ → ℕ → List ℕ → ℕ → Under → Type 0
-Finds b code way t Nothing = search_in (table_in b) 129 t code ≡ Nothing
-Finds b code way t (At u d) =
-    (search_in (table_in b) 129 t code ≡ At u d) × Leads (table_in b) code way t d u × (starts_with (table_in b u) code ≡ true) × (u < count_in b)
+abbrev pub Finds : List ℕ → ℕ → List ℕ → ℕ → Option Under → Type 0
+Finds b code way t None = search_in (table_in b) 129 t code ≡ None
+Finds b code way t (Some x) =
+    (search_in (table_in b) 129 t code ≡ Some x) × Leads (table_in b) code way t x.depth x.«record»
+    × (starts_with (table_in b x.«record») code ≡ true) × (x.«record» < count_in b)

@@ -1,6 +1,6 @@
 -- What the search for the part that an item begins answers (X.690, 8.9 to 8.13; FORMATS, "Order of refusals").
 -- Assumes nothing.
-use Rattle.std.specs.Prelude.{not, List, [], ◌≡◌, ℕ, ◌<◌, ◌≤◌, length, get_or, drop}
+use Rattle.std.specs.Prelude.{not, List, [], ◌≡◌, ℕ, ◌<◌, ◌≤◌, length, get_or, drop, Result, Ok, Err}
 use Rattle.std.proofs.Math.Option.{Option, some, none}
 use Rattle.x690.specs.declared.ReadingCause.{ReadingCause}
 use Rattle.x690.specs.declared.ReadingCause.TheVariants.{NotAwaited, Trailing}
@@ -11,12 +11,10 @@ use Rattle.table.specs.Syntax.{Member}
 use Rattle.table.specs.Reading.{table_in}
 use Rattle.records.specs.Entries.{unpacked}
 use Rattle.coding.specs.Reading.{not_awaited}
-use Rattle.reader.specs.Codes.{starts_with, search_in, hit}
+use Rattle.reader.specs.Codes.{starts_with, search_in, hit, under}
 use Rattle.reader.specs.Items.{Holder, inside, message, each_once, manner, parts_of, Placed, awaits, remains, is_single, first, next}
 use Rattle.reader.specs.Records.{Ready, Known, holder_in, Finds}
-use Rattle.reader.specs.declared.search.Under.TheVariants.{At}
-use Rattle.reader.specs.declared.search.Found.{Found}
-use Rattle.reader.specs.declared.search.Found.TheVariants.{Part, Refused}
+use Rattle.reader.specs.declared.search.Choice.{Choice}
 
 -- what the entry w stands for, if it is one of a record that is not simple, or of a message
 abbrev pub held : List ℕ → ℕ → Holder
@@ -61,18 +59,18 @@ unfit_cause h i came c =
     if (not (remains h i came)) Trailing λ _. c
 
 -- the part under which a record begins with the code, and the way to that record; or the refusal
-abbrev pub Indirect : List ℕ → Holder → ℕ → List ℕ → ℕ → ℕ → List ℕ → Found → Type 0
-Indirect b h i came code from way (Part x) =
+abbrev pub Indirect : List ℕ → Holder → ℕ → List ℕ → ℕ → ℕ → List ℕ → Result Choice ReadingCause → Type 0
+Indirect b h i came code from way (Ok x) =
     (part : Member) × (first (λ y. hit (search_in (table_in b) 129 y.1.type code)) (awaits h i came) ≡ some (x.place, part)) × (x.from ≡ from)
-    × Finds b code way part.type (At x.record x.depth)
-Indirect b h i came code from way (Refused c) =
+    × Finds b code way part.type (under x.record x.depth)
+Indirect b h i came code from way (Err c) =
     (first (λ y. hit (search_in (table_in b) 129 y.1.type code)) (awaits h i came) ≡ none) × (c ≡ unfit_cause h i came NotAwaited)
 
 -- the part that the item at the beginning of m begins, the record under it that begins with the item's code, and the way to that; or why there is none
-abbrev pub Sought : List ℕ → Holder → ℕ → List ℕ → List ℕ → List ℕ → Found → Type 0
-Sought b h i came m way (Part x) =
+abbrev pub Sought : List ℕ → Holder → ℕ → List ℕ → List ℕ → List ℕ → Result Choice ReadingCause → Type 0
+Sought b h i came m way (Ok x) =
     (part : Member) × (i₁ : List ℕ) × (next (table_in b) h i came m ≡ some (x.place, part))
     × (read_identifier m ≡ got i₁ (drop x.from m)) × (0 < x.from) × (x.from ≤ length m)
-    × Finds b (code_of i₁) way part.type (At x.record x.depth)
-Sought b h i came m way (Refused c) =
+    × Finds b (code_of i₁) way part.type (under x.record x.depth)
+Sought b h i came m way (Err c) =
     (next (table_in b) h i came m ≡ none) × (unfit {A = List ℕ} h i came m ≡ refused c (length m))

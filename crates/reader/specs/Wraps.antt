@@ -1,8 +1,9 @@
 -- Explicit tags that were opened one after another, and their closing (X.690, 8.14).
 -- A note for each: twice the end of the octets around its item, and 1 if its length is indefinite.
 -- Assumes nothing.
-use Rattle.std.specs.Prelude.{Bool, true, false, ◌&&◌, ◌||◌, List, [], ◌∷◌, ◌++◌, ◌≡◌, ℕ, ◌+◌, ◌-◌, ◌*◌, ◌/◌, ◌%◌, ◌≤◌, ◌<◌, eqb, length, get_or, take, drop}
+use Rattle.std.specs.Prelude.{Bool, true, false, ◌&&◌, ◌||◌, List, [], ◌∷◌, ◌++◌, ◌≡◌, ℕ, ◌+◌, ◌-◌, ◌*◌, ◌/◌, ◌%◌, ◌≤◌, ◌<◌, eqb, length, get_or, take, drop, Result, Ok, Err}
 use Rattle.x690.specs.declared.ReadingCause.{ReadingCause}
+use Rattle.x690.specs.declared.Unread.{Unread}
 use Rattle.x690.specs.declared.ReadingCause.TheVariants.{NotAwaited, Trailing}
 use Rattle.octets.specs.Answer.{Answer, got, refused, then, if, behind}
 use Rattle.octets.specs.Lists.{same}
@@ -17,10 +18,7 @@ use Rattle.coding.specs.Value.{Value}
 use Rattle.coding.specs.Reading.{read_kind, read_value}
 use Rattle.reader.specs.Codes.{own_either, either_at, coded as coded_as}
 use Rattle.reader.specs.Records.{read_record}
-use Rattle.reader.specs.declared.tags.Tag.{Tag}
-use Rattle.reader.specs.declared.tags.Tag.TheVariants.{Read as ReadTag, Refused as NoTag}
-use Rattle.reader.specs.declared.tags.Opened.{Opened}
-use Rattle.reader.specs.declared.tags.Opened.TheVariants.{Inside, Refused as NotOpened}
+use Rattle.reader.specs.declared.tags.Inner.{Inner}
 
 -- behind the one item under a tag
 unfoldable pub ended : {A : Type 0} → Mode → Answer ReadingCause A → Answer ReadingCause A
@@ -71,25 +69,25 @@ abbrev pub sent_as : Bool → List ℕ → List ℕ → Bool
 sent_as e o i = same o i || (e && same (in_parts o) i)
 
 -- the j-th identifier of r, which m must begin with: where it ends; behind the last there is none; or why it is refused
-pub data AwaitsTag (r : Record) (j : ℕ) (m : List ℕ) : Tag → Type 0 where
-  behind_last : length (identifiers r) ≤ j → AwaitsTag r j m (ReadTag 0)
-  is_tag : (end : ℕ) → j < length (identifiers r) → Headed m 0 end (either_at r j) (code_of (get_or (identifiers r) j [])) → AwaitsTag r j m (ReadTag end)
+pub data AwaitsTag (r : Record) (j : ℕ) (m : List ℕ) : Result ℕ ReadingCause → Type 0 where
+  behind_last : length (identifiers r) ≤ j → AwaitsTag r j m (Ok 0)
+  is_tag : (end : ℕ) → j < length (identifiers r) → Headed m 0 end (either_at r j) (code_of (get_or (identifiers r) j [])) → AwaitsTag r j m (Ok end)
   no_tag : {c : ReadingCause} → j < length (identifiers r)
       → then (read_identifier m) (λ i s. if (sent_as (either_at r j) (get_or (identifiers r) j []) i) (got i s) λ _. refused NotAwaited (length m)) ≡ refused c (length m)
-      → AwaitsTag r j m (NoTag c)
+      → AwaitsTag r j m (Err c)
 
 -- the same in the contents of a tag, which 00 00 closes if `indefinite`: over they may not be
 abbrev pub must_go_on : Bool → List ℕ → Answer ReadingCause (List ℕ)
 must_go_on indefinite m = at_end (mode indefinite) m (λ u. refused NotAwaited (length m)) λ _. got [] m
 
-pub data EntersTag (r : Record) (j : ℕ) (m : List ℕ) (indefinite : Bool) : Tag → Type 0 where
-  goes_on : {x : Tag} → must_go_on indefinite m ≡ got [] m → 0 < length m → AwaitsTag r j m x → EntersTag r j m indefinite x
-  is_over : {c : ReadingCause} → must_go_on indefinite m ≡ refused c (length m) → EntersTag r j m indefinite (NoTag c)
+pub data EntersTag (r : Record) (j : ℕ) (m : List ℕ) (indefinite : Bool) : Result ℕ ReadingCause → Type 0 where
+  goes_on : {x : Result ℕ ReadingCause} → must_go_on indefinite m ≡ got [] m → 0 < length m → AwaitsTag r j m x → EntersTag r j m indefinite x
+  is_over : {c : ReadingCause} → must_go_on indefinite m ≡ refused c (length m) → EntersTag r j m indefinite (Err c)
 
 -- What opening the tags of a record says of reading it, with however many levels.
-abbrev pub Opens : List ℕ → Record → List ℕ → ℕ → List ℕ → Opened → Type 0
-Opens b r m at ns (Inside x) =
+abbrev pub Opens : List ℕ → Record → List ℕ → ℕ → List ℕ → Result Inner Unread → Type 0
+Opens b r m at ns (Ok x) =
     (at < x.at) × (x.at < x.end) × (x.end ≤ length m) × Around (length m) ns x.end
     × (is_choice r.body ≡ false → Headed (take x.end m) x.at x.from (own_either r.body) (code_of (own_tag r)))
     × ((n : ℕ) → read_record (table_in b) n r (drop at m) ≡ closing m ns x.end (read_bare b n r (drop x.at (take x.end m))))
-Opens b r m at ns (NotOpened c l) = (l ≤ length m) × ((n : ℕ) → read_record (table_in b) n r (drop at m) ≡ refused c l)
+Opens b r m at ns (Err x) = (x.left ≤ length m) × ((n : ℕ) → read_record (table_in b) n r (drop at m) ≡ refused x.cause x.left)

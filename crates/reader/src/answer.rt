@@ -1,15 +1,12 @@
-// What the judge of a message answers, and why it refuses (FORMATS, "Refusals").
+// What the judge of a message answers of one that it does not refuse (FORMATS, "Refusals").
 ghost use Rattle.std.specs.Prelude.{◌≡◌, ◌<◌, ◌+◌};
 ghost use Rattle.reader.specs.Answers.{cap};
 
-use x690::ReadingCause;
-
-// Where what is judged ends, and how many octets its value has, 16,385 for all above 16,384. Or why it is refused, and how many octets
-// are left from the place of the refusal to the end of those that were given.
-#[derive(Clone, Copy)]
-pub enum Judged {
-    Done { end: usize, size: usize },
-    Refused { cause: ReadingCause, left: usize },
+// Where what is judged ends, and how many octets its value has, 16,385 for all above 16,384.
+#[derive(Clone, Copy, Debug, PartialEq, Eq)]
+pub struct Judged {
+    pub end: usize,
+    pub size: usize,
 }
 
 // Stands for every size above that of the longest value.

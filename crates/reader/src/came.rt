@@ -13,8 +13,7 @@ pub fn lacks(table: &[u8], w: u64, i: usize, came: &[u16; 16], any: bool) -> boo
     ensures { result ≡ Lists·any (λ x. any || not x.1.optional) (left (held table.now w) i came.now) }
 {
     let s = parts(table, unpack(w));
-    let mut k = i;
-    while k < s.count {
+    for k in i..s.count {
         let p = s.first + s.step * k;
         if came[k] == 0 {
             if any {
@@ -24,7 +23,6 @@ pub fn lacks(table: &[u8], w: u64, i: usize, came: &[u16; 16], any: bool) -> boo
                 return true;
             }
         }
-        k += 1;
     }
     false
 }

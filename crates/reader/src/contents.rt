@@ -5,7 +5,7 @@ ghost use Rattle.table.specs.Reading.{body_at};
 ghost use Rattle.records.specs.Entries.{Entered};
 ghost use Rattle.reader.specs.Weights.{weight, size_by};
 ghost use Rattle.std.proofs.lemmas.List.Edits.{sets};
-ghost use Rattle.octets.specs.Numbers.{octets_of};
+ghost use Rattle.octets.specs.Numbers.{octets_of, unless_zero};
 ghost use Rattle.x690.specs.Integer.{integer_of, eight_of};
 ghost use Rattle.x690.specs.BitString.{masked};
 ghost use Rattle.x690.specs.Time.{time_of, is_time};
@@ -25,80 +25,27 @@ use kinds::{
     BIT_STRING, BOOLEAN, ENUMERATED, GENERALIZED_TIME, INTEGER, NULL, OCTET_STRING, UTC_TIME,
     time_kind,
 };
-use octets::copy;
 use records::entry::{Entry, lists};
-use segments::Segments;
 use simple::{bit_string, integer};
-use x690::ReadingCause;
+use x690::{ReadingCause, Unread};
 
-// How many octets the value of contents of a simple record has, in an item that begins with the octet `lead`; 0 if they are wrong for it, or
+// How many octets the value of contents of a simple record has, in an item that begins with the octet `lead`; none if they are wrong for it, or
 // come in segments.
-pub fn contents_size(table: &[u8], e: Entry, lead: u8, c: &[u8]) -> usize
+pub fn contents_size(table: &[u8], e: Entry, lead: u8, c: &[u8]) -> Option<usize>
     requires { (r : Record) × Entered table.now e r × (length c.now ≤ 8192) }
-    ensures { (result ≡ size_by (body_at table.now e.kind e.own) lead c.now) × (result < 16386) }
+    ensures { let n = size_by (body_at table.now e.kind e.own) lead c.now in (result ≡ unless_zero n) × (n < 16386) }
 {
     let n = c.len();
-    let k = e.kind;
-    if k == BOOLEAN {
-        if n != 1 {
-            return 0;
-        }
-        return 4;
+    match e.kind {
+        BOOLEAN => (n == 1).then_some(4),
+        INTEGER => integer::is_integer(c).then_some(11),
+        BIT_STRING => (!in_segments(lead) && bit_string::are_bits(c)).then_some(n + 4),
+        OCTET_STRING => (!in_segments(lead)).then_some(n + 5),
+        NULL => (n == 0).then_some(3),
+        ENUMERATED => (integer::is_integer(c) && lists(table, e, integer::of(c))).then_some(5),
+        UTC_TIME | GENERALIZED_TIME => time::is_time(time_kind(e.kind), c).then_some(10),
+        _ => None,
     }
-    if k == INTEGER {
-        if integer::is_integer(c) {
-            return 11;
-        }
-        return 0;
-    }
-    if k == BIT_STRING {
-        if in_segments(lead) {
-            return 0;
-        }
-        if bit_string::are_bits(c) {
-            return n + 4;
-        }
-        return 0;
-    }
-    if k == OCTET_STRING {
-        if in_segments(lead) {
-            return 0;
-        }
-        return n + 5;
-    }
-    if k == NULL {
-        if n != 0 {
-            return 0;
-        }
-        return 3;
-    }
-    if k == ENUMERATED {
-        if !integer::is_integer(c) {
-            return 0;
-        }
-        let z = integer::of(c);
-        if lists(table, e, z) {
-            return 5;
-        }
-        return 0;
-    }
-    if k < UTC_TIME {
-        return 0;
-    }
-    if GENERALIZED_TIME < k {
-        return 0;
-    }
-    time_size(time_kind(k), c)
-}
-
-// How many octets the value of a time's contents has; 0 if they are wrong for it.
-fn time_size(kind: TimeKind, c: &[u8]) -> usize
-    ensures { (result ≡ weight (decode (Time kind) 0 c.now [])) × (result < 16386) }
-{
-    if time::is_time(kind, c) {
-        return 10;
-    }
-    0
 }
 
 // Whether an item is constructed, by its leading octet; one of a simple kind then is a string in segments.
@@ -130,7 +77,7 @@ pub fn judge_segments(
     indefinite: bool,
     left: usize,
     behind: usize,
-) -> Judged
+) -> Result<Judged, Unread>
     requires { (r : Record) × Entered table.now e r
         × (is_in_segments lead ≡ true → (e.kind ≡ 3) ⊎ (e.kind ≡ 4))
         × (length c.now ≤ 8192)
@@ -140,34 +87,24 @@ pub fn judge_segments(
     ensures { let d = c.now in
         result ≡ told d leaf_size (read_leaf_in (body_at table.now e.kind e.own) (is_in_segments lead) indefinite left behind d) }
 {
-    if in_segments(lead) {
-        return match segments::read(c, indefinite, e.kind == BIT_STRING) {
-            Segments::Refused { cause, left: n } => Judged::Refused {
-                cause,
-                left: n + behind,
-            },
-            Segments::Read(x) => Judged::Done {
-                end: x.end,
-                size: string_size(e.kind, x.size),
-            },
+    if !in_segments(lead) {
+        let cause = if indefinite {
+            ReadingCause::Forbidden
+        } else {
+            ReadingCause::Contents
         };
+        return Err(Unread { cause, left });
     }
-    if indefinite {
-        return Judged::Refused {
-            cause: ReadingCause::Forbidden,
-            left,
-        };
+    match segments::read(c, indefinite, e.kind == BIT_STRING) {
+        Ok(x) => Ok(Judged {
+            end: x.end,
+            size: string_size(e.kind, x.size),
+        }),
+        Err(u) => Err(Unread {
+            cause: u.cause,
+            left: u.left + behind,
+        }),
     }
-    Judged::Refused {
-        cause: ReadingCause::Contents,
-        left,
-    }
-}
-
-fn one_if(x: bool) -> u8
-    ensures { result ≡ flag x }
-{
-    if x { 1 } else { 0 }
 }
 
 // What stands behind the mark and the kind, by the kind; where it ends.
@@ -175,7 +112,7 @@ fn put_flag(c: &[u8], buf: &mut [u8], to: usize) -> usize
     requires { (length c.now ≡ 1) × (to + 1 ≤ length buf.old) }
     ensures { (result ≡ to + 1) × (buf.new ≡ sets buf.old to (flag (not (eqb (get_or c.now 0 0) 0)) ∷ [])) }
 {
-    buf[to] = one_if(c[0] != 0);
+    buf[to] = u8::from(c[0] != 0);
     to + 1
 }
 
@@ -184,8 +121,7 @@ fn put_integer(c: &[u8], buf: &mut [u8], to: usize) -> usize
     ensures { (result ≡ to + 8) × (buf.new ≡ sets buf.old to (eight_of (integer_of c.now))) }
 {
     let end = to + 8;
-    let part = &mut buf[to..end];
-    integer::put_eight(integer::of(c), part);
+    integer::put_eight(integer::of(c), &mut buf[to..end]);
     end
 }
 
@@ -198,10 +134,8 @@ fn put_bits(c: &[u8], buf: &mut [u8], to: usize) -> usize
     let unused = c[0] as usize;
     let bits = &c[1..];
     put_number(buf, to, 8 * bits.len() - unused);
-    let start = to + 2;
-    let end = start + bits.len();
-    let part = &mut buf[start..end];
-    bit_string::copy_masked(bits, unused, part);
+    let end = to + 2 + bits.len();
+    bit_string::copy_masked(bits, unused, &mut buf[to + 2..end]);
     end
 }
 
@@ -210,10 +144,8 @@ fn put_string(c: &[u8], buf: &mut [u8], to: usize) -> usize
     ensures { let d = c.now in (result ≡ to + 2 + length d) × (buf.new ≡ sets buf.old to (octets_of (length d) ++ d)) }
 {
     put_number(buf, to, c.len());
-    let start = to + 2;
-    let end = start + c.len();
-    let part = &mut buf[start..end];
-    copy(c, part);
+    let end = to + 2 + c.len();
+    buf[to + 2..end].copy_from_slice(c);
     end
 }
 
@@ -231,8 +163,7 @@ fn put_time(kind: TimeKind, c: &[u8], buf: &mut [u8], to: usize) -> usize
     ensures { (result ≡ to + 7) × (buf.new ≡ sets buf.old to (time_octets (time_of kind c.now))) }
 {
     let end = to + 7;
-    let part = &mut buf[to..end];
-    own::put(time::of(kind, c), part);
+    own::put(time::of(kind, c), &mut buf[to..end]);
     end
 }
 
@@ -243,28 +174,15 @@ pub fn place_contents(kind: u8, c: &[u8], buf: &mut [u8], to: usize) -> usize
 {
     begin_node(buf, to, kind);
     let next = to + 3;
-    if kind == BOOLEAN {
-        return put_flag(c, buf, next);
+    match kind {
+        BOOLEAN => put_flag(c, buf, next),
+        INTEGER => put_integer(c, buf, next),
+        BIT_STRING => put_bits(c, buf, next),
+        OCTET_STRING => put_string(c, buf, next),
+        NULL => next,
+        ENUMERATED => put_enumerated(c, buf, next),
+        _ => put_time(time_kind(kind), c, buf, next),
     }
-    if kind == INTEGER {
-        return put_integer(c, buf, next);
-    }
-    if kind == BIT_STRING {
-        return put_bits(c, buf, next);
-    }
-    if kind == OCTET_STRING {
-        return put_string(c, buf, next);
-    }
-    if kind == NULL {
-        return next;
-    }
-    if kind == ENUMERATED {
-        return put_enumerated(c, buf, next);
-    }
-    if kind == UTC_TIME {
-        return put_time(TimeKind::Utc, c, buf, next);
-    }
-    put_time(TimeKind::Generalized, c, buf, next)
 }
 
 // Places the value of a string whose segments stand in c; where they end, and the value.
@@ -277,17 +195,15 @@ pub fn place_segments(kind: u8, c: &[u8], buf: &mut [u8], to: usize) -> Placed
     let start = to + 5;
     let bits = kind == BIT_STRING;
     let x = segments::join(c, bits, buf, start);
-    let end = x.end;
-    let next = x.next;
-    let n = next - start;
-    let number = to + 3;
-    if !bits {
-        put_number(buf, number, n);
-        return Placed { end, next };
+    let n = x.next - start;
+    if bits {
+        bit_string::mask(x.unused, &mut buf[start..x.next]);
+        put_number(buf, to + 3, 8 * n - x.unused);
+    } else {
+        put_number(buf, to + 3, n);
     }
-    let unused = x.unused;
-    let part = &mut buf[start..next];
-    bit_string::mask(unused, part);
-    put_number(buf, number, 8 * n - unused);
-    Placed { end, next }
+    Placed {
+        end: x.end,
+        next: x.next,
+    }
 }

@@ -1,10 +1,12 @@
 // Judges a message: finds every refusal and how long the value is; nothing is written (X.690, 8.9 to 8.14; FORMATS, "Messages").
 // m is the contents in which items stand, from their first octet on, or the message; places in it count from there. A refusal says how many
 // octets are left from its place to the end of m.
-ghost use Rattle.std.specs.Prelude.{◌≡◌, false, List, ℕ, ◌<◌, ◌≤◌, length, drop};
-ghost use Rattle.ber.specs.Told.{end_of, mode};
-ghost use Rattle.table.specs.Reading.{table_in, count_in};
-ghost use Rattle.records.specs.Entries.{unpacked};
+ghost use Rattle.std.specs.Prelude.{◌≡◌, true, false, List, ℕ, ◌<◌, ◌≤◌, ◌⊎◌, length, take, drop, Ok};
+ghost use Rattle.x690.specs.Reading.{read_length};
+ghost use Rattle.ber.specs.Told.{end_of, told_length, mode};
+ghost use Rattle.table.specs.Syntax.{Record};
+ghost use Rattle.table.specs.Reading.{body_at, table_in, count_in};
+ghost use Rattle.records.specs.Entries.{unpacked, Entered};
 ghost use Rattle.coding.specs.Reading.{read_value, read_message};
 ghost use Rattle.reader.specs.Answers.{told, size};
 ghost use Rattle.reader.specs.Items.{manner, since, read_held};
@@ -12,32 +14,23 @@ ghost use Rattle.reader.specs.Records.{Ready, record_in, read_record};
 ghost use Rattle.reader.specs.Sought.{held, Sound};
 ghost use Rattle.reader.specs.Standing.{standing};
 ghost use Rattle.reader.specs.Judging.{ToJudge, ToJudgeValue};
-ghost use Rattle.reader.specs.declared.answer.Judged.TheVariants.{Done, Refused};
+ghost use Rattle.reader.specs.Leaves.{is_in_segments, leaf_size, read_leaf_in};
 
 use crate::answer::{Judged, grow};
 use crate::came::lacks;
 use crate::contents::{contents_size, judge_segments};
 use crate::node::node_size;
-use crate::search::{Found, part, search};
-use crate::tags::{Opened, close, open};
-use ber::ending::End;
-use ber::length::Length;
+use crate::search::search;
+use crate::tags::{Inner, close, open};
+use ber::length::Extent;
 use ber::{ending, length};
 use coding::LEVELS;
 use kinds::{CHOICE, SEQUENCE, SET, has_members, holds_one};
-use records::entry::{first, parts, unpack, whole};
-use x690::ReadingCause;
+use records::entry::{Entry, parts, unpack, whole};
+use x690::{ReadingCause, Unread};
 
-// An item, or the end of contents, behind which other octets begin at `end`.
-#[derive(Clone, Copy)]
-pub enum Standing {
-    Item,
-    Over { end: usize },
-    Refused { cause: ReadingCause },
-}
-
-// What stands at a place of the contents m of w, which 00 00 closes if `indefinite`. Awaited are members of a SEQUENCE from the j-th on, and
-// members of a SET that have not come.
+// Where other octets begin, if the contents m of w are over at a place; none if an item follows. 00 00 closes them if `indefinite`. Awaited
+// are members of a SEQUENCE from the j-th on, and members of a SET that have not come.
 fn next(
     table: &[u8],
     w: u64,
@@ -46,42 +39,67 @@ fn next(
     indefinite: bool,
     j: usize,
     came: &[u16; 16],
-) -> Standing
+) -> Result<Option<usize>, ReadingCause>
     requires { (index : List ℕ) × Sound table.now index w came.now × ((unpacked w).simple ≡ false) }
     ensures { let h = held table.now w in result ≡ standing h (since (manner h) j) came.now (end_of indefinite (length m.now) (drop at m.now)) }
 {
     let e = unpack(w);
     if holds_one(e.kind) {
-        return Standing::Item;
+        return Ok(None);
     }
     let i = if e.kind == SEQUENCE { j } else { 0 };
-    match ending::read(m, at, indefinite) {
-        End::More => Standing::Item,
-        End::Broken { cause } => Standing::Refused { cause },
-        End::Over { end } => {
-            if !has_members(e.kind) {
-                return Standing::Over { end };
-            }
-            if lacks(table, w, i, came, false) {
-                return Standing::Refused {
-                    cause: ReadingCause::NotAwaited,
-                };
-            }
-            Standing::Over { end }
+    let Some(end) = ending::read(m, at, indefinite)? else {
+        return Ok(None);
+    };
+    if has_members(e.kind) {
+        if lacks(table, w, i, came, false) {
+            return Err(ReadingCause::NotAwaited);
         }
     }
+    Ok(Some(end))
 }
 
-fn done(end: usize, size: usize) -> Judged
-    ensures { result ≡ Done end size }
+// The contents of the item at x of m, whose record has a kind. A CHOICE has no length of its own.
+fn extent(kind: u8, m: &[u8], x: Inner) -> Result<Extent, ReadingCause>
+    requires { x.end ≤ length m.now }
+    ensures { (kind ≡ 50 → result ≡ Ok (record { start = x.at; end = x.end; indefinite = false }))
+        × ((kind ≡ 50 → ⊥) → (l : ℕ) → let p = take x.end m.now in result ≡ told_length (length p) (read_length l (drop x.from p))) }
 {
-    Judged::Done { end, size }
+    if kind == CHOICE {
+        return Ok(Extent {
+            start: x.at,
+            end: x.end,
+            indefinite: false,
+        });
+    }
+    length::read(&m[..x.end], x.from)
 }
 
-fn refused(cause: ReadingCause, left: usize) -> Judged
-    ensures { result ≡ Refused cause left }
+// The simple contents c of a record, in an item that begins with the octet `lead`. `left` octets are left where the item begins, and
+// `behind` octets after c.
+fn judge_contents(
+    table: &[u8],
+    e: Entry,
+    lead: u8,
+    c: &[u8],
+    indefinite: bool,
+    left: usize,
+    behind: usize,
+) -> Result<Judged, Unread>
+    requires { (r : Record) × Entered table.now e r
+        × (is_in_segments lead ≡ true → (e.kind ≡ 3) ⊎ (e.kind ≡ 4))
+        × (length c.now ≤ 8192)
+        × (behind ≤ 8192)
+        × (e.simple ≡ true) }
+    ensures { let d = c.now in
+        result ≡ told d leaf_size (read_leaf_in (body_at table.now e.kind e.own) (is_in_segments lead) indefinite left behind d) }
 {
-    Judged::Refused { cause, left }
+    if !indefinite {
+        if let Some(size) = contents_size(table, e, lead, c) {
+            return Ok(Judged { end: c.len(), size });
+        }
+    }
+    judge_segments(table, e, lead, c, indefinite, left, behind)
 }
 
 // The value of w at a place of m: explicit tags, length, and contents, simple ones or items. Its first identifier ends at `from`, and the
@@ -96,7 +114,7 @@ fn judge_value(
     from: usize,
     level: usize,
     way: &mut [u16; 128],
-) -> Judged
+) -> Result<Judged, Unread>
     requires { ToJudgeValue table.now index.now w m.now at from level way.old }
     ensures { (length way.new ≡ 128)
         × (let b = table.now in
@@ -104,63 +122,44 @@ fn judge_value(
 {
     let e = unpack(w);
     let mut notes = [0u16; 4];
-    let mut at = at;
-    let mut end = m.len();
-    let mut from = from;
+    let mut x = Inner {
+        at,
+        from,
+        end: m.len(),
+    };
     if 0 < e.explicit {
-        match open(table, w, m, at, from, &mut notes) {
-            Opened::Refused { cause, left } => return refused(cause, left),
-            Opened::Inside(x) => {
-                at = x.at;
-                from = x.from;
-                end = x.end;
-            }
-        }
+        x = open(table, w, m, at, from, &mut notes)?;
     }
-    let left = m.len() - at;
-    let around = &m[..end];
-    let mut start = at;
-    let mut stop = end;
-    let mut indefinite = false;
-    if e.kind != CHOICE {
-        match length::read(around, from) {
-            Length::Refused { cause } => return refused(cause, left),
-            Length::Read(x) => {
-                start = x.start;
-                stop = x.end;
-                indefinite = x.indefinite;
-            }
-        }
-    }
-    let mut size: usize = 0;
-    if e.simple {
-        let c = &m[start..stop];
-        if !indefinite {
-            size = contents_size(table, e, m[at], c);
-        }
-        if size == 0 {
-            match judge_segments(table, e, m[at], c, indefinite, left, m.len() - stop) {
-                Judged::Refused { cause, left: n } => return refused(cause, n),
-                Judged::Done { end: x, size: y } => {
-                    stop = start + x;
-                    size = y;
-                }
-            }
-        }
+    let left = m.len() - x.at;
+    let y = match extent(e.kind, m, x) {
+        Ok(y) => y,
+        Err(cause) => return Err(Unread { cause, left }),
+    };
+    let start = y.start;
+    let stop = y.end;
+    let c = &m[start..stop];
+    let behind = m.len() - stop;
+    let inside = if e.simple {
+        judge_contents(table, e, m[x.at], c, y.indefinite, left, behind)?
     } else {
-        let c = &m[start..stop];
-        match judge_members(table, index, w, c, indefinite, level, way) {
-            Judged::Refused { cause, left: n } => return refused(cause, n + (m.len() - stop)),
-            Judged::Done { end: x, size: y } => {
-                stop = start + x;
-                size = y;
+        match judge_members(table, index, w, c, y.indefinite, level, way) {
+            Ok(z) => z,
+            Err(u) => {
+                return Err(Unread {
+                    cause: u.cause,
+                    left: u.left + behind,
+                });
             }
         }
-    }
+    };
+    let over = start + inside.end;
     if 0 < e.explicit {
-        return close(m, &notes, e.explicit as usize, stop, end, size);
+        return close(m, &notes, e.explicit as usize, over, x.end, inside.size);
     }
-    done(stop, size)
+    Ok(Judged {
+        end: over,
+        size: inside.size,
+    })
 }
 
 // The items in w: all of a SEQUENCE, a SET or a list, whose contents 00 00 closes if `indefinite`; or the one of a CHOICE or a message, with
@@ -174,7 +173,7 @@ fn judge_members(
     indefinite: bool,
     level: usize,
     way: &mut [u16; 128],
-) -> Judged
+) -> Result<Judged, Unread>
     requires { ToJudge table.now index.now w m.now level way.old }
     ensures { (length way.new ≡ 128)
         × (let b = table.now in
@@ -187,56 +186,49 @@ fn judge_members(
     let mut at: usize = 0;
     let mut j: usize = 0;
     loop {
+        let left = m.len() - at;
         match next(table, w, m, at, indefinite, j, &came) {
-            Standing::Item => {}
-            Standing::Over { end } => return done(end, total),
-            Standing::Refused { cause } => return refused(cause, m.len() - at),
+            Ok(None) => {}
+            Ok(Some(end)) => return Ok(Judged { end, size: total }),
+            Err(cause) => return Err(Unread { cause, left }),
         }
-        let mut place = j;
-        let mut record: usize = 0;
-        let mut depth: usize = 0;
-        let mut from = at + 1;
-        let mut fits = false;
-        if j < s.count && came[j] == 0 {
-            record = part(table, s, j);
-            fits = first(index[record]) == m[at] as u32;
-        }
-        if !fits {
-            let rest = &m[at..];
-            match search(table, index, w, rest, j, &came, way) {
-                Found::Refused { cause } => return refused(cause, m.len() - at),
-                Found::Part(x) => {
-                    place = x.place;
-                    record = x.record;
-                    depth = x.depth;
-                    from = at + x.from;
-                }
-            }
-        }
-        if level <= depth {
-            return refused(ReadingCause::MessageLevel, m.len() - at);
+        let rest = &m[at..];
+        let x = match search(table, index, w, rest, j, &came, way) {
+            Ok(x) => x,
+            Err(cause) => return Err(Unread { cause, left }),
+        };
+        if level <= x.depth {
+            return Err(Unread {
+                cause: ReadingCause::MessageLevel,
+                left,
+            });
         }
         if e.kind == SET {
-            came[place] = 1;
+            came[x.place] = 1;
         }
-        j = place + s.step / 2;
-        let found = index[record];
-        let below = level - depth - 1;
-        match judge_value(table, index, found, m, at, from, below, way) {
-            Judged::Refused { cause, left } => return refused(cause, left),
-            Judged::Done { end, size } => {
-                at = end;
-                total = grow(total, size + 4 * depth);
-            }
-        }
+        j = x.place + s.step / 2;
+        let found = index[x.record];
+        let below = level - x.depth - 1;
+        let y = judge_value(table, index, found, m, at, at + x.from, below, way)?;
+        at = y.end;
+        total = grow(total, y.size + 4 * x.depth);
         if holds_one(e.kind) {
-            return done(at, total);
+            return Ok(Judged {
+                end: at,
+                size: total,
+            });
         }
     }
 }
 
 // A whole message of type t.
-pub fn judge(table: &[u8], index: &[u64; 128], t: usize, m: &[u8], way: &mut [u16; 128]) -> Judged
+pub fn judge(
+    table: &[u8],
+    index: &[u64; 128],
+    t: usize,
+    m: &[u8],
+    way: &mut [u16; 128],
+) -> Result<Judged, Unread>
     requires { Ready table.now index.now
         × (t < count_in table.now)
         × (length m.now ≤ 8192)
@@ -245,15 +237,17 @@ pub fn judge(table: &[u8], index: &[u64; 128], t: usize, m: &[u8], way: &mut [u1
         × (result ≡ told m.now size (read_message (table_in table.now) 24 t m.now)) }
 {
     if m.len() == 0 {
-        return refused(ReadingCause::Cut, 0);
+        return Err(Unread {
+            cause: ReadingCause::Cut,
+            left: 0,
+        });
     }
-    match judge_members(table, index, whole(t as u16), m, false, LEVELS, way) {
-        Judged::Refused { cause, left } => refused(cause, left),
-        Judged::Done { end, size } => {
-            if end < m.len() {
-                return refused(ReadingCause::Trailing, m.len() - end);
-            }
-            done(end, size)
-        }
+    let x = judge_members(table, index, whole(t as u16), m, false, LEVELS, way)?;
+    if x.end < m.len() {
+        return Err(Unread {
+            cause: ReadingCause::Trailing,
+            left: m.len() - x.end,
+        });
     }
+    Ok(x)
 }

@@ -4,10 +4,10 @@ ghost use Rattle.std.proofs.lemmas.List.Edits.{sets};
 ghost use Rattle.octets.specs.Numbers.{octets_of};
 ghost use Rattle.reader.specs.Placing.{has_members, node_of, opening_of, noted_in, absent_in, finished_in, way_octets};
 
-use kinds::{CHOICE, MESSAGE, has_members, is_list};
+use kinds::{CHOICE, MESSAGE, SEQUENCE, SEQUENCE_OF, SET, SET_OF, has_members};
 
 // Where an item or contents end in the message, and their value in the buffer.
-#[derive(Clone, Copy)]
+#[derive(Clone, Copy, Debug, PartialEq, Eq)]
 pub struct Placed {
     pub end: usize,
     pub next: usize,
@@ -18,16 +18,12 @@ pub fn node_size(kind: u8, n: usize) -> usize
     requires { n < 256 }
     ensures { result ≡ node_of kind n }
 {
-    if has_members(kind) {
-        return 4 + n;
+    match kind {
+        SEQUENCE | SET => 4 + n,
+        SEQUENCE_OF | SET_OF => 5,
+        CHOICE => 4,
+        _ => 0,
     }
-    if is_list(kind) {
-        return 5;
-    }
-    if kind == CHOICE {
-        return 4;
-    }
-    0
 }
 
 // The mark of a node, and its kind.
@@ -35,9 +31,7 @@ pub fn begin_node(buf: &mut [u8], to: usize, kind: u8)
     requires { to + 3 ≤ length buf.old }
     ensures { buf.new ≡ sets buf.old to (86 ∷ 65 ∷ kind ∷ []) }
 {
-    buf[to] = 86;
-    buf[to + 1] = 65;
-    buf[to + 2] = kind;
+    buf[to..to + 3].copy_from_slice(&[86, 65, kind]);
 }
 
 // A number of two octets.
@@ -45,10 +39,7 @@ pub fn put_number(buf: &mut [u8], to: usize, n: usize)
     requires { (to + 2 ≤ length buf.old) × (n < 65536) }
     ensures { buf.new ≡ sets buf.old to (octets_of n) }
 {
-    let high = n / 256;
-    let low = n % 256;
-    buf[to] = high as u8;
-    buf[to + 1] = low as u8;
+    buf[to..to + 2].copy_from_slice(&(n as u16).to_be_bytes());
 }
 
 // The node of a kind with n members, but for what stands in it; where it ends.
@@ -62,9 +53,7 @@ pub fn begin(kind: u8, n: usize, buf: &mut [u8], to: usize) -> usize
     let size = node_size(kind, n);
     begin_node(buf, to, kind);
     if has_members(kind) {
-        let p = to + 3;
-        buf[p] = n as u8;
-        return to + size;
+        buf[to + 3] = n as u8;
     }
     to + size
 }
@@ -74,11 +63,8 @@ pub fn put_absent(buf: &mut [u8], to: usize, j: usize, k: usize)
     requires { to + 4 + k ≤ length buf.old }
     ensures { buf.new ≡ absent_in j k buf.old to }
 {
-    let mut i = j;
-    while i < k {
-        let p = to + 4 + i;
-        buf[p] = 0;
-        i += 1;
+    for i in j..k {
+        buf[to + 4 + i] = 0;
     }
 }
 
@@ -88,13 +74,9 @@ pub fn put_place(kind: u8, place: usize, buf: &mut [u8], to: usize)
     ensures { buf.new ≡ noted_in kind place buf.old to }
 {
     if has_members(kind) {
-        let p = to + 4 + place;
-        buf[p] = 1;
-        return;
-    }
-    if kind == CHOICE {
-        let p = to + 3;
-        buf[p] = place as u8;
+        buf[to + 4 + place] = 1;
+    } else if kind == CHOICE {
+        buf[to + 3] = place as u8;
     }
 }
 
@@ -105,9 +87,9 @@ pub fn finish(kind: u8, j: usize, n: usize, count: usize, buf: &mut [u8], to: us
 {
     if has_members(kind) {
         put_absent(buf, to, j, n);
-        return;
+    } else {
+        put_number(buf, to + 3, count);
     }
-    put_number(buf, to + 3, count);
 }
 
 // The nodes of CHOICEs without tags, as many as `depth`, by the way that a search noted; where they end.
@@ -116,14 +98,10 @@ pub fn put_way(way: &[u16; 128], depth: usize, buf: &mut [u8], to: usize) -> usi
     ensures { (result ≡ to + 4 * depth) × (buf.new ≡ sets buf.old to (way_octets (take depth way.now))) }
 {
     let mut next = to;
-    let mut i: usize = 0;
-    while i < depth {
-        let x = way[i] % 16;
+    for x in &way[..depth] {
         begin_node(buf, next, CHOICE);
-        let p = next + 3;
-        buf[p] = x as u8;
+        buf[next + 3] = (*x % 16) as u8;
         next += 4;
-        i += 1;
     }
     next
 }

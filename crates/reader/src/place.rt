@@ -11,15 +11,14 @@ ghost use Rattle.reader.specs.Records.{Ready};
 ghost use Rattle.reader.specs.Sought.{held};
 ghost use Rattle.reader.specs.Placed.{ToPlace, ToPlaceValue, Fits, IsPlaced, held_in, value_in};
 
-use crate::answer::Judged;
 use crate::contents::{in_segments, place_contents, place_segments};
 use crate::node::{Placed, begin, finish, put_absent, put_place, put_way};
-use crate::search::{Found, part, search};
+use crate::search::search;
 use crate::set::{behind, following, locate};
-use crate::tags::{Opened, close, open};
+use crate::tags::{Inner, close, open};
 use ber::{ending, length};
 use kinds::{CHOICE, SET, has_members, holds_one};
-use records::entry::{first, parts, unpack, whole};
+use records::entry::{parts, unpack, whole};
 
 // The value of w at a place of m: explicit tags, length, and contents, simple ones or items. Its first identifier ends at `from`.
 #[cycle(place_members_place_value)]
@@ -40,25 +39,24 @@ fn place_value(
 {
     let e = unpack(w);
     let mut notes = [0u16; 4];
-    let mut at = at;
-    let mut end = m.len();
-    let mut from = from;
+    let mut inner = Inner {
+        at,
+        from,
+        end: m.len(),
+    };
     if 0 < e.explicit {
-        match open(table, w, m, at, from, &mut notes) {
-            Opened::Refused { cause: _, left: _ } => {}
-            Opened::Inside(x) => {
-                at = x.at;
-                from = x.from;
-                end = x.end;
-            }
+        if let Ok(x) = open(table, w, m, at, from, &mut notes) {
+            inner = x;
         }
     }
+    let at = inner.at;
+    let end = inner.end;
     let around = &m[..end];
     let mut start = at;
     let mut stop = end;
     let mut indefinite = false;
     if e.kind != CHOICE {
-        let x = length::again(around, from);
+        let x = length::again(around, inner.from);
         start = x.start;
         stop = x.end;
         indefinite = x.indefinite;
@@ -80,11 +78,8 @@ fn place_value(
         next = x.next;
     }
     if 0 < e.explicit {
-        match close(m, &notes, e.explicit as usize, stop, end, 0) {
-            Judged::Refused { cause: _, left: _ } => {}
-            Judged::Done { end: x, size: _ } => {
-                stop = x;
-            }
+        if let Ok(x) = close(m, &notes, e.explicit as usize, stop, end, 0) {
+            stop = x.end;
         }
     }
     Placed { end: stop, next }
@@ -122,11 +117,11 @@ fn place_members(
     let mut count: usize = 0;
     loop {
         if e.kind == SET {
-            let k = following(&began, j, s.count);
-            put_absent(buf, to, j, k);
-            if k == s.count {
+            let Some(k) = following(&began, j, s.count) else {
+                put_absent(buf, to, j, s.count);
                 return Placed { end: last, next };
-            }
+            };
+            put_absent(buf, to, j, k);
             at = began[k] as usize - 1;
             j = k;
         } else if !holds_one(e.kind) {
@@ -138,34 +133,20 @@ fn place_members(
                 };
             }
         }
-        let mut place = j;
-        let mut record: usize = 0;
-        let mut from = at + 1;
-        let mut fits = false;
-        if j < s.count {
-            record = part(table, s, j);
-            fits = first(index[record]) == m[at] as u32;
+        let rest = &m[at..];
+        let Ok(x) = search(table, index, w, rest, j, &none, way) else {
+            return Placed { end: at, next };
+        };
+        next = put_way(way, x.depth, buf, next);
+        if has_members(e.kind) {
+            put_absent(buf, to, j, x.place);
         }
-        if !fits {
-            let rest = &m[at..];
-            match search(table, index, w, rest, j, &none, way) {
-                Found::Refused { cause: _ } => {}
-                Found::Part(x) => {
-                    place = x.place;
-                    record = x.record;
-                    from = at + x.from;
-                    next = put_way(way, x.depth, buf, next);
-                }
-            }
-            if has_members(e.kind) {
-                put_absent(buf, to, j, place);
-            }
-        }
-        put_place(e.kind, place, buf, to);
-        j = place + s.step / 2;
-        let x = place_value(table, index, index[record], m, at, from, buf, next, way);
-        at = x.end;
-        next = x.next;
+        put_place(e.kind, x.place, buf, to);
+        j = x.place + s.step / 2;
+        let found = index[x.record];
+        let y = place_value(table, index, found, m, at, at + x.from, buf, next, way);
+        at = y.end;
+        next = y.next;
         count += 1;
         if holds_one(e.kind) {
             return Placed { end: at, next };

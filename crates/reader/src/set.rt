@@ -1,6 +1,6 @@
 // The members of a SET that was accepted, where each begins: they come in any order, and are placed in the table's (X.690, 8.11).
 // For each member 0 is noted, or one more than where it begins.
-ghost use Rattle.std.specs.Prelude.{◌≡◌, List, ◌≤◌, length};
+ghost use Rattle.std.specs.Prelude.{◌≡◌, List, ◌≤◌, length, unwrap_or, ◌<◌, IfSome};
 ghost use Rattle.table.specs.Syntax.{Member, Set};
 ghost use Rattle.table.specs.Reading.{table_in};
 ghost use Rattle.records.specs.Entries.{unpacked};
@@ -10,7 +10,7 @@ ghost use Rattle.reader.specs.Sought.{held};
 ghost use Rattle.reader.specs.Placing.{Spotted, end_at};
 ghost use Rattle.reader.specs.Placed.{Following};
 
-use crate::search::{Found, search};
+use crate::search::search;
 use ber::{ending, item};
 
 // Behind contents that are over at a place; 00 00 closes them if `indefinite`.
@@ -24,19 +24,12 @@ pub fn behind(at: usize, indefinite: bool) -> usize
     at
 }
 
-// The first member from the j-th on that came; n if none did.
-pub fn following(began: &[u16; 16], j: usize, n: usize) -> usize
+// The first member from the j-th on, of n, that came.
+pub fn following(began: &[u16; 16], j: usize, n: usize) -> Option<usize>
     requires { (j ≤ n) × (n ≤ 16) × (length began.now ≡ 16) }
-    ensures { Following began.now j n result }
+    ensures { Following began.now j n (unwrap_or result n) × IfSome result (λ k. k < n) }
 {
-    let mut k = j;
-    while k < n {
-        if began[k] != 0 {
-            return k;
-        }
-        k += 1;
-    }
-    n
+    (j..n).find(|&k| began[k] != 0)
 }
 
 // Where each member begins, and where the contents end, of a SET that was accepted; 00 00 closes them if `indefinite`.
@@ -61,19 +54,15 @@ pub fn locate(
         → Spotted (table_in table.now) ms indefinite m.now began.new result) }
 {
     let mut at: usize = 0;
-    loop {
-        if ending::is_over(m, at, indefinite) {
-            return behind(at, indefinite);
-        }
+    while !ending::is_over(m, at, indefinite) {
         let rest = &m[at..];
         let came = *began;
-        match search(table, index, w, rest, 0, &came, way) {
-            Found::Refused { cause: _ } => return at,
-            Found::Part(x) => {
-                let place = x.place;
-                began[place] = (at + 1) as u16;
-                at += item::end(rest, x.from);
-            }
-        }
+        let Ok(x) = search(table, index, w, rest, 0, &came, way) else {
+            return at;
+        };
+        let place = x.place;
+        began[place] = (at + 1) as u16;
+        at += item::end(rest, x.from);
     }
+    behind(at, indefinite)
 }

@@ -8,26 +8,17 @@ ghost use Rattle.reader.specs.Records.{Ready, record_in, IsRecord};
 ghost use Rattle.reader.specs.Wraps.{note_of, Headed, AwaitsTag, EntersTag, Opens, Around, closing};
 
 use crate::answer::Judged;
-use ber::ending::End;
-use ber::identifier::Identifier;
-use ber::length::Length;
 use ber::{ending, identifier, length};
 use kinds::is_string;
 use records::entry::{tag_code, tag_count, unpack};
-use x690::ReadingCause;
+use x690::{ReadingCause, Unread};
 
 // The item under all tags: where it begins, where its identifier ends, and where what it stands in ends.
-#[derive(Clone, Copy)]
+#[derive(Clone, Copy, Debug, PartialEq, Eq)]
 pub struct Inner {
     pub at: usize,
     pub from: usize,
     pub end: usize,
-}
-
-#[derive(Clone, Copy)]
-pub enum Opened {
-    Inside(Inner),
-    Refused { cause: ReadingCause, left: usize },
 }
 
 // The note of a tag: twice the end of what it stands in, and 1 if 00 00 closes its contents.
@@ -42,60 +33,51 @@ fn note(end: usize, indefinite: bool) -> u16
     n as u16
 }
 
-// Where an identifier ends, or why it is refused.
-#[derive(Clone, Copy)]
-pub enum Tag {
-    Read { end: usize },
-    Refused { cause: ReadingCause },
-}
-
 // Where the identifier of the j-th tag of w ends, which m must begin with; a string's own may be constructed too. There is none if a CHOICE has
 // no tag more.
-fn awaited(table: &[u8], w: u64, j: usize, m: &[u8]) -> Tag
+fn awaited(table: &[u8], w: u64, j: usize, m: &[u8]) -> Result<usize, ReadingCause>
     requires { (index : List ℕ) × Ready table.now index × IsRecord table.now index w }
     ensures { AwaitsTag (record_in table.now (unpacked w)) j m.now result }
 {
     let e = unpack(w);
     if tag_count(e) <= j {
-        return Tag::Read { end: 0 };
+        return Ok(0);
     }
-    match identifier::read(m) {
-        Identifier::Refused { cause } => Tag::Refused { cause },
-        Identifier::Read { code, end } => {
-            let awaited = tag_code(table, e, j);
-            if code == awaited {
-                return Tag::Read { end };
-            }
-            if code == awaited + 32 {
-                if e.explicit as usize == j {
-                    if is_string(e.kind) {
-                        return Tag::Read { end };
-                    }
-                }
-            }
-            Tag::Refused {
-                cause: ReadingCause::NotAwaited,
+    let i = identifier::read(m)?;
+    let awaited = tag_code(table, e, j);
+    if i.code == awaited {
+        return Ok(i.end);
+    }
+    if i.code == awaited + 32 {
+        if e.explicit as usize == j {
+            if is_string(e.kind) {
+                return Ok(i.end);
             }
         }
     }
+    Err(ReadingCause::NotAwaited)
 }
 
 // Whether an item follows in the contents m of a tag, which 00 00 closes if `indefinite`; then the j-th tag of w is awaited.
-fn enter(table: &[u8], w: u64, j: usize, m: &[u8], indefinite: bool) -> Tag
+fn enter(table: &[u8], w: u64, j: usize, m: &[u8], indefinite: bool) -> Result<usize, ReadingCause>
     requires { (index : List ℕ) × Ready table.now index × IsRecord table.now index w }
     ensures { EntersTag (record_in table.now (unpacked w)) j m.now indefinite result }
 {
-    match ending::read(m, 0, indefinite) {
-        End::Over { end: _ } => Tag::Refused {
-            cause: ReadingCause::NotAwaited,
-        },
-        End::Broken { cause } => Tag::Refused { cause },
-        End::More => awaited(table, w, j, m),
+    match ending::read(m, 0, indefinite)? {
+        None => awaited(table, w, j, m),
+        Some(_) => Err(ReadingCause::NotAwaited),
     }
 }
 
 // Opens the explicit tags of w; the outermost begins at `at`, and its identifier ends at `from`.
-pub fn open(table: &[u8], w: u64, m: &[u8], at: usize, from: usize, notes: &mut [u16; 4]) -> Opened
+pub fn open(
+    table: &[u8],
+    w: u64,
+    m: &[u8],
+    at: usize,
+    from: usize,
+    notes: &mut [u16; 4],
+) -> Result<Inner, Unread>
     requires { (index : List ℕ) × Ready table.now index
         × IsRecord table.now index w
         × (0 < (unpacked w).explicit)
@@ -110,42 +92,43 @@ pub fn open(table: &[u8], w: u64, m: &[u8], at: usize, from: usize, notes: &mut 
     let mut at = at;
     let mut end = m.len();
     let mut from = from;
-    let mut j: usize = 0;
-    while j < count {
+    for j in 0..count {
         let around = &m[..end];
-        match length::read(around, from) {
-            Length::Refused { cause } => {
-                return Opened::Refused {
+        let x = match length::read(around, from) {
+            Ok(x) => x,
+            Err(cause) => {
+                return Err(Unread {
                     cause,
                     left: m.len() - at,
-                };
+                });
             }
-            Length::Read(x) => {
-                let indefinite = x.indefinite;
-                notes[j] = note(end, indefinite);
-                j += 1;
-                at = x.start;
-                end = x.end;
-                let inside = &m[at..end];
-                match enter(table, w, j, inside, indefinite) {
-                    Tag::Refused { cause } => {
-                        return Opened::Refused {
-                            cause,
-                            left: m.len() - at,
-                        };
-                    }
-                    Tag::Read { end: next } => {
-                        from = at + next;
-                    }
-                }
+        };
+        notes[j] = note(end, x.indefinite);
+        at = x.start;
+        end = x.end;
+        let inside = &m[at..end];
+        match enter(table, w, j + 1, inside, x.indefinite) {
+            Ok(next) => from = at + next,
+            Err(cause) => {
+                return Err(Unread {
+                    cause,
+                    left: m.len() - at,
+                });
             }
         }
     }
-    Opened::Inside(Inner { at, from, end })
+    Ok(Inner { at, from, end })
 }
 
 // Closes the tags behind the item under them, which ends at `at`, and what that stands in at `end`; its value has `size` octets.
-pub fn close(m: &[u8], notes: &[u16; 4], count: usize, at: usize, end: usize, size: usize) -> Judged
+pub fn close(
+    m: &[u8],
+    notes: &[u16; 4],
+    count: usize,
+    at: usize,
+    end: usize,
+    size: usize,
+) -> Result<Judged, Unread>
     requires { (count ≤ 4)
         × (length notes.now ≡ 4)
         × (at ≤ end)
@@ -156,29 +139,23 @@ pub fn close(m: &[u8], notes: &[u16; 4], count: usize, at: usize, end: usize, si
 {
     let mut at = at;
     let mut end = end;
-    let mut j = count;
-    while 0 < j {
-        j -= 1;
+    for j in (0..count).rev() {
         let n = notes[j];
         let around = &m[..end];
+        let left = m.len() - at;
         match ending::read(around, at, n % 2 == 1) {
-            End::More => {
-                return Judged::Refused {
-                    cause: ReadingCause::Trailing,
-                    left: m.len() - at,
-                };
-            }
-            End::Broken { cause } => {
-                return Judged::Refused {
-                    cause,
-                    left: m.len() - at,
-                };
-            }
-            End::Over { end: x } => {
+            Ok(Some(x)) => {
                 at = x;
                 end = n as usize / 2;
             }
+            Ok(None) => {
+                return Err(Unread {
+                    cause: ReadingCause::Trailing,
+                    left,
+                });
+            }
+            Err(cause) => return Err(Unread { cause, left }),
         }
     }
-    Judged::Done { end: at, size }
+    Ok(Judged { end: at, size })
 }

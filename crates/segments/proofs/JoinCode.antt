@@ -1,14 +1,16 @@
 -- Laws of the code that joins segments by headers alone: what can be gathered is joined, and the walk of the code, turn by turn.
 -- Assumes nothing.
-use borrow.Author.Tests.{lt-ltb, le-ltb, le-leb, ne_eqb}
+use borrow.Author.Tests.{leb-true, leb-false, lt-ltb, le-ltb, le-leb, ne_eqb}
 use mathlib.Core.Bool.{true, false}
 use mathlib.Core.List.{List, [], ◌∷◌, ◌++◌}
-use mathlib.Core.Path.{◌≡◌, refl, ap, ◌∙◌}
+use mathlib.Core.Path.{◌≡◌, refl, sym, ap, ◌∙◌}
 use native.Mathlib.Nat.{add-zero}
 use native.Mathlib.Omega.{arith}
-use Prim.Native.Nat.{ℕ, zero, suc, ◌+◌, ◌-◌, ◌≤◌, ◌<◌}
+use Prim.Native.Nat.{ℕ, zero, suc, ◌+◌, ◌-◌, ◌≤◌, ◌<◌, min}
+use lib.Dec.{leb}
 use lib.ListN.{length, get_or, take, drop, length-append, length-drop}
 use lib.Seq.{drop-drop}
+use Rattle.std.specs.Prelude.{Result, Ok, Err}
 use Rattle.x690.specs.declared.ReadingCause.{ReadingCause}
 use Rattle.octets.specs.Answer.{got, if, none_left}
 use Rattle.octets.specs.Buffers.{put, put_end}
@@ -19,8 +21,6 @@ use Rattle.x690.specs.Segments.{Kind, bit_string, octet_string, universal, empty
 use Rattle.ber.specs.Told.{told_length}
 use Rattle.segments.specs.Segments.{unused_in, carried, Gathers, behind_all, at_the_end, closes, enters, opens, adds, IsJoined}
 use Rattle.segments.specs.Segments.{Way, on_to, with_put, enter, walk, joining, told_joined}
-use Rattle.ber.specs.declared.length.Length.{Length}
-use Rattle.ber.specs.declared.length.Length.TheVariants.{Read as ReadLength, Refused as NoLength}
 use Rattle.ber.specs.declared.length.Extent.{Extent}
 use Rattle.segments.specs.declared.Joined.{Joined}
 use Rattle.ber.proofs.Headers.{put_behind}
@@ -158,8 +158,8 @@ pub record Joins (k : Kind) (m buf₀ : List ℕ) (to : ℕ) (buf : List ℕ) (a
   pub enough : length (drop at m) ≤ turns
   pub whole : joining k m buf₀ to ≡ walk k (suc turns) n (way (drop at m) buf next unused)
 
-abbrev Result : Kind → List ℕ → List ℕ → ℕ → List ℕ → Joined → Type 0
-Result k m buf₀ to buf r = let x = joining k m buf₀ to in (r ≡ told_joined (length m) x) × (buf ≡ x.buffer)
+abbrev Answers : Kind → List ℕ → List ℕ → ℕ → List ℕ → Joined → Type 0
+Answers k m buf₀ to buf r = let x = joining k m buf₀ to in (r ≡ told_joined (length m) x) × (buf ≡ x.buffer)
 
 pub joins_first : (k : Kind) (m buf : List ℕ) (to : ℕ) → Joins k m buf to buf 0 to 0 1
 unfolding joining
@@ -167,10 +167,10 @@ joins_first k m buf to = record { turns = length m; enough = omega arith; whole 
 
 module _ {k : Kind} {m buf₀ : List ℕ} {to : ℕ} {buf : List ℕ} {at next unused n : ℕ} (J : Joins k m buf₀ to buf at next unused n) where
   -- at the end
-  ended : (e : ℕ) → e ≤ length m → joining k m buf₀ to ≡ way (drop e m) buf next unused → Result k m buf₀ to buf (record { end = e; next = next; unused = unused })
+  ended : (e : ℕ) → e ≤ length m → joining k m buf₀ to ≡ way (drop e m) buf next unused → Answers k m buf₀ to buf (record { end = e; next = next; unused = unused })
   ended e h q = rw (q, left_at m e h) (refl, refl)
 
-  pub joins_none : at ≤ length m → n ≡ 0 → Result k m buf₀ to buf (record { end = at; next = next; unused = unused })
+  pub joins_none : at ≤ length m → n ≡ 0 → Answers k m buf₀ to buf (record { end = at; next = next; unused = unused })
   unfolding walk
   joins_none h z = ended at h (rw z at J.whole)
 
@@ -178,7 +178,7 @@ module _ {k : Kind} {m buf₀ : List ℕ} {to : ℕ} {buf : List ℕ} {at next u
     counted : n ≡ suc (n - 1)
     counted = omega arith
 
-    pub joins_over : at ≤ length m → length m ≤ at → Result k m buf₀ to buf (record { end = at; next = next; unused = unused })
+    pub joins_over : at ≤ length m → length m ≤ at → Answers k m buf₀ to buf (record { end = at; next = next; unused = unused })
     joins_over h i =
         let x = none_at m at i in
         ended at h (J.whole ∙ rw x (walk_none k (suc J.turns) n (way [] buf next unused)))
@@ -186,9 +186,6 @@ module _ {k : Kind} {m buf₀ : List ℕ} {to : ℕ} {buf : List ℕ} {at next u
     module _ (there : at < length m) where
       standing : joining k m buf₀ to ≡ walk k (suc J.turns) (suc (n - 1)) (way (get_or m at 0 ∷ drop (at + 1) m) buf next unused)
       standing = rw (counted, some_at m at there) at J.whole
-
-      to_end : joining k m buf₀ to ≡ way [] buf next unused → Result k m buf₀ to buf (record { end = length m; next = next; unused = unused })
-      to_end e = ended (length m) (omega arith) (e ∙ rw (none_at m (length m) (omega arith)) refl)
 
       -- a turn to a further place
       turn : {last : List ℕ} {after count : ℕ} (further j : ℕ) → at < further → further ≤ length m
@@ -209,23 +206,28 @@ module _ {k : Kind} {m buf₀ : List ℕ} {to : ℕ} {buf : List ℕ} {at next u
             let e : at + 1 + 1 ≡ at + 2 = omega arith in
             standing ∙ walk_close k J.turns (n - 1) (get_or m at 0) (drop (at + 1) m) buf next unused z ∙ rw (drop-drop 1 (at + 1) m, e) refl
 
-        pub joins_cut : length m - at < 2 → Result k m buf₀ to buf (record { end = length m; next = next; unused = unused })
-        joins_cut l = to_end (closed ∙ rw (none_at m (at + 2) (omega arith)) (walk_none k J.turns (n - 1) (way [] buf next unused)))
+        -- of 00 00 the second octet may be lacking
+        pub joins_mark : (e : ℕ) → e ≡ min (length m) (at + 2) → Joins k m buf₀ to buf e next unused (n - 1)
+        joins_mark e f =
+            let q : drop (at + 2) m ≡ drop e m =
+            test (leb (at + 2) (length m))
+            (λ t. let g : at + 2 ≡ e = omega (arith, leb-true (at + 2) (length m) t) in rw g refl)
+            λ t. let g = leb-false (at + 2) (length m) t in rw (none_at m (at + 2) (omega arith), none_at m e (omega arith)) refl in
+            turn e (n - 1) (omega arith) (omega arith) (rw q at closed)
 
-        pub joins_mark : at + 2 ≤ length m → Joins k m buf₀ to buf (at + 2) next unused (n - 1)
-        joins_mark h = turn (at + 2) (n - 1) (omega arith) h closed
-
-      module _ (z : get_or m at 0 ≡ 0 → ⊥) {x : Length} (a : (l : ℕ) → x ≡ told_length (length m) (read_length l (drop (at + 1) m))) where
+      module _ (z : get_or m at 0 ≡ 0 → ⊥) {x : Result Extent ReadingCause} (a : (l : ℕ) → x ≡ told_length (length m) (read_length l (drop (at + 1) m))) where
         abbrev here : Way
         here = way (get_or m at 0 ∷ drop (at + 1) m) buf next unused
 
         onward : joining k m buf₀ to ≡ enter k (walk k J.turns) (get_or m at 0) (suc (n - 1)) here (read_length 0 (drop (at + 1) m))
         onward = standing ∙ walk_enter k J.turns (n - 1) (get_or m at 0) (drop (at + 1) m) buf next unused z
 
-        pub joins_unread : {f : ReadingCause} → x ≡ NoLength f → Result k m buf₀ to buf (record { end = length m; next = next; unused = unused })
-        joins_unread {f} e = to_end (onward ∙ rw (length_refused m (at + 1) 0 x (a 0) f e) refl)
+        pub joins_unread : {f : ReadingCause} → x ≡ Err f → Joins k m buf₀ to buf (length m) next unused n
+        joins_unread {f} e =
+            turn (length m) n there (omega arith)
+            (onward ∙ rw (length_refused m (at + 1) 0 x (a 0) f e, none_at m (length m) (omega arith)) (sym (walk_none k J.turns n (way [] buf next unused))))
 
-        module _ {y : Extent} (e : x ≡ ReadLength y) where
+        module _ {y : Extent} (e : x ≡ Ok y) where
           pub joins_further : (at < y.start) × (y.start ≤ y.end) × (y.end ≤ length m)
           joins_further =
               test y.indefinite

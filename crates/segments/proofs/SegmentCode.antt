@@ -10,6 +10,8 @@ use Prim.Native.Nat.{ℕ, suc, ◌+◌, ◌-◌, ◌*◌, ◌≤◌, ◌<◌}
 use lib.Dec.{eqb, leb}
 use lib.ListN.{length, get_or, take, drop, length-append, length-drop, drop_of_length-le}
 use lib.Seq.{sets-eq, drop-drop, drop-append_seam, length-take-le}
+use Rattle.std.specs.Prelude.{Option, Some, None, Result, Ok, Err}
+use Rattle.std.specs.Result.{MatchResult, IsErrAnd}
 use Rattle.x690.specs.declared.ReadingCause.{ReadingCause}
 use Rattle.x690.specs.declared.ReadingCause.TheVariants.{NotAwaited, Contents, MessageLevel, Forbidden}
 use Rattle.octets.specs.Answer.{Answer, got, refused, then, if, behind}
@@ -30,15 +32,9 @@ use Rattle.ber.specs.Codes.{code, code_of}
 use Rattle.ber.specs.Told.{told_identifier, told_length, mode, end_of}
 use Rattle.segments.specs.Segments.{unused_in, carried, told_segments, told_primitive, read_tag}
 use Rattle.ber.specs.declared.identifier.Identifier.{Identifier}
-use Rattle.ber.specs.declared.identifier.Identifier.TheVariants.{Read as ReadIdentifier, Refused as NoIdentifier}
-use Rattle.ber.specs.declared.length.Length.{Length}
-use Rattle.ber.specs.declared.length.Length.TheVariants.{Read as ReadLength, Refused as NoLength}
 use Rattle.ber.specs.declared.length.Extent.{Extent}
-use Rattle.ber.specs.declared.ending.End.{End}
-use Rattle.ber.specs.declared.ending.End.TheVariants.{More, Over, Broken}
+use Rattle.x690.specs.declared.Unread.{Unread}
 use Rattle.segments.specs.declared.Gathered.{Gathered as Extents}
-use Rattle.segments.specs.declared.Segments.{Segments}
-use Rattle.segments.specs.declared.Segments.TheVariants.{Read, Refused}
 use Rattle.ber.proofs.Headers.{puts}
 use Rattle.ber.proofs.Places.{left_at, part_to_end}
 use Rattle.ber.proofs.Codes.{code_awaited}
@@ -46,6 +42,17 @@ use Rattle.ber.proofs.Ends.{end_more, end_over, end_broken}
 use Rattle.ber.proofs.Told.{Says, says, the_refusal, Faulty, then_faulty, identifier_faulty, identifier_read, identifier_refused}
 use Rattle.ber.proofs.Told.{length_definite, length_indefinite, length_refused}
 use Rattle.segments.proofs.Joining.{length_join, Within, takes, stops, segment_within, all_within}
+
+-- what was given to `map_err`, by what it answers
+pub mapped_ok : {T E D : Type 0} (P : E → D → Type 0) (r : Result T E) {q : Result T D} {x : T} → q ≡ Ok x
+    → MatchResult r (λ x. q ≡ Ok x) (λ e. IsErrAnd q (λ d. P e d)) → r ≡ Ok x
+mapped_ok P (Ok y) {q = q} {x = x} e h = let f : y ≡ x = cc in ap Ok f
+mapped_ok P (Err y) e h = absurd (rw e at h)
+
+pub mapped_err : {T E D : Type 0} (P : E → D → Type 0) (r : Result T E) {q : Result T D} {d : D} → q ≡ Err d
+    → MatchResult r (λ x. q ≡ Ok x) (λ e. IsErrAnd q (λ d. P e d)) → (e : E) × (r ≡ Err e) × P e d
+mapped_err P (Ok y) e h = let o : ◌≡◌ {A = ℕ} 0 1 = cc in absurd (omega arith)
+mapped_err P (Err y) e h = (y, refl, rw e at h)
 
 -- the identifier of a segment, by its code
 tag_code : (k : Kind) (b : Bool) → code 0 b (universal k) ≡ universal k + 32 * bit b
@@ -69,22 +76,22 @@ tag_low octet_string = omega arith
 abbrev is_tag_of : Kind → List ℕ → Bool
 is_tag_of k i = same (segment_tag k false) i || same (segment_tag k true) i
 
-module _ (k : Kind) (m : List ℕ) (r : Identifier) (a : r ≡ told_identifier (length m) (read_identifier m)) where
-  pub tag_none : (f : ReadingCause) → r ≡ NoIdentifier f → NoIdentifier f ≡ told_identifier (length m) (read_tag k m)
+module _ (k : Kind) (m : List ℕ) (r : Result Identifier ReadingCause) (a : r ≡ told_identifier (length m) (read_identifier m)) where
+  pub tag_none : (f : ReadingCause) → r ≡ Err f → Err f ≡ told_identifier (length m) (read_tag k m)
   unfolding read_tag then told_identifier
   tag_none f d = rw (identifier_refused m r a f d) refl
 
-  module _ (o : Octets m) (c e : ℕ) (d : r ≡ ReadIdentifier c e) (t : ℕ) (h : t ≡ universal k) where
-    pub tag_told : told_identifier (length m) (read_tag k m) ≡ if (not (eqb c t || eqb c (t + 32))) (NoIdentifier NotAwaited) λ _. ReadIdentifier c e
+  module _ (o : Octets m) (z : Identifier) (d : r ≡ Ok z) (t : ℕ) (h : t ≡ universal k) where
+    pub tag_told : told_identifier (length m) (read_tag k m) ≡ if (not (eqb z.code t || eqb z.code (t + 32))) (Err NotAwaited) λ _. Ok z
     unfolding read_tag told_identifier segment_tag then if
     tag_told =
-        let (i, x, y, low, high) = identifier_read m r a c e d in
+        let (i, x, y, low, high) = identifier_read m r a z d in
         let p = code_awaited m i _ o x 0 false (universal k) (omega arith) (tag_low k) in
         let q = code_awaited m i _ o x 0 true (universal k) (omega arith) (tag_low k) in
         let u : universal k + 32 * bit false ≡ t = omega arith in
         let v : universal k + 32 * bit true ≡ t + 32 = omega arith in
         rw (x, p, q, tag_code k false, tag_code k true, u, v, y)
-        (test (eqb c t || eqb c (t + 32)) (λ g. rw g (rw (left_at m e high, y) refl)) λ g. rw g refl)
+        (test (eqb z.code t || eqb z.code (t + 32)) (λ g. rw g (rw (left_at m z.end high, y) refl)) λ g. rw g refl)
 
 -- what its answer says
 tag_faulty : (k : Kind) (s : List ℕ) → Faulty (length s) (read_tag k s)
@@ -113,39 +120,39 @@ tag_got k (got i s₁) l j w e =
     ))
     λ t. refused≢got (rw t at e)
 
-module _ (k : Kind) (s : List ℕ) (r : Identifier) (a : r ≡ told_identifier (length s) (read_tag k s)) where
-  tag_refused : (f : ReadingCause) → r ≡ NoIdentifier f → read_tag k s ≡ refused f (length s)
+module _ (k : Kind) (s : List ℕ) (r : Result Identifier ReadingCause) (a : r ≡ told_identifier (length s) (read_tag k s)) where
+  tag_refused : (f : ReadingCause) → r ≡ Err f → read_tag k s ≡ refused f (length s)
   tag_refused f d =
-      let (l, x) : Says (length s) (read_tag k s) (NoIdentifier f) = rw (← a, d) at (says (length s) (read_tag k s)) in
+      let (l, x) : Says (length s) (read_tag k s) (Err f) = rw (← a, d) at (says (length s) (read_tag k s)) in
       the_refusal (read_tag k s) (tag_faulty k s) x
 
-  pub tag_read : (c e : ℕ) → r ≡ ReadIdentifier c e
-      → (read_identifier s ≡ got (segment_tag k (leb 32 c)) (drop e s)) × (read_tag k s ≡ got (segment_tag k (leb 32 c)) (drop e s))
+  pub tag_read : (q : Identifier) → r ≡ Ok q
+      → (read_identifier s ≡ got (segment_tag k (leb 32 q.code)) (drop q.end s)) × (read_tag k s ≡ got (segment_tag k (leb 32 q.code)) (drop q.end s))
   unfolding read_tag
-  tag_read c e d =
-      let (i, w, x, y, z) : Says (length s) (read_tag k s) (ReadIdentifier c e) = rw (← a, d) at (says (length s) (read_tag k s)) in
+  tag_read q d =
+      let (i, w, x, y, z) : Says (length s) (read_tag k s) (Ok q) = rw (← a, d) at (says (length s) (read_tag k s)) in
       let t = tag_got k (read_identifier s) (length s) i w x in
       go i w x y z t.0 t.1.0 t.1.1
     where
-      go : (i w : List ℕ) → read_tag k s ≡ got i w → code_of i ≡ c → length s - length w ≡ e → read_identifier s ≡ got i w → (b : Bool) → i ≡ segment_tag k b
-          → (read_identifier s ≡ got (segment_tag k (leb 32 c)) (drop e s)) × (read_tag k s ≡ got (segment_tag k (leb 32 c)) (drop e s))
-      go i w x y z f b q =
-          let p : leb 32 c ≡ b = sym (ap (leb 32) (sym (ap code_of q) ∙ y)) ∙ tag_high k b in
+      go : (i w : List ℕ) → read_tag k s ≡ got i w → code_of i ≡ q.code → length s - length w ≡ q.end → read_identifier s ≡ got i w → (b : Bool) → i ≡ segment_tag k b
+          → (read_identifier s ≡ got (segment_tag k (leb 32 q.code)) (drop q.end s)) × (read_tag k s ≡ got (segment_tag k (leb 32 q.code)) (drop q.end s))
+      go i w x y z f b j =
+          let p : leb 32 q.code ≡ b = sym (ap (leb 32) (sym (ap code_of j) ∙ y)) ∙ tag_high k b in
           let u = got_holds (identifier_sound s) f in
           let l = ap length u ∙ length-append i w in
-          let n : length i ≡ e = omega arith in
-          let v : drop e s ≡ w = rw n at (ap (drop (length i)) u ∙ drop-append_seam i w) in
-          let j : segment_tag k (leb 32 c) ≡ i = rw p (sym q) in
-          (rw (j, v) f, rw (j, v) x)
+          let n : length i ≡ q.end = omega arith in
+          let v : drop q.end s ≡ w = rw n at (ap (drop (length i)) u ∙ drop-append_seam i w) in
+          let t : segment_tag k (leb 32 q.code) ≡ i = rw p (sym j) in
+          (rw (t, v) f, rw (t, v) x)
 
 -- what an answer says of segments
 module _ (k : Kind) (n : ℕ) where
-  segments_refused : (x : Answer ReadingCause Gathered) (c : ReadingCause) (l : ℕ) → Refused c l ≡ told_segments k n x → x ≡ refused c l
+  segments_refused : (x : Answer ReadingCause Gathered) (y : Unread) → Err y ≡ told_segments k n x → x ≡ refused y.cause y.left
   unfolding told_segments
-  segments_refused (got g u) c l e = let z : ◌≡◌ {A = ℕ} 0 1 = cc in absurd (omega arith)
-  segments_refused (refused d j) c l e = let p : d ≡ c = cc in let q : j ≡ l = cc in rw (p, q) refl
+  segments_refused (got g u) y e = let z : ◌≡◌ {A = ℕ} 0 1 = cc in absurd (omega arith)
+  segments_refused (refused c l) y e = let h : y ≡ record { cause = c; left = l } = cc in rw h refl
 
-  segments_read : (x : Answer ReadingCause Gathered) (y : Extents) → Read y ≡ told_segments k n x
+  segments_read : (x : Answer ReadingCause Gathered) (y : Extents) → Ok y ≡ told_segments k n x
       → (g : Gathered) × (u : List ℕ) × (x ≡ got g u) × (y.end ≡ n - length u) × (y.size ≡ length g.0) × (y.unused ≡ unused_in k g.0) × (y.back ≡ g.1)
   unfolding told_segments
   segments_read (got g u) y e =
@@ -166,7 +173,7 @@ pub record Came (k : Kind) (o e : ℕ) (s : List ℕ) (x : Answer ReadingCause G
   pub high : y.size ≤ e + y.end
   pub near : y.back ≤ y.end
 
-came : (k : Kind) (o e : ℕ) (s : List ℕ) (x : Answer ReadingCause Gathered) → Within k o e 0 s x → (y : Extents) → Read y ≡ told_segments k (length s) x → Came k o e s x y
+came : (k : Kind) (o e : ℕ) (s : List ℕ) (x : Answer ReadingCause Gathered) → Within k o e 0 s x → (y : Extents) → Ok y ≡ told_segments k (length s) x → Came k o e s x y
 came k o e s x h y q =
     let (g, u, d, i, j, l, b) = segments_read k (length s) x y q in
     go g u d i j l b (rw d at h)
@@ -190,20 +197,20 @@ came k o e s x h y q =
           near = omega arith;
         }
 
-module _ (k : Kind) (d : ℕ) (s : List ℕ) (r : Segments) where
-  pub segment_came : r ≡ told_segments k (length s) (read_segment k d s) → (y : Extents) → r ≡ Read y → Came k 1 0 s (read_segment k d s) y
+module _ (k : Kind) (d : ℕ) (s : List ℕ) (r : Result Extents Unread) where
+  pub segment_came : r ≡ told_segments k (length s) (read_segment k d s) → (y : Extents) → r ≡ Ok y → Came k 1 0 s (read_segment k d s) y
   segment_came a y e = came k 1 0 s (read_segment k d s) (segment_within k d s) y (sym e ∙ a)
 
   module _ (i : Bool) (a : r ≡ told_segments k (length s) (read_all k (read_segment k d) (mode i) s)) where
-    pub all_came : (y : Extents) → r ≡ Read y → Came k 0 (length (empty k)) s (read_all k (read_segment k d) (mode i) s) y
+    pub all_came : (y : Extents) → r ≡ Ok y → Came k 0 (length (empty k)) s (read_all k (read_segment k d) (mode i) s) y
     all_came y e = came k 0 (length (empty k)) s _ (all_within k d (mode i) s) y (sym e ∙ a)
 
-    pub all_refused : (c : ReadingCause) (l : ℕ) → r ≡ Refused c l → (read_all k (read_segment k d) (mode i) s ≡ refused c l) × (l ≤ length s)
-    all_refused c l e =
-        let q = segments_refused k (length s) _ c l (sym e ∙ a) in
+    pub all_refused : (y : Unread) → r ≡ Err y → (read_all k (read_segment k d) (mode i) s ≡ refused y.cause y.left) × (y.left ≤ length s)
+    all_refused y e =
+        let q = segments_refused k (length s) _ y (sym e ∙ a) in
         (q, go (rw q at (all_within k d (mode i) s)))
       where
-        go : Within k 0 (length (empty k)) 0 s (refused c l) → l ≤ length s
+        go : Within k 0 (length (empty k)) 0 s (refused y.cause y.left) → y.left ≤ length s
         go (stops h) = omega arith
 
 -- a segment whose identifier was read
@@ -217,7 +224,7 @@ tag_same octet_string false = refl
 abbrev part : List ℕ → Extent → List ℕ
 part m y = take (y.end - y.start) (drop y.start m)
 
-pub segment_deep : (k : Kind) (m : List ℕ) (d : ℕ) → d ≡ 0 → Refused MessageLevel (length m) ≡ told_segments k (length m) (read_segment k d m)
+pub segment_deep : (k : Kind) (m : List ℕ) (d : ℕ) → d ≡ 0 → Err (record { cause = MessageLevel; left = length m }) ≡ told_segments k (length m) (read_segment k d m)
 unfolding read_segment told_segments
 segment_deep k m d e = rw e refl
 
@@ -227,6 +234,10 @@ pub record Begun (k : Kind) (m : List ℕ) (d : ℕ) : Type 0 where
   pub constructed : Bool
   pub is : read_identifier m ≡ got (segment_tag k constructed) (drop from m)
   pub deep : d ≡ 0 → ⊥
+
+abbrev pub begun : {k : Kind} {m : List ℕ} {d : ℕ} (from : ℕ) (constructed : Bool)
+    → read_identifier m ≡ got (segment_tag k constructed) (drop from m) → (d ≡ 0 → ⊥) → Begun k m d
+begun from constructed e h = record { from = from; constructed = constructed; is = e; deep = h }
 
 module _ {k : Kind} {m : List ℕ} {d : ℕ} (B : Begun k m d) where
   header_is : read_header (segment_tag k B.constructed) m ≡ read_length (length m) (drop B.from m)
@@ -257,14 +268,14 @@ module _ {k : Kind} {m : List ℕ} {d : ℕ} (B : Begun k m d) where
       let y : read_header (segment_tag k false) m ≡ read_length (length m) (drop B.from m) = rw e at header_is in
       ap (λ (i : ℕ). read_segment k i m) one_less ∙ rw (x, y) refl
 
-  module _ {x : Length} (a : (l : ℕ) → x ≡ told_length (length m) (read_length l (drop B.from m))) where
-    pub segment_unread : {f : ReadingCause} → x ≡ NoLength f → Refused f (length m) ≡ told_segments k (length m) (read_segment k d m)
+  module _ {x : Result Extent ReadingCause} (a : (l : ℕ) → x ≡ told_length (length m) (read_length l (drop B.from m))) where
+    pub segment_unread : {f : ReadingCause} → x ≡ Err f → Err (record { cause = f; left = length m }) ≡ told_segments k (length m) (read_segment k d m)
     unfolding told_segments then
     segment_unread {f} e =
         let l = length_refused m B.from (length m) x (a (length m)) f e in
         test B.constructed (λ q. rw (is_constructed q, l) refl) λ q. rw (is_primitive q, l) refl
 
-    module _ {y : Extent} (g : x ≡ ReadLength y) where
+    module _ {y : Extent} (g : x ≡ Ok y) where
       sized_at : y.indefinite ≡ false
           → (read_length (length m) (drop B.from m) ≡ got (definite (y.end - y.start)) (drop y.start m)) × (y.start ≤ y.end) × (y.end ≤ length m)
       sized_at e = let (p, o, i, j) = length_definite m B.from (length m) x (a (length m)) y g e in (p, i, j)
@@ -277,11 +288,11 @@ module _ {k : Kind} {m : List ℕ} {d : ℕ} (B : Begun k m d) where
       segment_part =
           test y.indefinite (λ e. let (p, i, j) = open_at e in (omega arith, omega arith)) λ e. let (p, i, j) = sized_at e in (i, j)
 
-      pub segment_open : B.constructed ≡ false → y.indefinite ≡ true → Refused Forbidden (length m) ≡ told_segments k (length m) (read_segment k d m)
+      pub segment_open : B.constructed ≡ false → y.indefinite ≡ true → Err (record { cause = Forbidden; left = length m }) ≡ told_segments k (length m) (read_segment k d m)
       unfolding told_segments then contents
       segment_open q e = rw (is_primitive q, (open_at e).0) refl
 
-      pub segment_whole : B.constructed ≡ false → y.indefinite ≡ false → {r : Segments} → r ≡ told_primitive k (part m y) y.end (length m)
+      pub segment_whole : B.constructed ≡ false → y.indefinite ≡ false → {r : Result Extents Unread} → r ≡ told_primitive k (part m y) y.end (length m)
           → r ≡ told_segments k (length m) (read_segment k d m)
       unfolding told_segments told_primitive then contents if
       segment_whole q e v =
@@ -294,12 +305,12 @@ module _ {k : Kind} {m : List ℕ} {d : ℕ} (B : Begun k m d) where
       abbrev inner : Answer ReadingCause Gathered
       inner = read_all k (read_segment k (d - 1)) (mode y.indefinite) (part m y)
 
-      module _ (q : B.constructed ≡ true) {z : Segments} (v : z ≡ told_segments k (length (part m y)) inner) where
+      module _ (q : B.constructed ≡ true) {z : Result Extents Unread} (v : z ≡ told_segments k (length (part m y)) inner) where
         part_size : length (part m y) ≡ y.end - y.start
         part_size = let (i, j) = segment_part in length-take-le (y.end - y.start) (drop y.start m) (omega (arith, length-drop y.start m))
 
         refused_open : {c : ReadingCause} {l : ℕ} → inner ≡ refused c l → y.indefinite ≡ true
-            → Refused c (l + (length m - y.end)) ≡ told_segments k (length m) (read_segment k d m)
+            → Err (record { cause = c; left = l + (length m - y.end) }) ≡ told_segments k (length m) (read_segment k d m)
         unfolding told_segments then inside
         refused_open {c} {l} p t =
             let (o, f, n) = open_at t in
@@ -309,7 +320,7 @@ module _ {k : Kind} {m : List ℕ} {d : ℕ} (B : Begun k m d) where
             rw (is_constructed q, o, r, none) refl
 
         refused_sized : {c : ReadingCause} {l : ℕ} → inner ≡ refused c l → y.indefinite ≡ false
-            → Refused c (l + (length m - y.end)) ≡ told_segments k (length m) (read_segment k d m)
+            → Err (record { cause = c; left = l + (length m - y.end) }) ≡ told_segments k (length m) (read_segment k d m)
         unfolding told_segments then inside behind
         refused_sized {c} {l} p t =
             let (o, f, n) = sized_at t in
@@ -317,15 +328,16 @@ module _ {k : Kind} {m : List ℕ} {d : ℕ} (B : Begun k m d) where
             let r : read_all k (read_segment k (d - 1)) closed (part m y) ≡ refused c l = rw t at p in
             rw (is_constructed q, o, r, w) refl
 
-        pub segment_refused : {c : ReadingCause} {l : ℕ} → z ≡ Refused c l
-            → (l + (length m - y.end) ≤ length m) × (Refused c (l + (length m - y.end)) ≡ told_segments k (length m) (read_segment k d m))
-        segment_refused {c} {l} e =
+        pub segment_refused : {w : Unread} → z ≡ Err w
+            → (w.left + (length m - y.end) ≤ length m)
+            × (Err (record { cause = w.cause; left = w.left + (length m - y.end) }) ≡ told_segments k (length m) (read_segment k d m))
+        segment_refused {w} e =
             let (i, j) = segment_part in
             let s = part_size in
-            let (p, u) = all_refused k (d - 1) (part m y) z y.indefinite v c l e in
+            let (p, u) = all_refused k (d - 1) (part m y) z y.indefinite v w e in
             (omega arith, test y.indefinite (λ t. refused_open p t) λ t. refused_sized p t)
 
-        module _ {w : Extents} (e : z ≡ Read w) where
+        module _ {w : Extents} (e : z ≡ Ok w) where
           at_inner : Came k 0 (length (empty k)) (part m y) inner w
           at_inner = all_came k (d - 1) (part m y) z y.indefinite v w e
 
@@ -333,7 +345,7 @@ module _ {k : Kind} {m : List ℕ} {d : ℕ} (B : Begun k m d) where
           in_m = let (i, j) = segment_part in omega (arith, part_size, at_inner.inside)
 
           abbrev Whole : Type 0
-          Whole = Read (record { end = y.start + w.end; size = w.size; unused = w.unused; back = w.back }) ≡ told_segments k (length m) (read_segment k d m)
+          Whole = Ok (record { end = y.start + w.end; size = w.size; unused = w.unused; back = w.back }) ≡ told_segments k (length m) (read_segment k d m)
 
           read_open : (C : Came k 0 (length (empty k)) (part m y) inner w) → y.indefinite ≡ true → Whole
           unfolding told_segments then inside
@@ -380,12 +392,12 @@ carried_put b d w p to e h q =
     (rw (f, add-sub_cancel_left to n, drop-drop n to b) (sym (sets-eq d b to k ∙ append_assoc (take to b) d (drop (to + n) b))))
 
 -- The segments in contents, one after another. How answers are said:
-tell_refused : (k : Kind) (n : ℕ) (x : Answer ReadingCause Gathered) (c : ReadingCause) (l : ℕ) → x ≡ refused c l → Refused c l ≡ told_segments k n x
+tell_refused : (k : Kind) (n : ℕ) (x : Answer ReadingCause Gathered) (c : ReadingCause) (l : ℕ) → x ≡ refused c l → Err (record { cause = c; left = l }) ≡ told_segments k n x
 unfolding told_segments
 tell_refused k n x c l e = rw e refl
 
 tell_read : (k : Kind) (m : List ℕ) (x : Answer ReadingCause Gathered) (c : List ℕ) (b u size unused : ℕ) → x ≡ got (c, b) (drop u m) → u ≤ length m → size ≡ length c
-    → unused ≡ unused_in k c → Read (record { end = u; size = size; unused = unused; back = b }) ≡ told_segments k (length m) x
+    → unused ≡ unused_in k c → Ok (record { end = u; size = size; unused = unused; back = b }) ≡ told_segments k (length m) x
 unfolding told_segments
 tell_read k m x c b u size unused e h s f = rw (e, left_at m u h, s, f) refl
 
@@ -428,7 +440,7 @@ pub record Going (k : Kind) (d : ℕ) (i : Bool) (m : List ℕ) (at size unused 
 pub going_first : (k : Kind) (d : ℕ) (i : Bool) (m : List ℕ) (one : ℕ) → one ≡ length (empty k) → Going k d i m 0 one 0 0
 going_first k d i m one e = record { hand = empty k; fuel = length m; enough = omega arith; is = refl; sized = e; left = sym (unused_none k) }
 
-module _ {k : Kind} {d : ℕ} {i : Bool} {m : List ℕ} {at size unused back : ℕ} (G : Going k d i m at size unused back) {r : End}
+module _ {k : Kind} {d : ℕ} {i : Bool} {m : List ℕ} {at size unused back : ℕ} (G : Going k d i m at size unused back) {r : Result (Option ℕ) ReadingCause}
     (e : r ≡ end_of i (length m) (drop at m)) where
   abbrev it : Answer ReadingCause Gathered
   it = read_all k (read_segment k d) (mode i) m
@@ -436,12 +448,12 @@ module _ {k : Kind} {d : ℕ} {i : Bool} {m : List ℕ} {at size unused back : �
   abbrev s : List ℕ
   s = drop at m
 
-  pub going_broken : {c : ReadingCause} → r ≡ Broken c → Refused c (length m - at) ≡ told_segments k (length m) it
+  pub going_broken : {c : ReadingCause} → r ≡ Err c → Err (record { cause = c; left = length m - at }) ≡ told_segments k (length m) it
   unfolding read_joined
   going_broken {c} f = tell_refused k (length m) it c (length m - at) (G.is ∙ end_broken _ _ m at i r c e f ∙ rw (length-drop at m) refl)
 
-  pub going_over : at ≤ length m → {u : ℕ} → r ≡ Over u
-      → (at ≤ u) × (u ≤ length m) × (Read (record { end = u; size = size; unused = unused; back = back + (u - at) }) ≡ told_segments k (length m) it)
+  pub going_over : at ≤ length m → {u : ℕ} → r ≡ Ok (Some u)
+      → (at ≤ u) × (u ≤ length m) × (Ok (record { end = u; size = size; unused = unused; back = back + (u - at) }) ≡ told_segments k (length m) it)
   unfolding read_joined
   going_over h {u} f =
       let (x, low, high) = end_over _ _ m at i r u h e f in
@@ -453,7 +465,7 @@ module _ {k : Kind} {d : ℕ} {i : Bool} {m : List ℕ} {at size unused back : �
       if (not (whole k G.hand)) (refused Contents (length s + back)) λ _.
       then (read_segment k d s) λ g s₂. read_joined k (read_segment k d) G.fuel (join k G.hand g.0) g.1 (mode i) s₂
 
-  module _ (f : r ≡ More) where
+  module _ (f : r ≡ Ok None) where
     pub going_on : at < length m
     going_on = (end_more {A = Gathered} (λ u. refused NotAwaited 0) (λ _. refused NotAwaited 0) m at i r e f).1
 
@@ -461,17 +473,17 @@ module _ {k : Kind} {d : ℕ} {i : Bool} {m : List ℕ} {at size unused back : �
     unfolding read_joined read_tag
     at_tag = G.is ∙ (end_more _ _ m at i r e f).0 ∙ tag_then k (read_identifier s) (length s) (behind_tag)
 
-    module _ {t : Identifier} (a : t ≡ told_identifier (length s) (read_tag k s)) where
-      pub going_untagged : {c : ReadingCause} → t ≡ NoIdentifier c → Refused c (length m - at) ≡ told_segments k (length m) it
+    module _ {t : Result Identifier ReadingCause} (a : t ≡ told_identifier (length s) (read_tag k s)) where
+      pub going_untagged : {c : ReadingCause} → t ≡ Err c → Err (record { cause = c; left = length m - at }) ≡ told_segments k (length m) it
       unfolding then
       going_untagged {c} b = tell_refused k (length m) it c (length m - at) (at_tag ∙ rw (tag_refused k s t a c b, length-drop at m) refl)
 
-      module _ {code end : ℕ} (b : t ≡ ReadIdentifier code end) where
+      module _ {z : Identifier} (b : t ≡ Ok z) where
         is_tagged : it ≡ behind_tag
         unfolding then
-        is_tagged = at_tag ∙ rw (tag_read k s t a code end b).1 refl
+        is_tagged = at_tag ∙ rw (tag_read k s t a z b).1 refl
 
-        pub going_unused : 0 < unused → Refused Contents (length m - at + back) ≡ told_segments k (length m) it
+        pub going_unused : 0 < unused → Err (record { cause = Contents; left = length m - at + back }) ≡ told_segments k (length m) it
         unfolding if
         going_unused h =
             let n = unused_some k G.hand (rw G.left at h) in
@@ -489,12 +501,13 @@ module _ {k : Kind} {d : ℕ} {i : Bool} {m : List ℕ} {at size unused back : �
               let n : suc (G.fuel - 1) ≡ G.fuel = omega arith in
               is_whole ∙ rw (x, n, drop-drop u at m, q) refl
 
-          module _ {x : Segments} (v : x ≡ told_segments k (length s) (read_segment k d s)) where
-            pub going_refused : {c : ReadingCause} {n : ℕ} → x ≡ Refused c n → Refused c n ≡ told_segments k (length m) it
+          module _ {x : Result Extents Unread} (v : x ≡ told_segments k (length s) (read_segment k d s)) where
+            pub going_refused : {y : Unread} → x ≡ Err y → Err y ≡ told_segments k (length m) it
             unfolding then
-            going_refused {c} {n} w = tell_refused k (length m) it c n (is_whole ∙ rw (segments_refused k (length s) (read_segment k d s) c n (sym w ∙ v)) refl)
+            going_refused {y} w =
+                tell_refused k (length m) it y.cause y.left (is_whole ∙ rw (segments_refused k (length s) (read_segment k d s) y (sym w ∙ v)) refl)
 
-            pub going_turn : {one : ℕ} → one ≡ length (empty k) → {y : Extents} → x ≡ Read y
+            pub going_turn : {one : ℕ} → one ≡ length (empty k) → {y : Extents} → x ≡ Ok y
                 → (1 ≤ y.end) × (at + y.end ≤ length m) × (one ≤ y.size) × (y.size ≤ y.end) × (y.back ≤ y.end)
                 × Going k d i m (at + y.end) (size - one + y.size) y.unused y.back
             going_turn o {y} w =

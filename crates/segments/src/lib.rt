@@ -11,7 +11,7 @@ ghost use Rattle.segments.specs.Segments.{kind_of, unused_in, carried, told_segm
 
 use ber::identifier::Identifier;
 use ber::{ending, identifier, length};
-use octets::{copy, holds, octet};
+use octets::octet;
 use simple::bit_string::are_bits;
 use x690::{ReadingCause, Unread};
 
@@ -28,13 +28,8 @@ pub struct Gathered {
     pub back: usize,
 }
 
-fn refused(cause: ReadingCause, left: usize) -> Unread
-    ensures { result ≡ record { cause = cause; left = left } }
-{
-    Unread { cause, left }
-}
-
 // The contents of no segment have so many octets: of a BIT STRING the number of unused bits.
+#[tactic(auto, unfolding(x690::specs::Segments::empty))]
 fn least(bits: bool) -> usize
     ensures { result ≡ length (empty (kind_of bits)) }
 {
@@ -64,6 +59,7 @@ fn read_tag(m: &[u8], bits: bool) -> Result<Identifier, ReadingCause>
 }
 
 // Whether a primitive segment may have the contents c.
+#[tactic(auto, unfolding(x690::specs::Segments::in_form))]
 fn in_form(c: &[u8], bits: bool) -> bool
     ensures { result ≡ in_form (kind_of bits) c.now }
 {
@@ -74,6 +70,7 @@ fn in_form(c: &[u8], bits: bool) -> bool
 }
 
 // How many bits of the last octet are unused.
+#[tactic(auto, unfolding(crate::specs::Segments::unused_in))]
 fn unused_in(c: &[u8], bits: bool) -> usize
     ensures { result ≡ unused_in (kind_of bits) c.now }
 {
@@ -84,11 +81,15 @@ fn unused_in(c: &[u8], bits: bool) -> usize
 }
 
 // A primitive segment with the contents c, which ends at `end`; `left` octets are left where it begins.
+#[tactic(auto, using(octets::proofs::Answer::run), unfolding(crate::specs::Segments::told_primitive))]
 fn primitive(c: &[u8], bits: bool, end: usize, left: usize) -> Result<Gathered, Unread>
     ensures { result ≡ told_primitive (kind_of bits) c.now end left }
 {
     if !in_form(c, bits) {
-        return Err(refused(ReadingCause::Contents, left));
+        return Err(Unread {
+            cause: ReadingCause::Contents,
+            left,
+        });
     }
     let unused = unused_in(c, bits);
     Ok(Gathered {
@@ -113,27 +114,31 @@ fn segment(
 {
     let left = m.len();
     if depth == 0 {
-        return Err(refused(ReadingCause::MessageLevel, left));
+        return Err(Unread {
+            cause: ReadingCause::MessageLevel,
+            left,
+        });
     }
-    let x = match length::read(m, from) {
-        Ok(x) => x,
-        Err(cause) => return Err(refused(cause, left)),
-    };
-    let start = x.start;
-    let stop = x.end;
-    let c = &m[start..stop];
+    let x = length::read(m, from).map_err(|cause| Unread { cause, left })?;
+    let c = &m[x.start..x.end];
     if !constructed {
         if x.indefinite {
-            return Err(refused(ReadingCause::Forbidden, left));
+            return Err(Unread {
+                cause: ReadingCause::Forbidden,
+                left,
+            });
         }
-        return primitive(c, bits, stop, left);
+        return primitive(c, bits, x.end, left);
     }
     match all(c, x.indefinite, bits, depth - 1) {
         Ok(y) => Ok(Gathered {
-            end: start + y.end,
+            end: x.start + y.end,
             ..y
         }),
-        Err(e) => Err(refused(e.cause, e.left + (left - stop))),
+        Err(e) => Err(Unread {
+            left: e.left + (left - x.end),
+            ..e
+        }),
     }
 }
 
@@ -149,25 +154,22 @@ fn all(m: &[u8], indefinite: bool, bits: bool, depth: usize) -> Result<Gathered,
     let mut back: usize = 0;
     loop {
         let left = m.len() - at;
-        match ending::read(m, at, indefinite) {
-            Err(cause) => return Err(refused(cause, left)),
-            Ok(Some(end)) => {
-                return Ok(Gathered {
-                    end,
-                    size,
-                    unused,
-                    back: back + (end - at),
-                });
-            }
-            Ok(None) => {}
+        let over = ending::read(m, at, indefinite).map_err(|cause| Unread { cause, left })?;
+        if let Some(end) = over {
+            return Ok(Gathered {
+                end,
+                size,
+                unused,
+                back: back + (end - at),
+            });
         }
         let rest = &m[at..];
-        let i = match read_tag(rest, bits) {
-            Ok(i) => i,
-            Err(cause) => return Err(refused(cause, left)),
-        };
+        let i = read_tag(rest, bits).map_err(|cause| Unread { cause, left })?;
         if 0 < unused {
-            return Err(refused(ReadingCause::Contents, left + back));
+            return Err(Unread {
+                cause: ReadingCause::Contents,
+                left: left + back,
+            });
         }
         let x = segment(rest, i.end, 32 <= i.code, bits, depth)?;
         at += x.end;
@@ -202,14 +204,7 @@ fn put_carried(c: &[u8], bits: bool, buf: &mut [u8], to: usize) -> usize
     if c.len() < one {
         return to;
     }
-    let d = &c[one..];
-    if !holds(buf, to, d.len()) {
-        return to;
-    }
-    let end = to + d.len();
-    let part = &mut buf[to..end];
-    copy(d, part);
-    end
+    ber::put(&c[one..], buf, to)
 }
 
 // Joins segments that were read before: what they carry, without the numbers of unused bits, stands at `to` in the buffer. The contents m
@@ -227,14 +222,7 @@ pub fn join(m: &[u8], bits: bool, buf: &mut [u8], to: usize) -> Joined
     while at < m.len() {
         let first = m[at];
         if first == 0 {
-            if m.len() - at < 2 {
-                return Joined {
-                    end: m.len(),
-                    next,
-                    unused,
-                };
-            }
-            at += 2;
+            at = m.len().min(at + 2);
             open -= 1;
             if open == 0 {
                 return Joined {
@@ -243,27 +231,20 @@ pub fn join(m: &[u8], bits: bool, buf: &mut [u8], to: usize) -> Joined
                     unused,
                 };
             }
-        } else {
-            let Ok(x) = length::read(m, at + 1) else {
-                return Joined {
-                    end: m.len(),
-                    next,
-                    unused,
-                };
-            };
-            let start = x.start;
-            let stop = x.end;
+        } else if let Ok(x) = length::read(m, at + 1) {
             if 32 <= first {
-                at = start;
+                at = x.start;
                 if x.indefinite {
                     open += 1;
                 }
             } else {
-                let c = &m[start..stop];
+                let c = &m[x.start..x.end];
                 next = put_carried(c, bits, buf, next);
                 unused = unused_in(c, bits);
-                at = stop;
+                at = x.end;
             }
+        } else {
+            at = m.len();
         }
     }
     Joined {
