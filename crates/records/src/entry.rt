@@ -18,7 +18,7 @@ pub const LACKING: u8 = 127;
 
 // The code of a record's first identifier, where its own part begins, its kind, how many of its tags are explicit, and whether its contents
 // are simple: octets, and no items.
-#[derive(Clone, Copy)]
+#[derive(Clone, Copy, Debug, PartialEq, Eq)]
 pub struct Entry {
     pub code: u32,
     pub own: u16,
@@ -27,6 +27,7 @@ pub struct Entry {
     pub simple: bool,
 }
 
+#[tactic(auto, unfolding(crate::specs::Entries::unpacked))]
 pub fn unpack(w: u64) -> Entry
     ensures { result ≡ unpacked w }
 {
@@ -40,6 +41,7 @@ pub fn unpack(w: u64) -> Entry
 }
 
 // The code alone.
+#[tactic(auto, unfolding(crate::specs::Entries::unpacked))]
 pub fn first(w: u64) -> u32
     ensures { result ≡ (unpacked w).code }
 {
@@ -54,6 +56,7 @@ pub fn whole(t: u16) -> u64
 }
 
 // How many tags it has.
+#[tactic(auto, unfolding(crate::specs::Entries::tag_count))]
 pub fn tag_count(e: Entry) -> usize
     ensures { (result ≡ tag_count e) × (result < 257) }
 {
@@ -70,16 +73,8 @@ pub fn tag_count(e: Entry) -> usize
 pub fn tag_place(e: Entry, j: usize) -> usize
     ensures { (result ≡ tag_place e j) × (result < 65536) }
 {
-    let n = tag_count(e);
-    let own = e.own as usize;
-    if n <= j {
-        return own;
-    }
-    let back = 3 * (n - j);
-    if own < back {
-        return 0;
-    }
-    own - back
+    let back = 3 * tag_count(e).saturating_sub(j);
+    (e.own as usize).saturating_sub(back)
 }
 
 // The code of its j-th tag; the explicit ones are constructed, the last one as its kind is.
@@ -91,17 +86,13 @@ pub fn tag_code(table: &[u8], e: Entry, j: usize) -> u32
     let p = tag_place(e, j);
     let class = octet(table, p);
     let n = two(table, p + 1);
-    let constructed = if j < e.explicit as usize {
-        true
-    } else {
-        !e.simple
-    };
+    let constructed = j < e.explicit as usize || !e.simple;
     code_of(class as u8, constructed, n as u16)
 }
 
 // The parts of a record that is not simple: its members, its alternatives, or the one type of its elements. The place of the first,
 // how many there are, and how far each is from the one before. A member's record number has 1 behind it if the member is optional.
-#[derive(Clone, Copy)]
+#[derive(Clone, Copy, Debug, PartialEq, Eq)]
 pub struct Span {
     pub first: usize,
     pub count: usize,
@@ -128,6 +119,7 @@ pub fn alternatives(table: &[u8], e: Entry) -> Span
 }
 
 // The parts of any; a message has none in the table.
+#[tactic(auto, unfolding(crate::specs::Entries::span_of))]
 pub fn parts(table: &[u8], e: Entry) -> Span
     ensures { result ≡ span_of table.now e.kind e.own }
 {
@@ -153,7 +145,7 @@ pub fn parts(table: &[u8], e: Entry) -> Span
     }
 }
 
-// The record number of the j-th part, whose place does not wrap; behind the table 0.
+// The record number of the j-th part, whose place does not wrap; 0 for a place after the table.
 pub fn part(table: &[u8], s: Span, j: usize) -> usize
     ensures { (s.first + s.step * j < 2 ^ 64 → result ≡ get_or table.now (s.first + s.step * j) 0)
         × (result < 256) }
@@ -165,10 +157,7 @@ pub fn part(table: &[u8], s: Span, j: usize) -> usize
 pub fn optional(table: &[u8], p: usize) -> bool
     ensures { result ≡ eqb (get_or table.now (p + 1) 0) 1 }
 {
-    if table.len() <= p {
-        return false;
-    }
-    octet(table, p + 1) == 1
+    octet(table, p.saturating_add(1)) == 1
 }
 
 // Whether an ENUMERATED whose numbers are all there lists a number.
@@ -177,23 +166,21 @@ pub fn lists(table: &[u8], e: Entry, z: i64) -> bool
         let n = get_or b e.own 0 in
         result ≡ (leb (e.own + 1 + 2 * n) (length b) && lists_number (numbers_at b (e.own + 1) n) z) }
 {
-    if z < 0 {
+    let Ok(k) = u64::try_from(z) else {
         return false;
-    }
+    };
     let own = e.own as usize;
-    let mut left = octet(table, own);
-    let mut at = own + 1;
-    if !holds(table, at, 2 * left) {
+    let n = octet(table, own);
+    let from = own + 1;
+    if !holds(table, from, 2 * n) {
         return false;
     }
-    let k = z as u64;
-    while 0 < left {
+    for i in 0..n {
+        let at = from + 2 * i;
         let second = at + 1;
         if table[at] as u64 * 256 + table[second] as u64 == k {
             return true;
         }
-        at += 2;
-        left -= 1;
     }
     false
 }

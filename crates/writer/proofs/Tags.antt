@@ -117,10 +117,6 @@ module _ (b : List ℕ) (o : Octets b) (e : Entry) (K : Known b e) where
       let p : tag_place e j + 3 * (i - 1 - j) + 1 ≡ tag_place e (i - 1) + 1 = rw (place j (omega arith), place (i - 1) (omega arith), ← d) (omega arith) in
       q ∙ rw (m, framed_last, p, ← header_size (i - 1) l c k s ec es) refl
 
-  -- all tags
-  pub all_framed : (n : ℕ) → framed (tags_from b e 0) n ≡ framed (record_in b e).tags n
-  all_framed n = let m : tag_count e - 0 ≡ tag_count e = omega arith in rw m refl
-
   -- one tag of one octet, and a length of one octet
   module _ (n : ℕ) (S : Short e n) where
     code_is : (m : ℕ) → tag_count e ≡ m → e.code ≡ outermost_code (tags_at b (e.own - 3 * m) m) (record_in b e).body
@@ -178,11 +174,6 @@ pub record Heads (b : List ℕ) (e : Entry) (k : ℕ) (first : List ℕ) (to : �
       e i) k)
   pub target : sets first to (heads (constructed (record_in b e).body) (record_in b e).tags k) ≡ sets buf at (heads (constructed (record_in b e).body)
       (tags_from b e i) k)
-
-pub heads_none : (b : List ℕ) (e : Entry) (k : ℕ) (first : List ℕ) (to : ℕ) → Heads b e k first to first 0 to
-heads_none b e k first to =
-    let m : tag_count e - 0 ≡ tag_count e = omega arith in
-    record { long = rw m refl; target = rw m refl }
 
 module _ (b : List ℕ) (o : Octets b) (e : Entry) (K : Known b e) (k : ℕ) (first : List ℕ) (to : ℕ) (buf : List ℕ) (i at : ℕ) (S : Heads b e k first to buf i at)
     (room : to + length (heads (constructed (record_in b e).body) (record_in b e).tags k) ≤ length buf) where
