@@ -59,6 +59,10 @@ pub record Node (b index v : List ℕ) (t at : ℕ) : Type 0 where
   pub marked : IsMarked v at
   pub constructed : constructed_of (get_or v (at + 2) 0) ≡ true
 
+pub at_node : {b index v : List ℕ} {t at : ℕ} → Ready b index v → t < count_in b → IsMarked v at → constructed_of (get_or v (at + 2) 0) ≡ true → Octets b
+    → Node b index v t at
+at_node r h m k o = record { octets = o; ready = r; there = h; marked = m; constructed = k }
+
 module _ {b index v : List ℕ} {t at : ℕ} (N : Node b index v t at) (n : ℕ) where
   abbrev T : Table
   T = table_in b

@@ -2,7 +2,7 @@
 -- Assumes nothing.
 use mathlib.Core.Bool.{Bool, true, false, not}
 use mathlib.Core.List.{List, ◌∷◌}
-use mathlib.Core.Path.{◌≡◌, refl, sym, ap, ◌∙◌}
+use mathlib.Core.Path.{◌≡◌, sym, ap, ◌∙◌}
 use Prim.Native.Nat.{ℕ, ◌+◌, ◌-◌, ◌≤◌, ◌<◌}
 use native.Mathlib.Omega.{arith}
 use borrow.Author.Tests.{not-true, not-false}
@@ -199,6 +199,16 @@ pub record Fronted {b index v notes : List ℕ} {e : Entry} {p to : ℕ} {first 
   pub nexts : next ≡ m.next + length (heads (constructed (record_in b m.x).body) (record_in b m.x).tags size)
   pub bufs : buf ≡ sets m.buf m.next (heads (constructed (record_in b m.x).body) (record_in b m.x).tags size)
   pub same : length buf ≡ length m.buf
+
+-- as the code finds it: w is the entry of whose tags they are
+abbrev pub fronted : {b index v notes : List ℕ} {e w : Entry} {p to : ℕ} {first : List ℕ} {X : Puts b index v notes e p to first} (m : Member X) (size : ℕ)
+    → Sized m size → m.x ≡ w → (next : ℕ) (buf : List ℕ)
+    → next ≡ m.next + length (heads (constructed (record_in b w).body) (record_in b w).tags size)
+    → buf ≡ sets m.buf m.next (heads (constructed (record_in b w).body) (record_in b w).tags size)
+    → length buf ≡ length m.buf
+    → Fronted m
+fronted m size z ew next buf en eb s =
+    record { size = size; sized = z; next = next; buf = buf; nexts = rw (← ew) at en; bufs = rw (← ew) at eb; same = s }
 
 module _ {b index v notes : List ℕ} {e : Entry} {p to : ℕ} {first : List ℕ} {X : Puts b index v notes e p to first} {m : Member X} (q : Fronted m) where
   next_is : q.next ≡ m.next + length (heads (constructed (table_in b m.t).body) (table_in b m.t).tags q.size)

@@ -26,8 +26,7 @@ pub fn marked(v: &[u8], at: usize) -> bool
     if v[at] != 0x56 {
         return false;
     }
-    let second = at + 1;
-    v[second] == 0x41
+    v[at + 1] == 0x41
 }
 
 // Whether each octet is 0 or 1.

@@ -5,7 +5,7 @@ use Rattle.std.proofs.lemmas.Result.{err_from_is_err_and}
 use borrow.Author.Tests.{not-true}
 use Rattle.records.specs.Entries.{unpacked}
 use Rattle.writer.proofs.Judging.{told_small}
-use Rattle.writer.proofs.Built.{Node, own_none, own_some, built_shape, built_level, built_known, built_ill, built_stands, built_refused, built_done}
+use Rattle.writer.proofs.Built.{at_node, own_none, own_some, built_shape, built_level, built_known, built_ill, built_stands, built_refused, built_done}
 use Rattle.writer.proofs.Members.{members_begin, members_end_lem, members_pass, none_below, member, member_unmarked, member_refused, member_fit, member_small}
 use Rattle.writer.proofs.Members.{Said, member_done, entry_known, entry_simple, leaf_said}
 use Rattle.writer.proofs.judge.+judge_built_judge_members.Goals as goal
@@ -15,16 +15,14 @@ pub judge_built-returns-then-is_none : goal.judge_built-returns-then-is_none
 judge_built-returns-then-is_none t c =
     let a = c.args in
     let q = c.requires in
-    let N : Node a.table.now a.index.now a.v.now a.t a.at =
-    record { octets = λ k. omega (arith, c.type_inv.table k); ready = q.0; there = q.1; marked = q.2; constructed = q.3 } in
+    let N = at_node q.0 q.1 q.2 q.3 (λ k. omega (arith, c.type_inv.table k)) in
     rw c.unfit.ensures (built_shape N a.level (own_none _ _ _ c.own_end.ensures c.is_none.ensures c.if-is_none.true) a.notes.now)
 
 pub judge_built-returns-then-level-eq0 : goal.judge_built-returns-then-level-eq0
 judge_built-returns-then-level-eq0 t c =
     let a = c.args in
     let q = c.requires in
-    let N : Node a.table.now a.index.now a.v.now a.t a.at =
-    record { octets = λ k. omega (arith, c.type_inv.table k); ready = q.0; there = q.1; marked = q.2; constructed = q.3 } in
+    let N = at_node q.0 q.1 q.2 q.3 (λ k. omega (arith, c.type_inv.table k)) in
     let s = own_some _ _ _ c.own_end.ensures c.is_none.ensures c.if-is_none.false in
     rw c.unfit-then-level-eq0.ensures (built_level N a.level s c.if-level-eq0.true a.notes.now)
 
@@ -32,8 +30,7 @@ pub judge_built-agrees-requires : goal.judge_built-agrees-requires
 judge_built-agrees-requires t c =
     let a = c.args in
     let q = c.requires in
-    let N : Node a.table.now a.index.now a.v.now a.t a.at =
-    record { octets = λ k. omega (arith, c.type_inv.table k); ready = q.0; there = q.1; marked = q.2; constructed = q.3 } in
+    let N = at_node q.0 q.1 q.2 q.3 (λ k. omega (arith, c.type_inv.table k)) in
     let s = own_some _ _ _ c.own_end.ensures c.is_none.ensures c.if-is_none.false in
     (omega (arith, q.2.0, q.0.little), q.3, s, built_known N a.level s _ c.unpack.ensures)
 
@@ -41,8 +38,7 @@ pub judge_built-returns-then-not-agrees : goal.judge_built-returns-then-not-agre
 judge_built-returns-then-not-agrees t c =
     let a = c.args in
     let q = c.requires in
-    let N : Node a.table.now a.index.now a.v.now a.t a.at =
-    record { octets = λ k. omega (arith, c.type_inv.table k); ready = q.0; there = q.1; marked = q.2; constructed = q.3 } in
+    let N = at_node q.0 q.1 q.2 q.3 (λ k. omega (arith, c.type_inv.table k)) in
     let s = own_some _ _ _ c.own_end.ensures c.is_none.ensures c.if-is_none.false in
     rw c.unfit-then-not-agrees.ensures
     (built_ill N a.level s _ c.unpack.ensures c.if-level-eq0.false _ c.agrees.ensures c.if-not-agrees.true a.notes.now)
@@ -51,8 +47,7 @@ pub judge_built-judge_members-requires : goal.judge_built-judge_members-requires
 judge_built-judge_members-requires t c =
     let a = c.args in
     let q = c.requires in
-    let N : Node a.table.now a.index.now a.v.now a.t a.at =
-    record { octets = λ k. omega (arith, c.type_inv.table k); ready = q.0; there = q.1; marked = q.2; constructed = q.3 } in
+    let N = at_node q.0 q.1 q.2 q.3 (λ k. omega (arith, c.type_inv.table k)) in
     let s = own_some _ _ _ c.own_end.ensures c.is_none.ensures c.if-is_none.false in (
       omega (arith, c.decreases, c.if-level-eq0.false),
       (
@@ -66,8 +61,7 @@ pub judge_built-returns-in_err-judged : goal.judge_built-returns-in_err-judged
 judge_built-returns-in_err-judged t c =
     let a = c.args in
     let q = c.requires in
-    let N : Node a.table.now a.index.now a.v.now a.t a.at =
-    record { octets = λ k. omega (arith, c.type_inv.table k); ready = q.0; there = q.1; marked = q.2; constructed = q.3 } in
+    let N = at_node q.0 q.1 q.2 q.3 (λ k. omega (arith, c.type_inv.table k)) in
     let s = own_some _ _ _ c.own_end.ensures c.is_none.ensures c.if-is_none.false in
     let p = err_from_is_err_and c.from_residual.result c.from_residual.ensures.1 in
     rw (p.1, p.2)
@@ -85,8 +79,7 @@ judge_built-returns t c =
     let a = c.args in
     let q = c.requires in
     let d = c.in_ok-judged.judged in
-    let N : Node a.table.now a.index.now a.v.now a.t a.at =
-    record { octets = λ k. omega (arith, c.type_inv.table k); ready = q.0; there = q.1; marked = q.2; constructed = q.3 } in
+    let N = at_node q.0 q.1 q.2 q.3 (λ k. omega (arith, c.type_inv.table k)) in
     let s = own_some _ _ _ c.own_end.ensures c.is_none.ensures c.if-is_none.false in
     built_done N a.level s (unpacked (get_or a.index.now a.t 0)) refl c.if-level-eq0.false _ (rw c.unpack.ensures at c.agrees.ensures) c.if-not-agrees.false _
     a.notes.now _ c.judge_members.ensures d.end d.size c.in_ok-judged.was q.4

@@ -6,7 +6,7 @@ use Rattle.writer.specs.Putting.{Puts}
 use Rattle.writer.proofs.Standing.{start_past}
 use Rattle.writer.proofs.Members.{none_below}
 use Rattle.writer.proofs.Placing.{Still, put_begin, put_end_lem, put_pass, member, put_known, put_near, put_own, put_simple}
-use Rattle.writer.proofs.Placing.{Sized, sized_leaf, sized_built, put_capped, put_front, Fronted, put_room, put_leaf, put_under, put_built}
+use Rattle.writer.proofs.Placing.{Sized, sized_leaf, sized_built, put_capped, put_front, fronted, put_room, put_leaf, put_under, put_built}
 use Rattle.writer.proofs.put.+put_members.Goals as goal
 use Rattle.writer.proofs.put.+put_members.Goals.{then-r, else-r, then-r-2, else-r-2}
 
@@ -69,16 +69,7 @@ put-at-requires t c =
       | then-r w ↦ sized_leaf m w.if-r.true _ _ w.size-size.ensures.0 w.size-is
       | else-r w ↦ sized_built m w.if-r.false _ w.size-is
     ] in
-    let q : Fronted m =
-    record {
-      size = c.if-r.size;
-      sized = z;
-      next = c.put-next.result;
-      buf = c.put-next.new.buf;
-      nexts = rw (← c.unpack-r.ensures) at c.put-next.ensures.0;
-      bufs = rw (← c.unpack-r.ensures) at c.put-next.ensures.1;
-      same = c.put-next.auto.buf;
-    } in
+    let q = fronted m c.if-r.size z c.unpack-r.ensures c.put-next.result c.put-next.new.buf c.put-next.ensures.0 c.put-next.ensures.1 c.put-next.auto.buf in
     let r = put_room q c.if-r-2.true in
     ((put_near m).1, put_simple m c.if-r-2.true, put_own m, r.0, r.1)
 
@@ -93,16 +84,7 @@ overflow_add-next t c =
       | then-r w ↦ sized_leaf m w.if-r.true _ _ w.size-size.ensures.0 w.size-is
       | else-r w ↦ sized_built m w.if-r.false _ w.size-is
     ] in
-    let q : Fronted m =
-    record {
-      size = c.if-r.size;
-      sized = z;
-      next = c.put-next.result;
-      buf = c.put-next.new.buf;
-      nexts = rw (← c.unpack-r.ensures) at c.put-next.ensures.0;
-      bufs = rw (← c.unpack-r.ensures) at c.put-next.ensures.1;
-      same = c.put-next.auto.buf;
-    } in
+    let q = fronted m c.if-r.size z c.unpack-r.ensures c.put-next.result c.put-next.new.buf c.put-next.ensures.0 c.put-next.ensures.1 c.put-next.auto.buf in
     omega (arith, (put_room q c.if-r-2.true).1, c.put-next.auto.buf, c.loop-i.auto.buf, c.well_formed)
 
 pub put_members-y-requires : goal.put_members-y-requires
@@ -116,16 +98,7 @@ put_members-y-requires t c =
       | then-r w ↦ sized_leaf m w.if-r.true _ _ w.size-size.ensures.0 w.size-is
       | else-r w ↦ sized_built m w.if-r.false _ w.size-is
     ] in
-    let q : Fronted m =
-    record {
-      size = c.if-r.size;
-      sized = z;
-      next = c.put-next.result;
-      buf = c.put-next.new.buf;
-      nexts = rw (← c.unpack-r.ensures) at c.put-next.ensures.0;
-      bufs = rw (← c.unpack-r.ensures) at c.put-next.ensures.1;
-      same = c.put-next.auto.buf;
-    } in (
+    let q = fronted m c.if-r.size z c.unpack-r.ensures c.put-next.result c.put-next.new.buf c.put-next.ensures.0 c.put-next.ensures.1 c.put-next.auto.buf in (
       omega (arith, (put_near m).0, c.loop-i.invariant.onward, c.decreases),
       rw (← c.unpack-r.ensures) (put_under q (λ k. omega (arith, c.type_inv.table k)) c.if-r-2.false),
     )
@@ -144,16 +117,7 @@ loop-i-preserved t c =
       | then-r w ↦ sized_leaf m w.if-r.true _ _ w.size-size.ensures.0 w.size-is
       | else-r w ↦ sized_built m w.if-r.false _ w.size-is
     ] in
-    let q : Fronted m =
-    record {
-      size = c.if-r.size;
-      sized = z;
-      next = c.put-next.result;
-      buf = c.put-next.new.buf;
-      nexts = rw (← c.unpack-r.ensures) at c.put-next.ensures.0;
-      bufs = rw (← c.unpack-r.ensures) at c.put-next.ensures.1;
-      same = c.put-next.auto.buf;
-    } in
+    let q = fronted m c.if-r.size z c.unpack-r.ensures c.put-next.result c.put-next.new.buf c.put-next.ensures.0 c.put-next.ensures.1 c.put-next.auto.buf in
     elim c.if-r-2.branch [
       | then-r-2 w ↦ rw (w.at-is, w.next-is, w.buf-is) (put_leaf q w.if-r-2.true _ _ w.put-at.ensures.0 w.put-at.ensures.1)
       | else-r-2 w ↦
