@@ -289,7 +289,7 @@ pub record Turn (Q : Setting) : Type 0 where
   pub y : Result (Option ℕ) ReadingCause
   pub stands : y ≡ standing (H Q) (since (manner (H Q)) j) came (end_of indefinite (length m) (drop at m))
 
-pub setting_of : {b index m way : List ℕ} {w level : ℕ} {e : Entry} {s : Span} → ToJudge b index w m level way → e ≡ unpacked w → s ≡ span_of b e.kind e.own
+abbrev pub setting_of : {b index m way : List ℕ} {w level : ℕ} {e : Entry} {s : Span} → ToJudge b index w m level way → e ≡ unpacked w → s ≡ span_of b e.kind e.own
     → Setting
 setting_of {b} {index} {w = w} {e = e} {s = s} q ee es =
     record { b = b; index = index; w = w; e = e; s = s; ready = q.ready; known = q.known; holds = q.holds; entry = ee; span = es }
@@ -437,9 +437,9 @@ pub record Comes {Q : Setting} (P : Turn Q) : Type 0 where
   pub ways : length way ≡ 128
 
 -- as the search found it
-pub comes_of : {Q : Setting} (P : Turn Q) → P.y ≡ Ok None → {r : Result Chosen ReadingCause} {x : Chosen} {way : List ℕ}
+pub comes_of : {Q : Setting} (P : Turn Q) → P.y ≡ Ok None → {r : Result Chosen ReadingCause} {x : Chosen} (way : List ℕ)
     → (length way ≡ 128) × Sought Q.b (H Q) (I P) P.came (rest_of P.m P.at) way r → r ≡ Ok x → Comes P
-comes_of P d {r} {x} {way} s e =
+comes_of P d {r} {x} way s e =
     record {
       item = d;
       way = way;

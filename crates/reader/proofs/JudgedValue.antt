@@ -1,5 +1,7 @@
 -- A value of a record in a message: under its explicit tags, its length, its contents, simple ones or items, and what stands behind them.
 -- Assumes nothing.
+use borrow.Author.Tests.{eqb-true, eqb-false}
+use lib.Dec.{eqb}
 use lib.ListN.{length, get_or, take, drop, length-drop}
 use lib.Seq.{drop-drop}
 use mathlib.Core.Bool.{Bool, true, false, not, false≢true}
@@ -19,6 +21,7 @@ use Rattle.x690.specs.Reading.{closed, read_length}
 use Rattle.x690.specs.Segments.{in_either}
 use Rattle.octets.specs.Numbers.{unless_zero}
 use Rattle.ber.specs.Told.{told_length}
+use Rattle.ber.specs.declared.length.Extent.{Extent}
 use Rattle.ber.proofs.Told.{length_refused}
 use Rattle.table.specs.Syntax.{Simple, Boolean, Integer, BitString, OctetString, Null, Enumerated, Time, Body, Plain}
 use Rattle.table.specs.Syntax.{Record, Table}
@@ -38,6 +41,7 @@ use Rattle.reader.specs.Leaves.{is_in_segments, read_leaf, read_leaf_in, leaf_si
 use Rattle.reader.specs.Weights.{size_by}
 use Rattle.reader.specs.Wraps.{closing, Around, read_bare, Opens}
 use Rattle.reader.specs.declared.answer.Judged.{Judged}
+use Rattle.reader.specs.declared.tags.Inner.{Inner}
 use Rattle.reader.proofs.ItemsKinds.{message_whole}
 use Rattle.reader.proofs.Bodies.{record_of, its_body, its_kind}
 use Rattle.reader.proofs.LeafReading.{leaf_end, leaf_shift}
