@@ -294,7 +294,7 @@ abbrev pub setting_of : {b index m way : List ℕ} {w level : ℕ} {e : Entry} {
 setting_of {b} {index} {w = w} {e = e} {s = s} q ee es =
     record { b = b; index = index; w = w; e = e; s = s; ready = q.ready; known = q.known; holds = q.holds; entry = ee; span = es }
 
-pub turn_of : {b index m way : List ℕ} {w level : ℕ} {e : Entry} {s : Span} (q : ToJudge b index w m level way) (ee : e ≡ unpacked w) (es : s ≡ span_of b e.kind e.own)
+abbrev pub turn_of : {b index m way : List ℕ} {w level : ℕ} {e : Entry} {s : Span} (q : ToJudge b index w m level way) (ee : e ≡ unpacked w) (es : s ≡ span_of b e.kind e.own)
     → {indefinite : Bool} {came : List ℕ} {total at j : ℕ} {y : Result (Option ℕ) ReadingCause} → Octets m → at ≤ length m
     → Judging b w m indefinite level came total at j → y ≡ standing (held b w) (since (manner (held b w)) j) came (end_of indefinite (length m) (drop at m))
     → Turn (setting_of q ee es)
@@ -437,7 +437,7 @@ pub record Comes {Q : Setting} (P : Turn Q) : Type 0 where
   pub ways : length way ≡ 128
 
 -- as the search found it
-pub comes_of : {Q : Setting} (P : Turn Q) → P.y ≡ Ok None → {r : Result Chosen ReadingCause} {x : Chosen} (way : List ℕ)
+abbrev pub comes_of : {Q : Setting} (P : Turn Q) → P.y ≡ Ok None → {r : Result Chosen ReadingCause} {x : Chosen} (way : List ℕ)
     → (length way ≡ 128) × Sought Q.b (H Q) (I P) P.came (rest_of P.m P.at) way r → r ≡ Ok x → Comes P
 comes_of P d {r} {x} way s e =
     record {

@@ -29,7 +29,7 @@ returns-in-Err c =
     let l = c.loop-j.invariant in (
       l.four,
       open_unread _ _ (its_fit q.1 q.2) _ (λ i. omega (arith, c.type_inv.m i)) _ _ _ _ _ _ l.«open»
-      (tag_left q.1 q.2 c.unpack-e.ensures c.loop-j-test.true) _ c.read.ensures.0 _ c.in-Err.is c.loop-j.notes,
+          (tag_left q.1 q.2 c.unpack-e.ensures c.loop-j-test.true) _ c.read.ensures.0 _ c.in-Err.is c.loop-j.notes,
     )
 
 pub bounds-notes-j : goal.bounds-notes-j
@@ -80,7 +80,7 @@ returns-in-Err-enter c =
     let l = c.loop-j.invariant in (
       simp length-set l.four,
       open_refused _ _ (its_fit q.1 q.2) _ (λ i. omega (arith, c.type_inv.m i)) _ _ _ _ _ _ l.«open»
-      (tag_left q.1 q.2 c.unpack-e.ensures c.loop-j-test.true) _ c.read.ensures.0 _ c.in-Ok.is _ c.enter.ensures _ c.in-Err-enter.is c.loop-j.notes,
+          (tag_left q.1 q.2 c.unpack-e.ensures c.loop-j-test.true) _ c.read.ensures.0 _ c.in-Ok.is _ c.enter.ensures _ c.in-Err-enter.is c.loop-j.notes,
     )
 
 pub loop-j-preserved : goal.loop-j-preserved
@@ -99,5 +99,5 @@ returns c =
     let q = c.requires in (
       c.loop-j.invariant.four,
       open_done _ _ (its_fit q.1 q.2) _ (λ i. omega (arith, c.type_inv.m i)) _ _ _ _ _ _ c.loop-j.invariant.«open» _
-      (its_count q.1 q.2) (omega (arith, its_count q.1 q.2, q.3)) (rw c.unpack-e.ensures at c.loop-j-test.false),
+          (its_count q.1 q.2) (omega (arith, its_count q.1 q.2, q.3)) (rw c.unpack-e.ensures at c.loop-j-test.false),
     )
