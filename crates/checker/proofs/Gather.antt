@@ -19,11 +19,11 @@ use Rattle.table.specs.Reading.{every_at, table_in, count_in}
 use Rattle.table.specs.Walk.{like, free, at, under, Walks, done, seen, down, Named}
 use Rattle.table.proofs.Loops.{every_step}
 use Rattle.table.proofs.Nodes.{like_low}
-use Rattle.records.specs.Entries.{unpacked, untagged, counted, Near, Filled}
+use Rattle.records.specs.Entries.{unpacked, untagged, counted, Filled}
 use Rattle.records.specs.declared.entry.Entry.{Entry}
 use Rattle.records.specs.declared.entry.Span.{Span}
 use Rattle.checker.specs.Gathering.{Met, Gathered, GatheredUnder, Gathers, StandIns}
-use Rattle.checker.proofs.Rules.{near_counted, entered_below, entry_at}
+use Rattle.checker.proofs.Rules.{entered_below, entry_at}
 use Rattle.checker.proofs.Alike.{code_none}
 use Rattle.table.proofs.Walk.{walks_append, Kept, kept, newly, keeps, stays, one_fewer}
 
@@ -162,10 +162,6 @@ module _ {b index nodes v : List ℕ} {t : ℕ} (x : Gathers b index nodes v t) 
   put_gathers = gathers_at t (length-set v (get_or nodes t 0) (get_or v 128 0) ∙ x.marks) x.there
 
   module _ {e : Entry} (d : e ≡ unpacked (get_or index t 0)) {s : Span} (q : s ≡ counted b e.own 1) (o : Octets b) where
-    pub alternatives_near : Near s
-    unfolding unpacked
-    alternatives_near = rw q (near_counted b e.own 1 o (rw d (omega arith)) (omega arith))
-
     pub alternatives_below : (unpacked (get_or index t 0)).code ≡ untagged → below (table_in b) t ≡ every_at 1 b s.first s.count
     alternatives_below c =
         let y = entry_at x.filled t x.there d in

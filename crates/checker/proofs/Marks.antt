@@ -1,6 +1,6 @@
--- Laws on the marking of records that have a finite value: the loop over members, what is found one after another, and what the marks tell at the end.
+-- Laws on the marking of records that have a finite value: what is found one after another, and what the marks tell at the end.
 -- Assumes nothing.
-use mathlib.Core.Bool.{Bool, true, false, not, ◌||◌, or-true, false≢true}
+use mathlib.Core.Bool.{Bool, true, false, not, false≢true}
 use mathlib.Core.List.{List, [], ◌∷◌}
 use mathlib.Core.Logic.{◌⊎◌, inl, inr, ⊎_elim}
 use mathlib.Core.Path.{◌≡◌, refl, sym, ◌∙◌}
@@ -9,14 +9,12 @@ use native.Mathlib.Omega.{arith}
 use lib.Dec.{eqb}
 use lib.ListN.{length, get_or, set, length-set, get_or-eq_default}
 use lib.Seq.{get_or-set_other}
-use borrow.Author.Tests.{eqb-true, eqb-false, ne_eqb, not-false}
+use borrow.Author.Tests.{eqb-true, eqb-false, ne_eqb}
 use Rattle.octets.proofs.Tests.{test}
-use Rattle.octets.specs.Lists.{all, lowest}
-use Rattle.octets.proofs.Search.{upto}
+use Rattle.octets.specs.Lists.{lowest}
 use Rattle.octets.proofs.Members.{not_both, if_not_true}
-use Rattle.table.specs.Syntax.{Member, Table, absent}
+use Rattle.table.specs.Syntax.{Table, absent}
 use Rattle.table.specs.Rules.{Finite}
-use Rattle.table.specs.Reading.{members_at}
 use Rattle.table.specs.Decide.{found, finite_body, finite_step, infinite}
 use Rattle.table.specs.Walk.{free}
 use Rattle.checker.specs.Marks.{is_flagged, Raised, same, one_more, Closed, Looked}
@@ -26,28 +24,6 @@ use Rattle.table.proofs.Decided.{body_finite, closed_finite, finite_sound, finit
 pub flagged_beyond : (v : List ℕ) (t : ℕ) → length v ≤ t → is_flagged v t ≡ false
 unfolding is_flagged
 flagged_beyond v t h = rw (get_or-eq_default v 0 {n = t} h)
-
--- each member is optional or marked
-abbrev pub present : (ℕ → Bool) → List Member → Bool
-present m = all (λ x. x.optional || m x.type)
-
--- the members from p on, one after another
-module _ (m : ℕ → Bool) (b : List ℕ) (p n : ℕ) (w : Bool) where
-  pub present_stops : present m (members_at b p n) ≡ w → 0 < n → eqb (get_or b (p + 1) 0) 1 ≡ false → m (get_or b p 0) ≡ false → false ≡ w
-  unfolding all members_at
-  present_stops e h o t = let q : n ≡ suc (n - 1) = omega arith in rw (q, o, t) at e
-
-  pub present_optional : present m (members_at b p n) ≡ w → 0 < n → eqb (get_or b (p + 1) 0) 1 ≡ true → present m (members_at b (p + 2) (n - 1)) ≡ w
-  unfolding all members_at
-  present_optional e h o = let q : n ≡ suc (n - 1) = omega arith in rw (q, o) at e
-
-  pub present_flagged : present m (members_at b p n) ≡ w → 0 < n → m (get_or b p 0) ≡ true → present m (members_at b (p + 2) (n - 1)) ≡ w
-  unfolding all members_at
-  present_flagged e h t = let q : n ≡ suc (n - 1) = omega arith in rw (q, t, or-true) at e
-
-  pub present_ends : present m (members_at b p n) ≡ w → n ≤ 0 → true ≡ w
-  unfolding all members_at
-  present_ends e h = let q : n ≡ 0 = omega arith in rw q at e
 
 -- a record that is marked is one fewer that is free
 one_fewer : (v : List ℕ) (t : ℕ) → t < length v → get_or v t 0 ≡ 0 → free (set v t 1) + 1 ≡ free v
@@ -77,12 +53,9 @@ module _ (T : Table) where
   raised_size same = refl
   raised_size (one_more {v} t e r) = raised_size r ∙ length-set v t 1
 
-  -- none was looked at, and all were
+  -- none was looked at
   pub looked_none : (n : ℕ) (v : List ℕ) → Looked T (From n n) v false v
   looked_none n v = record { raised = same; idle = λ q. refl; none = λ q u h. absurd (omega (arith, h.0, h.1)); fewer = λ q. absurd (false≢true q) }
-
-  pub looked_all : (t n : ℕ) {v w : List ℕ} {r : Bool} → t ≤ 0 → Looked T (From t n) v r w → Looked T (λ u. u < n) v r w
-  looked_all t n h a = record { raised = a.raised; idle = a.idle; none = λ q u l. a.none q u (omega arith, l); fewer = a.fewer }
 
   module _ (t n : ℕ) (v w : List ℕ) (r : Bool) (a : Looked T (From t n) v r w) where
     -- the record before them has a mark, or is not found, or is marked
@@ -139,9 +112,3 @@ module _ (T : Table) (n : ℕ) (beyond : (t : ℕ) → n ≤ t → T t ≡ absen
   lowest_closed c =
       lowest_same (λ t. not (is_flagged w t)) (infinite T n) n (λ t h.
       test (is_flagged w t) (λ e. rw (e, flagged_finite t e)) λ e. rw (e, unflagged_infinite c t e))
-
-  -- each is marked
-  pub lowest_full : lowest (λ t. not (is_flagged w t)) n ≡ n → lowest (λ t. not (is_flagged w t)) n ≡ lowest (infinite T n) n
-  lowest_full f =
-      lowest_same (λ t. not (is_flagged w t)) (infinite T n) n (λ t h.
-      let e = not-false (is_flagged w t) (upto (λ u. not (is_flagged w u)) n f t h) in rw (e, flagged_finite t e))

@@ -1,7 +1,7 @@
 -- What a chain over places or over record numbers answers, as the definitions say it.
 -- Assumes nothing.
 use mathlib.Core.Bool.{Bool, true, false, ◌&&◌, ◌||◌, true≢false}
-use mathlib.Core.List.{List, []}
+use mathlib.Core.List.{List}
 use mathlib.Core.Path.{◌≡◌, refl, sym, ap, ◌∙◌}
 use Prim.Native.Nat.{ℕ, zero, suc, ◌+◌, ◌*◌, ◌≤◌, ◌<◌}
 use native.Mathlib.Nat.{one-mul}
@@ -112,10 +112,3 @@ zero_is {n} e = test (eqb n 0) (λ t. eqb-true n 0 t) λ t. let z = rw t at e in
 
 pub end_is : {n k : ℕ} → ◌≡◌ {A = Option ℕ} (Some k) (unless_zero n) → (k ≡ n) × (n ≡ 0 → ⊥)
 end_is {n} {k} e = test (eqb n 0) (λ t. let z = rw t at e in absurd (cc)) λ t. let z = rw t at e in (cc, eqb-false n 0 t)
-
--- what an answer says of a number that is found below n
-pub below_is : {n k p : ℕ} → ◌≡◌ {A = Option ℕ} (Some k) (if_below n p) → (k ≡ p) × (p < n)
-below_is {n} {k} {p} e = test (ltb p n) (λ t. let z = rw t at e in (cc, ltb-true p n t)) λ t. let z = rw t at e in absurd (cc)
-
-pub none_below : {n p : ℕ} → ◌≡◌ {A = Option ℕ} None (if_below n p) → n ≤ p
-none_below {n} {p} e = test (ltb p n) (λ t. let z = rw t at e in absurd (cc)) λ t. ltb-false p n t

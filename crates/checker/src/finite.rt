@@ -1,5 +1,5 @@
 // 6: a record with no finite value (FORMATS, "Tables" and "Refusals").
-ghost use Rattle.std.specs.Prelude.{◌≡◌, ◌||◌, ◌<◌, length};
+ghost use Rattle.std.specs.Prelude.{◌≡◌, ◌||◌, ◌<◌};
 ghost use Rattle.octets.specs.Lists.{any, all, lowest};
 ghost use Rattle.octets.specs.Numbers.{if_below};
 ghost use Rattle.table.specs.Syntax.{Record};
@@ -15,18 +15,14 @@ use records::entry::{Entry, Span, alternatives, optional, parts, unpack};
 // Whether record t is flagged; a number that is not there is not.
 #[tactic(auto, using(crate::proofs::Marks::flagged_beyond), unfolding(crate::specs::Marks::is_flagged))]
 fn flagged(flags: &[u8; 128], t: usize) -> bool
-    requires { length flags.now ≡ 128 }
     ensures { result ≡ is_flagged flags.now t }
 {
-    if t < 128 {
-        return flags[t] != 0;
-    }
-    false
+    t < 128 && flags[t] != 0
 }
 
 // Whether each member is optional or flagged.
 fn each_flagged(table: &[u8], flags: &[u8; 128], s: Span) -> bool
-    requires { Near s × (length flags.now ≡ 128) }
+    requires { Near s }
     ensures { result ≡ all (λ m. m.optional || is_flagged flags.now m.type) (members_at table.now s.first s.count) }
 {
     (0..s.count).all(|k| {
@@ -37,7 +33,7 @@ fn each_flagged(table: &[u8], flags: &[u8; 128], s: Span) -> bool
 
 // Whether one of the alternatives is flagged.
 fn one_flagged(table: &[u8], flags: &[u8; 128], s: Span) -> bool
-    requires { Near s × (length flags.now ≡ 128) }
+    requires { Near s }
     ensures { result ≡ any (is_flagged flags.now) (every_at 1 table.now s.first s.count) }
 {
     (0..s.count).any(|k| flagged(flags, octet(table, s.first + k)))
@@ -45,7 +41,6 @@ fn one_flagged(table: &[u8], flags: &[u8; 128], s: Span) -> bool
 
 // Whether a record has a finite value, if the flagged ones have.
 fn found(table: &[u8], flags: &[u8; 128], e: Entry) -> bool
-    requires { length flags.now ≡ 128 }
     ensures { (x : Record) → Entered table.now e x → result ≡ finite_body (is_flagged flags.now) x.body }
 {
     if e.simple {
@@ -62,7 +57,7 @@ fn found(table: &[u8], flags: &[u8; 128], e: Entry) -> bool
 
 // Marks what is found of the n records, the last first; true if any was.
 fn round(table: &[u8], index: &[u64; 128], flags: &mut [u8; 128], n: usize) -> bool
-    requires { Filled table.now index.now n × (length flags.old ≡ 128) }
+    requires { Filled table.now index.now n }
     ensures { Looked (table_in table.now) (λ u. u < n) flags.old result flags.new }
 {
     let mut more = false;

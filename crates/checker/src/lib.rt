@@ -21,7 +21,7 @@ use table::{CheckCause, Flaw};
 const LONGEST_TABLE: usize = 8192;
 
 // The verdict on a table, and how many records it has.
-#[derive(Clone, Copy)]
+#[derive(Clone, Copy, Debug, PartialEq, Eq)]
 pub struct Counted {
     pub verdict: Result<(), Flaw>,
     pub count: usize,

@@ -12,24 +12,12 @@ use kinds::{CHOICE, universal};
 use octets::{octet, two};
 use records::entry::{Entry, LACKING, tag_place, unpack};
 
-// Whether one of the n tags from p on is UNIVERSAL.
-fn any_universal(table: &[u8], p: usize, n: usize) -> bool
-    requires { (p < 65536) × (n < 256) }
-    ensures { result ≡ any (λ x. eqb x 0) (every_at 3 table.now p n) }
-{
-    (0..n).any(|k| octet(table, p + 3 * k) == 0)
-}
-
-// Whether one of the explicit tags is; most records have none.
-#[tactic(auto, unfolding(octets::specs::Lists::any, table::specs::Reading::every_at))]
+// Whether one of the explicit tags is UNIVERSAL.
 fn explicit_universal(table: &[u8], e: Entry) -> bool
     ensures { result ≡ any (λ x. eqb x 0) (every_at 3 table.now (tag_place e 0) e.explicit) }
 {
-    let n = e.explicit as usize;
-    if n == 0 {
-        return false;
-    }
-    any_universal(table, tag_place(e, 0), n)
+    let p = tag_place(e, 0);
+    (0..e.explicit as usize).any(|k| octet(table, p + 3 * k) == 0)
 }
 
 // Whether the tag at p is a UNIVERSAL one that its kind does not bear.
