@@ -262,9 +262,6 @@ module _ {b index : List ℕ} {w : ℕ} {m : List ℕ} {first level : ℕ} (Y : 
             its (got a t) r x s e = let p : a ≡ x = cc in let q : t ≡ s = cc in rw (← p, ← q) r
             its (refused c l) r x s e = refused≢got e
 
-        pub leaf_high : Y.start + u ≤ 8192
-        leaf_high = omega (arith, over_leaf.within, Y.item.under.high, Y.item.short)
-
   -- items
   module _ (plain : Y.item.entry.simple ≡ false) where
     few_left : (c : ReadingCause) (l : ℕ) (x : Answer ReadingCause Value) → Fine Y plain x → x ≡ refused c l → l ≤ length (C Y)
@@ -298,9 +295,6 @@ module _ {b index : List ℕ} {w : ℕ} {m : List ℕ} {first level : ℕ} (Y : 
               is = reads Y plain (got v s) x (rw x at (fine Y plain)) ∙ ap (λ (j : ℕ). got v (drop (Y.start + j) (P Y))) (sym f);
               sized = g;
             }
-
-        pub items_high : Y.start + u ≤ 8192
-        items_high = omega (arith, over_items.within, Y.item.under.high, Y.item.short)
 
 -- its end, where its contents are judged
 pub record Ended (b index : List ℕ) (w : ℕ) (m : List ℕ) (first level : ℕ) : Type 0 where

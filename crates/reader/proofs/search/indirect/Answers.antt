@@ -1,10 +1,10 @@
 -- `reader::search::indirect` meets its contract.
 -- Assumes nothing.
-use Rattle.std.proofs.Common.{◌≡◌, sym, ap, ◌∙◌, inl, inr, length, eq-eqb, arith}
+use Rattle.std.proofs.Common.{ap, ◌∙◌, inl, inr, length, eq-eqb, arith}
 use borrow.Author.Tests.{ne_eqb}
-use Rattle.reader.proofs.Searching.{parted, Counted, Candidate, near, few_parts, table_part, turn_part, typed_part, candidate, candidate_low}
+use Rattle.reader.proofs.Searching.{parted, Counted, near, few_parts, turn_part, typed_part, candidate, candidate_low}
 use Rattle.reader.proofs.Searching.{indirect_part, indirect_stop}
-use Rattle.reader.proofs.Searching.{indirect_optional, indirect_other, indirect_come, indirect_end, indirect_none}
+use Rattle.reader.proofs.Searching.{indirect_optional, indirect_other, indirect_come, indirect_end}
 use Rattle.reader.proofs.search.indirect.Goals as goal
 use Rattle.reader.proofs.search.indirect.Goals.{then-whole, else-whole, then-whole-2, else-whole-2}
 use Rattle.reader.proofs.search.indirect.Goals.{then-came-k-eq0+in_default+then-e-eq-SEQUENCE+else-not-optional, then-came-k-eq0+in_default+else-e-eq-SEQUENCE, else-came-k-eq0}

@@ -1,17 +1,8 @@
 -- `reader::tags::open` meets its contract.
 -- Assumes nothing.
-use Rattle.std.proofs.Common.{◌≡◌, List, ℕ, ◌+◌, ◌-◌, ◌<◌, ◌≤◌, Result, Ok, length, take, drop, true, length-set, arith}
-use Rattle.x690.specs.declared.ReadingCause.{ReadingCause}
-use Rattle.x690.specs.Reading.{read_length}
-use Rattle.octets.specs.Numbers.{Octets}
-use Rattle.ber.specs.Told.{told_length}
-use Rattle.ber.specs.declared.length.Extent.{Extent}
-use Rattle.records.specs.Entries.{unpacked}
-use Rattle.records.specs.declared.entry.Entry.{Entry}
-use Rattle.coding.specs.Tags.{explicit}
-use Rattle.reader.specs.Records.{Ready, record_in, IsRecord}
+use Rattle.std.proofs.Common.{length-set, arith}
 use Rattle.reader.proofs.Tagging.{its_fit}
-use Rattle.reader.proofs.Opening.{Opening, its_count, its_headed, its_few, open_none, open_unread, extent, open_refused, open_next}
+use Rattle.reader.proofs.Opening.{its_count, its_headed, its_few, open_none, open_unread, extent, open_refused, open_next}
 use Rattle.reader.proofs.Opening.{open_turn, open_done, tag_left}
 use Rattle.reader.proofs.tags.open.Goals as goal
 
