@@ -170,12 +170,6 @@ item_sought {m = m} {at = at} x low q =
       there = q.6.3;
     }
 
-pub item_same : {b : List ℕ} {h : Holder} {m : List ℕ} {at i : ℕ} {came way way₁ : List ℕ} {place number depth from place₁ number₁ depth₁ from₁ : ℕ}
-    → way ≡ way₁ → place ≡ place₁ → number ≡ number₁ → depth ≡ depth₁ → from ≡ from₁
-    → AtItem b h m at i came way₁ place₁ number₁ depth₁ from₁
-    → AtItem b h m at i came way place number depth from
-item_same e f g h k X = rw (e, f, g, h, k) X
-
 -- of the rest of m, as a callee sees it
 abbrev pub rest_of : List ℕ → ℕ → List ℕ
 rest_of m at = take (length m - at) (drop at m)

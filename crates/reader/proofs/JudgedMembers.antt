@@ -54,7 +54,6 @@ use Rattle.reader.proofs.ItemsWay.{wrapped_size}
 use Rattle.reader.proofs.ItemsFound.{AtItem, item_found, rest_of, item_level, item_value, item_headed}
 use Rattle.reader.proofs.Held.{held_some, held_kind, held_one, held_span, held_few, held_node, held_onward, onward_most}
 use Rattle.reader.proofs.PlacedTurns.{since_onward}
-use Rattle.reader.proofs.Searching.{Parted, type_low}
 use Rattle.reader.proofs.Spans.{Spanned}
 use Rattle.reader.proofs.Tagging.{its_record}
 use Rattle.reader.proofs.Told.{told_refused, told_done, tell_refused, tell_done}
@@ -289,12 +288,12 @@ pub record Turn (Q : Setting) : Type 0 where
   pub y : Result (Option ℕ) ReadingCause
   pub stands : y ≡ standing (H Q) (since (manner (H Q)) j) came (end_of indefinite (length m) (drop at m))
 
-pub setting_of : {b index m way : List ℕ} {w level : ℕ} {e : Entry} {s : Span} → ToJudge b index w m level way → e ≡ unpacked w → s ≡ span_of b e.kind e.own
+abbrev pub setting_of : {b index m way : List ℕ} {w level : ℕ} {e : Entry} {s : Span} → ToJudge b index w m level way → e ≡ unpacked w → s ≡ span_of b e.kind e.own
     → Setting
 setting_of {b} {index} {w = w} {e = e} {s = s} q ee es =
     record { b = b; index = index; w = w; e = e; s = s; ready = q.ready; known = q.known; holds = q.holds; entry = ee; span = es }
 
-pub turn_of : {b index m way : List ℕ} {w level : ℕ} {e : Entry} {s : Span} (q : ToJudge b index w m level way) (ee : e ≡ unpacked w) (es : s ≡ span_of b e.kind e.own)
+abbrev pub turn_of : {b index m way : List ℕ} {w level : ℕ} {e : Entry} {s : Span} (q : ToJudge b index w m level way) (ee : e ≡ unpacked w) (es : s ≡ span_of b e.kind e.own)
     → {indefinite : Bool} {came : List ℕ} {total at j : ℕ} {y : Result (Option ℕ) ReadingCause} → Octets m → at ≤ length m
     → Judging b w m indefinite level came total at j → y ≡ standing (held b w) (since (manner (held b w)) j) came (end_of indefinite (length m) (drop at m))
     → Turn (setting_of q ee es)
@@ -339,23 +338,6 @@ module _ {Q : Setting} (P : Turn Q) where
   total_few : P.total < 16386
   total_few = omega (arith, P.so_far.going.sized)
 
-  its_parted : Parted Q.b Q.index Q.w P.came Q.e Q.s
-  its_parted = record { sound = judging_sound Q P.so_far; entry = Q.entry; span = Q.span }
-
-  -- the part at hand
-  module _ (l : P.j < Q.s.count) where
-    pub part_few : P.j < 16
-    part_few = omega (arith, count_few Q)
-
-    pub part_near : Q.s.first + Q.s.step * P.j < 8192
-    part_near = (its_span Q).near P.j l
-
-    pub part_inside : Q.s.first + Q.s.step * P.j < length Q.b
-    part_inside = (its_span Q).inside P.j l
-
-    pub type_few : (t : ℕ) → t ≡ get_or Q.b (Q.s.first + Q.s.step * P.j) 0 → t < 128
-    type_few t et = omega (arith, type_low its_parted P.j l t et, Q.ready.filled.few)
-
   -- contents that are over
   pub judged_over : (u : ℕ) → P.y ≡ Ok (Some u) → judged u P.total ≡ told P.m size W
   judged_over u d =
@@ -393,11 +375,6 @@ module _ {Q : Setting} (P : Turn Q) where
     its_more : is_single (manner (H Q)) ≡ false → More (mode P.indefinite) Rest
     its_more n = λ A f z. (end_more {A = A} f z P.m P.at P.indefinite E refl (goes_on n)).0
 
-    pub item_there : P.at < length P.m
-    item_there =
-        test (is_single (manner (H Q))) (λ q. P.so_far.one q)
-        λ q. (end_more {A = ℕ} (λ z. got 0 z) (λ z. refused Cut 0) P.m P.at P.indefinite E refl (goes_on q)).1
-
     -- of no part that is awaited
     pub judged_unfit : (way : List ℕ) (c : ReadingCause) (r : Result Chosen ReadingCause) → Sought Q.b (H Q) I P.came (rest_of P.m P.at) way r → r ≡ Err c
         → unread c (length P.m - P.at) ≡ told P.m size W
@@ -417,14 +394,6 @@ module _ {Q : Setting} (P : Turn Q) where
             (going_unawaited W (T Q) R (H Q) (mode P.indefinite) P.m P.at I P.came P.total P.so_far.going n (its_more n) r q))
             λ r. rw (n, r) (going_full W (T Q) R (H Q) (mode P.indefinite) P.m P.at I P.came P.total P.so_far.going n (its_more n) r)
 
-    -- of a part that was sought
-    pub found_low : (way : List ℕ) (x : Chosen) (r : Result Chosen ReadingCause) → Sought Q.b (H Q) I P.came (rest_of P.m P.at) way r → r ≡ Ok x
-        → P.at + x.from ≤ 8192
-    found_low way x r q ex =
-        let F : AtItem Q.b (H Q) P.m P.at I P.came way x.place x.record x.depth (P.at + x.from) =
-        item_found r x P.low q ex in
-        omega (arith, F.low, P.short)
-
 -- an item of a part
 pub record Comes {Q : Setting} (P : Turn Q) : Type 0 where
   pub item : P.y ≡ Ok None
@@ -437,9 +406,9 @@ pub record Comes {Q : Setting} (P : Turn Q) : Type 0 where
   pub ways : length way ≡ 128
 
 -- as the search found it
-pub comes_of : {Q : Setting} (P : Turn Q) → P.y ≡ Ok None → {r : Result Chosen ReadingCause} {x : Chosen} {way : List ℕ}
+abbrev pub comes_of : {Q : Setting} (P : Turn Q) → P.y ≡ Ok None → {r : Result Chosen ReadingCause} {x : Chosen} (way : List ℕ)
     → (length way ≡ 128) × Sought Q.b (H Q) (I P) P.came (rest_of P.m P.at) way r → r ≡ Ok x → Comes P
-comes_of P d {r} {x} {way} s e =
+comes_of P d {r} {x} way s e =
     record {
       item = d;
       way = way;
@@ -469,9 +438,6 @@ module _ {Q : Setting} {P : Turn Q} (X : Comes P) where
 
   pub behind_few : X.place + Q.s.step / 2 ≤ 16
   behind_few = omega (arith, place_few, onward_is Q X.place, onward_most (kind_of (H Q)) X.place)
-
-  pub type_below : X.type < 128
-  type_below = omega (arith, X.is.there, Q.ready.filled.few)
 
   part_refused : (c : ReadingCause) (l : ℕ) → R P TypeOf (Rest P) ≡ refused c l → W P ≡ refused c l
   part_refused c l q =
@@ -523,9 +489,6 @@ module _ {Q : Setting} {P : Turn Q} {X : Comes P} (Y : Valued X) where
 
   is_said : Y.r ≡ told P.m size Below
   is_said = Y.said ∙ ap (told P.m size) record_value
-
-  pub depth_few : X.depth < 24
-  depth_few = omega (arith, Y.deep, P.levels)
 
   -- and refused
   pub judged_refused : (c : ReadingCause) (l : ℕ) → Y.r ≡ unread c l → unread c l ≡ told P.m size (W P)

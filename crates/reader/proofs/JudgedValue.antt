@@ -1,5 +1,7 @@
 -- A value of a record in a message: under its explicit tags, its length, its contents, simple ones or items, and what stands behind them.
 -- Assumes nothing.
+use borrow.Author.Tests.{eqb-true, eqb-false}
+use lib.Dec.{eqb}
 use lib.ListN.{length, get_or, take, drop, length-drop}
 use lib.Seq.{drop-drop}
 use mathlib.Core.Bool.{Bool, true, false, not, false≢true}
@@ -17,8 +19,9 @@ use Rattle.octets.proofs.Answer.{refused≢got}
 use Rattle.octets.proofs.Tests.{test}
 use Rattle.x690.specs.Reading.{closed, read_length}
 use Rattle.x690.specs.Segments.{in_either}
-use Rattle.octets.specs.Numbers.{unless_zero}
+use Rattle.octets.specs.Numbers.{Octets, unless_zero}
 use Rattle.ber.specs.Told.{told_length}
+use Rattle.ber.specs.declared.length.Extent.{Extent}
 use Rattle.ber.proofs.Told.{length_refused}
 use Rattle.table.specs.Syntax.{Simple, Boolean, Integer, BitString, OctetString, Null, Enumerated, Time, Body, Plain}
 use Rattle.table.specs.Syntax.{Record, Table}
@@ -34,10 +37,12 @@ use Rattle.reader.specs.Items.{Holder, message}
 use Rattle.reader.specs.Items.{read_held}
 use Rattle.reader.specs.Records.{Ready, IsRecord, Known, of_message, holder_in, read_record}
 use Rattle.reader.specs.Sought.{held}
+use Rattle.reader.specs.Judging.{ToJudgeValue}
 use Rattle.reader.specs.Leaves.{is_in_segments, read_leaf, read_leaf_in, leaf_size}
 use Rattle.reader.specs.Weights.{size_by}
 use Rattle.reader.specs.Wraps.{closing, Around, read_bare, Opens}
 use Rattle.reader.specs.declared.answer.Judged.{Judged}
+use Rattle.reader.specs.declared.tags.Inner.{Inner}
 use Rattle.reader.proofs.ItemsKinds.{message_whole}
 use Rattle.reader.proofs.Bodies.{record_of, its_body, its_kind}
 use Rattle.reader.proofs.LeafReading.{leaf_end, leaf_shift}
@@ -47,7 +52,7 @@ use Rattle.reader.proofs.Weighing.{by_whole, by_parts}
 use Rattle.reader.proofs.Opening.{its_count, its_few}
 use Rattle.reader.proofs.Tails.{Sane, leaves, stops, tail_less, Closes, held_sane, not_none}
 use Rattle.reader.proofs.Told.{told_refused, told_done, tell_refused}
-use Rattle.reader.proofs.ValueParts.{Item, Filling, Part, Rest, Bare, left_part, item_unsized, no_choice, P, S, C}
+use Rattle.reader.proofs.ValueParts.{Under, Within, contents_sized, contents_bare, Item, Filling, Part, Rest, Bare, left_part, item_unsized, no_choice, P, S, C}
 use Rattle.reader.proofs.ValueParts.{size_c, size_part}
 use Rattle.reader.proofs.ValueParts.{contents_within, is_plain, leaf_read, leaf_lead, leaf_string, Held, Fine, fine, reads, its_notes}
 use Rattle.reader.proofs.ValueParts.{no_notes, tags_refused}
@@ -110,6 +115,9 @@ pub value_unopened : {b index : List ℕ} (R : Ready b index) {w : ℕ} (I : IsR
 value_unopened {b} R {w} I m first ns y o c l e n =
     tell_refused m size (read_record (table_in b) n (record_of b w) (drop first m)) c l (tags_refused R I m first ns y o c l e n)
 
+same_extent : {x y : Extent} → ◌≡◌ {A = Result Extent ReadingCause} (Ok x) (Ok y) → x ≡ y
+same_extent e = cc
+
 module _ {b index : List ℕ} {w : ℕ} {m : List ℕ} {first level : ℕ} (X : Item b index w m first level) where
   -- what the answer has to be
   abbrev pub Wanted : Result Judged Unread
@@ -135,6 +143,51 @@ module _ {b index : List ℕ} {w : ℕ} {m : List ℕ} {first level : ℕ} (X : 
       → (c : ReadingCause) → z ≡ Err c → unread c (length m - X.at) ≡ Wanted
   value_unread k z az c q =
       item_unfit c (item_unsized X (no_choice X k) c (length (Rest X)) (length_refused (Part X) X.from (length (Rest X)) z az c q))
+
+  -- as the code tells where its contents are: a CHOICE has no length of its own
+  abbrev pub Told : Result Extent ReadingCause → Type 0
+  Told r =
+      (X.entry.kind ≡ 50 → r ≡ Ok (record { start = X.at; end = X.end; indefinite = false }))
+      × ((X.entry.kind ≡ 50 → ⊥) → (l : ℕ) → r ≡ told_length (length (Part X)) (read_length l (drop X.from (Part X))))
+
+  module _ (r : Result Extent ReadingCause) (t : Told r) where
+    pub extent_refused : (c : ReadingCause) → r ≡ Err c → unread c (length m - X.at) ≡ Wanted
+    extent_refused c e =
+        test (eqb X.entry.kind 50)
+        (λ k. let q = sym (t.0 (eqb-true X.entry.kind 50 k)) ∙ e in let z : ◌≡◌ {A = ℕ} 0 1 = cc in absurd (omega arith))
+        λ k. let n = eqb-false X.entry.kind 50 k in value_unread n r (t.1 n _) c e
+
+    pub extent_read : (x : Extent) → r ≡ Ok x → Within (record_of b w) (Part X) X.at X.end x.start x.end x.indefinite
+    extent_read x e =
+        test (eqb X.entry.kind 50)
+        (λ k.
+        let n = eqb-true X.entry.kind 50 k in
+        let q = same_extent (sym (t.0 n) ∙ e) in
+        subst (λ (y : Extent). Within (record_of b w) (Part X) X.at X.end y.start y.end y.indefinite) q (contents_bare X n))
+        λ k. let n = eqb-false X.entry.kind 50 k in contents_sized X n r (t.1 n _) x e
+
+abbrev pub item_of : {b index m : List ℕ} {w at from level : ℕ} {way : List ℕ} → ToJudgeValue b index w m at from level way → {e : Entry} → e ≡ unpacked w → Octets m
+    → (notes : List ℕ) (x : Inner) → length notes ≡ 4 → Under b (record_of b w) m at (take (unpacked w).explicit notes) x.at x.from x.end
+    → Item b index w m at level
+item_of q {e} ee o notes x h u =
+    record {
+      ready = q.ready;
+      known = q.is;
+      all_octets = o;
+      short = q.short;
+      entry = e;
+      entered = ee;
+      notes = notes;
+      four = h;
+      at = x.at;
+      from = x.from;
+      end = x.end;
+      under = u;
+    }
+
+abbrev pub filling_of : {b index : List ℕ} {w : ℕ} {m : List ℕ} {first level : ℕ} (X : Item b index w m first level) {r : Result Extent ReadingCause} → Told X r
+    → {x : Extent} → r ≡ Ok x → Filling b index w m first level
+filling_of X {r} t {x} e = record { item = X; start = x.start; stop = x.end; indefinite = x.indefinite; within = extent_read X r t x e }
 
 module _ {b index : List ℕ} {w : ℕ} {m : List ℕ} {first level : ℕ} (Y : Filling b index w m first level) where
   -- simple contents
@@ -209,9 +262,6 @@ module _ {b index : List ℕ} {w : ℕ} {m : List ℕ} {first level : ℕ} (Y : 
             its (got a t) r x s e = let p : a ≡ x = cc in let q : t ≡ s = cc in rw (← p, ← q) r
             its (refused c l) r x s e = refused≢got e
 
-        pub leaf_high : Y.start + u ≤ 8192
-        leaf_high = omega (arith, over_leaf.within, Y.item.under.high, Y.item.short)
-
   -- items
   module _ (plain : Y.item.entry.simple ≡ false) where
     few_left : (c : ReadingCause) (l : ℕ) (x : Answer ReadingCause Value) → Fine Y plain x → x ≡ refused c l → l ≤ length (C Y)
@@ -245,9 +295,6 @@ module _ {b index : List ℕ} {w : ℕ} {m : List ℕ} {first level : ℕ} (Y : 
               is = reads Y plain (got v s) x (rw x at (fine Y plain)) ∙ ap (λ (j : ℕ). got v (drop (Y.start + j) (P Y))) (sym f);
               sized = g;
             }
-
-        pub items_high : Y.start + u ≤ 8192
-        items_high = omega (arith, over_items.within, Y.item.under.high, Y.item.short)
 
 -- its end, where its contents are judged
 pub record Ended (b index : List ℕ) (w : ℕ) (m : List ℕ) (first level : ℕ) : Type 0 where

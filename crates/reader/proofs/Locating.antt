@@ -5,13 +5,11 @@ use mathlib.Core.List.{List}
 use mathlib.Core.Path.{◌≡◌, refl, sym, ap, ◌∙◌}
 use Prim.Native.Nat.{ℕ, ◌+◌, ◌≤◌, ◌<◌, min}
 use native.Mathlib.Omega.{arith}
-use borrow.Author.Tests.{eqb-true, eqb-false}
 use lib.Dec.{eqb}
 use lib.ListN.{length, get_or, drop, set}
 use Rattle.std.specs.Prelude.{Result, Ok, Err}
 use Rattle.x690.specs.declared.ReadingCause.{ReadingCause}
 use Rattle.octets.specs.Answer.{none_left}
-use Rattle.octets.proofs.Tests.{test}
 use Rattle.ber.specs.Skipping.{Skips}
 use Rattle.table.specs.Syntax.{Member, Plain, Sequence, Set, SequenceOf, SetOf, Choice, Table}
 use Rattle.table.specs.Reading.{table_in, count_in}
@@ -26,12 +24,6 @@ use Rattle.reader.specs.declared.search.Choice.{Choice as Chosen}
 use Rattle.reader.proofs.Spans.{turns_by, by_member, EntryOf, entry_of}
 use Rattle.reader.proofs.PlacedTurns.{over_at, awaited, over_at_lem}
 use Rattle.reader.proofs.PlacedSpots.{Spotting, spotting_first, spotted, spotted_none, spotting_turn}
-
--- one more of the members that did not come
-pub passed_more : (ns : List ℕ) (j k : ℕ) → ((i : ℕ) → j ≤ i → i < k → get_or ns i 0 ≡ 0) → get_or ns k 0 ≡ 0
-    → (i : ℕ) → j ≤ i → i < k + 1 → get_or ns i 0 ≡ 0
-passed_more ns j k f z i l h =
-    test (eqb i k) (λ e. rw (eqb-true i k e) z) λ e. f i l (omega (arith, eqb-false i k e))
 
 -- what an entry of the kind of a SET stands for
 once_is : (k : Manner) → turns_by k ≡ false → by_member k ≡ true → k ≡ each_once

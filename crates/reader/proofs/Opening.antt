@@ -14,7 +14,6 @@ use native.Mathlib.Omega.{arith}
 use Prim.Native.Nat.{ℕ, zero, suc, ◌+◌, ◌-◌, ◌/◌, ◌%◌, ◌≤◌, ◌<◌}
 use Rattle.std.specs.Prelude.{Result, Ok, Err}
 use Rattle.x690.specs.declared.ReadingCause.{ReadingCause}
-use Rattle.x690.specs.declared.Unread.{Unread}
 use Rattle.x690.specs.declared.ReadingCause.TheVariants.{Cut, Forbidden, NotAwaited}
 use Rattle.octets.specs.Answer.{Answer, got, refused, then, if, behind, none_left}
 use Rattle.octets.specs.Lists.{same}
@@ -34,7 +33,7 @@ use Rattle.coding.specs.Content.{segmented}
 use Rattle.coding.specs.Tags.{identifier_of, before, explicit_tags, own_tag, explicit}
 use Rattle.coding.specs.Value.{Value}
 use Rattle.coding.specs.Reading.{read_wrapped, read_kind}
-use Rattle.reader.specs.Answers.{judged, unread}
+use Rattle.reader.specs.Answers.{unread}
 use Rattle.reader.specs.Codes.{own_either, either_at, either as first_either}
 use Rattle.reader.specs.Records.{Ready, record_in, IsRecord, read_record}
 use Rattle.reader.specs.Wraps.{ended, shut, closing, note_of, Around, identifiers, Headed, read_bare, sent_as, AwaitsTag, behind_last, is_tag, no_tag}

@@ -8,7 +8,7 @@ use mathlib.Core.List.{List, [], ◌∷◌, ◌++◌}
 use mathlib.Core.Path.{◌≡◌, refl, sym, ap, ◌∙◌}
 use native.Mathlib.Omega.{arith}
 use Prim.Native.Nat.{ℕ, ◌+◌, ◌-◌, ◌≤◌, ◌<◌}
-use Rattle.std.specs.Prelude.{Result, Ok, Err}
+use Rattle.std.specs.Prelude.{Result, Ok}
 use Rattle.x690.specs.declared.ReadingCause.{ReadingCause}
 use Rattle.x690.specs.declared.Unread.{Unread}
 use Rattle.octets.specs.Answer.{Answer, got, refused, then, behind}
@@ -32,7 +32,7 @@ use Rattle.coding.specs.Tags.{own_tag, explicit}
 use Rattle.coding.specs.Content.{segmented}
 use Rattle.coding.specs.Value.{Value}
 use Rattle.coding.specs.Reading.{read_wrapped, read_value}
-use Rattle.reader.specs.Answers.{judged, unread}
+use Rattle.reader.specs.Answers.{unread}
 use Rattle.reader.specs.Codes.{own_either, either}
 use Rattle.reader.specs.Items.{Holder, inside, manner, is_single}
 use Rattle.reader.specs.Items.{read_held}

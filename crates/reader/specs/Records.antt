@@ -11,7 +11,7 @@ use Rattle.records.specs.declared.entry.Entry.{Entry}
 use Rattle.coding.specs.Value.{Value}
 use Rattle.coding.specs.Tags.{own_tag, explicit}
 use Rattle.coding.specs.Reading.{read_wrapped, read_kind, read_value}
-use Rattle.reader.specs.Codes.{starts_with, search_in, under}
+use Rattle.reader.specs.Codes.{starts_with, search_in}
 use Rattle.reader.specs.Items.{Holder, inside, message}
 use Rattle.reader.specs.Ways.{Leads}
 use Rattle.reader.specs.declared.search.Under.{Under}

@@ -28,14 +28,14 @@ returns-after-not-in_segments c =
     let s = sym c.in_segments.ensures in
     size_if _ c.then_some-in-3.ensures (omega arith) (omega (arith, c.requires.2))
     (λ t. elim c.if-not-in_segments.branch [
-      then-not-in_segments w ↦
+      | then-not-in_segments w ↦
           by_whole c.requires.1 _ _ (s ∙ w.if-not-in_segments.true) (bits_size _ _ _ _ k w.are_bits.ensures (sym w.then_some-is ∙ t))
-    | else-not-in_segments w ↦ absurd (true≢false (sym t ∙ w.then_some-is ∙ ap not w.if-not-in_segments.false))
+      | else-not-in_segments w ↦ absurd (true≢false (sym t ∙ w.then_some-is ∙ ap not w.if-not-in_segments.false))
     ])
     (λ t. elim c.if-not-in_segments.branch [
-      then-not-in_segments w ↦
+      | then-not-in_segments w ↦
           by_whole c.requires.1 _ _ (s ∙ w.if-not-in_segments.true) (bits_wrong _ _ _ _ k w.are_bits.ensures (sym w.then_some-is ∙ t))
-    | else-not-in_segments w ↦ by_parts c.requires.1 _ _ k refl (s ∙ w.if-not-in_segments.false)
+      | else-not-in_segments w ↦ by_parts c.requires.1 _ _ k refl (s ∙ w.if-not-in_segments.false)
     ])
 
 pub returns-in-4 : goal.returns-in-4
@@ -59,18 +59,18 @@ returns-after-is_integer c =
     let r = c.is_integer-in-10.ensures in
     size_if _ c.then_some-in-10.ensures (omega arith) (omega arith)
     (λ t. elim c.if-is_integer.branch [
-      then-is_integer w ↦
+      | then-is_integer w ↦
           let i = to_z-of_z w64 _ (record { sfits = w.of.type_inv }) ∙ w.of.ensures in
           let l = lists_all c.requires.1 k _ _ w.lists.ensures in
           by_kind c.requires.1 _ _ k refl (number_size _ _ _ _ k r w.if-is_integer.true _ i l (sym w.then_some-is ∙ t))
-    | else-is_integer w ↦ absurd (true≢false (sym t ∙ w.then_some-is ∙ w.if-is_integer.false))
+      | else-is_integer w ↦ absurd (true≢false (sym t ∙ w.then_some-is ∙ w.if-is_integer.false))
     ])
     (λ t. elim c.if-is_integer.branch [
-      then-is_integer w ↦
+      | then-is_integer w ↦
           let i = to_z-of_z w64 _ (record { sfits = w.of.type_inv }) ∙ w.of.ensures in
           let l = lists_all c.requires.1 k _ _ w.lists.ensures in
           by_kind c.requires.1 _ _ k refl (number_unlisted _ _ _ _ k r w.if-is_integer.true _ i l (sym w.then_some-is ∙ t))
-    | else-is_integer w ↦ by_kind c.requires.1 _ _ k refl (number_wrong _ _ _ _ k r w.if-is_integer.false)
+      | else-is_integer w ↦ by_kind c.requires.1 _ _ k refl (number_wrong _ _ _ _ k r w.if-is_integer.false)
     ])
 
 pub returns-in-23 : goal.returns-in-23
@@ -84,9 +84,9 @@ returns-in-23 c =
 pub returns-in_default : goal.returns-in_default
 returns-in_default c =
     no_size (by_others c.requires.1 _ _ (λ h. omega arith) (λ h. omega arith) (other_wrong _ _ _ _
-        (λ h. omega arith) (λ h. omega arith) (λ h. omega arith) (λ h. omega arith) (λ h. omega arith) (λ h. omega arith) (λ h. omega arith) (λ h. omega arith)))
+    (λ h. omega arith) (λ h. omega arith) (λ h. omega arith) (λ h. omega arith) (λ h. omega arith) (λ h. omega arith) (λ h. omega arith) (λ h. omega arith)))
 
 pub returns-in_default-2 : goal.returns-in_default-2
 returns-in_default-2 c =
     no_size (by_others c.requires.1 _ _ (λ h. omega arith) (λ h. omega arith) (other_wrong _ _ _ _
-        (λ h. omega arith) (λ h. omega arith) (λ h. omega arith) (λ h. omega arith) (λ h. omega arith) (λ h. omega arith) (λ h. omega arith) (λ h. omega arith)))
+    (λ h. omega arith) (λ h. omega arith) (λ h. omega arith) (λ h. omega arith) (λ h. omega arith) (λ h. omega arith) (λ h. omega arith) (λ h. omega arith)))

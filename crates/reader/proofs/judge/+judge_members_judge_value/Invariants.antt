@@ -9,3 +9,13 @@ decreases-judge_members l = 2 * l.level
 
 abbrev pub decreases-judge_value : goal.decreases-judge_value
 decreases-judge_value l = 2 * l.level + 1
+
+abbrev pub invariant-judge_members-loop-end : goal.invariant-judge_members-loop-end
+invariant-judge_members-loop-end l = record {
+  low : l.at ≤ length l.m;
+  wide : length l.way ≡ 128;
+  so_far : Judging l.table l.w l.m l.indefinite l.level l.came l.total l.at l.j;
+}
+
+abbrev pub decreases-judge_members-loop-end : goal.decreases-judge_members-loop-end
+decreases-judge_members-loop-end l = length l.m - l.at

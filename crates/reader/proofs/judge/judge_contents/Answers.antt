@@ -1,7 +1,6 @@
 -- `reader::judge::judge_contents` meets its contract.
 -- Assumes nothing.
-use Rattle.std.proofs.Common.{arith}
-use Rattle.reader.proofs.JudgedValue.{sized_done, unsized_by}
+use Rattle.reader.proofs.JudgedValue.{sized_done}
 use Rattle.reader.proofs.judge.judge_contents.Goals as goal
 
 pub returns-in-Some : goal.returns-in-Some

@@ -1,6 +1,6 @@
 -- `reader::judge::next` meets its contract.
 -- Assumes nothing.
-use Rattle.std.proofs.Common.{◌≡◌, ap, ◌∙◌, refl, inl, inr, Ok, Err, rules}
+use Rattle.std.proofs.Common.{◌≡◌, ◌∙◌, refl, inl, inr, Err, rules}
 use Rattle.reader.specs.Items.{manner, since}
 use Rattle.reader.specs.Sought.{held}
 use Rattle.reader.proofs.Searching.{parted, since_is, has_members_lem}

@@ -1,6 +1,4 @@
-use Rattle.std.proofs.Common.{rules, arith}
-use Rattle.std.proofs.lemmas.Grind.{common_steps}
-use Rattle.std.proofs.lemmas.Bool.Decides.{nat_tests}
+use Rattle.std.proofs.Common.{rules}
 use Rattle.octets.specs.Answer.{if}
 use Rattle.reader.specs.Placing.{node_of}
 use Rattle.reader.proofs.node.node_size.Goals as goal

@@ -1,13 +1,8 @@
 -- `reader::search::among` meets its contract.
 -- Assumes nothing.
-use Rattle.std.proofs.Common.{◌≡◌, List, ℕ, length, length-set, arith}
-use Rattle.records.specs.Entries.{unpacked, counted}
-use Rattle.records.specs.declared.entry.Entry.{Entry}
-use Rattle.records.specs.declared.entry.Span.{Span}
-use Rattle.reader.specs.Codes.{untagged}
-use Rattle.reader.specs.Records.{Ready}
-use Rattle.reader.proofs.Among.{code_most, Amid, amid_first, Turn, its, next, among_found, among_down, among_next, among_none, among_back}
-use Rattle.reader.proofs.Among.{turn_at, fewer_under, fewer_beside, fewer_above, among_small}
+use Rattle.std.proofs.Common.{length-set, arith}
+use Rattle.reader.proofs.Among.{code_most, amid_first, next, among_found, among_down, among_next, among_none, among_back}
+use Rattle.reader.proofs.Among.{turn_at, fewer_under, fewer_beside, fewer_above}
 use Rattle.reader.proofs.search.among.Goals as goal
 
 pub loop-j-init : goal.loop-j-init

@@ -1,8 +1,8 @@
 -- `reader::search::direct` meets its contract.
 -- Assumes nothing.
-use Rattle.std.proofs.Common.{◌≡◌, sym, ◌∙◌, arith}
+use Rattle.std.proofs.Common.{◌∙◌, arith}
 use Rattle.reader.proofs.Among.{code_most}
-use Rattle.reader.proofs.Searching.{Parted, parted, few, near, type_low, may_optional, may_other, other_code, other_come, direct_found, direct_skip}
+use Rattle.reader.proofs.Searching.{parted, few, near, type_low, may_optional, may_other, other_code, other_come, direct_found, direct_skip}
 use Rattle.reader.proofs.Searching.{direct_stop, direct_end, direct_place, direct_no_place}
 use Rattle.reader.proofs.search.direct.Goals as goal
 use Rattle.reader.proofs.search.direct.Goals.{then-came-k-eq0+else-begins, else-came-k-eq0, then-e-eq-SEQUENCE+else-not-optional, else-e-eq-SEQUENCE}

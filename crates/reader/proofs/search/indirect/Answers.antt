@@ -1,10 +1,10 @@
 -- `reader::search::indirect` meets its contract.
 -- Assumes nothing.
-use Rattle.std.proofs.Common.{◌≡◌, sym, ap, ◌∙◌, inl, inr, length, eq-eqb, arith}
+use Rattle.std.proofs.Common.{ap, ◌∙◌, inl, inr, length, eq-eqb, arith}
 use borrow.Author.Tests.{ne_eqb}
-use Rattle.reader.proofs.Searching.{parted, Counted, Candidate, near, few_parts, table_part, turn_part, typed_part, candidate, candidate_low}
+use Rattle.reader.proofs.Searching.{parted, Counted, near, few_parts, turn_part, typed_part, candidate, candidate_low}
 use Rattle.reader.proofs.Searching.{indirect_part, indirect_stop}
-use Rattle.reader.proofs.Searching.{indirect_optional, indirect_other, indirect_come, indirect_end, indirect_none}
+use Rattle.reader.proofs.Searching.{indirect_optional, indirect_other, indirect_come, indirect_end}
 use Rattle.reader.proofs.search.indirect.Goals as goal
 use Rattle.reader.proofs.search.indirect.Goals.{then-whole, else-whole, then-whole-2, else-whole-2}
 use Rattle.reader.proofs.search.indirect.Goals.{then-came-k-eq0+in_default+then-e-eq-SEQUENCE+else-not-optional, then-came-k-eq0+in_default+else-e-eq-SEQUENCE, else-came-k-eq0}
@@ -36,9 +36,9 @@ seek-requires c =
       | else-whole x ↦ inr (ne_eqb _ _ x.if-whole.false, x.n-is)
     ] in
     let C = candidate D _ _ c.if-whole-2.t K c.loop-k-test.true (elim c.if-whole-2.branch [
-        | then-whole-2 y ↦ inl (eq-eqb _ _ y.if-whole-2.true, y.t-is)
-        | else-whole-2 y ↦ typed_part D K c.loop-k-test.true (ne_eqb _ _ y.if-whole-2.false) y.t-is y.part-t.ensures.0
-      ]) in
+      | then-whole-2 y ↦ inl (eq-eqb _ _ y.if-whole-2.true, y.t-is)
+      | else-whole-2 y ↦ typed_part D K c.loop-k-test.true (ne_eqb _ _ y.if-whole-2.false) y.t-is y.part-t.ensures.0
+    ]) in
     (c.requires.0.ready, candidate_low D c.args.code _ _ C, c.requires.2, c.loop-k.invariant.wide)
 
 pub returns-in-Some : goal.returns-in-Some
@@ -49,11 +49,12 @@ returns-in-Some c =
       | else-whole x ↦ inr (ne_eqb _ _ x.if-whole.false, x.n-is)
     ] in
     let C = candidate D _ _ c.if-whole-2.t K c.loop-k-test.true (elim c.if-whole-2.branch [
-        | then-whole-2 y ↦ inl (eq-eqb _ _ y.if-whole-2.true, y.t-is)
-        | else-whole-2 y ↦ typed_part D K c.loop-k-test.true (ne_eqb _ _ y.if-whole-2.false) y.t-is y.part-t.ensures.0
-      ]) in
-    (c.seek.ensures.0,
-    indirect_part D c.args.code _ _ C _ _ c.seek.ensures.1 _ _ _ _ c.loop-k.invariant.same c.if-came-k-eq0.true c.in-Some.is)
+      | then-whole-2 y ↦ inl (eq-eqb _ _ y.if-whole-2.true, y.t-is)
+      | else-whole-2 y ↦ typed_part D K c.loop-k-test.true (ne_eqb _ _ y.if-whole-2.false) y.t-is y.part-t.ensures.0
+    ]) in (
+      c.seek.ensures.0,
+      indirect_part D c.args.code _ _ C _ _ c.seek.ensures.1 _ _ _ _ c.loop-k.invariant.same c.if-came-k-eq0.true c.in-Some.is,
+    )
 
 pub overflow_mul-s : goal.overflow_mul-s
 overflow_mul-s c =
@@ -84,18 +85,18 @@ loop-k-preserved c =
       | then-came-k-eq0+in_default+then-e-eq-SEQUENCE+else-not-optional x ↦ record {
         wide = ap length x.way'-is ∙ x.seek.ensures.0;
         same = c.loop-k.invariant.same ∙ indirect_optional D _ _ x.if-whole-2.t (candidate D _ _ x.if-whole-2.t K c.loop-k-test.true (elim x.if-whole-2.branch [
-        | then-whole-2 y ↦ inl (eq-eqb _ _ y.if-whole-2.true, y.t-is)
-        | else-whole-2 y ↦ typed_part D K c.loop-k-test.true (ne_eqb _ _ y.if-whole-2.false) y.t-is y.part-t.ensures.0
-      ]))
+          | then-whole-2 y ↦ inl (eq-eqb _ _ y.if-whole-2.true, y.t-is)
+          | else-whole-2 y ↦ typed_part D K c.loop-k-test.true (ne_eqb _ _ y.if-whole-2.false) y.t-is y.part-t.ensures.0
+        ]))
             _ x.seek.result x.seek.ensures.1 x.if-came-k-eq0.true x.in_default.is x.if-e-eq-SEQUENCE.true
             x.optional.result x.optional.ensures x.if-not-optional.false;
       }
       | then-came-k-eq0+in_default+else-e-eq-SEQUENCE x ↦ record {
         wide = ap length x.way'-is ∙ x.seek.ensures.0;
         same = c.loop-k.invariant.same ∙ indirect_other D _ _ x.if-whole-2.t (candidate D _ _ x.if-whole-2.t K c.loop-k-test.true (elim x.if-whole-2.branch [
-        | then-whole-2 y ↦ inl (eq-eqb _ _ y.if-whole-2.true, y.t-is)
-        | else-whole-2 y ↦ typed_part D K c.loop-k-test.true (ne_eqb _ _ y.if-whole-2.false) y.t-is y.part-t.ensures.0
-      ]))
+          | then-whole-2 y ↦ inl (eq-eqb _ _ y.if-whole-2.true, y.t-is)
+          | else-whole-2 y ↦ typed_part D K c.loop-k-test.true (ne_eqb _ _ y.if-whole-2.false) y.t-is y.part-t.ensures.0
+        ]))
             _ x.seek.result x.seek.ensures.1 x.if-came-k-eq0.true x.in_default.is x.if-e-eq-SEQUENCE.false;
       }
       | else-came-k-eq0 x ↦ record {
@@ -112,14 +113,16 @@ returns c =
       | else-whole x ↦ inr (ne_eqb _ _ x.if-whole.false, x.n-is)
     ] in (
       c.loop-k-test.array_long,
-      (c.loop-k.invariant.same ∙ elim c.loop-k-test.branch [
-        | else-loop-k-test x ↦ indirect_end D _ _ _ K x.loop-k-test.false
-        | then-loop-k-test+then-came-k-eq0+in_default+then-e-eq-SEQUENCE+then-not-optional x ↦
-            indirect_stop D _ _ _ (candidate D _ _ x.if-whole-2.t K x.loop-k-test.true (elim x.if-whole-2.branch [
-              | then-whole-2 y ↦ inl (eq-eqb _ _ y.if-whole-2.true, y.t-is)
-              | else-whole-2 y ↦ typed_part D K x.loop-k-test.true (ne_eqb _ _ y.if-whole-2.false) y.t-is y.part-t.ensures.0
-            ])) _ x.seek.result x.seek.ensures.1 x.if-came-k-eq0.true x.in_default.is x.if-e-eq-SEQUENCE.true
-            x.optional.result x.optional.ensures x.if-not-optional.true
-      ],
-      c.unawaited.ensures),
+      (
+        c.loop-k.invariant.same ∙ elim c.loop-k-test.branch [
+          | else-loop-k-test x ↦ indirect_end D _ _ _ K x.loop-k-test.false
+          | then-loop-k-test+then-came-k-eq0+in_default+then-e-eq-SEQUENCE+then-not-optional x ↦
+              indirect_stop D _ _ _ (candidate D _ _ x.if-whole-2.t K x.loop-k-test.true (elim x.if-whole-2.branch [
+                | then-whole-2 y ↦ inl (eq-eqb _ _ y.if-whole-2.true, y.t-is)
+                | else-whole-2 y ↦ typed_part D K x.loop-k-test.true (ne_eqb _ _ y.if-whole-2.false) y.t-is y.part-t.ensures.0
+              ])) _ x.seek.result x.seek.ensures.1 x.if-came-k-eq0.true x.in_default.is x.if-e-eq-SEQUENCE.true
+              x.optional.result x.optional.ensures x.if-not-optional.true
+        ],
+        c.unawaited.ensures,
+      ),
     )

@@ -20,6 +20,7 @@ bounds-index-record c =
 pub returns-then-first-m : goal.returns-then-first-m
 returns-then-first-m c =
     let D = parted c.requires.0 c.unpack.ensures c.parts-s.ensures in
-    let t = c.part-record.ensures.0 (omega (arith, near D _ c.if-j-s.true)) in
-    (c.requires.1,
-    sought_fits D _ (λ k. omega (arith, c.type_inv.m k)) c.if-m-gt0.true _ c.if-j-s.true c.if-came-j-eq0.true _ _ t c.first.ensures c.if-first-m.true _)
+    let t = c.part-record.ensures.0 (omega (arith, near D _ c.if-j-s.true)) in (
+      c.requires.1,
+      sought_fits D _ (λ k. omega (arith, c.type_inv.m k)) c.if-m-gt0.true _ c.if-j-s.true c.if-came-j-eq0.true _ _ t c.first.ensures c.if-first-m.true _,
+    )

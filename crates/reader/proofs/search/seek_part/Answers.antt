@@ -25,10 +25,11 @@ returns-in-Err c =
     = since_is D _ _ (elim c.if-e-eq-SEQUENCE.branch [
       | then-e-eq-SEQUENCE x ↦ inl (x.if-e-eq-SEQUENCE.true, x.i-is)
       | else-e-eq-SEQUENCE x ↦ inr (x.if-e-eq-SEQUENCE.false, x.i-is)
-    ]) in
-    (c.requires.1,
-    rw (← i)
-    (sought_unread D _ (λ k. omega (arith, c.type_inv.m k)) _ c.read.ensures _ c.args.way.now _ c.in-Err.is (Err c.unawaited.result) (ap Err c.unawaited.ensures)))
+    ]) in (
+      c.requires.1,
+      rw (← i)
+          (sought_unread D _ (λ k. omega (arith, c.type_inv.m k)) _ c.read.ensures _ c.args.way.now _ c.in-Err.is (Err c.unawaited.result) (ap Err c.unawaited.ensures)),
+    )
 
 pub indirect-requires : goal.indirect-requires
 indirect-requires c =
@@ -37,11 +38,12 @@ indirect-requires c =
     = since_is D _ _ (elim c.if-e-eq-SEQUENCE.branch [
       | then-e-eq-SEQUENCE x ↦ inl (x.if-e-eq-SEQUENCE.true, x.i-is)
       | else-e-eq-SEQUENCE x ↦ inr (x.if-e-eq-SEQUENCE.false, x.i-is)
-    ]) in
-    (c.requires.0,
-    since_again D c.if-e-eq-SEQUENCE.i c.args.j i,
-    code_small D c.args.m.now (λ k. omega (arith, c.type_inv.m k)) _ c.read.ensures c.if-e-eq-SEQUENCE.i c.args.way.now _ _ c.in-Ok.is,
-    c.requires.1)
+    ]) in (
+      c.requires.0,
+      since_again D c.if-e-eq-SEQUENCE.i c.args.j i,
+      code_small D c.args.m.now (λ k. omega (arith, c.type_inv.m k)) _ c.read.ensures c.if-e-eq-SEQUENCE.i c.args.way.now _ _ c.in-Ok.is,
+      c.requires.1,
+    )
 
 pub returns-in_default : goal.returns-in_default
 returns-in_default c =
@@ -50,11 +52,12 @@ returns-in_default c =
     = since_is D _ _ (elim c.if-e-eq-SEQUENCE.branch [
       | then-e-eq-SEQUENCE x ↦ inl (x.if-e-eq-SEQUENCE.true, x.i-is)
       | else-e-eq-SEQUENCE x ↦ inr (x.if-e-eq-SEQUENCE.false, x.i-is)
-    ]) in
-    (c.indirect.ensures.0,
-    rw (← i)
-    (sought_indirect D c.args.m.now (λ k. omega (arith, c.type_inv.m k)) c.read.result c.read.ensures c.if-e-eq-SEQUENCE.i _ c.in-Ok.x.code
-    c.in-Ok.x.end c.in-Ok.is c.indirect.result c.indirect.ensures.1))
+    ]) in (
+      c.indirect.ensures.0,
+      rw (← i)
+          (sought_indirect D c.args.m.now (λ k. omega (arith, c.type_inv.m k)) c.read.result c.read.ensures c.if-e-eq-SEQUENCE.i _ c.in-Ok.x.code
+          c.in-Ok.x.end c.in-Ok.is c.indirect.result c.indirect.ensures.1),
+    )
 
 pub returns : goal.returns
 returns c =
@@ -64,8 +67,9 @@ returns c =
       | then-e-eq-SEQUENCE x ↦ inl (x.if-e-eq-SEQUENCE.true, x.i-is)
       | else-e-eq-SEQUENCE x ↦ inr (x.if-e-eq-SEQUENCE.false, x.i-is)
     ]) in
-    let p = place_found D _ _ _ c.direct.ensures c.in-Some.is in
-    (c.requires.1,
-    rw (← i)
-    (sought_direct D _ (λ k. omega (arith, c.type_inv.m k)) _ c.read.ensures _ c.args.way.now _ _ c.in-Ok.is _ p.0 p.1 _
-    (c.part-record.ensures.0 (omega (arith, near D _ p.1)))))
+    let p = place_found D _ _ _ c.direct.ensures c.in-Some.is in (
+      c.requires.1,
+      rw (← i)
+          (sought_direct D _ (λ k. omega (arith, c.type_inv.m k)) _ c.read.ensures _ c.args.way.now _ _ c.in-Ok.is _ p.0 p.1 _
+          (c.part-record.ensures.0 (omega (arith, near D _ p.1)))),
+    )

@@ -24,7 +24,7 @@ returns-in_default c =
       v.notes,
       c.search.ensures.0,
       located_none p.0 p.1 _ c.args.indefinite _ _ v.low v.spots _ c.is_over.ensures c.loop-rest-test.true _ _ (rw from_is at c.search.ensures.1) _
-      c.in_default.is _,
+          c.in_default.is _,
     )
 
 pub offset_bounds-began-place : goal.offset_bounds-began-place

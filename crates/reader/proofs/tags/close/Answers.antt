@@ -2,7 +2,7 @@
 -- Assumes nothing.
 use Rattle.std.proofs.Common.{sym, refl, arith}
 use Rattle.std.proofs.Math.Seq.{length-take-le}
-use Rattle.reader.proofs.Wrapping.{close_none, close_end, close_near, close_more, close_broken, close_turn, close_done}
+use Rattle.reader.proofs.Wrapping.{close_none, close_end, close_more, close_broken, close_turn, close_done}
 use Rattle.reader.proofs.tags.close.Goals as goal
 
 pub loop-j-init : goal.loop-j-init

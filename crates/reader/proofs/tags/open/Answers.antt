@@ -1,17 +1,8 @@
 -- `reader::tags::open` meets its contract.
 -- Assumes nothing.
-use Rattle.std.proofs.Common.{◌≡◌, List, ℕ, ◌+◌, ◌-◌, ◌<◌, ◌≤◌, Result, Ok, length, take, drop, true, length-set, arith}
-use Rattle.x690.specs.declared.ReadingCause.{ReadingCause}
-use Rattle.x690.specs.Reading.{read_length}
-use Rattle.octets.specs.Numbers.{Octets}
-use Rattle.ber.specs.Told.{told_length}
-use Rattle.ber.specs.declared.length.Extent.{Extent}
-use Rattle.records.specs.Entries.{unpacked}
-use Rattle.records.specs.declared.entry.Entry.{Entry}
-use Rattle.coding.specs.Tags.{explicit}
-use Rattle.reader.specs.Records.{Ready, record_in, IsRecord}
+use Rattle.std.proofs.Common.{length-set, arith}
 use Rattle.reader.proofs.Tagging.{its_fit}
-use Rattle.reader.proofs.Opening.{Opening, its_count, its_headed, its_few, open_none, open_unread, extent, open_refused, open_next}
+use Rattle.reader.proofs.Opening.{its_count, its_headed, its_few, open_none, open_unread, extent, open_refused, open_next}
 use Rattle.reader.proofs.Opening.{open_turn, open_done, tag_left}
 use Rattle.reader.proofs.tags.open.Goals as goal
 
@@ -29,7 +20,7 @@ returns-in-Err c =
     let l = c.loop-j.invariant in (
       l.four,
       open_unread _ _ (its_fit q.1 q.2) _ (λ i. omega (arith, c.type_inv.m i)) _ _ _ _ _ _ l.«open»
-      (tag_left q.1 q.2 c.unpack-e.ensures c.loop-j-test.true) _ c.read.ensures.0 _ c.in-Err.is c.loop-j.notes,
+          (tag_left q.1 q.2 c.unpack-e.ensures c.loop-j-test.true) _ c.read.ensures.0 _ c.in-Err.is c.loop-j.notes,
     )
 
 pub bounds-notes-j : goal.bounds-notes-j
@@ -80,7 +71,7 @@ returns-in-Err-enter c =
     let l = c.loop-j.invariant in (
       simp length-set l.four,
       open_refused _ _ (its_fit q.1 q.2) _ (λ i. omega (arith, c.type_inv.m i)) _ _ _ _ _ _ l.«open»
-      (tag_left q.1 q.2 c.unpack-e.ensures c.loop-j-test.true) _ c.read.ensures.0 _ c.in-Ok.is _ c.enter.ensures _ c.in-Err-enter.is c.loop-j.notes,
+          (tag_left q.1 q.2 c.unpack-e.ensures c.loop-j-test.true) _ c.read.ensures.0 _ c.in-Ok.is _ c.enter.ensures _ c.in-Err-enter.is c.loop-j.notes,
     )
 
 pub loop-j-preserved : goal.loop-j-preserved
@@ -99,5 +90,5 @@ returns c =
     let q = c.requires in (
       c.loop-j.invariant.four,
       open_done _ _ (its_fit q.1 q.2) _ (λ i. omega (arith, c.type_inv.m i)) _ _ _ _ _ _ c.loop-j.invariant.«open» _
-      (its_count q.1 q.2) (omega (arith, its_count q.1 q.2, q.3)) (rw c.unpack-e.ensures at c.loop-j-test.false),
+          (its_count q.1 q.2) (omega (arith, its_count q.1 q.2, q.3)) (rw c.unpack-e.ensures at c.loop-j-test.false),
     )
