@@ -314,3 +314,8 @@ read_short (b ∷ s) i r e h = sym (got_value (simp (run, lt-ltb (b % 32) 31 h) 
 
 pub read_code_short : (s i r : List ℕ) → read_identifier s ≡ got i r → get_or s 0 0 % 32 < 31 → code_of i ≡ get_or s 0 0
 read_code_short s i r e h = rw (read_short s i r e h) (code_one (get_or s 0 0))
+
+-- for the code that reckons codes and puts their octets
+pub ruleset codes = (code_short, code_long, bit_small)
+
+pub ruleset octets = (octets_one, octets_two, octets_three, octets_four)

@@ -112,3 +112,10 @@ module _ {A : Type 0} (f : List ℕ → Answer ReadingCause A) (x : Unit {0} →
   pub end_broken : (k : Bool) (r : Result (Option ℕ) ReadingCause) (c : ReadingCause) → r ≡ end_of k (length m) (drop at m) → r ≡ Err c
       → at_end (mode k) (drop at m) f x ≡ refused c (length (drop at m))
   end_broken k r c e d = rw (← e, d) at (tells k)
+
+-- for the code of each end
+pub ruleset ends_indefinite = (ends_none, ends_more, ends_half, ends_wrong, ends_over)
+
+pub ruleset ends_definite = (ends_closed, ends_not)
+
+pub ruleset over = (over_none, over_closed, over_octet)

@@ -108,3 +108,6 @@ put_behind buf to v w h e b x y =
     let f : e + length w ≤ length b = omega arith in
     let q : e + length w ≡ to + length (v ++ w) = simp length-append (omega arith) in
     (put_end_lem b e w f ∙ q ∙ sym (put_end_lem buf to (v ++ w) h), put_roomy b e w f ∙ rw (x', y') (sym (sets_append v buf to w)) ∙ sym (put_roomy buf to (v ++ w) h))
+
+-- for the code that puts length octets
+pub ruleset lengths = (length_one, length_two, length_three)

@@ -17,7 +17,7 @@ use Rattle.octets.specs.Answer.{Answer, got, refused, then, if}
 use Rattle.octets.specs.Permutations.{AllOctets}
 use Rattle.octets.proofs.Answer.{got_holds, if_cases, refused≢got}
 use Rattle.octets.proofs.Tests.{test}
-use Rattle.octets.proofs.Permutations.{every_left, every_right}
+use Rattle.octets.proofs.Permutations.{every_left, every_right, all_octets}
 use Rattle.octets.proofs.Lists.{behind, length_behind}
 use Rattle.ber.specs.Codes.{spelled, code_of}
 use Rattle.x690.specs.Length.{unsigned, longest_field, Length, short, long}
@@ -461,3 +461,14 @@ module _ (m : List ℕ) (at : ℕ) where
           test (leb e (length m)) (λ t. rw (← again_short h s) (length_short m at h s (leb-true e (length m) t) l))
           λ t. let (k, g) = says_no (length m) (read_length l (drop at m)) Cut (length_short_no m at h s (leb-false e (length m) t) l) in
           refused≢got (sym g ∙ q)
+
+-- for the code that reads, by what it reads
+pub ruleset identifiers = (identifier_none, identifier_short)
+
+pub ruleset long_identifiers = (follow_next, long_zero, long_few, long_read)
+
+pub ruleset lengths = (length_ruled, length_none, length_short, length_short_no, all_octets)
+
+pub ruleset other_lengths = (length_open, length_over, length_reserved)
+
+pub ruleset again = (again_none, again_short)

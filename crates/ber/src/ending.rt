@@ -6,6 +6,7 @@ ghost use Rattle.ber.specs.Told.{end_of};
 use x690::ReadingCause;
 
 // Where contents are over that 00 00 closes, if they are at a place of m; none if an item follows.
+#[tactic(auto, using(crate::proofs::Ends::ends_indefinite))]
 fn indefinite_end(m: &[u8], at: usize) -> Result<Option<usize>, ReadingCause>
     ensures { result ≡ end_of true (length m.now) (drop at m.now) }
 {
@@ -26,6 +27,7 @@ fn indefinite_end(m: &[u8], at: usize) -> Result<Option<usize>, ReadingCause>
 }
 
 // Where what stands after contents begins, if they are over at a place of m; none if an item follows. 00 00 closes them if `indefinite`.
+#[tactic(auto, using(crate::proofs::Ends::ends_definite))]
 pub fn read(m: &[u8], at: usize, indefinite: bool) -> Result<Option<usize>, ReadingCause>
     ensures { result ≡ end_of indefinite (length m.now) (drop at m.now) }
 {
@@ -39,6 +41,7 @@ pub fn read(m: &[u8], at: usize, indefinite: bool) -> Result<Option<usize>, Read
 }
 
 // Whether contents that were read before are over at a place of m, to which they were read.
+#[tactic(auto, using(crate::proofs::Ends::over))]
 pub fn is_over(m: &[u8], at: usize, indefinite: bool) -> bool
     ensures { result ≡ (none_left (drop at m.now) || (indefinite && eqb (get_or m.now at 0) 0)) }
 {

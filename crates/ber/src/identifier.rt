@@ -15,6 +15,7 @@ pub struct Identifier {
 }
 
 // The code of a tag, primitive or constructed.
+#[tactic(auto, using(crate::proofs::Codes::codes))]
 pub fn code_of(class: u8, constructed: bool, number: u16) -> u32
     ensures { (result ≡ code class constructed number) × (result < 16793600) }
 {
@@ -39,6 +40,7 @@ fn follow(n: u32, d: u32) -> u32
 }
 
 // The long form, after its leading octet.
+#[tactic(auto, using(crate::proofs::Told::long_identifiers))]
 fn read_long(m: &[u8], lead: u32) -> Result<Identifier, ReadingCause>
     requires { (0 < length m.now) × (lead ≡ get_or m.now 0 0) × (31 ≤ lead % 32) }
     ensures { result ≡ told_identifier (length m.now) (read_identifier m.now) }
@@ -65,6 +67,7 @@ fn read_long(m: &[u8], lead: u32) -> Result<Identifier, ReadingCause>
 }
 
 // The identifier that m begins with.
+#[tactic(auto, using(crate::proofs::Told::identifiers))]
 pub fn read(m: &[u8]) -> Result<Identifier, ReadingCause>
     ensures { result ≡ told_identifier (length m.now) (read_identifier m.now) }
 {
@@ -79,7 +82,7 @@ pub fn read(m: &[u8]) -> Result<Identifier, ReadingCause>
 }
 
 // How many octets the identifier of a code has.
-#[tactic(auto, using(crate::proofs::Codes::octets_one, crate::proofs::Codes::octets_two, crate::proofs::Codes::octets_three, crate::proofs::Codes::octets_four))]
+#[tactic(auto, using(crate::proofs::Codes::octets))]
 pub fn size(code: u32) -> usize
     ensures { (result ≡ length (code_octets code)) × (result < 5) }
 {
@@ -96,7 +99,7 @@ pub fn size(code: u32) -> usize
 }
 
 // Puts the identifier of a code; where it ends, or the place itself if there is no room.
-#[tactic(auto, using(crate::proofs::Codes::octets_one, crate::proofs::Codes::octets_two, crate::proofs::Codes::octets_three, crate::proofs::Codes::octets_four))]
+#[tactic(auto, using(crate::proofs::Codes::octets))]
 pub fn put(code: u32, buf: &mut [u8], to: usize) -> usize
     ensures { let w = code_octets code in
         (result ≡ put_end buf.old to w)

@@ -11,6 +11,7 @@ use crate::{identifier, length};
 use x690::ReadingCause;
 
 // The extent of the item that m begins with, whichever it is.
+#[tactic(auto, using(crate::proofs::Skipping::extent_none))]
 fn extent(m: &[u8]) -> Result<Extent, ReadingCause>
     ensures { result ≡ told_length (length m.now) (headed m.now) }
 {

@@ -45,6 +45,7 @@ fn read_long(m: &[u8], at: usize, k: usize) -> Result<Extent, ReadingCause>
 }
 
 // The forms but the short one: `first` is the first octet, and the next is at `at`.
+#[tactic(auto, using(crate::proofs::Told::other_lengths))]
 fn read_other(m: &[u8], at: usize, first: usize) -> Result<Extent, ReadingCause>
     requires { (0 < at) × (at ≤ length m.now) × (first ≡ get_or m.now (at - 1) 0) × (128 ≤ first) × (first < 256) }
     ensures { (l : ℕ) → result ≡ told_length (length m.now) (read_length l (drop (at - 1) m.now)) }
@@ -68,6 +69,7 @@ fn read_other(m: &[u8], at: usize, first: usize) -> Result<Extent, ReadingCause>
 
 // The length octets at a place of m. Of a length that is read at most four octets stand between the first one and the contents, and a
 // definite one is below 2^32 (FORMATS, "Messages").
+#[tactic(auto, using(crate::proofs::Told::lengths))]
 pub fn read(m: &[u8], at: usize) -> Result<Extent, ReadingCause>
     ensures { ((l : ℕ) → result ≡ told_length (length m.now) (read_length l (drop at m.now)))
         × ((x : Extent) → result ≡ Ok x → x.start ≤ at + 1 + longest_field)
@@ -93,6 +95,7 @@ pub fn read(m: &[u8], at: usize) -> Result<Extent, ReadingCause>
 }
 
 // The length octets at a place of m where a length was read before; if none can be read there, an extent of no octets.
+#[tactic(auto, using(crate::proofs::Told::again))]
 pub fn again(m: &[u8], at: usize) -> Extent
     ensures { result ≡ again_at m.now at }
 {
@@ -117,7 +120,7 @@ pub fn again(m: &[u8], at: usize) -> Extent
 }
 
 // How many octets the length n has.
-#[tactic(auto, using(crate::proofs::Headers::length_one, crate::proofs::Headers::length_two, crate::proofs::Headers::length_three))]
+#[tactic(auto, using(crate::proofs::Headers::lengths))]
 pub fn size(n: u16) -> usize
     ensures { (result ≡ length (length_octets n)) × (result < 4) }
 {
@@ -131,7 +134,7 @@ pub fn size(n: u16) -> usize
 }
 
 // Puts the length n; where it ends, or the place itself if there is no room.
-#[tactic(auto, using(crate::proofs::Headers::length_one, crate::proofs::Headers::length_two, crate::proofs::Headers::length_three))]
+#[tactic(auto, using(crate::proofs::Headers::lengths))]
 pub fn put(n: u16, buf: &mut [u8], to: usize) -> usize
     ensures { let w = length_octets n in
         (result ≡ put_end buf.old to w)

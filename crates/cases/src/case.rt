@@ -1,46 +1,48 @@
-// What a case answers, as its line (FORMATS, "The program of cases").
-ghost use Rattle.std.specs.Prelude.{◌≡◌, ◌≤◌, length};
-ghost use Rattle.cases.specs.Output.{Put, longest, case_line};
+// What a case asks of the engine, and what is answered (FORMATS, "The program of cases").
+ghost use Rattle.std.specs.Prelude.{◌≡◌, IfSome, get_or};
+ghost use Rattle.cases.specs.Output.{lent, octet_of, case_outcome};
 
-use crate::line::line_of;
-use crate::text::front;
+use coding::Refusal;
 
-// The line of a case: operation 0 checks the table, 1 writes the data, 2 reads it.
-fn case_line(
-    number: u64,
-    operation: u8,
-    t: usize,
-    table: &[u8],
-    data: &[u8],
-    line: &mut [u8],
-) -> usize
-    requires { longest ≤ length line.old }
-    ensures { Put (case_line number operation t table.now «data».now) 0 line.old line.new result }
-{
-    let mut buf = [0u8; 16384];
-    if operation == 0 {
-        return line_of(number, engine::check(table), &buf, line);
-    }
-    if operation == 1 {
-        let a = engine::write(table, t, data, &mut buf);
-        return line_of(number, a, &buf, line);
-    }
-    let a = engine::read(table, t, data, &mut buf);
-    line_of(number, a, &buf, line)
+#[derive(Clone, Copy, Debug, PartialEq, Eq)]
+pub enum Operation {
+    Check,
+    Write,
+    Read,
 }
 
-// The octets of that line.
-pub fn case_text<'a>(
-    number: u64,
-    operation: u8,
+// The operation of a case, by its head; none if the head has no mark, 43 41, or an operation that there is not.
+pub fn operation_of(head: &[u8; 6]) -> Option<Operation>
+    ensures { IfSome result (λ o. octet_of o ≡ get_or head.now 2 0) }
+{
+    if head[0] != 0x43 || head[1] != 0x41 {
+        return None;
+    }
+    match head[2] {
+        0 => Some(Operation::Check),
+        1 => Some(Operation::Write),
+        2 => Some(Operation::Read),
+        _ => None,
+    }
+}
+
+// What the engine answers to a case, and leaves in the buffer.
+#[tactic(auto, unfolding(crate::specs::Output::case_outcome))]
+pub fn answer(
+    operation: Operation,
     t: usize,
     table: &[u8],
     data: &[u8],
-    line: &'a mut [u8],
-) -> &'a [u8]
-    requires { longest ≤ length line.old }
-    ensures { result.now ≡ case_line number operation t table.now «data».now }
+    buf: &mut [u8; 16384],
+) -> Result<usize, Refusal>
+    requires { buf.old ≡ lent }
+    ensures { let x = case_outcome (octet_of operation) t table.now «data».now in
+        (result ≡ x.answer)
+        × (buf.new ≡ x.buffer) }
 {
-    let n = case_line(number, operation, t, table, data, line);
-    front(line, n)
+    match operation {
+        Operation::Check => engine::check(table),
+        Operation::Write => engine::write(table, t, data, buf),
+        Operation::Read => engine::read(table, t, data, buf),
+    }
 }

@@ -1,84 +1,65 @@
-// The lines that the program prints (FORMATS, "The program of cases"), each made in a line that is lent.
-ghost use Rattle.std.specs.Prelude.{◌≡◌, ◌++◌, ◌≤◌, length};
-ghost use Rattle.cases.specs.Output.{Room, Put, longest, decimal, space, done_line, refused_line, cut_line, output_line};
+// The lines that the program prints (FORMATS, "The program of cases").
+ghost use Rattle.std.specs.Prelude.{Some, OnOk};
+ghost use Rattle.std.specs.Io.KnownBytes.{Appends};
+ghost use Rattle.octets.specs.Numbers.{Octets};
+ghost use Rattle.cases.specs.Output.{hexadecimal, done_line, cut_line, output_line};
 
-use crate::text::{front, put, put_decimal, put_shown, put_text};
-use coding::Answer;
+use coding::Refusal;
+use refusal::report_of;
+use std::io::Write;
+use std::{fmt, io};
 
-// The number of a case, and the text behind it.
-fn begin(number: u64, text: &[u8], line: &mut [u8]) -> usize
-    requires { Room (decimal number ++ text.now) 0 line.old }
-    ensures { Put (decimal number ++ text.now) 0 line.old line.new result }
-{
-    let at = put_decimal(line, 0, number);
-    put_text(line, at, text)
+// Octets in small hexadecimal.
+#[derive(Clone, Copy)]
+struct Hexadecimal<'a> {
+    octets: &'a [u8],
+    ghost below_256: { Octets octets.now },
+}
+
+impl fmt::Display for Hexadecimal<'_> {
+    ghost output = { λ h. Some (hexadecimal h.octets.now) };
+
+    fn fmt<W: fmt::Write>(&self, f: &mut fmt::Formatter<W>) -> fmt::Result {
+        for octet in self.octets {
+            write!(f, "{octet:02x}")?;
+        }
+        Ok(())
+    }
 }
 
 // `1 ok 56410101`, or `1 ok`
-fn done_line(number: u64, res: &[u8], line: &mut [u8]) -> usize
-    requires { Room (done_line number res.now) 0 line.old }
-    ensures { Put (done_line number res.now) 0 line.old line.new result }
+fn say_done<W: Write>(output: &mut W, number: u64, octets: &[u8]) -> io::Result<()>
+    ensures { OnOk result (Appends (W.contents output.old) (W.contents output.new)
+        (done_line number «octets».now)) }
 {
-    let at = begin(number, b" ok", line);
-    let end = put_shown(line, at, res);
-    put(line, end, b'\n')
-}
-
-// `25 0`: the number of a refusal and its place.
-fn put_refusal(line: &mut [u8], at: usize, n: u64, place: u64) -> usize
-    requires { Room (decimal n ++ space ++ decimal place) at line.old }
-    ensures { Put (decimal n ++ space ++ decimal place) at line.old line.new result }
-{
-    let behind = put_decimal(line, at, n);
-    let from = put(line, behind, b' ');
-    put_decimal(line, from, place)
-}
-
-// `1 no 25 0`
-fn refused_line(number: u64, n: u64, place: usize, line: &mut [u8]) -> usize
-    requires { Room (refused_line number n place) 0 line.old }
-    ensures { Put (refused_line number n place) 0 line.old line.new result }
-{
-    let at = begin(number, b" no ", line);
-    let end = put_refusal(line, at, n, place as u64);
-    put(line, end, b'\n')
+    if octets.is_empty() {
+        return writeln!(output, "{number} ok");
+    }
+    writeln!(output, "{number} ok {}", Hexadecimal { octets })
 }
 
 // `1 cut`
-fn cut_line(number: u64, line: &mut [u8]) -> usize
-    requires { Room (cut_line number) 0 line.old }
-    ensures { Put (cut_line number) 0 line.old line.new result }
+pub fn say_cut<W: Write>(output: &mut W, number: u64) -> io::Result<()>
+    ensures { OnOk result (Appends (W.contents output.old) (W.contents output.new) (cut_line number)) }
 {
-    let at = begin(number, b" cut", line);
-    put(line, at, b'\n')
+    writeln!(output, "{number} cut")
 }
 
-// The octets of that line.
-pub fn cut_text<'a>(number: u64, line: &'a mut [u8]) -> &'a [u8]
-    requires { longest ≤ length line.old }
-    ensures { result.now ≡ cut_line number }
+// The line for an answer, as `1 no 25 0`; what is done has its result at the start of the buffer.
+pub fn say<W: Write>(
+    output: &mut W,
+    number: u64,
+    answer: Result<usize, Refusal>,
+    buf: &[u8; 16384],
+) -> io::Result<()>
+    ensures { OnOk result (Appends (W.contents output.old) (W.contents output.new)
+        (output_line number answer buf.now)) }
 {
-    let n = cut_line(number, line);
-    front(line, n)
-}
-
-// The line for an answer; what is done has its result at the start of the buffer.
-pub fn line_of(number: u64, a: Answer, buf: &[u8; 16384], line: &mut [u8]) -> usize
-    requires { longest ≤ length line.old }
-    ensures { Put (output_line number a buf.now) 0 line.old line.new result }
-{
-    match a {
-        Answer::Done(n) => {
-            let all: &[u8] = buf;
-            if n <= all.len() {
-                done_line(number, &all[..n], line)
-            } else {
-                done_line(number, all, line)
-            }
-        }
-        Answer::Refused(r) => {
-            let p = refusal::report_of(r);
-            refused_line(number, p.number, p.place, line)
+    match answer {
+        Ok(n) => say_done(output, number, &buf[..n.min(buf.len())]),
+        Err(r) => {
+            let report = report_of(r);
+            writeln!(output, "{number} no {} {}", report.number, report.place)
         }
     }
 }

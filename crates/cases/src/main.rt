@@ -3,29 +3,34 @@
 
 mod case;
 mod line;
-mod text;
 
-ghost use Rattle.std.specs.Prelude.{◌≤◌, length, IfOk, OnOk};
+ghost use Rattle.std.specs.Prelude.{◌≡◌, ◌≤◌, length, IfOk, OnOk};
 ghost use Rattle.std.specs.Io.KnownBytes.{Appends};
-ghost use Rattle.cases.specs.Output.{case_line, cut_line};
+ghost use Rattle.cases.specs.Output.{octet_of, case_line};
+ghost use Rattle.cases.specs.declared.Stop.TheVariants.{Io};
 
+use case::Operation;
+use line::{say, say_cut};
 use std::io;
 use std::io::{Read, Write};
 
 // The longest table, and the longest data, that a case may have.
 const LONGEST: usize = 16385;
 
-// The longest line: `longest` of specs/Output.antt.
-const LINE: usize = 32793;
-
-// Two octets, the high one first.
-fn two(high: u8, low: u8) -> usize {
-    (high as usize) * 256 + low as usize
+// Why no answer is printed for a case: there is none, it is cut or has no mark, or reading or writing failed.
+#[derive(Debug, Drop)]
+enum Stop {
+    End,
+    Cut,
+    Io(io::Error),
 }
 
-// The type of a case.
-fn number_of(octet: u8) -> usize {
-    octet as usize
+impl From<io::Error> for Stop {
+    ghost from_gives = { λ x r. r ≡ Io x };
+
+    fn from(x: io::Error) -> Stop {
+        Stop::Io(x)
+    }
 }
 
 // Reads until a buffer is full or the input ends; the octets read.
@@ -43,116 +48,80 @@ fn read_full<R: Read>(input: &mut R, buf: &mut [u8]) -> io::Result<usize>
     Ok(done)
 }
 
-// Fills the first n octets of a buffer from the input; false if the input ends first.
-fn fill<R: Read>(input: &mut R, buf: &mut [u8], n: usize) -> io::Result<bool>
-    requires { n ≤ length buf.old }
+// Reads as many octets as two octets tell, the high one first, to the start of a buffer; how many they are.
+fn read_part<R: Read>(input: &mut R, size: [u8; 2], buf: &mut [u8; LONGEST]) -> Result<usize, Stop>
+    ensures { IfOk result (λ n. n ≤ 16385) }
 {
-    let got = read_full(input, &mut buf[..n])?;
-    Ok(got == n)
-}
-
-// Whether a case has its mark, 43 41, and a known operation.
-fn known(head: &[u8; 6]) -> bool {
-    head[0] == 0x43 && head[1] == 0x41 && head[2] <= 2
+    let n = usize::from(u16::from_be_bytes(size));
+    if LONGEST < n {
+        return Err(Stop::Cut);
+    }
+    if read_full(input, &mut buf[..n])? < n {
+        return Err(Stop::Cut);
+    }
+    Ok(n)
 }
 
 // Runs a case and prints its line.
+#[tactic(auto, unfolding(crate::specs::Output::lent, crate::specs::Output::case_line))]
 fn run<W: Write>(
     output: &mut W,
     number: u64,
-    operation: u8,
+    operation: Operation,
     t: usize,
     table: &[u8],
     data: &[u8],
 ) -> io::Result<()>
     ensures { OnOk result (Appends (W.contents output.old) (W.contents output.new)
-        (case_line number operation t table.now «data».now)) }
+        (case_line number (octet_of operation) t table.now «data».now)) }
 {
-    let mut space = [0u8; LINE];
-    output.write_all(case::case_text(number, operation, t, table, data, &mut space))
+    let mut buf = [0u8; 16384];
+    let answer = case::answer(operation, t, table, data, &mut buf);
+    say(output, number, answer, &buf)
 }
 
-// Says that a case is cut.
-fn say_cut<W: Write>(output: &mut W, number: u64) -> io::Result<()>
-    ensures { OnOk result (Appends (W.contents output.old) (W.contents output.new) (cut_line number)) }
-{
-    let mut space = [0u8; LINE];
-    output.write_all(line::cut_text(number, &mut space))
-}
-
-// The data of a case; false if the case is cut.
-fn with_table<R: Read, W: Write>(
-    input: &mut R,
-    output: &mut W,
-    number: u64,
-    head: &[u8; 6],
-    table: &[u8],
-) -> io::Result<bool> {
-    let mut size = [0u8; 2];
-    if !fill(input, &mut size, 2)? {
-        return Ok(false);
-    }
-    let n = two(size[0], size[1]);
-    if LONGEST < n {
-        return Ok(false);
-    }
-    let mut data = [0u8; LONGEST];
-    if !fill(input, &mut data, n)? {
-        return Ok(false);
-    }
-    run(
-        output,
-        number,
-        head[2],
-        number_of(head[3]),
-        table,
-        &data[..n],
-    )?;
-    Ok(true)
-}
-
-// What follows the head of a case; false if the case is cut.
-fn with_head<R: Read, W: Write>(
-    input: &mut R,
-    output: &mut W,
-    number: u64,
-    head: &[u8; 6],
-) -> io::Result<bool> {
-    if !known(head) {
-        return Ok(false);
-    }
-    let n = two(head[4], head[5]);
-    if LONGEST < n {
-        return Ok(false);
-    }
-    let mut table = [0u8; LONGEST];
-    if !fill(input, &mut table, n)? {
-        return Ok(false);
-    }
-    with_table(input, output, number, head, &table[..n])
-}
-
-// One case; false if there is none, or it is cut, which is then said.
-fn one<R: Read, W: Write>(input: &mut R, output: &mut W, number: u64) -> io::Result<bool> {
+// One case: its head, the table, the size of the data, the data.
+fn one<R: Read, W: Write>(input: &mut R, output: &mut W, number: u64) -> Result<(), Stop> {
     let mut head = [0u8; 6];
     let got = read_full(input, &mut head)?;
     if got == 0 {
-        return Ok(false);
+        return Err(Stop::End);
     }
-    if got == 6 && with_head(input, output, number, &head)? {
-        return Ok(true);
+    if got < 6 {
+        return Err(Stop::Cut);
     }
-    say_cut(output, number)?;
-    Ok(false)
+    let Some(operation) = case::operation_of(&head) else {
+        return Err(Stop::Cut);
+    };
+    let mut table = [0u8; LONGEST];
+    let k = read_part(input, [head[4], head[5]], &mut table)?;
+    let mut size = [0u8; 2];
+    if read_full(input, &mut size)? < 2 {
+        return Err(Stop::Cut);
+    }
+    let mut data = [0u8; LONGEST];
+    let n = read_part(input, size, &mut data)?;
+    run(
+        output,
+        number,
+        operation,
+        usize::from(head[3]),
+        &table[..k],
+        &data[..n],
+    )?;
+    Ok(())
 }
 
-// Cases up to the end of the input or to one that is cut; the number bounds the loop.
+// Cases up to the end of the input or to one that is cut, which is then said; the number bounds the loop.
 fn main(rt: HostRuntime) -> io::Result<()> {
     let mut input = rt.stdin();
     let mut output = rt.stdout();
     for number in 1..u64::MAX {
-        if !one(&mut input, &mut output, number)? {
-            break;
+        match one(&mut input, &mut output, number) {
+            Ok(()) => {}
+            Err(Stop::End) => break,
+            Err(Stop::Cut) => return say_cut(&mut output, number),
+            Err(Stop::Io(e)) => return Err(e),
         }
     }
     Ok(())

@@ -22,7 +22,7 @@ use Rattle.table.proofs.Nodes.{like_low}
 use Rattle.records.specs.Entries.{unpacked, untagged, counted, Filled}
 use Rattle.records.specs.declared.entry.Entry.{Entry}
 use Rattle.records.specs.declared.entry.Span.{Span}
-use Rattle.checker.specs.Gathering.{Met, Gathered, GatheredUnder, Gathers, StandIns}
+use Rattle.checker.specs.Gathering.{Met, Gathered, GatheredUnder, StandIns}
 use Rattle.checker.proofs.Rules.{entered_below, entry_at}
 use Rattle.checker.proofs.Alike.{code_none}
 use Rattle.table.proofs.Walk.{walks_append, Kept, kept, newly, keeps, stays, one_fewer}
@@ -129,6 +129,14 @@ module _ (T : Table) (m : ℕ) (v : List ℕ) (k : ℕ) {w : List ℕ} (b : List
   under_done h g =
       record { met = λ z. absurd (false≢true z); walked = λ _. going_done (rw (every_none 1 b p n h) at x); fewer = g }
 
+-- what a walk from t needs: the index, what stands for each record, and the marks of 128 records with the one that is put behind them
+pub record Gathers (b index nodes flags : List ℕ) (t : ℕ) : Type 0 where
+  pub filled : Filled b index (count_in b)
+  pub ready : StandIns (table_in b) (count_in b) nodes
+  pub named : Named (table_in b) (count_in b)
+  pub marks : length flags ≡ 129
+  pub there : t < count_in b
+
 pub gathers_from : {b index nodes : List ℕ} {n : ℕ} → Filled b index n → StandIns (table_in b) n nodes → Named (table_in b) n → {v : List ℕ} {t : ℕ}
     → length v ≡ 129 → t < n → Gathers b index nodes v t
 gathers_from x r m l h =
@@ -166,3 +174,7 @@ module _ {b index nodes v : List ℕ} {t : ℕ} (x : Gathers b index nodes v t) 
     alternatives_below c =
         let y = entry_at x.filled t x.there d in
         rw q (entered_below y (code_none o y (x.filled.shaped t x.there) (rw d c)) (x.named.tagged t x.there))
+
+pub gathers_of : {b index nodes flags : List ℕ} {t : ℕ} → Filled b index (count_in b) → StandIns (table_in b) (count_in b) nodes → Named (table_in b) (count_in b)
+    → length flags ≡ 129 → t < count_in b → Gathers b index nodes flags t
+gathers_of x r m l h = record { filled = x; ready = r; named = m; marks = l; there = h }

@@ -186,7 +186,7 @@ pub record Remaining (b : List ℕ) (from all at left : ℕ) : Type 0 where
   pub there : (a : ℕ) → In a (every_at 2 b at left) → a < count_in b
   pub same : Clash (table_in b) (every_at 2 b at left) (optional_in b at) ↔ Clash (table_in b) (every_at 2 b from all) (optional_in b from)
 
-pub remaining_all : {b index nodes : List ℕ} {s : Span} → Compares b index nodes s → s.step ≡ 2 → Remaining b s.first s.count s.first s.count
+pub remaining_all : {b : List ℕ} {s : Span} → Compares b s → s.step ≡ 2 → Remaining b s.first s.count s.first s.count
 remaining_all x e = record { near = x.near; few = x.few; there = rw e at x.there; same = Iff.rfl }
 
 module _ {b : List ℕ} {from all at left n : ℕ} (x : Remaining b from all at left) (some : 0 < left)
@@ -194,11 +194,9 @@ module _ {b : List ℕ} {from all at left n : ℕ} (x : Remaining b from all at 
   pub its_count : (n ≤ left) × (0 < n)
   its_count = (run_few (table_in b) b at left n some e, run_some (table_in b) b at left n some e)
 
-  pub compares_run : {index nodes : List ℕ} {s : Span} → Compares b index nodes s → Compares b index nodes (record { first = at; count = n; step = 2 })
+  pub compares_run : {s : Span} → Compares b s → Compares b (record { first = at; count = n; step = 2 })
   compares_run y =
       record {
-        filled = y.filled;
-        ready = y.ready;
         straight = y.straight;
         there = λ a i. x.there a (rw (left_split (table_in b) b at left n some e) (in_left _ i));
         few = omega (arith, x.few, its_count.0);

@@ -200,13 +200,11 @@ named_few r step b p n s e = omega (arith, few_named r.body (limits r s).shaped,
 -- the parts of record t, in the code's hands: what comparing them needs, and what it says of the record
 module _ {b index : List ℕ} (x : Filled b index (count_in b)) {t : ℕ} (h : t < count_in b) {e : Entry} (d : e ≡ unpacked (get_or index t 0)) {s : Span}
     (q : s ≡ span_of b e.kind e.own) where
-  pub compares : Octets b → {nodes : List ℕ} → StandIns (table_in b) (count_in b) nodes → Straight (table_in b) (count_in b) → Compares b index nodes s
-  compares o r y =
+  pub compares : Octets b → Straight (table_in b) (count_in b) → Compares b s
+  compares o y =
       let near = span_near x t h d o q in
       let named = span_named x t h d q in
       record {
-        filled = x;
-        ready = r;
         straight = y;
         there = λ a i. named_there (table_in b) (count_in b) y.named t a h (rw named at i);
         few = named_few (table_in b t) s.step b s.first s.count (x.shaped t h) named;

@@ -7,8 +7,8 @@ use Rattle.octets.specs.Lists.{lowest}
 use Rattle.table.specs.Syntax.{Table}
 use Rattle.table.specs.Reading.{every_at, table_in, count_in}
 use Rattle.table.specs.Rules.{below}
-use Rattle.table.specs.Walk.{like, Named, Straight, free, Hits, Walks}
-use Rattle.records.specs.Entries.{unpacked, untagged, Filled}
+use Rattle.table.specs.Walk.{like, Straight, free, Hits, Walks}
+use Rattle.records.specs.Entries.{unpacked, untagged}
 use Rattle.records.specs.declared.entry.Span.{Span}
 
 -- the first tag of a code: all but the bit that says constructed
@@ -44,18 +44,8 @@ pub record GatheredUnder (T : Table) (m : ℕ) (v : List ℕ) (k : ℕ) (r : Boo
   pub walked : r ≡ false → Walks T m v (below T k) w
   pub fewer : free w ≤ free v
 
--- what a walk from t needs: the index, what stands for each record, and the marks of 128 records with the one that is put behind them
-pub record Gathers (b index nodes flags : List ℕ) (t : ℕ) : Type 0 where
-  pub filled : Filled b index (count_in b)
-  pub ready : StandIns (table_in b) (count_in b) nodes
-  pub named : Named (table_in b) (count_in b)
-  pub marks : length flags ≡ 129
-  pub there : t < count_in b
-
--- what comparing the parts of a span needs: the same, and that every part is there
-pub record Compares (b index nodes : List ℕ) (s : Span) : Type 0 where
-  pub filled : Filled b index (count_in b)
-  pub ready : StandIns (table_in b) (count_in b) nodes
+-- what comparing the parts of a span needs: that every part is there
+pub record Compares (b : List ℕ) (s : Span) : Type 0 where
   pub straight : Straight (table_in b) (count_in b)
   pub there : (a : ℕ) → In a (every_at s.step b s.first s.count) → a < count_in b
   pub few : s.count ≤ 16

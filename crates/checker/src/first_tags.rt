@@ -1,13 +1,13 @@
 // 4 and 5: a CHOICE without tags that comes back to itself, and first tags that two parts in one run share (FORMATS, "Tables" and "Refusals").
 ghost use Rattle.std.specs.Prelude.{◌≡◌, true, false, not, ℕ, suc, ◌+◌, ◌-◌, ◌*◌, ◌≤◌, ◌<◌, get_or};
 ghost use Rattle.octets.specs.Lists.{lowest};
-ghost use Rattle.octets.specs.Numbers.{if_below};
+ghost use Rattle.octets.specs.Numbers.{Octets, if_below};
 ghost use Rattle.table.specs.Rules.{Clash};
 ghost use Rattle.table.specs.Reading.{every_at, table_in, count_in};
 ghost use Rattle.table.specs.Decide.{circular, sharing};
 ghost use Rattle.table.specs.Walk.{like, Named, Straight};
 ghost use Rattle.records.specs.Entries.{unpacked, untagged, Filled};
-ghost use Rattle.checker.specs.Gathering.{like_in, tag_of, StandIns, Gathers, Gathered, GatheredUnder, Compares, optional_in};
+ghost use Rattle.checker.specs.Gathering.{like_in, tag_of, StandIns, Gathered, GatheredUnder, Compares, optional_in};
 
 use kinds::SEQUENCE;
 use octets::octet;
@@ -46,23 +46,29 @@ pub(crate) fn stand_ins(table: &[u8], index: &[u64; 128], n: usize) -> [u8; 128]
     nodes
 }
 
+// A table, its index, and what stands for each of its records by its first tag.
+#[derive(Clone, Copy)]
+pub(crate) struct Known<'a> {
+    pub table: &'a [u8],
+    pub index: &'a [u64; 128],
+    pub nodes: &'a [u8; 128],
+    ghost octets: { Octets table.now },
+    ghost filled: { Filled table.now index.now (count_in table.now) },
+    ghost ready: { StandIns (table_in table.now) (count_in table.now) nodes.now },
+    ghost named: { Named (table_in table.now) (count_in table.now) },
+}
+
 // Where the mark stands that a walk puts: behind the flags of the 128 records. As a parameter it would widen each frame of `gather` and
 // `gather_under`, a recursion of up to 127 calls.
 const MARK: usize = 128;
 
 // Marks what stands for record t, and for the records under it through CHOICEs without tags. True if another mark was met.
 #[cycle(gather_gather_under)]
-fn gather(
-    table: &[u8],
-    index: &[u64; 128],
-    nodes: &[u8; 128],
-    flags: &mut [u8; 129],
-    t: usize,
-) -> bool
-    requires { Gathers table.now index.now nodes.now flags.old t }
-    ensures { Gathered (table_in table.now) (get_or flags.old 128 0) flags.old t result flags.new }
+fn gather(w: &Known, flags: &mut [u8; 129], t: usize) -> bool
+    requires { t < count_in w.now.table.now }
+    ensures { Gathered (table_in w.now.table.now) (get_or flags.old 128 0) flags.old t result flags.new }
 {
-    let q = nodes[t] as usize;
+    let q = w.nodes[t] as usize;
     let f = flags[q];
     let mark = flags[MARK];
     if f == mark {
@@ -72,27 +78,21 @@ fn gather(
         return true;
     }
     flags[q] = mark;
-    if first(index[t]) != UNTAGGED {
+    if first(w.index[t]) != UNTAGGED {
         return false;
     }
-    gather_under(table, index, nodes, flags, t)
+    gather_under(w, flags, t)
 }
 
 // The same for the alternatives of the CHOICE without tags t.
 #[cycle(gather_gather_under)]
-fn gather_under(
-    table: &[u8],
-    index: &[u64; 128],
-    nodes: &[u8; 128],
-    flags: &mut [u8; 129],
-    t: usize,
-) -> bool
-    requires { Gathers table.now index.now nodes.now flags.old t × ((unpacked (get_or index.now t 0)).code ≡ untagged) }
-    ensures { GatheredUnder (table_in table.now) (get_or flags.old 128 0) flags.old t result flags.new }
+fn gather_under(w: &Known, flags: &mut [u8; 129], t: usize) -> bool
+    requires { (t < count_in w.now.table.now) × ((unpacked (get_or w.now.index.now t 0)).code ≡ untagged) }
+    ensures { GatheredUnder (table_in w.now.table.now) (get_or flags.old 128 0) flags.old t result flags.new }
 {
-    let s = alternatives(table, unpack(index[t]));
+    let s = alternatives(w.table, unpack(w.index[t]));
     for at in s.first..s.first + s.count {
-        if gather(table, index, nodes, flags, octet(table, at)) {
+        if gather(w, flags, octet(w.table, at)) {
             return true;
         }
     }
@@ -100,37 +100,31 @@ fn gather_under(
 }
 
 // Whether record t is a CHOICE without tags that reaches itself through such CHOICEs alone.
-fn is_circular(table: &[u8], index: &[u64; 128], nodes: &[u8; 128], t: usize) -> bool
-    requires { let b = table.now in
-        Filled b index.now (count_in b) × StandIns (table_in b) (count_in b) nodes.now × Named (table_in b) (count_in b) × (t < count_in b) }
-    ensures { result ≡ circular (table_in table.now) (count_in table.now) t }
+fn is_circular(w: &Known, t: usize) -> bool
+    requires { t < count_in w.now.table.now }
+    ensures { result ≡ circular (table_in w.now.table.now) (count_in w.now.table.now) t }
 {
-    if first(index[t]) != UNTAGGED {
+    if first(w.index[t]) != UNTAGGED {
         return false;
     }
     let mut flags = [0u8; 129];
     flags[MARK] = 1;
-    gather_under(table, index, nodes, &mut flags, t);
+    gather_under(w, &mut flags, t);
     flags[t] != 0
 }
 
 // The lowest of n records that is one.
-pub(crate) fn lowest_circular(
-    table: &[u8],
-    index: &[u64; 128],
-    nodes: &[u8; 128],
-    n: usize,
-) -> Option<usize>
-    requires { Filled table.now index.now n × StandIns (table_in table.now) n nodes.now × Named (table_in table.now) n }
-    ensures { result ≡ if_below n (lowest (circular (table_in table.now) n) n) }
+pub(crate) fn lowest_circular(w: &Known, n: usize) -> Option<usize>
+    requires { n ≡ count_in w.now.table.now }
+    ensures { result ≡ if_below n (lowest (circular (table_in w.now.table.now) n) n) }
 {
-    (0..n).find(|&t| is_circular(table, index, nodes, t))
+    (0..n).find(|&t| is_circular(w, t))
 }
 
 // Whether two of the parts have a first tag in common.
-fn clash(table: &[u8], index: &[u64; 128], nodes: &[u8; 128], s: Span) -> bool
-    requires { Compares table.now index.now nodes.now s }
-    ensures { let b = table.now in
+fn clash(w: &Known, s: Span) -> bool
+    requires { Compares w.now.table.now s }
+    ensures { let b = w.now.table.now in
         let C = Clash (table_in b) (every_at s.step b s.first s.count) (λ k. true) in
         (result ≡ true → C) × (result ≡ false → C → ⊥) }
 {
@@ -140,8 +134,8 @@ fn clash(table: &[u8], index: &[u64; 128], nodes: &[u8; 128], s: Span) -> bool
     let mut flags = [0u8; 129];
     for k in 0..s.count {
         flags[MARK] = k as u8 + 1;
-        let a = octet(table, s.first + s.step * k);
-        if gather(table, index, nodes, &mut flags, a) {
+        let a = octet(w.table, s.first + s.step * k);
+        if gather(w, &mut flags, a) {
             return true;
         }
     }
@@ -160,22 +154,22 @@ fn run_length(table: &[u8], at: usize, left: usize) -> usize
 }
 
 // Whether two members of one run have a first tag in common.
-fn clash_in_a_run(table: &[u8], index: &[u64; 128], nodes: &[u8; 128], s: Span) -> bool
-    requires { Compares table.now index.now nodes.now s × (s.step ≡ 2) }
-    ensures { let b = table.now in
+fn clash_in_a_run(w: &Known, s: Span) -> bool
+    requires { Compares w.now.table.now s × (s.step ≡ 2) }
+    ensures { let b = w.now.table.now in
         let C = Clash (table_in b) (every_at 2 b s.first s.count) (optional_in b s.first) in
         (result ≡ true → C) × (result ≡ false → C → ⊥) }
 {
     let mut first = s.first;
     let mut left = s.count;
     while 0 < left {
-        let count = run_length(table, first, left);
+        let count = run_length(w.table, first, left);
         let r = Span {
             first,
             count,
             step: 2,
         };
-        if clash(table, index, nodes, r) {
+        if clash(w, r) {
             return true;
         }
         first += 2 * count;
@@ -185,31 +179,25 @@ fn clash_in_a_run(table: &[u8], index: &[u64; 128], nodes: &[u8; 128], s: Span) 
 }
 
 // Whether a record is refused: a SEQUENCE if two members of one run share a first tag, a SET or a CHOICE if any two parts do; a simple one never.
-fn is_sharing(table: &[u8], index: &[u64; 128], nodes: &[u8; 128], t: usize) -> bool
-    requires { let b = table.now in
-        Filled b index.now (count_in b) × StandIns (table_in b) (count_in b) nodes.now × Straight (table_in b) (count_in b) × (t < count_in b) }
-    ensures { result ≡ sharing (table_in table.now) (count_in table.now) t }
+fn is_sharing(w: &Known, t: usize) -> bool
+    requires { let b = w.now.table.now in Straight (table_in b) (count_in b) × (t < count_in b) }
+    ensures { result ≡ sharing (table_in w.now.table.now) (count_in w.now.table.now) t }
 {
-    let e = unpack(index[t]);
+    let e = unpack(w.index[t]);
     if e.simple {
         return false;
     }
-    let s = parts(table, e);
+    let s = parts(w.table, e);
     if e.kind == SEQUENCE {
-        return clash_in_a_run(table, index, nodes, s);
+        return clash_in_a_run(w, s);
     }
-    clash(table, index, nodes, s)
+    clash(w, s)
 }
 
 // The lowest of n records with such parts.
-pub(crate) fn lowest_sharing(
-    table: &[u8],
-    index: &[u64; 128],
-    nodes: &[u8; 128],
-    n: usize,
-) -> Option<usize>
-    requires { Filled table.now index.now n × StandIns (table_in table.now) n nodes.now × Straight (table_in table.now) n }
-    ensures { result ≡ if_below n (lowest (sharing (table_in table.now) n) n) }
+pub(crate) fn lowest_sharing(w: &Known, n: usize) -> Option<usize>
+    requires { (n ≡ count_in w.now.table.now) × Straight (table_in w.now.table.now) n }
+    ensures { result ≡ if_below n (lowest (sharing (table_in w.now.table.now) n) n) }
 {
-    (0..n).find(|&t| is_sharing(table, index, nodes, t))
+    (0..n).find(|&t| is_sharing(w, t))
 }

@@ -15,6 +15,7 @@ ghost use Rattle.table.specs.Reading.{table_in};
 ghost use Rattle.records.specs.Entries.{Filled};
 ghost use Rattle.checker.specs.Index.{unless_found, count_after, index_after};
 
+use first_tags::Known;
 use table::{CheckCause, Flaw};
 
 // Octets of a table.
@@ -44,9 +45,14 @@ fn judge_choices(table: &[u8], index: &[u64; 128], n: usize) -> Result<(), Flaw>
     ensures { result ≡ judge_choices (table_in table.now) n }
 {
     let nodes = first_tags::stand_ins(table, index, n);
-    let circular = first_tags::lowest_circular(table, index, &nodes, n);
+    let known = Known {
+        table,
+        index,
+        nodes: &nodes,
+    };
+    let circular = first_tags::lowest_circular(&known, n);
     unless_found(CheckCause::ChoiceLoop, circular)?;
-    let sharing = first_tags::lowest_sharing(table, index, &nodes, n);
+    let sharing = first_tags::lowest_sharing(&known, n);
     unless_found(CheckCause::SharedTag, sharing)?;
     unless_found(CheckCause::NoValue, finite::lowest(table, index, n))
 }

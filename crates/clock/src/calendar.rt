@@ -5,19 +5,15 @@ ghost use Rattle.dates.specs.Calendar.{leap, february as Calendar·february, mon
 use dates::{DateTime, TimeKind};
 
 // Whether a year has a 29 February.
+#[tactic(auto, unfolding(dates::specs::Calendar::leap))]
 pub fn is_leap(year: u16) -> bool
     ensures { result ≡ leap year }
 {
-    if year % 4 != 0 {
-        return false;
-    }
-    if year % 100 != 0 {
-        return true;
-    }
-    year % 400 == 0
+    year % 4 == 0 && (year % 100 != 0 || year % 400 == 0)
 }
 
 // The days of a year's February.
+#[tactic(auto, unfolding(dates::specs::Calendar::february))]
 fn february(year: u16) -> u8
     ensures { result ≡ Calendar·february year }
 {
@@ -41,6 +37,7 @@ pub fn month_days(year: u16, month: u8) -> u8
 }
 
 // How many years a kind of time has, from 0 on.
+#[tactic(auto, unfolding(dates::specs::Calendar::years))]
 pub fn years_of(kind: TimeKind) -> u16
     ensures { result ≡ years kind }
 {
@@ -51,43 +48,25 @@ pub fn years_of(kind: TimeKind) -> u16
 }
 
 // Whether there is such a date.
+#[tactic(auto, unfolding(dates::specs::Calendar::is_date))]
 pub fn is_date(t: DateTime) -> bool
     ensures { result ≡ is_date t }
 {
-    if t.month < 1 {
-        return false;
-    }
-    if 12 < t.month {
-        return false;
-    }
-    if t.day < 1 {
-        return false;
-    }
-    t.day <= month_days(t.year, t.month)
+    (1..=12).contains(&t.month) && (1..=month_days(t.year, t.month)).contains(&t.day)
 }
 
 // Whether there is such a time of day.
+#[tactic(auto, unfolding(dates::specs::Calendar::is_time_of_day))]
 pub fn is_time_of_day(t: DateTime) -> bool
     ensures { result ≡ is_time_of_day t }
 {
-    if 24 <= t.hour {
-        return false;
-    }
-    if 60 <= t.minute {
-        return false;
-    }
-    t.second < 60
+    t.hour < 24 && t.minute < 60 && t.second < 60
 }
 
 // Whether a time is one of its kind.
+#[tactic(auto, unfolding(dates::specs::Calendar::in_range))]
 pub fn in_range(kind: TimeKind, t: DateTime) -> bool
     ensures { result ≡ in_range kind t }
 {
-    if years_of(kind) <= t.year {
-        return false;
-    }
-    if !is_date(t) {
-        return false;
-    }
-    is_time_of_day(t)
+    t.year < years_of(kind) && is_date(t) && is_time_of_day(t)
 }

@@ -4,9 +4,10 @@ ghost use Rattle.octets.specs.Buffers.{filled};
 ghost use Rattle.dates.specs.Own.{time_at, time_octets};
 
 use dates::DateTime;
-use octets::{octet, two};
+use octets::{copy, octet, two};
 
 // The time whose octets these are.
+#[tactic(auto, unfolding(dates::specs::Own::time_at))]
 pub fn of(o: &[u8]) -> DateTime
     ensures { result ≡ time_at o.now 0 }
 {
@@ -21,17 +22,13 @@ pub fn of(o: &[u8]) -> DateTime
 }
 
 // Puts the octets of a time over a part of seven; one of another length stays.
+#[tactic(auto, unfolding(dates::specs::Own::time_octets))]
 pub fn put(t: DateTime, part: &mut [u8])
     ensures { part.new ≡ filled part.old (time_octets t) }
 {
-    if part.len() != 7 {
-        return;
-    }
-    part[0] = (t.year / 256) as u8;
-    part[1] = (t.year % 256) as u8;
-    part[2] = t.month;
-    part[3] = t.day;
-    part[4] = t.hour;
-    part[5] = t.minute;
-    part[6] = t.second;
+    let [high, low] = t.year.to_be_bytes();
+    copy(
+        &[high, low, t.month, t.day, t.hour, t.minute, t.second],
+        part,
+    );
 }

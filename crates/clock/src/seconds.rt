@@ -6,8 +6,10 @@ ghost use Rattle.dates.specs.Seconds.{sum, year_days, day_number, seconds_of, el
 
 use crate::calendar::is_leap;
 use dates::DateTime;
+use std::cmp::Ordering;
 
 // The days of a year.
+#[tactic(auto, using(dates::proofs::Days::year_days_lem))]
 fn year_days(year: u16) -> usize
     ensures { (result ≡ year_days year) × (result < 367) }
 {
@@ -15,6 +17,7 @@ fn year_days(year: u16) -> usize
 }
 
 // The days of all years before a year; (y + 3) / 4 multiples of four are below y.
+#[tactic(auto, using(dates::proofs::Days::years_closed))]
 fn before_year(year: u16) -> usize
     ensures { (result ≡ sum year_days year) × (result < 24000000) }
 {
@@ -43,6 +46,7 @@ fn before_month(year: u16, month: u8) -> usize
 }
 
 // The days from 1 January of the year 0 to a date.
+#[tactic(auto, unfolding(dates::specs::Seconds::day_number))]
 pub fn day_number(t: DateTime) -> usize
     ensures { (result ≡ day_number t) × (result < 24001000) }
 {
@@ -54,6 +58,7 @@ pub fn day_number(t: DateTime) -> usize
 }
 
 // The seconds from midnight of that day to a time.
+#[tactic(auto, unfolding(dates::specs::Seconds::seconds_of))]
 pub fn seconds(t: DateTime) -> usize
     ensures { (result ≡ seconds_of t) × (result < 2199023255552) }
 {
@@ -61,33 +66,20 @@ pub fn seconds(t: DateTime) -> usize
 }
 
 // The seconds from the first time to the second, negative if that is before it.
+#[tactic(auto, unfolding(dates::specs::Seconds::elapsed))]
 pub fn elapsed(a: DateTime, b: DateTime) -> i64
     ensures { result ≡ Seconds·elapsed a b }
 {
     seconds(b) as i64 - seconds(a) as i64
 }
 
-// -1 for below, 1 for above, and else what comes next.
-fn compare(x: u16, y: u16, next: i64) -> i64
-    ensures { result ≡ (if (ltb x y) (negsuc 0) λ _. if (ltb y x) (pos 1) λ _. next) }
-{
-    if x < y {
-        return -1;
-    }
-    if y < x {
-        return 1;
-    }
-    next
-}
-
 // -1 for before, 0 for the same, 1 for after: the first field in which they differ decides.
 pub fn order(a: DateTime, b: DateTime) -> i64
     ensures { result ≡ Seconds·order a b }
 {
-    let seconds = compare(a.second as u16, b.second as u16, 0);
-    let minutes = compare(a.minute as u16, b.minute as u16, seconds);
-    let hours = compare(a.hour as u16, b.hour as u16, minutes);
-    let days = compare(a.day as u16, b.day as u16, hours);
-    let months = compare(a.month as u16, b.month as u16, days);
-    compare(a.year, b.year, months)
+    match a.cmp(&b) {
+        Ordering::Less => -1,
+        Ordering::Equal => 0,
+        Ordering::Greater => 1,
+    }
 }

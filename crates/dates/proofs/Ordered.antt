@@ -6,15 +6,16 @@ use native.Mathlib.Nat.{suc-mul, zero-mul}
 use native.Mathlib.Omega.{arith}
 use Prim.Native.Nat.{ℕ, zero, suc, ◌+◌, ◌*◌, ◌<◌}
 use lib.Dec.{ltb}
-use lib.IntN.{ℤ, pos, negsuc, pos-ne-negsuc, nat_abs}
+use lib.IntN.{pos, negsuc, pos-ne-negsuc, nat_abs}
 use lib.ListN.{length}
-use mir.Syntax.{w64}
-use mir.Val.{SFits, to_z, of_z}
-use mir.ValLaws.{to_z-of_z}
 use borrow.Author.Tests.{ltb-true, ltb-false, lt-ltb, le-ltb}
-use Rattle.octets.specs.Tests.{if}
 use Rattle.octets.proofs.Tests.{test}
-use Rattle.dates.specs.Seconds.{sum, ordered}
+use Rattle.std.proofs.Common.{Ordering, Less, Equal, Greater}
+use Rattle.std.specs.Ordering.{match_ordering, nat_cmp, ordering_then}
+use Rattle.std.specs.Cmp.Lexicographic.{slice_cmp}
+use Rattle.std.proofs.lemmas.Bool.Decides.{nat_tests}
+use Rattle.dates.specs.declared.DateTime.{DateTime}
+use Rattle.dates.specs.Seconds.{sum, ordered, fields, order}
 use Rattle.dates.proofs.Days.{sum_step}
 
 module _ (x y : ℕ) (xs ys : List ℕ) where
@@ -90,8 +91,23 @@ ordered_same (x ∷ xs) (y ∷ ys) l e =
     (λ h. absurd (omega (arith, ap nat_abs (sym e ∙ above x y xs ys h))))
     (λ h. rw (h, ordered_same xs ys (omega (arith, l)) (sym (tied x y xs ys h) ∙ e)) refl)
 
--- one number before others, as the code compares it once it has compared those
-pub before_others : (x y : ℕ) (xs ys : List ℕ) {n r : ℤ} → SFits w64 n → n ≡ ordered xs ys
-    → r ≡ (if (ltb x y) (negsuc 0) λ _. if (ltb y x) (pos 1) λ _. to_z w64 (of_z w64 n)) → r ≡ ordered (x ∷ xs) (y ∷ ys)
+then_equal : (o : Ordering) → ordering_then o Equal ≡ o
+then_equal Less = refl
+then_equal Equal = refl
+then_equal Greater = refl
+
+-- std's order of lists of one length, as -1, 0 or 1
+ordered_by_cmp : (xs ys : List ℕ) → length xs ≡ length ys → match_ordering (slice_cmp nat_cmp xs ys) (negsuc 0) (pos 0) (pos 1) ≡ ordered xs ys
 unfolding ordered
-before_others x y xs ys {n} f e h = h ∙ rw (to_z-of_z w64 n f, e) refl
+ordered_by_cmp [] [] l = refl
+ordered_by_cmp [] (y ∷ ys) l = absurd (omega (arith, l))
+ordered_by_cmp (x ∷ xs) [] l = absurd (omega (arith, l))
+ordered_by_cmp (x ∷ xs) (y ∷ ys) l = grind (arith, nat_tests, ordered_by_cmp xs ys (omega (arith, l)))
+
+-- the derived order of times compares one field after another
+pub order_by_cmp : (a b : DateTime) (o : Ordering)
+    → o ≡ ordering_then (nat_cmp a.year b.year) (ordering_then (nat_cmp a.month b.month) (ordering_then (nat_cmp a.day b.day)
+    (ordering_then (nat_cmp a.hour b.hour) (ordering_then (nat_cmp a.minute b.minute) (nat_cmp a.second b.second)))))
+    → match_ordering o (negsuc 0) (pos 0) (pos 1) ≡ order a b
+unfolding order fields
+order_by_cmp a b o e = rw (e, ← then_equal (nat_cmp a.second b.second)) (ordered_by_cmp (fields a) (fields b) refl)

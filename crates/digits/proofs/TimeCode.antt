@@ -5,12 +5,12 @@ use mathlib.Core.Bool.{true, false, true≢false}
 use mathlib.Core.List.{List, [], ◌∷◌, ◌++◌}
 use mathlib.Core.Path.{◌≡◌, refl, sym, ap, ◌∙◌}
 use native.Mathlib.Omega.{arith}
-use Prim.Native.Nat.{ℕ, suc, ◌+◌, ◌-◌, ◌*◌, ◌/◌, ◌%◌, ◌≤◌, ◌<◌}
+use Prim.Native.Nat.{ℕ, ◌+◌, ◌-◌, ◌*◌, ◌/◌, ◌%◌, ◌≤◌, ◌<◌}
 use lib.Dec.{ltb, leb, eqb}
-use lib.ListN.{length, get_or, drop, set, drop_of_length-le}
-use lib.Seq.{sets, drop-length}
+use lib.ListN.{length, get_or, drop, drop_of_length-le}
+use lib.Seq.{sets}
 use Rattle.octets.specs.Buffers.{filled}
-use Rattle.octets.proofs.Buffers.{copy_end}
+use Rattle.octets.proofs.Buffers.{sets_all}
 use Rattle.octets.proofs.Lists.{both, drop_one, drop_two}
 use Rattle.octets.proofs.Tests.{test}
 use Rattle.dates.specs.declared.DateTime.{DateTime}
@@ -76,20 +76,6 @@ module _ (c : List ℕ) (p : ℕ) where
       let a = digit_is (get_or c p 0) (omega arith) (omega arith) in
       let b = digit_is (get_or c (p + 1) 0) (omega arith) (omega arith) in
       rw (pair_digits a b) (omega arith)
-
--- the year by its pairs
-module _ {k : TimeKind} (c : List ℕ) where
-  pub year_two : k ≡ Utc → pair_at c 0 ≡ year_in k c
-  unfolding year_in
-  year_two e = rw e refl
-
-  pub year_wrong : k ≡ Generalized → pair_at c 2 ≡ 100 → 10000 ≡ year_in k c
-  unfolding year_in
-  year_wrong e h = rw (e, eq-eqb (pair_at c 2) 100 h) refl
-
-  pub year_four : k ≡ Generalized → (pair_at c 2 ≡ 100 → ⊥) → pair_at c 0 * 100 + pair_at c 2 ≡ year_in k c
-  unfolding year_in
-  year_four e h = rw (e, ne_eqb (pair_at c 2) 100 h) refl
 
 -- a year in range, and what stands behind it
 year_told : (k : TimeKind) (c : List ℕ) → length c ≡ time_size k → year_in k c < years k → c ≡ year_digits k (year_in k c) ++ drop (year_size k) c
@@ -193,6 +179,10 @@ module _ (k : TimeKind) (c : List ℕ) where
   pub its_read : is_time k c ≡ true → time_read k c ≡ time_of k c
   its_read e = read_in (its_length e) ∙ its_time e
 
+  -- what the code promises of a time that it reads so
+  pub reads : {t : DateTime} → t ≡ time_read k c → (t ≡ time_read k c) × (is_time k c ≡ true → t ≡ time_of k c)
+  reads e = (e, λ h. e ∙ its_read h)
+
   pub no_length : (length c ≡ time_size k → ⊥) → false ≡ is_time k c
   no_length h = test (is_time k c) (λ e. absurd (h (its_length e))) λ e. sym e
 
@@ -205,38 +195,7 @@ module _ (k : TimeKind) (c : List ℕ) where
       ∙ test (in_range k (time_in k c)) (λ e. sym (ap (is_time k) (digits_told k c l z e) ∙ time_complete k (time_in k c))) λ e.
       test (is_time k c) (λ f. let (r, q) = time_sound k c f in absurd (true≢false (sym r ∙ ap (in_range k) (sym (its_time f)) ∙ e))) λ f. e ∙ sym f
 
--- a pair, and what stands behind it, put over a part
-pair_put : (p q : List ℕ) (at n : ℕ) (w : List ℕ) → q ≡ sets p at (two_digits n) → sets q (at + 2) w ≡ sets p at (two_digits n ++ w)
-unfolding two_digits
-pair_put p q at n w e = let f : at + 2 ≡ suc (suc at) = omega arith in rw (e, f) refl
-
-pub later_put : (t : DateTime) (p : List ℕ) (at : ℕ) {a b c d e : List ℕ} → a ≡ sets p at (two_digits t.month) → b ≡ sets a (at + 2) (two_digits t.day)
-    → c ≡ sets b (at + 2 + 2) (two_digits t.hour) → d ≡ sets c (at + 2 + 2 + 2) (two_digits t.minute)
-    → e ≡ sets d (at + 2 + 2 + 2 + 2) (two_digits t.second) → set e (at + 2 + 2 + 2 + 2 + 2) 0x5A ≡ sets p at (later_digits t)
-unfolding later_digits two_digits
-later_put t p at {a} {b} {c} {d} {e} m f g h i =
-    let w = two_digits t.second ++ (0x5A ∷ []) in
-    let x = two_digits t.minute ++ w in
-    let y = two_digits t.hour ++ x in
-    pair_put d e (at + 2 + 2 + 2 + 2) t.second (0x5A ∷ []) i
-    ∙ pair_put c d (at + 2 + 2 + 2) t.minute w h
-    ∙ pair_put b c (at + 2 + 2) t.hour x g
-    ∙ pair_put a b (at + 2) t.day y f
-    ∙ pair_put p a at t.month (two_digits t.day ++ y) m
-
--- a year by its last digits
-pub year_two_put : {k : TimeKind} (p : List ℕ) {q : List ℕ} (y : ℕ) → k ≡ Utc → q ≡ sets p 0 (two_digits (y % 100)) → q ≡ sets p 0 (year_digits k (y % years k))
-unfolding years year_digits
-year_two_put p y e f = rw e f
-
-pub year_four_put : {k : TimeKind} (p : List ℕ) {q r : List ℕ} (y : ℕ) → k ≡ Generalized → q ≡ sets p 0 (two_digits (y / 100 % 100)) → r ≡ sets q 2 (two_digits (y % 100))
-    → r ≡ sets p 0 (year_digits k (y % years k))
-unfolding years year_digits two_digits
-year_four_put p y e f g =
-    let a : y % 10000 / 100 ≡ y / 100 % 100 = omega arith in
-    let b : y % 10000 % 100 ≡ y % 100 = omega arith in
-    rw (e, a, b, ← f) g
-
+-- a year, and what stands after it, put over a part
 year_put : (k : TimeKind) (p q : List ℕ) (y : ℕ) (w : List ℕ) → q ≡ sets p 0 (year_digits k y) → sets q (year_size k) w ≡ sets p 0 (year_digits k y ++ w)
 unfolding year_size year_digits two_digits
 year_put Utc p q y w e = rw e refl
@@ -254,8 +213,7 @@ time_stays k t p h = rw (length_time, ne_eqb (time_size k) (length p) λ e. h (s
 time_filled : (k : TimeKind) (t : DateTime) (p : List ℕ) → length p ≡ time_size k → sets p 0 (time_digits k t) ≡ filled p (time_digits k t)
 time_filled k t p h =
     let l : length p ≡ length (time_digits k t) = h ∙ sym (length_time k t) in
-    rw (eq-eqb (length (time_digits k t)) (length p) (sym l))
-    (copy_end (time_digits k t) p (sets p 0 (time_digits k t)) (length (time_digits k t)) l (omega arith) (rw drop-length refl))
+    rw (eq-eqb (length (time_digits k t)) (length p) (sym l)) (sets_all (time_digits k t) p l)
 
 pub time_put : (k : TimeKind) (t : DateTime) (p : List ℕ) {n : ℕ} {q r : List ℕ} → length p ≡ time_size k → n ≡ year_size k
     → q ≡ sets p 0 (year_digits k (t.year % years k)) → r ≡ sets q n (later_digits t) → r ≡ filled p (time_digits k (last_digits k t))
@@ -269,3 +227,11 @@ unfolding last_digits
 all_digits k t h =
     let (y, _, _, _, _, _) = in_range_lem k t h in
     ap (λ (z : ℕ). record { year = z; month = t.month; day = t.day; hour = t.hour; minute = t.minute; second = t.second }) (year_same k t.year y)
+
+-- the tests of contents of a time
+pub ruleset tested = (told, no_length, no_z)
+
+-- what the code promises of a part that it puts a time over
+pub puts : (k : TimeKind) (t : DateTime) (p : List ℕ) {q : List ℕ} → q ≡ filled p (time_digits k (last_digits k t))
+    → (q ≡ filled p (time_digits k (last_digits k t))) × (in_range k t ≡ true → q ≡ filled p (time_digits k t))
+puts k t p e = (e, λ h. e ∙ ap (λ (u : DateTime). filled p (time_digits k u)) (all_digits k t h))

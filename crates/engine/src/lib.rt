@@ -5,25 +5,19 @@ ghost use Rattle.std.specs.Prelude.{◌≡◌};
 ghost use Rattle.table.specs.Verdict.{verdict};
 ghost use Rattle.coding.specs.Calls.{check_answer, whole_write, whole_read};
 
-use coding::{Answer, Refusal};
-use refusal::table_cause;
-use table::Verdict;
+use coding::Refusal;
 
-// Whether a table passes: Done with 0, or the first refusal of its table.
-pub fn check(table: &[u8]) -> Answer
+// Whether a table passes: Ok with 0, or the first refusal of its table.
+#[tactic(auto, unfolding(coding::specs::Calls::check_answer))]
+pub fn check(table: &[u8]) -> Result<usize, Refusal>
     ensures { result ≡ check_answer (verdict table.now) }
 {
-    match checker::check(table) {
-        Verdict::Passed => Answer::Done(0),
-        Verdict::Refused { cause, place } => {
-            let cause = table_cause(cause, place);
-            Answer::Refused(Refusal::Table(cause))
-        }
-    }
+    checker::check(table)?;
+    Ok(0)
 }
 
 // Writes the value whose octets are lent as a message of type t into the buffer.
-pub fn write(table: &[u8], t: usize, value: &[u8], buf: &mut [u8]) -> Answer
+pub fn write(table: &[u8], t: usize, value: &[u8], buf: &mut [u8]) -> Result<usize, Refusal>
     ensures { let x = whole_write table.now t value.now buf.old in
         (result ≡ x.answer)
         × (buf.new ≡ x.buffer) }
@@ -32,7 +26,7 @@ pub fn write(table: &[u8], t: usize, value: &[u8], buf: &mut [u8]) -> Answer
 }
 
 // Reads the message into the buffer, as a value of type t.
-pub fn read(table: &[u8], t: usize, message: &[u8], buf: &mut [u8]) -> Answer
+pub fn read(table: &[u8], t: usize, message: &[u8], buf: &mut [u8]) -> Result<usize, Refusal>
     ensures { let x = whole_read table.now t message.now buf.old in
         (result ≡ x.answer)
         × (buf.new ≡ x.buffer) }

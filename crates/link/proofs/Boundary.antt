@@ -15,8 +15,7 @@ use Rattle.coding.specs.Encodes.{Encodes}
 use Rattle.coding.specs.Typed.{WellTyped}
 use Rattle.coding.specs.Shaped.{Shaped}
 use Rattle.coding.specs.Demands.{Accepted, Received, Sent}
-use Rattle.coding.specs.Outcome.{levels, longest_value, longest_message, Outcome}
-use Rattle.coding.specs.declared.Answer.{Answer as Told}
+use Rattle.coding.specs.Outcome.{levels, longest_value, longest_message, Told, Outcome}
 use Rattle.coding.specs.Calls.{check_answer, whole_read, whole_write}
 use Rattle.coding.specs.Conversion.{whole_conversion}
 use Rattle.coding.proofs.Demands.{what_was_sent_arrives, what_is_sent_is_permitted}

@@ -9,6 +9,7 @@ use Prim.Native.Nat.{ℕ, ◌<◌, ◌^◌}
 use native.Mathlib.Omega.{arith}
 use lib.Dec.{ltb}
 use lib.IntN.{ℤ, pos, negsuc, nat_abs}
+use Rattle.std.specs.Prelude.{Ok, Err}
 use Rattle.octets.specs.Numbers.{Octets}
 use Rattle.octets.proofs.Permutations.{all_octets}
 use Rattle.octets.proofs.Tests.{test}
@@ -21,9 +22,7 @@ use Rattle.coding.specs.declared.Refusal.{Refusal}
 use Rattle.coding.specs.declared.Refusal.TheVariants.{Value}
 use Rattle.coding.specs.declared.JudgingCause.TheVariants.{ValueShape, IllTyped}
 use Rattle.coding.specs.Outcome.{value_cause}
-use Rattle.coding.specs.declared.Reckoned.{Reckoned}
-use Rattle.coding.specs.declared.Reckoned.TheVariants.{Is, Refused}
-use Rattle.coding.specs.Reckoning.{given, reckoned_by, whole_order, whole_seconds}
+use Rattle.coding.specs.Reckoning.{Reckoned, given, reckoned_by, whole_order, whole_seconds}
 use Rattle.coding.proofs.Reckoning.{reckons_exactly, reckoning_refuses}
 use Rattle.link.specs.Pack.{packed_reckoning, Below, TellsReckoning, a_result, a_refusal}
 use Rattle.coding.proofs.Causes.{same_refusal}
@@ -33,7 +32,7 @@ pub tells_one_reckoning : {u : ℤ} {a b : Reckoned} → TellsReckoning u a → 
 tells_one_reckoning (a_result h) (a_result k) = refl
 tells_one_reckoning (a_result h) (a_refusal l n p) = absurd (omega arith)
 tells_one_reckoning (a_refusal l n p) (a_result h) = absurd (omega arith)
-tells_one_reckoning (a_refusal {r = r} l n p) (a_refusal {r = q} k m o) = ap Refused (same_refusal r q (sym n ∙ m) (p ∙ sym o))
+tells_one_reckoning (a_refusal {r = r} l n p) (a_refusal {r = q} k m o) = ap Err (same_refusal r q (sym n ∙ m) (p ∙ sym o))
 
 -- no result reaches 2 ^ 40
 order_below : (xs ys : List ℕ) → Below (ordered xs ys)
@@ -46,17 +45,17 @@ seconds_below : (z : ℤ) → nat_abs z < 2 ^ 39 → Below z
 seconds_below (pos n) h = omega arith
 seconds_below (negsuc n) h = tt
 
-refusal_told : (r : Refusal) → (r ≡ Value (value_cause ValueShape 0)) ⊎ (r ≡ Value (value_cause IllTyped 0)) → TellsReckoning (packed_reckoning (Refused r)) (Refused r)
+refusal_told : (r : Refusal) → (r ≡ Value (value_cause ValueShape 0)) ⊎ (r ≡ Value (value_cause IllTyped 0)) → TellsReckoning (packed_reckoning (Err r)) (Err r)
 refusal_told r (inl e) = rw e (a_refusal {n = 12094627905536} {r = Value (value_cause ValueShape 0)} (omega arith) refl refl)
 refusal_told r (inr e) = rw e (a_refusal {n = 13194139533312} {r = Value (value_cause IllTyped 0)} (omega arith) refl refl)
 
 module _ (f : DateTime → DateTime → ℤ) (small : (a b : DateTime) → in_range Generalized a ≡ true → in_range Generalized b ≡ true → Below (f a b))
     (s t : List ℕ) (o : Octets s) (p : Octets t) where
   told : (a : Reckoned) → reckoned_by f (given Generalized s) (given Generalized t) ≡ a → TellsReckoning (packed_reckoning a) a
-  told (Is z) e =
+  told (Ok z) e =
       let r = (reckons_exactly f s t (all_octets s o) (all_octets t p) z).0 e in
       a_result (subst Below r.is (small r.first r.second r.a_time.ranged r.another.ranged))
-  told (Refused r) e = refusal_told r (reckoning_refuses f s t r e)
+  told (Err r) e = refusal_told r (reckoning_refuses f s t r e)
 
   tells_exactly : (r : ℤ) → r ≡ packed_reckoning (reckoned_by f (given Generalized s) (given Generalized t)) → (a : Reckoned) → TellsReckoning r a ↔ (a ≡ reckoned_by f (given Generalized s) (given Generalized t))
   tells_exactly r e a =

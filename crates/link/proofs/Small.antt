@@ -9,18 +9,15 @@ use lib.Dec.{ltb}
 use lib.ListN.{length}
 use Rattle.table.specs.Syntax.{Table}
 use Rattle.table.specs.Reading.{scan, look}
-use Rattle.table.specs.Verdict.{verdict}
-use Rattle.table.specs.declared.Verdict.{Verdict}
-use Rattle.table.specs.declared.Verdict.TheVariants.{Passed, Refused}
+use Rattle.std.specs.Prelude.{Ok, Err}
+use Rattle.table.specs.Verdict.{verdict, Verdict}
 use Rattle.table.proofs.Promises.{place_small}
 use Rattle.octets.specs.Numbers.{Octets}
 use Rattle.octets.proofs.Permutations.{all_octets}
 use Rattle.dates.specs.declared.TimeKind.{TimeKind}
-use Rattle.coding.specs.declared.Answer.{Answer as Told}
-use Rattle.coding.specs.declared.Answer.TheVariants.{Done, Refused as Not}
 use Rattle.coding.specs.declared.Refusal.{Refusal}
 use Rattle.coding.specs.declared.JudgingCause.{JudgingCause}
-use Rattle.coding.specs.Outcome.{Outcome, place_of}
+use Rattle.coding.specs.Outcome.{Told, done, refusal, Outcome, place_of}
 use Rattle.coding.specs.Conversion.{other_kind, whole_conversion, Refuses, no_version, no_node, no_time, no_room}
 use Rattle.coding.proofs.Conversion.{converts_exactly, refuses_exactly}
 use Rattle.coding.proofs.Reckoning.{time_short}
@@ -37,8 +34,8 @@ unfolding check_answer
 check_within b = by (verdict b) refl
   where
     by : (v : Verdict) → verdict b ≡ v → low_part (check_answer v) < 65536
-    by Passed e = omega arith
-    by (Refused c p) e = omega (arith, table_place c p, place_small b c p e)
+    by (Ok u) e = omega arith
+    by (Err x) e = omega (arith, table_place x.cause x.place, place_small b x.cause x.place e)
 
 -- the place of a refusal in reading, and the length of what was read
 
@@ -66,8 +63,8 @@ module _ (b : List ℕ) (t : ℕ) (buf : List ℕ) (g : Table → Outcome) (h : 
 
   after_check_lem : (v : Verdict) → verdict b ≡ v → low_part (after_check b buf (step b t buf g) v).answer < 65536
   unfolding after_check
-  after_check_lem Passed e = step_place (look b (scan b).offsets) (length (scan b).offsets)
-  after_check_lem (Refused c p) e = omega (arith, table_place c p, place_small b c p e)
+  after_check_lem (Ok u) e = step_place (look b (scan b).offsets) (length (scan b).offsets)
+  after_check_lem (Err x) e = omega (arith, table_place x.cause x.place, place_small b x.cause x.place e)
 
 pub read_small : (b : List ℕ) (t : ℕ) (m buf : List ℕ) → Octets m → low_part (whole_read b t m buf).answer < 65536
 unfolding whole_read read_outcome
@@ -86,10 +83,10 @@ module _ (k : TimeKind) (v : ℕ) (s buf : List ℕ) (o : Octets s) where
   refused_small (no_room i c l) = omega arith
 
   answered : (a : Told) (after : List ℕ) → whole_conversion k v s buf ≡ record { answer = a; buffer = after } → low_part a < 65536
-  answered (Done n) after e =
+  answered (done n) after e =
       let c = (converts_exactly k v s buf (all_octets s o) n after).0 e in
       placed (ap (λ (x : Outcome). x.answer) c.is) (omega (arith, time_short (other_kind k) c.to))
-  answered (Not r) after e = refused_small ((refuses_exactly k v s buf (all_octets s o) r after).0 e).0
+  answered (refusal r) after e = refused_small ((refuses_exactly k v s buf (all_octets s o) r after).0 e).0
 
   pub conversion_small : low_part (whole_conversion k v s buf).answer < 65536
   conversion_small = answered (whole_conversion k v s buf).answer (whole_conversion k v s buf).buffer refl

@@ -1,27 +1,24 @@
 -- Answers as one number for C (FORMATS, "Answers for C"). Of check, write and read: the number of the refusal, or 0 for done, times 65,536, and its place,
 -- or the length written.
 -- Assumes nothing.
-use Rattle.std.specs.Prelude.{◌≡◌, ℕ, ◌+◌, ◌*◌, ◌/◌, ◌%◌, ◌≤◌, ◌<◌, ℤ, pos, negsuc}
-use Rattle.coding.specs.Outcome.{number_of, place_of}
+use Rattle.std.specs.Prelude.{◌≡◌, ℕ, ◌+◌, ◌*◌, ◌/◌, ◌%◌, ◌≤◌, ◌<◌, ℤ, pos, negsuc, Ok, Err}
+use Rattle.coding.specs.Outcome.{number_of, place_of, Told, done, refusal}
 use Rattle.coding.specs.declared.Refusal.{Refusal}
-use Rattle.coding.specs.declared.Answer.{Answer}
-use Rattle.coding.specs.declared.Answer.TheVariants.{Done, Refused}
-use Rattle.coding.specs.declared.Reckoned.{Reckoned}
-use Rattle.coding.specs.declared.Reckoned.TheVariants.{Is, Refused as Not}
+use Rattle.coding.specs.Reckoning.{Reckoned}
 
-abbrev pub high_part : Answer → ℕ
-high_part (Done n) = 0
-high_part (Refused r) = number_of r
+abbrev pub high_part : Told → ℕ
+high_part (done n) = 0
+high_part (refusal r) = number_of r
 
-abbrev pub low_part : Answer → ℕ
-low_part (Done n) = n
-low_part (Refused r) = place_of r
+abbrev pub low_part : Told → ℕ
+low_part (done n) = n
+low_part (refusal r) = place_of r
 
-abbrev pub packed : Answer → ℕ
+abbrev pub packed : Told → ℕ
 packed a = high_part a * 65536 + low_part a
 
 -- what the number u tells in C, taken apart, is the answer a
-pub record Tells (u : ℕ) (a : Answer) : Type 0 where
+pub record Tells (u : ℕ) (a : Told) : Type 0 where
   pub high : u / 65536 ≡ high_part a
   pub low : u % 65536 ≡ low_part a
 
@@ -30,8 +27,8 @@ abbrev pub beyond : ℕ
 beyond = 1099511627776
 
 abbrev pub packed_reckoning : Reckoned → ℤ
-packed_reckoning (Is z) = z
-packed_reckoning (Not r) = pos (number_of r * beyond)
+packed_reckoning (Ok z) = z
+packed_reckoning (Err r) = pos (number_of r * beyond)
 
 abbrev pub Below : ℤ → Type 0
 Below (pos n) = n < beyond
@@ -39,5 +36,5 @@ Below (negsuc n) = Unit {0}
 
 -- what the number u tells in C of a reckoning: below 2 ^ 40 the result, else the refusal whose number the quotient is
 pub data TellsReckoning : ℤ → Reckoned → Type 0 where
-  a_result : {z : ℤ} → Below z → TellsReckoning z (Is z)
-  a_refusal : {n : ℕ} {r : Refusal} → beyond ≤ n → n / beyond ≡ number_of r → place_of r ≡ 0 → TellsReckoning (pos n) (Not r)
+  a_result : {z : ℤ} → Below z → TellsReckoning z (Ok z)
+  a_refusal : {n : ℕ} {r : Refusal} → beyond ≤ n → n / beyond ≡ number_of r → place_of r ≡ 0 → TellsReckoning (pos n) (Err r)

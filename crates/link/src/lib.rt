@@ -9,7 +9,7 @@ ghost use Rattle.coding.specs.Reckoning.{whole_order, whole_seconds};
 ghost use Rattle.coding.specs.Conversion.{whole_to_generalized, whole_to_utc};
 ghost use Rattle.link.specs.Pack.{low_part, packed, packed_reckoning};
 
-use coding::{Answer, Reckoned};
+use coding::Refusal;
 
 fn join(high: u64, low: usize) -> u64
     requires { (high < 256) × (low < 65536) }
@@ -19,13 +19,13 @@ fn join(high: u64, low: usize) -> u64
 }
 
 // 0 and the length written, or the number of the refusal and its place.
-fn pack(a: Answer) -> u64
+fn pack(a: Result<usize, Refusal>) -> u64
     requires { low_part a < 65536 }
     ensures { result ≡ packed a }
 {
     match a {
-        Answer::Done(n) => join(0, n),
-        Answer::Refused(r) => {
+        Ok(n) => join(0, n),
+        Err(r) => {
             let p = refusal::report_of(r);
             join(p.number, p.place)
         }
@@ -55,12 +55,12 @@ pub fn yinscarf_read(table: &[u8], t: usize, message: &[u8], buf: &mut [u8]) -> 
 }
 
 // The result itself, or the number of the refusal times 2^40.
-fn pack_reckoning(a: Reckoned) -> i64
+fn pack_reckoning(a: Result<i64, Refusal>) -> i64
     ensures { result ≡ packed_reckoning a }
 {
     match a {
-        Reckoned::Is(z) => z,
-        Reckoned::Refused(r) => {
+        Ok(z) => z,
+        Err(r) => {
             let p = refusal::report_of(r);
             (p.number * 1099511627776) as i64
         }

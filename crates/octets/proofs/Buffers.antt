@@ -1,20 +1,20 @@
--- Laws of buffers: what a loop that copies has written, octets that have room, and a part that was lent on.
+-- Laws of buffers: octets that have room, and a part that was lent on.
 -- Assumes nothing.
 use mathlib.Core.List.{List, ◌++◌, append-nil, append_assoc}
 use mathlib.Core.Path.{◌≡◌, refl, sym, ◌∙◌}
 use Prim.Native.Nat.{ℕ, ◌+◌, ◌-◌, ◌≤◌}
 use native.Mathlib.Nat.{add-sub_cancel_left}
 use native.Mathlib.Omega.{arith}
-use lib.ListN.{length, take, drop, length-drop, drop_of_length-le}
+use lib.ListN.{length, take, drop, length-drop}
 use lib.Seq.{sets, sets-eq, drop-length, drop-drop, length-take-le}
 use borrow.Author.Tests.{le-leb, eq-eqb}
 use Rattle.octets.specs.Buffers.{put, put_end, filled}
 
--- all of it
-pub copy_end : (c p₀ p : List ℕ) (i : ℕ) → length p₀ ≡ length c → length c ≤ i → sets p₀ 0 c ≡ sets p i (drop i c) → p ≡ c
-copy_end c p₀ p i l h w =
-    let e : 0 + length c ≡ length c = omega arith in
-    sym (rw (drop_of_length-le c h) at w) ∙ sets-eq c p₀ 0 (omega arith) ∙ rw (e, ← l, drop-length, append-nil c) refl
+-- octets put over as many from the first on are all there is
+pub sets_all : (w p : List ℕ) → length p ≡ length w → sets p 0 w ≡ w
+sets_all w p l =
+    let e : 0 + length w ≡ length w = omega arith in
+    sets-eq w p 0 (omega arith) ∙ rw (e, ← l, drop-length, append-nil w) refl
 
 -- octets that have room are put
 pub put_roomy : (buf : List ℕ) (to : ℕ) (w : List ℕ) → to + length w ≤ length buf → put buf to w ≡ sets buf to w

@@ -1,4 +1,4 @@
-// Octets: reads that are total, where what lies behind the last octet counts as 0; room for octets; a copy.
+// Octets: reads that are total, where all after the last octet counts as 0; room for octets; a copy.
 #![tactic(auto)]
 
 ghost use Rattle.std.specs.Prelude.{◌≡◌, ◌<◌, ◌+◌, ◌*◌, leb, get_or, length};

@@ -1,7 +1,7 @@
 -- The search of an integer among the numbers of an ENUMERATED.
 -- Assumes nothing.
 use Rattle.std.proofs.Common.{◌≡◌, refl, ◌∙◌, true, false, ◌&&◌, Bool, List, ℕ, suc, ◌+◌, ◌-◌, ◌*◌, ◌≤◌, ◌<◌, eqb, leb, ℤ, pos, negsuc, length, get_or, to_z, of_z, w64, arith}
-use Rattle.core.specs.Int.{FitsUnsignedBits}
+use Rattle.std.specs.Int.{FitsUnsignedBits}
 use lib.IntN.{nat_abs}
 use mir.Val.{SFits}
 use mir.ValLaws.{to_z-of_z}

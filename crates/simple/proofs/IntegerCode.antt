@@ -1,86 +1,41 @@
--- Laws for the code of integers: the bits of an integer, loops that read and put octets, tests for the fewest octets, all eight octets at once.
+-- Laws for the code of integers: loops that read and put octets, tests for the fewest octets, all eight octets at once.
 -- Assumes nothing.
-use borrow.Author.Tests.{ltb-true, eq-eqb, ne_eqb, le-leb, lt-leb}
+use borrow.Author.Tests.{eq-eqb, ne_eqb, le-leb, lt-leb}
 use mathlib.Core.Path.{◌≡◌, refl, sym, ap, ◌∙◌}
-use mathlib.Core.Bool.{Bool, true, false, not, ◌&&◌, true≢false}
+use mathlib.Core.Bool.{Bool, true, false, not}
 use mathlib.Core.List.{List, [], ◌∷◌}
 use native.Mathlib.Nat.{zero-add, pow-le-pow_right}
 use native.Mathlib.Numerals.{add-one}
 use native.Mathlib.Omega.{arith}
 use Prim.Native.Nat.{ℕ, zero, suc, ◌+◌, ◌-◌, ◌*◌, ◌/◌, ◌%◌, ◌^◌, ◌≤◌, ◌<◌}
-use lib.Bits.{bit_and, bit_or, or_shifted, and_mask}
-use lib.Dec.{T, ltb, leb, eqb}
-use lib.IntN.{ℤ, pos, negsuc, nat_abs}
+use lib.Dec.{ltb, eqb}
+use lib.IntN.{ℤ, pos}
 use lib.ListN.{length, drop, get_or, set, length-set, drop_of_length-le}
 use lib.Seq.{drop-cons, drop-set-lt, get_or-set_same}
-use lib.Signed.{mag, lt_z, non_neg, shr_z}
 use mir.Syntax.{w64}
-use mir.Val.{Fits, SFits, to_z, of_z}
+use mir.Val.{SFits, to_z, of_z}
 use mir.Facts.{Fits-of_z}
 use mir.ValLaws.{to_z_pos, to_z-neg, to_z-of_z}
+use Rattle.core.specs.Int.{to_be_bytes, from_be_bytes}
 use Rattle.octets.specs.Buffers.{filled}
 use Rattle.octets.specs.Tests.{if}
 use Rattle.octets.specs.Numbers.{Octets}
 use Rattle.octets.proofs.Answer.{run}
 use Rattle.octets.proofs.Permutations.{all_octets}
-use Rattle.octets.proofs.Tests.{test}
-use Rattle.x690.specs.Integer.{negative, digit, pile, signed, integer_of, spare, minimal, eight}
-use Rattle.simple.specs.Integers.{integer_in, last_before, last_octets}
-use Rattle.simple.proofs.LastOctets.{last_eight}
+use Rattle.x690.specs.Integer.{negative, digit, pile, signed, integer_of, spare, minimal, eight, eight_of}
+use Rattle.simple.specs.Integers.{integer_in, last_before}
 use Rattle.x690.proofs.Integers.{grow, head_small, within, eight_length, spelt, eight_same, integer_fits}
-
--- z, or its complement, by what `z < 0` says
-pub bits_neg : (z : ℤ) → SFits w64 z → lt_z (to_z w64 (of_z w64 z)) (pos 0) ≡ true → to_z w64 (18446744073709551615 - of_z w64 z) ≡ pos (mag z)
-bits_neg (pos n) f h =
-    let e : ltb n 0 ≡ true = sym (ap (λ (y : ℤ). lt_z y (pos 0)) (to_z-of_z w64 (pos n) f)) ∙ h in
-    absurd (omega (arith, ltb-true n 0 e))
-bits_neg (negsuc n) f h =
-    let b = f.sfits in
-    let e : 18446744073709551615 - (18446744073709551616 - suc n) ≡ n = omega arith in
-    ap (to_z w64) e ∙ to_z_pos w64 n b
-
-pub bits_pos : (z : ℤ) → SFits w64 z → lt_z (to_z w64 (of_z w64 z)) (pos 0) ≡ false → to_z w64 (of_z w64 z) ≡ pos (mag z)
-bits_pos (pos n) f h = to_z-of_z w64 (pos n) f
-bits_pos (negsuc n) f h = absurd (true≢false (sym (ap (λ (y : ℤ). lt_z y (pos 0)) (to_z-of_z w64 (negsuc n) f)) ∙ h))
-
--- 64 bits as the top one and the others: put together, and taken apart
-pub top_and_others : (u : ℕ) → u < 18446744073709551616
-    → bit_or (u / 9223372036854775808 * 2 ^ 63 % 18446744073709551616) (u % 9223372036854775808) ≡ u
-top_and_others u h =
-    let e : u / 9223372036854775808 * 9223372036854775808 % 18446744073709551616 ≡ u / 9223372036854775808 * 9223372036854775808 = omega arith in
-    let f : u / 9223372036854775808 * 9223372036854775808 + u % 9223372036854775808 ≡ u = omega arith in
-    rw e (or_shifted (u / 9223372036854775808) 63 (u % 9223372036854775808) (omega arith) ∙ f)
-
--- u, read as an integer that is not negative, goes into 64 bits as n
-abbrev pub Cast : ℕ → ℕ → Type 0
-Cast u n = T (non_neg (to_z w64 u)) × Fits w64 (nat_abs (to_z w64 u)) × (nat_abs (to_z w64 u) ≡ n)
-
-cast : (u n : ℕ) → u ≡ n → n < 9223372036854775808 → Cast u n
-cast u n e h = rw (e, to_z_pos w64 n h) (tt, record { fits = omega arith }, refl)
-
-pub top_cast : (z : ℤ) → SFits w64 z → Cast (bit_and (of_z w64 (shr_z (to_z w64 (of_z w64 z)) (2 ^ 63))) 1) (of_z w64 z / 9223372036854775808)
-top_cast z f = rw (to_z-of_z w64 z f) (side z f.sfits)
-  where
-    side : (z : ℤ) → mag z < 9223372036854775808 → Cast (bit_and (of_z w64 (shr_z z (2 ^ 63))) 1) (of_z w64 z / 9223372036854775808)
-    side (pos n) h = let e : n / 9223372036854775808 ≡ 0 = omega arith in rw e (cast 0 0 refl (omega arith))
-    side (negsuc n) h =
-        let e : n / 9223372036854775808 ≡ 0 = omega arith in
-        let g : (18446744073709551616 - suc n) / 9223372036854775808 ≡ 1 = omega arith in
-        rw (e, g) (cast 1 1 refl (omega arith))
-
-pub others_cast : (u : ℕ) → Cast (bit_and u 9223372036854775807) (u % 9223372036854775808)
-others_cast u = cast (bit_and u 9223372036854775807) (u % 9223372036854775808) (and_mask u 63) (omega arith)
 
 -- 64 bits of a number that is not negative, and their complement in one that is: as `digit` of an octet
 abbrev magnitude : Bool → ℕ → ℕ
 magnitude false u = u
 magnitude true u = 18446744073709551615 - u
 
--- a loop that reads octets: u are eight, the fill and then the first i of s
-abbrev pub Extended : List ℕ → ℕ → ℕ → Type 0
-Extended s i u =
+-- a loop that reads octets: u are eight, the fill, the first of s, and then k of the others, r
+abbrev pub Extended : List ℕ → List ℕ → ℕ → ℕ → Type 0
+Extended s r k u =
     let neg = negative s in
-    (u < 18446744073709551616) × (magnitude neg u < 128 * 256 ^ (i - 1)) × (pile neg (magnitude neg u) (drop i s) ≡ pile neg 0 s)
+    (u < 18446744073709551616) × (magnitude neg u < 128 * 256 ^ k) × (pile neg (magnitude neg u) (drop k r) ≡ pile neg 0 s)
 
 -- at the start: the fill seven times, and the first octet
 filled_first : (t : Bool) (b : ℕ) → b < 256
@@ -88,12 +43,11 @@ filled_first : (t : Bool) (b : ℕ) → b < 256
 filled_first true b h = (omega arith, omega arith)
 filled_first false b h = (omega arith, omega arith)
 
-pub extended_first : (s : List ℕ) → 0 < length s → get_or s 0 0 < 256
-    → Extended s 1 ((if (ltb (get_or s 0 0) 128) 0 λ _. 255) * 72340172838076672 + get_or s 0 0)
+pub extended_first : (b : ℕ) (r : List ℕ) {s : List ℕ} (f x : ℕ) → s ≡ b ∷ r → b < 256 → f ≡ (if (ltb b 128) 0 λ _. 255) → x ≡ b
+    → Extended s r 0 (f * 72340172838076672 + x)
 unfolding negative pile
-extended_first [] h o = absurd (omega arith)
-extended_first (b ∷ s) h o =
-    let (small, e) = filled_first (ltb b 128) b o in (small, rw e (head_small b (not (ltb b 128)) refl), rw (e, zero-add))
+extended_first b r f x h o p q =
+    let (small, e) = filled_first (ltb b 128) b o in rw (h, p, q) (small, rw e (head_small b (not (ltb b 128)) refl), rw (e, zero-add))
 
 -- one octet on: it pushes one fill out
 pushed : (neg : Bool) (u b : ℕ) → u < 18446744073709551616 → b < 256 → magnitude neg u < 36028797018963968
@@ -108,17 +62,15 @@ still_small : (neg : Bool) (k acc b : ℕ) → acc < 128 * 256 ^ k → b < 256 �
 still_small false k acc b h o = grow k acc b h o
 still_small true k acc b h o = grow k acc (255 - b) h (omega arith)
 
-pub extended_next : (s : List ℕ) (i u : ℕ) → 1 ≤ i → i < length s → length s ≤ 8 → get_or s i 0 < 256
-    → Extended s i u → Extended s (i + 1) (u % 72057594037927936 * 256 + get_or s i 0)
+pub extended_next : (s r : List ℕ) (k u x : ℕ) → k < length r → length r ≤ 7 → x ≡ get_or r k 0 → x < 256
+    → Extended s r k u → Extended s r (k + 1) (u % 72057594037927936 * 256 + x)
 unfolding pile
-extended_next s i u one more few o (h, small, is) =
+extended_next s r k u x more few is o (h, small, left) =
     let neg = negative s in
-    let d = get_or s i 0 in
-    let e = pushed neg u d h o (room (i - 1) (magnitude neg u) (omega arith) small) in
-    let k : i + 1 - 1 ≡ suc (i - 1) = omega arith in (
+    let e = pushed neg u x h o (room k (magnitude neg u) (omega arith) small) in (
       omega arith,
-      rw (e, k) (still_small neg (i - 1) (magnitude neg u) d small o),
-      rw (e, add-one) (rw (drop-cons s i 0 more) at is),
+      rw (e, add-one) (still_small neg k (magnitude neg u) x small o),
+      rw (e, add-one) (rw (drop-cons r k 0 more, ← is) at left),
     )
 
 -- at the end: the integer of what was read
@@ -128,12 +80,13 @@ by_sign true u h small =
     let e : u ≡ 18446744073709551616 - suc (18446744073709551615 - u) = omega arith in
     ap (to_z w64) e ∙ to_z-neg w64 (18446744073709551615 - u) small
 
-pub extended_last : (s : List ℕ) (i u : ℕ) → 1 ≤ i → i ≤ length s → length s ≤ i → length s ≤ 8 → Extended s i u → to_z w64 u ≡ integer_in s
+pub extended_last : (s r : List ℕ) (k u : ℕ) → length r + 1 ≡ length s → k ≤ length r → length r ≤ k → length r ≤ 7 → Extended s r k u
+    → to_z w64 u ≡ integer_in s
 unfolding integer_of pile
-extended_last s i u one le ge few (h, small, is) =
+extended_last s r k u l le ge few (h, small, left) =
     let neg = negative s in
-    let n : magnitude neg u ≡ pile neg 0 s = rw (drop_of_length-le s ge) at is in
-    by_sign neg u h (within (i - 1) (magnitude neg u) (omega arith) small) ∙ simp (run, le-leb (length s) 8 few, n)
+    let n : magnitude neg u ≡ pile neg 0 s = rw (drop_of_length-le r ge) at left in
+    by_sign neg u h (within k (magnitude neg u) (omega arith) small) ∙ simp (run, le-leb (length s) 8 (omega arith), n)
 
 -- no octet, or too many
 pub integer_none : (s : List ℕ) → length s ≡ 0 → pos 0 ≡ integer_in s
@@ -162,46 +115,38 @@ minimal_more [] h k = absurd (h refl)
 minimal_more (a ∷ []) h k = absurd (k refl)
 minimal_more (a ∷ b ∷ s) h k = refl
 
--- and at most eight
-pub minimal_long : (s : List ℕ) → 8 < length s → false ≡ (minimal s && leb (length s) 8)
-minimal_long s h = rw (lt-leb (length s) 8 h) (test (minimal s) (λ e. rw e) λ e. rw e)
-
-pub minimal_short : (s : List ℕ) → length s ≤ 8 → minimal s ≡ (minimal s && leb (length s) 8)
-minimal_short s h = rw (le-leb (length s) 8 h) (test (minimal s) (λ e. rw e) λ e. rw e)
-
 -- all eight octets over a part
 pub eight_stays : (u : ℕ) (p : List ℕ) → (length p ≡ 8 → ⊥) → p ≡ filled p (eight u)
 eight_stays u p h = rw (eight_length, ne_eqb 8 (length p) (λ e. h (sym e))) refl
 
-pub eight_filled : (u : ℕ) (p : List ℕ) → length p ≡ 8 → u < 18446744073709551616 → last_octets (length p) u ≡ filled p (eight u)
-eight_filled u p h k = rw (eight_length, h) (sym (last_eight u k))
-
--- eight octets as two numbers of four
-abbrev pub halves : List ℕ → ℕ
-halves c =
-    (get_or c 0 0 * 16777216 + get_or c 1 0 * 65536 + get_or c 2 0 * 256 + get_or c 3 0) * 4294967296
-    + (get_or c 4 0 * 16777216 + get_or c 5 0 * 65536 + get_or c 6 0 * 256 + get_or c 7 0)
-
-halves_spelt : (a b c d e f g h : ℕ) → halves (a ∷ b ∷ c ∷ d ∷ e ∷ f ∷ g ∷ h ∷ []) ≡ pile false 0 (a ∷ b ∷ c ∷ d ∷ e ∷ f ∷ g ∷ h ∷ [])
-unfolding pile
-halves_spelt a b c d e f g h = omega arith
-
-halves_eight : (u : ℕ) → u < 18446744073709551616 → halves (eight u) ≡ u
+eight_bytes : (u : ℕ) → u < 18446744073709551616 → to_be_bytes w64 u ≡ eight u
 unfolding eight
-halves_eight u h = halves_spelt _ _ _ _ _ _ _ _ ∙ spelt u h
+eight_bytes u h = let e : u / 72057594037927936 % 256 ≡ u / 72057594037927936 = omega arith in rw e
+
+pub eight_filled : (z : ℤ) (p : List ℕ) {d : List ℕ} → SFits w64 z → length p ≡ 8 → d ≡ to_be_bytes w64 (of_z w64 z) → d ≡ filled p (eight_of z)
+eight_filled z p f h e = rw (eight_length, h) (e ∙ eight_bytes (of_z w64 z) (Fits-of_z {w = w64} {z = z} f).fits)
+
+-- eight octets as one number
+bytes_spelt : (a b c d e f g h : ℕ) → from_be_bytes w64 (a ∷ b ∷ c ∷ d ∷ e ∷ f ∷ g ∷ h ∷ []) ≡ pile false 0 (a ∷ b ∷ c ∷ d ∷ e ∷ f ∷ g ∷ h ∷ [])
+unfolding pile
+bytes_spelt a b c d e f g h = omega arith
+
+bytes_eight : (u : ℕ) → u < 18446744073709551616 → from_be_bytes w64 (eight u) ≡ u
+unfolding eight
+bytes_eight u h = bytes_spelt _ _ _ _ _ _ _ _ ∙ spelt u h
 
 pub not_eight : (c : List ℕ) → (length c ≡ 8 → ⊥) → pos 0 ≡ integer_of (filled (eight 0) c)
 unfolding integer_of negative pile eight
 not_eight c h = rw (ne_eqb (length c) 8 h) refl
 
-pub read_halves : (c : List ℕ) (z : ℤ) → Octets c → length c ≡ 8 → SFits w64 z → of_z w64 z ≡ halves c → z ≡ integer_of (filled (eight 0) c)
-read_halves c z o l f e =
+pub read_bytes : (c : List ℕ) {d : List ℕ} → Octets c → length c ≡ 8 → d ≡ c → to_z w64 (from_be_bytes w64 d) ≡ integer_of (filled (eight 0) c)
+read_bytes c o l e =
     let a = all_octets c o in
-    let s = eight_same c a l in
     let g : SFits w64 (integer_of c) = integer_fits c a (omega arith) in
-    let h : halves c ≡ of_z w64 (integer_of c) = ap halves (sym s) ∙ halves_eight (of_z w64 (integer_of c)) (Fits-of_z {w = w64} {z = integer_of c} g).fits in
+    let u : from_be_bytes w64 c ≡ of_z w64 (integer_of c) =
+    ap (from_be_bytes w64) (sym (eight_same c a l)) ∙ bytes_eight _ (Fits-of_z {w = w64} {z = integer_of c} g).fits in
     let q : eqb (length c) (length (eight 0)) ≡ true = eq-eqb (length c) (length (eight 0)) (l ∙ sym (eight_length 0)) in
-    rw q (sym (to_z-of_z w64 z f) ∙ ap (to_z w64) (e ∙ h) ∙ to_z-of_z w64 (integer_of c) g)
+    rw (q, e, u) (to_z-of_z w64 (integer_of c) g)
 
 -- a loop that puts the last octets of a number, the last of them first
 pub last_turn : (p : List ℕ) (u left : ℕ) {W : List ℕ} → 0 < left → left ≤ length p

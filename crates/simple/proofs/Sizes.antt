@@ -3,7 +3,7 @@
 use mathlib.Core.Bool.{Bool, true, false, not, false≢true}
 use mathlib.Core.List.{List, [], ◌∷◌}
 use mathlib.Core.Path.{◌≡◌, refl, sym, ◌∙◌}
-use Prim.Native.Nat.{ℕ, suc, ◌+◌, ◌-◌, ◌*◌, ◌^◌, ◌≤◌, ◌<◌}
+use Prim.Native.Nat.{ℕ, zero, suc, ◌+◌, ◌-◌, ◌*◌, ◌^◌, ◌≤◌, ◌<◌}
 use native.Mathlib.Nat.{zero-add, add-zero, pow-suc, pow-le-pow_right}
 use native.Mathlib.Omega.{arith}
 use borrow.Author.Tests.{ltb-true, ltb-false, eqb-true, eqb-false, not-true, not-false}
@@ -12,8 +12,9 @@ use lib.IntN.{ℤ}
 use lib.ListN.{length}
 use lib.Signed.{mag}
 use mir.Syntax.{w64}
-use mir.Val.{SFits, of_z}
+use mir.Val.{SFits, to_z, of_z}
 use mir.Facts.{Fits-of_z}
+use mir.ValLaws.{to_z-of_z}
 use Rattle.octets.specs.Permutations.{AllOctets, every_cons}
 use Rattle.octets.proofs.Tests.{test}
 use Rattle.x690.specs.Integer.{negative, digit, pile, signed, integer_of, spare, minimal, fewest_of}
@@ -33,6 +34,10 @@ sized_one m j k a b =
 
 least_from : (j m : ℕ) → 128 * 256 ^ j ≤ m → (i : ℕ) → i < suc j → 128 * 256 ^ i ≤ m
 least_from j m h i l = omega (arith, pow-le-pow_right {n = 256} (omega arith) {i = i} {j = j} (omega arith))
+
+least_below : (j m : ℕ) → 128 * 256 ^ j ≤ 256 * m + 128 → (i : ℕ) → i < j → 128 * 256 ^ i ≤ m
+least_below zero m h i l = absurd (omega arith)
+least_below (suc j) m h i l = least_from j m (let g = rw pow-suc at h in omega arith) i l
 
 -- the number of octets, or that of their complements
 pile_least : (neg : Bool) (k acc : ℕ) (s : List ℕ) → 128 * 256 ^ k ≤ acc → 128 * 256 ^ (k + length s) ≤ pile neg acc s
@@ -86,9 +91,9 @@ fewest_sized z j f a =
     let b : Sized (mag z) (length (fewest_of z) - 1) = rw w.back at (integer_sized (fewest_of z) o w.is_minimal h) in
     omega (arith, sized_one (mag z) _ j b a)
 
--- by bounds of the number
-pub size_one : (z : ℤ) → SFits w64 z → mag z < 128 → 1 ≡ length (fewest_of z)
-size_one z f h = sym (fewest_sized z 0 f (record { most = h; least = λ i l. absurd (omega arith) }))
-
-pub size_between : (z : ℤ) (j : ℕ) → SFits w64 z → 128 * 256 ^ j ≤ mag z → mag z < 128 * 256 ^ suc j → suc (suc j) ≡ length (fewest_of z)
-size_between z j f g h = sym (fewest_sized z (suc j) f (record { most = h; least = least_from j (mag z) g }))
+-- by bounds of the number, n, which is counted from the bits
+pub size_is : (j : ℕ) {n : ℕ} (z : ℤ) → SFits w64 z → n ≡ mag (to_z w64 (of_z w64 z)) → j < 8 → n < 128 * 256 ^ j → 128 * 256 ^ j ≤ 256 * n + 128
+    → (suc j ≡ length (fewest_of z)) × (1 ≤ suc j) × (suc j ≤ 8)
+size_is j {n} z f e few below above =
+    let h : n ≡ mag z = rw (to_z-of_z w64 z f) at e in
+    (sym (fewest_sized z j f (record { most = rw (← h) below; least = rw (← h) (least_below j n above) })), omega arith, omega arith)

@@ -4,47 +4,39 @@ ghost use Rattle.octets.specs.Answer.{none_left};
 ghost use Rattle.octets.specs.Buffers.{filled};
 ghost use Rattle.x690.specs.BitString.{unused, masked};
 
-const POWERS: [u8; 8] = [1, 2, 4, 8, 16, 32, 64, 128];
-
 // The value of the bit behind which n bits stand, as far as they are seven.
 pub fn unit(n: usize) -> u8
     ensures { result ≡ 2 ^ (n % 8) }
 {
-    POWERS[n % 8]
+    1 << (n % 8)
 }
 
 // Whether contents are those of a bit string: there is an octet, and as many bits may be unused as it says.
+#[tactic(auto, using(x690::proofs::BitString::no_bits, x690::proofs::BitString::bits_none, x690::proofs::BitString::bits_some))]
 pub fn are_bits(c: &[u8]) -> bool
     ensures { result ≡ (not (none_left c.now) && unused (get_or c.now 0 0) (drop 1 c.now)) }
 {
-    if c.len() == 0 {
-        return false;
+    match c {
+        [] => false,
+        [n] => *n == 0,
+        [n, ..] => *n < 8,
     }
-    if c.len() == 1 {
-        return c[0] == 0;
-    }
-    c[0] < 8
 }
 
 // Copies octets over a part that has as many, with the last n bits cleared, of at most seven.
+#[tactic(auto, using(x690::proofs::BitString::masked_stays))]
 pub fn copy_masked(c: &[u8], n: usize, part: &mut [u8])
     ensures { part.new ≡ filled part.old (masked (n % 8) c.now) }
 {
-    let k = c.len();
-    if k != part.len() {
+    if c.len() != part.len() {
         return;
     }
-    if k == 0 {
-        return;
-    }
-    octets::copy(c, part);
-    let last = k - 1;
-    let p = unit(n);
-    let x = c[last];
-    part[last] = x / p * p;
+    part.copy_from_slice(c);
+    mask(n, part);
 }
 
 // Clears the last n bits of octets, of at most seven.
+#[tactic(auto, using(x690::proofs::BitString::masked_nothing, x690::proofs::BitString::masked_set))]
 pub fn mask(n: usize, part: &mut [u8])
     ensures { part.new ≡ masked (n % 8) part.old }
 {

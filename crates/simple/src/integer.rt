@@ -2,31 +2,12 @@
 ghost use Rattle.std.specs.Prelude.{◌≡◌, ◌&&◌, ◌<◌, ◌≤◌, ltb, leb, length};
 ghost use Rattle.std.specs.Int.{w64};
 ghost use Rattle.std.proofs.Common.{of_z};
+ghost use lib.Signed.{mag};
 ghost use Rattle.octets.specs.Tests.{if};
 ghost use Rattle.octets.specs.Buffers.{filled};
 ghost use Rattle.x690.specs.Integer.{integer_of, minimal, fewest_of, eight_of};
 ghost use Rattle.simple.specs.Integers.{integer_in, last_octets};
 ghost use Rattle.x690.specs.Integer.{spare as Integer·spare};
-
-fn wide(x: u8) -> u64
-    ensures { (result ≡ x) × (result < 256) }
-{
-    x as u64
-}
-
-// The integer whose bits are those of u: the top bit, and the others.
-fn signed(u: u64) -> i64
-    ensures { of_z w64 result ≡ u }
-{
-    ((u / 9223372036854775808) as i64) << 63 | (u % 9223372036854775808) as i64
-}
-
-// The bits of z: the top one, and the others.
-fn bits(z: i64) -> u64
-    ensures { result ≡ of_z w64 z }
-{
-    (z >> 63 & 1) as u64 * 9223372036854775808 + (z & 9223372036854775807) as u64
-}
 
 // The octet that stands before contents with this first octet when they are read into eight: the sign in every bit (8.3.3). No test chooses it.
 pub fn fill(first: u8) -> u8
@@ -36,38 +17,37 @@ pub fn fill(first: u8) -> u8
 }
 
 // The integer of contents of at most eight octets; 0 for more. Its bits are eight octets: the fill, and then the contents.
+#[tactic(auto, using(crate::proofs::IntegerCode::integer_none, crate::proofs::IntegerCode::integer_long))]
 pub fn of(c: &[u8]) -> i64
     ensures { result ≡ integer_in c.now }
 {
-    if c.len() == 0 {
+    let Some((first, rest)) = c.split_first() else {
+        return 0;
+    };
+    if 7 < rest.len() {
         return 0;
     }
-    if 8 < c.len() {
-        return 0;
+    // seven fills, and the first octet; each octet after it pushes one fill out
+    let mut u = u64::from(fill(*first)) * 0x0101010101010100 + u64::from(*first);
+    for x in rest {
+        u = u % 0x0100000000000000 * 256 + u64::from(*x);
     }
-    // seven fills, and the first octet; each octet behind it pushes one fill out
-    let mut u = wide(fill(c[0])) * 0x0101010101010100 + wide(c[0]);
-    let mut i = 1;
-    while i < c.len() {
-        u = u % 0x0100000000000000 * 256 + wide(c[i]);
-        i += 1;
-    }
-    signed(u)
+    u.cast_signed()
 }
 
 // The integer of eight octets; 0 if they are not eight.
+#[tactic(auto, using(crate::proofs::IntegerCode::not_eight))]
 pub fn of_eight(c: &[u8]) -> i64
     ensures { result ≡ integer_of (filled (Rattle.x690.specs.Integer.eight 0) c.now) }
 {
-    if c.len() != 8 {
+    let Ok(eight) = <[u8; 8]>::try_from(c) else {
         return 0;
-    }
-    let high = wide(c[0]) * 16777216 + wide(c[1]) * 65536 + wide(c[2]) * 256 + wide(c[3]);
-    let low = wide(c[4]) * 16777216 + wide(c[5]) * 65536 + wide(c[6]) * 256 + wide(c[7]);
-    signed(high * 4294967296 + low)
+    };
+    i64::from_be_bytes(eight)
 }
 
 // Whether a first octet could be left out, before a second.
+#[tactic(auto, unfolding(x690::specs::Integer::spare))]
 fn spare(a: u8, b: u8) -> bool
     ensures { result ≡ Integer·spare a b }
 {
@@ -81,6 +61,7 @@ fn spare(a: u8, b: u8) -> bool
 }
 
 // Whether contents are an integer of at most eight octets in its fewest (8.3.2).
+#[tactic(auto, using(crate::proofs::IntegerCode::minimal_none, crate::proofs::IntegerCode::minimal_one, crate::proofs::IntegerCode::minimal_more))]
 pub fn is_integer(c: &[u8]) -> bool
     ensures { result ≡ (minimal c.now && leb (length c.now) 8) }
 {
@@ -96,11 +77,19 @@ pub fn is_integer(c: &[u8]) -> bool
     !spare(c[0], c[1])
 }
 
+// z, or its complement if it is negative.
+fn magnitude(z: i64) -> u64
+    ensures { result ≡ mag z }
+{
+    let n = if z < 0 { !z } else { z };
+    n.cast_unsigned()
+}
+
 // How many contents octets z has.
 pub fn size(z: i64) -> usize
     ensures { (result ≡ length (fewest_of z)) × (1 ≤ result) × (result ≤ 8) }
 {
-    let n = if z < 0 { !z } else { z };
+    let n = magnitude(z);
     if n < 128 {
         return 1;
     }
@@ -125,25 +114,25 @@ pub fn size(z: i64) -> usize
     8
 }
 
-// Fills a part with as many of the last octets of z, the last first; behind eight of them 0.
+// Fills a part with as many of the last octets of z, the last first; after eight of them 0.
+#[tactic(auto, using(crate::proofs::IntegerCode::last_turn))]
 pub fn put(z: i64, part: &mut [u8])
     ensures { part.new ≡ last_octets (length part.old) (of_z w64 z) }
 {
-    let mut u = bits(z);
-    let mut left = part.len();
-    while 0 < left {
-        left -= 1;
-        part[left] = (u % 256) as u8;
-        u = u / 256;
+    let mut u = z.cast_unsigned();
+    for i in (0..part.len()).rev() {
+        part[i] = (u % 256) as u8;
+        u /= 256;
     }
 }
 
 // Puts all eight octets of z over a part of eight; another stays.
+#[tactic(auto, using(crate::proofs::IntegerCode::eight_stays))]
 pub fn put_eight(z: i64, part: &mut [u8])
     ensures { part.new ≡ filled part.old (eight_of z) }
 {
     if part.len() != 8 {
         return;
     }
-    put(z, part);
+    part.copy_from_slice(&z.to_be_bytes());
 }

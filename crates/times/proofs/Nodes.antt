@@ -3,8 +3,7 @@
 use mathlib.Core.List.{List, ◌++◌}
 use mathlib.Core.Path.{◌≡◌, refl, ap, ◌∙◌}
 use Prim.Native.Nat.{ℕ, ◌≤◌}
-use native.Mathlib.Omega.{arith}
-use lib.ListN.{length, set, take, drop, length-set, length-drop, length-append}
+use lib.ListN.{length, set, take, drop, length-set}
 use lib.Seq.{sets, sets-eq}
 use Rattle.octets.specs.Buffers.{filled}
 use Rattle.octets.proofs.Buffers.{part_filled}
@@ -13,7 +12,6 @@ use Rattle.dates.specs.declared.TimeKind.{TimeKind}
 use Rattle.dates.specs.Own.{time_octets}
 use Rattle.coding.specs.Value.{time_number, leaf_octets}
 use Rattle.coding.specs.Reckoning.{time_node}
-use Rattle.coding.proofs.Reckoning.{time_short}
 
 -- the mark and a kind
 abbrev pub begun : List ℕ → ℕ → List ℕ
@@ -28,8 +26,3 @@ module _ (k : TimeKind) (t : DateTime) (b p : List ℕ) (x : ℕ) (e : x ≡ tim
       part_filled (begun b x) (time_octets t) p 3 7 refl (simp length-set h) q
       ∙ ap (λ (n : ℕ). sets (begun b n) 3 (time_octets t)) e
       ∙ sets-eq (time_node k t) b 0 h
-
-  pub node_length : length (take 3 (begun b x) ++ (p ++ drop 7 (drop 3 (begun b x)))) ≡ length b
-  node_length =
-      let n = ap length node_put ∙ length-append (time_node k t) (drop 10 b) in
-      omega (arith, n, time_short k t, length-drop 10 b)

@@ -1,45 +1,41 @@
 // Reckonings with two GeneralizedTimes, each handed in as the octets of one node (FORMATS, "Times"): their order, and the seconds from the first
 // to the second.
-ghost use Rattle.std.specs.Prelude.{◌≡◌};
-ghost use Rattle.coding.specs.declared.Refusal.TheVariants.{Value};
-ghost use Rattle.coding.specs.declared.Reckoned.TheVariants.{Refused};
-ghost use Rattle.coding.specs.Outcome.{value_cause};
-ghost use Rattle.coding.specs.Reckoning.{whole_order, whole_seconds};
+ghost use Rattle.std.specs.Prelude.{◌≡◌, Ok, Err, IfOk, IfErr};
+ghost use Rattle.dates.specs.declared.TimeKind.TheVariants.{Generalized};
+ghost use Rattle.coding.specs.Reckoning.{given as Reckoning·given, reckoned_by, whole_order, whole_seconds};
 
 use crate::node::given;
 use clock::seconds;
-use coding::{Given, JudgingCause, Reckoned, Refusal};
-use dates::TimeKind;
-use refusal::value_cause;
+use coding::Refusal;
+use dates::{DateTime, TimeKind};
 
-fn refuse(cause: JudgingCause) -> Reckoned
-    ensures { result ≡ Refused (Value (value_cause cause 0)) }
+// Both times; the first is judged wholly before the second.
+fn both(first: &[u8], second: &[u8]) -> Result<(DateTime, DateTime), Refusal>
+    ensures times { IfOk result (λ p. (Reckoning·given Generalized first.now ≡ Ok p.0)
+        × (Reckoning·given Generalized second.now ≡ Ok p.1)) }
+    ensures refused { IfErr result (λ r. (f : _)
+        → reckoned_by f (Reckoning·given Generalized first.now) (Reckoning·given Generalized second.now)
+        ≡ Err r) }
 {
-    Reckoned::Refused(Refusal::Value(value_cause(cause, 0)))
+    let a = given(TimeKind::Generalized, first)?;
+    let b = given(TimeKind::Generalized, second)?;
+    Ok((a, b))
 }
 
 // -1 if the first is before the second, 0 if they are the same, 1 if it is after it.
-pub fn order(first: &[u8], second: &[u8]) -> Reckoned
+#[tactic(auto, unfolding(coding::specs::Reckoning::reckoned_by))]
+pub fn order(first: &[u8], second: &[u8]) -> Result<i64, Refusal>
     ensures { result ≡ whole_order first.now second.now }
 {
-    match given(TimeKind::Generalized, first) {
-        Given::Refused(cause) => refuse(cause),
-        Given::Time(a) => match given(TimeKind::Generalized, second) {
-            Given::Refused(cause) => refuse(cause),
-            Given::Time(b) => Reckoned::Is(seconds::order(a, b)),
-        },
-    }
+    let (a, b) = both(first, second)?;
+    Ok(seconds::order(a, b))
 }
 
 // The whole seconds from the first to the second; negative if that is before it.
-pub fn elapsed(first: &[u8], second: &[u8]) -> Reckoned
+#[tactic(auto, unfolding(coding::specs::Reckoning::reckoned_by))]
+pub fn elapsed(first: &[u8], second: &[u8]) -> Result<i64, Refusal>
     ensures { result ≡ whole_seconds first.now second.now }
 {
-    match given(TimeKind::Generalized, first) {
-        Given::Refused(cause) => refuse(cause),
-        Given::Time(a) => match given(TimeKind::Generalized, second) {
-            Given::Refused(cause) => refuse(cause),
-            Given::Time(b) => Reckoned::Is(seconds::elapsed(a, b)),
-        },
-    }
+    let (a, b) = both(first, second)?;
+    Ok(seconds::elapsed(a, b))
 }

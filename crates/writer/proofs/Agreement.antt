@@ -28,30 +28,33 @@ use Rattle.writer.specs.Known.{record_in, Known}
 use Rattle.writer.specs.Standing.{parts_of}
 use Rattle.writer.proofs.Nodes.{node_kind_lem, fixed_is, members_is, not_simple, no_built}
 
--- the mandatory members are present
-module _ (b : List ℕ) (p n : ℕ) (v : List ℕ) (q : ℕ) (w : Bool) (e : agreeing (members_at b p n) (flags (every_at 1 v q n)) ≡ w) where
-  more : 0 < n → n ≡ suc (n - 1)
+-- the mandatory members are present: a loop over them that has come to the i-th
+module _ (b : List ℕ) (p n : ℕ) (v : List ℕ) (q i : ℕ) (w : Bool) (e : agreeing (members_at b (p + 2 * i) (n - i)) (flags (every_at 1 v (q + i) (n - i))) ≡ w) where
+  more : i < n → n - i ≡ suc (n - (i + 1))
   more h = omega arith
 
   abbrev Next : Type 0
-  Next = agreeing (members_at b (p + 2) (n - 1)) (flags (every_at 1 v (q + 1) (n - 1))) ≡ w
+  Next = agreeing (members_at b (p + 2 * (i + 1)) (n - (i + 1))) (flags (every_at 1 v (q + (i + 1)) (n - (i + 1)))) ≡ w
 
-  pub complete_ends : n ≤ 0 → true ≡ w
+  next : agreeing (members_at b (p + 2 * i + 2) (n - (i + 1))) (flags (every_at 1 v (q + i + 1) (n - (i + 1)))) ≡ w → Next
+  next z = let a : p + 2 * i + 2 ≡ p + 2 * (i + 1) = omega arith in let d : q + i + 1 ≡ q + (i + 1) = omega arith in rw (a, d) at z
+
+  pub complete_ends : n ≤ i → true ≡ w
   unfolding members_at every_at flags agreeing
-  complete_ends h = let s : n ≡ 0 = omega arith in rw s at e
+  complete_ends h = let s : n - i ≡ 0 = omega arith in rw s at e
 
-  pub complete_present : 0 < n → get_or v q 0 ≡ 1 → Next
+  pub complete_present : i < n → get_or v (q + i) 0 ≡ 1 → Next
   unfolding members_at every_at flags agreeing
-  complete_present h f = rw (more h, eq-eqb (get_or v q 0) 1 f) at e
+  complete_present h f = next (rw (more h, eq-eqb (get_or v (q + i) 0) 1 f) at e)
 
-  module _ (h : 0 < n) (f : get_or v q 0 ≡ 1 → ⊥) (t : Bool) (et : t ≡ eqb (get_or b (p + 1) 0) 1) where
+  module _ (h : i < n) (f : get_or v (q + i) 0 ≡ 1 → ⊥) (t : Bool) (et : t ≡ eqb (get_or b (p + 2 * i + 1) 0) 1) where
     pub complete_stops : t ≡ false → false ≡ w
     unfolding members_at every_at flags agreeing
-    complete_stops g = rw (more h, ne_eqb (get_or v q 0) 1 f, sym et ∙ g) at e
+    complete_stops g = rw (more h, ne_eqb (get_or v (q + i) 0) 1 f, sym et ∙ g) at e
 
     pub complete_optional : t ≡ true → Next
     unfolding members_at every_at flags agreeing
-    complete_optional g = rw (more h, ne_eqb (get_or v q 0) 1 f, sym et ∙ g) at e
+    complete_optional g = next (rw (more h, ne_eqb (get_or v (q + i) 0) 1 f, sym et ∙ g) at e)
 
 -- a node and a body of one kind k, whose own parts are at p and at own
 pub and_false : (a : Bool) → (a && false) ≡ false

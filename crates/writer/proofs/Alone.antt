@@ -7,8 +7,8 @@ use Prim.Native.Nat.{ℕ, suc, ◌+◌, ◌-◌, ◌≤◌, ◌<◌}
 use native.Mathlib.Omega.{arith}
 use borrow.Author.Tests.{le-leb, lt-leb, le-ltb, eq-eqb, ne_eqb, eqb-true, eqb-false}
 use lib.Dec.{ltb, eqb}
-use lib.ListN.{length, get_or, drop}
-use lib.Seq.{drop-cons, drop-length}
+use lib.ListN.{length, get_or, take, drop, length-drop}
+use lib.Seq.{drop-cons, drop-length, length-take-le, get_or-take, get_or-drop}
 use Rattle.coding.specs.declared.JudgingCause.{JudgingCause}
 use Rattle.octets.proofs.Tests.{test, at, or_by}
 use Rattle.octets.specs.Answer.{Answer, none_left}
@@ -30,16 +30,25 @@ zero_sum a b t =
     (λ e. let z = eqb-true a 0 e in let q : a + b ≡ b = omega arith in rw (e, q) refl)
     (λ e. let z = eqb-false a 0 e in rw (e, ne_eqb (a + b) 0 (λ s. z (omega arith))) refl)
 
-module _ (v : List ℕ) (p n sum : ℕ) (w : Bool) (e : (eqb sum 0 && all (λ x. eqb x 0) (every_at 1 v p n)) ≡ w) where
-  pub zero_turn : 0 < n → (eqb (sum + get_or v p 0) 0 && all (λ x. eqb x 0) (every_at 1 v (p + 1) (n - 1))) ≡ w
-  unfolding every_at all
-  zero_turn h =
-      let q : n ≡ suc (n - 1) = omega arith in
-      sym (zero_sum sum (get_or v p 0) (all (λ x. eqb x 0) (every_at 1 v (p + 1) (n - 1)))) ∙ rw q at e
+module _ (v : List ℕ) (p n : ℕ) where
+  -- n octets from p on, taken
+  pub taken_long : p + n ≤ length v → length (take (p + n - p) (drop p v)) ≡ n
+  taken_long h = let q : p + n - p ≡ n = omega arith in let l = length-drop p v in rw q (length-take-le n (drop p v) (omega arith))
 
-  pub zero_end : n ≤ 0 → eqb sum 0 ≡ w
-  unfolding every_at all
-  zero_end h = let q : n ≡ 0 = omega arith in sym (and_true (eqb sum 0)) ∙ rw q at e
+  pub taken_is : (i x : ℕ) → i < n → x ≡ get_or (take (p + n - p) (drop p v)) i 0 → x ≡ get_or v (p + i) 0
+  taken_is i x h e = let q : p + n - p ≡ n = omega arith in e ∙ rw (q, get_or-take n (drop p v) i 0 h, get_or-drop p v i 0) refl
+
+  module _ (i sum : ℕ) (w : Bool) (e : (eqb sum 0 && all (λ x. eqb x 0) (every_at 1 v (p + i) (n - i))) ≡ w) where
+    pub zero_turn : (x : ℕ) → i < n → x ≡ get_or v (p + i) 0 → (eqb (sum + x) 0 && all (λ x. eqb x 0) (every_at 1 v (p + (i + 1)) (n - (i + 1)))) ≡ w
+    unfolding every_at all
+    zero_turn x h g =
+        let q : n - i ≡ suc (n - (i + 1)) = omega arith in
+        let r : p + (i + 1) ≡ p + i + 1 = omega arith in
+        rw (r, g) (sym (zero_sum sum (get_or v (p + i) 0) (all (λ x. eqb x 0) (every_at 1 v (p + i + 1) (n - (i + 1))))) ∙ rw q at e)
+
+    pub zero_end : n ≤ i → eqb sum 0 ≡ w
+    unfolding every_at all
+    zero_end h = let q : n - i ≡ 0 = omega arith in sym (and_true (eqb sum 0)) ∙ rw q at e
 
 -- octets that are 0 are flags, none of which is up
 abbrev ZeroFlag : Bool → Bool → Bool → ℕ → Type 0
@@ -168,6 +177,9 @@ module _ (v : List ℕ) where
 
       pub lone_leaf : constructed_of kind ≡ false → (e : ℕ) → e ≡ own_end kind v 3 → eqb e (length v) ≡ is_lone v
       lone_leaf c e q = rw q (sym (alone_leaf v 3 kind c)) ∙ sym lone_is
+
+      pub lone_unshaped : constructed_of kind ≡ false → own_end kind v 3 ≡ 0 → false ≡ is_lone v
+      lone_unshaped c q = let l = some in sym (ne_eqb 0 (length v) (λ z. omega arith)) ∙ lone_leaf c 0 (sym q)
 
       pub lone_members : (eqb kind 16 || eqb kind 17) ≡ true → (r : Bool) → r ≡ Members v 3 → r ≡ is_lone v
       lone_members k r e = e ∙ sym (alone_members v 3 kind k) ∙ sym lone_is

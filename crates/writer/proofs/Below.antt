@@ -20,9 +20,8 @@ use Rattle.coding.specs.Judging.{Node, a_leaf, node_kind, agrees, read_node, jud
 use Rattle.writer.specs.Nodes.{end_at, node_at}
 use Rattle.writer.specs.Frames.{cap}
 use Rattle.writer.specs.Rows.{contents_form}
-use Rattle.writer.specs.Told.{told, IsDone}
+use Rattle.writer.specs.Told.{fit, unfit, told, IsDone}
 use Rattle.writer.specs.Notes.{row_at}
-use Rattle.writer.specs.declared.judge.Judged.TheVariants.{Done, Refused}
 use Rattle.writer.proofs.Reading.{Reads, bad, good, node_reads}
 use Rattle.writer.proofs.Rows.{alike_told, below_row}
 use Rattle.writer.proofs.Judging.{JudgedRow}
@@ -43,9 +42,6 @@ pub record Stands (v : List ℕ) (p : ℕ) : Type 0 where
 
 pub stands : (v : List ℕ) (p : ℕ) → p ≤ length v → 0 < end_at v p → Stands v p
 stands v p h k = let z = reads_good (node_reads v p h) k in record { is = z.0; onward = z.1; within = z.2 }
-
-pub positive : (r x : ℕ) → r ≡ x → (r ≡ 0 → ⊥) → 0 < x
-positive r x e h = test (ltb 0 x) (λ t. ltb-true 0 x t) λ t. absurd (h (let k : x ≤ 0 = ltb-false 0 x t in omega arith))
 
 -- what is answered at a place, by what stands there
 module _ (T : Table) (t : ℕ) (v : List ℕ) (p : ℕ) (h : p ≤ length v) where
@@ -74,17 +70,17 @@ module _ (T : Table) (t : ℕ) (v : List ℕ) (p : ℕ) (h : p ≤ length v) (n 
   place : length v - length (drop p v) ≡ p
   place = let l = length-drop p v in omega arith
 
-  pub value_shape : (f : Value → List ℕ) → end_at v p ≡ 0 → Refused p ValueShape ≡ told f v (judge_value T n t (drop p v))
+  pub value_shape : (f : Value → List ℕ) → end_at v p ≡ 0 → unfit ValueShape p ≡ told f v (judge_value T n t (drop p v))
   unfolding told
   value_shape f e = rw (no_node T t v p h n e, place) refl
 
   module _ (e : 0 < end_at v p) where
-    pub value_level : (f : Value → List ℕ) → n ≡ 0 → Refused p ValueLevel ≡ told f v (judge_value T n t (drop p v))
+    pub value_level : (f : Value → List ℕ) → n ≡ 0 → unfit ValueLevel p ≡ told f v (judge_value T n t (drop p v))
     unfolding told
     value_level f z = rw (no_level T t v p h n e z, place) refl
 
     module _ (z : n ≡ 0 → ⊥) where
-      pub value_ill : (f : Value → List ℕ) → agrees (T t).body (node_at v p) ≡ false → Refused p IllTyped ≡ told f v (judge_value T n t (drop p v))
+      pub value_ill : (f : Value → List ℕ) → agrees (T t).body (node_at v p) ≡ false → unfit IllTyped p ≡ told f v (judge_value T n t (drop p v))
       unfolding told
       value_ill f g = rw (no_type T t v p h n e z g, place) refl
 
@@ -96,7 +92,7 @@ module _ (T : Table) (t : ℕ) (v : List ℕ) (p : ℕ) (h : p ≤ length v) (n 
 
         -- a leaf
         pub value_leaf : (x : Leaf) (s : ℕ) → node_at v p ≡ a_leaf x → s ≡ cap (length (encode x))
-            → Done (end_at v p) s ≡ told (contents_form T (n - 1) (T t).body) v (judge_value T n t (drop p v))
+            → fit (end_at v p) s ≡ told (contents_form T (n - 1) (T t).body) v (judge_value T n t (drop p v))
         unfolding judge_below contents_form told
         value_leaf x s ex es =
             let l = length-drop (end_at v p) v in

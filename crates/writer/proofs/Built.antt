@@ -1,12 +1,16 @@
 -- What the judge says of a constructed node, and what it notes: one law for each way out.
 -- Assumes nothing.
-use mathlib.Core.Bool.{Bool, true, false}
+use mathlib.Core.Bool.{Bool, true, false, not, false≢true}
 use mathlib.Core.List.{List}
-use mathlib.Core.Path.{◌≡◌, sym, ◌∙◌}
+use mathlib.Core.Path.{◌≡◌, refl, sym, ◌∙◌}
 use Prim.Native.Nat.{ℕ, ◌+◌, ◌-◌, ◌/◌, ◌≤◌, ◌<◌}
 use native.Mathlib.Omega.{arith}
+use borrow.Author.Tests.{eqb-true, eqb-false}
+use lib.Dec.{eqb}
 use lib.ListN.{length, get_or, drop, set}
-use Rattle.octets.specs.Numbers.{Octets}
+use Rattle.std.specs.Prelude.{Option, is_some}
+use Rattle.octets.specs.Numbers.{Octets, unless_zero}
+use Rattle.octets.proofs.Tests.{test}
 use Rattle.coding.specs.declared.JudgingCause.{JudgingCause}
 use Rattle.coding.specs.declared.JudgingCause.TheVariants.{ValueShape, IllTyped, ValueLevel}
 use Rattle.table.specs.Syntax.{Table}
@@ -20,33 +24,40 @@ use Rattle.writer.specs.Known.{record_in, Known}
 use Rattle.writer.specs.Standing.{start_at, row_in, Standing}
 use Rattle.writer.specs.Ready.{Ready}
 use Rattle.writer.specs.Rows.{contents_form}
-use Rattle.writer.specs.Told.{told}
+use Rattle.writer.specs.Told.{Ruling, fit, unfit, told}
 use Rattle.writer.specs.Notes.{row_at, Noted, NotedRow, Noting}
-use Rattle.writer.specs.declared.judge.Judged.{Judged}
-use Rattle.writer.specs.declared.judge.Judged.TheVariants.{Done, Refused}
 use Rattle.writer.proofs.Nodes.{node_kind_lem}
 use Rattle.writer.proofs.Known.{known, known_record}
 use Rattle.writer.proofs.Finding.{at_stands, at_start, at_row}
 use Rattle.writer.proofs.Judging.{JudgedRow}
 use Rattle.writer.proofs.Members.{RowSaid}
-use Rattle.writer.proofs.Below.{stands, positive, value_shape, value_level, value_ill, value_row}
+use Rattle.writer.proofs.Below.{stands, value_shape, value_level, value_ill, value_row}
 use Rattle.writer.proofs.Notes.{noting_none, noting_refused, value_noting}
 
 -- what is to be shown of an answer for a value of type t at a place, and of the notes before and after
-abbrev pub NodeSaid : List ℕ → List ℕ → ℕ → ℕ → ℕ → Judged → List ℕ → List ℕ → Type 0
+abbrev pub NodeSaid : List ℕ → List ℕ → ℕ → ℕ → ℕ → Ruling → List ℕ → List ℕ → Type 0
 NodeSaid b v t at n r first last =
     (r ≡ told (contents_form (table_in b) (n - 1) (table_in b t).body) v (judge_value (table_in b) n t (drop at v)))
     × Noting at first last r (λ m. Noted (table_in b) v m n t at)
 
--- the mark of a constructed kind at a place, where its own part would end, and the entry of record t
+-- where an own part ends, as the code tells it
+pub own_none : (n : ℕ) (r : Option ℕ) (x : Bool) → r ≡ unless_zero n → is_some r ≡ not x → x ≡ true → n ≡ 0
+own_none n r x e i h =
+    test (eqb n 0) (λ t. eqb-true n 0 t) λ t.
+    let z : is_some r ≡ true = rw (e, t) refl in absurd (false≢true (sym (rw h at i) ∙ z))
+
+pub own_some : (n : ℕ) (r : Option ℕ) (x : Bool) → r ≡ unless_zero n → is_some r ≡ not x → x ≡ false → 0 < n
+own_some n r x e i h =
+    test (eqb n 0) (λ t. let z : is_some r ≡ false = rw (e, t) refl in absurd (false≢true (sym z ∙ rw h at i)))
+    λ t. let z = eqb-false n 0 t in omega arith
+
+-- the mark of a constructed kind at a place, and the entry of record t
 pub record Node (b index v : List ℕ) (t at : ℕ) : Type 0 where
   pub octets : Octets b
   pub ready : Ready b index v
   pub there : t < count_in b
   pub marked : IsMarked v at
   pub constructed : constructed_of (get_or v (at + 2) 0) ≡ true
-  pub end : ℕ
-  pub ends : end ≡ own_end (get_or v (at + 2) 0) v (at + 3)
 
 module _ {b index v : List ℕ} {t at : ℕ} (N : Node b index v t at) (n : ℕ) where
   abbrev T : Table
@@ -55,17 +66,14 @@ module _ {b index v : List ℕ} {t at : ℕ} (N : Node b index v t at) (n : ℕ)
   within : at ≤ length v
   within = let l = N.marked.0 in omega arith
 
-  pub built_shape : N.end ≡ 0 → (l : List ℕ) → NodeSaid b v t at n (Refused at ValueShape) l l
-  built_shape z l = (value_shape T t v at within n _ (N.marked.1 ∙ sym N.ends ∙ z), noting_none at l ValueShape at (λ m. Noted T v m n t at))
+  pub built_shape : own_end (get_or v (at + 2) 0) v (at + 3) ≡ 0 → (l : List ℕ) → NodeSaid b v t at n (unfit ValueShape at) l l
+  built_shape z l = (value_shape T t v at within n _ (N.marked.1 ∙ z), noting_none at l ValueShape at (λ m. Noted T v m n t at))
 
-  module _ (s : N.end ≡ 0 → ⊥) where
-    pub own_there : 0 < own_end (get_or v (at + 2) 0) v (at + 3)
-    own_there = positive N.end (own_end (get_or v (at + 2) 0) v (at + 3)) N.ends s
-
+  module _ (own_there : 0 < own_end (get_or v (at + 2) 0) v (at + 3)) where
     shaped : 0 < end_at v at
     shaped = rw N.marked.1 own_there
 
-    pub built_level : n ≡ 0 → (l : List ℕ) → NodeSaid b v t at n (Refused at ValueLevel) l l
+    pub built_level : n ≡ 0 → (l : List ℕ) → NodeSaid b v t at n (unfit ValueLevel at) l l
     built_level z l = (value_level T t v at within n shaped _ z, noting_none at l ValueLevel at (λ m. Noted T v m n t at))
 
     module _ (e : Entry) (ee : e ≡ unpacked (get_or index t 0)) where
@@ -79,7 +87,7 @@ module _ {b index v : List ℕ} {t at : ℕ} (N : Node b index v t at) (n : ℕ)
         agreed : (w : Bool) → r ≡ w → agrees (T t).body (node_at v at) ≡ w
         agreed w f = rw (← is_record) (sym er ∙ f)
 
-        pub built_ill : r ≡ false → (l : List ℕ) → NodeSaid b v t at n (Refused at IllTyped) l l
+        pub built_ill : r ≡ false → (l : List ℕ) → NodeSaid b v t at n (unfit IllTyped at) l l
         built_ill f l = (value_ill T t v at within n shaped z _ (agreed false f), noting_none at l IllTyped at (λ m. Noted T v m n t at))
 
         module _ (f : r ≡ true) where
@@ -95,7 +103,7 @@ module _ {b index v : List ℕ} {t at : ℕ} (N : Node b index v t at) (n : ℕ)
           row_is : row_in b e v (at + 3) ≡ row_at T v t at
           row_is = at_row b e built_known v at shaped t is_record (agreed true f) N.octets N.constructed end_in N.ready.passes N.there
 
-          module _ (y : Judged) (first last : List ℕ) (S : RowSaid b v e (at + 3) (n - 1) first y last) where
+          module _ (y : Ruling) (first last : List ℕ) (S : RowSaid b v e (at + 3) (n - 1) first y last) where
             at_row_said : (y ≡ JudgedRow T (n - 1) v (row_at T v t at) (end_at v at)) × Noting (end_at v at) first last y (λ m. NotedRow T v m (n - 1) (row_at T v
                 t at) (end_at v at))
             at_row_said = rw (start_is, row_is) at S
@@ -103,12 +111,12 @@ module _ {b index v : List ℕ} {t at : ℕ} (N : Node b index v t at) (n : ℕ)
             is_told : y ≡ told (contents_form T (n - 1) (T t).body) v (judge_value T n t (drop at v))
             is_told = at_row_said.0 ∙ value_row T t v at within n shaped z (agreed true f) (rw (node_kind_lem (get_or v (at + 2) 0) v (at + 3) own_there) N.constructed)
 
-            pub built_refused : (k : JudgingCause) (q : ℕ) → y ≡ Refused q k → NodeSaid b v t at n (Refused q k) first last
+            pub built_refused : (k : JudgingCause) (q : ℕ) → y ≡ unfit k q → NodeSaid b v t at n (unfit k q) first last
             built_refused k q d =
                 let g = (stands v at within shaped).onward in
                 (sym d ∙ is_told, noting_refused at (end_at v at) first last y k q _ _ (omega arith) at_row_said.1)
 
-            pub built_done : (u s : ℕ) → y ≡ Done u s → length first ≡ 4096 → NodeSaid b v t at n (Done u s) first (set last (at / 4) s)
+            pub built_done : (u s : ℕ) → y ≡ fit u s → length first ≡ 4096 → NodeSaid b v t at n (fit u s) first (set last (at / 4) s)
             built_done u s d l =
                 let g = at_row_said.1.long in
                 let h = N.ready.little in

@@ -11,6 +11,8 @@ use lib.Dec.{ltb, leb, eqb}
 use lib.IntN.{ℤ, pos}
 use lib.ListN.{length, get_or, take, drop, set, length-drop}
 use lib.Seq.{sets, length-take-le, get_or-take}
+use Rattle.std.specs.Prelude.{Option, Some, None}
+use Rattle.octets.specs.Tests.{if}
 use Rattle.octets.proofs.Tests.{test, at}
 use Rattle.octets.specs.Numbers.{two}
 use Rattle.octets.specs.Buffers.{filled}
@@ -29,7 +31,7 @@ use Rattle.coding.specs.Value.{time, time_number}
 use Rattle.coding.specs.Form.{encode, truth}
 use Rattle.coding.specs.Judging.{octets_for, spare_in}
 use Rattle.writer.specs.Nodes.{fixed_end, boolean_end, string_end, bits_end, time_end, clear_at, own_end, leaf_of}
-use Rattle.writer.specs.Leaves.{Measures}
+use Rattle.writer.specs.Leaves.{MeasuresSome}
 use Rattle.writer.specs.declared.contents.Extent.{Extent}
 use Rattle.writer.proofs.Nodes.{fixed_is, no_built}
 use Rattle.writer.proofs.Reading.{time_at_lem}
@@ -90,30 +92,45 @@ time_in_lem k v p h =
     test (ltb (length v) (p + 7)) (λ t. none (rw t at h)) λ t.
     test (in_range k (time_at v p)) (λ s. (rw (t, s) refl, ltb-false _ _ t, s)) λ s. none (rw (t, s) at h)
 
--- what is measured: `none` is told where the own part is not shaped
-abbrev Nothing : Extent → Type 0
-Nothing r = (r.end ≡ 0) × (r.size ≡ 0)
+-- what is measured where the octets are there, or are not
+abbrev Until : List ℕ → ℕ → Option ℕ
+Until v e = if (ltb (length v) e) None λ _. Some e
 
-module _ (v : List ℕ) (p : ℕ) (r : Extent) where
-  none_measured : (k : ℕ) → own_end k v p ≡ 0 → Nothing r → Measures k v p r
-  none_measured k e z = record { ends = z.0 ∙ sym e; sized = λ h. none (rw e at h); small = rw z.1 (omega arith) }
+abbrev Absent : List ℕ → ℕ → Type 0
+Absent v e = ◌≡◌ {A = Option ℕ} None (Until v e)
 
-  pub boolean_short : length v ≤ p → Nothing r → Measures 1 v p r
+abbrev Present : List ℕ → ℕ → ℕ → Type 0
+Present v e x = ◌≡◌ {A = Option ℕ} (Some x) (Until v e)
+
+until_none : (v : List ℕ) (e : ℕ) → Absent v e → length v < e
+until_none v e h = test (ltb (length v) e) (λ t. ltb-true _ _ t) λ t. let g = rw t at h in cc
+
+until_some : (v : List ℕ) (e : ℕ) {x : ℕ} → Present v e x → (x ≡ e) × (e ≤ length v)
+until_some v e h = test (ltb (length v) e) (λ t. let g = rw t at h in cc) λ t. let g = rw t at h in (cc, ltb-false _ _ t)
+
+-- what is told where the own part is not shaped, and where it is
+pub unshaped : (k : ℕ) (v : List ℕ) (p : ℕ) {r : Option Extent} → r ≡ None → own_end k v p ≡ 0 → MeasuresSome k v p r
+unshaped k v p e h = rw e h
+
+shaped : {k : ℕ} {v : List ℕ} {p e n : ℕ} → e ≡ own_end k v p → (0 < p → 0 < e) → n ≡ length (encode (leaf_of k v p)) → n < 65536
+    → MeasuresSome k v p (Some (record { end = e; size = n }))
+shaped e h n s = (record { ends = e; sized = λ _. n; small = s }, λ g. rw (← e) (h g))
+
+module _ (v : List ℕ) (p : ℕ) where
+  pub boolean_short : Absent v (p + 1) → own_end 1 v p ≡ 0
   unfolding own_end boolean_end
-  boolean_short h z = none_measured 1 (rw (lt-ltb (length v) (p + 1) (omega arith)) refl) z
+  boolean_short h = rw (lt-ltb (length v) (p + 1) (until_none _ _ h)) refl
 
-  pub boolean_other : p < length v → 2 ≤ get_or v p 0 → Nothing r → Measures 1 v p r
-  unfolding own_end boolean_end
-  boolean_other h g z = none_measured 1 (rw (le-ltb (length v) (p + 1) (omega arith), le-leb 2 (get_or v p 0) g) refl) z
+  module _ {e : ℕ} (h : Present v (p + 1) e) where
+    pub boolean_other : 2 ≤ get_or v p 0 → own_end 1 v p ≡ 0
+    unfolding own_end boolean_end
+    boolean_other g = rw (le-ltb (length v) (p + 1) (until_some _ _ h).1, le-leb 2 (get_or v p 0) g) refl
 
-  pub boolean_measured : p < length v → get_or v p 0 < 2 → r.end ≡ p + 1 → r.size ≡ 1 → Measures 1 v p r
-  unfolding own_end boolean_end leaf_of encode
-  boolean_measured h g e s =
-      record {
-        ends = e ∙ rw (le-ltb (length v) (p + 1) (omega arith), lt-leb 2 (get_or v p 0) g) refl;
-        sized = λ _. s;
-        small = omega arith;
-      }
+    pub boolean_measured : get_or v p 0 < 2 → MeasuresSome 1 v p (Some (record { end = e; size = 1 }))
+    unfolding own_end boolean_end leaf_of encode
+    boolean_measured g =
+        let w = until_some _ _ h in
+        shaped (w.0 ∙ rw (le-ltb (length v) (p + 1) w.1, lt-leb 2 (get_or v p 0) g) refl) (λ _. omega arith) refl (omega arith)
 
   fixed_short : (e : ℕ) → length v < e → fixed_end v e ≡ 0
   unfolding fixed_end
@@ -123,96 +140,114 @@ module _ (v : List ℕ) (p : ℕ) (r : Extent) where
   unfolding fixed_end
   fixed_long e h = rw (le-ltb (length v) e h) refl
 
-  pub integer_short : length v < p + 8 → Nothing r → Measures 2 v p r
+  pub integer_short : Absent v (p + 8) → own_end 2 v p ≡ 0
   unfolding own_end
-  integer_short h z = none_measured 2 (fixed_short (p + 8) h) z
+  integer_short h = fixed_short (p + 8) (until_none _ _ h)
 
-  pub integer_measured : p + 8 ≤ length v → (z y : ℤ) (n : ℕ) → y ≡ z → z ≡ integer_of (take 8 (drop p v)) → n ≡ length (fewest_of y) → n ≤ 8
-      → r.end ≡ p + 8 → r.size ≡ n → Measures 2 v p r
+  pub integer_measured : {e n : ℕ} {z y : ℤ} → Present v (p + 8) e → y ≡ z → z ≡ integer_of (take 8 (drop p v)) → n ≡ length (fewest_of y) → n ≤ 8
+      → MeasuresSome 2 v p (Some (record { end = e; size = n }))
   unfolding own_end leaf_of encode
-  integer_measured h z y n ey ez en g e s =
-      record { ends = e ∙ sym (fixed_long (p + 8) h); sized = λ _. s ∙ en ∙ ap (λ (i : ℤ). length (fewest_of i)) (ey ∙ ez); small = omega arith }
+  integer_measured h ey ez en g =
+      let w = until_some _ _ h in
+      shaped (w.0 ∙ sym (fixed_long (p + 8) w.1)) (λ _. omega arith) (en ∙ ap (λ (i : ℤ). length (fewest_of i)) (ey ∙ ez)) (omega arith)
 
-  pub bits_short : length v < p + 2 → Nothing r → Measures 3 v p r
+  pub bits_short : Absent v (p + 2) → own_end 3 v p ≡ 0
   unfolding own_end bits_end
-  bits_short h z = none_measured 3 (rw (lt-ltb (length v) (p + 2) h) refl) z
+  bits_short h = rw (lt-ltb (length v) (p + 2) (until_none _ _ h)) refl
 
-  module _ (h : p + 2 ≤ length v) (n : ℕ) (en : n ≡ two v p) where
-    pub bits_cut : length v < p + 2 + (n + 7) / 8 → Nothing r → Measures 3 v p r
+  module _ {o : ℕ} (h : Present v (p + 2) o) (n : ℕ) (en : n ≡ two v p) where
+    pub bits_cut : Absent v (o + (n + 7) / 8) → own_end 3 v p ≡ 0
     unfolding own_end bits_end
-    bits_cut g z = none_measured 3 (rw (le-ltb (length v) (p + 2) h, lt-ltb (length v) (p + 2 + octets_for (two v p)) (rw (← en) g)) refl) z
+    bits_cut g =
+        let w = until_some _ _ h in
+        let l = until_none _ _ (rw w.0 at g) in
+        rw (le-ltb (length v) (p + 2) w.1, lt-ltb (length v) (p + 2 + octets_for (two v p)) (rw (← en) l)) refl
 
-    module _ (g : p + 2 + (n + 7) / 8 ≤ length v) (t : Bool) (et : t ≡ clear_at v (p + 2) n) where
-      pub bits_unclear : t ≡ false → Nothing r → Measures 3 v p r
+    module _ {e : ℕ} (g : Present v (o + (n + 7) / 8) e) (t : Bool) (et : t ≡ clear_at v o n) where
+      bits_there_lem : p + 2 + octets_for (two v p) ≤ length v
+      bits_there_lem = rw (← en, ← (until_some _ _ h).0) (until_some _ _ g).1
+
+      bits_test : (b : Bool) → t ≡ b → clear_at v (p + 2) (two v p) ≡ b
+      bits_test b f = rw (← en, ← (until_some _ _ h).0) (sym et ∙ f)
+
+      pub bits_unclear : t ≡ false → own_end 3 v p ≡ 0
       unfolding own_end bits_end
-      bits_unclear f z =
-          let c : clear_at v (p + 2) (two v p) ≡ false = rw (← en) (sym et ∙ f) in
-          none_measured 3 (rw (le-ltb (length v) (p + 2) h, le-ltb (length v) (p + 2 + octets_for (two v p)) (rw (← en) g), c) refl) z
+      bits_unclear f =
+          rw (
+            le-ltb (length v) (p + 2) (until_some _ _ h).1,
+            le-ltb (length v) (p + 2 + octets_for (two v p)) bits_there_lem,
+            bits_test false f,
+          ) refl
 
-      pub bits_measured : t ≡ true → n < 65536 → r.end ≡ p + 2 + (n + 7) / 8 → r.size ≡ (n + 7) / 8 + 1 → Measures 3 v p r
+      pub bits_measured : t ≡ true → n < 65536 → MeasuresSome 3 v p (Some (record { end = e; size = (n + 7) / 8 + 1 }))
       unfolding own_end bits_end leaf_of encode
-      bits_measured f l e s =
-          let c : clear_at v (p + 2) (two v p) ≡ true = rw (← en) (sym et ∙ f) in
-          let w : p + 2 + octets_for (two v p) ≤ length v = rw (← en) g in
-          record {
-            ends = e ∙ rw (le-ltb (length v) (p + 2) h, le-ltb (length v) (p + 2 + octets_for (two v p)) w, c, ← en) refl;
-            sized = λ _. s ∙ rw (en, part_length v (p + 2) (octets_for (two v p)) w) (omega arith);
-            small = omega arith;
-          }
+      bits_measured f l =
+          let w = until_some _ _ g in
+          let u = until_some _ _ h in
+          shaped (w.0 ∙ rw (
+            le-ltb (length v) (p + 2) u.1,
+            le-ltb (length v) (p + 2 + octets_for (two v p)) bits_there_lem,
+            bits_test true f,
+            u.0,
+            en,
+          ) refl) (λ _. omega arith) (rw (en, part_length v (p + 2) (octets_for (two v p)) bits_there_lem) (omega arith)) (omega arith)
 
-  pub string_short : length v < p + 2 → Nothing r → Measures 4 v p r
+  pub string_short : Absent v (p + 2) → own_end 4 v p ≡ 0
   unfolding own_end string_end
-  string_short h z = none_measured 4 (rw (lt-ltb (length v) (p + 2) h) refl) z
+  string_short h = rw (lt-ltb (length v) (p + 2) (until_none _ _ h)) refl
 
-  module _ (h : p + 2 ≤ length v) (n : ℕ) (en : n ≡ two v p) where
-    pub string_cut : length v < p + 2 + n → Nothing r → Measures 4 v p r
+  module _ {o : ℕ} (h : Present v (p + 2) o) (n : ℕ) (en : n ≡ two v p) where
+    pub string_cut : Absent v (o + n) → own_end 4 v p ≡ 0
     unfolding own_end string_end
-    string_cut g z = none_measured 4 (rw (le-ltb (length v) (p + 2) h, lt-ltb (length v) (p + 2 + two v p) (rw (← en) g)) refl) z
+    string_cut g =
+        let w = until_some _ _ h in
+        let l = until_none _ _ (rw w.0 at g) in
+        rw (le-ltb (length v) (p + 2) w.1, lt-ltb (length v) (p + 2 + two v p) (rw (← en) l)) refl
 
-    pub string_measured : p + 2 + n ≤ length v → n < 65536 → r.end ≡ p + 2 + n → r.size ≡ n → Measures 4 v p r
+    pub string_measured : {e : ℕ} → Present v (o + n) e → n < 65536 → MeasuresSome 4 v p (Some (record { end = e; size = n }))
     unfolding own_end string_end leaf_of encode
-    string_measured g l e s =
-        let w : p + 2 + two v p ≤ length v = rw (← en) g in
-        record {
-          ends = e ∙ rw (le-ltb (length v) (p + 2) h, le-ltb (length v) (p + 2 + two v p) w, ← en) refl;
-          sized = λ _. s ∙ en ∙ sym (part_length v (p + 2) (two v p) w);
-          small = omega arith;
-        }
+    string_measured g l =
+        let u = until_some _ _ h in
+        let x = until_some _ _ g in
+        let w : p + 2 + two v p ≤ length v = rw (← en, ← u.0) x.1 in
+        shaped (x.0 ∙ rw (le-ltb (length v) (p + 2) u.1, le-ltb (length v) (p + 2 + two v p) w, u.0, en) refl) (λ _. omega arith)
+        (en ∙ sym (part_length v (p + 2) (two v p) w)) l
 
-  pub null_measured : (k : ℕ) → k ≡ 5 → r.end ≡ p → r.size ≡ 0 → Measures k v p r
+  pub null_measured : MeasuresSome 5 v p (Some (record { end = p; size = 0 }))
   unfolding own_end leaf_of encode
-  null_measured k ek e s = rw ek (record { ends = e; sized = λ _. s; small = omega arith })
+  null_measured = let e : p ≡ own_end 5 v p = refl in shaped e (λ h. h) refl (omega arith)
 
-  pub number_short : length v < p + 2 → Nothing r → Measures 10 v p r
+  pub number_short : Absent v (p + 2) → own_end 10 v p ≡ 0
   unfolding own_end
-  number_short h z = none_measured 10 (fixed_short (p + 2) h) z
+  number_short h = fixed_short (p + 2) (until_none _ _ h)
 
-  pub number_measured : p + 2 ≤ length v → (n s : ℕ) → n ≡ two v p → s ≡ length (fewest_of (pos n)) → s ≤ 8 → r.end ≡ p + 2 → r.size ≡ s → Measures 10 v p r
+  pub number_measured : {e s : ℕ} (n : ℕ) → Present v (p + 2) e → n ≡ two v p → s ≡ length (fewest_of (pos n)) → s ≤ 8
+      → MeasuresSome 10 v p (Some (record { end = e; size = s }))
   unfolding own_end leaf_of encode
-  number_measured h n s en es g e f = record { ends = e ∙ sym (fixed_long (p + 2) h); sized = λ _. f ∙ es ∙ rw en refl; small = omega arith }
+  number_measured n h en es g =
+      let w = until_some _ _ h in
+      shaped (w.0 ∙ sym (fixed_long (p + 2) w.1)) (λ _. omega arith) (es ∙ rw en refl) (omega arith)
 
   -- a time of a kind
   module _ (k : TimeKind) where
-    pub time_short : length v < p + 7 → Nothing r → Measures (time_number k) v p r
+    pub time_short : Absent v (p + 7) → own_end (time_number k) v p ≡ 0
     unfolding time_end
-    time_short h z = none_measured (time_number k) (own_time_lem k v p ∙ rw (lt-ltb (length v) (p + 7) h) refl) z
+    time_short h = own_time_lem k v p ∙ rw (lt-ltb (length v) (p + 7) (until_none _ _ h)) refl
 
-    module _ (h : p + 7 ≤ length v) (t : DateTime) (et : t ≡ time_at v p) (w : Bool) (ew : w ≡ in_range k t) where
+    module _ {e : ℕ} (h : Present v (p + 7) e) {t : DateTime} (et : t ≡ time_at v p) (w : Bool) (ew : w ≡ in_range k t) where
       in_range_lem : (b : Bool) → w ≡ b → in_range k (time_at v p) ≡ b
       in_range_lem b f = rw (← et) (sym ew ∙ f)
 
-      pub time_outside : w ≡ false → Nothing r → Measures (time_number k) v p r
+      pub time_outside : w ≡ false → own_end (time_number k) v p ≡ 0
       unfolding time_end
-      time_outside f z = none_measured (time_number k) (own_time_lem k v p ∙ rw (le-ltb (length v) (p + 7) h, in_range_lem false f) refl) z
+      time_outside f = own_time_lem k v p ∙ rw (le-ltb (length v) (p + 7) (until_some _ _ h).1, in_range_lem false f) refl
 
-      pub time_measured : w ≡ true → r.size ≡ time_size k → r.end ≡ p + 7 → Measures (time_number k) v p r
+      pub time_measured : {n : ℕ} → w ≡ true → n ≡ time_size k → MeasuresSome (time_number k) v p (Some (record { end = e; size = n }))
       unfolding time_end encode
-      time_measured f s e =
-          record {
-            ends = e ∙ sym (own_time_lem k v p ∙ rw (le-ltb (length v) (p + 7) h, in_range_lem true f) refl);
-            sized = λ _. s ∙ sym (rw (leaf_time k v p) (length_time k (time_at v p)));
-            small = rw s (time_few k);
-          }
+      time_measured f s =
+          let x = until_some _ _ h in
+          shaped (x.0 ∙ sym (own_time_lem k v p ∙ rw (le-ltb (length v) (p + 7) x.1, in_range_lem true f) refl)) (λ _. omega arith)
+          (s ∙ sym (rw (leaf_time k v p) (length_time k (time_at v p)))) (rw s (time_few k))
 
 -- the last simple kinds, those of times, if it is none of the others
 abbrev LastLeaf : ℕ → Type 0
@@ -232,7 +267,7 @@ pub time_left : (k : ℕ) → constructed_of k ≡ false → (k ≡ 1 → ⊥) �
 time_left k g e₁ e₂ e₃ e₄ e₅ e₁₀ i ei =
     rw ei (last_leaf k g (ne_eqb k 1 e₁) (ne_eqb k 2 e₂) (ne_eqb k 3 e₃) (ne_eqb k 4 e₄) (ne_eqb k 5 e₅) (ne_eqb k 10 e₁₀))
 
-pub same_kind : (k : ℕ) (v : List ℕ) (p i : ℕ) (r : Extent) → k ≡ i → Measures i v p r → Measures k v p r
+pub same_kind : (k : ℕ) (v : List ℕ) (p i : ℕ) (r : Option Extent) → k ≡ i → MeasuresSome i v p r → MeasuresSome k v p r
 same_kind k v p i r e m = rw e m
 
 -- a leaf that is shaped, by its kind: where it ends, and its contents octets
@@ -427,21 +462,3 @@ time_taken o =
 
 pub seven_is : (v : List ℕ) (p : ℕ) (t : DateTime) → t ≡ time_at (take (p + 7 - p) (drop p v)) 0 → t ≡ time_at v p
 seven_is v p t e = let q : p + 7 - p ≡ 7 = omega arith in e ∙ rw q (time_taken (drop p v)) ∙ time_at_lem v p
-
--- where a leaf ends, by its kind
-module _ (k : ℕ) (v : List ℕ) (p : ℕ) where
-  pub end_measured : (i : ℕ) (r : Extent) → k ≡ i → Measures i v p r → r.end ≡ own_end k v p
-  end_measured i r e m = (same_kind k v p i r e m).ends
-
-  module _ {r : ℕ} where
-    pub end_integer : k ≡ 2 → r ≡ fixed_end v (p + 8) → r ≡ own_end k v p
-    unfolding own_end
-    end_integer e h = rw e h
-
-    pub end_enumerated : k ≡ 10 → r ≡ fixed_end v (p + 2) → r ≡ own_end k v p
-    unfolding own_end
-    end_enumerated e h = rw e h
-
-  pub end_null : k ≡ 5 → p ≡ own_end k v p
-  unfolding own_end
-  end_null e = rw e refl

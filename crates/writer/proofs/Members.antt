@@ -5,8 +5,12 @@ use mathlib.Core.List.{List, [], ◌∷◌}
 use mathlib.Core.Path.{◌≡◌, refl, sym, ap, ◌∙◌}
 use Prim.Native.Nat.{ℕ, ◌+◌, ◌-◌, ◌≤◌, ◌<◌}
 use native.Mathlib.Omega.{arith}
-use borrow.Author.Tests.{not-true}
+use borrow.Author.Tests.{not-true, ltb-true, ltb-false}
+use lib.Dec.{ltb}
 use lib.ListN.{length, get_or, drop}
+use Rattle.std.specs.Prelude.{Option, Some, None, Ok}
+use Rattle.octets.specs.Numbers.{if_below}
+use Rattle.octets.proofs.Tests.{test}
 use Rattle.coding.specs.declared.JudgingCause.{JudgingCause}
 use Rattle.coding.specs.declared.JudgingCause.TheVariants.{ValueShape}
 use Rattle.table.specs.Syntax.{Record, Table}
@@ -21,10 +25,9 @@ use Rattle.writer.specs.Known.{record_in, Known}
 use Rattle.writer.specs.Standing.{start_at, count_at, below_at, row_from, row_in, Standing}
 use Rattle.writer.specs.Ready.{Ready}
 use Rattle.writer.specs.Rows.{judge_row, row_form, contents_form}
-use Rattle.writer.specs.Told.{told}
-use Rattle.writer.specs.Notes.{Noted, NotedRow, Noting}
 use Rattle.writer.specs.declared.judge.Judged.{Judged}
-use Rattle.writer.specs.declared.judge.Judged.TheVariants.{Done, Refused}
+use Rattle.writer.specs.Told.{Ruling, fit, unfit, told}
+use Rattle.writer.specs.Notes.{Noted, NotedRow, Noting}
 use Rattle.writer.proofs.Frames.{cap_below}
 use Rattle.writer.proofs.Known.{known, known_record, ready_tagged}
 use Rattle.writer.proofs.Simple.{known_simple}
@@ -43,7 +46,7 @@ pub record GoingOn (b v : List ℕ) (e : Entry) (p n : ℕ) (first : List ℕ) (
       (λ m. NotedRow (table_in b) v m n (row_from b e v p i (count_at e v p - i)) at) (λ m. NotedRow (table_in b) v m n (row_in b e v p) (start_at e v p))
 
 -- what is to be shown of an answer
-abbrev pub RowSaid : List ℕ → List ℕ → Entry → ℕ → ℕ → List ℕ → Judged → List ℕ → Type 0
+abbrev pub RowSaid : List ℕ → List ℕ → Entry → ℕ → ℕ → List ℕ → Ruling → List ℕ → Type 0
 RowSaid b v e p n first r last =
     (r ≡ told (row_form (table_in b) n (row_in b e v p)) v (judge_row (table_in b) n (row_in b e v p) (drop (start_at e v p) v)))
     × Noting (start_at e v p) first last r (λ m. NotedRow (table_in b) v m n (row_in b e v p) (start_at e v p))
@@ -59,17 +62,28 @@ module _ (b v : List ℕ) (e : Entry) (p n : ℕ) (first : List ℕ) where
       })
 
   module _ (i at total : ℕ) (l : List ℕ) (G : GoingOn b v e p n first i at total l) where
-    pub members_end_lem : count_at e v p ≤ i → RowSaid b v e p n first (Done at total) l
+    pub members_end_lem : count_at e v p ≤ i → RowSaid b v e p n first (fit at total) l
     members_end_lem h =
         let q = row_over b e v p i (count_at e v p) h in (
           row_end (table_in b) n _ v at total (rw q at G.left) G.within G.small,
           going_end G.going total (λ m. rw q (none_noted (table_in b) v n at m)),
         )
 
-    pub members_pass : i < count_at e v p → (t : ℕ) → t ≡ below_at b e v p i → 256 ≤ t → GoingOn b v e p n first (i + 1) at total l
-    members_pass h t et g =
-        let q = row_missing b e v p i (count_at e v p) h (rw (← et) g) in
+    pub members_pass : i < count_at e v p → 256 ≤ below_at b e v p i → GoingOn b v e p n first (i + 1) at total l
+    members_pass h g =
+        let q = row_missing b e v p i (count_at e v p) h g in
         record { within = G.within; small = G.small; left = rw q at G.left; going = rw q at G.going }
+
+-- a number that is told only below a bound
+pub some_below : (n k t : ℕ) → ◌≡◌ {A = Option ℕ} (Some t) (if_below n k) → (t ≡ k) × (t < n)
+some_below n k t e =
+    test (ltb k n) (λ l. let q : t ≡ k = let z : ◌≡◌ {A = Option ℕ} (Some t) (Some k) = rw l at e in cc in let h = ltb-true k n l in (q, omega arith)) λ l.
+    let z : ◌≡◌ {A = Option ℕ} (Some t) None = rw l at e in absurd (let o : ◌≡◌ {A = ℕ} 0 1 = cc in omega arith)
+
+pub none_below : (n k : ℕ) → ◌≡◌ {A = Option ℕ} None (if_below n k) → n ≤ k
+none_below n k e =
+    test (ltb k n) (λ l. let z : ◌≡◌ {A = Option ℕ} None (Some k) = rw l at e in absurd (let o : ◌≡◌ {A = ℕ} 0 1 = cc in omega arith)) λ l.
+    ltb-false k n l
 
 -- the i-th is there, of type t
 pub record Member (b index v : List ℕ) (e : Entry) (p n : ℕ) (first : List ℕ) : Type 0 where
@@ -84,6 +98,25 @@ pub record Member (b index v : List ℕ) (e : Entry) (p n : ℕ) (first : List �
   pub t : ℕ
   pub is : t ≡ below_at b e v p i
   pub there : t < 256
+
+-- as the code finds it: x is the entry, c counts what stands before it
+abbrev pub member : {b index v : List ℕ} {e x : Entry} {p n i at total c : ℕ} {first notes : List ℕ} → Ready b index v → Standing b v e p
+    → GoingOn b v e p n first i at total notes → x ≡ e → c ≡ count_at x v p → i < c → (t : ℕ) → ◌≡◌ {A = Option ℕ} (Some t) (if_below 256 (below_at b x v p i))
+    → Member b index v e p n first
+member {b} {index} {v} {e} {x} {p} {n} {i} {at} {total} {c} {first} {notes} R S G ex ec h t et =
+    record {
+      ready = R;
+      stands = S;
+      i = i;
+      at = at;
+      total = total;
+      notes = notes;
+      so_far = G;
+      one = rw ex at (rw ec at h);
+      t = t;
+      is = (some_below 256 (below_at b e v p i) t (rw ex at et)).0;
+      there = (some_below 256 (below_at b e v p i) t (rw ex at et)).1;
+    }
 
 module _ {b index v : List ℕ} {e : Entry} {p n : ℕ} {first : List ℕ} (m : Member b index v e p n first) where
   abbrev T : Table
@@ -105,29 +138,28 @@ module _ {b index v : List ℕ} {e : Entry} {p n : ℕ} {first : List ℕ} (m : 
   pub member_there : m.t < count_in b
   member_there = rw m.is (m.stands.types m.i m.one (rw (← m.is) m.there))
 
-  pub member_few : m.t < 128
-  member_few = let h = member_there in let f = m.ready.filled.few in omega arith
-
-  pub member_unmarked : (r : Bool) → Marked v m.at r → r ≡ false → RowSaid b v e p n first (Refused m.at ValueShape) m.notes
+  pub member_unmarked : (r : Bool) → Marked v m.at r → r ≡ false → RowSaid b v e p n first (unfit ValueShape m.at) m.notes
   member_unmarked r k f =
       let x = value_shape T m.t v m.at m.so_far.within n (λ _. []) (k.no f) in (
-        row_refused T n _ v m.at m.total m.t Rest left_now (λ _. []) (Refused m.at ValueShape) ValueShape m.at x refl,
+        row_refused T n _ v m.at m.total m.t Rest left_now (λ _. []) (unfit ValueShape m.at) ValueShape m.at x refl,
         going_stopped going_now ValueShape m.at,
       )
 
   -- what is said of it
-  abbrev pub Said : Judged → List ℕ → Type 0
+  abbrev pub Said : Ruling → List ℕ → Type 0
   Said y last = (y ≡ told (contents_form T (n - 1) (T m.t).body) v (judge_value T n m.t (drop m.at v))) × Noting m.at m.notes last y (λ l. Noted
       T v l n m.t m.at)
 
-  module _ (y : Judged) (last : List ℕ) (S : Said y last) where
-    pub member_refused : (k : JudgingCause) (q : ℕ) → y ≡ Refused q k → RowSaid b v e p n first (Refused q k) last
+  module _ (y : Ruling) (last : List ℕ) (S : Said y last) where
+    pub member_refused : (k : JudgingCause) (q : ℕ) → y ≡ unfit k q → RowSaid b v e p n first (unfit k q) last
     member_refused k q d =
         (row_refused T n _ v m.at m.total m.t Rest left_now _ y k q S.0 d, going_refused going_now last y k q S.1)
 
-    module _ (u s : ℕ) (d : y ≡ Done u s) where
-      pub member_small : s < 8194
-      member_small = told_small _ v _ y u s S.0 d
+    pub member_fit : (d : Judged) → y ≡ Ok d → Said (Ok d) last
+    member_fit d e = rw e at S
+
+  pub member_small : (d : Judged) (last : List ℕ) → Said (Ok d) last → d.size < 8194
+  member_small d last S = told_small _ v _ _ d.end d.size S.0 refl
 
   -- its entry x: it is a leaf, or a constructed node
   module _ (x : Entry) (ex : x ≡ unpacked (get_or index m.t 0)) where
@@ -140,26 +172,22 @@ module _ {b index v : List ℕ} {e : Entry} {p n : ℕ} {first : List ℕ} (m : 
     entry_record : record_in b x ≡ T m.t
     entry_record = rw ex (known_record b index m.ready.filled m.t member_there)
 
-    pub leaf_said : IsMarked v m.at → (y r : Judged) (last : List ℕ) (s : Bool) → s ≡ not (constructed_of (get_or v (m.at + 2) 0)) → s ≡ true
-        → ((T : Table) (t : ℕ) → (T t).body ≡ (record_in b x).body → r ≡ told (contents_form T (n - 1) (T t).body) v (judge_value T n t (drop m.at v)))
-        → last ≡ m.notes → y ≡ r → Said y last
-    leaf_said M y r last s es f tells el ey =
+    pub leaf_said : IsMarked v m.at → (s : Bool) → s ≡ not (constructed_of (get_or v (m.at + 2) 0)) → s ≡ true → (y : Ruling)
+        → ((T : Table) (t : ℕ) → (T t).body ≡ (record_in b x).body → y ≡ told (contents_form T (n - 1) (T t).body) v (judge_value T n t (drop m.at v)))
+        → Said y m.notes
+    leaf_said M s es f y tells =
         let k : constructed_of (get_or v (m.at + 2) 0) ≡ false = not-true _ (sym es ∙ f) in
-        let g = ey ∙ tells T m.t (ap (λ (r : Record). r.body) (sym entry_record)) in
-        (g, rw el (leaf_noting T v n m.t m.at m.so_far.within k _ y g m.notes))
+        let g = tells T m.t (ap (λ (r : Record). r.body) (sym entry_record)) in
+        (g, leaf_noting T v n m.t m.at m.so_far.within k _ y g m.notes)
 
-    pub member_done : (y : Judged) (last : List ℕ) → Said y last → (u s : ℕ) → y ≡ Done u s → (k total : ℕ) → k ≡ framed (record_in b x).tags s
-        → total ≡ cap (m.total + k)
-        → GoingOn b v e p n first (m.i + 1) u total last
-    member_done y last S u s d k total ek et =
-        let g : k ≡ framed (T m.t).tags s = ek ∙ ap (λ (r : Record). framed r.tags s) entry_record in
-        let z = value_came T n m.t v m.at (ready_tagged b index v m.ready) m.so_far.within y u s k S.0 d g in
+    pub member_done : (d : Judged) (last : List ℕ) → Said (Ok d) last → (k total : ℕ) → k ≡ framed (record_in b x).tags d.size → total ≡ cap (m.total + k)
+        → GoingOn b v e p n first (m.i + 1) d.end total last
+    member_done d last S k total ek et =
+        let g : k ≡ framed (T m.t).tags d.size = ek ∙ ap (λ (r : Record). framed r.tags d.size) entry_record in
+        let z = value_came T n m.t v m.at (ready_tagged b index v m.ready) m.so_far.within _ d.end d.size k S.0 refl g in
         record {
           within = z.within;
           small = rw et (cap_below (m.total + k));
-          left = rw et (row_turn T n _ v m.at m.total m.t Rest left_now u k z);
-          going = going_turn going_now last y u s S.1 d z.onward (λ l. row_noted T v n m.t Rest m.at u k z l);
+          left = rw et (row_turn T n _ v m.at m.total m.t Rest left_now d.end k z);
+          going = going_turn going_now last _ d.end d.size S.1 refl z.onward (λ l. row_noted T v n m.t Rest m.at d.end k z l);
         }
-
-  pub built_said : (y r : Judged) (last l : List ℕ) → Said r l → last ≡ l → y ≡ r → Said y last
-  built_said y r last l S el ey = rw (el, ey) S

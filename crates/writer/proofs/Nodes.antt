@@ -1,14 +1,17 @@
 -- Nodes by their kinds: where they end, and which are leaves.
 -- Assumes nothing.
-use mathlib.Core.Bool.{Bool, true, false, not, ◌&&◌, ◌||◌, false≢true}
+use mathlib.Core.Bool.{Bool, true, false, not, ◌||◌, false≢true}
 use mathlib.Core.List.{List}
 use mathlib.Core.Path.{◌≡◌, refl, sym, ap, ◌∙◌}
-use Prim.Native.Nat.{ℕ, ◌+◌, ◌≤◌, ◌<◌}
+use Prim.Native.Nat.{ℕ, zero, suc, ◌+◌, ◌-◌, ◌≤◌, ◌<◌}
 use native.Mathlib.Omega.{arith}
-use borrow.Author.Tests.{lt-ltb, le-ltb, le-leb, eq-eqb, ne_eqb, ltb-false, leb-true}
-use lib.Dec.{ltb, leb, eqb}
-use lib.ListN.{length, get_or}
-use Rattle.octets.proofs.Tests.{test, at, or_by, or_false}
+use borrow.Author.Tests.{lt-ltb, le-ltb, ne_eqb, ltb-true, ltb-false}
+use lib.Dec.{ltb, eqb}
+use lib.ListN.{length, get_or, take, drop, length-take, length-drop}
+use lib.Seq.{get_or-take, get_or-drop}
+use Rattle.std.specs.Prelude.{Option, Some}
+use Rattle.octets.specs.Numbers.{unless_zero}
+use Rattle.octets.proofs.Tests.{test, at, or_false}
 use Rattle.octets.proofs.Lists.{both}
 use Rattle.octets.specs.Lists.{all}
 use Rattle.dates.specs.declared.TimeKind.TheVariants.{Utc, Generalized}
@@ -17,7 +20,7 @@ use Rattle.table.specs.Octets.{kind}
 use Rattle.table.specs.Reading.{every_at, body_at}
 use Rattle.table.specs.Fields.{constructed_of}
 use Rattle.coding.specs.Judging.{a_leaf, leaf_kind, node_kind, agrees}
-use Rattle.writer.specs.Nodes.{fixed_end, members_end, own_end, end_at, leaf_of, node_of, node_at, Marked}
+use Rattle.writer.specs.Nodes.{fixed_end, members_end, own_end, end_at, leaf_of, node_of, node_at}
 use Rattle.writer.proofs.Forms.{agreed_kind}
 
 none : {X : Type 0} → 0 < 0 → X
@@ -144,73 +147,60 @@ long_end v p k =
 pub built_long : (v : List ℕ) (p : ℕ) → 0 < end_at v p → constructed_of (get_or v (p + 2) 0) ≡ true → p + 4 ≤ end_at v p
 built_long v p h g = let w = long_end v (p + 3) (get_or v (p + 2) 0) g (own_shaped v p h) in rw (own_end_is v p h) (omega arith)
 
--- the mark of a node
-module _ (v : List ℕ) (at : ℕ) where
-  pub unmarked_short : length v < at + 3 → Marked v at false
-  unfolding end_at
-  unmarked_short h = record { yes = λ e. absurd (false≢true e); no = λ e. rw (lt-ltb (length v) (at + 3) h) refl }
+-- flags are octets below 2
+flags_each : (v : List ℕ) (q n : ℕ) → all (λ x. ltb x 2) (every_at 1 v q n) ≡ true → (k : ℕ) → k < n → get_or v (q + k) 0 < 2
+unfolding all every_at
+flags_each v q zero h k g = absurd (omega arith)
+flags_each v q (suc n) h zero g = let z : q + 0 ≡ q = omega arith in rw z (ltb-true (get_or v q 0) 2 (both (ltb (get_or v q 0) 2) (all (λ x. ltb x 2) (every_at 1 v (q + 1) n)) h).0)
+flags_each v q (suc n) h (suc k) g =
+    let z : q + 1 + k ≡ q + suc k = omega arith in
+    rw z at (flags_each v (q + 1) n (both (ltb (get_or v q 0) 2) (all (λ x. ltb x 2) (every_at 1 v (q + 1) n)) h).1 k (omega arith))
 
-  module _ (h : at + 3 ≤ length v) where
-    pub unmarked_first : (get_or v at 0 ≡ 0x56 → ⊥) → Marked v at false
-    unfolding end_at
-    unmarked_first f = record { yes = λ e. absurd (false≢true e); no = λ e. rw (le-ltb (length v) (at + 3) h, ne_eqb (get_or v at 0) 0x56 f) refl }
+each_flags : (v : List ℕ) (q n : ℕ) → ((k : ℕ) → k < n → get_or v (q + k) 0 < 2) → all (λ x. ltb x 2) (every_at 1 v q n) ≡ true
+unfolding all every_at
+each_flags v q zero h = refl
+each_flags v q (suc n) h =
+    let z : q + 0 ≡ q = omega arith in
+    rw (lt-ltb (get_or v q 0) 2 (rw z at (h 0 (omega arith))), each_flags v (q + 1) n (λ k g. let e : q + suc k ≡ q + 1 + k = omega arith in rw e at (h (suc k) (omega arith)))) refl
 
-    pub marked_second : get_or v at 0 ≡ 0x56 → Marked v at (eqb (get_or v (at + 1) 0) 0x41)
-    unfolding end_at
-    marked_second f =
-        record {
-          yes = λ e. (h, rw (le-ltb (length v) (at + 3) h, eq-eqb (get_or v at 0) 0x56 f, e) refl);
-          no = λ e. rw (le-ltb (length v) (at + 3) h, eq-eqb (get_or v at 0) 0x56 f, e) refl;
-        }
+-- presence octets that are there, and whether each of their slice is below 2
+module _ (v : List ℕ) (p n : ℕ) (en : n ≡ get_or v p 0) (l : p + 1 + n ≤ length v) where
+  abbrev Slice : List ℕ
+  Slice = take (p + 1 + n - (p + 1)) (drop (p + 1) v)
 
--- presence octets, with the test of their room
-module _ (v : List ℕ) (p : ℕ) (t : Bool) (et : t ≡ (leb (p + 1 + get_or v p 0) (length v) && all (λ x. ltb x 2) (every_at 1 v (p + 1) (get_or v p 0)))) where
-  pub members_shaped : t ≡ true → p + 1 + get_or v p 0 ≡ members_end v p
+  slice_octet : (k : ℕ) → k < n → get_or Slice k 0 ≡ get_or v (p + 1 + k) 0
+  slice_octet k h = get_or-take (p + 1 + n - (p + 1)) (drop (p + 1) v) k 0 (omega arith) ∙ get_or-drop (p + 1) v k 0
+
+  slice_long : length Slice ≡ n
+  slice_long = simp (length-take, length-drop) (omega arith)
+
+  pub members_shaped : ((k : ℕ) → k < length Slice → get_or Slice k 0 < 2) → members_end v p ≡ p + 1 + n
   unfolding members_end
   members_shaped f =
-      let z = both (leb (p + 1 + get_or v p 0) (length v)) (all (λ x. ltb x 2) (every_at 1 v (p + 1) (get_or v p 0))) (sym et ∙ f) in
-      let l = leb-true (p + 1 + get_or v p 0) (length v) z.0 in
-      rw (le-ltb (length v) (p + 1) (omega arith), le-ltb (length v) (p + 1 + get_or v p 0) l, z.1) refl
+      let g = each_flags v (p + 1) n (λ k h. rw (← slice_octet k h) (f k (rw slice_long h))) in
+      rw (← en, le-ltb (length v) (p + 1) (omega arith), le-ltb (length v) (p + 1 + n) l, g) refl
 
-  pub members_shapeless : t ≡ false → 0 ≡ members_end v p
+  pub members_shapeless : (((k : ℕ) → k < length Slice → get_or Slice k 0 < 2) → ⊥) → members_end v p ≡ 0
   unfolding members_end
   members_shapeless f =
-      test (ltb (length v) (p + 1)) (λ a. rw a refl) λ a.
-      test (ltb (length v) (p + 1 + get_or v p 0)) (λ c. rw (a, c) refl) λ c.
-      let l : leb (p + 1 + get_or v p 0) (length v) ≡ true = le-leb (p + 1 + get_or v p 0) (length v) (ltb-false (length v) (p + 1 + get_or v p 0) c) in
-      let g : all (λ x. ltb x 2) (every_at 1 v (p + 1) (get_or v p 0)) ≡ false = sym (rw l at et) ∙ f in
-      rw (a, c, g) refl
+      test (all (λ x. ltb x 2) (every_at 1 v (p + 1) n))
+      (λ g. absurd (f (λ k h. let h' : k < n = rw slice_long at h in rw (slice_octet k h') (flags_each v (p + 1) n g k h'))))
+      λ g. rw (← en, le-ltb (length v) (p + 1) (omega arith), le-ltb (length v) (p + 1 + n) l, g) refl
 
--- where the own part of a constructed kind ends
-module _ (v : List ℕ) (k p : ℕ) (c : constructed_of k ≡ true) where
-  module _ (t : Bool) (et : t ≡ (eqb k 16 || eqb k 17)) where
-    pub end_members : t ≡ true → members_end v p ≡ own_end k v p
-    unfolding own_end
-    end_members h =
-        let (e₁, e₂, e₃, e₄, e₅, e₁₀, e₂₃, e₂₄) = not_simple k c in
-        rw (e₁, e₂, e₃, e₄, e₅, e₁₀, e₂₃, e₂₄) (or_by (eqb k 16) (eqb k 17) (sym et ∙ h) (λ a. rw a refl) λ a. test (eqb k 16) (λ d. rw d refl) λ d. rw (d, a) refl)
+pub shaped_some : (n : ℕ) → 0 < n → ◌≡◌ {A = Option ℕ} (Some n) (unless_zero n)
+shaped_some n h = let e : eqb n 0 ≡ false = ne_eqb n 0 (λ z. omega arith) in rw e refl
 
-    module _ (h : t ≡ false) (s : Bool) (es : s ≡ (eqb k 48 || eqb k 49)) where
-      none_of : (eqb k 16 ≡ false) × (eqb k 17 ≡ false)
-      none_of = or_false (eqb k 16) (eqb k 17) (sym et ∙ h)
+pub members_short : (v : List ℕ) (p : ℕ) → length v < p + 1 + get_or v p 0 → members_end v p ≡ 0
+unfolding members_end
+members_short v p l = test (ltb (length v) (p + 1)) (λ a. rw a refl) λ a. rw (a, lt-ltb (length v) (p + 1 + get_or v p 0) l) refl
 
-      pub end_list : s ≡ true → fixed_end v (p + 2) ≡ own_end k v p
-      unfolding own_end
-      end_list g =
-          let (e₁, e₂, e₃, e₄, e₅, e₁₀, e₂₃, e₂₄) = not_simple k c in
-          rw (e₁, e₂, e₃, e₄, e₅, e₁₀, e₂₃, e₂₄, none_of.0, none_of.1) (or_by (eqb k 48) (eqb k 49) (sym es
-          ∙ g) (λ a. rw a refl) λ a. test (eqb k 48) (λ d. rw d refl) λ d. rw (d, a) refl)
-
-      module _ (g : s ≡ false) where
-        no_list : (eqb k 48 ≡ false) × (eqb k 49 ≡ false)
-        no_list = or_false (eqb k 48) (eqb k 49) (sym es ∙ g)
-
-        pub end_choice : k ≡ 50 → fixed_end v (p + 1) ≡ own_end k v p
-        unfolding own_end
-        end_choice f = rw f refl
-
-        pub end_none : (k ≡ 50 → ⊥) → 0 ≡ own_end k v p
-        unfolding own_end
-        end_none f =
-            let (e₁, e₂, e₃, e₄, e₅, e₁₀, e₂₃, e₂₄) = not_simple k c in
-            rw (e₁, e₂, e₃, e₄, e₅, e₁₀, e₂₃, e₂₄, none_of.0, none_of.1, no_list.0, no_list.1, ne_eqb k 50 f) refl
+-- no own part of another constructed kind is shaped
+pub end_none : (v : List ℕ) (k p : ℕ) → constructed_of k ≡ true → (t : Bool) → t ≡ (eqb k 16 || eqb k 17) → t ≡ false
+    → (s : Bool) → s ≡ (eqb k 48 || eqb k 49) → s ≡ false → (k ≡ 50 → ⊥)
+    → 0 ≡ own_end k v p
+unfolding own_end
+end_none v k p c t et h s es g f =
+    let (e₁, e₂, e₃, e₄, e₅, e₁₀, e₂₃, e₂₄) = not_simple k c in
+    let m = or_false (eqb k 16) (eqb k 17) (sym et ∙ h) in
+    let l = or_false (eqb k 48) (eqb k 49) (sym es ∙ g) in
+    rw (e₁, e₂, e₃, e₄, e₅, e₁₀, e₂₃, e₂₄, m.0, m.1, l.0, l.1, ne_eqb k 50 f) refl

@@ -16,25 +16,20 @@ use Rattle.coding.specs.Judging.{judge_value}
 use Rattle.writer.specs.Nodes.{end_at}
 use Rattle.writer.specs.Frames.{cap}
 use Rattle.writer.specs.Rows.{row_of, judge_row, row_form}
-use Rattle.writer.specs.Told.{told, written, ended, IsDone}
+use Rattle.writer.specs.Told.{Ruling, fit, unfit, told, written, ended, IsDone}
 use Rattle.writer.specs.Notes.{note_at, EachRow, ends_at, row_at, length_of, Noted, NotedRow, Same, Noting}
-use Rattle.writer.specs.declared.judge.Judged.{Judged}
-use Rattle.writer.specs.declared.judge.Judged.TheVariants.{Done, Refused}
 use Rattle.writer.proofs.Rows.{row_behind}
-use Rattle.writer.proofs.Judging.{apart, done, Came, JudgedRow}
+use Rattle.writer.proofs.Judging.{apart, fits_alike, done, Came, JudgedRow}
 use Rattle.writer.proofs.Nodes.{constructed_node, leaf_node, built_long}
 use Rattle.writer.proofs.Below.{accepted}
 
-ends : {a b e k : ℕ} → Done a b ≡ Done e k → a ≡ e
-ends z = cc
-
 -- nothing was noted, and it was refused
-pub noting_none : (at : ℕ) (l : List ℕ) (c : JudgingCause) (q : ℕ) (N : List ℕ → Type 0) → Noting at l l (Refused q c) N
+pub noting_none : (at : ℕ) (l : List ℕ) (c : JudgingCause) (q : ℕ) (N : List ℕ → Type 0) → Noting at l l (unfit c q) N
 noting_none at l c q N = record { long = refl; kept = λ i h. refl; noted = λ e k d m s. apart (sym d) }
 
 -- notes of what begins farther on, which is refused
-pub noting_refused : (at next : ℕ) (first last : List ℕ) (r : Judged) (c : JudgingCause) (q : ℕ) (M N : List ℕ → Type 0) → at ≤ next → Noting next first last r M
-    → Noting at first last (Refused q c) N
+pub noting_refused : (at next : ℕ) (first last : List ℕ) (r : Ruling) (c : JudgingCause) (q : ℕ) (M N : List ℕ → Type 0) → at ≤ next → Noting next first last r M
+    → Noting at first last (unfit c q) N
 noting_refused at next first last r c q M N h x = record { long = x.long; kept = λ i k. x.kept i (omega arith); noted = λ e k d m s. apart (sym d) }
 
 -- a loop: of what was to be noted from `at` on, W, all is noted that comes before `next`; R is what is left
@@ -48,7 +43,7 @@ pub going_begin : (at : ℕ) (first : List ℕ) (W : List ℕ → Type 0) → Go
 going_begin at first W = record { onward = omega arith; long = refl; kept = λ i h. refl; whole = λ m s w. w }
 
 module _ {at : ℕ} {first : List ℕ} {next : ℕ} {l : List ℕ} {R W : List ℕ → Type 0} (G : Going at first next l R W) where
-  pub going_turn : {Q N : List ℕ → Type 0} (last : List ℕ) (r : Judged) (e k : ℕ) → Noting next l last r N → r ≡ Done e k → next ≤ e
+  pub going_turn : {Q N : List ℕ → Type 0} (last : List ℕ) (r : Ruling) (e k : ℕ) → Noting next l last r N → r ≡ fit e k → next ≤ e
       → ((m : List ℕ) → N m → Q m → R m) → Going at first e last Q W
   going_turn last r e k x d h f =
       let o = G.onward in
@@ -59,16 +54,16 @@ module _ {at : ℕ} {first : List ℕ} {next : ℕ} {l : List ℕ} {R W : List �
         whole = λ m s w. G.whole m (λ i a b. s i a (omega arith) ∙ x.kept i b) (f m (x.noted e k d m (λ i a b. s i (omega arith) b)) w);
       }
 
-  pub going_refused : {N : List ℕ → Type 0} (last : List ℕ) (r : Judged) (c : JudgingCause) (q : ℕ) → Noting next l last r N → Noting at first last (Refused q c) W
+  pub going_refused : {N : List ℕ → Type 0} (last : List ℕ) (r : Ruling) (c : JudgingCause) (q : ℕ) → Noting next l last r N → Noting at first last (unfit c q) W
   going_refused last r c q x =
       let o = G.onward in
       record { long = x.long ∙ G.long; kept = λ i j. x.kept i (omega arith) ∙ G.kept i j; noted = λ e k d m s. apart (sym d) }
 
-  pub going_stopped : (c : JudgingCause) (q : ℕ) → Noting at first l (Refused q c) W
+  pub going_stopped : (c : JudgingCause) (q : ℕ) → Noting at first l (unfit c q) W
   going_stopped c q = record { long = G.long; kept = G.kept; noted = λ e k d m s. apart (sym d) }
 
-  pub going_end : (k : ℕ) → ((m : List ℕ) → R m) → Noting at first l (Done next k) W
-  going_end k f = record { long = G.long; kept = G.kept; noted = λ e i d m s. G.whole m (rw (ends d) s) (f m) }
+  pub going_end : (k : ℕ) → ((m : List ℕ) → R m) → Noting at first l (fit next k) W
+  going_end k f = record { long = G.long; kept = G.kept; noted = λ e i d m s. G.whole m (rw (fits_alike d).0 s) (f m) }
 
 module _ (T : Table) (v : List ℕ) (n : ℕ) where
   -- where a value ends that came
@@ -101,7 +96,7 @@ leaf_noted T v zero t at h c m = tt
 leaf_noted T v (suc n) t at h c m = ((λ e. absurd (false≢true (sym c ∙ e))), rw (leaf_node (get_or v (at + 2) 0) v (at + 3) h) tt)
 
 module _ (T : Table) (v : List ℕ) (n t at : ℕ) (h : at ≤ length v) where
-  pub leaf_noting : constructed_of (get_or v (at + 2) 0) ≡ false → (f : Value → List ℕ) (r : Judged) → r ≡ told f v (judge_value T n t (drop at v)) → (l : List ℕ)
+  pub leaf_noting : constructed_of (get_or v (at + 2) 0) ≡ false → (f : Value → List ℕ) (r : Ruling) → r ≡ told f v (judge_value T n t (drop at v)) → (l : List ℕ)
       → Noting at l l r (λ m. Noted T v m n t at)
   unfolding IsDone
   leaf_noting g f r a l =
@@ -136,8 +131,8 @@ module _ (T : Table) (v : List ℕ) (n t at : ℕ) (h : at ≤ length v) where
       value_below = value_at.1
 
     -- the judge of a constructed node writes its note after the notes below
-    module _ (shaped : 0 < end_at v at) (built : constructed_of (get_or v (at + 2) 0) ≡ true) (within : end_at v at ≤ length v) (first last : List ℕ) (r : Judged) (u s : ℕ)
-        (is : r ≡ JudgedRow T (n - 1) v (row_at T v t at) (end_at v at)) (d : r ≡ Done u s) (N : Noting (end_at v at) first last r (λ m. NotedRow T v m (n - 1)
+    module _ (shaped : 0 < end_at v at) (built : constructed_of (get_or v (at + 2) 0) ≡ true) (within : end_at v at ≤ length v) (first last : List ℕ) (r : Ruling) (u s : ℕ)
+        (is : r ≡ JudgedRow T (n - 1) v (row_at T v t at) (end_at v at)) (d : r ≡ fit u s) (N : Noting (end_at v at) first last r (λ m. NotedRow T v m (n - 1)
         (row_at T v t at) (end_at v at)))
         (long : length v ≤ 4 * length last) where
       below_onward : (end_at v at ≤ u) × (s ≡ cap (length_of T v (n - 1) (row_at T v t at) (end_at v at))) × (u ≤ length v)
@@ -149,7 +144,7 @@ module _ (T : Table) (v : List ℕ) (n t at : ℕ) (h : at ≤ length v) where
           let i = ap length f.is in
           (omega (arith, f.onward, f.within), rw y (sym c), omega (arith, f.onward, f.within))
 
-      pub value_noting : Noting at first (set last (at / 4) s) (Done u s) (λ m. Noted T v m n t at)
+      pub value_noting : Noting at first (set last (at / 4) s) (fit u s) (λ m. Noted T v m n t at)
       value_noting =
           let w = below_onward.0 in
           let e = built_long v at shaped built in
@@ -157,7 +152,7 @@ module _ (T : Table) (v : List ℕ) (n t at : ℕ) (h : at ≤ length v) where
             long = length-set last (at / 4) s ∙ N.long;
             kept = λ i j. get_or-set_other last (at / 4) i s 0 (λ q. omega arith) ∙ N.kept i (omega arith);
             noted = λ e₁ k₁ d₁ m y.
-                let q = ends d₁ in
+                let q = (fits_alike d₁).0 in
                 value_noted m
                 (y (at / 4) (omega arith) (omega arith) ∙ get_or-set_same last (at / 4) s 0 (omega arith) ∙ below_onward.1)
                 (N.noted u s d m (λ i a c. y i (omega arith) (omega arith) ∙ get_or-set_other last (at / 4) i s 0 (λ q. omega arith)));

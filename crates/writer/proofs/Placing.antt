@@ -28,6 +28,9 @@ use Rattle.writer.proofs.Finding.{at_kind, at_shaped, at_stands, at_start, at_ro
 use Rattle.writer.proofs.Standing.{row_there, row_missing, row_over, row_all}
 use Rattle.writer.proofs.Below.{Accepted, stands}
 use Rattle.writer.proofs.Notes.{first_noted, rest_noted, value_below}
+use Rattle.std.specs.Prelude.{Option, Some}
+use Rattle.octets.specs.Numbers.{if_below}
+use Rattle.writer.proofs.Members.{some_below}
 use Rattle.writer.proofs.Putting.{Rows, rest_all, rows_end, Turn, Turned, now_accepted, SizeIs, leaf_size_lem, leaf_over, built_size, built_over}
 use Rattle.writer.proofs.Putting.{size_small, front_fits, leaf_fits, leaf_turn, built_fits, built_turn}
 
@@ -45,17 +48,14 @@ module _ {b index v notes : List ℕ} {e : Entry} {p to : ℕ} {first : List ℕ
   put_type : (i t : ℕ) → i < count_at e v p → t ≡ below_at b e v p i → t < 256 → t < count_in b
   put_type i t h et g = rw et (X.stands.types i h (rw (← et) g))
 
-  pub put_few : (i t : ℕ) → i < count_at e v p → t ≡ below_at b e v p i → t < 256 → t < 128
-  put_few i t h et g = let z = put_type i t h et g in let f = X.ready.filled.few in omega arith
-
   module _ (i at next : ℕ) (buf : List ℕ) (G : Still X i at next buf) where
     pub put_end_lem : at ≤ length v → count_at e v p ≤ i → (r : Placed) → r.end ≡ at → r.to ≡ next → PutBy X buf r
     put_end_lem k h r re rt =
         let q = row_over b e v p i (count_at e v p) h in
         rows_end (table_in b) X.level v (row_in b e v p) (start_at e v p) to first at next buf k (rw q at G.0) r re rt
 
-    pub put_pass : i < count_at e v p → (t : ℕ) → t ≡ below_at b e v p i → 256 ≤ t → Still X (i + 1) at next buf
-    put_pass h t et g = rw (row_missing b e v p i (count_at e v p) h (rw (← et) g)) at G
+    pub put_pass : i < count_at e v p → 256 ≤ below_at b e v p i → Still X (i + 1) at next buf
+    put_pass h g = rw (row_missing b e v p i (count_at e v p) h g) at G
 
 -- the i-th is there, of type t, whose entry is x
 pub record Member {b index v notes : List ℕ} {e : Entry} {p to : ℕ} {first : List ℕ} (X : Puts b index v notes e p to first) : Type 0 where
@@ -72,6 +72,28 @@ pub record Member {b index v notes : List ℕ} {e : Entry} {p to : ℕ} {first :
   pub there : t < 256
   pub x : Entry
   pub entry : x ≡ unpacked (get_or index t 0)
+
+-- as the code finds it: y is the entry of the row, c counts what stands before it
+abbrev pub member : {b index v notes : List ℕ} {e y x : Entry} {p to c : ℕ} {first : List ℕ} (X : Puts b index v notes e p to first) (i at next : ℕ) (buf : List ℕ)
+    → Still X i at next buf → at ≤ length v → length buf ≡ length first → y ≡ e → c ≡ count_at y v p → i < c
+    → (t : ℕ) → ◌≡◌ {A = Option ℕ} (Some t) (if_below 256 (below_at b y v p i)) → x ≡ unpacked (get_or index t 0)
+    → Member X
+member {b} {index} {v} {notes} {e} {y} {x} {p} {to} {c} {first} X i at next buf G w s ey ec h t et ex =
+    record {
+      i = i;
+      at = at;
+      next = next;
+      buf = buf;
+      still = G;
+      within = w;
+      same = s;
+      one = rw ey at (rw ec at h);
+      t = t;
+      is = (some_below 256 (below_at b e v p i) t (rw ey at et)).0;
+      there = (some_below 256 (below_at b e v p i) t (rw ey at et)).1;
+      x = x;
+      entry = ex;
+    }
 
 module _ {b index v notes : List ℕ} {e : Entry} {p to : ℕ} {first : List ℕ} {X : Puts b index v notes e p to first} (m : Member X) where
   abbrev T : Table
@@ -157,9 +179,6 @@ module _ {b index v notes : List ℕ} {e : Entry} {p to : ℕ} {first : List ℕ
 
     pub sized_built : (size : ℕ) → size ≡ note_at notes m.at → Sized size
     sized_built size es = built_size turn built size notes (first_noted T v X.level m.t Rest m.at notes present.1) es
-
-    pub put_note : note_at notes m.at < 8194
-    put_note = size_small turn (note_at notes m.at) (sized_built (note_at notes m.at) refl)
 
   module _ (size : ℕ) (Z : Sized size) where
     front_is : heads (constructed (record_in b m.x).body) (record_in b m.x).tags size ≡ heads (constructed (T m.t).body) (T m.t).tags size

@@ -23,8 +23,7 @@ use Rattle.coding.specs.Judging.{Node, a_leaf, a_sequence, a_set, a_sequence_of,
 use Rattle.coding.specs.Judging.{judge_below, judge_value}
 use Rattle.writer.specs.Frames.{cap}
 use Rattle.writer.specs.Rows.{present_of, row_of, judge_each, judge_row, row_form, contents_form}
-use Rattle.writer.specs.Told.{told, written, ended, IsDone}
-use Rattle.writer.specs.declared.judge.Judged.TheVariants.{Done}
+use Rattle.writer.specs.Told.{fit, told, written, ended, IsDone}
 use Rattle.writer.proofs.Reading.{Reads, bad, good, node_reads}
 
 -- two answers with the same form and the same rest, or the same refusal
@@ -35,7 +34,7 @@ pub data Alike {A B : Type 0} (f : A → List ℕ) (g : B → List ℕ) : Answer
 module _ {A B : Type 0} {f : A → List ℕ} {g : B → List ℕ} where
   pub alike_told : {x : Answer JudgingCause A} {y : Answer JudgingCause B} → Alike f g x y → (v : List ℕ) → told f v x ≡ told g v y
   unfolding told
-  alike_told (both {s = s} e) v = ap (λ (l : List ℕ). Done (length v - length s) (cap (length l))) e
+  alike_told (both {s = s} e) v = ap (λ (l : List ℕ). fit (length v - length s) (cap (length l))) e
   alike_told neither v = refl
 
   pub alike_written : {x : Answer JudgingCause A} {y : Answer JudgingCause B} → Alike f g x y → written f x ≡ written g y

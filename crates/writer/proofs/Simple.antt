@@ -2,6 +2,7 @@
 -- Assumes nothing.
 use mathlib.Core.Bool.{Bool, true, false, not}
 use mathlib.Core.List.{List}
+use Rattle.std.specs.Prelude.{Some}
 use mathlib.Core.Path.{◌≡◌, sym, ap, ◌∙◌}
 use Prim.Native.Nat.{ℕ, ◌+◌, ◌-◌, ◌≤◌, ◌<◌}
 use native.Mathlib.Omega.{arith}
@@ -13,53 +14,53 @@ use Rattle.table.proofs.Promises.{constructed_of_lem}
 use Rattle.records.specs.declared.entry.Entry.{Entry}
 use Rattle.coding.specs.Form.{encode}
 use Rattle.coding.specs.Judging.{agrees, judge_value}
-use Rattle.writer.specs.Nodes.{end_at, leaf_of, node_of, IsMarked}
-use Rattle.writer.specs.Leaves.{Measures}
+use Rattle.writer.specs.Nodes.{own_end, end_at, leaf_of, node_of, IsMarked}
+use Rattle.writer.specs.Leaves.{MeasuresSome}
 use Rattle.writer.specs.Frames.{cap}
 use Rattle.writer.specs.Known.{record_in, Known}
 use Rattle.writer.specs.Rows.{contents_form}
-use Rattle.writer.specs.Told.{told}
+use Rattle.writer.specs.Told.{Ruling, fit, unfit, told}
 use Rattle.writer.specs.declared.contents.Extent.{Extent}
-use Rattle.writer.specs.declared.judge.Judged.{Judged}
-use Rattle.writer.specs.declared.judge.Judged.TheVariants.{Done, Refused}
 use Rattle.writer.proofs.Nodes.{leaf_node}
-use Rattle.writer.proofs.Below.{positive, value_shape, value_level, value_ill, value_leaf}
+use Rattle.writer.proofs.Below.{value_shape, value_level, value_ill, value_leaf}
 
 -- what an entry says of its kind
 pub known_simple : (b : List ℕ) (e : Entry) → Known b e → e.simple ≡ not (constructed_of e.kind)
 known_simple b e K = K.entered.simple ∙ ap not (constructed_of_lem b e.kind e.own)
 
-module _ (b : List ℕ) (e : Entry) (v : List ℕ) (at n : ℕ) (M : IsMarked v at) (x : Extent) (m : Measures (get_or v (at + 2) 0) v (at + 3) x)
-    (T : Table) (t : ℕ) (same : (T t).body ≡ (record_in b e).body) where
-  abbrev Tells : Judged
+module _ (b : List ℕ) (e : Entry) (v : List ℕ) (at n : ℕ) (M : IsMarked v at) (T : Table) (t : ℕ) (same : (T t).body ≡ (record_in b e).body) where
+  abbrev Tells : Ruling
   Tells = told (contents_form T (n - 1) (T t).body) v (judge_value T n t (drop at v))
 
   within : at ≤ length v
   within = let h = M.0 in omega arith
 
-  end_is : x.end ≡ end_at v at
-  end_is = m.ends ∙ sym M.1
+  pub leaf_shape : own_end (get_or v (at + 2) 0) v (at + 3) ≡ 0 → unfit ValueShape at ≡ Tells
+  leaf_shape h = value_shape T t v at within n _ (M.1 ∙ h)
 
-  pub leaf_shape : x.end ≡ 0 → Refused at ValueShape ≡ Tells
-  leaf_shape h = value_shape T t v at within n _ (sym end_is ∙ h)
+  module _ (x : Extent) (m : MeasuresSome (get_or v (at + 2) 0) v (at + 3) (Some x)) where
+    pub own_there : 0 < own_end (get_or v (at + 2) 0) v (at + 3)
+    own_there = m.1 (omega arith)
 
-  module _ (h : x.end ≡ 0 → ⊥) where
+    end_is : x.end ≡ end_at v at
+    end_is = m.0.ends ∙ sym M.1
+
     is_shaped : 0 < end_at v at
-    is_shaped = positive x.end (end_at v at) end_is h
+    is_shaped = rw M.1 own_there
 
-    pub leaf_level : n ≡ 0 → Refused at ValueLevel ≡ Tells
+    pub leaf_level : n ≡ 0 → unfit ValueLevel at ≡ Tells
     leaf_level z = value_level T t v at within n is_shaped _ z
 
     module _ (z : n ≡ 0 → ⊥) (r : Bool) (er : r ≡ agrees (record_in b e).body (node_of (get_or v (at + 2) 0) v (at + 3))) where
       agreed : (w : Bool) → r ≡ w → agrees (T t).body (node_of (get_or v (at + 2) 0) v (at + 3)) ≡ w
       agreed w f = rw same (sym er ∙ f)
 
-      pub leaf_ill : r ≡ false → Refused at IllTyped ≡ Tells
+      pub leaf_ill : r ≡ false → unfit IllTyped at ≡ Tells
       leaf_ill f = value_ill T t v at within n is_shaped z _ (agreed false f)
 
-      pub leaf_done : r ≡ true → constructed_of (get_or v (at + 2) 0) ≡ false → (size : ℕ) → size ≡ cap (0 + x.size) → Done x.end size ≡ Tells
+      pub leaf_done : r ≡ true → constructed_of (get_or v (at + 2) 0) ≡ false → (size : ℕ) → size ≡ cap (0 + x.size) → fit x.end size ≡ Tells
       leaf_done f k size es =
-          let l = m.sized (rw M.1 at is_shaped) in
+          let l = m.0.sized own_there in
           let q : 0 + x.size ≡ length (encode (leaf_of (get_or v (at + 2) 0) v (at + 3))) = omega arith in
           rw end_is (value_leaf T t v at within n is_shaped z (agreed true f) (leaf_of (get_or v (at + 2) 0) v (at + 3)) size (leaf_node (get_or v (at + 2) 0) v
           (at + 3) k) (es ∙ ap cap q))

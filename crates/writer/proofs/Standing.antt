@@ -98,11 +98,6 @@ module _ (e : Entry) (v : List ℕ) (p : ℕ) where
       unfolding below_at
       below_list b i = rw (has_not, ne_eqb e.kind 51 g, ← part_list i) refl
 
-    pub neither_kind : (s : Bool) → s ≡ (eqb e.kind 50 || eqb e.kind 51) → s ≡ false → (e.kind ≡ 50 → ⊥) × (e.kind ≡ 51 → ⊥)
-    neither_kind s es f =
-        let z = or_false (eqb e.kind 50) (eqb e.kind 51) (sym es ∙ f) in
-        (eqb-false e.kind 50 z.0, eqb-false e.kind 51 z.1)
-
 -- the loop over a row: the i-th is there, or it is not
 module _ (b : List ℕ) (e : Entry) (v : List ℕ) (p i n : ℕ) (h : i < n) where
   left : n - i ≡ suc (n - (i + 1))

@@ -12,10 +12,9 @@ use Rattle.coding.specs.Judging.{judge_value}
 use Rattle.writer.specs.Standing.{start_at, row_in, Standing}
 use Rattle.writer.specs.Ready.{Ready}
 use Rattle.writer.specs.Rows.{judge_row, row_form}
-use Rattle.writer.specs.Told.{told}
+use Rattle.writer.specs.Told.{Ruling, told}
 use Rattle.writer.specs.Notes.{NotedRow, Noting}
 use Rattle.writer.specs.Putting.{Fits, IsPut, Puts, PutBy}
-use Rattle.writer.specs.declared.judge.Judged.{Judged}
 use Rattle.writer.specs.declared.put.Placed.{Placed}
 use Rattle.writer.proofs.Rows.{Alike, alike_told, alike_written, alike_ended, alike_done, one_row}
 use Rattle.writer.proofs.Finding.{message_start, message_row, message_stand}
@@ -30,7 +29,7 @@ module _ (b index v : List ℕ) (R : Ready b index v) (t : ℕ) (h : t < count_i
   whole_start : start_at e v 0 ≡ 0
   whole_start = message_start b v e t 0 k w
 
-  pub whole_said : (n : ℕ) (first last : List ℕ) (y : Judged)
+  pub whole_said : (n : ℕ) (first last : List ℕ) (y : Ruling)
       → (y ≡ told (row_form (table_in b) n (row_in b e v 0)) v (judge_row (table_in b) n (row_in b e v 0) (drop (start_at e v 0) v)))
       × Noting (start_at e v 0) first last y (λ m. NotedRow (table_in b) v m n (row_in b e v 0) (start_at e v 0))
       → (y ≡ told (form_at (table_in b) n t) v (judge_value (table_in b) n t v)) × Noting 0 first last y (λ m. NotedRow (table_in b) v m n (t ∷ []) 0)

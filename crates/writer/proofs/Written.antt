@@ -24,19 +24,15 @@ use Rattle.coding.specs.Form.{form_at}
 use Rattle.coding.specs.Judging.{need, read_node, judge_value, judge_whole}
 use Rattle.coding.specs.declared.TableCause.TheVariants.{Unknown}
 use Rattle.coding.specs.declared.ValueCause.TheVariants.{MessageRoom}
-use Rattle.coding.specs.Outcome.{value_cause, Outcome, refuse, write_at_start}
+use Rattle.coding.specs.Outcome.{value_cause, Told, done as answered, refusal, Outcome, refuse, write_at_start}
 use Rattle.coding.specs.Calls.{after_judging, write_outcome}
-use Rattle.coding.specs.declared.Answer.{Answer as Told}
 use Rattle.coding.specs.declared.Refusal.{Refusal}
-use Rattle.coding.specs.declared.Refusal.TheVariants.{Table as OfTable, Value as OfValue}
-use Rattle.coding.specs.declared.Answer.TheVariants.{Done as TDone, Refused as TRefused}
+use Rattle.coding.specs.declared.Refusal.TheVariants.{Table as of_table, Value as of_value}
 use Rattle.coding.proofs.Checked.{Says}
 use Rattle.writer.specs.Frames.{cap}
 use Rattle.writer.specs.Ready.{Ready}
-use Rattle.writer.specs.Told.{told, written, IsDone}
+use Rattle.writer.specs.Told.{Ruling, fit, unfit, told, written, IsDone}
 use Rattle.writer.specs.Putting.{Fits, IsPut}
-use Rattle.writer.specs.declared.judge.Judged.{Judged}
-use Rattle.writer.specs.declared.judge.Judged.TheVariants.{Done, Refused}
 use Rattle.writer.specs.declared.put.Placed.{Placed}
 use Rattle.writer.proofs.Judging.{done, no}
 
@@ -71,11 +67,11 @@ record Accepted (T : Table) (t : ℕ) (v : List ℕ) (s : ℕ) : Type 0 where
   size : cap (length (form_at T 24 t value)) ≡ s
 
 module _ (T : Table) (n t : ℕ) (v buf : List ℕ) where
-  pub out_type : n ≤ t → Says (write_outcome T n t v buf) (TRefused (OfTable Unknown)) buf
+  pub out_type : n ≤ t → Says (write_outcome T n t v buf) (refusal (of_table Unknown)) buf
   unfolding write_outcome
   out_type h = let e : ltb t n ≡ false = le-ltb t n h in (simp (run, e), simp (run, e))
 
-  pub out_long : t < n → 16384 < length v → Says (write_outcome T n t v buf) (TRefused (OfValue (value_cause ValueShape 0))) buf
+  pub out_long : t < n → 16384 < length v → Says (write_outcome T n t v buf) (refusal (of_value (value_cause ValueShape 0))) buf
   unfolding write_outcome
   out_long h l =
       let e : ltb t n ≡ true = lt-ltb t n h in
@@ -102,16 +98,16 @@ module _ (T : Table) (n t : ℕ) (v buf : List ℕ) where
   unfolding judge_whole
   whole_got a w q h = simp (run, q, none_nil w h)
 
-  module _ (h : t < n) (l : length v ≤ 16384) (r : Judged) (p : r ≡ told (form_at T 24 t) v (judge_value T 24 t v)) where
-    pub out_refused : (k : JudgingCause) (q : ℕ) → r ≡ Refused q k → Says (write_outcome T n t v buf) (TRefused (OfValue (value_cause k q))) buf
+  module _ (h : t < n) (l : length v ≤ 16384) (r : Ruling) (p : r ≡ told (form_at T 24 t) v (judge_value T 24 t v)) where
+    pub out_refused : (k : JudgingCause) (q : ℕ) → r ≡ unfit k q → Says (write_outcome T n t v buf) (refusal (of_value (value_cause k q))) buf
     unfolding after_judging
     out_refused k q e =
         let (i, x, y) = no (form_at T 24 t) v (judge_value T 24 t v) r k q p e in
         let o = judged h l (refused k i) (whole_refused k i x) in
-        (rw o (ap (λ (z : ℕ). TRefused (OfValue (value_cause k z))) y), rw o)
+        (rw o (ap (λ (z : ℕ). refusal (of_value (value_cause k z))) y), rw o)
 
-    module _ (e s : ℕ) (d : r ≡ Done e s) where
-      pub out_left : e < length v → Says (write_outcome T n t v buf) (TRefused (OfValue (value_cause ValueShape e))) buf
+    module _ (e s : ℕ) (d : r ≡ fit e s) where
+      pub out_left : e < length v → Says (write_outcome T n t v buf) (refusal (of_value (value_cause ValueShape e))) buf
       unfolding after_judging
       out_left g =
           let (a, w, x, y, z) = done (form_at T 24 t) v (judge_value T 24 t v) r e s p d in
@@ -130,7 +126,7 @@ module _ (T : Table) (n t : ℕ) (v buf : List ℕ) where
         whole x = judged h l (got x.value x.rest) (whole_got x.value x.rest x.is x.none)
 
         module _ (room : length buf ≤ 8192) where
-          pub out_room : length buf < s → Says (write_outcome T n t v buf) (TRefused (OfValue MessageRoom)) buf
+          pub out_room : length buf < s → Says (write_outcome T n t v buf) (refusal (of_value MessageRoom)) buf
           unfolding after_judging
           out_room k =
               let x = accepted g in
@@ -148,7 +144,7 @@ module _ (T : Table) (n t : ℕ) (v buf : List ℕ) where
             fits = let x = accepted g in let y = length_is x in
                 record { done = rw x.is tt; short = rw x.is (omega arith); room = rw x.is (omega arith) }
 
-            pub out_done : (w : List ℕ) (q : Placed) → IsPut (form_at T 24 t) (judge_value T 24 t v) v 0 buf w q → Says (write_outcome T n t v buf) (TDone s) w
+            pub out_done : (w : List ℕ) (q : Placed) → IsPut (form_at T 24 t) (judge_value T 24 t v) v 0 buf w q → Says (write_outcome T n t v buf) (answered s) w
             unfolding after_judging written
             out_done w q b =
                 let x = accepted g in
@@ -158,51 +154,47 @@ module _ (T : Table) (n t : ℕ) (v buf : List ℕ) where
                 let f : leb (length m) (min 8192 (length buf)) ≡ true = le-leb (length m) (min 8192 (length buf)) (omega arith) in
                 let c : w ≡ sets buf 0 m = rw x.is at b.buffer in
                 let z : sets buf 0 m ≡ take 0 buf ++ m ++ drop (0 + length m) buf = sets-eq m buf 0 (omega arith) in
-                (rw o (simp (run, f) (ap TDone (sym y))), c ∙ z ∙ rw o (simp (run, f, zero-add)))
+                (rw o (simp (run, f) (ap (λ (z : ℕ). answered z) (sym y))), c ∙ z ∙ rw o (simp (run, f, zero-add)))
 
--- a buffer of more than 8,192 octets: only the first so many are written
-module _ (buf : List ℕ) (long : 8192 < length buf) where
+-- only the first m octets of a buffer are written, at most 8,192
+module _ (buf : List ℕ) (m : ℕ) (em : m ≡ min (length buf) 8192) where
   abbrev Front : List ℕ
-  Front = take 8192 buf
+  Front = take m buf
 
-  front_length : length Front ≡ 8192
-  front_length = length-take-le 8192 buf (omega arith)
+  front_length : length Front ≡ m
+  front_length = length-take-le m buf (omega arith)
 
   abbrev Grown : Outcome → Outcome → Type 0
-  Grown x y = (x.answer ≡ y.answer) × (x.buffer ++ drop 8192 buf ≡ y.buffer)
+  Grown x y = (x.answer ≡ y.answer) × (x.buffer ++ drop m buf ≡ y.buffer)
 
   grown_refuse : (r : Refusal) → Grown (refuse r Front) (refuse r buf)
-  grown_refuse r = (refl, take-append-drop 8192 buf)
+  grown_refuse r = (refl, take-append-drop m buf)
 
-  grown_write : (w : List ℕ) → length w ≤ 8192 → Grown (write_at_start w Front) (write_at_start w buf)
+  grown_write : (w : List ℕ) → length w ≤ m → Grown (write_at_start w Front) (write_at_start w buf)
   grown_write w h =
       let l = front_length in
-      let q : drop (length w) Front ++ drop 8192 buf ≡ drop (length w) buf = sym (drop-append-le (length w) Front (drop 8192 buf) (omega arith))
-      ∙ ap (drop (length w)) (take-append-drop 8192 buf) in
-      (refl, append_assoc w (drop (length w) Front) (drop 8192 buf) ∙ ap (λ (l : List ℕ). w ++ l) q)
+      let q : drop (length w) Front ++ drop m buf ≡ drop (length w) buf = sym (drop-append-le (length w) Front (drop m buf) (omega arith))
+      ∙ ap (drop (length w)) (take-append-drop m buf) in
+      (refl, append_assoc w (drop (length w) Front) (drop m buf) ∙ ap (λ (l : List ℕ). w ++ l) q)
 
   grown_judged : (f : Value → List ℕ) (v : List ℕ) (a : Answer JudgingCause Value) → Grown (after_judging f v Front a) (after_judging f v buf a)
   unfolding after_judging if
   grown_judged f v (got x r) =
       let l = front_length in
-      let m : min 8192 (length Front) ≡ 8192 = omega arith in
-      let k : min 8192 (length buf) ≡ 8192 = omega arith in
-      rw (m, k) (test (leb (length (f x)) 8192) (λ t. rw t (grown_write (f x) (leb-true _ _ t))) λ t. rw t (grown_refuse (OfValue MessageRoom)))
-  grown_judged f v (refused c l) = grown_refuse (OfValue (value_cause c (length v - l)))
+      let j : min 8192 (length Front) ≡ m = omega arith in
+      let k : min 8192 (length buf) ≡ m = omega arith in
+      rw (j, k) (test (leb (length (f x)) m) (λ t. rw t (grown_write (f x) (leb-true _ _ t))) λ t. rw t (grown_refuse (of_value MessageRoom)))
+  grown_judged f v (refused c l) = grown_refuse (of_value (value_cause c (length v - l)))
 
   grown : (T : Table) (n t : ℕ) (v : List ℕ) → Grown (write_outcome T n t v Front) (write_outcome T n t v buf)
   unfolding write_outcome if
   grown T n t v =
       test (ltb t n)
-      (λ a. test (leb (length v) 16384) (λ c. rw (a, c) (grown_judged (form_at T 24 t) v (judge_whole T 24 t v))) λ c. rw (a, c) (grown_refuse (OfValue (value_cause ValueShape 0))))
-      (λ a. rw a (grown_refuse (OfTable Unknown)))
+      (λ a. test (leb (length v) 16384) (λ c. rw (a, c) (grown_judged (form_at T 24 t) v (judge_whole T 24 t v))) λ c. rw (a, c) (grown_refuse (of_value (value_cause ValueShape 0))))
+      (λ a. rw a (grown_refuse (of_table Unknown)))
 
-  pub out_front : (T : Table) (n t : ℕ) (v : List ℕ) (r : Told) (w : List ℕ) → Says (write_outcome T n t v Front) r w
-      → Says (write_outcome T n t v buf) r (w ++ drop 8192 buf)
-  out_front T n t v r w S = let g = grown T n t v in (S.0 ∙ g.0, ap (λ (l : List ℕ). l ++ drop 8192 buf) S.1 ∙ g.1)
+  pub out_front : (T : Table) (n t : ℕ) (v : List ℕ) (r : Told) (w : List ℕ) → Says (write_outcome T n t v Front) r w → Says (write_outcome T n t v buf) r (w ++ drop m buf)
+  out_front T n t v r w S = let g = grown T n t v in (S.0 ∙ g.0, ap (λ (l : List ℕ). l ++ drop m buf) S.1 ∙ g.1)
 
   pub front_room : length Front ≤ 8192
   front_room = let l = front_length in omega arith
-
-  pub front_count : 8192 ≡ length Front
-  front_count = sym front_length

@@ -7,9 +7,7 @@ use Rattle.coding.specs.Judging.{judge_value}
 use Rattle.writer.specs.Nodes.{end_at, node_at}
 use Rattle.writer.specs.Frames.{cap}
 use Rattle.writer.specs.Rows.{row_of, judge_row, row_form}
-use Rattle.writer.specs.Told.{written, ended}
-use Rattle.writer.specs.declared.judge.Judged.{Judged}
-use Rattle.writer.specs.declared.judge.Judged.TheVariants.{Done}
+use Rattle.writer.specs.Told.{Ruling, fit, written, ended}
 
 -- the note of the node at a place
 abbrev pub note_at : List ℕ → ℕ → ℕ
@@ -49,7 +47,7 @@ abbrev pub Same : ℕ → ℕ → List ℕ → List ℕ → Type 0
 Same at e l m = (i : ℕ) → at < 4 * i + 4 → 4 * i + 4 ≤ e → get_or m i 0 ≡ get_or l i 0
 
 -- what is judged from a place on is noted if it is accepted, and stays so as long as these notes stay; the notes before the place are kept
-pub record Noting (at : ℕ) (first last : List ℕ) (r : Judged) (N : List ℕ → Type 0) : Type 0 where
+pub record Noting (at : ℕ) (first last : List ℕ) (r : Ruling) (N : List ℕ → Type 0) : Type 0 where
   pub long : length last ≡ length first
   pub kept : (i : ℕ) → 4 * i + 4 ≤ at → get_or last i 0 ≡ get_or first i 0
-  pub noted : (e k : ℕ) → r ≡ Done e k → (m : List ℕ) → Same at e last m → N m
+  pub noted : (e k : ℕ) → r ≡ fit e k → (m : List ℕ) → Same at e last m → N m

@@ -10,14 +10,13 @@ ghost use Rattle.table.specs.Fields.{constructed_of};
 ghost use Rattle.coding.specs.Value.{time_number};
 ghost use Rattle.coding.specs.Form.{encode};
 ghost use Rattle.writer.specs.Nodes.{own_end, leaf_of, clear_at};
-ghost use Rattle.writer.specs.Leaves.{Measures};
+ghost use Rattle.writer.specs.Leaves.{MeasuresSome};
 
 use crate::node::fixed_end;
 use clock::{calendar, own};
 use dates::{DateTime, TimeKind};
 use digits::time;
 use kinds::{BIT_STRING, BOOLEAN, ENUMERATED, INTEGER, NULL, OCTET_STRING, time_kind};
-use octets::copy;
 use simple::{bit_string, integer};
 
 // The number that two octets at p stand for.
@@ -30,19 +29,11 @@ pub fn two(v: &[u8], p: usize) -> usize
     v[p] as usize * 256 + v[q] as usize
 }
 
-// Where the own part of a leaf ends, and how many contents octets it has; an end of 0 if it is not shaped.
-#[derive(Clone, Copy)]
+// Where the own part of a leaf ends, and how many contents octets it has.
+#[derive(Clone, Copy, Debug, PartialEq, Eq)]
 pub struct Extent {
     pub end: usize,
     pub size: usize,
-}
-
-// A leaf that is not shaped.
-fn none() -> Extent
-    ensures { (result.end ≡ 0)
-        × (result.size ≡ 0) }
-{
-    Extent { end: 0, size: 0 }
 }
 
 // The integer of the eight octets at p.
@@ -73,6 +64,7 @@ fn seven(v: &[u8], p: usize) -> DateTime
 }
 
 // Whether n bits from p on have 0 behind them to the end of their last octet, the one before e.
+#[tactic(auto, using(crate::proofs::Leaves::clear_whole, crate::proofs::Leaves::clear_part))]
 fn clear(v: &[u8], p: usize, e: usize, n: usize) -> bool
     requires { (p < 30000)
         × (n < 65536)
@@ -88,152 +80,90 @@ fn clear(v: &[u8], p: usize, e: usize, n: usize) -> bool
     v[last] % unit == 0
 }
 
-fn boolean(v: &[u8], p: usize) -> Extent
+// A BOOLEAN that is shaped, and so on for each kind.
+fn boolean(v: &[u8], p: usize) -> Option<Extent>
     requires { p < 20000 }
-    ensures { Measures 1 v.now p result }
+    ensures { MeasuresSome 1 v.now p result }
 {
-    if v.len() <= p {
-        return none();
-    }
+    let end = fixed_end(v, p + 1)?;
     if 2 <= v[p] {
-        return none();
+        return None;
     }
-    Extent {
-        end: p + 1,
-        size: 1,
-    }
+    Some(Extent { end, size: 1 })
 }
 
-fn integer(v: &[u8], p: usize) -> Extent
+fn integer(v: &[u8], p: usize) -> Option<Extent>
     requires { p < 20000 }
-    ensures { Measures 2 v.now p result }
+    ensures { MeasuresSome 2 v.now p result }
 {
-    let end = p + 8;
-    if v.len() < end {
-        return none();
-    }
+    let end = fixed_end(v, p + 8)?;
     let size = integer::size(eight(v, p));
-    Extent { end, size }
+    Some(Extent { end, size })
 }
 
-fn bits(v: &[u8], p: usize) -> Extent
+fn bits(v: &[u8], p: usize) -> Option<Extent>
     requires { p < 20000 }
-    ensures { Measures 3 v.now p result }
+    ensures { MeasuresSome 3 v.now p result }
 {
-    let start = p + 2;
-    if v.len() < start {
-        return none();
-    }
+    let start = fixed_end(v, p + 2)?;
     let n = two(v, p);
     let size = (n + 7) / 8;
-    let end = start + size;
-    if v.len() < end {
-        return none();
-    }
+    let end = fixed_end(v, start + size)?;
     if !clear(v, start, end, n) {
-        return none();
+        return None;
     }
-    Extent {
+    Some(Extent {
         end,
         size: size + 1,
-    }
+    })
 }
 
-fn string(v: &[u8], p: usize) -> Extent
+fn string(v: &[u8], p: usize) -> Option<Extent>
     requires { p < 20000 }
-    ensures { Measures 4 v.now p result }
+    ensures { MeasuresSome 4 v.now p result }
 {
-    let start = p + 2;
-    if v.len() < start {
-        return none();
-    }
+    let start = fixed_end(v, p + 2)?;
     let size = two(v, p);
-    let end = start + size;
-    if v.len() < end {
-        return none();
-    }
-    Extent { end, size }
+    let end = fixed_end(v, start + size)?;
+    Some(Extent { end, size })
 }
 
-fn enumerated(v: &[u8], p: usize) -> Extent
+fn enumerated(v: &[u8], p: usize) -> Option<Extent>
     requires { p < 20000 }
-    ensures { Measures 10 v.now p result }
+    ensures { MeasuresSome 10 v.now p result }
 {
-    let end = p + 2;
-    if v.len() < end {
-        return none();
-    }
+    let end = fixed_end(v, p + 2)?;
     let size = number_size(two(v, p));
-    Extent { end, size }
+    Some(Extent { end, size })
 }
 
-fn time(v: &[u8], p: usize, kind: TimeKind) -> Extent
+fn time(v: &[u8], p: usize, kind: TimeKind) -> Option<Extent>
     requires { p < 20000 }
-    ensures { Measures (time_number kind) v.now p result }
+    ensures { MeasuresSome (time_number kind) v.now p result }
 {
-    let end = p + 7;
-    if v.len() < end {
-        return none();
-    }
+    let end = fixed_end(v, p + 7)?;
     if !calendar::in_range(kind, seven(v, p)) {
-        return none();
+        return None;
     }
     let size = time::size(kind);
-    Extent { end, size }
+    Some(Extent { end, size })
 }
 
-// The leaf of a kind.
-pub fn measure(kind: u8, v: &[u8], p: usize) -> Extent
+// The leaf of a kind, if it is shaped.
+pub fn measure(kind: u8, v: &[u8], p: usize) -> Option<Extent>
     requires { (p < 20000)
         × (constructed_of kind ≡ false) }
-    ensures { Measures kind v.now p result }
+    ensures { MeasuresSome kind v.now p result }
 {
-    if kind == BOOLEAN {
-        return boolean(v, p);
+    match kind {
+        BOOLEAN => boolean(v, p),
+        INTEGER => integer(v, p),
+        BIT_STRING => bits(v, p),
+        OCTET_STRING => string(v, p),
+        NULL => Some(Extent { end: p, size: 0 }),
+        ENUMERATED => enumerated(v, p),
+        _ => time(v, p, time_kind(kind)),
     }
-    if kind == INTEGER {
-        return integer(v, p);
-    }
-    if kind == BIT_STRING {
-        return bits(v, p);
-    }
-    if kind == OCTET_STRING {
-        return string(v, p);
-    }
-    if kind == NULL {
-        return Extent { end: p, size: 0 };
-    }
-    if kind == ENUMERATED {
-        return enumerated(v, p);
-    }
-    time(v, p, time_kind(kind))
-}
-
-// Where the own part of the leaf of a kind ends; 0 if it is not shaped.
-pub fn end(kind: u8, v: &[u8], p: usize) -> usize
-    requires { (p < 20000)
-        × (constructed_of kind ≡ false) }
-    ensures { result ≡ own_end kind v.now p }
-{
-    if kind == BOOLEAN {
-        return boolean(v, p).end;
-    }
-    if kind == INTEGER {
-        return fixed_end(v, p + 8);
-    }
-    if kind == BIT_STRING {
-        return bits(v, p).end;
-    }
-    if kind == OCTET_STRING {
-        return string(v, p).end;
-    }
-    if kind == NULL {
-        return p;
-    }
-    if kind == ENUMERATED {
-        return fixed_end(v, p + 2);
-    }
-    time(v, p, time_kind(kind)).end
 }
 
 // How many contents octets the shaped leaf of a kind has.
@@ -244,25 +174,15 @@ pub fn size(kind: u8, v: &[u8], p: usize) -> usize
     ensures { (result ≡ length (encode (leaf_of kind v.now p)))
         × (result < 65536) }
 {
-    if kind == BOOLEAN {
-        return 1;
+    match kind {
+        BOOLEAN => 1,
+        INTEGER => integer::size(eight(v, p)),
+        BIT_STRING => (two(v, p) + 7) / 8 + 1,
+        OCTET_STRING => two(v, p),
+        NULL => 0,
+        ENUMERATED => number_size(two(v, p)),
+        _ => time::size(time_kind(kind)),
     }
-    if kind == INTEGER {
-        return integer::size(eight(v, p));
-    }
-    if kind == BIT_STRING {
-        return (two(v, p) + 7) / 8 + 1;
-    }
-    if kind == OCTET_STRING {
-        return two(v, p);
-    }
-    if kind == NULL {
-        return 0;
-    }
-    if kind == ENUMERATED {
-        return number_size(two(v, p));
-    }
-    time::size(time_kind(kind))
 }
 
 // Copies n octets of v from p on into the buffer.
@@ -273,8 +193,7 @@ fn put_part(v: &[u8], p: usize, n: usize, buf: &mut [u8], to: usize)
 {
     let end = p + n;
     let last = to + n;
-    let c = &v[p..end];
-    copy(c, &mut buf[to..last]);
+    buf[to..last].copy_from_slice(&v[p..end]);
 }
 
 // Puts the `size` contents octets of an integer.
@@ -310,35 +229,36 @@ pub fn put(kind: u8, size: usize, v: &[u8], p: usize, buf: &mut [u8], to: usize)
     ensures { (result ≡ own_end kind v.now p)
         × (buf.new ≡ sets buf.old to (encode (leaf_of kind v.now p))) }
 {
-    if kind == BOOLEAN {
-        buf[to] = if v[p] == 1 { 255 } else { 0 };
-        return p + 1;
+    match kind {
+        BOOLEAN => {
+            buf[to] = if v[p] == 1 { 255 } else { 0 };
+            p + 1
+        }
+        INTEGER => {
+            put_integer(eight(v, p), size, buf, to);
+            p + 8
+        }
+        BIT_STRING => {
+            let count = two(v, p);
+            let n = size - 1;
+            buf[to] = (8 * n - count) as u8;
+            let start = p + 2;
+            put_part(v, start, n, buf, to + 1);
+            start + n
+        }
+        OCTET_STRING => {
+            let start = p + 2;
+            put_part(v, start, size, buf, to);
+            start + size
+        }
+        NULL => p,
+        ENUMERATED => {
+            put_integer(two(v, p) as i64, size, buf, to);
+            p + 2
+        }
+        _ => {
+            put_time(time_kind(kind), size, v, p, buf, to);
+            p + 7
+        }
     }
-    if kind == INTEGER {
-        put_integer(eight(v, p), size, buf, to);
-        return p + 8;
-    }
-    if kind == BIT_STRING {
-        let count = two(v, p);
-        let n = size - 1;
-        buf[to] = (8 * n - count) as u8;
-        let next = to + 1;
-        let start = p + 2;
-        put_part(v, start, n, buf, next);
-        return start + n;
-    }
-    if kind == OCTET_STRING {
-        let start = p + 2;
-        put_part(v, start, size, buf, to);
-        return start + size;
-    }
-    if kind == NULL {
-        return p;
-    }
-    if kind == ENUMERATED {
-        put_integer(two(v, p) as i64, size, buf, to);
-        return p + 2;
-    }
-    put_time(time_kind(kind), size, v, p, buf, to);
-    p + 7
 }

@@ -19,11 +19,7 @@ pub fn grow(a: usize, b: usize) -> usize
     ensures { (result ≡ cap (a + b))
         × (result < 8194) }
 {
-    let c = a + b;
-    if OVER < c {
-        return OVER;
-    }
-    c
+    OVER.min(a + b)
 }
 
 // The length of the items by the tags from the j-th on, around n contents octets.
@@ -34,10 +30,8 @@ fn size_from(table: &[u8], w: u64, j: usize, n: usize) -> usize
         × (result < 8194) }
 {
     let e = unpack(w);
-    let mut i = tag_count(e);
     let mut total = n;
-    while j < i {
-        i -= 1;
+    for i in (j..tag_count(e)).rev() {
         let head = item::header_size(tag_code(table, e, i), total as u16);
         total = grow(head, total);
     }
@@ -49,13 +43,7 @@ fn is_short(w: u64, n: usize) -> bool
     ensures { result ≡ true → Short (unpacked w) n }
 {
     let e = unpack(w);
-    if e.explicit != 0 {
-        return false;
-    }
-    if 256 <= e.code {
-        return false;
-    }
-    n < 128
+    e.explicit == 0 && e.code < 256 && n < 128
 }
 
 // The length of all items, around n contents octets.
@@ -83,13 +71,10 @@ fn put_all(table: &[u8], w: u64, n: usize, buf: &mut [u8], to: usize) -> usize
         × (buf.new ≡ sets buf.old to h) }
 {
     let e = unpack(w);
-    let count = tag_count(e);
     let mut next = to;
-    let mut i = 0;
-    while i < count {
+    for i in 0..tag_count(e) {
         let code = tag_code(table, e, i);
-        i += 1;
-        let inner = size_from(table, w, i, n);
+        let inner = size_from(table, w, i + 1, n);
         next = item::put_header(code, inner as u16, buf, next);
     }
     next

@@ -12,20 +12,26 @@ ghost use Rattle.writer.specs.Known.{record_in, Known};
 ghost use Rattle.writer.specs.Standing.{start_at, row_in, Standing};
 ghost use Rattle.writer.specs.Ready.{Ready};
 ghost use Rattle.writer.specs.Rows.{judge_row, row_form, contents_form};
-ghost use Rattle.writer.specs.Told.{told};
+ghost use Rattle.writer.specs.Told.{unfit, told};
 ghost use Rattle.writer.specs.Notes.{Noted, NotedRow, Noting};
 
 use crate::contents::two;
 use crate::{contents, frame, node};
-use coding::{JudgingCause, LEVELS};
+use coding::{JudgingCause, LEVELS, Unfit};
 use kinds::{ENUMERATED, constructed};
 use records::entry::{Entry, lists, parts, unpack, whole};
 
-// Where a part of the value ends, and how many octets are written of it, to 8,193; or why it is refused.
-#[derive(Clone, Copy)]
-pub enum Judged {
-    Done { end: usize, size: usize },
-    Refused { place: usize, cause: JudgingCause },
+// Where a part of the value ends, and how many octets are written of it, to 8,193.
+#[derive(Clone, Copy, Debug, PartialEq, Eq)]
+pub struct Judged {
+    pub end: usize,
+    pub size: usize,
+}
+
+fn unfit(cause: JudgingCause, place: usize) -> Result<Judged, Unfit>
+    ensures { result ≡ unfit cause place }
+{
+    Err(Unfit { cause, place })
 }
 
 // Whether the shaped leaf of a kind with its own part at p agrees with a record.
@@ -46,7 +52,7 @@ fn suits(table: &[u8], e: Entry, v: &[u8], kind: u8, p: usize) -> bool
 }
 
 // A leaf: where it ends, and how many contents octets it has.
-fn judge_leaf(table: &[u8], e: Entry, v: &[u8], at: usize, level: usize) -> Judged
+fn judge_leaf(table: &[u8], e: Entry, v: &[u8], at: usize, level: usize) -> Result<Judged, Unfit>
     requires { (length v.now ≤ 16384)
         × IsMarked v.now at
         × (constructed_of (get_or v.now (at + 2) 0) ≡ false)
@@ -54,31 +60,21 @@ fn judge_leaf(table: &[u8], e: Entry, v: &[u8], at: usize, level: usize) -> Judg
     ensures { (T : Table) (t : ℕ) → (T t).body ≡ (record_in table.now e).body →
         result ≡ told (contents_form T (level - 1) (T t).body) v.now (judge_value T level t (drop at v.now)) }
 {
-    let mark = at + 2;
-    let kind = v[mark];
+    let kind = v[at + 2];
     let p = at + 3;
-    let x = contents::measure(kind, v, p);
-    let end = x.end;
-    if end == 0 {
-        return Judged::Refused {
-            cause: JudgingCause::ValueShape,
-            place: at,
-        };
-    }
+    let Some(x) = contents::measure(kind, v, p) else {
+        return unfit(JudgingCause::ValueShape, at);
+    };
     if level == 0 {
-        return Judged::Refused {
-            cause: JudgingCause::ValueLevel,
-            place: at,
-        };
+        return unfit(JudgingCause::ValueLevel, at);
     }
     if !suits(table, e, v, kind, p) {
-        return Judged::Refused {
-            cause: JudgingCause::IllTyped,
-            place: at,
-        };
+        return unfit(JudgingCause::IllTyped, at);
     }
-    let size = frame::grow(0, x.size);
-    Judged::Done { end, size }
+    Ok(Judged {
+        end: x.end,
+        size: frame::grow(0, x.size),
+    })
 }
 
 // Whether a kind, for which r is awaited, is simple.
@@ -102,7 +98,7 @@ fn judge_built(
     at: usize,
     level: usize,
     notes: &mut [u16; 4096],
-) -> Judged
+) -> Result<Judged, Unfit>
     requires { Ready table.now index.now v.now
         × (t < count_in table.now)
         × IsMarked v.now at
@@ -113,36 +109,21 @@ fn judge_built(
         (result ≡ told (contents_form T (level - 1) (T t).body) o (judge_value T level t (drop at o)))
         × Noting at notes.old notes.new result (λ m. Noted T o m level t at) }
 {
-    let mark = at + 2;
-    let kind = v[mark];
+    let kind = v[at + 2];
     let p = at + 3;
-    if node::own_end(v, kind, p) == 0 {
-        return Judged::Refused {
-            cause: JudgingCause::ValueShape,
-            place: at,
-        };
+    if node::own_end(v, kind, p).is_none() {
+        return unfit(JudgingCause::ValueShape, at);
     }
     if level == 0 {
-        return Judged::Refused {
-            cause: JudgingCause::ValueLevel,
-            place: at,
-        };
+        return unfit(JudgingCause::ValueLevel, at);
     }
     let w = index[t];
     if !node::agrees(table, unpack(w), v, kind, p) {
-        return Judged::Refused {
-            cause: JudgingCause::IllTyped,
-            place: at,
-        };
+        return unfit(JudgingCause::IllTyped, at);
     }
-    match judge_members(table, index, w, v, p, level - 1, notes) {
-        Judged::Refused { cause, place } => Judged::Refused { cause, place },
-        Judged::Done { end, size } => {
-            let i = at / 4;
-            notes[i] = size as u16;
-            Judged::Done { end, size }
-        }
-    }
+    let judged = judge_members(table, index, w, v, p, level - 1, notes)?;
+    notes[at / 4] = judged.size as u16;
+    Ok(judged)
 }
 
 // The values in w, whose node has its own part at p.
@@ -155,7 +136,7 @@ fn judge_members(
     p: usize,
     level: usize,
     notes: &mut [u16; 4096],
-) -> Judged
+) -> Result<Judged, Unfit>
     requires { Ready table.now index.now v.now
         × Standing table.now v.now (unpacked w) p
         × (length notes.old ≡ 4096) }
@@ -171,38 +152,27 @@ fn judge_members(
     let n = node::count(e, v, p);
     let mut at = node::start(e, v, p);
     let mut total = 0;
-    let mut i = 0;
-    while i < n {
-        let t = node::below(table, e, s, v, p, i);
-        i += 1;
-        if t < 256 {
-            if !node::marked(v, at) {
-                return Judged::Refused {
-                    cause: JudgingCause::ValueShape,
-                    place: at,
-                };
-            }
-            let x = index[t];
-            let r = unpack(x);
-            let mark = at + 2;
-            let judged = if is_simple(r, v[mark]) {
-                judge_leaf(table, r, v, at, level)
-            } else {
-                judge_built(table, index, t, v, at, level, notes)
-            };
-            match judged {
-                Judged::Refused { cause, place } => return Judged::Refused { cause, place },
-                Judged::Done { end, size } => {
-                    at = end;
-                    total = frame::grow(total, frame::size(table, x, size));
-                }
-            }
+    for i in 0..n {
+        let Some(t) = node::below(table, e, s, v, p, i) else {
+            continue;
+        };
+        if !node::marked(v, at) {
+            return unfit(JudgingCause::ValueShape, at);
         }
+        let x = index[t];
+        let r = unpack(x);
+        let judged = if is_simple(r, v[at + 2]) {
+            judge_leaf(table, r, v, at, level)?
+        } else {
+            judge_built(table, index, t, v, at, level, notes)?
+        };
+        at = judged.end;
+        total = frame::grow(total, frame::size(table, x, judged.size));
     }
-    Judged::Done {
+    Ok(Judged {
         end: at,
         size: total,
-    }
+    })
 }
 
 // A whole value of type t.
@@ -212,7 +182,7 @@ pub fn judge(
     t: usize,
     v: &[u8],
     notes: &mut [u16; 4096],
-) -> Judged
+) -> Result<Judged, Unfit>
     requires { Ready table.now index.now v.now
         × (t < count_in table.now)
         × (length notes.old ≡ 4096) }

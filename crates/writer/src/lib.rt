@@ -15,10 +15,7 @@ ghost use Rattle.table.specs.Passes.{Passes};
 ghost use Rattle.records.specs.Entries.{Filled};
 ghost use Rattle.coding.specs.Calls.{write_outcome, whole_write};
 
-use coding::{Answer, LONGEST_MESSAGE, LONGEST_VALUE, Refusal, TableCause, ValueCause};
-use judge::Judged;
-use refusal::{table_cause, value_cause};
-use table::Verdict;
+use coding::{LONGEST_MESSAGE, LONGEST_VALUE, Refusal, TableCause, ValueCause};
 
 // Writes a value of type t, by a table of n records that passed.
 fn write_passed(
@@ -28,7 +25,7 @@ fn write_passed(
     t: usize,
     value: &[u8],
     buf: &mut [u8],
-) -> Answer
+) -> Result<usize, Refusal>
     requires { Filled table.now index.now n
         × Passes table.now (table_in table.now) n
         × (length buf.old ≤ 8192) }
@@ -37,50 +34,34 @@ fn write_passed(
         × (buf.new ≡ x.buffer) }
 {
     if n <= t {
-        return Answer::Refused(Refusal::Table(TableCause::Unknown));
+        return Err(Refusal::Table(TableCause::Unknown));
     }
     if LONGEST_VALUE < value.len() {
-        return Answer::Refused(Refusal::Value(ValueCause::ValueShape(0)));
+        return Err(Refusal::Value(ValueCause::ValueShape(0)));
     }
     // ones and not zeros, which would be cleared by a call of memset, four times as dear as these stores
     let mut notes = [1u16; 4096];
-    match judge::judge(table, index, t, value, &mut notes) {
-        Judged::Refused { cause, place } => Answer::Refused(Refusal::Value(value_cause(
-            cause, place,
-        ))),
-        Judged::Done { end, size } => {
-            if end < value.len() {
-                return Answer::Refused(Refusal::Value(ValueCause::ValueShape(end)));
-            }
-            if buf.len() < size {
-                return Answer::Refused(Refusal::Value(ValueCause::MessageRoom));
-            }
-            put::put(table, index, t, value, &notes, buf);
-            Answer::Done(size)
-        }
+    let judged = judge::judge(table, index, t, value, &mut notes)?;
+    let size = judged.size;
+    if judged.end < value.len() {
+        return Err(Refusal::Value(ValueCause::ValueShape(judged.end)));
     }
+    if buf.len() < size {
+        return Err(Refusal::Value(ValueCause::MessageRoom));
+    }
+    put::put(table, index, t, value, &notes, buf);
+    Ok(size)
 }
 
 // Writes the value whose octets are lent as a message of type t into the buffer, of which it takes at most 8,192 octets.
-pub fn write(table: &[u8], t: usize, value: &[u8], buf: &mut [u8]) -> Answer
+pub fn write(table: &[u8], t: usize, value: &[u8], buf: &mut [u8]) -> Result<usize, Refusal>
     ensures { let x = whole_write table.now t value.now buf.old in
         (result ≡ x.answer)
         × (buf.new ≡ x.buffer) }
 {
     let mut index = [0u64; 128];
-    let c = checker::check_into(table, &mut index);
-    let verdict = c.verdict;
-    match verdict {
-        Verdict::Refused { cause, place } => {
-            let cause = table_cause(cause, place);
-            Answer::Refused(Refusal::Table(cause))
-        }
-        Verdict::Passed => {
-            if LONGEST_MESSAGE < buf.len() {
-                let room = &mut buf[..LONGEST_MESSAGE];
-                return write_passed(table, &index, c.count, t, value, room);
-            }
-            write_passed(table, &index, c.count, t, value, buf)
-        }
-    }
+    let checked = checker::check_into(table, &mut index);
+    checked.verdict?;
+    let room = buf.len().min(LONGEST_MESSAGE);
+    write_passed(table, &index, checked.count, t, value, &mut buf[..room])
 }

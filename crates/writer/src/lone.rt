@@ -20,15 +20,14 @@ fn are_zero(v: &[u8], p: usize, n: usize) -> bool
 {
     let end = p + n;
     let mut sum = 0u16;
-    let mut at = p;
-    while at < end {
-        sum += v[at] as u16;
-        at += 1;
+    for x in &v[p..end] {
+        sum += u16::from(*x);
     }
     sum == 0
 }
 
 // Whether the own part at p of members ends the octets, and none is present.
+#[tactic(auto, using(crate::proofs::Alone::members_behind, crate::proofs::Alone::members_zero))]
 fn no_member(v: &[u8], p: usize) -> bool
     requires { (p < 20000)
         × (0 < length v.now) }
@@ -44,6 +43,7 @@ fn no_member(v: &[u8], p: usize) -> bool
 }
 
 // Whether the own part at p of a list ends the octets, and it has no element.
+#[tactic(auto, using(crate::proofs::Alone::elements_behind, crate::proofs::Alone::elements_none))]
 fn no_element(v: &[u8], p: usize) -> bool
     requires { (p < 20000)
         × (0 < length v.now) }
@@ -67,7 +67,10 @@ pub fn is_lone(v: &[u8]) -> bool
     }
     let kind = v[2];
     if !constructed(kind as usize) {
-        return contents::end(kind, v, 3) == v.len();
+        let Some(leaf) = contents::measure(kind, v, 3) else {
+            return false;
+        };
+        return leaf.end == v.len();
     }
     if has_members(kind) {
         return no_member(v, 3);

@@ -1,19 +1,21 @@
 // The constructed nodes of a value (FORMATS, "Values"): their shape, whether they agree with a record, and what stands in them. A node's
 // own part is at p. A message counts as a node without an own part, in which one value stands.
-ghost use Rattle.std.specs.Prelude.{◌≡◌, true, ◌&&◌, ◌<◌, ◌≤◌, ◌+◌, leb, ltb, length, get_or};
-ghost use Rattle.octets.specs.Lists.{all};
+ghost use Rattle.std.specs.Prelude.{◌≡◌, true, ◌<◌, ◌≤◌, ◌+◌, ◌↔◌, Some, None, IsTrue, EachIndex, slice_index, ltb, length};
+ghost use Rattle.octets.specs.Tests.{if};
+ghost use Rattle.octets.specs.Numbers.{unless_zero, if_below};
 ghost use Rattle.table.specs.Fields.{constructed_of};
 ghost use Rattle.table.specs.Reading.{every_at, members_at};
 ghost use Rattle.coding.specs.Judging.{flags, agreeing, agrees as Judging·agrees};
 ghost use Rattle.writer.specs.Nodes.{members_end, fixed_end, own_end, node_of, Marked};
 ghost use Rattle.writer.specs.Known.{record_in, Known};
-ghost use Rattle.writer.specs.Standing.{start_at, count_at, parts_of, place_of, below_at, Standing};
+ghost use Rattle.writer.specs.Standing.{start_at, count_at, parts_of, below_at, Standing};
 
 use kinds::{CHOICE, MESSAGE, has_members, holds_one, is_list};
 use octets::octet;
-use records::entry::{Entry, Span, optional, parts};
+use records::entry::{Entry, Span, optional, part, parts};
 
 // Whether the octets of a node with its mark are there, to its kind.
+#[tactic(auto, unfolding(crate::specs::Nodes::end_at))]
 pub fn marked(v: &[u8], at: usize) -> bool
     requires { at ≤ 16384 }
     ensures { Marked v.now at result }
@@ -28,54 +30,45 @@ pub fn marked(v: &[u8], at: usize) -> bool
     v[second] == 0x41
 }
 
-// Whether n octets from p on are there, each 0 or 1.
-fn are_flags(v: &[u8], p: usize, n: usize) -> bool
-    requires { (p < 30000)
-        × (n < 256) }
-    ensures { let o = v.now in result ≡ (leb (p + n) (length o) && all (λ x. ltb x 2) (every_at 1 o p n)) }
+// Whether each octet is 0 or 1.
+fn are_flags(octets: &[u8]) -> bool
+    ensures { IsTrue result ↔ EachIndex octets.now (λ k. slice_index octets.now k < 2) }
 {
-    let end = p + n;
-    if v.len() < end {
-        return false;
-    }
-    let mut at = p;
-    while at < end {
-        if 2 <= v[at] {
-            return false;
-        }
-        at += 1;
-    }
-    true
+    octets.iter().all(|x| *x < 2)
 }
 
-// Where the presence of members ends; 0 if it is not shaped.
-fn members_end(v: &[u8], p: usize) -> usize
+// Where the presence of members ends, if it is shaped.
+fn members_end(v: &[u8], p: usize) -> Option<usize>
     requires { p < 20000 }
-    ensures { result ≡ members_end v.now p }
+    ensures { result ≡ unless_zero (members_end v.now p) }
 {
-    let n = octet(v, p);
     let start = p + 1;
-    if !are_flags(v, start, n) {
-        return 0;
+    let end = start + octet(v, p);
+    if v.len() < end {
+        return None;
     }
-    start + n
+    if !are_flags(&v[start..end]) {
+        return None;
+    }
+    Some(end)
 }
 
-// e, if so many octets are there; else 0.
-pub fn fixed_end(v: &[u8], e: usize) -> usize
-    ensures { result ≡ fixed_end v.now e }
+// e, if so many octets are there.
+pub fn fixed_end(v: &[u8], e: usize) -> Option<usize>
+    ensures { result ≡ (if (ltb (length v.now) e) None λ _. Some e) }
 {
     if v.len() < e {
-        return 0;
+        return None;
     }
-    e
+    Some(e)
 }
 
-// Where the own part of a node of a constructed kind ends; 0 if it is not shaped.
-pub fn own_end(v: &[u8], kind: u8, p: usize) -> usize
+// Where the own part of a node of a constructed kind ends, if it is shaped.
+#[tactic(auto, unfolding(crate::specs::Nodes::own_end, crate::specs::Nodes::members_end, crate::specs::Nodes::fixed_end))]
+pub fn own_end(v: &[u8], kind: u8, p: usize) -> Option<usize>
     requires { (p < 20000)
         × (constructed_of kind ≡ true) }
-    ensures { result ≡ own_end kind v.now p }
+    ensures { result ≡ unless_zero (own_end kind v.now p) }
 {
     if has_members(kind) {
         return members_end(v, p);
@@ -86,7 +79,7 @@ pub fn own_end(v: &[u8], kind: u8, p: usize) -> usize
     if kind == CHOICE {
         return fixed_end(v, p + 1);
     }
-    0
+    None
 }
 
 // Whether the mandatory ones of the n members from p on are present; which are present says v, from q on.
@@ -96,18 +89,12 @@ fn is_complete(table: &[u8], p: usize, n: usize, v: &[u8], q: usize) -> bool
         × (q + n ≤ length v.now) }
     ensures { result ≡ agreeing (members_at table.now p n) (flags (every_at 1 v.now q n)) }
 {
-    let mut at = p;
-    let mut mark = q;
-    let mut left = n;
-    while 0 < left {
-        if v[mark] != 1 {
-            if !optional(table, at) {
+    for i in 0..n {
+        if v[q + i] != 1 {
+            if !optional(table, p + 2 * i) {
                 return false;
             }
         }
-        at += 2;
-        mark += 1;
-        left -= 1;
     }
     true
 }
@@ -138,6 +125,7 @@ pub fn agrees(table: &[u8], e: Entry, v: &[u8], kind: u8, p: usize) -> bool
 }
 
 // Where the first value begins that stands in a node.
+#[tactic(auto, unfolding(crate::specs::Standing::start_at))]
 pub fn start(e: Entry, v: &[u8], p: usize) -> usize
     requires { start_at e v.now p ≤ length v.now }
     ensures { result ≡ start_at e v.now p }
@@ -155,6 +143,7 @@ pub fn start(e: Entry, v: &[u8], p: usize) -> usize
 }
 
 // How many values stand in it, at most.
+#[tactic(auto, unfolding(crate::specs::Standing::start_at, crate::specs::Standing::count_at))]
 pub fn count(e: Entry, v: &[u8], p: usize) -> usize
     requires { start_at e v.now p ≤ length v.now }
     ensures { (result ≡ count_at e v.now p)
@@ -169,35 +158,26 @@ pub fn count(e: Entry, v: &[u8], p: usize) -> usize
     crate::contents::two(v, p)
 }
 
-// The record number of the j-th part.
-fn part(table: &[u8], s: Span, j: usize) -> usize
-    requires { place_of s j < length table.now }
-    ensures { (result ≡ get_or table.now (place_of s j) 0)
-        × (result < 256) }
-{
-    let q = s.first + s.step * j;
-    table[q] as usize
-}
-
-// The record number of the i-th of them, where s are the parts of e; 256 for a member that is not present.
-pub fn below(table: &[u8], e: Entry, s: Span, v: &[u8], p: usize, i: usize) -> usize
+// The record number of the i-th of them, where s are the parts of e; none for a member that is not present.
+#[tactic(auto, unfolding(crate::specs::Standing::start_at, crate::specs::Standing::count_at, crate::specs::Standing::part_of, crate::specs::Standing::below_at))]
+pub fn below(table: &[u8], e: Entry, s: Span, v: &[u8], p: usize, i: usize) -> Option<usize>
     requires { (s ≡ parts_of table.now e)
         × Standing table.now v.now e p
         × (i < count_at e v.now p) }
-    ensures { result ≡ below_at table.now e v.now p i }
+    ensures { result ≡ if_below 256 (below_at table.now e v.now p i) }
 {
     if has_members(e.kind) {
-        let mark = p + 1 + i;
-        if v[mark] != 1 {
-            return 256;
+        if v[p + 1 + i] != 1 {
+            return None;
         }
-        return part(table, s, i);
+        return Some(part(table, s, i));
     }
     if e.kind == CHOICE {
-        return part(table, s, v[p] as usize);
+        return Some(part(table, s, v[p] as usize));
     }
     if e.kind == MESSAGE {
-        return e.own as usize;
+        let t = e.own as usize;
+        return (t < 256).then_some(t);
     }
-    part(table, s, 0)
+    Some(part(table, s, 0))
 }

@@ -12,7 +12,7 @@ use crate::{contents, frame, node};
 use records::entry::{parts, unpack, whole};
 
 // Where values end, and where what was put of them ends in the buffer.
-#[derive(Clone, Copy)]
+#[derive(Clone, Copy, Debug, PartialEq, Eq)]
 pub struct Placed {
     pub end: usize,
     pub to: usize,
@@ -38,29 +38,26 @@ fn put_members(
     let n = node::count(e, v, p);
     let mut at = node::start(e, v, p);
     let mut next = to;
-    let mut i = 0;
-    while i < n {
-        let t = node::below(table, e, s, v, p, i);
-        i += 1;
-        if t < 256 {
-            let x = index[t];
-            let r = unpack(x);
-            let q = at + 3;
-            let size = if r.simple {
-                contents::size(r.kind, v, q)
-            } else {
-                let k = at / 4;
-                notes[k] as usize
-            };
-            next = frame::put(table, x, size, buf, next);
-            if r.simple {
-                at = contents::put(r.kind, size, v, q, buf, next);
-                next += size;
-            } else {
-                let y = put_members(table, index, x, v, q, notes, buf, next);
-                at = y.end;
-                next = y.to;
-            }
+    for i in 0..n {
+        let Some(t) = node::below(table, e, s, v, p, i) else {
+            continue;
+        };
+        let x = index[t];
+        let r = unpack(x);
+        let q = at + 3;
+        let size = if r.simple {
+            contents::size(r.kind, v, q)
+        } else {
+            notes[at / 4] as usize
+        };
+        next = frame::put(table, x, size, buf, next);
+        if r.simple {
+            at = contents::put(r.kind, size, v, q, buf, next);
+            next += size;
+        } else {
+            let y = put_members(table, index, x, v, q, notes, buf, next);
+            at = y.end;
+            next = y.to;
         }
     }
     Placed { end: at, to: next }

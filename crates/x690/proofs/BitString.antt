@@ -1,7 +1,7 @@
 -- Laws of the unused bits of a BIT STRING, and of the code that tests and clears them.
 -- Assumes nothing.
-use borrow.Author.Tests.{eqb-true, not-false, eq-eqb, ne_eqb}
-use mathlib.Core.Bool.{Bool, true, false, not, ◌&&◌}
+use borrow.Author.Tests.{ne_eqb}
+use mathlib.Core.Bool.{Bool, false, not, ◌&&◌}
 use mathlib.Core.List.{List, [], ◌∷◌}
 use mathlib.Core.Path.{◌≡◌, refl, sym, ap, ◌∙◌}
 use native.Mathlib.Nat.{mul-div_cancel, div-mul-le_self, add-zero}
@@ -14,9 +14,7 @@ use lib.ListN.{length, get_or, drop, set}
 use lib.Pow.{pow_pos}
 use Rattle.octets.specs.Answer.{none_left}
 use Rattle.octets.specs.Buffers.{filled}
-use Rattle.octets.specs.Lists.{lowest_from}
 use Rattle.octets.specs.Permutations.{AllOctets, every_cons}
-use Rattle.octets.proofs.Search.{upto}
 use Rattle.x690.specs.BitString.{unused, masked}
 
 -- the unused bits of what is read are 0
@@ -73,27 +71,6 @@ masked_set n u (x ∷ c) h e = rw (e, sub-one) (sym (masked_last n x c))
 -- contents over a part that has as many octets, or that stays as it was
 pub masked_stays : (n : ℕ) (c p : List ℕ) → (length c ≡ length p → ⊥) → p ≡ filled p (masked n c)
 masked_stays n c p h = rw (length_masked, ne_eqb (length c) (length p) h) refl
-
-pub masked_none : (n : ℕ) (c p : List ℕ) → length c ≡ length p → length c ≡ 0 → p ≡ filled p (masked n c)
-unfolding masked
-masked_none n [] [] h k = refl
-masked_none n [] (y ∷ p) h k = absurd (omega arith)
-masked_none n (x ∷ c) p h k = absurd (omega arith)
-
-pub masked_filled : (n u : ℕ) (c p d : List ℕ) → length c ≡ length p → (length c ≡ 0 → ⊥) → d ≡ filled p c → u ≡ 2 ^ n
-    → set d (length c - 1) (get_or c (length c - 1) 0 / u * u) ≡ filled p (masked n c)
-masked_filled n u c p d h k e f =
-    let q : eqb (length c) (length p) ≡ true = eq-eqb (length c) (length p) h in
-    let w : d ≡ c = rw q at e in
-    rw (length_masked, q, w) (masked_set n u c k f)
-
--- the values of the eight bits
-abbrev powers : List ℕ
-powers = 1 ∷ 2 ∷ 4 ∷ 8 ∷ 16 ∷ 32 ∷ 64 ∷ 128 ∷ []
-
-pub powers_is : (n : ℕ) → get_or powers (n % 8) 0 ≡ 2 ^ (n % 8)
-unfolding lowest_from
-powers_is n = eqb-true _ _ (not-false _ (upto (λ i. not (eqb (get_or powers i 0) (2 ^ i))) 8 refl (n % 8) (omega arith)))
 
 -- contents by their octets: none, the first alone, or more
 abbrev bits : List ℕ → Bool

@@ -1,6 +1,6 @@
 -- Laws of two's complement: what is written of an integer of 64 bits is read back as it.
 -- Assumes nothing.
-use borrow.Author.Tests.{ltb-true, ltb-false, eqb-true, not-false, ne_eqb}
+use borrow.Author.Tests.{ltb-true, ltb-false, eqb-true, not-false}
 use mathlib.Core.Path.{◌≡◌, refl, sym, ap, ◌∙◌}
 use mathlib.Core.Bool.{Bool, true, false, not, ◌&&◌, ◌||◌, true≢false}
 use mathlib.Core.List.{List, [], ◌∷◌}
@@ -109,10 +109,6 @@ spare_zero a b e = test (ltb b 128) (λ h. rw (e, h)) λ h. rw (e, h)
 pub spare_ones : (a b : ℕ) → a ≡ 255 → not (ltb b 128) ≡ spare a b
 unfolding spare
 spare_ones a b e = rw e
-
-pub spare_other : (a b : ℕ) → (a ≡ 0 → ⊥) → (a ≡ 255 → ⊥) → false ≡ spare a b
-unfolding spare
-spare_other a b f g = rw (ne_eqb a 0 f, ne_eqb a 255 g)
 
 spare_same : (a b : ℕ) (s : List ℕ) → not (spare a b) ≡ false → integer_of (a ∷ b ∷ s) ≡ integer_of (b ∷ s)
 unfolding spare

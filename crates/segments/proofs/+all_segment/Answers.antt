@@ -3,7 +3,7 @@
 use Rattle.std.proofs.Common.{rules, ap, Ok, ◌≡◌, ◌-◌, length, ◌∙◌, arith}
 use Rattle.segments.specs.Segments.{kind_of}
 use Rattle.ber.proofs.Places.{part_to_end}
-use Rattle.segments.proofs.SegmentCode.{mapped_ok, mapped_err, Going, going_first, going_broken, going_over, going_untagged, going_unused, going_refused, going_turn, tag_read}
+use Rattle.segments.proofs.SegmentCode.{mapped_ok, mapped_err, going_first, going_broken, going_over, going_untagged, going_unused, going_refused, going_turn, tag_read}
 use Rattle.segments.proofs.SegmentCode.{begun, segment_deep, segment_unread, segment_part, segment_open, segment_whole, segment_refused, segment_read}
 use Rattle.segments.proofs.+all_segment.Goals as goal
 

@@ -1,6 +1,6 @@
 -- `segments::read_tag` meets its contract.
 -- Assumes nothing.
-use Rattle.std.proofs.Common.{rules, sym, ◌≡◌, ◌∙◌, ◌+◌, eqb, not, ◌||◌, length, arith, refl, eq-eqb, ne_eqb}
+use Rattle.std.proofs.Common.{rules, sym, ◌∙◌, arith, refl, eq-eqb, ne_eqb}
 use Rattle.octets.specs.Answer.{if}
 use Rattle.segments.specs.Segments.{kind_of}
 use Rattle.segments.proofs.SegmentCode.{tag_none, tag_told}

@@ -1,6 +1,6 @@
 -- What holds while `ber::identifier::read_long` reads octets: what those before i spell.
 -- Assumes nothing.
-use Rattle.std.proofs.Common.{◌≤◌, ◌<◌}
+use Rattle.std.proofs.Common.{◌<◌}
 use Rattle.ber.proofs.Told.{Following}
 use Rattle.ber.proofs.identifier.read_long.Given as goal
 

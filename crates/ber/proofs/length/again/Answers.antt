@@ -2,14 +2,8 @@
 -- Assumes nothing.
 use Rattle.std.proofs.Common.{sym, ◌∙◌}
 use Rattle.ber.proofs.Places.{one_back}
-use Rattle.ber.proofs.Told.{again_none, again_short, again_other}
+use Rattle.ber.proofs.Told.{again_other}
 use Rattle.ber.proofs.length.again.Goals as goal
-
-pub returns-then-m-at : goal.returns-then-m-at
-returns-then-m-at c = again_none c.args.m.now _ c.if-m-at.true
-
-pub returns-then-first-lt128 : goal.returns-then-first-lt128
-returns-then-first-lt128 c = again_short c.args.m.now _ c.if-m-at.false c.if-first-lt128.true
 
 pub returns : goal.returns
 returns c = c.unwrap_or.ensures ∙ sym (again_other c.args.m.now _ c.if-m-at.false c.if-first-lt128.false _ λ l. rw one_back at (c.read_other.ensures l))

@@ -15,4 +15,4 @@ decreases-gather_under l = 2 * free l.flags.now + 1
 abbrev pub invariant-gather_under-loop-at : goal.invariant-gather_under-loop-at
 invariant-gather_under-loop-at l =
     (length l.flags ≡ 129) × (free l.flags ≤ free l.fn.flags)
-    × Going (table_in l.table) (get_or l.fn.flags 128 0) l.fn.flags (below (table_in l.table) l.t) l.flags (every_at 1 l.table l.at (l.at-end - l.at))
+    × Going (table_in l.w.table.now) (get_or l.fn.flags 128 0) l.fn.flags (below (table_in l.w.table.now) l.t) l.flags (every_at 1 l.w.table.now l.at (l.at-end - l.at))

@@ -5,7 +5,7 @@ use Rattle.std.proofs.Math.ListN.{length-set}
 use Rattle.table.proofs.Walk.{same_size}
 use Rattle.table.proofs.Straight.{zeros}
 use Rattle.checker.proofs.Flags.{walked_one, met_low}
-use Rattle.checker.proofs.Gather.{every_none, gathers_from}
+use Rattle.checker.proofs.Gather.{every_none}
 use Rattle.checker.proofs.Runs.{lone_part}
 use Rattle.checker.proofs.Shared.{owned_start, owned_next, owned_in, owned_turn, owned_met, owned_end}
 use Rattle.checker.proofs.first_tags.clash.Goals as goal
@@ -24,14 +24,13 @@ pub gather-requires : goal.gather-requires
 gather-requires c =
     let x = c.requires in
     let l = c.loop-k in
-    gathers_from x.filled x.ready x.straight.named (length-set l.flags 128 _ ∙ l.invariant.0)
-    (x.there _ (owned_in (owned_next _ _ _ _ _ l.invariant.1 (omega arith) c.octet-a.ensures.0)))
+    x.there _ (owned_in (owned_next _ _ _ _ _ l.invariant.1 (omega arith) c.octet-a.ensures.0))
 
 pub returns-then-gather : goal.returns-then-gather
 returns-then-gather c =
     let x = c.requires in
     let l = c.loop-k in (
-      λ _. owned_met _ _ x.straight x.ready.closed _ x.there _ _
+      λ _. owned_met _ _ x.straight c.args.w.now.ready.closed _ x.there _ _
           (owned_next _ _ _ _ _ l.invariant.1 (omega arith) c.octet-a.ensures.0)
           (met_low l.flags _ l.invariant.0 (c.gather.ensures.met c.if-gather.true)),
       λ z. absurd (true≢false z),
@@ -47,7 +46,7 @@ loop-k-preserved c =
     let p : s.first + s.step * (l.k + 1) ≡ s.first + s.step * l.k + s.step = omega arith in
     let n : s.count - (l.k + 1) ≡ s.count - l.k - 1 = omega arith in (
       same_size w ∙ length-set l.flags 128 _ ∙ l.invariant.0,
-      rw (p, n) (owned_turn _ _ _ _ _ _ _ o (walked_one l.flags _ l.invariant.0 x.filled.few x.ready.closed (x.there _ (owned_in o)) w)),
+      rw (p, n) (owned_turn _ _ _ _ _ _ _ o (walked_one l.flags _ l.invariant.0 c.args.w.now.filled.few c.args.w.now.ready.closed (x.there _ (owned_in o)) w)),
     )
 
 pub returns : goal.returns

@@ -8,4 +8,4 @@ abbrev pub invariant-loop-k : goal.invariant-loop-k
 invariant-loop-k l =
     let s = l.s in
     (length l.flags ≡ 129)
-    × Owned (table_in l.table) (every_at s.step l.table s.first s.count) (take 128 l.flags) (l.k + 1) (every_at s.step l.table (s.first + s.step * l.k) (s.count - l.k))
+    × Owned (table_in l.w.table.now) (every_at s.step l.w.table.now s.first s.count) (take 128 l.flags) (l.k + 1) (every_at s.step l.w.table.now (s.first + s.step * l.k) (s.count - l.k))

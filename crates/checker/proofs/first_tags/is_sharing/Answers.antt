@@ -8,27 +8,32 @@ use Rattle.checker.proofs.first_tags.is_sharing.Goals as goal
 
 pub returns-then-e : goal.returns-then-e
 returns-then-e c =
-    let (x, r, m, h) = c.requires in
+    let x = c.args.w.now.filled in
+    let (m, h) = c.requires in
     sym (no_sharing _ _ _ (not-true _ (sym (entry_at x _ h c.unpack-e.ensures).simple ∙ c.if-e.true)))
 
 pub clash_in_a_run-requires : goal.clash_in_a_run-requires
 clash_in_a_run-requires c =
-    let (x, r, m, h) = c.requires in (
-      compares x h c.unpack-e.ensures c.parts-s.ensures (λ i. omega (arith, c.type_inv.table i)) r m,
+    let x = c.args.w.now.filled in
+    let (m, h) = c.requires in (
+      compares x h c.unpack-e.ensures c.parts-s.ensures c.args.w.now.octets m,
       members_two_apart x h c.unpack-e.ensures c.parts-s.ensures c.if-e-eq-SEQUENCE.true,
     )
 
 pub returns-then-e-eq-SEQUENCE : goal.returns-then-e-eq-SEQUENCE
 returns-then-e-eq-SEQUENCE c =
-    let (x, r, m, h) = c.requires in
+    let x = c.args.w.now.filled in
+    let (m, h) = c.requires in
     sym (sharing_is _ _ (filled_beyond x) _ _ (of_sequence x h c.unpack-e.ensures c.parts-s.ensures c.if-e-eq-SEQUENCE.true c.clash_in_a_run.ensures))
 
 pub clash-requires : goal.clash-requires
 clash-requires c =
-    let (x, r, m, h) = c.requires in
-    compares x h c.unpack-e.ensures c.parts-s.ensures (λ i. omega (arith, c.type_inv.table i)) r m
+    let x = c.args.w.now.filled in
+    let (m, h) = c.requires in
+    compares x h c.unpack-e.ensures c.parts-s.ensures c.args.w.now.octets m
 
 pub returns : goal.returns
 returns c =
-    let (x, r, m, h) = c.requires in
+    let x = c.args.w.now.filled in
+    let (m, h) = c.requires in
     sym (sharing_is _ _ (filled_beyond x) _ _ (of_other x h c.unpack-e.ensures c.parts-s.ensures c.if-e-eq-SEQUENCE.false c.clash.ensures))

@@ -10,6 +10,6 @@ use Rattle.checker.proofs.first_tags.lowest_circular.Goals as goal
 pub returns : goal.returns
 returns c =
     let a = c.args in
-    let b = a.table.now in
+    let b = a.w.now.table.now in
     lowest_over (circular (table_in b) (count_in b)) a.n _ c.find.ensures.ran (λ x o q k. (search rules, λ h. search rules))
-    ∙ ap (λ m. if_below a.n (lowest (circular (table_in b) m) a.n)) (sym c.requires.0.count)
+    ∙ ap (λ m. if_below a.n (lowest (circular (table_in b) m) a.n)) (sym c.requires)
