@@ -5,10 +5,10 @@ use mathlib.Core.List.{List, [], ◌∷◌}
 use mathlib.Core.Path.{◌≡◌, refl, sym, ◌∙◌}
 use Prim.Native.Nat.{ℕ, suc, ◌+◌, ◌-◌, ◌≤◌, ◌<◌}
 use native.Mathlib.Omega.{arith}
-use borrow.Author.Tests.{eq-eqb, ne_eqb, eqb-true, eqb-false, lt-ltb, le-ltb}
+use borrow.Author.Tests.{eq-eqb, ne_eqb, eqb-true, lt-ltb, le-ltb}
 use lib.Dec.{eqb}
 use lib.ListN.{get_or}
-use Rattle.octets.proofs.Tests.{test, or_by, or_false}
+use Rattle.octets.proofs.Tests.{test, or_by}
 use Rattle.octets.specs.Numbers.{two}
 use Rattle.records.specs.declared.entry.Entry.{Entry}
 use Rattle.writer.specs.Standing.{start_at, count_at, parts_of, place_of, part_of, below_at, row_from}

@@ -1,8 +1,8 @@
 -- The items by the tags from the i-th on are around `total` octets.
 -- Assumes nothing.
-use Rattle.std.proofs.Common.{◌≡◌, ◌-◌, ◌<◌, ◌≤◌}
+use Rattle.std.proofs.Common.{◌≡◌, ◌-◌, ◌<◌}
 use Rattle.table.specs.Reading.{tags_at}
-use Rattle.records.specs.Entries.{unpacked, tag_count, tag_place}
+use Rattle.records.specs.Entries.{unpacked, tag_place}
 use Rattle.writer.specs.Frames.{framed}
 use Rattle.writer.specs.Known.{tags_from}
 use Rattle.writer.proofs.frame.size_from.Given as goal
