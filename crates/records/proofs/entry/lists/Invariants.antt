@@ -1,6 +1,6 @@
 -- The numbers that are left decide the whole search.
 -- Assumes nothing.
-use Rattle.std.proofs.Common.{◌≡◌, ◌+◌, ◌-◌, ◌*◌, ◌≤◌, eqb, length}
+use Rattle.std.proofs.Common.{◌≡◌, ◌+◌, ◌-◌, ◌*◌, eqb}
 use Rattle.octets.specs.Lists.{any}
 use Rattle.table.specs.Reading.{numbers_at}
 use Rattle.records.proofs.entry.lists.Given as goal
