@@ -71,13 +71,6 @@ module _ (c : ℕ) where
   unfolding code_octets
   octets_four h = simp (run, le-ltb c 256 (omega arith), le-ltb c 32768 (omega arith), le-ltb c 4194304 h)
 
-pub octets_some : (c : ℕ) → 0 < length (code_octets c)
-octets_some c =
-    test (ltb c 256) (λ e. rw (octets_one c (ltb-true c 256 e)) (omega arith)) λ e.
-    test (ltb c 32768) (λ f. rw (octets_two c (ltb-false c 256 e) (ltb-true c 32768 f)) (omega arith)) λ f.
-    test (ltb c 4194304) (λ g. rw (octets_three c (ltb-false c 32768 f) (ltb-true c 4194304 g)) (omega arith)) λ g.
-    rw (octets_four c (ltb-false c 4194304 g)) (omega arith)
-
 -- l stands for the leading octet of a long form
 module _ (l n : ℕ) (octet : l < 256) where
   low_octet : (l + 256 * n) % 256 ≡ l

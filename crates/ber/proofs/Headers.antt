@@ -1,11 +1,10 @@
--- Laws of octets that are put: the length octets by their forms, single octets one behind another, identifier and length octets together.
+-- Laws of octets that are put: the length octets by their forms, octets that have room, identifier and length octets together.
 -- Assumes nothing.
 use borrow.Author.Tests.{lt-ltb, le-ltb, leb-true, ne_eqb}
-use mathlib.Core.Bool.{Bool, true, false}
+use mathlib.Core.Bool.{Bool, true}
 use mathlib.Core.List.{List, [], ◌∷◌, ◌++◌}
 use mathlib.Core.Path.{◌≡◌, refl, sym, ◌∙◌}
 use native.Mathlib.Nat.{add-zero, add-suc, suc-add}
-use native.Mathlib.Numerals.{add-one}
 use native.Mathlib.Omega.{arith}
 use Prim.Native.Nat.{ℕ, zero, suc, ◌+◌, ◌/◌, ◌%◌, ◌≤◌, ◌<◌}
 use lib.Dec.{leb}
@@ -56,38 +55,9 @@ module _ (w : List ℕ) (to k n : ℕ) (t : Bool) (sized : n ≡ length w) (test
   pub room : t ≡ true → to + length w ≤ k
   room h = rw sized at (leb-true (to + n) k (sym tested ∙ h))
 
-  pub no_room : t ≡ false → leb (to + length w) k ≡ false
-  no_room h = rw (← sized, ← tested) h
-
-pub put_nothing : (buf : List ℕ) (to : ℕ) (w : List ℕ) → leb (to + length w) (length buf) ≡ false → (to ≡ put_end buf to w) × (buf ≡ put buf to w)
-put_nothing buf to w h = (rw h refl, rw h refl)
-
 module _ (buf : List ℕ) (to : ℕ) (w : List ℕ) (h : to + length w ≤ length buf) where
   pub puts : (v : List ℕ) (e : ℕ) (b : List ℕ) → w ≡ v → e ≡ to + length v → b ≡ sets buf to v → (e ≡ put_end buf to w) × (b ≡ put buf to w)
   puts v e b q x y = (x ∙ sym (put_end_lem buf to w h ∙ rw q refl), y ∙ sym (put_roomy buf to w h ∙ rw q refl))
-
-  module _ (x : ℕ) where
-    pub put_one : w ≡ x ∷ [] → (to + 1 ≡ put_end buf to w) × (set buf to x ≡ put buf to w)
-    put_one q = puts (x ∷ []) (to + 1) (set buf to x) q refl refl
-
-    module _ (y : ℕ) where
-      pub put_two : w ≡ x ∷ y ∷ [] → (to + 2 ≡ put_end buf to w) × (set (set buf to x) (to + 1) y ≡ put buf to w)
-      put_two q = puts (x ∷ y ∷ []) (to + 2) _ q refl (rw add-one refl)
-
-      module _ (z : ℕ) where
-        second : to + 2 ≡ suc (suc to)
-        second = omega arith
-
-        pub put_three : w ≡ x ∷ y ∷ z ∷ [] → (to + 3 ≡ put_end buf to w) × (set (set (set buf to x) (to + 1) y) (to + 2) z ≡ put buf to w)
-        put_three q = puts (x ∷ y ∷ z ∷ []) (to + 3) _ q refl (rw (add-one, second) refl)
-
-        module _ (u : ℕ) where
-          third : to + 3 ≡ suc (suc (suc to))
-          third = omega arith
-
-          pub put_four : w ≡ x ∷ y ∷ z ∷ u ∷ []
-              → (to + 4 ≡ put_end buf to w) × (set (set (set (set buf to x) (to + 1) y) (to + 2) z) (to + 3) u ≡ put buf to w)
-          put_four q = puts (x ∷ y ∷ z ∷ u ∷ []) (to + 4) _ q refl (rw (add-one, second, third) refl)
 
 -- octets behind octets
 pub sets_append : (vs d : List ℕ) (i : ℕ) (ws : List ℕ) → sets d i (vs ++ ws) ≡ sets (sets d i vs) (i + length vs) ws

@@ -2,20 +2,20 @@
 -- Assumes nothing.
 use borrow.Author.Tests.{eq-eqb, ne_eqb}
 use mathlib.Core.Bool.{Bool, true, false, not, ◌||◌}
-use mathlib.Core.List.{List, [], ◌++◌, append_assoc}
+use mathlib.Core.List.{List, []}
 use mathlib.Core.Path.{◌≡◌, refl, sym, ap, ◌∙◌}
-use native.Mathlib.Nat.{add-zero, add-sub_cancel_left}
+use native.Mathlib.Nat.{add-zero}
 use native.Mathlib.Omega.{arith}
 use Prim.Native.Nat.{ℕ, suc, ◌+◌, ◌-◌, ◌*◌, ◌≤◌, ◌<◌}
 use lib.Dec.{eqb, leb}
 use lib.ListN.{length, get_or, take, drop, length-append, length-drop, drop_of_length-le}
-use lib.Seq.{sets-eq, drop-drop, drop-append_seam, length-take-le}
+use lib.Seq.{drop-drop, drop-append_seam, length-take-le}
 use Rattle.std.specs.Prelude.{Option, Some, None, Result, Ok, Err}
 use Rattle.std.specs.Result.{MatchResult, IsErrAnd}
 use Rattle.x690.specs.declared.ReadingCause.{ReadingCause}
 use Rattle.x690.specs.declared.ReadingCause.TheVariants.{NotAwaited, Contents, MessageLevel, Forbidden}
 use Rattle.octets.specs.Answer.{Answer, got, refused, then, if, behind}
-use Rattle.octets.specs.Buffers.{put, put_end, filled}
+use Rattle.octets.specs.Buffers.{put, put_end}
 use Rattle.octets.specs.Lists.{same}
 use Rattle.octets.specs.Numbers.{Octets}
 use Rattle.octets.proofs.Answer.{got_holds, got_value, refused≢got, run}
@@ -35,7 +35,6 @@ use Rattle.ber.specs.declared.identifier.Identifier.{Identifier}
 use Rattle.ber.specs.declared.length.Extent.{Extent}
 use Rattle.x690.specs.declared.Unread.{Unread}
 use Rattle.segments.specs.declared.Gathered.{Gathered as Extents}
-use Rattle.ber.proofs.Headers.{puts}
 use Rattle.ber.proofs.Places.{left_at, part_to_end}
 use Rattle.ber.proofs.Codes.{code_awaited}
 use Rattle.ber.proofs.Ends.{end_more, end_over, end_broken}
@@ -396,16 +395,6 @@ carried_none k c one e h buf to =
     let z : carried k c ≡ [] = sym (carried_is k c one e) ∙ part_to_end c one ∙ drop_of_length-le c {i = one} (omega arith) in
     rw z (test (leb (to + 0) (length buf)) (λ t. rw t (sym (add-zero to), refl)) λ t. rw t (refl, refl))
 
-pub carried_put : (b d w p : List ℕ) (to : ℕ) → d ≡ w → to + length w ≤ length b → p ≡ filled (take (to + length d - to) (drop to b)) d
-    → (to + length d ≡ put_end b to w) × (take to b ++ (p ++ drop (to + length d - to) (drop to b)) ≡ put b to w)
-carried_put b d w p to e h q =
-    let n = length d in
-    let k : to + n ≤ length b = rw e h in
-    let l : length (take (to + n - to) (drop to b)) ≡ n = rw (add-sub_cancel_left to n, length-take-le n (drop to b) (omega (arith, length-drop to b))) refl in
-    let f : p ≡ d = q ∙ rw (l, eq-eqb n n refl) refl in
-    puts b to w h d (to + n) _ (sym e) refl
-    (rw (f, add-sub_cancel_left to n, drop-drop n to b) (sym (sets-eq d b to k ∙ append_assoc (take to b) d (drop (to + n) b))))
-
 -- The segments in contents, one after another. How answers are said:
 tell_refused : (k : Kind) (n : ℕ) (x : Answer ReadingCause Gathered) (c : ReadingCause) (l : ℕ) → x ≡ refused c l → Err (record { cause = c; left = l }) ≡ told_segments k n x
 unfolding told_segments
@@ -451,6 +440,11 @@ pub record Going (k : Kind) (d : ℕ) (i : Bool) (m : List ℕ) (at size unused 
   pub is : read_all k (read_segment k d) (mode i) m ≡ read_joined k (read_segment k d) (suc fuel) hand back (mode i) (drop at m)
   pub sized : size ≡ length hand
   pub left : unused ≡ unused_in k hand
+
+-- after a segment that was read there
+abbrev pub Turned : Kind → ℕ → Bool → List ℕ → ℕ → ℕ → ℕ → Extents → Type 0
+Turned k d i m one at size y = (1 ≤ y.end) × (at + y.end ≤ length m) × (one ≤ y.size) × (y.size ≤ y.end) × (y.back ≤ y.end)
+    × Going k d i m (at + y.end) (size - one + y.size) y.unused y.back
 
 pub going_first : (k : Kind) (d : ℕ) (i : Bool) (m : List ℕ) (one : ℕ) → one ≡ length (empty k) → Going k d i m 0 one 0 0
 going_first k d i m one e = record { hand = empty k; fuel = length m; enough = omega arith; is = refl; sized = e; left = sym (unused_none k) }
@@ -522,9 +516,7 @@ module _ {k : Kind} {d : ℕ} {i : Bool} {m : List ℕ} {at size unused back : �
             going_refused {y} w =
                 tell_refused k (length m) it y.cause y.left (is_whole ∙ rw (segments_refused k (length s) (read_segment k d s) y (sym w ∙ v)) refl)
 
-            pub going_turn : {one : ℕ} → one ≡ length (empty k) → {y : Extents} → x ≡ Ok y
-                → (1 ≤ y.end) × (at + y.end ≤ length m) × (one ≤ y.size) × (y.size ≤ y.end) × (y.back ≤ y.end)
-                × Going k d i m (at + y.end) (size - one + y.size) y.unused y.back
+            pub going_turn : {one : ℕ} → one ≡ length (empty k) → {y : Extents} → x ≡ Ok y → Turned k d i m one at size y
             going_turn o {y} w =
                 let C = segment_came k d s x v y w in
                 let l = length-drop at m in

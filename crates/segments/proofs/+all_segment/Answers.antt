@@ -1,9 +1,9 @@
 -- `segments::all` and `segment` meet their contracts, by the depths that are left: one law for each way through them.
 -- Assumes nothing.
-use Rattle.std.proofs.Common.{rules, ap, Ok, ◌≡◌, ◌-◌, length, ◌∙◌, arith}
+use Rattle.std.proofs.Common.{rules, ℕ, ap, Ok, ◌≡◌, ◌-◌, length, ◌∙◌, arith}
 use Rattle.segments.specs.Segments.{kind_of}
 use Rattle.ber.proofs.Places.{part_to_end}
-use Rattle.segments.proofs.SegmentCode.{mapped_ok, mapped_err, going_first, going_broken, going_over, going_untagged, going_unused, going_refused, going_turn, tag_read}
+use Rattle.segments.proofs.SegmentCode.{mapped_ok, mapped_err, going_first, going_broken, going_over, going_untagged, going_unused, going_refused, going_turn, Turned, tag_read}
 use Rattle.segments.proofs.SegmentCode.{begun, segment_deep, segment_unread, segment_part, segment_open, segment_whole, segment_refused, segment_read}
 use Rattle.segments.proofs.+all_segment.Goals as goal
 
@@ -58,25 +58,27 @@ all-overflow_add-at t c =
     (rw part_to_end at c.read_tag.ensures) (mapped_ok _ c.read_tag.result c.in_ok-i.was c.map_err-in-loop-over.ensures.cases) c.if-unused-gt0.false (rw part_to_end at c.segment.ensures) c.least-one.ensures c.in_ok-x.was in
     omega (arith, x.1, c.well_formed)
 
+-- a segment was read
+turned : (t : ℕ) (c : goal.all-After-struct_known-in-loop-over-2-1 t)
+    → let a = c.args in Turned (kind_of a.bits) a.depth a.indefinite a.m.now c.least-one.result c.loop-over.at c.loop-over.size c.in_ok-x.x
+turned t c =
+    going_turn c.loop-over.invariant.going c.read.ensures
+    (mapped_ok _ c.read.result c.in_ok-over.was c.map_err.ensures.cases ∙ ap Ok c.in_default.is)
+    (rw part_to_end at c.read_tag.ensures) (mapped_ok _ c.read_tag.result c.in_ok-i.was c.map_err-in-loop-over.ensures.cases) c.if-unused-gt0.false (rw part_to_end at c.segment.ensures) c.least-one.ensures c.in_ok-x.was
+
 pub all-overflow_add-size : goal.all-overflow_add-size
 all-overflow_add-size t c =
-    let x = going_turn c.loop-over.invariant.going c.read.ensures
-    (mapped_ok _ c.read.result c.in_ok-over.was c.map_err.ensures.cases ∙ ap Ok c.in_default.is)
-    (rw part_to_end at c.read_tag.ensures) (mapped_ok _ c.read_tag.result c.in_ok-i.was c.map_err-in-loop-over.ensures.cases) c.if-unused-gt0.false (rw part_to_end at c.segment.ensures) c.least-one.ensures c.in_ok-x.was in
+    let x = turned t c in
     omega (arith, x.1, x.3, c.well_formed)
 
 pub all-loop-over-smaller : goal.all-loop-over-smaller
 all-loop-over-smaller t c =
-    let x = going_turn c.loop-over.invariant.going c.read.ensures
-    (mapped_ok _ c.read.result c.in_ok-over.was c.map_err.ensures.cases ∙ ap Ok c.in_default.is)
-    (rw part_to_end at c.read_tag.ensures) (mapped_ok _ c.read_tag.result c.in_ok-i.was c.map_err-in-loop-over.ensures.cases) c.if-unused-gt0.false (rw part_to_end at c.segment.ensures) c.least-one.ensures c.in_ok-x.was in
+    let x = turned t c in
     omega (arith, x.0, x.1)
 
 pub all-loop-over-preserved : goal.all-loop-over-preserved
 all-loop-over-preserved t c =
-    let x = going_turn c.loop-over.invariant.going c.read.ensures
-    (mapped_ok _ c.read.result c.in_ok-over.was c.map_err.ensures.cases ∙ ap Ok c.in_default.is)
-    (rw part_to_end at c.read_tag.ensures) (mapped_ok _ c.read_tag.result c.in_ok-i.was c.map_err-in-loop-over.ensures.cases) c.if-unused-gt0.false (rw part_to_end at c.segment.ensures) c.least-one.ensures c.in_ok-x.was in
+    let x = turned t c in
     record { there = x.1; near = omega (arith, x.4); low = omega (arith, x.2); high = omega (arith, x.3); going = x.5 }
 
 pub segment-returns-then-depth-eq0 : goal.segment-returns-then-depth-eq0
