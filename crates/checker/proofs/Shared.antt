@@ -30,7 +30,7 @@ use Rattle.table.proofs.Walk.{Kept, kept, newly, keeps, complete}
 use Rattle.records.specs.Entries.{unpacked, span_of, Filled}
 use Rattle.records.specs.declared.entry.Entry.{Entry}
 use Rattle.records.specs.declared.entry.Span.{Span}
-use Rattle.checker.specs.Gathering.{Met, GatheredUnder, StandIns, Compares, optional_in}
+use Rattle.checker.specs.Gathering.{Met, GatheredUnder, Compares, optional_in}
 use Rattle.checker.proofs.Rules.{entry_at, span_near, span_named}
 use Rattle.checker.proofs.Runs.{asked, other_clash, sequence_step, sequence_clash}
 use Rattle.checker.proofs.Flags.{walked_low, met_low}

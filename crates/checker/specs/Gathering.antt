@@ -1,6 +1,6 @@
 -- What the functions that gather first tags need and find (FORMATS, "Tables"), for their contracts alone: no definition of the verdict rests on this file.
 -- Assumes nothing.
-use Rattle.std.specs.Prelude.{Bool, true, false, ◌≡◌, ℕ, ◌+◌, ◌-◌, ◌*◌, ◌/◌, ◌%◌, ◌≤◌, ◌<◌, eqb, length, get_or}
+use Rattle.std.specs.Prelude.{Bool, true, false, ◌≡◌, ℕ, ◌+◌, ◌-◌, ◌*◌, ◌/◌, ◌%◌, ◌≤◌, ◌<◌, eqb, get_or}
 use mathlib.Core.List.{List, [], ◌∷◌, Memᴰ as In}
 use Rattle.octets.specs.Tests.{if}
 use Rattle.octets.specs.Lists.{lowest}

@@ -1,5 +1,5 @@
 -- A simple record has no parts, a SEQUENCE is judged by its runs, any other record as one.
-use Rattle.std.proofs.Common.{◌∙◌, sym, arith}
+use Rattle.std.proofs.Common.{◌∙◌, sym}
 use borrow.Author.Tests.{not-true}
 use Rattle.table.proofs.Decided.{sharing_is}
 use Rattle.checker.proofs.Rules.{filled_beyond, entry_at}

@@ -2,7 +2,6 @@
 use Rattle.std.proofs.Common.{rules, tests, ◌∙◌, ◌+◌, ◌*◌, eqb, get_or, refl, arith}
 use Rattle.std.proofs.lemmas.Iterator.{YieldsList-from_range}
 use Rattle.std.proofs.lemmas.Iterator.Search.{any_from_yields_List}
-use Rattle.records.specs.Entries.{tag_place}
 use Rattle.checker.proofs.Searches.{any_places}
 use Rattle.checker.proofs.tags.explicit_universal.Goals as goal
 
