@@ -3,14 +3,14 @@
 use borrow.Author.Tests.{eqb-true, eqb-false, lt-ltb, ltb-true, ltb-false}
 use lib.Dec.{eqb, ltb}
 use lib.ListN.{length, get_or, take, drop, length-drop}
-use lib.Seq.{drop-drop}
+use lib.Seq.{drop-drop, get_or-drop}
 use mathlib.Core.Bool.{Bool, true, ◌||◌, true≢false}
 use mathlib.Core.List.{List, [], ◌∷◌}
 use mathlib.Core.Option.{some}
 use mathlib.Core.Path.{◌≡◌, refl, sym, ap, ◌∙◌}
 use native.Mathlib.Omega.{arith}
 use Prim.Native.Nat.{ℕ, zero, suc, ◌+◌, ◌-◌, ◌*◌, ◌%◌, ◌≤◌, ◌<◌}
-use Rattle.std.specs.Prelude.{Result, Ok}
+use Rattle.std.specs.Prelude.{Option, Some, Ok}
 use Rattle.x690.specs.declared.ReadingCause.{ReadingCause}
 use Rattle.x690.specs.declared.ReadingCause.TheVariants.{MessageLevel}
 use Rattle.octets.specs.Answer.{got, refused, then, if}
@@ -19,7 +19,7 @@ use Rattle.octets.proofs.Tests.{test}
 use Rattle.ber.specs.Codes.{code_of}
 use Rattle.x690.specs.Reading.{read_identifier}
 use Rattle.ber.proofs.Codes.{code_short, code_long, read_code_small}
-use Rattle.ber.proofs.Places.{some_at, part_to_end}
+use Rattle.ber.proofs.Places.{some_at}
 use Rattle.table.specs.Syntax.{Tag, Member, Body, Record, Table, constructed}
 use Rattle.table.specs.Reading.{table_in, count_in}
 use Rattle.table.specs.Passes.{Nested}
@@ -174,11 +174,6 @@ item_sought {m = m} {at = at} x low q =
 abbrev pub rest_of : List ℕ → ℕ → List ℕ
 rest_of m at = take (length m - at) (drop at m)
 
-pub item_found : {b : List ℕ} {h : Holder} {m : List ℕ} {at i : ℕ} {came way : List ℕ} (r : Result Chosen ReadingCause) (x : Chosen) → at ≤ length m
-    → Sought b h i came (rest_of m at) way r → r ≡ Ok x
-    → AtItem b h m at i came way x.place x.record x.depth (at + x.from)
-item_found {m = m} {at = at} r x low q ex = item_sought x low (rw (part_to_end m at, ex) at q)
-
 -- the part at hand, which begins with the first octet
 module _ {b index : List ℕ} {w : ℕ} {came : List ℕ} {e : Entry} {s : Span} (D : Parted b index w came e s)
     (m : List ℕ) (o : Octets m) (here_is : 0 < length m) (j : ℕ) (l : j < s.count) (z : get_or came j 0 ≡ 0)
@@ -213,7 +208,7 @@ module _ {b index : List ℕ} {w : ℕ} {came : List ℕ} {e : Entry} {s : Span}
   abbrev PartJ : PartAt b Held (unpacked w).kind s j
   PartJ = (spanned D).at j l
 
-  pub sought_fits : (way : List ℕ) → Sought b Held (since (manner Held) j) came m way (Ok (record { place = j; «record» = t; depth = 0; from = 1 }))
+  sought_fits : (way : List ℕ) → Sought b Held (since (manner Held) j) came m way (Ok (record { place = j; «record» = t; depth = 0; from = 1 }))
   sought_fits way =
       let y : t ≡ PartJ.part.type = et ∙ PartJ.type in
       let i = get_or m 0 0 ∷ [] in (
@@ -225,6 +220,16 @@ module _ {b index : List ℕ} {w : ℕ} {came : List ℕ} {e : Entry} {s : Span}
         omega arith,
         (rw (← y) (search_itself Records m (code_of i) its_tells t its_first), rw (← y) here, its_first, its_number),
       )
+
+-- as it is answered, of an item at a place of m
+pub turn_fits : {b index : List ℕ} {w : ℕ} {came : List ℕ} {e : Entry} {s : Span} (D : Parted b index w came e s) (m : List ℕ) → Octets m → (at : ℕ) → at < length m
+    → (j : ℕ) → j < s.count → get_or came j 0 ≡ 0 → (t f : ℕ) → t ≡ get_or b (s.first + s.step * j) 0 → f ≡ (unpacked (get_or index t 0)).code
+    → f ≡ get_or m at 0 → (x : Chosen) → ◌≡◌ {A = Option Chosen} (Some (record { place = j; «record» = t; depth = 0; from = 1 })) (Some x) → (way : List ℕ)
+    → Sought b (held b w) (since (manner (held b w)) j) came (drop at m) way (Ok x)
+turn_fits D m o at l j k z t f et ef q x ex way =
+    let y : record { place = j; «record» = t; depth = 0; from = 1 } ≡ x = cc in
+    let g : get_or (drop at m) 0 0 ≡ get_or m at 0 = get_or-drop at m 0 0 ∙ ap (λ (i : ℕ). get_or m i 0) (omega arith) in
+    rw (← y) (sought_fits D (drop at m) (octets_drop m o at) (omega (arith, length-drop at m)) j k z t f et ef (q ∙ sym g) way)
 
 -- what is read of it
 module _ {b index : List ℕ} (R : Ready b index) {h : Holder} {m : List ℕ} (o : Octets m) {at i : ℕ} {came way : List ℕ} {place number depth from : ℕ}

@@ -51,7 +51,7 @@ use Rattle.reader.proofs.ItemsGoing.{going_full, going_unawaited, going_refused,
 use Rattle.reader.proofs.ItemsKinds.{blank_clear}
 use Rattle.reader.proofs.ItemsSizes.{is_plain}
 use Rattle.reader.proofs.ItemsWay.{wrapped_size}
-use Rattle.reader.proofs.ItemsFound.{AtItem, item_found, rest_of, item_level, item_value, item_headed}
+use Rattle.reader.proofs.ItemsFound.{AtItem, item_sought, rest_of, item_level, item_value, item_headed}
 use Rattle.reader.proofs.Held.{held_some, held_kind, held_one, held_span, held_few, held_node, held_onward, onward_most}
 use Rattle.reader.proofs.PlacedTurns.{since_onward}
 use Rattle.reader.proofs.Spans.{Spanned}
@@ -375,6 +375,15 @@ module _ {Q : Setting} (P : Turn Q) where
     its_more : is_single (manner (H Q)) ≡ false → More (mode P.indefinite) Rest
     its_more n = λ A f z. (end_more {A = A} f z P.m P.at P.indefinite E refl (goes_on n)).0
 
+    -- what is asked of the part next in turn
+    pub turn_asks : Sound Q.b Q.index Q.w P.came × (Q.s ≡ span_of Q.b (unpacked Q.w).kind (unpacked Q.w).own) × (P.at < length P.m)
+    turn_asks = (judging_sound Q P.so_far, Q.span ∙ ap (λ (x : Entry). span_of Q.b x.kind x.own) Q.entry, there)
+      where
+        there : P.at < length P.m
+        there =
+            test (is_single (manner (H Q))) (λ q. P.so_far.one q)
+            λ q. (end_more {A = ℕ} (λ z. got 0 z) (λ z. refused Cut 0) P.m P.at P.indefinite E refl (goes_on q)).1
+
     -- of no part that is awaited
     pub judged_unfit : (way : List ℕ) (c : ReadingCause) (r : Result Chosen ReadingCause) → Sought Q.b (H Q) I P.came (rest_of P.m P.at) way r → r ≡ Err c
         → unread c (length P.m - P.at) ≡ told P.m size W
@@ -405,10 +414,10 @@ pub record Comes {Q : Setting} (P : Turn Q) : Type 0 where
   pub is : AtItem Q.b (H Q) P.m P.at (I P) P.came way place type depth from
   pub ways : length way ≡ 128
 
--- as the search found it
-abbrev pub comes_of : {Q : Setting} (P : Turn Q) → P.y ≡ Ok None → {r : Result Chosen ReadingCause} {x : Chosen} (way : List ℕ)
-    → (length way ≡ 128) × Sought Q.b (H Q) (I P) P.came (rest_of P.m P.at) way r → r ≡ Ok x → Comes P
-comes_of P d {r} {x} way s e =
+-- as it was found
+abbrev pub comes_of : {Q : Setting} (P : Turn Q) → P.y ≡ Ok None → (x : Chosen) (way : List ℕ)
+    → (length way ≡ 128) × Sought Q.b (H Q) (I P) P.came (Rest P) way (Ok x) → Comes P
+comes_of P d x way s =
     record {
       item = d;
       way = way;
@@ -416,7 +425,7 @@ comes_of P d {r} {x} way s e =
       type = x.«record»;
       depth = x.depth;
       from = P.at + x.from;
-      is = item_found r x P.low s.1 e;
+      is = item_sought x P.low s.1;
       ways = s.0;
     }
 

@@ -364,11 +364,9 @@ module _ {b index : List ℕ} {w : ℕ} {m : List ℕ} {indefinite : Bool} {firs
     pub coming_low : at < length m
     coming_low = omega (arith, got_holds (value_shorter (table_in b) 24 C.part.1.type (drop at m)) C.read, length-drop at m)
 
-    pub part_near : j < s.count → s.first + s.step * j < 8192
-    part_near l = (its_spanned X.given).near j l
-
-    pub part_inside : j < s.count → s.first + s.step * j < length b
-    part_inside l = (its_spanned X.given).inside j l
+    -- what is asked of the part next in turn
+    pub coming_asks : Sound b index w blank × (s ≡ span_of b (unpacked w).kind (unpacked w).own) × (at < length m)
+    coming_asks = (sound, X.given.span ∙ ap (λ (x : Entry). span_of b x.kind x.own) X.given.entry, coming_low)
 
     -- an item of a part: with the nodes of the way to its record, and those between told of
     module _ {way : List ℕ} {place u depth from : ℕ}

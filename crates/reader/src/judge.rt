@@ -20,7 +20,7 @@ use crate::answer::{Judged, grow};
 use crate::came::lacks;
 use crate::contents::{contents_size, judge_segments};
 use crate::node::node_size;
-use crate::search::search;
+use crate::search::{in_turn, search};
 use crate::tags::{Inner, close, open};
 use ber::length::Extent;
 use ber::{ending, length};
@@ -192,10 +192,12 @@ fn judge_members(
             Ok(Some(end)) => return Ok(Judged { end, size: total }),
             Err(cause) => return Err(Unread { cause, left }),
         }
-        let rest = &m[at..];
-        let x = match search(table, index, w, rest, j, &came, way) {
-            Ok(x) => x,
-            Err(cause) => return Err(Unread { cause, left }),
+        let x = match in_turn(table, index, w, s, m, at, j, &came) {
+            Some(x) => x,
+            None => match search(table, index, w, &m[at..], j, &came, way) {
+                Ok(x) => x,
+                Err(cause) => return Err(Unread { cause, left }),
+            },
         };
         if level <= x.depth {
             return Err(Unread {

@@ -13,7 +13,7 @@ ghost use Rattle.reader.specs.Placed.{ToPlace, ToPlaceValue, Fits, IsPlaced, hel
 
 use crate::contents::{in_segments, place_contents, place_segments};
 use crate::node::{Placed, begin, finish, put_absent, put_place, put_way};
-use crate::search::search;
+use crate::search::{in_turn, search};
 use crate::set::{behind, following, locate};
 use crate::tags::{Inner, close, open};
 use ber::{ending, length};
@@ -133,9 +133,12 @@ fn place_members(
                 };
             }
         }
-        let rest = &m[at..];
-        let Ok(x) = search(table, index, w, rest, j, &none, way) else {
-            return Placed { end: at, next };
+        let x = match in_turn(table, index, w, s, m, at, j, &none) {
+            Some(x) => x,
+            None => match search(table, index, w, &m[at..], j, &none, way) {
+                Ok(x) => x,
+                Err(_) => return Placed { end: at, next },
+            },
         };
         next = put_way(way, x.depth, buf, next);
         if has_members(e.kind) {

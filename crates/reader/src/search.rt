@@ -1,8 +1,8 @@
 // The search for the part of a record that an item begins: a member, an element or an alternative, or a record under one through
 // CHOICEs without tags (X.690, 8.13).
-ghost use Rattle.std.specs.Prelude.{◌≡◌, List, ℕ, ◌≤◌, ◌<◌, length};
+ghost use Rattle.std.specs.Prelude.{◌≡◌, List, ℕ, ◌≤◌, ◌<◌, length, drop, Some, Ok};
 ghost use Rattle.table.specs.Reading.{table_in, count_in};
-ghost use Rattle.records.specs.Entries.{unpacked};
+ghost use Rattle.records.specs.Entries.{unpacked, span_of};
 ghost use Rattle.reader.specs.Codes.{untagged, first_of};
 ghost use Rattle.reader.specs.Records.{Ready, Begins, Finds};
 ghost use Rattle.octets.specs.Numbers.{if_below};
@@ -13,7 +13,7 @@ use crate::came::lacks;
 use ber::identifier;
 use kinds::{MESSAGE, SEQUENCE, has_members, is_string};
 use octets::octet;
-use records::entry::{UNTAGGED, alternatives, first, optional, part, parts, unpack};
+use records::entry::{Span, UNTAGGED, alternatives, first, optional, part, parts, unpack};
 use x690::ReadingCause;
 
 // Whether an item with the code begins the record of w itself. A string that stands under no explicit tag may be constructed too: then it is
@@ -213,8 +213,9 @@ fn indirect(
     Err(unawaited(table, w, i, came, ReadingCause::NotAwaited))
 }
 
-// The part of w that the item at the beginning of m begins, by all its identifier octets.
-fn seek_part(
+// The part of w that the item at the beginning of m begins. Of a SEQUENCE the parts from the j-th on are awaited, up to the first that is
+// not optional; of others all that have not come.
+pub fn search(
     table: &[u8],
     index: &[u64; 128],
     w: u64,
@@ -246,26 +247,28 @@ fn seek_part(
     })
 }
 
-// The part of w that the item at the beginning of m begins. Of a SEQUENCE the parts from the j-th on are awaited, up to the first that is
-// not optional; of others all that have not come. The j-th is tried first, by one octet.
-pub fn search(
+// The j-th part of w, whose parts stand in s, if it is awaited and the first octet of the item at a place of m is all of its identifier.
+#[inline(always)]
+pub fn in_turn(
     table: &[u8],
     index: &[u64; 128],
     w: u64,
+    s: Span,
     m: &[u8],
+    at: usize,
     j: usize,
     came: &[u16; 16],
-    way: &mut [u16; 128],
-) -> Result<Choice, ReadingCause>
-    requires { Sound table.now index.now w came.now × (length way.old ≡ 128) }
-    ensures { (length way.new ≡ 128)
-        × (let h = held table.now w in Sought table.now h (since (manner h) j) came.now m.now way.new result) }
+) -> Option<Choice>
+    requires { Sound table.now index.now w came.now
+        × (let e = unpacked w in s ≡ span_of table.now e.kind e.own)
+        × (at < length m.now) }
+    ensures { (x : Choice) → result ≡ Some x → (way : List ℕ)
+        → (let h = held table.now w in Sought table.now h (since (manner h) j) came.now (drop at m.now) way (Ok x)) }
 {
-    let s = parts(table, unpack(w));
-    if j < s.count && came[j] == 0 && 0 < m.len() {
+    if j < s.count && came[j] == 0 {
         let record = part(table, s, j);
-        if first(index[record]) == m[0] as u32 {
-            return Ok(Choice {
+        if first(index[record]) == m[at] as u32 {
+            return Some(Choice {
                 place: j,
                 record,
                 depth: 0,
@@ -273,5 +276,5 @@ pub fn search(
             });
         }
     }
-    seek_part(table, index, w, m, j, came, way)
+    None
 }

@@ -1,6 +1,7 @@
 -- `reader::judge::judge_members` and `judge_value` meet their contracts, by the levels that are left: one law for each way through them.
 -- Assumes nothing.
 use Rattle.std.proofs.Common.{◌≡◌, ◌+◌, ◌∙◌, refl, length, take, inl, inr, Err, rules, arith}
+use Rattle.ber.proofs.Places.{part_to_end}
 use Rattle.table.specs.Reading.{table_in}
 use Rattle.records.specs.Entries.{unpacked}
 use Rattle.reader.proofs.Bodies.{record_of}
@@ -8,10 +9,11 @@ use Rattle.reader.proofs.Tagging.{its_entry}
 use Rattle.reader.proofs.ValueParts.{Under, under_tags, under_bare, contents_within, contents_short, items_known, items_some}
 use Rattle.reader.proofs.JudgedValue.{Over, Ended, item_of, filling_of, over_leaf, over_items, items_low, item_closes, leaf_kind_lem}
 use Rattle.reader.proofs.JudgedValue.{value_unopened, extent_refused, value_wrong, value_unheld, value_closed, value_over}
-use Rattle.reader.proofs.JudgedMembers.{setting_of, turn_of, comes_of, count_few, judging_first, judging_sound, judged_over, judged_stopped, judged_unfit}
+use Rattle.reader.proofs.JudgedMembers.{setting_of, turn_of, turn_asks, comes_of, count_few, judging_first, judging_sound, judged_over, judged_stopped, judged_unfit}
 use Rattle.reader.proofs.JudgedMembers.{place_few, behind_few, judged_level, is_record, is_headed}
 use Rattle.reader.proofs.JudgedMembers.{Valued, judged_refused, sizes_few, value_further, value_low, judged_one, judged_turn}
 use Rattle.reader.proofs.judge.+judge_members_judge_value.Goals as goal
+use Rattle.reader.proofs.judge.+judge_members_judge_value.Goals.{judge_members-in-Some, judge_members-in-None+in-Ok}
 use Rattle.reader.proofs.judge.+judge_members_judge_value.Goals.{judge_members-then-e-eq-SET, judge_members-else-e-eq-SET}
 use Rattle.reader.proofs.judge.+judge_members_judge_value.Goals.{judge_value-then-e-gt0+in_ok-x, judge_value-else-e-gt0, judge_value-then-e+in_ok-inside, judge_value-else-e+in-Ok-judge_members}
 
@@ -39,6 +41,12 @@ judge_members-returns-in-Err t c =
     let P = turn_of c.requires c.unpack-e.ensures c.parts-s.ensures (λ i. omega (arith, c.type_inv.m i)) l.low l.so_far c.next.ensures in
     (l.wide, judged_stopped P _ c.in-Err.is)
 
+pub judge_members-in_turn-requires : goal.judge_members-in_turn-requires
+judge_members-in_turn-requires t c =
+    let l = c.loop-end.invariant in
+    let P = turn_of c.requires c.unpack-e.ensures c.parts-s.ensures (λ i. omega (arith, c.type_inv.m i)) l.low l.so_far c.next.ensures in
+    turn_asks P (rw c.in-Ok-None.field-0-is at c.in-Ok-None.is)
+
 pub judge_members-returns-in-Err-search : goal.judge_members-returns-in-Err-search
 judge_members-returns-in-Err-search t c =
     let l = c.loop-end.invariant in
@@ -49,35 +57,80 @@ pub judge_members-returns-then-level-x : goal.judge_members-returns-then-level-x
 judge_members-returns-then-level-x t c =
     let l = c.loop-end.invariant in
     let P = turn_of c.requires c.unpack-e.ensures c.parts-s.ensures (λ i. omega (arith, c.type_inv.m i)) l.low l.so_far c.next.ensures in
-    let X = comes_of P (rw c.in-Ok-None.field-0-is at c.in-Ok-None.is) _ c.search.ensures c.in-Ok.is in
-    (c.search.ensures.0, judged_level X c.if-level-x.true)
+    let X = comes_of P (rw c.in-Ok-None.field-0-is at c.in-Ok-None.is) c.match-in_turn.x c.match-in_turn.way' (elim c.match-in_turn.branch [
+      | judge_members-in-Some w ↦ rw (w.way'-is, w.x-is) (l.wide, c.in_turn.ensures _ w.in-Some.is _)
+      | judge_members-in-None+in-Ok w ↦ rw (w.way'-is, w.x-is) (w.search.ensures.0, rw (part_to_end c.args.m.now c.loop-end.at, w.in-Ok.is) at w.search.ensures.1)
+    ]) in
+    (X.ways, judged_level X c.if-level-x.true)
 
 pub judge_members-offset_bounds-came-x : goal.judge_members-offset_bounds-came-x
 judge_members-offset_bounds-came-x t c =
     let l = c.loop-end.invariant in
     let P = turn_of c.requires c.unpack-e.ensures c.parts-s.ensures (λ i. omega (arith, c.type_inv.m i)) l.low l.so_far c.next.ensures in
-    let X = comes_of P (rw c.in-Ok-None.field-0-is at c.in-Ok-None.is) _ c.search.ensures c.in-Ok.is in
+    let X = comes_of P (rw c.in-Ok-None.field-0-is at c.in-Ok-None.is) c.match-in_turn.x c.match-in_turn.way' (elim c.match-in_turn.branch [
+      | judge_members-in-Some w ↦ rw (w.way'-is, w.x-is) (l.wide, c.in_turn.ensures _ w.in-Some.is _)
+      | judge_members-in-None+in-Ok w ↦ rw (w.way'-is, w.x-is) (w.search.ensures.0, rw (part_to_end c.args.m.now c.loop-end.at, w.in-Ok.is) at w.search.ensures.1)
+    ]) in
     omega (arith, place_few X)
 
 pub judge_members-bounds-came-x : goal.judge_members-bounds-came-x
 judge_members-bounds-came-x t c =
     let l = c.loop-end.invariant in
     let P = turn_of c.requires c.unpack-e.ensures c.parts-s.ensures (λ i. omega (arith, c.type_inv.m i)) l.low l.so_far c.next.ensures in
-    let X = comes_of P (rw c.in-Ok-None.field-0-is at c.in-Ok-None.is) _ c.search.ensures c.in-Ok.is in
+    let X = comes_of P (rw c.in-Ok-None.field-0-is at c.in-Ok-None.is) c.match-in_turn.x c.match-in_turn.way' (elim c.match-in_turn.branch [
+      | judge_members-in-Some w ↦ rw (w.way'-is, w.x-is) (l.wide, c.in_turn.ensures _ w.in-Some.is _)
+      | judge_members-in-None+in-Ok w ↦ rw (w.way'-is, w.x-is) (w.search.ensures.0, rw (part_to_end c.args.m.now c.loop-end.at, w.in-Ok.is) at w.search.ensures.1)
+    ]) in
     place_few X
 
 pub judge_members-overflow_add-j : goal.judge_members-overflow_add-j
 judge_members-overflow_add-j t c =
     let l = c.loop-end.invariant in
     let P = turn_of c.requires c.unpack-e.ensures c.parts-s.ensures (λ i. omega (arith, c.type_inv.m i)) l.low l.so_far c.next.ensures in
-    let X = comes_of P (rw c.in-Ok-None.field-0-is at c.in-Ok-None.is) _ c.search.ensures c.in-Ok.is in
+    let X = comes_of P (rw c.in-Ok-None.field-0-is at c.in-Ok-None.is) c.match-in_turn.x c.match-in_turn.way' (elim c.match-in_turn.branch [
+      | judge_members-in-Some w ↦ rw (w.way'-is, w.x-is) (l.wide, c.in_turn.ensures _ w.in-Some.is _)
+      | judge_members-in-None+in-Ok w ↦ rw (w.way'-is, w.x-is) (w.search.ensures.0, rw (part_to_end c.args.m.now c.loop-end.at, w.in-Ok.is) at w.search.ensures.1)
+    ]) in
     omega (arith, behind_few X)
+
+pub judge_members-offset_bounds-index-x : goal.judge_members-offset_bounds-index-x
+judge_members-offset_bounds-index-x t c =
+    let l = c.loop-end.invariant in
+    let P = turn_of c.requires c.unpack-e.ensures c.parts-s.ensures (λ i. omega (arith, c.type_inv.m i)) l.low l.so_far c.next.ensures in
+    let X = comes_of P (rw c.in-Ok-None.field-0-is at c.in-Ok-None.is) c.match-in_turn.x c.match-in_turn.way' (elim c.match-in_turn.branch [
+      | judge_members-in-Some w ↦ rw (w.way'-is, w.x-is) (l.wide, c.in_turn.ensures _ w.in-Some.is _)
+      | judge_members-in-None+in-Ok w ↦ rw (w.way'-is, w.x-is) (w.search.ensures.0, rw (part_to_end c.args.m.now c.loop-end.at, w.in-Ok.is) at w.search.ensures.1)
+    ]) in
+    omega (arith, X.is.there, c.requires.ready.passes.few)
+
+pub judge_members-bounds-index-x : goal.judge_members-bounds-index-x
+judge_members-bounds-index-x t c =
+    let l = c.loop-end.invariant in
+    let P = turn_of c.requires c.unpack-e.ensures c.parts-s.ensures (λ i. omega (arith, c.type_inv.m i)) l.low l.so_far c.next.ensures in
+    let X = comes_of P (rw c.in-Ok-None.field-0-is at c.in-Ok-None.is) c.match-in_turn.x c.match-in_turn.way' (elim c.match-in_turn.branch [
+      | judge_members-in-Some w ↦ rw (w.way'-is, w.x-is) (l.wide, c.in_turn.ensures _ w.in-Some.is _)
+      | judge_members-in-None+in-Ok w ↦ rw (w.way'-is, w.x-is) (w.search.ensures.0, rw (part_to_end c.args.m.now c.loop-end.at, w.in-Ok.is) at w.search.ensures.1)
+    ]) in
+    omega (arith, X.is.there, c.requires.ready.passes.few)
+
+pub judge_members-overflow_add-at : goal.judge_members-overflow_add-at
+judge_members-overflow_add-at t c =
+    let l = c.loop-end.invariant in
+    let P = turn_of c.requires c.unpack-e.ensures c.parts-s.ensures (λ i. omega (arith, c.type_inv.m i)) l.low l.so_far c.next.ensures in
+    let X = comes_of P (rw c.in-Ok-None.field-0-is at c.in-Ok-None.is) c.match-in_turn.x c.match-in_turn.way' (elim c.match-in_turn.branch [
+      | judge_members-in-Some w ↦ rw (w.way'-is, w.x-is) (l.wide, c.in_turn.ensures _ w.in-Some.is _)
+      | judge_members-in-None+in-Ok w ↦ rw (w.way'-is, w.x-is) (w.search.ensures.0, rw (part_to_end c.args.m.now c.loop-end.at, w.in-Ok.is) at w.search.ensures.1)
+    ]) in
+    omega (arith, X.is.low, c.requires.short)
 
 pub judge_members-judge_value-requires : goal.judge_members-judge_value-requires
 judge_members-judge_value-requires t c =
     let l = c.loop-end.invariant in
     let P = turn_of c.requires c.unpack-e.ensures c.parts-s.ensures (λ i. omega (arith, c.type_inv.m i)) l.low l.so_far c.next.ensures in
-    let X = comes_of P (rw c.in-Ok-None.field-0-is at c.in-Ok-None.is) _ c.search.ensures c.in-Ok.is in
+    let X = comes_of P (rw c.in-Ok-None.field-0-is at c.in-Ok-None.is) c.match-in_turn.x c.match-in_turn.way' (elim c.match-in_turn.branch [
+      | judge_members-in-Some w ↦ rw (w.way'-is, w.x-is) (l.wide, c.in_turn.ensures _ w.in-Some.is _)
+      | judge_members-in-None+in-Ok w ↦ rw (w.way'-is, w.x-is) (w.search.ensures.0, rw (part_to_end c.args.m.now c.loop-end.at, w.in-Ok.is) at w.search.ensures.1)
+    ]) in
     let q = c.requires in (
       omega arith,
       record {
@@ -86,7 +139,7 @@ judge_members-judge_value-requires t c =
         headed = is_headed X;
         short = q.short;
         levels = omega (arith, q.levels);
-        ways = c.search.ensures.0;
+        ways = X.ways;
       },
     )
 
@@ -94,7 +147,10 @@ pub judge_members-returns-in_err-y : goal.judge_members-returns-in_err-y
 judge_members-returns-in_err-y t c =
     let l = c.loop-end.invariant in
     let P = turn_of c.requires c.unpack-e.ensures c.parts-s.ensures (λ i. omega (arith, c.type_inv.m i)) l.low l.so_far c.next.ensures in
-    let X = comes_of P (rw c.in-Ok-None.field-0-is at c.in-Ok-None.is) _ c.search.ensures c.in-Ok.is in
+    let X = comes_of P (rw c.in-Ok-None.field-0-is at c.in-Ok-None.is) c.match-in_turn.x c.match-in_turn.way' (elim c.match-in_turn.branch [
+      | judge_members-in-Some w ↦ rw (w.way'-is, w.x-is) (l.wide, c.in_turn.ensures _ w.in-Some.is _)
+      | judge_members-in-None+in-Ok w ↦ rw (w.way'-is, w.x-is) (w.search.ensures.0, rw (part_to_end c.args.m.now c.loop-end.at, w.in-Ok.is) at w.search.ensures.1)
+    ]) in
     let V : Valued X = record { deep = c.if-level-x.false; r = c.judge_value.result; said = c.judge_value.ensures.1 } in
     let e : c.from_residual.result ≡ Err c.in_err-y.field-0.0 = search rules in
     (c.judge_value.ensures.0, e ∙ judged_refused V c.in_err-y.field-0.0.cause c.in_err-y.field-0.0.left c.in_err-y.was)
@@ -103,7 +159,10 @@ pub judge_members-overflow_add-y : goal.judge_members-overflow_add-y
 judge_members-overflow_add-y t c =
     let l = c.loop-end.invariant in
     let P = turn_of c.requires c.unpack-e.ensures c.parts-s.ensures (λ i. omega (arith, c.type_inv.m i)) l.low l.so_far c.next.ensures in
-    let X = comes_of P (rw c.in-Ok-None.field-0-is at c.in-Ok-None.is) _ c.search.ensures c.in-Ok.is in
+    let X = comes_of P (rw c.in-Ok-None.field-0-is at c.in-Ok-None.is) c.match-in_turn.x c.match-in_turn.way' (elim c.match-in_turn.branch [
+      | judge_members-in-Some w ↦ rw (w.way'-is, w.x-is) (l.wide, c.in_turn.ensures _ w.in-Some.is _)
+      | judge_members-in-None+in-Ok w ↦ rw (w.way'-is, w.x-is) (w.search.ensures.0, rw (part_to_end c.args.m.now c.loop-end.at, w.in-Ok.is) at w.search.ensures.1)
+    ]) in
     let V : Valued X = record { deep = c.if-level-x.false; r = c.judge_value.result; said = c.judge_value.ensures.1 } in
     omega (arith, (sizes_few V c.in_ok-y.y.end c.in_ok-y.y.size c.in_ok-y.was).1)
 
@@ -111,7 +170,10 @@ pub judge_members-grow-total-requires : goal.judge_members-grow-total-requires
 judge_members-grow-total-requires t c =
     let l = c.loop-end.invariant in
     let P = turn_of c.requires c.unpack-e.ensures c.parts-s.ensures (λ i. omega (arith, c.type_inv.m i)) l.low l.so_far c.next.ensures in
-    let X = comes_of P (rw c.in-Ok-None.field-0-is at c.in-Ok-None.is) _ c.search.ensures c.in-Ok.is in
+    let X = comes_of P (rw c.in-Ok-None.field-0-is at c.in-Ok-None.is) c.match-in_turn.x c.match-in_turn.way' (elim c.match-in_turn.branch [
+      | judge_members-in-Some w ↦ rw (w.way'-is, w.x-is) (l.wide, c.in_turn.ensures _ w.in-Some.is _)
+      | judge_members-in-None+in-Ok w ↦ rw (w.way'-is, w.x-is) (w.search.ensures.0, rw (part_to_end c.args.m.now c.loop-end.at, w.in-Ok.is) at w.search.ensures.1)
+    ]) in
     let V : Valued X = record { deep = c.if-level-x.false; r = c.judge_value.result; said = c.judge_value.ensures.1 } in
     sizes_few V c.in_ok-y.y.end c.in_ok-y.y.size c.in_ok-y.was
 
@@ -119,7 +181,10 @@ pub judge_members-returns-then-holds_one : goal.judge_members-returns-then-holds
 judge_members-returns-then-holds_one t c =
     let l = c.loop-end.invariant in
     let P = turn_of c.requires c.unpack-e.ensures c.parts-s.ensures (λ i. omega (arith, c.type_inv.m i)) l.low l.so_far c.next.ensures in
-    let X = comes_of P (rw c.in-Ok-None.field-0-is at c.in-Ok-None.is) _ c.search.ensures c.in-Ok.is in
+    let X = comes_of P (rw c.in-Ok-None.field-0-is at c.in-Ok-None.is) c.match-in_turn.x c.match-in_turn.way' (elim c.match-in_turn.branch [
+      | judge_members-in-Some w ↦ rw (w.way'-is, w.x-is) (l.wide, c.in_turn.ensures _ w.in-Some.is _)
+      | judge_members-in-None+in-Ok w ↦ rw (w.way'-is, w.x-is) (w.search.ensures.0, rw (part_to_end c.args.m.now c.loop-end.at, w.in-Ok.is) at w.search.ensures.1)
+    ]) in
     let V : Valued X = record { deep = c.if-level-x.false; r = c.judge_value.result; said = c.judge_value.ensures.1 } in (
       c.judge_value.ensures.0,
       judged_one V c.in_ok-y.y.end c.in_ok-y.y.size c.in_ok-y.was _ c.grow-total.ensures _ c.holds_one.ensures c.if-holds_one.true,
@@ -129,7 +194,10 @@ pub judge_members-loop-end-smaller : goal.judge_members-loop-end-smaller
 judge_members-loop-end-smaller t c =
     let l = c.loop-end.invariant in
     let P = turn_of c.requires c.unpack-e.ensures c.parts-s.ensures (λ i. omega (arith, c.type_inv.m i)) l.low l.so_far c.next.ensures in
-    let X = comes_of P (rw c.in-Ok-None.field-0-is at c.in-Ok-None.is) _ c.search.ensures c.in-Ok.is in
+    let X = comes_of P (rw c.in-Ok-None.field-0-is at c.in-Ok-None.is) c.match-in_turn.x c.match-in_turn.way' (elim c.match-in_turn.branch [
+      | judge_members-in-Some w ↦ rw (w.way'-is, w.x-is) (l.wide, c.in_turn.ensures _ w.in-Some.is _)
+      | judge_members-in-None+in-Ok w ↦ rw (w.way'-is, w.x-is) (w.search.ensures.0, rw (part_to_end c.args.m.now c.loop-end.at, w.in-Ok.is) at w.search.ensures.1)
+    ]) in
     let V : Valued X = record { deep = c.if-level-x.false; r = c.judge_value.result; said = c.judge_value.ensures.1 } in
     omega
     (arith, value_further V c.in_ok-y.y.end c.in_ok-y.y.size c.in_ok-y.was, value_low V c.in_ok-y.y.end c.in_ok-y.y.size c.in_ok-y.was)
@@ -138,7 +206,10 @@ pub judge_members-loop-end-preserved : goal.judge_members-loop-end-preserved
 judge_members-loop-end-preserved t c =
     let l = c.loop-end.invariant in
     let P = turn_of c.requires c.unpack-e.ensures c.parts-s.ensures (λ i. omega (arith, c.type_inv.m i)) l.low l.so_far c.next.ensures in
-    let X = comes_of P (rw c.in-Ok-None.field-0-is at c.in-Ok-None.is) _ c.search.ensures c.in-Ok.is in
+    let X = comes_of P (rw c.in-Ok-None.field-0-is at c.in-Ok-None.is) c.match-in_turn.x c.match-in_turn.way' (elim c.match-in_turn.branch [
+      | judge_members-in-Some w ↦ rw (w.way'-is, w.x-is) (l.wide, c.in_turn.ensures _ w.in-Some.is _)
+      | judge_members-in-None+in-Ok w ↦ rw (w.way'-is, w.x-is) (w.search.ensures.0, rw (part_to_end c.args.m.now c.loop-end.at, w.in-Ok.is) at w.search.ensures.1)
+    ]) in
     let V : Valued X = record { deep = c.if-level-x.false; r = c.judge_value.result; said = c.judge_value.ensures.1 } in
     record {
       low = value_low V c.in_ok-y.y.end c.in_ok-y.y.size c.in_ok-y.was;

@@ -11,13 +11,13 @@ use Rattle.reader.specs.Sought.{held}
 use Rattle.reader.specs.Placing.{Spotted}
 use Rattle.reader.specs.declared.tags.Inner.{Inner}
 use Rattle.reader.proofs.PlacedMembers.{Given, Started, its_few, begin_room, no_members, state_first, set_low, set_room, set_over, set_comes}
-use Rattle.reader.proofs.PlacedMembers.{other_low, finish_room, other_over, other_comes, one_comes, Coming, sound, coming_low, Chosen, Picked, picked, found_some}
-use Rattle.reader.proofs.PlacedMembers.{found_deep, found_room, state_count, chosen_node, chosen_onward, chosen_asks, chosen_one, chosen_fewer, chosen_next}
+use Rattle.reader.proofs.PlacedMembers.{other_low, finish_room, other_over, other_comes, one_comes, Coming, sound, coming_low, coming_asks, Chosen, FindsPart, picked, found_some}
+use Rattle.reader.proofs.PlacedMembers.{found_deep, found_room, found_low, state_count, chosen_node, chosen_onward, chosen_asks, chosen_one, chosen_fewer, chosen_next}
 use Rattle.reader.proofs.PlacedValue.{Accepted, Contents, Stored, accepted_as, contents_as, stored_as, under_none, must_open, under_open}
 use Rattle.reader.proofs.PlacedValue.{read_contents, choice_contents, part_less, part_high, parts_ask, parts_stored, parts_end, leaf_asks, leaf_stored}
 use Rattle.reader.proofs.PlacedValue.{items_ask, items_end, items_stored, bare_placed, close_asks, must_close, closed_placed}
 use Rattle.reader.proofs.place.+place_members_place_value.Goals as goal
-use Rattle.reader.proofs.place.+place_members_place_value.Goals.{place_members-then-e-eq-SET, place_members-else-e-eq-SET}
+use Rattle.reader.proofs.place.+place_members_place_value.Goals.{place_members-then-e-eq-SET, place_members-else-e-eq-SET, place_members-in-Some-in_turn, place_members-in-None+in-Ok}
 use Rattle.reader.proofs.place.+place_members_place_value.Goals.{place_members-then-e-eq-SET-2+in-Some, place_members-else-e-eq-SET-2+then-not-holds_one+else-is_over}
 use Rattle.reader.proofs.place.+place_members_place_value.Goals.{place_members-else-e-eq-SET-2+else-not-holds_one, place_members-then-has_members, place_members-else-has_members}
 use Rattle.reader.proofs.place.+place_members_place_value.Goals.{place_value-then-e-gt0+in-Ok, place_value-then-e-gt0+in_default, place_value-else-e-gt0}
@@ -59,19 +59,19 @@ place_members-loop-began-init t c =
     } in
     let P : (ms : List Member) → held a.table.now a.w ≡ inside (Set ms) → Spotted (table_in a.table.now) ms a.indefinite a.m.now c.if-e-eq-SET.began c.if-e-eq-SET.last
     = elim c.if-e-eq-SET.branch [
-      place_members-then-e-eq-SET w ↦ rw (w.began-is, w.last-is) w.locate-last.ensures.2
-    | place_members-else-e-eq-SET w ↦ λ ms q. absurd (no_members G w.if-e-eq-SET.false ms q)
+      | place_members-then-e-eq-SET w ↦ rw (w.began-is, w.last-is) w.locate-last.ensures.2
+      | place_members-else-e-eq-SET w ↦ λ ms q. absurd (no_members G w.if-e-eq-SET.false ms q)
     ] in
     let X : Started a.table.now a.index.now a.w a.m.now a.indefinite a.buf.now a.to c.unpack-e.result c.parts-s.result c.if-e-eq-SET.began c.if-e-eq-SET.last
     c.begin-next.new.buf = record { given = G; spotted = P; opening = c.begin-next.ensures.1 } in
     record {
       ways = elim c.if-e-eq-SET.branch [
-        place_members-then-e-eq-SET w ↦ rw w.way'-is w.locate-last.ensures.1
-      | place_members-else-e-eq-SET w ↦ rw w.way'-is c.requires.ways
+        | place_members-then-e-eq-SET w ↦ rw w.way'-is w.locate-last.ensures.1
+        | place_members-else-e-eq-SET w ↦ rw w.way'-is c.requires.ways
       ];
       long = elim c.if-e-eq-SET.branch [
-        place_members-then-e-eq-SET w ↦ rw w.began-is w.locate-last.ensures.0
-      | place_members-else-e-eq-SET w ↦ rw w.began-is refl
+        | place_members-then-e-eq-SET w ↦ rw w.began-is w.locate-last.ensures.0
+        | place_members-else-e-eq-SET w ↦ rw w.began-is refl
       ];
       started = X;
       state = state_first X _ c.begin-next.ensures.0;
@@ -120,32 +120,47 @@ place_members-returns-then-is_over t c =
     let L = c.loop-began.invariant.state in
     (c.loop-began.invariant.ways, other_over X L c.if-e-eq-SET-2.false _ c.holds_one.ensures c.if-not-holds_one.true _ c.is_over.ensures c.if-is_over.true c.finish.ensures c.behind.ensures)
 
-pub place_members-slice_bounds-rest-count : goal.place_members-slice_bounds-rest-count
-place_members-slice_bounds-rest-count t c =
+pub place_members-in_turn-requires : goal.place_members-in_turn-requires
+place_members-in_turn-requires t c =
     let X = c.loop-began.invariant.started in
     let L = c.loop-began.invariant.state in
     let C : Coming X c.loop-began.count c.if-e-eq-SET-2.buf c.if-e-eq-SET-2.at c.loop-began.next c.if-e-eq-SET-2.j = elim c.if-e-eq-SET-2.branch [
-      place_members-then-e-eq-SET-2+in-Some w ↦
+      | place_members-then-e-eq-SET-2+in-Some w ↦
           rw (w.buf-is, w.at-is, w.j-is) (set_comes X L w.if-e-eq-SET-2.true _ (rw w.in-Some.is at w.following.ensures.0) w.put_absent-then-e-eq-SET-2.ensures
           (λ z. omega (arith, rw w.in-Some.is at w.following.ensures.1)))
-    | place_members-else-e-eq-SET-2+then-not-holds_one+else-is_over w ↦
+      | place_members-else-e-eq-SET-2+then-not-holds_one+else-is_over w ↦
           rw (w.buf-is, w.at-is, w.j-is) (other_comes X L w.if-e-eq-SET-2.false _ w.holds_one.ensures w.if-not-holds_one.true _ w.is_over.ensures w.if-is_over.false)
-    | place_members-else-e-eq-SET-2+else-not-holds_one w ↦
+      | place_members-else-e-eq-SET-2+else-not-holds_one w ↦
+          rw (w.buf-is, w.at-is, w.j-is) (one_comes X L w.if-e-eq-SET-2.false _ w.holds_one.ensures w.if-not-holds_one.false)
+    ] in
+    coming_asks X _ C
+
+pub place_members-slice_bounds-search-count : goal.place_members-slice_bounds-search-count
+place_members-slice_bounds-search-count t c =
+    let X = c.loop-began.invariant.started in
+    let L = c.loop-began.invariant.state in
+    let C : Coming X c.loop-began.count c.if-e-eq-SET-2.buf c.if-e-eq-SET-2.at c.loop-began.next c.if-e-eq-SET-2.j = elim c.if-e-eq-SET-2.branch [
+      | place_members-then-e-eq-SET-2+in-Some w ↦
+          rw (w.buf-is, w.at-is, w.j-is) (set_comes X L w.if-e-eq-SET-2.true _ (rw w.in-Some.is at w.following.ensures.0) w.put_absent-then-e-eq-SET-2.ensures
+          (λ z. omega (arith, rw w.in-Some.is at w.following.ensures.1)))
+      | place_members-else-e-eq-SET-2+then-not-holds_one+else-is_over w ↦
+          rw (w.buf-is, w.at-is, w.j-is) (other_comes X L w.if-e-eq-SET-2.false _ w.holds_one.ensures w.if-not-holds_one.true _ w.is_over.ensures w.if-is_over.false)
+      | place_members-else-e-eq-SET-2+else-not-holds_one w ↦
           rw (w.buf-is, w.at-is, w.j-is) (one_comes X L w.if-e-eq-SET-2.false _ w.holds_one.ensures w.if-not-holds_one.false)
     ] in
     omega (arith, coming_low X _ C)
 
-pub place_members-slice_bounds-rest-start : goal.place_members-slice_bounds-rest-start
-place_members-slice_bounds-rest-start t c =
+pub place_members-slice_bounds-search-start : goal.place_members-slice_bounds-search-start
+place_members-slice_bounds-search-start t c =
     let X = c.loop-began.invariant.started in
     let L = c.loop-began.invariant.state in
     let C : Coming X c.loop-began.count c.if-e-eq-SET-2.buf c.if-e-eq-SET-2.at c.loop-began.next c.if-e-eq-SET-2.j = elim c.if-e-eq-SET-2.branch [
-      place_members-then-e-eq-SET-2+in-Some w ↦
+      | place_members-then-e-eq-SET-2+in-Some w ↦
           rw (w.buf-is, w.at-is, w.j-is) (set_comes X L w.if-e-eq-SET-2.true _ (rw w.in-Some.is at w.following.ensures.0) w.put_absent-then-e-eq-SET-2.ensures
           (λ z. omega (arith, rw w.in-Some.is at w.following.ensures.1)))
-    | place_members-else-e-eq-SET-2+then-not-holds_one+else-is_over w ↦
+      | place_members-else-e-eq-SET-2+then-not-holds_one+else-is_over w ↦
           rw (w.buf-is, w.at-is, w.j-is) (other_comes X L w.if-e-eq-SET-2.false _ w.holds_one.ensures w.if-not-holds_one.true _ w.is_over.ensures w.if-is_over.false)
-    | place_members-else-e-eq-SET-2+else-not-holds_one w ↦
+      | place_members-else-e-eq-SET-2+else-not-holds_one w ↦
           rw (w.buf-is, w.at-is, w.j-is) (one_comes X L w.if-e-eq-SET-2.false _ w.holds_one.ensures w.if-not-holds_one.false)
     ] in
     let l = coming_low X _ C in omega arith
@@ -154,57 +169,60 @@ pub place_members-search-requires : goal.place_members-search-requires
 place_members-search-requires t c =
     (sound c.loop-began.invariant.started 0, c.loop-began.invariant.ways)
 
-pub place_members-returns-in_default-search : goal.place_members-returns-in_default-search
-place_members-returns-in_default-search t c =
+pub place_members-returns-in-Err : goal.place_members-returns-in-Err
+place_members-returns-in-Err t c =
     let X = c.loop-began.invariant.started in
     let L = c.loop-began.invariant.state in
     let C : Coming X c.loop-began.count c.if-e-eq-SET-2.buf c.if-e-eq-SET-2.at c.loop-began.next c.if-e-eq-SET-2.j = elim c.if-e-eq-SET-2.branch [
-      place_members-then-e-eq-SET-2+in-Some w ↦
+      | place_members-then-e-eq-SET-2+in-Some w ↦
           rw (w.buf-is, w.at-is, w.j-is) (set_comes X L w.if-e-eq-SET-2.true _ (rw w.in-Some.is at w.following.ensures.0) w.put_absent-then-e-eq-SET-2.ensures
           (λ z. omega (arith, rw w.in-Some.is at w.following.ensures.1)))
-    | place_members-else-e-eq-SET-2+then-not-holds_one+else-is_over w ↦
+      | place_members-else-e-eq-SET-2+then-not-holds_one+else-is_over w ↦
           rw (w.buf-is, w.at-is, w.j-is) (other_comes X L w.if-e-eq-SET-2.false _ w.holds_one.ensures w.if-not-holds_one.true _ w.is_over.ensures w.if-is_over.false)
-    | place_members-else-e-eq-SET-2+else-not-holds_one w ↦
+      | place_members-else-e-eq-SET-2+else-not-holds_one w ↦
           rw (w.buf-is, w.at-is, w.j-is) (one_comes X L w.if-e-eq-SET-2.false _ w.holds_one.ensures w.if-not-holds_one.false)
     ] in
-    let S = rw (part_to_end c.args.m.now c.if-e-eq-SET-2.at) at c.search.ensures.1 in
-    absurd (found_some X _ C (rw c.in_default-search.is at S).0)
+    absurd (found_some X _ C (rw (part_to_end c.args.m.now c.if-e-eq-SET-2.at, c.in-Err.is) at c.search.ensures.1).0)
 
 pub place_members-put_way-next-requires : goal.place_members-put_way-next-requires
 place_members-put_way-next-requires t c =
     let X = c.loop-began.invariant.started in
     let L = c.loop-began.invariant.state in
     let C : Coming X c.loop-began.count c.if-e-eq-SET-2.buf c.if-e-eq-SET-2.at c.loop-began.next c.if-e-eq-SET-2.j = elim c.if-e-eq-SET-2.branch [
-      place_members-then-e-eq-SET-2+in-Some w ↦
+      | place_members-then-e-eq-SET-2+in-Some w ↦
           rw (w.buf-is, w.at-is, w.j-is) (set_comes X L w.if-e-eq-SET-2.true _ (rw w.in-Some.is at w.following.ensures.0) w.put_absent-then-e-eq-SET-2.ensures
           (λ z. omega (arith, rw w.in-Some.is at w.following.ensures.1)))
-    | place_members-else-e-eq-SET-2+then-not-holds_one+else-is_over w ↦
+      | place_members-else-e-eq-SET-2+then-not-holds_one+else-is_over w ↦
           rw (w.buf-is, w.at-is, w.j-is) (other_comes X L w.if-e-eq-SET-2.false _ w.holds_one.ensures w.if-not-holds_one.true _ w.is_over.ensures w.if-is_over.false)
-    | place_members-else-e-eq-SET-2+else-not-holds_one w ↦
+      | place_members-else-e-eq-SET-2+else-not-holds_one w ↦
           rw (w.buf-is, w.at-is, w.j-is) (one_comes X L w.if-e-eq-SET-2.false _ w.holds_one.ensures w.if-not-holds_one.false)
     ] in
-    let S = rw (part_to_end c.args.m.now c.if-e-eq-SET-2.at) at c.search.ensures.1 in
-    let ways = c.search.ensures.0 in
-    let F = rw c.in-Ok.is at S in
-    (omega (arith, found_deep X _ C _ _ ways F, ways), ways, found_room X _ C _ _ ways F)
+    let F : (length c.match-in_turn.way' ≡ 128) × FindsPart X _ C c.match-in_turn.x c.match-in_turn.way' = elim c.match-in_turn.branch [
+      | place_members-in-Some-in_turn w ↦ rw (w.way'-is, w.x-is) (c.loop-began.invariant.ways, c.in_turn.ensures _ w.in-Some-in_turn.is _)
+      | place_members-in-None+in-Ok w ↦
+          rw (w.way'-is, w.x-is) (w.search.ensures.0, rw (part_to_end c.args.m.now c.if-e-eq-SET-2.at, w.in-Ok.is) at w.search.ensures.1)
+    ] in
+    (omega (arith, found_deep X _ C _ _ F.0 F.1, F.0), F.0, found_room X _ C _ _ F.0 F.1)
 
 pub place_members-put_absent-requires-then-has_members : goal.place_members-put_absent-requires-then-has_members
 place_members-put_absent-requires-then-has_members t c =
     let X = c.loop-began.invariant.started in
     let L = c.loop-began.invariant.state in
     let C : Coming X c.loop-began.count c.if-e-eq-SET-2.buf c.if-e-eq-SET-2.at c.loop-began.next c.if-e-eq-SET-2.j = elim c.if-e-eq-SET-2.branch [
-      place_members-then-e-eq-SET-2+in-Some w ↦
+      | place_members-then-e-eq-SET-2+in-Some w ↦
           rw (w.buf-is, w.at-is, w.j-is) (set_comes X L w.if-e-eq-SET-2.true _ (rw w.in-Some.is at w.following.ensures.0) w.put_absent-then-e-eq-SET-2.ensures
           (λ z. omega (arith, rw w.in-Some.is at w.following.ensures.1)))
-    | place_members-else-e-eq-SET-2+then-not-holds_one+else-is_over w ↦
+      | place_members-else-e-eq-SET-2+then-not-holds_one+else-is_over w ↦
           rw (w.buf-is, w.at-is, w.j-is) (other_comes X L w.if-e-eq-SET-2.false _ w.holds_one.ensures w.if-not-holds_one.true _ w.is_over.ensures w.if-is_over.false)
-    | place_members-else-e-eq-SET-2+else-not-holds_one w ↦
+      | place_members-else-e-eq-SET-2+else-not-holds_one w ↦
           rw (w.buf-is, w.at-is, w.j-is) (one_comes X L w.if-e-eq-SET-2.false _ w.holds_one.ensures w.if-not-holds_one.false)
     ] in
-    let S = rw (part_to_end c.args.m.now c.if-e-eq-SET-2.at) at c.search.ensures.1 in
-    let ways = c.search.ensures.0 in
-    let F = rw c.in-Ok.is at S in
-    let P = picked X _ C c.in-Ok.x _ ways F c.put_way-next.ensures.1 c.put_way-next.ensures.0 refl refl refl in
+    let F : (length c.match-in_turn.way' ≡ 128) × FindsPart X _ C c.match-in_turn.x c.match-in_turn.way' = elim c.match-in_turn.branch [
+      | place_members-in-Some-in_turn w ↦ rw (w.way'-is, w.x-is) (c.loop-began.invariant.ways, c.in_turn.ensures _ w.in-Some-in_turn.is _)
+      | place_members-in-None+in-Ok w ↦
+          rw (w.way'-is, w.x-is) (w.search.ensures.0, rw (part_to_end c.args.m.now c.if-e-eq-SET-2.at, w.in-Ok.is) at w.search.ensures.1)
+    ] in
+    let P = picked X _ C c.match-in_turn.x _ F.0 F.1 c.put_way-next.ensures.1 c.put_way-next.ensures.0 refl refl refl in
     P.1 (sym c.has_members.ensures ∙ c.if-has_members.true)
 
 pub place_members-put_place-requires : goal.place_members-put_place-requires
@@ -212,23 +230,25 @@ place_members-put_place-requires t c =
     let X = c.loop-began.invariant.started in
     let L = c.loop-began.invariant.state in
     let C : Coming X c.loop-began.count c.if-e-eq-SET-2.buf c.if-e-eq-SET-2.at c.loop-began.next c.if-e-eq-SET-2.j = elim c.if-e-eq-SET-2.branch [
-      place_members-then-e-eq-SET-2+in-Some w ↦
+      | place_members-then-e-eq-SET-2+in-Some w ↦
           rw (w.buf-is, w.at-is, w.j-is) (set_comes X L w.if-e-eq-SET-2.true _ (rw w.in-Some.is at w.following.ensures.0) w.put_absent-then-e-eq-SET-2.ensures
           (λ z. omega (arith, rw w.in-Some.is at w.following.ensures.1)))
-    | place_members-else-e-eq-SET-2+then-not-holds_one+else-is_over w ↦
+      | place_members-else-e-eq-SET-2+then-not-holds_one+else-is_over w ↦
           rw (w.buf-is, w.at-is, w.j-is) (other_comes X L w.if-e-eq-SET-2.false _ w.holds_one.ensures w.if-not-holds_one.true _ w.is_over.ensures w.if-is_over.false)
-    | place_members-else-e-eq-SET-2+else-not-holds_one w ↦
+      | place_members-else-e-eq-SET-2+else-not-holds_one w ↦
           rw (w.buf-is, w.at-is, w.j-is) (one_comes X L w.if-e-eq-SET-2.false _ w.holds_one.ensures w.if-not-holds_one.false)
     ] in
-    let S = rw (part_to_end c.args.m.now c.if-e-eq-SET-2.at) at c.search.ensures.1 in
-    let ways = c.search.ensures.0 in
-    let F = rw c.in-Ok.is at S in
-    let P = picked X _ C c.in-Ok.x _ ways F c.put_way-next.ensures.1 c.put_way-next.ensures.0 refl refl refl in
-    let R : Chosen X c.loop-began.count c.if-e-eq-SET-2.j c.if-has_members.buf c.if-e-eq-SET-2.at c.put_way-next.result c.in-Ok.x.place c.in-Ok.x.«record»
-    (c.if-e-eq-SET-2.at + c.in-Ok.x.from) = elim c.if-has_members.branch [
-      place_members-then-has_members w ↦
+    let F : (length c.match-in_turn.way' ≡ 128) × FindsPart X _ C c.match-in_turn.x c.match-in_turn.way' = elim c.match-in_turn.branch [
+      | place_members-in-Some-in_turn w ↦ rw (w.way'-is, w.x-is) (c.loop-began.invariant.ways, c.in_turn.ensures _ w.in-Some-in_turn.is _)
+      | place_members-in-None+in-Ok w ↦
+          rw (w.way'-is, w.x-is) (w.search.ensures.0, rw (part_to_end c.args.m.now c.if-e-eq-SET-2.at, w.in-Ok.is) at w.search.ensures.1)
+    ] in
+    let P = picked X _ C c.match-in_turn.x _ F.0 F.1 c.put_way-next.ensures.1 c.put_way-next.ensures.0 refl refl refl in
+    let R : Chosen X c.loop-began.count c.if-e-eq-SET-2.j c.if-has_members.buf c.if-e-eq-SET-2.at c.put_way-next.result c.match-in_turn.x.place c.match-in_turn.x.«record»
+    (c.if-e-eq-SET-2.at + c.match-in_turn.x.from) = elim c.if-has_members.branch [
+      | place_members-then-has_members w ↦
           P.2 _ (λ z. w.buf-is ∙ w.put_absent-then-has_members.ensures) (λ z. absurd (true≢false (sym w.if-has_members.true ∙ c.has_members.ensures ∙ z)))
-    | place_members-else-has_members w ↦
+      | place_members-else-has_members w ↦
           P.2 _ (λ z. absurd (true≢false (sym z ∙ sym c.has_members.ensures ∙ w.if-has_members.false))) (λ z. w.buf-is)
     ] in
     chosen_node X _ R
@@ -238,52 +258,116 @@ place_members-overflow_add-j t c =
     let X = c.loop-began.invariant.started in
     let L = c.loop-began.invariant.state in
     let C : Coming X c.loop-began.count c.if-e-eq-SET-2.buf c.if-e-eq-SET-2.at c.loop-began.next c.if-e-eq-SET-2.j = elim c.if-e-eq-SET-2.branch [
-      place_members-then-e-eq-SET-2+in-Some w ↦
+      | place_members-then-e-eq-SET-2+in-Some w ↦
           rw (w.buf-is, w.at-is, w.j-is) (set_comes X L w.if-e-eq-SET-2.true _ (rw w.in-Some.is at w.following.ensures.0) w.put_absent-then-e-eq-SET-2.ensures
           (λ z. omega (arith, rw w.in-Some.is at w.following.ensures.1)))
-    | place_members-else-e-eq-SET-2+then-not-holds_one+else-is_over w ↦
+      | place_members-else-e-eq-SET-2+then-not-holds_one+else-is_over w ↦
           rw (w.buf-is, w.at-is, w.j-is) (other_comes X L w.if-e-eq-SET-2.false _ w.holds_one.ensures w.if-not-holds_one.true _ w.is_over.ensures w.if-is_over.false)
-    | place_members-else-e-eq-SET-2+else-not-holds_one w ↦
+      | place_members-else-e-eq-SET-2+else-not-holds_one w ↦
           rw (w.buf-is, w.at-is, w.j-is) (one_comes X L w.if-e-eq-SET-2.false _ w.holds_one.ensures w.if-not-holds_one.false)
     ] in
-    let S = rw (part_to_end c.args.m.now c.if-e-eq-SET-2.at) at c.search.ensures.1 in
-    let ways = c.search.ensures.0 in
-    let F = rw c.in-Ok.is at S in
-    let P = picked X _ C c.in-Ok.x _ ways F c.put_way-next.ensures.1 c.put_way-next.ensures.0 refl refl refl in
-    let R : Chosen X c.loop-began.count c.if-e-eq-SET-2.j c.if-has_members.buf c.if-e-eq-SET-2.at c.put_way-next.result c.in-Ok.x.place c.in-Ok.x.«record»
-    (c.if-e-eq-SET-2.at + c.in-Ok.x.from) = elim c.if-has_members.branch [
-      place_members-then-has_members w ↦
+    let F : (length c.match-in_turn.way' ≡ 128) × FindsPart X _ C c.match-in_turn.x c.match-in_turn.way' = elim c.match-in_turn.branch [
+      | place_members-in-Some-in_turn w ↦ rw (w.way'-is, w.x-is) (c.loop-began.invariant.ways, c.in_turn.ensures _ w.in-Some-in_turn.is _)
+      | place_members-in-None+in-Ok w ↦
+          rw (w.way'-is, w.x-is) (w.search.ensures.0, rw (part_to_end c.args.m.now c.if-e-eq-SET-2.at, w.in-Ok.is) at w.search.ensures.1)
+    ] in
+    let P = picked X _ C c.match-in_turn.x _ F.0 F.1 c.put_way-next.ensures.1 c.put_way-next.ensures.0 refl refl refl in
+    let R : Chosen X c.loop-began.count c.if-e-eq-SET-2.j c.if-has_members.buf c.if-e-eq-SET-2.at c.put_way-next.result c.match-in_turn.x.place c.match-in_turn.x.«record»
+    (c.if-e-eq-SET-2.at + c.match-in_turn.x.from) = elim c.if-has_members.branch [
+      | place_members-then-has_members w ↦
           P.2 _ (λ z. w.buf-is ∙ w.put_absent-then-has_members.ensures) (λ z. absurd (true≢false (sym w.if-has_members.true ∙ c.has_members.ensures ∙ z)))
-    | place_members-else-has_members w ↦
+      | place_members-else-has_members w ↦
           P.2 _ (λ z. absurd (true≢false (sym z ∙ sym c.has_members.ensures ∙ w.if-has_members.false))) (λ z. w.buf-is)
     ] in
     omega (arith, chosen_onward X _ R)
+
+pub place_members-offset_bounds-index-x : goal.place_members-offset_bounds-index-x
+place_members-offset_bounds-index-x t c =
+    let X = c.loop-began.invariant.started in
+    let L = c.loop-began.invariant.state in
+    let C : Coming X c.loop-began.count c.if-e-eq-SET-2.buf c.if-e-eq-SET-2.at c.loop-began.next c.if-e-eq-SET-2.j = elim c.if-e-eq-SET-2.branch [
+      | place_members-then-e-eq-SET-2+in-Some w ↦
+          rw (w.buf-is, w.at-is, w.j-is) (set_comes X L w.if-e-eq-SET-2.true _ (rw w.in-Some.is at w.following.ensures.0) w.put_absent-then-e-eq-SET-2.ensures
+          (λ z. omega (arith, rw w.in-Some.is at w.following.ensures.1)))
+      | place_members-else-e-eq-SET-2+then-not-holds_one+else-is_over w ↦
+          rw (w.buf-is, w.at-is, w.j-is) (other_comes X L w.if-e-eq-SET-2.false _ w.holds_one.ensures w.if-not-holds_one.true _ w.is_over.ensures w.if-is_over.false)
+      | place_members-else-e-eq-SET-2+else-not-holds_one w ↦
+          rw (w.buf-is, w.at-is, w.j-is) (one_comes X L w.if-e-eq-SET-2.false _ w.holds_one.ensures w.if-not-holds_one.false)
+    ] in
+    let F : (length c.match-in_turn.way' ≡ 128) × FindsPart X _ C c.match-in_turn.x c.match-in_turn.way' = elim c.match-in_turn.branch [
+      | place_members-in-Some-in_turn w ↦ rw (w.way'-is, w.x-is) (c.loop-began.invariant.ways, c.in_turn.ensures _ w.in-Some-in_turn.is _)
+      | place_members-in-None+in-Ok w ↦
+          rw (w.way'-is, w.x-is) (w.search.ensures.0, rw (part_to_end c.args.m.now c.if-e-eq-SET-2.at, w.in-Ok.is) at w.search.ensures.1)
+    ] in
+    omega (arith, F.1.6.3, c.requires.ready.passes.few)
+
+pub place_members-bounds-index-x : goal.place_members-bounds-index-x
+place_members-bounds-index-x t c =
+    let X = c.loop-began.invariant.started in
+    let L = c.loop-began.invariant.state in
+    let C : Coming X c.loop-began.count c.if-e-eq-SET-2.buf c.if-e-eq-SET-2.at c.loop-began.next c.if-e-eq-SET-2.j = elim c.if-e-eq-SET-2.branch [
+      | place_members-then-e-eq-SET-2+in-Some w ↦
+          rw (w.buf-is, w.at-is, w.j-is) (set_comes X L w.if-e-eq-SET-2.true _ (rw w.in-Some.is at w.following.ensures.0) w.put_absent-then-e-eq-SET-2.ensures
+          (λ z. omega (arith, rw w.in-Some.is at w.following.ensures.1)))
+      | place_members-else-e-eq-SET-2+then-not-holds_one+else-is_over w ↦
+          rw (w.buf-is, w.at-is, w.j-is) (other_comes X L w.if-e-eq-SET-2.false _ w.holds_one.ensures w.if-not-holds_one.true _ w.is_over.ensures w.if-is_over.false)
+      | place_members-else-e-eq-SET-2+else-not-holds_one w ↦
+          rw (w.buf-is, w.at-is, w.j-is) (one_comes X L w.if-e-eq-SET-2.false _ w.holds_one.ensures w.if-not-holds_one.false)
+    ] in
+    let F : (length c.match-in_turn.way' ≡ 128) × FindsPart X _ C c.match-in_turn.x c.match-in_turn.way' = elim c.match-in_turn.branch [
+      | place_members-in-Some-in_turn w ↦ rw (w.way'-is, w.x-is) (c.loop-began.invariant.ways, c.in_turn.ensures _ w.in-Some-in_turn.is _)
+      | place_members-in-None+in-Ok w ↦
+          rw (w.way'-is, w.x-is) (w.search.ensures.0, rw (part_to_end c.args.m.now c.if-e-eq-SET-2.at, w.in-Ok.is) at w.search.ensures.1)
+    ] in
+    omega (arith, F.1.6.3, c.requires.ready.passes.few)
+
+pub place_members-overflow_add-at : goal.place_members-overflow_add-at
+place_members-overflow_add-at t c =
+    let X = c.loop-began.invariant.started in
+    let L = c.loop-began.invariant.state in
+    let C : Coming X c.loop-began.count c.if-e-eq-SET-2.buf c.if-e-eq-SET-2.at c.loop-began.next c.if-e-eq-SET-2.j = elim c.if-e-eq-SET-2.branch [
+      | place_members-then-e-eq-SET-2+in-Some w ↦
+          rw (w.buf-is, w.at-is, w.j-is) (set_comes X L w.if-e-eq-SET-2.true _ (rw w.in-Some.is at w.following.ensures.0) w.put_absent-then-e-eq-SET-2.ensures
+          (λ z. omega (arith, rw w.in-Some.is at w.following.ensures.1)))
+      | place_members-else-e-eq-SET-2+then-not-holds_one+else-is_over w ↦
+          rw (w.buf-is, w.at-is, w.j-is) (other_comes X L w.if-e-eq-SET-2.false _ w.holds_one.ensures w.if-not-holds_one.true _ w.is_over.ensures w.if-is_over.false)
+      | place_members-else-e-eq-SET-2+else-not-holds_one w ↦
+          rw (w.buf-is, w.at-is, w.j-is) (one_comes X L w.if-e-eq-SET-2.false _ w.holds_one.ensures w.if-not-holds_one.false)
+    ] in
+    let F : (length c.match-in_turn.way' ≡ 128) × FindsPart X _ C c.match-in_turn.x c.match-in_turn.way' = elim c.match-in_turn.branch [
+      | place_members-in-Some-in_turn w ↦ rw (w.way'-is, w.x-is) (c.loop-began.invariant.ways, c.in_turn.ensures _ w.in-Some-in_turn.is _)
+      | place_members-in-None+in-Ok w ↦
+          rw (w.way'-is, w.x-is) (w.search.ensures.0, rw (part_to_end c.args.m.now c.if-e-eq-SET-2.at, w.in-Ok.is) at w.search.ensures.1)
+    ] in
+    omega (arith, found_low X _ C _ _ F.0 F.1, c.requires.short)
 
 pub place_members-place_value-y-requires : goal.place_members-place_value-y-requires
 place_members-place_value-y-requires t c =
     let X = c.loop-began.invariant.started in
     let L = c.loop-began.invariant.state in
     let C : Coming X c.loop-began.count c.if-e-eq-SET-2.buf c.if-e-eq-SET-2.at c.loop-began.next c.if-e-eq-SET-2.j = elim c.if-e-eq-SET-2.branch [
-      place_members-then-e-eq-SET-2+in-Some w ↦
+      | place_members-then-e-eq-SET-2+in-Some w ↦
           rw (w.buf-is, w.at-is, w.j-is) (set_comes X L w.if-e-eq-SET-2.true _ (rw w.in-Some.is at w.following.ensures.0) w.put_absent-then-e-eq-SET-2.ensures
           (λ z. omega (arith, rw w.in-Some.is at w.following.ensures.1)))
-    | place_members-else-e-eq-SET-2+then-not-holds_one+else-is_over w ↦
+      | place_members-else-e-eq-SET-2+then-not-holds_one+else-is_over w ↦
           rw (w.buf-is, w.at-is, w.j-is) (other_comes X L w.if-e-eq-SET-2.false _ w.holds_one.ensures w.if-not-holds_one.true _ w.is_over.ensures w.if-is_over.false)
-    | place_members-else-e-eq-SET-2+else-not-holds_one w ↦
+      | place_members-else-e-eq-SET-2+else-not-holds_one w ↦
           rw (w.buf-is, w.at-is, w.j-is) (one_comes X L w.if-e-eq-SET-2.false _ w.holds_one.ensures w.if-not-holds_one.false)
     ] in
-    let S = rw (part_to_end c.args.m.now c.if-e-eq-SET-2.at) at c.search.ensures.1 in
-    let ways = c.search.ensures.0 in
-    let F = rw c.in-Ok.is at S in
-    let P = picked X _ C c.in-Ok.x _ ways F c.put_way-next.ensures.1 c.put_way-next.ensures.0 refl refl refl in
-    let R : Chosen X c.loop-began.count c.if-e-eq-SET-2.j c.if-has_members.buf c.if-e-eq-SET-2.at c.put_way-next.result c.in-Ok.x.place c.in-Ok.x.«record»
-    (c.if-e-eq-SET-2.at + c.in-Ok.x.from) = elim c.if-has_members.branch [
-      place_members-then-has_members w ↦
+    let F : (length c.match-in_turn.way' ≡ 128) × FindsPart X _ C c.match-in_turn.x c.match-in_turn.way' = elim c.match-in_turn.branch [
+      | place_members-in-Some-in_turn w ↦ rw (w.way'-is, w.x-is) (c.loop-began.invariant.ways, c.in_turn.ensures _ w.in-Some-in_turn.is _)
+      | place_members-in-None+in-Ok w ↦
+          rw (w.way'-is, w.x-is) (w.search.ensures.0, rw (part_to_end c.args.m.now c.if-e-eq-SET-2.at, w.in-Ok.is) at w.search.ensures.1)
+    ] in
+    let P = picked X _ C c.match-in_turn.x _ F.0 F.1 c.put_way-next.ensures.1 c.put_way-next.ensures.0 refl refl refl in
+    let R : Chosen X c.loop-began.count c.if-e-eq-SET-2.j c.if-has_members.buf c.if-e-eq-SET-2.at c.put_way-next.result c.match-in_turn.x.place c.match-in_turn.x.«record»
+    (c.if-e-eq-SET-2.at + c.match-in_turn.x.from) = elim c.if-has_members.branch [
+      | place_members-then-has_members w ↦
           P.2 _ (λ z. w.buf-is ∙ w.put_absent-then-has_members.ensures) (λ z. absurd (true≢false (sym w.if-has_members.true ∙ c.has_members.ensures ∙ z)))
-    | place_members-else-has_members w ↦
+      | place_members-else-has_members w ↦
           P.2 _ (λ z. absurd (true≢false (sym z ∙ sym c.has_members.ensures ∙ w.if-has_members.false))) (λ z. w.buf-is)
     ] in
-    (omega (arith, c.decreases), chosen_asks X _ R c.put_place.ensures _ ways)
+    (omega (arith, c.decreases), chosen_asks X _ R c.put_place.ensures _ F.0)
 
 pub place_members-overflow_add-count : goal.place_members-overflow_add-count
 place_members-overflow_add-count t c =
@@ -296,23 +380,25 @@ place_members-returns-then-holds_one t c =
     let X = c.loop-began.invariant.started in
     let L = c.loop-began.invariant.state in
     let C : Coming X c.loop-began.count c.if-e-eq-SET-2.buf c.if-e-eq-SET-2.at c.loop-began.next c.if-e-eq-SET-2.j = elim c.if-e-eq-SET-2.branch [
-      place_members-then-e-eq-SET-2+in-Some w ↦
+      | place_members-then-e-eq-SET-2+in-Some w ↦
           rw (w.buf-is, w.at-is, w.j-is) (set_comes X L w.if-e-eq-SET-2.true _ (rw w.in-Some.is at w.following.ensures.0) w.put_absent-then-e-eq-SET-2.ensures
           (λ z. omega (arith, rw w.in-Some.is at w.following.ensures.1)))
-    | place_members-else-e-eq-SET-2+then-not-holds_one+else-is_over w ↦
+      | place_members-else-e-eq-SET-2+then-not-holds_one+else-is_over w ↦
           rw (w.buf-is, w.at-is, w.j-is) (other_comes X L w.if-e-eq-SET-2.false _ w.holds_one.ensures w.if-not-holds_one.true _ w.is_over.ensures w.if-is_over.false)
-    | place_members-else-e-eq-SET-2+else-not-holds_one w ↦
+      | place_members-else-e-eq-SET-2+else-not-holds_one w ↦
           rw (w.buf-is, w.at-is, w.j-is) (one_comes X L w.if-e-eq-SET-2.false _ w.holds_one.ensures w.if-not-holds_one.false)
     ] in
-    let S = rw (part_to_end c.args.m.now c.if-e-eq-SET-2.at) at c.search.ensures.1 in
-    let ways = c.search.ensures.0 in
-    let F = rw c.in-Ok.is at S in
-    let P = picked X _ C c.in-Ok.x _ ways F c.put_way-next.ensures.1 c.put_way-next.ensures.0 refl refl refl in
-    let R : Chosen X c.loop-began.count c.if-e-eq-SET-2.j c.if-has_members.buf c.if-e-eq-SET-2.at c.put_way-next.result c.in-Ok.x.place c.in-Ok.x.«record»
-    (c.if-e-eq-SET-2.at + c.in-Ok.x.from) = elim c.if-has_members.branch [
-      place_members-then-has_members w ↦
+    let F : (length c.match-in_turn.way' ≡ 128) × FindsPart X _ C c.match-in_turn.x c.match-in_turn.way' = elim c.match-in_turn.branch [
+      | place_members-in-Some-in_turn w ↦ rw (w.way'-is, w.x-is) (c.loop-began.invariant.ways, c.in_turn.ensures _ w.in-Some-in_turn.is _)
+      | place_members-in-None+in-Ok w ↦
+          rw (w.way'-is, w.x-is) (w.search.ensures.0, rw (part_to_end c.args.m.now c.if-e-eq-SET-2.at, w.in-Ok.is) at w.search.ensures.1)
+    ] in
+    let P = picked X _ C c.match-in_turn.x _ F.0 F.1 c.put_way-next.ensures.1 c.put_way-next.ensures.0 refl refl refl in
+    let R : Chosen X c.loop-began.count c.if-e-eq-SET-2.j c.if-has_members.buf c.if-e-eq-SET-2.at c.put_way-next.result c.match-in_turn.x.place c.match-in_turn.x.«record»
+    (c.if-e-eq-SET-2.at + c.match-in_turn.x.from) = elim c.if-has_members.branch [
+      | place_members-then-has_members w ↦
           P.2 _ (λ z. w.buf-is ∙ w.put_absent-then-has_members.ensures) (λ z. absurd (true≢false (sym w.if-has_members.true ∙ c.has_members.ensures ∙ z)))
-    | place_members-else-has_members w ↦
+      | place_members-else-has_members w ↦
           P.2 _ (λ z. absurd (true≢false (sym z ∙ sym c.has_members.ensures ∙ w.if-has_members.false))) (λ z. w.buf-is)
     ] in
     (c.place_value-y.ensures.0, chosen_one X _ R c.put_place.ensures c.place_value-y.ensures.1 _ c.holds_one-in-loop-began.ensures c.if-holds_one.true)
@@ -322,34 +408,36 @@ place_members-loop-began-smaller t c =
     let X = c.loop-began.invariant.started in
     let L = c.loop-began.invariant.state in
     let C : Coming X c.loop-began.count c.if-e-eq-SET-2.buf c.if-e-eq-SET-2.at c.loop-began.next c.if-e-eq-SET-2.j = elim c.if-e-eq-SET-2.branch [
-      place_members-then-e-eq-SET-2+in-Some w ↦
+      | place_members-then-e-eq-SET-2+in-Some w ↦
           rw (w.buf-is, w.at-is, w.j-is) (set_comes X L w.if-e-eq-SET-2.true _ (rw w.in-Some.is at w.following.ensures.0) w.put_absent-then-e-eq-SET-2.ensures
           (λ z. omega (arith, rw w.in-Some.is at w.following.ensures.1)))
-    | place_members-else-e-eq-SET-2+then-not-holds_one+else-is_over w ↦
+      | place_members-else-e-eq-SET-2+then-not-holds_one+else-is_over w ↦
           rw (w.buf-is, w.at-is, w.j-is) (other_comes X L w.if-e-eq-SET-2.false _ w.holds_one.ensures w.if-not-holds_one.true _ w.is_over.ensures w.if-is_over.false)
-    | place_members-else-e-eq-SET-2+else-not-holds_one w ↦
+      | place_members-else-e-eq-SET-2+else-not-holds_one w ↦
           rw (w.buf-is, w.at-is, w.j-is) (one_comes X L w.if-e-eq-SET-2.false _ w.holds_one.ensures w.if-not-holds_one.false)
     ] in
-    let S = rw (part_to_end c.args.m.now c.if-e-eq-SET-2.at) at c.search.ensures.1 in
-    let ways = c.search.ensures.0 in
-    let F = rw c.in-Ok.is at S in
-    let P = picked X _ C c.in-Ok.x _ ways F c.put_way-next.ensures.1 c.put_way-next.ensures.0 refl refl refl in
-    let R : Chosen X c.loop-began.count c.if-e-eq-SET-2.j c.if-has_members.buf c.if-e-eq-SET-2.at c.put_way-next.result c.in-Ok.x.place c.in-Ok.x.«record»
-    (c.if-e-eq-SET-2.at + c.in-Ok.x.from) = elim c.if-has_members.branch [
-      place_members-then-has_members w ↦
+    let F : (length c.match-in_turn.way' ≡ 128) × FindsPart X _ C c.match-in_turn.x c.match-in_turn.way' = elim c.match-in_turn.branch [
+      | place_members-in-Some-in_turn w ↦ rw (w.way'-is, w.x-is) (c.loop-began.invariant.ways, c.in_turn.ensures _ w.in-Some-in_turn.is _)
+      | place_members-in-None+in-Ok w ↦
+          rw (w.way'-is, w.x-is) (w.search.ensures.0, rw (part_to_end c.args.m.now c.if-e-eq-SET-2.at, w.in-Ok.is) at w.search.ensures.1)
+    ] in
+    let P = picked X _ C c.match-in_turn.x _ F.0 F.1 c.put_way-next.ensures.1 c.put_way-next.ensures.0 refl refl refl in
+    let R : Chosen X c.loop-began.count c.if-e-eq-SET-2.j c.if-has_members.buf c.if-e-eq-SET-2.at c.put_way-next.result c.match-in_turn.x.place c.match-in_turn.x.«record»
+    (c.if-e-eq-SET-2.at + c.match-in_turn.x.from) = elim c.if-has_members.branch [
+      | place_members-then-has_members w ↦
           P.2 _ (λ z. w.buf-is ∙ w.put_absent-then-has_members.ensures) (λ z. absurd (true≢false (sym w.if-has_members.true ∙ c.has_members.ensures ∙ z)))
-    | place_members-else-has_members w ↦
+      | place_members-else-has_members w ↦
           P.2 _ (λ z. absurd (true≢false (sym z ∙ sym c.has_members.ensures ∙ w.if-has_members.false))) (λ z. w.buf-is)
     ] in
     let less : c.unpack-e.result.kind ≡ 17 → c.loop-began.j ≤ c.if-e-eq-SET-2.j = elim c.if-e-eq-SET-2.branch [
-      place_members-then-e-eq-SET-2+in-Some w ↦ λ z. let F = rw w.in-Some.is at w.following.ensures.0 in rw w.j-is F.least
-    | place_members-else-e-eq-SET-2+then-not-holds_one+else-is_over w ↦ λ z. absurd (w.if-e-eq-SET-2.false z)
-    | place_members-else-e-eq-SET-2+else-not-holds_one w ↦ λ z. absurd (w.if-e-eq-SET-2.false z)
+      | place_members-then-e-eq-SET-2+in-Some w ↦ λ z. let F = rw w.in-Some.is at w.following.ensures.0 in rw w.j-is F.least
+      | place_members-else-e-eq-SET-2+then-not-holds_one+else-is_over w ↦ λ z. absurd (w.if-e-eq-SET-2.false z)
+      | place_members-else-e-eq-SET-2+else-not-holds_one w ↦ λ z. absurd (w.if-e-eq-SET-2.false z)
     ] in
     let same : (c.unpack-e.result.kind ≡ 17 → ⊥) → c.if-e-eq-SET-2.at ≡ c.loop-began.at = elim c.if-e-eq-SET-2.branch [
-      place_members-then-e-eq-SET-2+in-Some w ↦ λ n. absurd (n w.if-e-eq-SET-2.true)
-    | place_members-else-e-eq-SET-2+then-not-holds_one+else-is_over w ↦ λ n. w.at-is
-    | place_members-else-e-eq-SET-2+else-not-holds_one w ↦ λ n. w.at-is
+      | place_members-then-e-eq-SET-2+in-Some w ↦ λ n. absurd (n w.if-e-eq-SET-2.true)
+      | place_members-else-e-eq-SET-2+then-not-holds_one+else-is_over w ↦ λ n. w.at-is
+      | place_members-else-e-eq-SET-2+else-not-holds_one w ↦ λ n. w.at-is
     ] in
     chosen_fewer X _ R c.put_place.ensures c.place_value-y.ensures.1 _ _ less same
 
@@ -358,23 +446,25 @@ place_members-loop-began-preserved t c =
     let X = c.loop-began.invariant.started in
     let L = c.loop-began.invariant.state in
     let C : Coming X c.loop-began.count c.if-e-eq-SET-2.buf c.if-e-eq-SET-2.at c.loop-began.next c.if-e-eq-SET-2.j = elim c.if-e-eq-SET-2.branch [
-      place_members-then-e-eq-SET-2+in-Some w ↦
+      | place_members-then-e-eq-SET-2+in-Some w ↦
           rw (w.buf-is, w.at-is, w.j-is) (set_comes X L w.if-e-eq-SET-2.true _ (rw w.in-Some.is at w.following.ensures.0) w.put_absent-then-e-eq-SET-2.ensures
           (λ z. omega (arith, rw w.in-Some.is at w.following.ensures.1)))
-    | place_members-else-e-eq-SET-2+then-not-holds_one+else-is_over w ↦
+      | place_members-else-e-eq-SET-2+then-not-holds_one+else-is_over w ↦
           rw (w.buf-is, w.at-is, w.j-is) (other_comes X L w.if-e-eq-SET-2.false _ w.holds_one.ensures w.if-not-holds_one.true _ w.is_over.ensures w.if-is_over.false)
-    | place_members-else-e-eq-SET-2+else-not-holds_one w ↦
+      | place_members-else-e-eq-SET-2+else-not-holds_one w ↦
           rw (w.buf-is, w.at-is, w.j-is) (one_comes X L w.if-e-eq-SET-2.false _ w.holds_one.ensures w.if-not-holds_one.false)
     ] in
-    let S = rw (part_to_end c.args.m.now c.if-e-eq-SET-2.at) at c.search.ensures.1 in
-    let ways = c.search.ensures.0 in
-    let F = rw c.in-Ok.is at S in
-    let P = picked X _ C c.in-Ok.x _ ways F c.put_way-next.ensures.1 c.put_way-next.ensures.0 refl refl refl in
-    let R : Chosen X c.loop-began.count c.if-e-eq-SET-2.j c.if-has_members.buf c.if-e-eq-SET-2.at c.put_way-next.result c.in-Ok.x.place c.in-Ok.x.«record»
-    (c.if-e-eq-SET-2.at + c.in-Ok.x.from) = elim c.if-has_members.branch [
-      place_members-then-has_members w ↦
+    let F : (length c.match-in_turn.way' ≡ 128) × FindsPart X _ C c.match-in_turn.x c.match-in_turn.way' = elim c.match-in_turn.branch [
+      | place_members-in-Some-in_turn w ↦ rw (w.way'-is, w.x-is) (c.loop-began.invariant.ways, c.in_turn.ensures _ w.in-Some-in_turn.is _)
+      | place_members-in-None+in-Ok w ↦
+          rw (w.way'-is, w.x-is) (w.search.ensures.0, rw (part_to_end c.args.m.now c.if-e-eq-SET-2.at, w.in-Ok.is) at w.search.ensures.1)
+    ] in
+    let P = picked X _ C c.match-in_turn.x _ F.0 F.1 c.put_way-next.ensures.1 c.put_way-next.ensures.0 refl refl refl in
+    let R : Chosen X c.loop-began.count c.if-e-eq-SET-2.j c.if-has_members.buf c.if-e-eq-SET-2.at c.put_way-next.result c.match-in_turn.x.place c.match-in_turn.x.«record»
+    (c.if-e-eq-SET-2.at + c.match-in_turn.x.from) = elim c.if-has_members.branch [
+      | place_members-then-has_members w ↦
           P.2 _ (λ z. w.buf-is ∙ w.put_absent-then-has_members.ensures) (λ z. absurd (true≢false (sym w.if-has_members.true ∙ c.has_members.ensures ∙ z)))
-    | place_members-else-has_members w ↦
+      | place_members-else-has_members w ↦
           P.2 _ (λ z. absurd (true≢false (sym z ∙ sym c.has_members.ensures ∙ w.if-has_members.false))) (λ z. w.buf-is)
     ] in
     record {
@@ -390,17 +480,17 @@ place_value-slice_bounds-c-count t c =
     let P = c.requires in
     let e = c.unpack-e.ensures in
     let U : Accepted a.table.now a.w a.m.now a.at P.fits.value P.fits.rest c.if-e-gt0.notes c.if-e-gt0.inner.at c.if-e-gt0.inner.from c.if-e-gt0.inner.end = elim c.if-e-gt0.branch [
-      place_value-then-e-gt0+in-Ok w ↦
+      | place_value-then-e-gt0+in-Ok w ↦
           accepted_as (under_open P _ _ w.«open».ensures.1 w.«open».ensures.0 _ w.in-Ok.is) w.notes-is (ap (λ (x : Inner). x.at) w.inner-is) (ap (λ (x : Inner). x.from) w.inner-is) (ap (λ (x : Inner). x.end) w.inner-is)
-    | place_value-then-e-gt0+in_default w ↦ absurd (must_open P _ _ w.«open».ensures.1 _ _ w.in_default.is)
-    | place_value-else-e-gt0 w ↦
+      | place_value-then-e-gt0+in_default w ↦ absurd (must_open P _ _ w.«open».ensures.1 _ _ w.in_default.is)
+      | place_value-else-e-gt0 w ↦
           accepted_as (under_none P (rw e at w.if-e-gt0.false) _ refl) w.notes-is (ap (λ (x : Inner). x.at) w.inner-is) (ap (λ (x : Inner). x.from) w.inner-is) (ap (λ (x : Inner). x.end) w.inner-is)
     ] in
     let K : Contents a.table.now a.w a.m.now a.at c.if-e-gt0.inner.at c.if-e-gt0.inner.end P.fits.value U.left c.if-e-ne-CHOICE.start c.if-e-ne-CHOICE.stop c.if-e-ne-CHOICE.indefinite
     = elim c.if-e-ne-CHOICE.branch [
-      place_value-then-e-ne-CHOICE w ↦
+      | place_value-then-e-ne-CHOICE w ↦
           contents_as (read_contents P U (λ i. omega (arith, c.type_inv.m i)) (λ i. omega (arith, c.type_inv.table i)) (rw e at w.if-e-ne-CHOICE.true) w.again-x.result w.again-x.ensures) w.start-is w.stop-is w.indefinite-is
-    | place_value-else-e-ne-CHOICE w ↦
+      | place_value-else-e-ne-CHOICE w ↦
           contents_as (choice_contents P U (λ i. omega (arith, c.type_inv.m i)) (λ i. omega (arith, c.type_inv.table i)) (rw e at w.if-e-ne-CHOICE.false)) w.start-is w.stop-is w.indefinite-is
     ] in
     K.order
@@ -411,17 +501,17 @@ place_value-slice_bounds-c-start t c =
     let P = c.requires in
     let e = c.unpack-e.ensures in
     let U : Accepted a.table.now a.w a.m.now a.at P.fits.value P.fits.rest c.if-e-gt0.notes c.if-e-gt0.inner.at c.if-e-gt0.inner.from c.if-e-gt0.inner.end = elim c.if-e-gt0.branch [
-      place_value-then-e-gt0+in-Ok w ↦
+      | place_value-then-e-gt0+in-Ok w ↦
           accepted_as (under_open P _ _ w.«open».ensures.1 w.«open».ensures.0 _ w.in-Ok.is) w.notes-is (ap (λ (x : Inner). x.at) w.inner-is) (ap (λ (x : Inner). x.from) w.inner-is) (ap (λ (x : Inner). x.end) w.inner-is)
-    | place_value-then-e-gt0+in_default w ↦ absurd (must_open P _ _ w.«open».ensures.1 _ _ w.in_default.is)
-    | place_value-else-e-gt0 w ↦
+      | place_value-then-e-gt0+in_default w ↦ absurd (must_open P _ _ w.«open».ensures.1 _ _ w.in_default.is)
+      | place_value-else-e-gt0 w ↦
           accepted_as (under_none P (rw e at w.if-e-gt0.false) _ refl) w.notes-is (ap (λ (x : Inner). x.at) w.inner-is) (ap (λ (x : Inner). x.from) w.inner-is) (ap (λ (x : Inner). x.end) w.inner-is)
     ] in
     let K : Contents a.table.now a.w a.m.now a.at c.if-e-gt0.inner.at c.if-e-gt0.inner.end P.fits.value U.left c.if-e-ne-CHOICE.start c.if-e-ne-CHOICE.stop c.if-e-ne-CHOICE.indefinite
     = elim c.if-e-ne-CHOICE.branch [
-      place_value-then-e-ne-CHOICE w ↦
+      | place_value-then-e-ne-CHOICE w ↦
           contents_as (read_contents P U (λ i. omega (arith, c.type_inv.m i)) (λ i. omega (arith, c.type_inv.table i)) (rw e at w.if-e-ne-CHOICE.true) w.again-x.result w.again-x.ensures) w.start-is w.stop-is w.indefinite-is
-    | place_value-else-e-ne-CHOICE w ↦
+      | place_value-else-e-ne-CHOICE w ↦
           contents_as (choice_contents P U (λ i. omega (arith, c.type_inv.m i)) (λ i. omega (arith, c.type_inv.table i)) (rw e at w.if-e-ne-CHOICE.false)) w.start-is w.stop-is w.indefinite-is
     ] in
     let h = K.order in search rules
@@ -432,17 +522,17 @@ place_value-slice_bounds-c-end t c =
     let P = c.requires in
     let e = c.unpack-e.ensures in
     let U : Accepted a.table.now a.w a.m.now a.at P.fits.value P.fits.rest c.if-e-gt0.notes c.if-e-gt0.inner.at c.if-e-gt0.inner.from c.if-e-gt0.inner.end = elim c.if-e-gt0.branch [
-      place_value-then-e-gt0+in-Ok w ↦
+      | place_value-then-e-gt0+in-Ok w ↦
           accepted_as (under_open P _ _ w.«open».ensures.1 w.«open».ensures.0 _ w.in-Ok.is) w.notes-is (ap (λ (x : Inner). x.at) w.inner-is) (ap (λ (x : Inner). x.from) w.inner-is) (ap (λ (x : Inner). x.end) w.inner-is)
-    | place_value-then-e-gt0+in_default w ↦ absurd (must_open P _ _ w.«open».ensures.1 _ _ w.in_default.is)
-    | place_value-else-e-gt0 w ↦
+      | place_value-then-e-gt0+in_default w ↦ absurd (must_open P _ _ w.«open».ensures.1 _ _ w.in_default.is)
+      | place_value-else-e-gt0 w ↦
           accepted_as (under_none P (rw e at w.if-e-gt0.false) _ refl) w.notes-is (ap (λ (x : Inner). x.at) w.inner-is) (ap (λ (x : Inner). x.from) w.inner-is) (ap (λ (x : Inner). x.end) w.inner-is)
     ] in
     let K : Contents a.table.now a.w a.m.now a.at c.if-e-gt0.inner.at c.if-e-gt0.inner.end P.fits.value U.left c.if-e-ne-CHOICE.start c.if-e-ne-CHOICE.stop c.if-e-ne-CHOICE.indefinite
     = elim c.if-e-ne-CHOICE.branch [
-      place_value-then-e-ne-CHOICE w ↦
+      | place_value-then-e-ne-CHOICE w ↦
           contents_as (read_contents P U (λ i. omega (arith, c.type_inv.m i)) (λ i. omega (arith, c.type_inv.table i)) (rw e at w.if-e-ne-CHOICE.true) w.again-x.result w.again-x.ensures) w.start-is w.stop-is w.indefinite-is
-    | place_value-else-e-ne-CHOICE w ↦
+      | place_value-else-e-ne-CHOICE w ↦
           contents_as (choice_contents P U (λ i. omega (arith, c.type_inv.m i)) (λ i. omega (arith, c.type_inv.table i)) (rw e at w.if-e-ne-CHOICE.false)) w.start-is w.stop-is w.indefinite-is
     ] in
     let h = part_high P U K in search rules
@@ -453,17 +543,17 @@ place_value-slice_bounds-c-count-else-e t c =
     let P = c.requires in
     let e = c.unpack-e.ensures in
     let U : Accepted a.table.now a.w a.m.now a.at P.fits.value P.fits.rest c.if-e-gt0.notes c.if-e-gt0.inner.at c.if-e-gt0.inner.from c.if-e-gt0.inner.end = elim c.if-e-gt0.branch [
-      place_value-then-e-gt0+in-Ok w ↦
+      | place_value-then-e-gt0+in-Ok w ↦
           accepted_as (under_open P _ _ w.«open».ensures.1 w.«open».ensures.0 _ w.in-Ok.is) w.notes-is (ap (λ (x : Inner). x.at) w.inner-is) (ap (λ (x : Inner). x.from) w.inner-is) (ap (λ (x : Inner). x.end) w.inner-is)
-    | place_value-then-e-gt0+in_default w ↦ absurd (must_open P _ _ w.«open».ensures.1 _ _ w.in_default.is)
-    | place_value-else-e-gt0 w ↦
+      | place_value-then-e-gt0+in_default w ↦ absurd (must_open P _ _ w.«open».ensures.1 _ _ w.in_default.is)
+      | place_value-else-e-gt0 w ↦
           accepted_as (under_none P (rw e at w.if-e-gt0.false) _ refl) w.notes-is (ap (λ (x : Inner). x.at) w.inner-is) (ap (λ (x : Inner). x.from) w.inner-is) (ap (λ (x : Inner). x.end) w.inner-is)
     ] in
     let K : Contents a.table.now a.w a.m.now a.at c.if-e-gt0.inner.at c.if-e-gt0.inner.end P.fits.value U.left c.if-e-ne-CHOICE.start c.if-e-ne-CHOICE.stop c.if-e-ne-CHOICE.indefinite
     = elim c.if-e-ne-CHOICE.branch [
-      place_value-then-e-ne-CHOICE w ↦
+      | place_value-then-e-ne-CHOICE w ↦
           contents_as (read_contents P U (λ i. omega (arith, c.type_inv.m i)) (λ i. omega (arith, c.type_inv.table i)) (rw e at w.if-e-ne-CHOICE.true) w.again-x.result w.again-x.ensures) w.start-is w.stop-is w.indefinite-is
-    | place_value-else-e-ne-CHOICE w ↦
+      | place_value-else-e-ne-CHOICE w ↦
           contents_as (choice_contents P U (λ i. omega (arith, c.type_inv.m i)) (λ i. omega (arith, c.type_inv.table i)) (rw e at w.if-e-ne-CHOICE.false)) w.start-is w.stop-is w.indefinite-is
     ] in
     K.order
@@ -474,17 +564,17 @@ place_value-slice_bounds-c-start-else-e t c =
     let P = c.requires in
     let e = c.unpack-e.ensures in
     let U : Accepted a.table.now a.w a.m.now a.at P.fits.value P.fits.rest c.if-e-gt0.notes c.if-e-gt0.inner.at c.if-e-gt0.inner.from c.if-e-gt0.inner.end = elim c.if-e-gt0.branch [
-      place_value-then-e-gt0+in-Ok w ↦
+      | place_value-then-e-gt0+in-Ok w ↦
           accepted_as (under_open P _ _ w.«open».ensures.1 w.«open».ensures.0 _ w.in-Ok.is) w.notes-is (ap (λ (x : Inner). x.at) w.inner-is) (ap (λ (x : Inner). x.from) w.inner-is) (ap (λ (x : Inner). x.end) w.inner-is)
-    | place_value-then-e-gt0+in_default w ↦ absurd (must_open P _ _ w.«open».ensures.1 _ _ w.in_default.is)
-    | place_value-else-e-gt0 w ↦
+      | place_value-then-e-gt0+in_default w ↦ absurd (must_open P _ _ w.«open».ensures.1 _ _ w.in_default.is)
+      | place_value-else-e-gt0 w ↦
           accepted_as (under_none P (rw e at w.if-e-gt0.false) _ refl) w.notes-is (ap (λ (x : Inner). x.at) w.inner-is) (ap (λ (x : Inner). x.from) w.inner-is) (ap (λ (x : Inner). x.end) w.inner-is)
     ] in
     let K : Contents a.table.now a.w a.m.now a.at c.if-e-gt0.inner.at c.if-e-gt0.inner.end P.fits.value U.left c.if-e-ne-CHOICE.start c.if-e-ne-CHOICE.stop c.if-e-ne-CHOICE.indefinite
     = elim c.if-e-ne-CHOICE.branch [
-      place_value-then-e-ne-CHOICE w ↦
+      | place_value-then-e-ne-CHOICE w ↦
           contents_as (read_contents P U (λ i. omega (arith, c.type_inv.m i)) (λ i. omega (arith, c.type_inv.table i)) (rw e at w.if-e-ne-CHOICE.true) w.again-x.result w.again-x.ensures) w.start-is w.stop-is w.indefinite-is
-    | place_value-else-e-ne-CHOICE w ↦
+      | place_value-else-e-ne-CHOICE w ↦
           contents_as (choice_contents P U (λ i. omega (arith, c.type_inv.m i)) (λ i. omega (arith, c.type_inv.table i)) (rw e at w.if-e-ne-CHOICE.false)) w.start-is w.stop-is w.indefinite-is
     ] in
     let h = K.order in search rules
@@ -495,17 +585,17 @@ place_value-slice_bounds-c-end-else-e t c =
     let P = c.requires in
     let e = c.unpack-e.ensures in
     let U : Accepted a.table.now a.w a.m.now a.at P.fits.value P.fits.rest c.if-e-gt0.notes c.if-e-gt0.inner.at c.if-e-gt0.inner.from c.if-e-gt0.inner.end = elim c.if-e-gt0.branch [
-      place_value-then-e-gt0+in-Ok w ↦
+      | place_value-then-e-gt0+in-Ok w ↦
           accepted_as (under_open P _ _ w.«open».ensures.1 w.«open».ensures.0 _ w.in-Ok.is) w.notes-is (ap (λ (x : Inner). x.at) w.inner-is) (ap (λ (x : Inner). x.from) w.inner-is) (ap (λ (x : Inner). x.end) w.inner-is)
-    | place_value-then-e-gt0+in_default w ↦ absurd (must_open P _ _ w.«open».ensures.1 _ _ w.in_default.is)
-    | place_value-else-e-gt0 w ↦
+      | place_value-then-e-gt0+in_default w ↦ absurd (must_open P _ _ w.«open».ensures.1 _ _ w.in_default.is)
+      | place_value-else-e-gt0 w ↦
           accepted_as (under_none P (rw e at w.if-e-gt0.false) _ refl) w.notes-is (ap (λ (x : Inner). x.at) w.inner-is) (ap (λ (x : Inner). x.from) w.inner-is) (ap (λ (x : Inner). x.end) w.inner-is)
     ] in
     let K : Contents a.table.now a.w a.m.now a.at c.if-e-gt0.inner.at c.if-e-gt0.inner.end P.fits.value U.left c.if-e-ne-CHOICE.start c.if-e-ne-CHOICE.stop c.if-e-ne-CHOICE.indefinite
     = elim c.if-e-ne-CHOICE.branch [
-      place_value-then-e-ne-CHOICE w ↦
+      | place_value-then-e-ne-CHOICE w ↦
           contents_as (read_contents P U (λ i. omega (arith, c.type_inv.m i)) (λ i. omega (arith, c.type_inv.table i)) (rw e at w.if-e-ne-CHOICE.true) w.again-x.result w.again-x.ensures) w.start-is w.stop-is w.indefinite-is
-    | place_value-else-e-ne-CHOICE w ↦
+      | place_value-else-e-ne-CHOICE w ↦
           contents_as (choice_contents P U (λ i. omega (arith, c.type_inv.m i)) (λ i. omega (arith, c.type_inv.table i)) (rw e at w.if-e-ne-CHOICE.false)) w.start-is w.stop-is w.indefinite-is
     ] in
     let h = part_high P U K in search rules
@@ -516,17 +606,17 @@ place_value-place_segments-x-requires t c =
     let P = c.requires in
     let e = c.unpack-e.ensures in
     let U : Accepted a.table.now a.w a.m.now a.at P.fits.value P.fits.rest c.if-e-gt0.notes c.if-e-gt0.inner.at c.if-e-gt0.inner.from c.if-e-gt0.inner.end = elim c.if-e-gt0.branch [
-      place_value-then-e-gt0+in-Ok w ↦
+      | place_value-then-e-gt0+in-Ok w ↦
           accepted_as (under_open P _ _ w.«open».ensures.1 w.«open».ensures.0 _ w.in-Ok.is) w.notes-is (ap (λ (x : Inner). x.at) w.inner-is) (ap (λ (x : Inner). x.from) w.inner-is) (ap (λ (x : Inner). x.end) w.inner-is)
-    | place_value-then-e-gt0+in_default w ↦ absurd (must_open P _ _ w.«open».ensures.1 _ _ w.in_default.is)
-    | place_value-else-e-gt0 w ↦
+      | place_value-then-e-gt0+in_default w ↦ absurd (must_open P _ _ w.«open».ensures.1 _ _ w.in_default.is)
+      | place_value-else-e-gt0 w ↦
           accepted_as (under_none P (rw e at w.if-e-gt0.false) _ refl) w.notes-is (ap (λ (x : Inner). x.at) w.inner-is) (ap (λ (x : Inner). x.from) w.inner-is) (ap (λ (x : Inner). x.end) w.inner-is)
     ] in
     let K : Contents a.table.now a.w a.m.now a.at c.if-e-gt0.inner.at c.if-e-gt0.inner.end P.fits.value U.left c.if-e-ne-CHOICE.start c.if-e-ne-CHOICE.stop c.if-e-ne-CHOICE.indefinite
     = elim c.if-e-ne-CHOICE.branch [
-      place_value-then-e-ne-CHOICE w ↦
+      | place_value-then-e-ne-CHOICE w ↦
           contents_as (read_contents P U (λ i. omega (arith, c.type_inv.m i)) (λ i. omega (arith, c.type_inv.table i)) (rw e at w.if-e-ne-CHOICE.true) w.again-x.result w.again-x.ensures) w.start-is w.stop-is w.indefinite-is
-    | place_value-else-e-ne-CHOICE w ↦
+      | place_value-else-e-ne-CHOICE w ↦
           contents_as (choice_contents P U (λ i. omega (arith, c.type_inv.m i)) (λ i. omega (arith, c.type_inv.table i)) (rw e at w.if-e-ne-CHOICE.false)) w.start-is w.stop-is w.indefinite-is
     ] in
     parts_ask P U K _ e c.if-e.true (sym c.in_segments.ensures ∙ c.if-in_segments.true)
@@ -537,17 +627,17 @@ place_value-overflow_add-stop t c =
     let P = c.requires in
     let e = c.unpack-e.ensures in
     let U : Accepted a.table.now a.w a.m.now a.at P.fits.value P.fits.rest c.if-e-gt0.notes c.if-e-gt0.inner.at c.if-e-gt0.inner.from c.if-e-gt0.inner.end = elim c.if-e-gt0.branch [
-      place_value-then-e-gt0+in-Ok w ↦
+      | place_value-then-e-gt0+in-Ok w ↦
           accepted_as (under_open P _ _ w.«open».ensures.1 w.«open».ensures.0 _ w.in-Ok.is) w.notes-is (ap (λ (x : Inner). x.at) w.inner-is) (ap (λ (x : Inner). x.from) w.inner-is) (ap (λ (x : Inner). x.end) w.inner-is)
-    | place_value-then-e-gt0+in_default w ↦ absurd (must_open P _ _ w.«open».ensures.1 _ _ w.in_default.is)
-    | place_value-else-e-gt0 w ↦
+      | place_value-then-e-gt0+in_default w ↦ absurd (must_open P _ _ w.«open».ensures.1 _ _ w.in_default.is)
+      | place_value-else-e-gt0 w ↦
           accepted_as (under_none P (rw e at w.if-e-gt0.false) _ refl) w.notes-is (ap (λ (x : Inner). x.at) w.inner-is) (ap (λ (x : Inner). x.from) w.inner-is) (ap (λ (x : Inner). x.end) w.inner-is)
     ] in
     let K : Contents a.table.now a.w a.m.now a.at c.if-e-gt0.inner.at c.if-e-gt0.inner.end P.fits.value U.left c.if-e-ne-CHOICE.start c.if-e-ne-CHOICE.stop c.if-e-ne-CHOICE.indefinite
     = elim c.if-e-ne-CHOICE.branch [
-      place_value-then-e-ne-CHOICE w ↦
+      | place_value-then-e-ne-CHOICE w ↦
           contents_as (read_contents P U (λ i. omega (arith, c.type_inv.m i)) (λ i. omega (arith, c.type_inv.table i)) (rw e at w.if-e-ne-CHOICE.true) w.again-x.result w.again-x.ensures) w.start-is w.stop-is w.indefinite-is
-    | place_value-else-e-ne-CHOICE w ↦
+      | place_value-else-e-ne-CHOICE w ↦
           contents_as (choice_contents P U (λ i. omega (arith, c.type_inv.m i)) (λ i. omega (arith, c.type_inv.table i)) (rw e at w.if-e-ne-CHOICE.false)) w.start-is w.stop-is w.indefinite-is
     ] in
     omega (arith, parts_end P U K _ e c.if-e.true (sym c.in_segments.ensures ∙ c.if-in_segments.true) _ _ c.place_segments-x.ensures)
@@ -558,17 +648,17 @@ place_value-place_contents-next-requires t c =
     let P = c.requires in
     let e = c.unpack-e.ensures in
     let U : Accepted a.table.now a.w a.m.now a.at P.fits.value P.fits.rest c.if-e-gt0.notes c.if-e-gt0.inner.at c.if-e-gt0.inner.from c.if-e-gt0.inner.end = elim c.if-e-gt0.branch [
-      place_value-then-e-gt0+in-Ok w ↦
+      | place_value-then-e-gt0+in-Ok w ↦
           accepted_as (under_open P _ _ w.«open».ensures.1 w.«open».ensures.0 _ w.in-Ok.is) w.notes-is (ap (λ (x : Inner). x.at) w.inner-is) (ap (λ (x : Inner). x.from) w.inner-is) (ap (λ (x : Inner). x.end) w.inner-is)
-    | place_value-then-e-gt0+in_default w ↦ absurd (must_open P _ _ w.«open».ensures.1 _ _ w.in_default.is)
-    | place_value-else-e-gt0 w ↦
+      | place_value-then-e-gt0+in_default w ↦ absurd (must_open P _ _ w.«open».ensures.1 _ _ w.in_default.is)
+      | place_value-else-e-gt0 w ↦
           accepted_as (under_none P (rw e at w.if-e-gt0.false) _ refl) w.notes-is (ap (λ (x : Inner). x.at) w.inner-is) (ap (λ (x : Inner). x.from) w.inner-is) (ap (λ (x : Inner). x.end) w.inner-is)
     ] in
     let K : Contents a.table.now a.w a.m.now a.at c.if-e-gt0.inner.at c.if-e-gt0.inner.end P.fits.value U.left c.if-e-ne-CHOICE.start c.if-e-ne-CHOICE.stop c.if-e-ne-CHOICE.indefinite
     = elim c.if-e-ne-CHOICE.branch [
-      place_value-then-e-ne-CHOICE w ↦
+      | place_value-then-e-ne-CHOICE w ↦
           contents_as (read_contents P U (λ i. omega (arith, c.type_inv.m i)) (λ i. omega (arith, c.type_inv.table i)) (rw e at w.if-e-ne-CHOICE.true) w.again-x.result w.again-x.ensures) w.start-is w.stop-is w.indefinite-is
-    | place_value-else-e-ne-CHOICE w ↦
+      | place_value-else-e-ne-CHOICE w ↦
           contents_as (choice_contents P U (λ i. omega (arith, c.type_inv.m i)) (λ i. omega (arith, c.type_inv.table i)) (rw e at w.if-e-ne-CHOICE.false)) w.start-is w.stop-is w.indefinite-is
     ] in
     leaf_asks P U K _ e c.if-e.true (sym c.in_segments.ensures ∙ c.if-in_segments.false)
@@ -579,17 +669,17 @@ place_value-place_members-x-requires t c =
     let P = c.requires in
     let e = c.unpack-e.ensures in
     let U : Accepted a.table.now a.w a.m.now a.at P.fits.value P.fits.rest c.if-e-gt0.notes c.if-e-gt0.inner.at c.if-e-gt0.inner.from c.if-e-gt0.inner.end = elim c.if-e-gt0.branch [
-      place_value-then-e-gt0+in-Ok w ↦
+      | place_value-then-e-gt0+in-Ok w ↦
           accepted_as (under_open P _ _ w.«open».ensures.1 w.«open».ensures.0 _ w.in-Ok.is) w.notes-is (ap (λ (x : Inner). x.at) w.inner-is) (ap (λ (x : Inner). x.from) w.inner-is) (ap (λ (x : Inner). x.end) w.inner-is)
-    | place_value-then-e-gt0+in_default w ↦ absurd (must_open P _ _ w.«open».ensures.1 _ _ w.in_default.is)
-    | place_value-else-e-gt0 w ↦
+      | place_value-then-e-gt0+in_default w ↦ absurd (must_open P _ _ w.«open».ensures.1 _ _ w.in_default.is)
+      | place_value-else-e-gt0 w ↦
           accepted_as (under_none P (rw e at w.if-e-gt0.false) _ refl) w.notes-is (ap (λ (x : Inner). x.at) w.inner-is) (ap (λ (x : Inner). x.from) w.inner-is) (ap (λ (x : Inner). x.end) w.inner-is)
     ] in
     let K : Contents a.table.now a.w a.m.now a.at c.if-e-gt0.inner.at c.if-e-gt0.inner.end P.fits.value U.left c.if-e-ne-CHOICE.start c.if-e-ne-CHOICE.stop c.if-e-ne-CHOICE.indefinite
     = elim c.if-e-ne-CHOICE.branch [
-      place_value-then-e-ne-CHOICE w ↦
+      | place_value-then-e-ne-CHOICE w ↦
           contents_as (read_contents P U (λ i. omega (arith, c.type_inv.m i)) (λ i. omega (arith, c.type_inv.table i)) (rw e at w.if-e-ne-CHOICE.true) w.again-x.result w.again-x.ensures) w.start-is w.stop-is w.indefinite-is
-    | place_value-else-e-ne-CHOICE w ↦
+      | place_value-else-e-ne-CHOICE w ↦
           contents_as (choice_contents P U (λ i. omega (arith, c.type_inv.m i)) (λ i. omega (arith, c.type_inv.table i)) (rw e at w.if-e-ne-CHOICE.false)) w.start-is w.stop-is w.indefinite-is
     ] in
     (omega (arith, c.decreases, part_less P U K), items_ask P U K (rw e at c.if-e.false))
@@ -600,17 +690,17 @@ place_value-overflow_add-stop-else-e t c =
     let P = c.requires in
     let e = c.unpack-e.ensures in
     let U : Accepted a.table.now a.w a.m.now a.at P.fits.value P.fits.rest c.if-e-gt0.notes c.if-e-gt0.inner.at c.if-e-gt0.inner.from c.if-e-gt0.inner.end = elim c.if-e-gt0.branch [
-      place_value-then-e-gt0+in-Ok w ↦
+      | place_value-then-e-gt0+in-Ok w ↦
           accepted_as (under_open P _ _ w.«open».ensures.1 w.«open».ensures.0 _ w.in-Ok.is) w.notes-is (ap (λ (x : Inner). x.at) w.inner-is) (ap (λ (x : Inner). x.from) w.inner-is) (ap (λ (x : Inner). x.end) w.inner-is)
-    | place_value-then-e-gt0+in_default w ↦ absurd (must_open P _ _ w.«open».ensures.1 _ _ w.in_default.is)
-    | place_value-else-e-gt0 w ↦
+      | place_value-then-e-gt0+in_default w ↦ absurd (must_open P _ _ w.«open».ensures.1 _ _ w.in_default.is)
+      | place_value-else-e-gt0 w ↦
           accepted_as (under_none P (rw e at w.if-e-gt0.false) _ refl) w.notes-is (ap (λ (x : Inner). x.at) w.inner-is) (ap (λ (x : Inner). x.from) w.inner-is) (ap (λ (x : Inner). x.end) w.inner-is)
     ] in
     let K : Contents a.table.now a.w a.m.now a.at c.if-e-gt0.inner.at c.if-e-gt0.inner.end P.fits.value U.left c.if-e-ne-CHOICE.start c.if-e-ne-CHOICE.stop c.if-e-ne-CHOICE.indefinite
     = elim c.if-e-ne-CHOICE.branch [
-      place_value-then-e-ne-CHOICE w ↦
+      | place_value-then-e-ne-CHOICE w ↦
           contents_as (read_contents P U (λ i. omega (arith, c.type_inv.m i)) (λ i. omega (arith, c.type_inv.table i)) (rw e at w.if-e-ne-CHOICE.true) w.again-x.result w.again-x.ensures) w.start-is w.stop-is w.indefinite-is
-    | place_value-else-e-ne-CHOICE w ↦
+      | place_value-else-e-ne-CHOICE w ↦
           contents_as (choice_contents P U (λ i. omega (arith, c.type_inv.m i)) (λ i. omega (arith, c.type_inv.table i)) (rw e at w.if-e-ne-CHOICE.false)) w.start-is w.stop-is w.indefinite-is
     ] in
     omega (arith, items_end P U K (rw e at c.if-e.false) _ _ c.place_members-x.ensures.1)
@@ -621,27 +711,27 @@ place_value-close-requires t c =
     let P = c.requires in
     let e = c.unpack-e.ensures in
     let U : Accepted a.table.now a.w a.m.now a.at P.fits.value P.fits.rest c.if-e-gt0.notes c.if-e-gt0.inner.at c.if-e-gt0.inner.from c.if-e-gt0.inner.end = elim c.if-e-gt0.branch [
-      place_value-then-e-gt0+in-Ok w ↦
+      | place_value-then-e-gt0+in-Ok w ↦
           accepted_as (under_open P _ _ w.«open».ensures.1 w.«open».ensures.0 _ w.in-Ok.is) w.notes-is (ap (λ (x : Inner). x.at) w.inner-is) (ap (λ (x : Inner). x.from) w.inner-is) (ap (λ (x : Inner). x.end) w.inner-is)
-    | place_value-then-e-gt0+in_default w ↦ absurd (must_open P _ _ w.«open».ensures.1 _ _ w.in_default.is)
-    | place_value-else-e-gt0 w ↦
+      | place_value-then-e-gt0+in_default w ↦ absurd (must_open P _ _ w.«open».ensures.1 _ _ w.in_default.is)
+      | place_value-else-e-gt0 w ↦
           accepted_as (under_none P (rw e at w.if-e-gt0.false) _ refl) w.notes-is (ap (λ (x : Inner). x.at) w.inner-is) (ap (λ (x : Inner). x.from) w.inner-is) (ap (λ (x : Inner). x.end) w.inner-is)
     ] in
     let K : Contents a.table.now a.w a.m.now a.at c.if-e-gt0.inner.at c.if-e-gt0.inner.end P.fits.value U.left c.if-e-ne-CHOICE.start c.if-e-ne-CHOICE.stop c.if-e-ne-CHOICE.indefinite
     = elim c.if-e-ne-CHOICE.branch [
-      place_value-then-e-ne-CHOICE w ↦
+      | place_value-then-e-ne-CHOICE w ↦
           contents_as (read_contents P U (λ i. omega (arith, c.type_inv.m i)) (λ i. omega (arith, c.type_inv.table i)) (rw e at w.if-e-ne-CHOICE.true) w.again-x.result w.again-x.ensures) w.start-is w.stop-is w.indefinite-is
-    | place_value-else-e-ne-CHOICE w ↦
+      | place_value-else-e-ne-CHOICE w ↦
           contents_as (choice_contents P U (λ i. omega (arith, c.type_inv.m i)) (λ i. omega (arith, c.type_inv.table i)) (rw e at w.if-e-ne-CHOICE.false)) w.start-is w.stop-is w.indefinite-is
     ] in
     let S : Stored P.fits.value a.m.now c.if-e-gt0.inner.end U.left a.buf.now a.to c.if-e.buf c.if-e.stop c.if-e.next c.if-e.way' = elim c.if-e.branch [
-      place_value-then-e+then-in_segments w ↦
+      | place_value-then-e+then-in_segments w ↦
           stored_as (parts_stored P U K _ e w.if-e.true (sym w.in_segments.ensures ∙ w.if-in_segments.true) _ _ w.place_segments-x.ensures)
           w.buf-is w.way'-is w.stop-is w.next-is
-    | place_value-then-e+else-in_segments w ↦
+      | place_value-then-e+else-in_segments w ↦
           stored_as (leaf_stored P U K _ e w.if-e.true (sym w.in_segments.ensures ∙ w.if-in_segments.false) _ _ w.place_contents-next.ensures.0
           w.place_contents-next.ensures.1) w.buf-is w.way'-is w.stop-is w.next-is
-    | place_value-else-e w ↦
+      | place_value-else-e w ↦
           stored_as (items_stored P U K (rw e at w.if-e.false) _ _ w.place_members-x.ensures.1 _ w.place_members-x.ensures.0)
           w.buf-is w.way'-is w.stop-is w.next-is
     ] in
@@ -653,27 +743,27 @@ place_value-returns-in-Ok-close t c =
     let P = c.requires in
     let e = c.unpack-e.ensures in
     let U : Accepted a.table.now a.w a.m.now a.at P.fits.value P.fits.rest c.if-e-gt0.notes c.if-e-gt0.inner.at c.if-e-gt0.inner.from c.if-e-gt0.inner.end = elim c.if-e-gt0.branch [
-      place_value-then-e-gt0+in-Ok w ↦
+      | place_value-then-e-gt0+in-Ok w ↦
           accepted_as (under_open P _ _ w.«open».ensures.1 w.«open».ensures.0 _ w.in-Ok.is) w.notes-is (ap (λ (x : Inner). x.at) w.inner-is) (ap (λ (x : Inner). x.from) w.inner-is) (ap (λ (x : Inner). x.end) w.inner-is)
-    | place_value-then-e-gt0+in_default w ↦ absurd (must_open P _ _ w.«open».ensures.1 _ _ w.in_default.is)
-    | place_value-else-e-gt0 w ↦
+      | place_value-then-e-gt0+in_default w ↦ absurd (must_open P _ _ w.«open».ensures.1 _ _ w.in_default.is)
+      | place_value-else-e-gt0 w ↦
           accepted_as (under_none P (rw e at w.if-e-gt0.false) _ refl) w.notes-is (ap (λ (x : Inner). x.at) w.inner-is) (ap (λ (x : Inner). x.from) w.inner-is) (ap (λ (x : Inner). x.end) w.inner-is)
     ] in
     let K : Contents a.table.now a.w a.m.now a.at c.if-e-gt0.inner.at c.if-e-gt0.inner.end P.fits.value U.left c.if-e-ne-CHOICE.start c.if-e-ne-CHOICE.stop c.if-e-ne-CHOICE.indefinite
     = elim c.if-e-ne-CHOICE.branch [
-      place_value-then-e-ne-CHOICE w ↦
+      | place_value-then-e-ne-CHOICE w ↦
           contents_as (read_contents P U (λ i. omega (arith, c.type_inv.m i)) (λ i. omega (arith, c.type_inv.table i)) (rw e at w.if-e-ne-CHOICE.true) w.again-x.result w.again-x.ensures) w.start-is w.stop-is w.indefinite-is
-    | place_value-else-e-ne-CHOICE w ↦
+      | place_value-else-e-ne-CHOICE w ↦
           contents_as (choice_contents P U (λ i. omega (arith, c.type_inv.m i)) (λ i. omega (arith, c.type_inv.table i)) (rw e at w.if-e-ne-CHOICE.false)) w.start-is w.stop-is w.indefinite-is
     ] in
     let S : Stored P.fits.value a.m.now c.if-e-gt0.inner.end U.left a.buf.now a.to c.if-e.buf c.if-e.stop c.if-e.next c.if-e.way' = elim c.if-e.branch [
-      place_value-then-e+then-in_segments w ↦
+      | place_value-then-e+then-in_segments w ↦
           stored_as (parts_stored P U K _ e w.if-e.true (sym w.in_segments.ensures ∙ w.if-in_segments.true) _ _ w.place_segments-x.ensures)
           w.buf-is w.way'-is w.stop-is w.next-is
-    | place_value-then-e+else-in_segments w ↦
+      | place_value-then-e+else-in_segments w ↦
           stored_as (leaf_stored P U K _ e w.if-e.true (sym w.in_segments.ensures ∙ w.if-in_segments.false) _ _ w.place_contents-next.ensures.0
           w.place_contents-next.ensures.1) w.buf-is w.way'-is w.stop-is w.next-is
-    | place_value-else-e w ↦
+      | place_value-else-e w ↦
           stored_as (items_stored P U K (rw e at w.if-e.false) _ _ w.place_members-x.ensures.1 _ w.place_members-x.ensures.0)
           w.buf-is w.way'-is w.stop-is w.next-is
     ] in
@@ -685,27 +775,27 @@ place_value-returns-in_default-close t c =
     let P = c.requires in
     let e = c.unpack-e.ensures in
     let U : Accepted a.table.now a.w a.m.now a.at P.fits.value P.fits.rest c.if-e-gt0.notes c.if-e-gt0.inner.at c.if-e-gt0.inner.from c.if-e-gt0.inner.end = elim c.if-e-gt0.branch [
-      place_value-then-e-gt0+in-Ok w ↦
+      | place_value-then-e-gt0+in-Ok w ↦
           accepted_as (under_open P _ _ w.«open».ensures.1 w.«open».ensures.0 _ w.in-Ok.is) w.notes-is (ap (λ (x : Inner). x.at) w.inner-is) (ap (λ (x : Inner). x.from) w.inner-is) (ap (λ (x : Inner). x.end) w.inner-is)
-    | place_value-then-e-gt0+in_default w ↦ absurd (must_open P _ _ w.«open».ensures.1 _ _ w.in_default.is)
-    | place_value-else-e-gt0 w ↦
+      | place_value-then-e-gt0+in_default w ↦ absurd (must_open P _ _ w.«open».ensures.1 _ _ w.in_default.is)
+      | place_value-else-e-gt0 w ↦
           accepted_as (under_none P (rw e at w.if-e-gt0.false) _ refl) w.notes-is (ap (λ (x : Inner). x.at) w.inner-is) (ap (λ (x : Inner). x.from) w.inner-is) (ap (λ (x : Inner). x.end) w.inner-is)
     ] in
     let K : Contents a.table.now a.w a.m.now a.at c.if-e-gt0.inner.at c.if-e-gt0.inner.end P.fits.value U.left c.if-e-ne-CHOICE.start c.if-e-ne-CHOICE.stop c.if-e-ne-CHOICE.indefinite
     = elim c.if-e-ne-CHOICE.branch [
-      place_value-then-e-ne-CHOICE w ↦
+      | place_value-then-e-ne-CHOICE w ↦
           contents_as (read_contents P U (λ i. omega (arith, c.type_inv.m i)) (λ i. omega (arith, c.type_inv.table i)) (rw e at w.if-e-ne-CHOICE.true) w.again-x.result w.again-x.ensures) w.start-is w.stop-is w.indefinite-is
-    | place_value-else-e-ne-CHOICE w ↦
+      | place_value-else-e-ne-CHOICE w ↦
           contents_as (choice_contents P U (λ i. omega (arith, c.type_inv.m i)) (λ i. omega (arith, c.type_inv.table i)) (rw e at w.if-e-ne-CHOICE.false)) w.start-is w.stop-is w.indefinite-is
     ] in
     let S : Stored P.fits.value a.m.now c.if-e-gt0.inner.end U.left a.buf.now a.to c.if-e.buf c.if-e.stop c.if-e.next c.if-e.way' = elim c.if-e.branch [
-      place_value-then-e+then-in_segments w ↦
+      | place_value-then-e+then-in_segments w ↦
           stored_as (parts_stored P U K _ e w.if-e.true (sym w.in_segments.ensures ∙ w.if-in_segments.true) _ _ w.place_segments-x.ensures)
           w.buf-is w.way'-is w.stop-is w.next-is
-    | place_value-then-e+else-in_segments w ↦
+      | place_value-then-e+else-in_segments w ↦
           stored_as (leaf_stored P U K _ e w.if-e.true (sym w.in_segments.ensures ∙ w.if-in_segments.false) _ _ w.place_contents-next.ensures.0
           w.place_contents-next.ensures.1) w.buf-is w.way'-is w.stop-is w.next-is
-    | place_value-else-e w ↦
+      | place_value-else-e w ↦
           stored_as (items_stored P U K (rw e at w.if-e.false) _ _ w.place_members-x.ensures.1 _ w.place_members-x.ensures.0)
           w.buf-is w.way'-is w.stop-is w.next-is
     ] in
@@ -717,27 +807,27 @@ place_value-returns-else-e-gt0-2 t c =
     let P = c.requires in
     let e = c.unpack-e.ensures in
     let U : Accepted a.table.now a.w a.m.now a.at P.fits.value P.fits.rest c.if-e-gt0.notes c.if-e-gt0.inner.at c.if-e-gt0.inner.from c.if-e-gt0.inner.end = elim c.if-e-gt0.branch [
-      place_value-then-e-gt0+in-Ok w ↦
+      | place_value-then-e-gt0+in-Ok w ↦
           accepted_as (under_open P _ _ w.«open».ensures.1 w.«open».ensures.0 _ w.in-Ok.is) w.notes-is (ap (λ (x : Inner). x.at) w.inner-is) (ap (λ (x : Inner). x.from) w.inner-is) (ap (λ (x : Inner). x.end) w.inner-is)
-    | place_value-then-e-gt0+in_default w ↦ absurd (must_open P _ _ w.«open».ensures.1 _ _ w.in_default.is)
-    | place_value-else-e-gt0 w ↦
+      | place_value-then-e-gt0+in_default w ↦ absurd (must_open P _ _ w.«open».ensures.1 _ _ w.in_default.is)
+      | place_value-else-e-gt0 w ↦
           accepted_as (under_none P (rw e at w.if-e-gt0.false) _ refl) w.notes-is (ap (λ (x : Inner). x.at) w.inner-is) (ap (λ (x : Inner). x.from) w.inner-is) (ap (λ (x : Inner). x.end) w.inner-is)
     ] in
     let K : Contents a.table.now a.w a.m.now a.at c.if-e-gt0.inner.at c.if-e-gt0.inner.end P.fits.value U.left c.if-e-ne-CHOICE.start c.if-e-ne-CHOICE.stop c.if-e-ne-CHOICE.indefinite
     = elim c.if-e-ne-CHOICE.branch [
-      place_value-then-e-ne-CHOICE w ↦
+      | place_value-then-e-ne-CHOICE w ↦
           contents_as (read_contents P U (λ i. omega (arith, c.type_inv.m i)) (λ i. omega (arith, c.type_inv.table i)) (rw e at w.if-e-ne-CHOICE.true) w.again-x.result w.again-x.ensures) w.start-is w.stop-is w.indefinite-is
-    | place_value-else-e-ne-CHOICE w ↦
+      | place_value-else-e-ne-CHOICE w ↦
           contents_as (choice_contents P U (λ i. omega (arith, c.type_inv.m i)) (λ i. omega (arith, c.type_inv.table i)) (rw e at w.if-e-ne-CHOICE.false)) w.start-is w.stop-is w.indefinite-is
     ] in
     let S : Stored P.fits.value a.m.now c.if-e-gt0.inner.end U.left a.buf.now a.to c.if-e.buf c.if-e.stop c.if-e.next c.if-e.way' = elim c.if-e.branch [
-      place_value-then-e+then-in_segments w ↦
+      | place_value-then-e+then-in_segments w ↦
           stored_as (parts_stored P U K _ e w.if-e.true (sym w.in_segments.ensures ∙ w.if-in_segments.true) _ _ w.place_segments-x.ensures)
           w.buf-is w.way'-is w.stop-is w.next-is
-    | place_value-then-e+else-in_segments w ↦
+      | place_value-then-e+else-in_segments w ↦
           stored_as (leaf_stored P U K _ e w.if-e.true (sym w.in_segments.ensures ∙ w.if-in_segments.false) _ _ w.place_contents-next.ensures.0
           w.place_contents-next.ensures.1) w.buf-is w.way'-is w.stop-is w.next-is
-    | place_value-else-e w ↦
+      | place_value-else-e w ↦
           stored_as (items_stored P U K (rw e at w.if-e.false) _ _ w.place_members-x.ensures.1 _ w.place_members-x.ensures.0)
           w.buf-is w.way'-is w.stop-is w.next-is
     ] in
