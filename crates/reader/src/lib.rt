@@ -41,10 +41,16 @@ fn read_passed(
         return Err(Refusal::Message(MessageCause::MessageLength(0)));
     }
     let mut way = [0u16; 128];
-    let x = judge::judge(table, index, t, message, &mut way).map_err(|u| Misread {
-        cause: u.cause,
-        place: message.len() - u.left,
-    })?;
+    let x = match judge::judge(table, index, t, message, &mut way) {
+        Ok(x) => x,
+        Err(u) => {
+            let place = message.len() - u.left;
+            return Err(Refusal::from(Misread {
+                cause: u.cause,
+                place,
+            }));
+        }
+    };
     if LONGEST_VALUE < x.size {
         return Err(Refusal::Message(MessageCause::ValueRoom));
     }
