@@ -68,7 +68,7 @@ pub fn read(table: &[u8], t: usize, message: &[u8], buf: &mut [u8]) -> Result<us
         × (buf.new ≡ x.buffer) }
 {
     let mut index = [0u64; 128];
-    let c = checker::check_into(table, &mut index);
-    c.verdict?;
-    read_passed(table, &index, c.count, t, message, buf)
+    let checked = checker::check_into(table, &mut index);
+    checked.verdict?;
+    read_passed(table, &index, checked.count, t, message, buf)
 }
