@@ -59,19 +59,19 @@ place_members-loop-began-init t c =
     } in
     let P : (ms : List Member) → held a.table.now a.w ≡ inside (Set ms) → Spotted (table_in a.table.now) ms a.indefinite a.m.now c.if-e-eq-SET.began c.if-e-eq-SET.last
     = elim c.if-e-eq-SET.branch [
-      place_members-then-e-eq-SET w ↦ rw (w.began-is, w.last-is) w.locate-last.ensures.2
-    | place_members-else-e-eq-SET w ↦ λ ms q. absurd (no_members G w.if-e-eq-SET.false ms q)
+      | place_members-then-e-eq-SET w ↦ rw (w.began-is, w.last-is) w.locate-last.ensures.2
+      | place_members-else-e-eq-SET w ↦ λ ms q. absurd (no_members G w.if-e-eq-SET.false ms q)
     ] in
     let X : Started a.table.now a.index.now a.w a.m.now a.indefinite a.buf.now a.to c.unpack-e.result c.parts-s.result c.if-e-eq-SET.began c.if-e-eq-SET.last
     c.begin-next.new.buf = record { given = G; spotted = P; opening = c.begin-next.ensures.1 } in
     record {
       ways = elim c.if-e-eq-SET.branch [
-        place_members-then-e-eq-SET w ↦ rw w.way'-is w.locate-last.ensures.1
-      | place_members-else-e-eq-SET w ↦ rw w.way'-is c.requires.ways
+        | place_members-then-e-eq-SET w ↦ rw w.way'-is w.locate-last.ensures.1
+        | place_members-else-e-eq-SET w ↦ rw w.way'-is c.requires.ways
       ];
       long = elim c.if-e-eq-SET.branch [
-        place_members-then-e-eq-SET w ↦ rw w.began-is w.locate-last.ensures.0
-      | place_members-else-e-eq-SET w ↦ rw w.began-is refl
+        | place_members-then-e-eq-SET w ↦ rw w.began-is w.locate-last.ensures.0
+        | place_members-else-e-eq-SET w ↦ rw w.began-is refl
       ];
       started = X;
       state = state_first X _ c.begin-next.ensures.0;
@@ -125,12 +125,12 @@ place_members-slice_bounds-rest-count t c =
     let X = c.loop-began.invariant.started in
     let L = c.loop-began.invariant.state in
     let C : Coming X c.loop-began.count c.if-e-eq-SET-2.buf c.if-e-eq-SET-2.at c.loop-began.next c.if-e-eq-SET-2.j = elim c.if-e-eq-SET-2.branch [
-      place_members-then-e-eq-SET-2+in-Some w ↦
+      | place_members-then-e-eq-SET-2+in-Some w ↦
           rw (w.buf-is, w.at-is, w.j-is) (set_comes X L w.if-e-eq-SET-2.true _ (rw w.in-Some.is at w.following.ensures.0) w.put_absent-then-e-eq-SET-2.ensures
           (λ z. omega (arith, rw w.in-Some.is at w.following.ensures.1)))
-    | place_members-else-e-eq-SET-2+then-not-holds_one+else-is_over w ↦
+      | place_members-else-e-eq-SET-2+then-not-holds_one+else-is_over w ↦
           rw (w.buf-is, w.at-is, w.j-is) (other_comes X L w.if-e-eq-SET-2.false _ w.holds_one.ensures w.if-not-holds_one.true _ w.is_over.ensures w.if-is_over.false)
-    | place_members-else-e-eq-SET-2+else-not-holds_one w ↦
+      | place_members-else-e-eq-SET-2+else-not-holds_one w ↦
           rw (w.buf-is, w.at-is, w.j-is) (one_comes X L w.if-e-eq-SET-2.false _ w.holds_one.ensures w.if-not-holds_one.false)
     ] in
     omega (arith, coming_low X _ C)
@@ -140,12 +140,12 @@ place_members-slice_bounds-rest-start t c =
     let X = c.loop-began.invariant.started in
     let L = c.loop-began.invariant.state in
     let C : Coming X c.loop-began.count c.if-e-eq-SET-2.buf c.if-e-eq-SET-2.at c.loop-began.next c.if-e-eq-SET-2.j = elim c.if-e-eq-SET-2.branch [
-      place_members-then-e-eq-SET-2+in-Some w ↦
+      | place_members-then-e-eq-SET-2+in-Some w ↦
           rw (w.buf-is, w.at-is, w.j-is) (set_comes X L w.if-e-eq-SET-2.true _ (rw w.in-Some.is at w.following.ensures.0) w.put_absent-then-e-eq-SET-2.ensures
           (λ z. omega (arith, rw w.in-Some.is at w.following.ensures.1)))
-    | place_members-else-e-eq-SET-2+then-not-holds_one+else-is_over w ↦
+      | place_members-else-e-eq-SET-2+then-not-holds_one+else-is_over w ↦
           rw (w.buf-is, w.at-is, w.j-is) (other_comes X L w.if-e-eq-SET-2.false _ w.holds_one.ensures w.if-not-holds_one.true _ w.is_over.ensures w.if-is_over.false)
-    | place_members-else-e-eq-SET-2+else-not-holds_one w ↦
+      | place_members-else-e-eq-SET-2+else-not-holds_one w ↦
           rw (w.buf-is, w.at-is, w.j-is) (one_comes X L w.if-e-eq-SET-2.false _ w.holds_one.ensures w.if-not-holds_one.false)
     ] in
     let l = coming_low X _ C in omega arith
@@ -159,12 +159,12 @@ place_members-returns-in_default-search t c =
     let X = c.loop-began.invariant.started in
     let L = c.loop-began.invariant.state in
     let C : Coming X c.loop-began.count c.if-e-eq-SET-2.buf c.if-e-eq-SET-2.at c.loop-began.next c.if-e-eq-SET-2.j = elim c.if-e-eq-SET-2.branch [
-      place_members-then-e-eq-SET-2+in-Some w ↦
+      | place_members-then-e-eq-SET-2+in-Some w ↦
           rw (w.buf-is, w.at-is, w.j-is) (set_comes X L w.if-e-eq-SET-2.true _ (rw w.in-Some.is at w.following.ensures.0) w.put_absent-then-e-eq-SET-2.ensures
           (λ z. omega (arith, rw w.in-Some.is at w.following.ensures.1)))
-    | place_members-else-e-eq-SET-2+then-not-holds_one+else-is_over w ↦
+      | place_members-else-e-eq-SET-2+then-not-holds_one+else-is_over w ↦
           rw (w.buf-is, w.at-is, w.j-is) (other_comes X L w.if-e-eq-SET-2.false _ w.holds_one.ensures w.if-not-holds_one.true _ w.is_over.ensures w.if-is_over.false)
-    | place_members-else-e-eq-SET-2+else-not-holds_one w ↦
+      | place_members-else-e-eq-SET-2+else-not-holds_one w ↦
           rw (w.buf-is, w.at-is, w.j-is) (one_comes X L w.if-e-eq-SET-2.false _ w.holds_one.ensures w.if-not-holds_one.false)
     ] in
     let S = rw (part_to_end c.args.m.now c.if-e-eq-SET-2.at) at c.search.ensures.1 in
@@ -175,12 +175,12 @@ place_members-put_way-next-requires t c =
     let X = c.loop-began.invariant.started in
     let L = c.loop-began.invariant.state in
     let C : Coming X c.loop-began.count c.if-e-eq-SET-2.buf c.if-e-eq-SET-2.at c.loop-began.next c.if-e-eq-SET-2.j = elim c.if-e-eq-SET-2.branch [
-      place_members-then-e-eq-SET-2+in-Some w ↦
+      | place_members-then-e-eq-SET-2+in-Some w ↦
           rw (w.buf-is, w.at-is, w.j-is) (set_comes X L w.if-e-eq-SET-2.true _ (rw w.in-Some.is at w.following.ensures.0) w.put_absent-then-e-eq-SET-2.ensures
           (λ z. omega (arith, rw w.in-Some.is at w.following.ensures.1)))
-    | place_members-else-e-eq-SET-2+then-not-holds_one+else-is_over w ↦
+      | place_members-else-e-eq-SET-2+then-not-holds_one+else-is_over w ↦
           rw (w.buf-is, w.at-is, w.j-is) (other_comes X L w.if-e-eq-SET-2.false _ w.holds_one.ensures w.if-not-holds_one.true _ w.is_over.ensures w.if-is_over.false)
-    | place_members-else-e-eq-SET-2+else-not-holds_one w ↦
+      | place_members-else-e-eq-SET-2+else-not-holds_one w ↦
           rw (w.buf-is, w.at-is, w.j-is) (one_comes X L w.if-e-eq-SET-2.false _ w.holds_one.ensures w.if-not-holds_one.false)
     ] in
     let S = rw (part_to_end c.args.m.now c.if-e-eq-SET-2.at) at c.search.ensures.1 in
@@ -193,12 +193,12 @@ place_members-put_absent-requires-then-has_members t c =
     let X = c.loop-began.invariant.started in
     let L = c.loop-began.invariant.state in
     let C : Coming X c.loop-began.count c.if-e-eq-SET-2.buf c.if-e-eq-SET-2.at c.loop-began.next c.if-e-eq-SET-2.j = elim c.if-e-eq-SET-2.branch [
-      place_members-then-e-eq-SET-2+in-Some w ↦
+      | place_members-then-e-eq-SET-2+in-Some w ↦
           rw (w.buf-is, w.at-is, w.j-is) (set_comes X L w.if-e-eq-SET-2.true _ (rw w.in-Some.is at w.following.ensures.0) w.put_absent-then-e-eq-SET-2.ensures
           (λ z. omega (arith, rw w.in-Some.is at w.following.ensures.1)))
-    | place_members-else-e-eq-SET-2+then-not-holds_one+else-is_over w ↦
+      | place_members-else-e-eq-SET-2+then-not-holds_one+else-is_over w ↦
           rw (w.buf-is, w.at-is, w.j-is) (other_comes X L w.if-e-eq-SET-2.false _ w.holds_one.ensures w.if-not-holds_one.true _ w.is_over.ensures w.if-is_over.false)
-    | place_members-else-e-eq-SET-2+else-not-holds_one w ↦
+      | place_members-else-e-eq-SET-2+else-not-holds_one w ↦
           rw (w.buf-is, w.at-is, w.j-is) (one_comes X L w.if-e-eq-SET-2.false _ w.holds_one.ensures w.if-not-holds_one.false)
     ] in
     let S = rw (part_to_end c.args.m.now c.if-e-eq-SET-2.at) at c.search.ensures.1 in
@@ -212,12 +212,12 @@ place_members-put_place-requires t c =
     let X = c.loop-began.invariant.started in
     let L = c.loop-began.invariant.state in
     let C : Coming X c.loop-began.count c.if-e-eq-SET-2.buf c.if-e-eq-SET-2.at c.loop-began.next c.if-e-eq-SET-2.j = elim c.if-e-eq-SET-2.branch [
-      place_members-then-e-eq-SET-2+in-Some w ↦
+      | place_members-then-e-eq-SET-2+in-Some w ↦
           rw (w.buf-is, w.at-is, w.j-is) (set_comes X L w.if-e-eq-SET-2.true _ (rw w.in-Some.is at w.following.ensures.0) w.put_absent-then-e-eq-SET-2.ensures
           (λ z. omega (arith, rw w.in-Some.is at w.following.ensures.1)))
-    | place_members-else-e-eq-SET-2+then-not-holds_one+else-is_over w ↦
+      | place_members-else-e-eq-SET-2+then-not-holds_one+else-is_over w ↦
           rw (w.buf-is, w.at-is, w.j-is) (other_comes X L w.if-e-eq-SET-2.false _ w.holds_one.ensures w.if-not-holds_one.true _ w.is_over.ensures w.if-is_over.false)
-    | place_members-else-e-eq-SET-2+else-not-holds_one w ↦
+      | place_members-else-e-eq-SET-2+else-not-holds_one w ↦
           rw (w.buf-is, w.at-is, w.j-is) (one_comes X L w.if-e-eq-SET-2.false _ w.holds_one.ensures w.if-not-holds_one.false)
     ] in
     let S = rw (part_to_end c.args.m.now c.if-e-eq-SET-2.at) at c.search.ensures.1 in
@@ -226,9 +226,9 @@ place_members-put_place-requires t c =
     let P = picked X _ C c.in-Ok.x _ ways F c.put_way-next.ensures.1 c.put_way-next.ensures.0 refl refl refl in
     let R : Chosen X c.loop-began.count c.if-e-eq-SET-2.j c.if-has_members.buf c.if-e-eq-SET-2.at c.put_way-next.result c.in-Ok.x.place c.in-Ok.x.«record»
     (c.if-e-eq-SET-2.at + c.in-Ok.x.from) = elim c.if-has_members.branch [
-      place_members-then-has_members w ↦
+      | place_members-then-has_members w ↦
           P.2 _ (λ z. w.buf-is ∙ w.put_absent-then-has_members.ensures) (λ z. absurd (true≢false (sym w.if-has_members.true ∙ c.has_members.ensures ∙ z)))
-    | place_members-else-has_members w ↦
+      | place_members-else-has_members w ↦
           P.2 _ (λ z. absurd (true≢false (sym z ∙ sym c.has_members.ensures ∙ w.if-has_members.false))) (λ z. w.buf-is)
     ] in
     chosen_node X _ R
@@ -238,12 +238,12 @@ place_members-overflow_add-j t c =
     let X = c.loop-began.invariant.started in
     let L = c.loop-began.invariant.state in
     let C : Coming X c.loop-began.count c.if-e-eq-SET-2.buf c.if-e-eq-SET-2.at c.loop-began.next c.if-e-eq-SET-2.j = elim c.if-e-eq-SET-2.branch [
-      place_members-then-e-eq-SET-2+in-Some w ↦
+      | place_members-then-e-eq-SET-2+in-Some w ↦
           rw (w.buf-is, w.at-is, w.j-is) (set_comes X L w.if-e-eq-SET-2.true _ (rw w.in-Some.is at w.following.ensures.0) w.put_absent-then-e-eq-SET-2.ensures
           (λ z. omega (arith, rw w.in-Some.is at w.following.ensures.1)))
-    | place_members-else-e-eq-SET-2+then-not-holds_one+else-is_over w ↦
+      | place_members-else-e-eq-SET-2+then-not-holds_one+else-is_over w ↦
           rw (w.buf-is, w.at-is, w.j-is) (other_comes X L w.if-e-eq-SET-2.false _ w.holds_one.ensures w.if-not-holds_one.true _ w.is_over.ensures w.if-is_over.false)
-    | place_members-else-e-eq-SET-2+else-not-holds_one w ↦
+      | place_members-else-e-eq-SET-2+else-not-holds_one w ↦
           rw (w.buf-is, w.at-is, w.j-is) (one_comes X L w.if-e-eq-SET-2.false _ w.holds_one.ensures w.if-not-holds_one.false)
     ] in
     let S = rw (part_to_end c.args.m.now c.if-e-eq-SET-2.at) at c.search.ensures.1 in
@@ -252,9 +252,9 @@ place_members-overflow_add-j t c =
     let P = picked X _ C c.in-Ok.x _ ways F c.put_way-next.ensures.1 c.put_way-next.ensures.0 refl refl refl in
     let R : Chosen X c.loop-began.count c.if-e-eq-SET-2.j c.if-has_members.buf c.if-e-eq-SET-2.at c.put_way-next.result c.in-Ok.x.place c.in-Ok.x.«record»
     (c.if-e-eq-SET-2.at + c.in-Ok.x.from) = elim c.if-has_members.branch [
-      place_members-then-has_members w ↦
+      | place_members-then-has_members w ↦
           P.2 _ (λ z. w.buf-is ∙ w.put_absent-then-has_members.ensures) (λ z. absurd (true≢false (sym w.if-has_members.true ∙ c.has_members.ensures ∙ z)))
-    | place_members-else-has_members w ↦
+      | place_members-else-has_members w ↦
           P.2 _ (λ z. absurd (true≢false (sym z ∙ sym c.has_members.ensures ∙ w.if-has_members.false))) (λ z. w.buf-is)
     ] in
     omega (arith, chosen_onward X _ R)
@@ -264,12 +264,12 @@ place_members-place_value-y-requires t c =
     let X = c.loop-began.invariant.started in
     let L = c.loop-began.invariant.state in
     let C : Coming X c.loop-began.count c.if-e-eq-SET-2.buf c.if-e-eq-SET-2.at c.loop-began.next c.if-e-eq-SET-2.j = elim c.if-e-eq-SET-2.branch [
-      place_members-then-e-eq-SET-2+in-Some w ↦
+      | place_members-then-e-eq-SET-2+in-Some w ↦
           rw (w.buf-is, w.at-is, w.j-is) (set_comes X L w.if-e-eq-SET-2.true _ (rw w.in-Some.is at w.following.ensures.0) w.put_absent-then-e-eq-SET-2.ensures
           (λ z. omega (arith, rw w.in-Some.is at w.following.ensures.1)))
-    | place_members-else-e-eq-SET-2+then-not-holds_one+else-is_over w ↦
+      | place_members-else-e-eq-SET-2+then-not-holds_one+else-is_over w ↦
           rw (w.buf-is, w.at-is, w.j-is) (other_comes X L w.if-e-eq-SET-2.false _ w.holds_one.ensures w.if-not-holds_one.true _ w.is_over.ensures w.if-is_over.false)
-    | place_members-else-e-eq-SET-2+else-not-holds_one w ↦
+      | place_members-else-e-eq-SET-2+else-not-holds_one w ↦
           rw (w.buf-is, w.at-is, w.j-is) (one_comes X L w.if-e-eq-SET-2.false _ w.holds_one.ensures w.if-not-holds_one.false)
     ] in
     let S = rw (part_to_end c.args.m.now c.if-e-eq-SET-2.at) at c.search.ensures.1 in
@@ -278,9 +278,9 @@ place_members-place_value-y-requires t c =
     let P = picked X _ C c.in-Ok.x _ ways F c.put_way-next.ensures.1 c.put_way-next.ensures.0 refl refl refl in
     let R : Chosen X c.loop-began.count c.if-e-eq-SET-2.j c.if-has_members.buf c.if-e-eq-SET-2.at c.put_way-next.result c.in-Ok.x.place c.in-Ok.x.«record»
     (c.if-e-eq-SET-2.at + c.in-Ok.x.from) = elim c.if-has_members.branch [
-      place_members-then-has_members w ↦
+      | place_members-then-has_members w ↦
           P.2 _ (λ z. w.buf-is ∙ w.put_absent-then-has_members.ensures) (λ z. absurd (true≢false (sym w.if-has_members.true ∙ c.has_members.ensures ∙ z)))
-    | place_members-else-has_members w ↦
+      | place_members-else-has_members w ↦
           P.2 _ (λ z. absurd (true≢false (sym z ∙ sym c.has_members.ensures ∙ w.if-has_members.false))) (λ z. w.buf-is)
     ] in
     (omega (arith, c.decreases), chosen_asks X _ R c.put_place.ensures _ ways)
@@ -296,12 +296,12 @@ place_members-returns-then-holds_one t c =
     let X = c.loop-began.invariant.started in
     let L = c.loop-began.invariant.state in
     let C : Coming X c.loop-began.count c.if-e-eq-SET-2.buf c.if-e-eq-SET-2.at c.loop-began.next c.if-e-eq-SET-2.j = elim c.if-e-eq-SET-2.branch [
-      place_members-then-e-eq-SET-2+in-Some w ↦
+      | place_members-then-e-eq-SET-2+in-Some w ↦
           rw (w.buf-is, w.at-is, w.j-is) (set_comes X L w.if-e-eq-SET-2.true _ (rw w.in-Some.is at w.following.ensures.0) w.put_absent-then-e-eq-SET-2.ensures
           (λ z. omega (arith, rw w.in-Some.is at w.following.ensures.1)))
-    | place_members-else-e-eq-SET-2+then-not-holds_one+else-is_over w ↦
+      | place_members-else-e-eq-SET-2+then-not-holds_one+else-is_over w ↦
           rw (w.buf-is, w.at-is, w.j-is) (other_comes X L w.if-e-eq-SET-2.false _ w.holds_one.ensures w.if-not-holds_one.true _ w.is_over.ensures w.if-is_over.false)
-    | place_members-else-e-eq-SET-2+else-not-holds_one w ↦
+      | place_members-else-e-eq-SET-2+else-not-holds_one w ↦
           rw (w.buf-is, w.at-is, w.j-is) (one_comes X L w.if-e-eq-SET-2.false _ w.holds_one.ensures w.if-not-holds_one.false)
     ] in
     let S = rw (part_to_end c.args.m.now c.if-e-eq-SET-2.at) at c.search.ensures.1 in
@@ -310,9 +310,9 @@ place_members-returns-then-holds_one t c =
     let P = picked X _ C c.in-Ok.x _ ways F c.put_way-next.ensures.1 c.put_way-next.ensures.0 refl refl refl in
     let R : Chosen X c.loop-began.count c.if-e-eq-SET-2.j c.if-has_members.buf c.if-e-eq-SET-2.at c.put_way-next.result c.in-Ok.x.place c.in-Ok.x.«record»
     (c.if-e-eq-SET-2.at + c.in-Ok.x.from) = elim c.if-has_members.branch [
-      place_members-then-has_members w ↦
+      | place_members-then-has_members w ↦
           P.2 _ (λ z. w.buf-is ∙ w.put_absent-then-has_members.ensures) (λ z. absurd (true≢false (sym w.if-has_members.true ∙ c.has_members.ensures ∙ z)))
-    | place_members-else-has_members w ↦
+      | place_members-else-has_members w ↦
           P.2 _ (λ z. absurd (true≢false (sym z ∙ sym c.has_members.ensures ∙ w.if-has_members.false))) (λ z. w.buf-is)
     ] in
     (c.place_value-y.ensures.0, chosen_one X _ R c.put_place.ensures c.place_value-y.ensures.1 _ c.holds_one-in-loop-began.ensures c.if-holds_one.true)
@@ -322,12 +322,12 @@ place_members-loop-began-smaller t c =
     let X = c.loop-began.invariant.started in
     let L = c.loop-began.invariant.state in
     let C : Coming X c.loop-began.count c.if-e-eq-SET-2.buf c.if-e-eq-SET-2.at c.loop-began.next c.if-e-eq-SET-2.j = elim c.if-e-eq-SET-2.branch [
-      place_members-then-e-eq-SET-2+in-Some w ↦
+      | place_members-then-e-eq-SET-2+in-Some w ↦
           rw (w.buf-is, w.at-is, w.j-is) (set_comes X L w.if-e-eq-SET-2.true _ (rw w.in-Some.is at w.following.ensures.0) w.put_absent-then-e-eq-SET-2.ensures
           (λ z. omega (arith, rw w.in-Some.is at w.following.ensures.1)))
-    | place_members-else-e-eq-SET-2+then-not-holds_one+else-is_over w ↦
+      | place_members-else-e-eq-SET-2+then-not-holds_one+else-is_over w ↦
           rw (w.buf-is, w.at-is, w.j-is) (other_comes X L w.if-e-eq-SET-2.false _ w.holds_one.ensures w.if-not-holds_one.true _ w.is_over.ensures w.if-is_over.false)
-    | place_members-else-e-eq-SET-2+else-not-holds_one w ↦
+      | place_members-else-e-eq-SET-2+else-not-holds_one w ↦
           rw (w.buf-is, w.at-is, w.j-is) (one_comes X L w.if-e-eq-SET-2.false _ w.holds_one.ensures w.if-not-holds_one.false)
     ] in
     let S = rw (part_to_end c.args.m.now c.if-e-eq-SET-2.at) at c.search.ensures.1 in
@@ -336,20 +336,20 @@ place_members-loop-began-smaller t c =
     let P = picked X _ C c.in-Ok.x _ ways F c.put_way-next.ensures.1 c.put_way-next.ensures.0 refl refl refl in
     let R : Chosen X c.loop-began.count c.if-e-eq-SET-2.j c.if-has_members.buf c.if-e-eq-SET-2.at c.put_way-next.result c.in-Ok.x.place c.in-Ok.x.«record»
     (c.if-e-eq-SET-2.at + c.in-Ok.x.from) = elim c.if-has_members.branch [
-      place_members-then-has_members w ↦
+      | place_members-then-has_members w ↦
           P.2 _ (λ z. w.buf-is ∙ w.put_absent-then-has_members.ensures) (λ z. absurd (true≢false (sym w.if-has_members.true ∙ c.has_members.ensures ∙ z)))
-    | place_members-else-has_members w ↦
+      | place_members-else-has_members w ↦
           P.2 _ (λ z. absurd (true≢false (sym z ∙ sym c.has_members.ensures ∙ w.if-has_members.false))) (λ z. w.buf-is)
     ] in
     let less : c.unpack-e.result.kind ≡ 17 → c.loop-began.j ≤ c.if-e-eq-SET-2.j = elim c.if-e-eq-SET-2.branch [
-      place_members-then-e-eq-SET-2+in-Some w ↦ λ z. let F = rw w.in-Some.is at w.following.ensures.0 in rw w.j-is F.least
-    | place_members-else-e-eq-SET-2+then-not-holds_one+else-is_over w ↦ λ z. absurd (w.if-e-eq-SET-2.false z)
-    | place_members-else-e-eq-SET-2+else-not-holds_one w ↦ λ z. absurd (w.if-e-eq-SET-2.false z)
+      | place_members-then-e-eq-SET-2+in-Some w ↦ λ z. let F = rw w.in-Some.is at w.following.ensures.0 in rw w.j-is F.least
+      | place_members-else-e-eq-SET-2+then-not-holds_one+else-is_over w ↦ λ z. absurd (w.if-e-eq-SET-2.false z)
+      | place_members-else-e-eq-SET-2+else-not-holds_one w ↦ λ z. absurd (w.if-e-eq-SET-2.false z)
     ] in
     let same : (c.unpack-e.result.kind ≡ 17 → ⊥) → c.if-e-eq-SET-2.at ≡ c.loop-began.at = elim c.if-e-eq-SET-2.branch [
-      place_members-then-e-eq-SET-2+in-Some w ↦ λ n. absurd (n w.if-e-eq-SET-2.true)
-    | place_members-else-e-eq-SET-2+then-not-holds_one+else-is_over w ↦ λ n. w.at-is
-    | place_members-else-e-eq-SET-2+else-not-holds_one w ↦ λ n. w.at-is
+      | place_members-then-e-eq-SET-2+in-Some w ↦ λ n. absurd (n w.if-e-eq-SET-2.true)
+      | place_members-else-e-eq-SET-2+then-not-holds_one+else-is_over w ↦ λ n. w.at-is
+      | place_members-else-e-eq-SET-2+else-not-holds_one w ↦ λ n. w.at-is
     ] in
     chosen_fewer X _ R c.put_place.ensures c.place_value-y.ensures.1 _ _ less same
 
@@ -358,12 +358,12 @@ place_members-loop-began-preserved t c =
     let X = c.loop-began.invariant.started in
     let L = c.loop-began.invariant.state in
     let C : Coming X c.loop-began.count c.if-e-eq-SET-2.buf c.if-e-eq-SET-2.at c.loop-began.next c.if-e-eq-SET-2.j = elim c.if-e-eq-SET-2.branch [
-      place_members-then-e-eq-SET-2+in-Some w ↦
+      | place_members-then-e-eq-SET-2+in-Some w ↦
           rw (w.buf-is, w.at-is, w.j-is) (set_comes X L w.if-e-eq-SET-2.true _ (rw w.in-Some.is at w.following.ensures.0) w.put_absent-then-e-eq-SET-2.ensures
           (λ z. omega (arith, rw w.in-Some.is at w.following.ensures.1)))
-    | place_members-else-e-eq-SET-2+then-not-holds_one+else-is_over w ↦
+      | place_members-else-e-eq-SET-2+then-not-holds_one+else-is_over w ↦
           rw (w.buf-is, w.at-is, w.j-is) (other_comes X L w.if-e-eq-SET-2.false _ w.holds_one.ensures w.if-not-holds_one.true _ w.is_over.ensures w.if-is_over.false)
-    | place_members-else-e-eq-SET-2+else-not-holds_one w ↦
+      | place_members-else-e-eq-SET-2+else-not-holds_one w ↦
           rw (w.buf-is, w.at-is, w.j-is) (one_comes X L w.if-e-eq-SET-2.false _ w.holds_one.ensures w.if-not-holds_one.false)
     ] in
     let S = rw (part_to_end c.args.m.now c.if-e-eq-SET-2.at) at c.search.ensures.1 in
@@ -372,9 +372,9 @@ place_members-loop-began-preserved t c =
     let P = picked X _ C c.in-Ok.x _ ways F c.put_way-next.ensures.1 c.put_way-next.ensures.0 refl refl refl in
     let R : Chosen X c.loop-began.count c.if-e-eq-SET-2.j c.if-has_members.buf c.if-e-eq-SET-2.at c.put_way-next.result c.in-Ok.x.place c.in-Ok.x.«record»
     (c.if-e-eq-SET-2.at + c.in-Ok.x.from) = elim c.if-has_members.branch [
-      place_members-then-has_members w ↦
+      | place_members-then-has_members w ↦
           P.2 _ (λ z. w.buf-is ∙ w.put_absent-then-has_members.ensures) (λ z. absurd (true≢false (sym w.if-has_members.true ∙ c.has_members.ensures ∙ z)))
-    | place_members-else-has_members w ↦
+      | place_members-else-has_members w ↦
           P.2 _ (λ z. absurd (true≢false (sym z ∙ sym c.has_members.ensures ∙ w.if-has_members.false))) (λ z. w.buf-is)
     ] in
     record {
@@ -390,17 +390,17 @@ place_value-slice_bounds-c-count t c =
     let P = c.requires in
     let e = c.unpack-e.ensures in
     let U : Accepted a.table.now a.w a.m.now a.at P.fits.value P.fits.rest c.if-e-gt0.notes c.if-e-gt0.inner.at c.if-e-gt0.inner.from c.if-e-gt0.inner.end = elim c.if-e-gt0.branch [
-      place_value-then-e-gt0+in-Ok w ↦
+      | place_value-then-e-gt0+in-Ok w ↦
           accepted_as (under_open P _ _ w.«open».ensures.1 w.«open».ensures.0 _ w.in-Ok.is) w.notes-is (ap (λ (x : Inner). x.at) w.inner-is) (ap (λ (x : Inner). x.from) w.inner-is) (ap (λ (x : Inner). x.end) w.inner-is)
-    | place_value-then-e-gt0+in_default w ↦ absurd (must_open P _ _ w.«open».ensures.1 _ _ w.in_default.is)
-    | place_value-else-e-gt0 w ↦
+      | place_value-then-e-gt0+in_default w ↦ absurd (must_open P _ _ w.«open».ensures.1 _ _ w.in_default.is)
+      | place_value-else-e-gt0 w ↦
           accepted_as (under_none P (rw e at w.if-e-gt0.false) _ refl) w.notes-is (ap (λ (x : Inner). x.at) w.inner-is) (ap (λ (x : Inner). x.from) w.inner-is) (ap (λ (x : Inner). x.end) w.inner-is)
     ] in
     let K : Contents a.table.now a.w a.m.now a.at c.if-e-gt0.inner.at c.if-e-gt0.inner.end P.fits.value U.left c.if-e-ne-CHOICE.start c.if-e-ne-CHOICE.stop c.if-e-ne-CHOICE.indefinite
     = elim c.if-e-ne-CHOICE.branch [
-      place_value-then-e-ne-CHOICE w ↦
+      | place_value-then-e-ne-CHOICE w ↦
           contents_as (read_contents P U (λ i. omega (arith, c.type_inv.m i)) (λ i. omega (arith, c.type_inv.table i)) (rw e at w.if-e-ne-CHOICE.true) w.again-x.result w.again-x.ensures) w.start-is w.stop-is w.indefinite-is
-    | place_value-else-e-ne-CHOICE w ↦
+      | place_value-else-e-ne-CHOICE w ↦
           contents_as (choice_contents P U (λ i. omega (arith, c.type_inv.m i)) (λ i. omega (arith, c.type_inv.table i)) (rw e at w.if-e-ne-CHOICE.false)) w.start-is w.stop-is w.indefinite-is
     ] in
     K.order
@@ -411,17 +411,17 @@ place_value-slice_bounds-c-start t c =
     let P = c.requires in
     let e = c.unpack-e.ensures in
     let U : Accepted a.table.now a.w a.m.now a.at P.fits.value P.fits.rest c.if-e-gt0.notes c.if-e-gt0.inner.at c.if-e-gt0.inner.from c.if-e-gt0.inner.end = elim c.if-e-gt0.branch [
-      place_value-then-e-gt0+in-Ok w ↦
+      | place_value-then-e-gt0+in-Ok w ↦
           accepted_as (under_open P _ _ w.«open».ensures.1 w.«open».ensures.0 _ w.in-Ok.is) w.notes-is (ap (λ (x : Inner). x.at) w.inner-is) (ap (λ (x : Inner). x.from) w.inner-is) (ap (λ (x : Inner). x.end) w.inner-is)
-    | place_value-then-e-gt0+in_default w ↦ absurd (must_open P _ _ w.«open».ensures.1 _ _ w.in_default.is)
-    | place_value-else-e-gt0 w ↦
+      | place_value-then-e-gt0+in_default w ↦ absurd (must_open P _ _ w.«open».ensures.1 _ _ w.in_default.is)
+      | place_value-else-e-gt0 w ↦
           accepted_as (under_none P (rw e at w.if-e-gt0.false) _ refl) w.notes-is (ap (λ (x : Inner). x.at) w.inner-is) (ap (λ (x : Inner). x.from) w.inner-is) (ap (λ (x : Inner). x.end) w.inner-is)
     ] in
     let K : Contents a.table.now a.w a.m.now a.at c.if-e-gt0.inner.at c.if-e-gt0.inner.end P.fits.value U.left c.if-e-ne-CHOICE.start c.if-e-ne-CHOICE.stop c.if-e-ne-CHOICE.indefinite
     = elim c.if-e-ne-CHOICE.branch [
-      place_value-then-e-ne-CHOICE w ↦
+      | place_value-then-e-ne-CHOICE w ↦
           contents_as (read_contents P U (λ i. omega (arith, c.type_inv.m i)) (λ i. omega (arith, c.type_inv.table i)) (rw e at w.if-e-ne-CHOICE.true) w.again-x.result w.again-x.ensures) w.start-is w.stop-is w.indefinite-is
-    | place_value-else-e-ne-CHOICE w ↦
+      | place_value-else-e-ne-CHOICE w ↦
           contents_as (choice_contents P U (λ i. omega (arith, c.type_inv.m i)) (λ i. omega (arith, c.type_inv.table i)) (rw e at w.if-e-ne-CHOICE.false)) w.start-is w.stop-is w.indefinite-is
     ] in
     let h = K.order in search rules
@@ -432,17 +432,17 @@ place_value-slice_bounds-c-end t c =
     let P = c.requires in
     let e = c.unpack-e.ensures in
     let U : Accepted a.table.now a.w a.m.now a.at P.fits.value P.fits.rest c.if-e-gt0.notes c.if-e-gt0.inner.at c.if-e-gt0.inner.from c.if-e-gt0.inner.end = elim c.if-e-gt0.branch [
-      place_value-then-e-gt0+in-Ok w ↦
+      | place_value-then-e-gt0+in-Ok w ↦
           accepted_as (under_open P _ _ w.«open».ensures.1 w.«open».ensures.0 _ w.in-Ok.is) w.notes-is (ap (λ (x : Inner). x.at) w.inner-is) (ap (λ (x : Inner). x.from) w.inner-is) (ap (λ (x : Inner). x.end) w.inner-is)
-    | place_value-then-e-gt0+in_default w ↦ absurd (must_open P _ _ w.«open».ensures.1 _ _ w.in_default.is)
-    | place_value-else-e-gt0 w ↦
+      | place_value-then-e-gt0+in_default w ↦ absurd (must_open P _ _ w.«open».ensures.1 _ _ w.in_default.is)
+      | place_value-else-e-gt0 w ↦
           accepted_as (under_none P (rw e at w.if-e-gt0.false) _ refl) w.notes-is (ap (λ (x : Inner). x.at) w.inner-is) (ap (λ (x : Inner). x.from) w.inner-is) (ap (λ (x : Inner). x.end) w.inner-is)
     ] in
     let K : Contents a.table.now a.w a.m.now a.at c.if-e-gt0.inner.at c.if-e-gt0.inner.end P.fits.value U.left c.if-e-ne-CHOICE.start c.if-e-ne-CHOICE.stop c.if-e-ne-CHOICE.indefinite
     = elim c.if-e-ne-CHOICE.branch [
-      place_value-then-e-ne-CHOICE w ↦
+      | place_value-then-e-ne-CHOICE w ↦
           contents_as (read_contents P U (λ i. omega (arith, c.type_inv.m i)) (λ i. omega (arith, c.type_inv.table i)) (rw e at w.if-e-ne-CHOICE.true) w.again-x.result w.again-x.ensures) w.start-is w.stop-is w.indefinite-is
-    | place_value-else-e-ne-CHOICE w ↦
+      | place_value-else-e-ne-CHOICE w ↦
           contents_as (choice_contents P U (λ i. omega (arith, c.type_inv.m i)) (λ i. omega (arith, c.type_inv.table i)) (rw e at w.if-e-ne-CHOICE.false)) w.start-is w.stop-is w.indefinite-is
     ] in
     let h = part_high P U K in search rules
@@ -453,17 +453,17 @@ place_value-slice_bounds-c-count-else-e t c =
     let P = c.requires in
     let e = c.unpack-e.ensures in
     let U : Accepted a.table.now a.w a.m.now a.at P.fits.value P.fits.rest c.if-e-gt0.notes c.if-e-gt0.inner.at c.if-e-gt0.inner.from c.if-e-gt0.inner.end = elim c.if-e-gt0.branch [
-      place_value-then-e-gt0+in-Ok w ↦
+      | place_value-then-e-gt0+in-Ok w ↦
           accepted_as (under_open P _ _ w.«open».ensures.1 w.«open».ensures.0 _ w.in-Ok.is) w.notes-is (ap (λ (x : Inner). x.at) w.inner-is) (ap (λ (x : Inner). x.from) w.inner-is) (ap (λ (x : Inner). x.end) w.inner-is)
-    | place_value-then-e-gt0+in_default w ↦ absurd (must_open P _ _ w.«open».ensures.1 _ _ w.in_default.is)
-    | place_value-else-e-gt0 w ↦
+      | place_value-then-e-gt0+in_default w ↦ absurd (must_open P _ _ w.«open».ensures.1 _ _ w.in_default.is)
+      | place_value-else-e-gt0 w ↦
           accepted_as (under_none P (rw e at w.if-e-gt0.false) _ refl) w.notes-is (ap (λ (x : Inner). x.at) w.inner-is) (ap (λ (x : Inner). x.from) w.inner-is) (ap (λ (x : Inner). x.end) w.inner-is)
     ] in
     let K : Contents a.table.now a.w a.m.now a.at c.if-e-gt0.inner.at c.if-e-gt0.inner.end P.fits.value U.left c.if-e-ne-CHOICE.start c.if-e-ne-CHOICE.stop c.if-e-ne-CHOICE.indefinite
     = elim c.if-e-ne-CHOICE.branch [
-      place_value-then-e-ne-CHOICE w ↦
+      | place_value-then-e-ne-CHOICE w ↦
           contents_as (read_contents P U (λ i. omega (arith, c.type_inv.m i)) (λ i. omega (arith, c.type_inv.table i)) (rw e at w.if-e-ne-CHOICE.true) w.again-x.result w.again-x.ensures) w.start-is w.stop-is w.indefinite-is
-    | place_value-else-e-ne-CHOICE w ↦
+      | place_value-else-e-ne-CHOICE w ↦
           contents_as (choice_contents P U (λ i. omega (arith, c.type_inv.m i)) (λ i. omega (arith, c.type_inv.table i)) (rw e at w.if-e-ne-CHOICE.false)) w.start-is w.stop-is w.indefinite-is
     ] in
     K.order
@@ -474,17 +474,17 @@ place_value-slice_bounds-c-start-else-e t c =
     let P = c.requires in
     let e = c.unpack-e.ensures in
     let U : Accepted a.table.now a.w a.m.now a.at P.fits.value P.fits.rest c.if-e-gt0.notes c.if-e-gt0.inner.at c.if-e-gt0.inner.from c.if-e-gt0.inner.end = elim c.if-e-gt0.branch [
-      place_value-then-e-gt0+in-Ok w ↦
+      | place_value-then-e-gt0+in-Ok w ↦
           accepted_as (under_open P _ _ w.«open».ensures.1 w.«open».ensures.0 _ w.in-Ok.is) w.notes-is (ap (λ (x : Inner). x.at) w.inner-is) (ap (λ (x : Inner). x.from) w.inner-is) (ap (λ (x : Inner). x.end) w.inner-is)
-    | place_value-then-e-gt0+in_default w ↦ absurd (must_open P _ _ w.«open».ensures.1 _ _ w.in_default.is)
-    | place_value-else-e-gt0 w ↦
+      | place_value-then-e-gt0+in_default w ↦ absurd (must_open P _ _ w.«open».ensures.1 _ _ w.in_default.is)
+      | place_value-else-e-gt0 w ↦
           accepted_as (under_none P (rw e at w.if-e-gt0.false) _ refl) w.notes-is (ap (λ (x : Inner). x.at) w.inner-is) (ap (λ (x : Inner). x.from) w.inner-is) (ap (λ (x : Inner). x.end) w.inner-is)
     ] in
     let K : Contents a.table.now a.w a.m.now a.at c.if-e-gt0.inner.at c.if-e-gt0.inner.end P.fits.value U.left c.if-e-ne-CHOICE.start c.if-e-ne-CHOICE.stop c.if-e-ne-CHOICE.indefinite
     = elim c.if-e-ne-CHOICE.branch [
-      place_value-then-e-ne-CHOICE w ↦
+      | place_value-then-e-ne-CHOICE w ↦
           contents_as (read_contents P U (λ i. omega (arith, c.type_inv.m i)) (λ i. omega (arith, c.type_inv.table i)) (rw e at w.if-e-ne-CHOICE.true) w.again-x.result w.again-x.ensures) w.start-is w.stop-is w.indefinite-is
-    | place_value-else-e-ne-CHOICE w ↦
+      | place_value-else-e-ne-CHOICE w ↦
           contents_as (choice_contents P U (λ i. omega (arith, c.type_inv.m i)) (λ i. omega (arith, c.type_inv.table i)) (rw e at w.if-e-ne-CHOICE.false)) w.start-is w.stop-is w.indefinite-is
     ] in
     let h = K.order in search rules
@@ -495,17 +495,17 @@ place_value-slice_bounds-c-end-else-e t c =
     let P = c.requires in
     let e = c.unpack-e.ensures in
     let U : Accepted a.table.now a.w a.m.now a.at P.fits.value P.fits.rest c.if-e-gt0.notes c.if-e-gt0.inner.at c.if-e-gt0.inner.from c.if-e-gt0.inner.end = elim c.if-e-gt0.branch [
-      place_value-then-e-gt0+in-Ok w ↦
+      | place_value-then-e-gt0+in-Ok w ↦
           accepted_as (under_open P _ _ w.«open».ensures.1 w.«open».ensures.0 _ w.in-Ok.is) w.notes-is (ap (λ (x : Inner). x.at) w.inner-is) (ap (λ (x : Inner). x.from) w.inner-is) (ap (λ (x : Inner). x.end) w.inner-is)
-    | place_value-then-e-gt0+in_default w ↦ absurd (must_open P _ _ w.«open».ensures.1 _ _ w.in_default.is)
-    | place_value-else-e-gt0 w ↦
+      | place_value-then-e-gt0+in_default w ↦ absurd (must_open P _ _ w.«open».ensures.1 _ _ w.in_default.is)
+      | place_value-else-e-gt0 w ↦
           accepted_as (under_none P (rw e at w.if-e-gt0.false) _ refl) w.notes-is (ap (λ (x : Inner). x.at) w.inner-is) (ap (λ (x : Inner). x.from) w.inner-is) (ap (λ (x : Inner). x.end) w.inner-is)
     ] in
     let K : Contents a.table.now a.w a.m.now a.at c.if-e-gt0.inner.at c.if-e-gt0.inner.end P.fits.value U.left c.if-e-ne-CHOICE.start c.if-e-ne-CHOICE.stop c.if-e-ne-CHOICE.indefinite
     = elim c.if-e-ne-CHOICE.branch [
-      place_value-then-e-ne-CHOICE w ↦
+      | place_value-then-e-ne-CHOICE w ↦
           contents_as (read_contents P U (λ i. omega (arith, c.type_inv.m i)) (λ i. omega (arith, c.type_inv.table i)) (rw e at w.if-e-ne-CHOICE.true) w.again-x.result w.again-x.ensures) w.start-is w.stop-is w.indefinite-is
-    | place_value-else-e-ne-CHOICE w ↦
+      | place_value-else-e-ne-CHOICE w ↦
           contents_as (choice_contents P U (λ i. omega (arith, c.type_inv.m i)) (λ i. omega (arith, c.type_inv.table i)) (rw e at w.if-e-ne-CHOICE.false)) w.start-is w.stop-is w.indefinite-is
     ] in
     let h = part_high P U K in search rules
@@ -516,17 +516,17 @@ place_value-place_segments-x-requires t c =
     let P = c.requires in
     let e = c.unpack-e.ensures in
     let U : Accepted a.table.now a.w a.m.now a.at P.fits.value P.fits.rest c.if-e-gt0.notes c.if-e-gt0.inner.at c.if-e-gt0.inner.from c.if-e-gt0.inner.end = elim c.if-e-gt0.branch [
-      place_value-then-e-gt0+in-Ok w ↦
+      | place_value-then-e-gt0+in-Ok w ↦
           accepted_as (under_open P _ _ w.«open».ensures.1 w.«open».ensures.0 _ w.in-Ok.is) w.notes-is (ap (λ (x : Inner). x.at) w.inner-is) (ap (λ (x : Inner). x.from) w.inner-is) (ap (λ (x : Inner). x.end) w.inner-is)
-    | place_value-then-e-gt0+in_default w ↦ absurd (must_open P _ _ w.«open».ensures.1 _ _ w.in_default.is)
-    | place_value-else-e-gt0 w ↦
+      | place_value-then-e-gt0+in_default w ↦ absurd (must_open P _ _ w.«open».ensures.1 _ _ w.in_default.is)
+      | place_value-else-e-gt0 w ↦
           accepted_as (under_none P (rw e at w.if-e-gt0.false) _ refl) w.notes-is (ap (λ (x : Inner). x.at) w.inner-is) (ap (λ (x : Inner). x.from) w.inner-is) (ap (λ (x : Inner). x.end) w.inner-is)
     ] in
     let K : Contents a.table.now a.w a.m.now a.at c.if-e-gt0.inner.at c.if-e-gt0.inner.end P.fits.value U.left c.if-e-ne-CHOICE.start c.if-e-ne-CHOICE.stop c.if-e-ne-CHOICE.indefinite
     = elim c.if-e-ne-CHOICE.branch [
-      place_value-then-e-ne-CHOICE w ↦
+      | place_value-then-e-ne-CHOICE w ↦
           contents_as (read_contents P U (λ i. omega (arith, c.type_inv.m i)) (λ i. omega (arith, c.type_inv.table i)) (rw e at w.if-e-ne-CHOICE.true) w.again-x.result w.again-x.ensures) w.start-is w.stop-is w.indefinite-is
-    | place_value-else-e-ne-CHOICE w ↦
+      | place_value-else-e-ne-CHOICE w ↦
           contents_as (choice_contents P U (λ i. omega (arith, c.type_inv.m i)) (λ i. omega (arith, c.type_inv.table i)) (rw e at w.if-e-ne-CHOICE.false)) w.start-is w.stop-is w.indefinite-is
     ] in
     parts_ask P U K _ e c.if-e.true (sym c.in_segments.ensures ∙ c.if-in_segments.true)
@@ -537,17 +537,17 @@ place_value-overflow_add-stop t c =
     let P = c.requires in
     let e = c.unpack-e.ensures in
     let U : Accepted a.table.now a.w a.m.now a.at P.fits.value P.fits.rest c.if-e-gt0.notes c.if-e-gt0.inner.at c.if-e-gt0.inner.from c.if-e-gt0.inner.end = elim c.if-e-gt0.branch [
-      place_value-then-e-gt0+in-Ok w ↦
+      | place_value-then-e-gt0+in-Ok w ↦
           accepted_as (under_open P _ _ w.«open».ensures.1 w.«open».ensures.0 _ w.in-Ok.is) w.notes-is (ap (λ (x : Inner). x.at) w.inner-is) (ap (λ (x : Inner). x.from) w.inner-is) (ap (λ (x : Inner). x.end) w.inner-is)
-    | place_value-then-e-gt0+in_default w ↦ absurd (must_open P _ _ w.«open».ensures.1 _ _ w.in_default.is)
-    | place_value-else-e-gt0 w ↦
+      | place_value-then-e-gt0+in_default w ↦ absurd (must_open P _ _ w.«open».ensures.1 _ _ w.in_default.is)
+      | place_value-else-e-gt0 w ↦
           accepted_as (under_none P (rw e at w.if-e-gt0.false) _ refl) w.notes-is (ap (λ (x : Inner). x.at) w.inner-is) (ap (λ (x : Inner). x.from) w.inner-is) (ap (λ (x : Inner). x.end) w.inner-is)
     ] in
     let K : Contents a.table.now a.w a.m.now a.at c.if-e-gt0.inner.at c.if-e-gt0.inner.end P.fits.value U.left c.if-e-ne-CHOICE.start c.if-e-ne-CHOICE.stop c.if-e-ne-CHOICE.indefinite
     = elim c.if-e-ne-CHOICE.branch [
-      place_value-then-e-ne-CHOICE w ↦
+      | place_value-then-e-ne-CHOICE w ↦
           contents_as (read_contents P U (λ i. omega (arith, c.type_inv.m i)) (λ i. omega (arith, c.type_inv.table i)) (rw e at w.if-e-ne-CHOICE.true) w.again-x.result w.again-x.ensures) w.start-is w.stop-is w.indefinite-is
-    | place_value-else-e-ne-CHOICE w ↦
+      | place_value-else-e-ne-CHOICE w ↦
           contents_as (choice_contents P U (λ i. omega (arith, c.type_inv.m i)) (λ i. omega (arith, c.type_inv.table i)) (rw e at w.if-e-ne-CHOICE.false)) w.start-is w.stop-is w.indefinite-is
     ] in
     omega (arith, parts_end P U K _ e c.if-e.true (sym c.in_segments.ensures ∙ c.if-in_segments.true) _ _ c.place_segments-x.ensures)
@@ -558,17 +558,17 @@ place_value-place_contents-next-requires t c =
     let P = c.requires in
     let e = c.unpack-e.ensures in
     let U : Accepted a.table.now a.w a.m.now a.at P.fits.value P.fits.rest c.if-e-gt0.notes c.if-e-gt0.inner.at c.if-e-gt0.inner.from c.if-e-gt0.inner.end = elim c.if-e-gt0.branch [
-      place_value-then-e-gt0+in-Ok w ↦
+      | place_value-then-e-gt0+in-Ok w ↦
           accepted_as (under_open P _ _ w.«open».ensures.1 w.«open».ensures.0 _ w.in-Ok.is) w.notes-is (ap (λ (x : Inner). x.at) w.inner-is) (ap (λ (x : Inner). x.from) w.inner-is) (ap (λ (x : Inner). x.end) w.inner-is)
-    | place_value-then-e-gt0+in_default w ↦ absurd (must_open P _ _ w.«open».ensures.1 _ _ w.in_default.is)
-    | place_value-else-e-gt0 w ↦
+      | place_value-then-e-gt0+in_default w ↦ absurd (must_open P _ _ w.«open».ensures.1 _ _ w.in_default.is)
+      | place_value-else-e-gt0 w ↦
           accepted_as (under_none P (rw e at w.if-e-gt0.false) _ refl) w.notes-is (ap (λ (x : Inner). x.at) w.inner-is) (ap (λ (x : Inner). x.from) w.inner-is) (ap (λ (x : Inner). x.end) w.inner-is)
     ] in
     let K : Contents a.table.now a.w a.m.now a.at c.if-e-gt0.inner.at c.if-e-gt0.inner.end P.fits.value U.left c.if-e-ne-CHOICE.start c.if-e-ne-CHOICE.stop c.if-e-ne-CHOICE.indefinite
     = elim c.if-e-ne-CHOICE.branch [
-      place_value-then-e-ne-CHOICE w ↦
+      | place_value-then-e-ne-CHOICE w ↦
           contents_as (read_contents P U (λ i. omega (arith, c.type_inv.m i)) (λ i. omega (arith, c.type_inv.table i)) (rw e at w.if-e-ne-CHOICE.true) w.again-x.result w.again-x.ensures) w.start-is w.stop-is w.indefinite-is
-    | place_value-else-e-ne-CHOICE w ↦
+      | place_value-else-e-ne-CHOICE w ↦
           contents_as (choice_contents P U (λ i. omega (arith, c.type_inv.m i)) (λ i. omega (arith, c.type_inv.table i)) (rw e at w.if-e-ne-CHOICE.false)) w.start-is w.stop-is w.indefinite-is
     ] in
     leaf_asks P U K _ e c.if-e.true (sym c.in_segments.ensures ∙ c.if-in_segments.false)
@@ -579,17 +579,17 @@ place_value-place_members-x-requires t c =
     let P = c.requires in
     let e = c.unpack-e.ensures in
     let U : Accepted a.table.now a.w a.m.now a.at P.fits.value P.fits.rest c.if-e-gt0.notes c.if-e-gt0.inner.at c.if-e-gt0.inner.from c.if-e-gt0.inner.end = elim c.if-e-gt0.branch [
-      place_value-then-e-gt0+in-Ok w ↦
+      | place_value-then-e-gt0+in-Ok w ↦
           accepted_as (under_open P _ _ w.«open».ensures.1 w.«open».ensures.0 _ w.in-Ok.is) w.notes-is (ap (λ (x : Inner). x.at) w.inner-is) (ap (λ (x : Inner). x.from) w.inner-is) (ap (λ (x : Inner). x.end) w.inner-is)
-    | place_value-then-e-gt0+in_default w ↦ absurd (must_open P _ _ w.«open».ensures.1 _ _ w.in_default.is)
-    | place_value-else-e-gt0 w ↦
+      | place_value-then-e-gt0+in_default w ↦ absurd (must_open P _ _ w.«open».ensures.1 _ _ w.in_default.is)
+      | place_value-else-e-gt0 w ↦
           accepted_as (under_none P (rw e at w.if-e-gt0.false) _ refl) w.notes-is (ap (λ (x : Inner). x.at) w.inner-is) (ap (λ (x : Inner). x.from) w.inner-is) (ap (λ (x : Inner). x.end) w.inner-is)
     ] in
     let K : Contents a.table.now a.w a.m.now a.at c.if-e-gt0.inner.at c.if-e-gt0.inner.end P.fits.value U.left c.if-e-ne-CHOICE.start c.if-e-ne-CHOICE.stop c.if-e-ne-CHOICE.indefinite
     = elim c.if-e-ne-CHOICE.branch [
-      place_value-then-e-ne-CHOICE w ↦
+      | place_value-then-e-ne-CHOICE w ↦
           contents_as (read_contents P U (λ i. omega (arith, c.type_inv.m i)) (λ i. omega (arith, c.type_inv.table i)) (rw e at w.if-e-ne-CHOICE.true) w.again-x.result w.again-x.ensures) w.start-is w.stop-is w.indefinite-is
-    | place_value-else-e-ne-CHOICE w ↦
+      | place_value-else-e-ne-CHOICE w ↦
           contents_as (choice_contents P U (λ i. omega (arith, c.type_inv.m i)) (λ i. omega (arith, c.type_inv.table i)) (rw e at w.if-e-ne-CHOICE.false)) w.start-is w.stop-is w.indefinite-is
     ] in
     (omega (arith, c.decreases, part_less P U K), items_ask P U K (rw e at c.if-e.false))
@@ -600,17 +600,17 @@ place_value-overflow_add-stop-else-e t c =
     let P = c.requires in
     let e = c.unpack-e.ensures in
     let U : Accepted a.table.now a.w a.m.now a.at P.fits.value P.fits.rest c.if-e-gt0.notes c.if-e-gt0.inner.at c.if-e-gt0.inner.from c.if-e-gt0.inner.end = elim c.if-e-gt0.branch [
-      place_value-then-e-gt0+in-Ok w ↦
+      | place_value-then-e-gt0+in-Ok w ↦
           accepted_as (under_open P _ _ w.«open».ensures.1 w.«open».ensures.0 _ w.in-Ok.is) w.notes-is (ap (λ (x : Inner). x.at) w.inner-is) (ap (λ (x : Inner). x.from) w.inner-is) (ap (λ (x : Inner). x.end) w.inner-is)
-    | place_value-then-e-gt0+in_default w ↦ absurd (must_open P _ _ w.«open».ensures.1 _ _ w.in_default.is)
-    | place_value-else-e-gt0 w ↦
+      | place_value-then-e-gt0+in_default w ↦ absurd (must_open P _ _ w.«open».ensures.1 _ _ w.in_default.is)
+      | place_value-else-e-gt0 w ↦
           accepted_as (under_none P (rw e at w.if-e-gt0.false) _ refl) w.notes-is (ap (λ (x : Inner). x.at) w.inner-is) (ap (λ (x : Inner). x.from) w.inner-is) (ap (λ (x : Inner). x.end) w.inner-is)
     ] in
     let K : Contents a.table.now a.w a.m.now a.at c.if-e-gt0.inner.at c.if-e-gt0.inner.end P.fits.value U.left c.if-e-ne-CHOICE.start c.if-e-ne-CHOICE.stop c.if-e-ne-CHOICE.indefinite
     = elim c.if-e-ne-CHOICE.branch [
-      place_value-then-e-ne-CHOICE w ↦
+      | place_value-then-e-ne-CHOICE w ↦
           contents_as (read_contents P U (λ i. omega (arith, c.type_inv.m i)) (λ i. omega (arith, c.type_inv.table i)) (rw e at w.if-e-ne-CHOICE.true) w.again-x.result w.again-x.ensures) w.start-is w.stop-is w.indefinite-is
-    | place_value-else-e-ne-CHOICE w ↦
+      | place_value-else-e-ne-CHOICE w ↦
           contents_as (choice_contents P U (λ i. omega (arith, c.type_inv.m i)) (λ i. omega (arith, c.type_inv.table i)) (rw e at w.if-e-ne-CHOICE.false)) w.start-is w.stop-is w.indefinite-is
     ] in
     omega (arith, items_end P U K (rw e at c.if-e.false) _ _ c.place_members-x.ensures.1)
@@ -621,27 +621,27 @@ place_value-close-requires t c =
     let P = c.requires in
     let e = c.unpack-e.ensures in
     let U : Accepted a.table.now a.w a.m.now a.at P.fits.value P.fits.rest c.if-e-gt0.notes c.if-e-gt0.inner.at c.if-e-gt0.inner.from c.if-e-gt0.inner.end = elim c.if-e-gt0.branch [
-      place_value-then-e-gt0+in-Ok w ↦
+      | place_value-then-e-gt0+in-Ok w ↦
           accepted_as (under_open P _ _ w.«open».ensures.1 w.«open».ensures.0 _ w.in-Ok.is) w.notes-is (ap (λ (x : Inner). x.at) w.inner-is) (ap (λ (x : Inner). x.from) w.inner-is) (ap (λ (x : Inner). x.end) w.inner-is)
-    | place_value-then-e-gt0+in_default w ↦ absurd (must_open P _ _ w.«open».ensures.1 _ _ w.in_default.is)
-    | place_value-else-e-gt0 w ↦
+      | place_value-then-e-gt0+in_default w ↦ absurd (must_open P _ _ w.«open».ensures.1 _ _ w.in_default.is)
+      | place_value-else-e-gt0 w ↦
           accepted_as (under_none P (rw e at w.if-e-gt0.false) _ refl) w.notes-is (ap (λ (x : Inner). x.at) w.inner-is) (ap (λ (x : Inner). x.from) w.inner-is) (ap (λ (x : Inner). x.end) w.inner-is)
     ] in
     let K : Contents a.table.now a.w a.m.now a.at c.if-e-gt0.inner.at c.if-e-gt0.inner.end P.fits.value U.left c.if-e-ne-CHOICE.start c.if-e-ne-CHOICE.stop c.if-e-ne-CHOICE.indefinite
     = elim c.if-e-ne-CHOICE.branch [
-      place_value-then-e-ne-CHOICE w ↦
+      | place_value-then-e-ne-CHOICE w ↦
           contents_as (read_contents P U (λ i. omega (arith, c.type_inv.m i)) (λ i. omega (arith, c.type_inv.table i)) (rw e at w.if-e-ne-CHOICE.true) w.again-x.result w.again-x.ensures) w.start-is w.stop-is w.indefinite-is
-    | place_value-else-e-ne-CHOICE w ↦
+      | place_value-else-e-ne-CHOICE w ↦
           contents_as (choice_contents P U (λ i. omega (arith, c.type_inv.m i)) (λ i. omega (arith, c.type_inv.table i)) (rw e at w.if-e-ne-CHOICE.false)) w.start-is w.stop-is w.indefinite-is
     ] in
     let S : Stored P.fits.value a.m.now c.if-e-gt0.inner.end U.left a.buf.now a.to c.if-e.buf c.if-e.stop c.if-e.next c.if-e.way' = elim c.if-e.branch [
-      place_value-then-e+then-in_segments w ↦
+      | place_value-then-e+then-in_segments w ↦
           stored_as (parts_stored P U K _ e w.if-e.true (sym w.in_segments.ensures ∙ w.if-in_segments.true) _ _ w.place_segments-x.ensures)
           w.buf-is w.way'-is w.stop-is w.next-is
-    | place_value-then-e+else-in_segments w ↦
+      | place_value-then-e+else-in_segments w ↦
           stored_as (leaf_stored P U K _ e w.if-e.true (sym w.in_segments.ensures ∙ w.if-in_segments.false) _ _ w.place_contents-next.ensures.0
           w.place_contents-next.ensures.1) w.buf-is w.way'-is w.stop-is w.next-is
-    | place_value-else-e w ↦
+      | place_value-else-e w ↦
           stored_as (items_stored P U K (rw e at w.if-e.false) _ _ w.place_members-x.ensures.1 _ w.place_members-x.ensures.0)
           w.buf-is w.way'-is w.stop-is w.next-is
     ] in
@@ -653,27 +653,27 @@ place_value-returns-in-Ok-close t c =
     let P = c.requires in
     let e = c.unpack-e.ensures in
     let U : Accepted a.table.now a.w a.m.now a.at P.fits.value P.fits.rest c.if-e-gt0.notes c.if-e-gt0.inner.at c.if-e-gt0.inner.from c.if-e-gt0.inner.end = elim c.if-e-gt0.branch [
-      place_value-then-e-gt0+in-Ok w ↦
+      | place_value-then-e-gt0+in-Ok w ↦
           accepted_as (under_open P _ _ w.«open».ensures.1 w.«open».ensures.0 _ w.in-Ok.is) w.notes-is (ap (λ (x : Inner). x.at) w.inner-is) (ap (λ (x : Inner). x.from) w.inner-is) (ap (λ (x : Inner). x.end) w.inner-is)
-    | place_value-then-e-gt0+in_default w ↦ absurd (must_open P _ _ w.«open».ensures.1 _ _ w.in_default.is)
-    | place_value-else-e-gt0 w ↦
+      | place_value-then-e-gt0+in_default w ↦ absurd (must_open P _ _ w.«open».ensures.1 _ _ w.in_default.is)
+      | place_value-else-e-gt0 w ↦
           accepted_as (under_none P (rw e at w.if-e-gt0.false) _ refl) w.notes-is (ap (λ (x : Inner). x.at) w.inner-is) (ap (λ (x : Inner). x.from) w.inner-is) (ap (λ (x : Inner). x.end) w.inner-is)
     ] in
     let K : Contents a.table.now a.w a.m.now a.at c.if-e-gt0.inner.at c.if-e-gt0.inner.end P.fits.value U.left c.if-e-ne-CHOICE.start c.if-e-ne-CHOICE.stop c.if-e-ne-CHOICE.indefinite
     = elim c.if-e-ne-CHOICE.branch [
-      place_value-then-e-ne-CHOICE w ↦
+      | place_value-then-e-ne-CHOICE w ↦
           contents_as (read_contents P U (λ i. omega (arith, c.type_inv.m i)) (λ i. omega (arith, c.type_inv.table i)) (rw e at w.if-e-ne-CHOICE.true) w.again-x.result w.again-x.ensures) w.start-is w.stop-is w.indefinite-is
-    | place_value-else-e-ne-CHOICE w ↦
+      | place_value-else-e-ne-CHOICE w ↦
           contents_as (choice_contents P U (λ i. omega (arith, c.type_inv.m i)) (λ i. omega (arith, c.type_inv.table i)) (rw e at w.if-e-ne-CHOICE.false)) w.start-is w.stop-is w.indefinite-is
     ] in
     let S : Stored P.fits.value a.m.now c.if-e-gt0.inner.end U.left a.buf.now a.to c.if-e.buf c.if-e.stop c.if-e.next c.if-e.way' = elim c.if-e.branch [
-      place_value-then-e+then-in_segments w ↦
+      | place_value-then-e+then-in_segments w ↦
           stored_as (parts_stored P U K _ e w.if-e.true (sym w.in_segments.ensures ∙ w.if-in_segments.true) _ _ w.place_segments-x.ensures)
           w.buf-is w.way'-is w.stop-is w.next-is
-    | place_value-then-e+else-in_segments w ↦
+      | place_value-then-e+else-in_segments w ↦
           stored_as (leaf_stored P U K _ e w.if-e.true (sym w.in_segments.ensures ∙ w.if-in_segments.false) _ _ w.place_contents-next.ensures.0
           w.place_contents-next.ensures.1) w.buf-is w.way'-is w.stop-is w.next-is
-    | place_value-else-e w ↦
+      | place_value-else-e w ↦
           stored_as (items_stored P U K (rw e at w.if-e.false) _ _ w.place_members-x.ensures.1 _ w.place_members-x.ensures.0)
           w.buf-is w.way'-is w.stop-is w.next-is
     ] in
@@ -685,27 +685,27 @@ place_value-returns-in_default-close t c =
     let P = c.requires in
     let e = c.unpack-e.ensures in
     let U : Accepted a.table.now a.w a.m.now a.at P.fits.value P.fits.rest c.if-e-gt0.notes c.if-e-gt0.inner.at c.if-e-gt0.inner.from c.if-e-gt0.inner.end = elim c.if-e-gt0.branch [
-      place_value-then-e-gt0+in-Ok w ↦
+      | place_value-then-e-gt0+in-Ok w ↦
           accepted_as (under_open P _ _ w.«open».ensures.1 w.«open».ensures.0 _ w.in-Ok.is) w.notes-is (ap (λ (x : Inner). x.at) w.inner-is) (ap (λ (x : Inner). x.from) w.inner-is) (ap (λ (x : Inner). x.end) w.inner-is)
-    | place_value-then-e-gt0+in_default w ↦ absurd (must_open P _ _ w.«open».ensures.1 _ _ w.in_default.is)
-    | place_value-else-e-gt0 w ↦
+      | place_value-then-e-gt0+in_default w ↦ absurd (must_open P _ _ w.«open».ensures.1 _ _ w.in_default.is)
+      | place_value-else-e-gt0 w ↦
           accepted_as (under_none P (rw e at w.if-e-gt0.false) _ refl) w.notes-is (ap (λ (x : Inner). x.at) w.inner-is) (ap (λ (x : Inner). x.from) w.inner-is) (ap (λ (x : Inner). x.end) w.inner-is)
     ] in
     let K : Contents a.table.now a.w a.m.now a.at c.if-e-gt0.inner.at c.if-e-gt0.inner.end P.fits.value U.left c.if-e-ne-CHOICE.start c.if-e-ne-CHOICE.stop c.if-e-ne-CHOICE.indefinite
     = elim c.if-e-ne-CHOICE.branch [
-      place_value-then-e-ne-CHOICE w ↦
+      | place_value-then-e-ne-CHOICE w ↦
           contents_as (read_contents P U (λ i. omega (arith, c.type_inv.m i)) (λ i. omega (arith, c.type_inv.table i)) (rw e at w.if-e-ne-CHOICE.true) w.again-x.result w.again-x.ensures) w.start-is w.stop-is w.indefinite-is
-    | place_value-else-e-ne-CHOICE w ↦
+      | place_value-else-e-ne-CHOICE w ↦
           contents_as (choice_contents P U (λ i. omega (arith, c.type_inv.m i)) (λ i. omega (arith, c.type_inv.table i)) (rw e at w.if-e-ne-CHOICE.false)) w.start-is w.stop-is w.indefinite-is
     ] in
     let S : Stored P.fits.value a.m.now c.if-e-gt0.inner.end U.left a.buf.now a.to c.if-e.buf c.if-e.stop c.if-e.next c.if-e.way' = elim c.if-e.branch [
-      place_value-then-e+then-in_segments w ↦
+      | place_value-then-e+then-in_segments w ↦
           stored_as (parts_stored P U K _ e w.if-e.true (sym w.in_segments.ensures ∙ w.if-in_segments.true) _ _ w.place_segments-x.ensures)
           w.buf-is w.way'-is w.stop-is w.next-is
-    | place_value-then-e+else-in_segments w ↦
+      | place_value-then-e+else-in_segments w ↦
           stored_as (leaf_stored P U K _ e w.if-e.true (sym w.in_segments.ensures ∙ w.if-in_segments.false) _ _ w.place_contents-next.ensures.0
           w.place_contents-next.ensures.1) w.buf-is w.way'-is w.stop-is w.next-is
-    | place_value-else-e w ↦
+      | place_value-else-e w ↦
           stored_as (items_stored P U K (rw e at w.if-e.false) _ _ w.place_members-x.ensures.1 _ w.place_members-x.ensures.0)
           w.buf-is w.way'-is w.stop-is w.next-is
     ] in
@@ -717,27 +717,27 @@ place_value-returns-else-e-gt0-2 t c =
     let P = c.requires in
     let e = c.unpack-e.ensures in
     let U : Accepted a.table.now a.w a.m.now a.at P.fits.value P.fits.rest c.if-e-gt0.notes c.if-e-gt0.inner.at c.if-e-gt0.inner.from c.if-e-gt0.inner.end = elim c.if-e-gt0.branch [
-      place_value-then-e-gt0+in-Ok w ↦
+      | place_value-then-e-gt0+in-Ok w ↦
           accepted_as (under_open P _ _ w.«open».ensures.1 w.«open».ensures.0 _ w.in-Ok.is) w.notes-is (ap (λ (x : Inner). x.at) w.inner-is) (ap (λ (x : Inner). x.from) w.inner-is) (ap (λ (x : Inner). x.end) w.inner-is)
-    | place_value-then-e-gt0+in_default w ↦ absurd (must_open P _ _ w.«open».ensures.1 _ _ w.in_default.is)
-    | place_value-else-e-gt0 w ↦
+      | place_value-then-e-gt0+in_default w ↦ absurd (must_open P _ _ w.«open».ensures.1 _ _ w.in_default.is)
+      | place_value-else-e-gt0 w ↦
           accepted_as (under_none P (rw e at w.if-e-gt0.false) _ refl) w.notes-is (ap (λ (x : Inner). x.at) w.inner-is) (ap (λ (x : Inner). x.from) w.inner-is) (ap (λ (x : Inner). x.end) w.inner-is)
     ] in
     let K : Contents a.table.now a.w a.m.now a.at c.if-e-gt0.inner.at c.if-e-gt0.inner.end P.fits.value U.left c.if-e-ne-CHOICE.start c.if-e-ne-CHOICE.stop c.if-e-ne-CHOICE.indefinite
     = elim c.if-e-ne-CHOICE.branch [
-      place_value-then-e-ne-CHOICE w ↦
+      | place_value-then-e-ne-CHOICE w ↦
           contents_as (read_contents P U (λ i. omega (arith, c.type_inv.m i)) (λ i. omega (arith, c.type_inv.table i)) (rw e at w.if-e-ne-CHOICE.true) w.again-x.result w.again-x.ensures) w.start-is w.stop-is w.indefinite-is
-    | place_value-else-e-ne-CHOICE w ↦
+      | place_value-else-e-ne-CHOICE w ↦
           contents_as (choice_contents P U (λ i. omega (arith, c.type_inv.m i)) (λ i. omega (arith, c.type_inv.table i)) (rw e at w.if-e-ne-CHOICE.false)) w.start-is w.stop-is w.indefinite-is
     ] in
     let S : Stored P.fits.value a.m.now c.if-e-gt0.inner.end U.left a.buf.now a.to c.if-e.buf c.if-e.stop c.if-e.next c.if-e.way' = elim c.if-e.branch [
-      place_value-then-e+then-in_segments w ↦
+      | place_value-then-e+then-in_segments w ↦
           stored_as (parts_stored P U K _ e w.if-e.true (sym w.in_segments.ensures ∙ w.if-in_segments.true) _ _ w.place_segments-x.ensures)
           w.buf-is w.way'-is w.stop-is w.next-is
-    | place_value-then-e+else-in_segments w ↦
+      | place_value-then-e+else-in_segments w ↦
           stored_as (leaf_stored P U K _ e w.if-e.true (sym w.in_segments.ensures ∙ w.if-in_segments.false) _ _ w.place_contents-next.ensures.0
           w.place_contents-next.ensures.1) w.buf-is w.way'-is w.stop-is w.next-is
-    | place_value-else-e w ↦
+      | place_value-else-e w ↦
           stored_as (items_stored P U K (rw e at w.if-e.false) _ _ w.place_members-x.ensures.1 _ w.place_members-x.ensures.0)
           w.buf-is w.way'-is w.stop-is w.next-is
     ] in
