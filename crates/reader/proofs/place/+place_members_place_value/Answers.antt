@@ -1,8 +1,7 @@
 -- `place_members` and `place_value` meet their contracts: one law for each way through them.
-use Rattle.std.proofs.Common.{◌≡◌, ◌≤◌, ◌+◌, List, refl, sym, ap, ◌∙◌, rules, arith, length, get_or, true, false}
+use Rattle.std.proofs.Common.{◌≡◌, ◌≤◌, ◌+◌, List, refl, sym, ap, ◌∙◌, rules, arith}
 use Rattle.std.proofs.lemmas.Bool.{true≢false}
 use Rattle.ber.proofs.Places.{part_to_end}
-use Rattle.octets.specs.Numbers.{Octets}
 use Rattle.table.specs.Syntax.{Member, Set}
 use Rattle.table.specs.Reading.{table_in}
 use Rattle.records.specs.declared.entry.Entry.{Entry}
@@ -11,7 +10,7 @@ use Rattle.reader.specs.Sought.{held}
 use Rattle.reader.specs.Placing.{Spotted}
 use Rattle.reader.specs.declared.tags.Inner.{Inner}
 use Rattle.reader.proofs.PlacedMembers.{Given, Started, its_few, begin_room, no_members, state_first, set_low, set_room, set_over, set_comes}
-use Rattle.reader.proofs.PlacedMembers.{other_low, finish_room, other_over, other_comes, one_comes, Coming, sound, coming_low, Chosen, Picked, picked, found_some}
+use Rattle.reader.proofs.PlacedMembers.{other_low, finish_room, other_over, other_comes, one_comes, Coming, sound, coming_low, Chosen, picked, found_some}
 use Rattle.reader.proofs.PlacedMembers.{found_deep, found_room, state_count, chosen_node, chosen_onward, chosen_asks, chosen_one, chosen_fewer, chosen_next}
 use Rattle.reader.proofs.PlacedValue.{Accepted, Contents, Stored, accepted_as, contents_as, stored_as, under_none, must_open, under_open}
 use Rattle.reader.proofs.PlacedValue.{read_contents, choice_contents, part_less, part_high, parts_ask, parts_stored, parts_end, leaf_asks, leaf_stored}
