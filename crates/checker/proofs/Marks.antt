@@ -6,12 +6,15 @@ use mathlib.Core.Logic.{◌⊎◌, inl, inr, ⊎_elim}
 use mathlib.Core.Path.{◌≡◌, refl, sym, ◌∙◌}
 use Prim.Native.Nat.{ℕ, zero, suc, ◌+◌, ◌-◌, ◌≤◌, ◌<◌}
 use native.Mathlib.Omega.{arith}
-use lib.Dec.{eqb}
+use lib.Dec.{eqb, ltb}
 use lib.ListN.{length, get_or, set, length-set, get_or-eq_default}
 use lib.Seq.{get_or-set_other}
-use borrow.Author.Tests.{eqb-true, eqb-false, ne_eqb}
+use borrow.Author.Tests.{eqb-true, eqb-false, ne_eqb, not-false, ltb-false}
+use Rattle.std.specs.Prelude.{Option, Some, None}
 use Rattle.octets.proofs.Tests.{test}
 use Rattle.octets.specs.Lists.{lowest}
+use Rattle.octets.specs.Numbers.{if_below}
+use Rattle.octets.proofs.Search.{lowest_most, upto}
 use Rattle.octets.proofs.Members.{not_both, if_not_true}
 use Rattle.table.specs.Syntax.{Table, absent}
 use Rattle.table.specs.Rules.{Finite}
@@ -112,3 +115,15 @@ module _ (T : Table) (n : ℕ) (beyond : (t : ℕ) → n ≤ t → T t ≡ absen
   lowest_closed c =
       lowest_same (λ t. not (is_flagged w t)) (infinite T n) n (λ t h.
       test (is_flagged w t) (λ e. rw (e, flagged_finite t e)) λ e. rw (e, unflagged_infinite c t e))
+
+  -- each is marked
+  pub lowest_full : None ≡ if_below n (lowest (λ t. not (is_flagged w t)) n) → lowest (λ t. not (is_flagged w t)) n ≡ lowest (infinite T n) n
+  lowest_full f =
+      let most = lowest_most (λ t. not (is_flagged w t)) n in
+      test (ltb (lowest (λ t. not (is_flagged w t)) n) n) (λ h. absurd (one (rw h at f))) λ h.
+      let full : lowest (λ t. not (is_flagged w t)) n ≡ n = omega (arith, ltb-false (lowest (λ t. not (is_flagged w t)) n) n h) in
+      lowest_same (λ t. not (is_flagged w t)) (infinite T n) n (λ t i.
+      let e = not-false (is_flagged w t) (upto (λ u. not (is_flagged w u)) n full t i) in rw (e, flagged_finite t e))
+    where
+      one : {k : ℕ} → ◌≡◌ {A = Option ℕ} None (Some k) → ⊥
+      one e = cc

@@ -76,6 +76,14 @@ pub(crate) fn lowest(table: &[u8], index: &[u64; 128], n: usize) -> Option<usize
     ensures { result ≡ if_below n (lowest (infinite (table_in table.now) n) n) }
 {
     let mut flags = [0u8; 128];
-    while round(table, index, &mut flags, n) {}
-    (0..n).find(|&t| flags[t] == 0)
+    loop {
+        let more = round(table, index, &mut flags, n);
+        let lowest = (0..n).find(|&t| flags[t] == 0);
+        if lowest.is_none() {
+            return None;
+        }
+        if !more {
+            return lowest;
+        }
+    }
 }

@@ -58,7 +58,7 @@ pub(crate) struct Known<'a> {
     ghost named: { Named (table_in table.now) (count_in table.now) },
 }
 
-// Where the mark stands that a walk puts: behind the flags of the 128 records. As a parameter it would widen each frame of `gather` and
+// Where the mark stands that a walk puts: after the flags of the 128 records. As a parameter it would widen each frame of `gather` and
 // `gather_under`, a recursion of up to 127 calls.
 const MARK: usize = 128;
 
@@ -142,7 +142,7 @@ fn clash(w: &Known, s: Span) -> bool
     false
 }
 
-// How many of the members from the place `at` on stand in one run: optional ones, if any, and the mandatory one behind them, if any.
+// How many of the members from the place `at` on stand in one run: optional ones, if any, and the mandatory one after them, if any.
 fn run_length(table: &[u8], at: usize, left: usize) -> usize
     requires { (0 < left) × (at + 3 * left ≤ 100000) }
     ensures { result ≡ suc (lowest (λ k. not (optional_in table.now at k)) (left - 1)) }

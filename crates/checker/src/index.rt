@@ -82,7 +82,7 @@ pub(crate) fn misshapen(t: usize) -> Flaw
     }
 }
 
-// Fills the index, from record to record, and says how many there are if nothing is left behind them. It is stored whole first: only then
+// Fills the index, from record to record, and says how many there are if nothing is left after them. It is stored whole first: only then
 // is it known how many numbers it has.
 pub(crate) fn fill(table: &[u8], index: &mut [u64; 128]) -> Result<usize, Flaw>
     requires { length table.now ≤ 8192 }

@@ -11,7 +11,7 @@ use kinds::{
 };
 use octets::{octet, two};
 
-// Whether each of n octets is at most `most`; the first is at p, each `step` behind the one before.
+// Whether each of n octets is at most `most`; the first is at p, each `step` after the one before.
 fn each_at_most(table: &[u8], most: usize, step: usize, p: usize, n: usize) -> bool
     requires { (p < 100000) × (step < 4) × (n < 256) }
     ensures { result ≡ all (λ x. leb x most) (every_at step table.now p n) }

@@ -5,7 +5,7 @@ use mathlib.Core.List.{List, [], ◌∷◌, ◌++◌}
 use mathlib.Core.Path.{◌≡◌, refl, ap, ◌∙◌}
 use Prim.Native.Nat.{ℕ, suc, ◌+◌, ◌-◌, ◌*◌, ◌≤◌, ◌<◌}
 use native.Mathlib.Omega.{arith}
-use borrow.Author.Tests.{eqb-true, ltb-true, eq-eqb, ne_eqb}
+use borrow.Author.Tests.{eqb-true, ltb-true}
 use lib.Dec.{eqb}
 use lib.IntN.{pos}
 use lib.ListN.{length, get_or, drop}
@@ -116,15 +116,6 @@ lawful_enumerated (any_octets e) h = absurd (omega arith)
 lawful_enumerated (no_octet e l) h = absurd (omega arith)
 lawful_enumerated (small_number e l i n p q) h = record { some_octet = l; eight_octets = i; is = rw p refl; small = rw p q }
 lawful_enumerated (a_time q e t) h = absurd (omega (arith, time_number_lem q))
-
--- which time a kind is, by the test of the code
-pub utc_kind : (k : ℕ) → k ≡ 23 → Utc ≡ time_kind k
-unfolding time_kind
-utc_kind k e = rw (eq-eqb k 23 e) refl
-
-pub generalized_kind : (k : ℕ) → (k ≡ 23 → ⊥) → Generalized ≡ time_kind k
-unfolding time_kind
-generalized_kind k h = rw (ne_eqb k 23 h) refl
 
 -- no other kind is left
 pub lawful_time : {k : ℕ} {c : List ℕ} → Lawful k c → (k ≡ 1 → ⊥) → (k ≡ 2 → ⊥) → (k ≡ 3 → ⊥) → (k ≡ 4 → ⊥) → (k ≡ 5 → ⊥) → (k ≡ 10 → ⊥)

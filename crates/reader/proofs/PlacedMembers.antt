@@ -41,7 +41,7 @@ use Rattle.reader.specs.Placed.{Fits, Final, IsPlaced, held_in, value_in, ToPlac
 use Rattle.reader.specs.Wraps.{Headed}
 use Rattle.reader.proofs.ItemsFound.{AtItem, item_sought, item_tagged, item_level, item_value, item_headed}
 use Rattle.reader.proofs.PlacedWays.{way_length, inner_under}
-use Rattle.reader.proofs.Searching.{Parted, type_low}
+use Rattle.reader.proofs.Searching.{Parted}
 use Rattle.reader.proofs.Tagging.{record_is}
 use Rattle.reader.proofs.PlacedLevels.{kept_got, value_kept}
 use Rattle.reader.proofs.Finding.{good_held}

@@ -41,10 +41,16 @@ fn read_passed(
         return Err(Refusal::Message(MessageCause::MessageLength(0)));
     }
     let mut way = [0u16; 128];
-    let x = judge::judge(table, index, t, message, &mut way).map_err(|u| Misread {
-        cause: u.cause,
-        place: message.len() - u.left,
-    })?;
+    let x = match judge::judge(table, index, t, message, &mut way) {
+        Ok(x) => x,
+        Err(u) => {
+            let place = message.len() - u.left;
+            return Err(Refusal::from(Misread {
+                cause: u.cause,
+                place,
+            }));
+        }
+    };
     if LONGEST_VALUE < x.size {
         return Err(Refusal::Message(MessageCause::ValueRoom));
     }
@@ -62,7 +68,7 @@ pub fn read(table: &[u8], t: usize, message: &[u8], buf: &mut [u8]) -> Result<us
         × (buf.new ≡ x.buffer) }
 {
     let mut index = [0u64; 128];
-    let c = checker::check_into(table, &mut index);
-    c.verdict?;
-    read_passed(table, &index, c.count, t, message, buf)
+    let checked = checker::check_into(table, &mut index);
+    checked.verdict?;
+    read_passed(table, &index, checked.count, t, message, buf)
 }

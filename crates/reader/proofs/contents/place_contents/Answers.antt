@@ -1,4 +1,4 @@
-use Rattle.std.proofs.Common.{refl, ◌∙◌, ◌+◌, arith, get_or, drop}
+use Rattle.std.proofs.Common.{refl, ◌∙◌, arith, get_or, drop}
 use Rattle.x690.specs.Integer.{eight}
 use Rattle.x690.proofs.BitString.{length_masked}
 use Rattle.dates.specs.Own.{time_octets}

@@ -1,4 +1,4 @@
-use Rattle.std.proofs.Common.{refl, sym, ap, ◌∙◌, ◌≡◌, ◌-◌, ◌*◌, ◌%◌, length, get_or, drop, arith}
+use Rattle.std.proofs.Common.{refl, sym, ◌≡◌, ◌-◌, ◌*◌, ◌%◌, length, get_or, drop, arith}
 use Rattle.x690.specs.BitString.{masked}
 use Rattle.x690.proofs.BitString.{length_masked}
 use Rattle.reader.proofs.LeafStores.{from_is, number_filled}

@@ -1,4 +1,4 @@
-use Rattle.std.proofs.Common.{rules, arith, sym, ap, ◌∙◌}
+use Rattle.std.proofs.Common.{rules}
 use Rattle.octets.specs.Answer.{if}
 use Rattle.reader.specs.Placing.{node_of, opening_of}
 use Rattle.reader.proofs.node.begin.Goals as goal

@@ -1,4 +1,4 @@
-use Rattle.std.proofs.Common.{rules, arith, sym, ap, ◌∙◌}
+use Rattle.std.proofs.Common.{rules}
 use Rattle.octets.specs.Answer.{if}
 use Rattle.reader.specs.Placing.{noted_in}
 use Rattle.reader.proofs.node.put_place.Goals as goal

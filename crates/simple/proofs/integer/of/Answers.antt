@@ -8,7 +8,7 @@ use Rattle.simple.proofs.integer.of.Goals as goal
 
 pub loop-x-init : goal.loop-x-init
 loop-x-init c =
-    extended_first _ _ _ _ c.in-Some.ensures.cases.0 (omega arith) (c.from.ensures ∙ c.fill.ensures) c.from-2.ensures
+    extended_first _ _ c.from.result _ c.in-Some.ensures.cases.0 (omega arith) (cc) c.from-2.ensures
 
 pub loop-x-preserved : goal.loop-x-preserved
 loop-x-preserved c =
