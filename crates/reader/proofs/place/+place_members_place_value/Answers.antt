@@ -1,8 +1,7 @@
 -- `place_members` and `place_value` meet their contracts: one law for each way through them.
-use Rattle.std.proofs.Common.{◌≡◌, ◌≤◌, ◌+◌, List, refl, sym, ap, ◌∙◌, rules, arith, length, get_or, true, false}
+use Rattle.std.proofs.Common.{◌≡◌, ◌≤◌, ◌+◌, List, refl, sym, ap, ◌∙◌, rules, arith, length}
 use Rattle.std.proofs.lemmas.Bool.{true≢false}
 use Rattle.ber.proofs.Places.{part_to_end}
-use Rattle.octets.specs.Numbers.{Octets}
 use Rattle.table.specs.Syntax.{Member, Set}
 use Rattle.table.specs.Reading.{table_in}
 use Rattle.records.specs.declared.entry.Entry.{Entry}
