@@ -223,12 +223,12 @@ module _ {b index : List ℕ} {w : ℕ} {came : List ℕ} {e : Entry} {s : Span}
 -- as it is answered, of an item at a place of m
 pub turn_fits : {b index : List ℕ} {w : ℕ} {came : List ℕ} {e : Entry} {s : Span} (D : Parted b index w came e s) (m : List ℕ) → Octets m → (at : ℕ) → at < length m
     → (j : ℕ) → j < s.count → get_or came j 0 ≡ 0 → (t f : ℕ) → t ≡ get_or b (s.first + s.step * j) 0 → f ≡ (unpacked (get_or index t 0)).code
-    → f ≡ get_or m at 0 → (x : Chosen) → ◌≡◌ {A = Option Chosen} (Some (record { place = j; «record» = t; depth = 0; from = 1 })) (Some x) → (way : List ℕ)
-    → Sought b (held b w) (since (manner (held b w)) j) came (drop at m) way (Ok x)
-turn_fits D m o at l j k z t f et ef q x ex way =
+    → f ≡ get_or m at 0 → (x : Chosen) → ◌≡◌ {A = Option Chosen} (Some (record { place = j; «record» = t; depth = 0; from = 1 })) (Some x)
+    → (x.place ≡ j) × (x.depth ≡ 0) × ((way : List ℕ) → Sought b (held b w) (since (manner (held b w)) j) came (drop at m) way (Ok x))
+turn_fits D m o at l j k z t f et ef q x ex =
     let y : record { place = j; «record» = t; depth = 0; from = 1 } ≡ x = cc in
     let g : get_or (drop at m) 0 0 ≡ get_or m at 0 = get_or-drop at m 0 0 ∙ ap (λ (i : ℕ). get_or m i 0) (omega arith) in
-    rw (← y) (sought_fits D (drop at m) (octets_drop m o at) (omega (arith, length-drop at m)) j k z t f et ef (q ∙ sym g) way)
+    rw (← y) (refl, refl, λ way. sought_fits D (drop at m) (octets_drop m o at) (omega (arith, length-drop at m)) j k z t f et ef (q ∙ sym g) way)
 
 -- what is read of it
 module _ {b index : List ℕ} (R : Ready b index) {h : Holder} {m : List ℕ} (o : Octets m) {at i : ℕ} {came way : List ℕ} {place number depth from : ℕ}

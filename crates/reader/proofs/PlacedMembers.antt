@@ -449,15 +449,24 @@ module _ {b index : List ℕ} {w : ℕ} {m : List ℕ} {indefinite : Bool} {firs
         omega (arith, C.room, C.stands.reaches)
 
     pub picked : (x : ChoiceFound) (way : List ℕ) → length way ≡ 128 → FindsPart x way
-        → {buf₁ : List ℕ} {next₁ place u from : ℕ} → buf₁ ≡ sets buf next (way_octets (take x.depth way)) → next₁ ≡ next + 4 * x.depth
-        → place ≡ x.place → u ≡ x.record → from ≡ at + x.from → Picked buf₁ next₁ place u from
-    picked x way ways F {buf₁} e₁ en ep eu ef =
-        let l : length buf₁ ≡ length buf = ap length e₁ ∙ length-sets buf next (way_octets (take x.depth way)) in
-        rw (ep, eu) (
+        → {buf₁ : List ℕ} {next₁ : ℕ} → buf₁ ≡ sets buf next (way_octets (take x.depth way)) → next₁ ≡ next + 4 * x.depth
+        → Picked buf₁ next₁ x.place x.record (at + x.from)
+    picked x way ways F {buf₁} e₁ en =
+        let l : length buf₁ ≡ length buf = ap length e₁ ∙ length-sets buf next (way_octets (take x.depth way)) in (
           l,
           λ c. omega (arith, absent_room x.place (item_most (FoundItem x way ways F)) c),
-          λ buf₂ e₂ e₃. rw ef (item_chosen (FoundItem x way ways F) (within_way x way ways F) e₁ en e₂ e₃),
+          λ buf₂ e₂ e₃. item_chosen (FoundItem x way ways F) (within_way x way ways F) e₁ en e₂ e₃,
         )
+
+    -- the part next in turn: there are no nodes of a way, and no members between
+    pub turned : (x : ChoiceFound) (way : List ℕ) → length way ≡ 128 → FindsPart x way → x.place ≡ j → x.depth ≡ 0
+        → Chosen j buf at next x.place x.record (at + x.from)
+    unfolding way_octets
+    turned x way ways F ep ed =
+        let z : j - j ≡ 0 = omega arith in
+        let e₁ : buf ≡ sets buf next (way_octets (take x.depth way)) = rw ed refl in
+        let e₂ : buf ≡ absent_in j x.place buf to = rw (ep, z) refl in
+        (picked x way ways F e₁ (omega (arith, ed))).2 buf (λ _. e₂) (λ _. refl)
 
   module _ {j : ℕ} {buf : List ℕ} {at next place u from : ℕ} (R : Chosen j buf at next place u from) where
     pub chosen_node : (has_members e.kind ≡ true → to + 4 + place < length buf) × (e.kind ≡ 50 → (to + 3 < length buf) × (place < 256))

@@ -135,15 +135,17 @@ fn place_members(
         }
         let x = match in_turn(table, index, w, s, m, at, j, &none) {
             Some(x) => x,
-            None => match search(table, index, w, &m[at..], j, &none, way) {
-                Ok(x) => x,
-                Err(_) => return Placed { end: at, next },
-            },
+            None => {
+                let Ok(x) = search(table, index, w, &m[at..], j, &none, way) else {
+                    return Placed { end: at, next };
+                };
+                next = put_way(way, x.depth, buf, next);
+                if has_members(e.kind) {
+                    put_absent(buf, to, j, x.place);
+                }
+                x
+            }
         };
-        next = put_way(way, x.depth, buf, next);
-        if has_members(e.kind) {
-            put_absent(buf, to, j, x.place);
-        }
         put_place(e.kind, x.place, buf, to);
         j = x.place + s.step / 2;
         let found = index[x.record];

@@ -262,8 +262,10 @@ pub fn in_turn(
     requires { Sound table.now index.now w came.now
         × (let e = unpacked w in s ≡ span_of table.now e.kind e.own)
         × (at < length m.now) }
-    ensures { (x : Choice) → result ≡ Some x → (way : List ℕ)
-        → (let h = held table.now w in Sought table.now h (since (manner h) j) came.now (drop at m.now) way (Ok x)) }
+    ensures { (x : Choice) → result ≡ Some x
+        → (x.place ≡ j)
+        × (x.depth ≡ 0)
+        × ((way : List ℕ) → let h = held table.now w in Sought table.now h (since (manner h) j) came.now (drop at m.now) way (Ok x)) }
 {
     if j < s.count && came[j] == 0 {
         let record = part(table, s, j);

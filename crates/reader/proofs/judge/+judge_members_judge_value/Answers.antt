@@ -58,7 +58,7 @@ judge_members-returns-then-level-x t c =
     let l = c.loop-end.invariant in
     let P = turn_of c.requires c.unpack-e.ensures c.parts-s.ensures (λ i. omega (arith, c.type_inv.m i)) l.low l.so_far c.next.ensures in
     let X = comes_of P (rw c.in-Ok-None.field-0-is at c.in-Ok-None.is) c.match-in_turn.x c.match-in_turn.way' (elim c.match-in_turn.branch [
-      | judge_members-in-Some w ↦ rw (w.way'-is, w.x-is) (l.wide, c.in_turn.ensures _ w.in-Some.is _)
+      | judge_members-in-Some w ↦ rw (w.way'-is, w.x-is) (l.wide, (c.in_turn.ensures _ w.in-Some.is).2 _)
       | judge_members-in-None+in-Ok w ↦ rw (w.way'-is, w.x-is) (w.search.ensures.0, rw (part_to_end c.args.m.now c.loop-end.at, w.in-Ok.is) at w.search.ensures.1)
     ]) in
     (X.ways, judged_level X c.if-level-x.true)
@@ -68,7 +68,7 @@ judge_members-offset_bounds-came-x t c =
     let l = c.loop-end.invariant in
     let P = turn_of c.requires c.unpack-e.ensures c.parts-s.ensures (λ i. omega (arith, c.type_inv.m i)) l.low l.so_far c.next.ensures in
     let X = comes_of P (rw c.in-Ok-None.field-0-is at c.in-Ok-None.is) c.match-in_turn.x c.match-in_turn.way' (elim c.match-in_turn.branch [
-      | judge_members-in-Some w ↦ rw (w.way'-is, w.x-is) (l.wide, c.in_turn.ensures _ w.in-Some.is _)
+      | judge_members-in-Some w ↦ rw (w.way'-is, w.x-is) (l.wide, (c.in_turn.ensures _ w.in-Some.is).2 _)
       | judge_members-in-None+in-Ok w ↦ rw (w.way'-is, w.x-is) (w.search.ensures.0, rw (part_to_end c.args.m.now c.loop-end.at, w.in-Ok.is) at w.search.ensures.1)
     ]) in
     omega (arith, place_few X)
@@ -78,7 +78,7 @@ judge_members-bounds-came-x t c =
     let l = c.loop-end.invariant in
     let P = turn_of c.requires c.unpack-e.ensures c.parts-s.ensures (λ i. omega (arith, c.type_inv.m i)) l.low l.so_far c.next.ensures in
     let X = comes_of P (rw c.in-Ok-None.field-0-is at c.in-Ok-None.is) c.match-in_turn.x c.match-in_turn.way' (elim c.match-in_turn.branch [
-      | judge_members-in-Some w ↦ rw (w.way'-is, w.x-is) (l.wide, c.in_turn.ensures _ w.in-Some.is _)
+      | judge_members-in-Some w ↦ rw (w.way'-is, w.x-is) (l.wide, (c.in_turn.ensures _ w.in-Some.is).2 _)
       | judge_members-in-None+in-Ok w ↦ rw (w.way'-is, w.x-is) (w.search.ensures.0, rw (part_to_end c.args.m.now c.loop-end.at, w.in-Ok.is) at w.search.ensures.1)
     ]) in
     place_few X
@@ -88,7 +88,7 @@ judge_members-overflow_add-j t c =
     let l = c.loop-end.invariant in
     let P = turn_of c.requires c.unpack-e.ensures c.parts-s.ensures (λ i. omega (arith, c.type_inv.m i)) l.low l.so_far c.next.ensures in
     let X = comes_of P (rw c.in-Ok-None.field-0-is at c.in-Ok-None.is) c.match-in_turn.x c.match-in_turn.way' (elim c.match-in_turn.branch [
-      | judge_members-in-Some w ↦ rw (w.way'-is, w.x-is) (l.wide, c.in_turn.ensures _ w.in-Some.is _)
+      | judge_members-in-Some w ↦ rw (w.way'-is, w.x-is) (l.wide, (c.in_turn.ensures _ w.in-Some.is).2 _)
       | judge_members-in-None+in-Ok w ↦ rw (w.way'-is, w.x-is) (w.search.ensures.0, rw (part_to_end c.args.m.now c.loop-end.at, w.in-Ok.is) at w.search.ensures.1)
     ]) in
     omega (arith, behind_few X)
@@ -98,7 +98,7 @@ judge_members-offset_bounds-index-x t c =
     let l = c.loop-end.invariant in
     let P = turn_of c.requires c.unpack-e.ensures c.parts-s.ensures (λ i. omega (arith, c.type_inv.m i)) l.low l.so_far c.next.ensures in
     let X = comes_of P (rw c.in-Ok-None.field-0-is at c.in-Ok-None.is) c.match-in_turn.x c.match-in_turn.way' (elim c.match-in_turn.branch [
-      | judge_members-in-Some w ↦ rw (w.way'-is, w.x-is) (l.wide, c.in_turn.ensures _ w.in-Some.is _)
+      | judge_members-in-Some w ↦ rw (w.way'-is, w.x-is) (l.wide, (c.in_turn.ensures _ w.in-Some.is).2 _)
       | judge_members-in-None+in-Ok w ↦ rw (w.way'-is, w.x-is) (w.search.ensures.0, rw (part_to_end c.args.m.now c.loop-end.at, w.in-Ok.is) at w.search.ensures.1)
     ]) in
     omega (arith, X.is.there, c.requires.ready.passes.few)
@@ -108,7 +108,7 @@ judge_members-bounds-index-x t c =
     let l = c.loop-end.invariant in
     let P = turn_of c.requires c.unpack-e.ensures c.parts-s.ensures (λ i. omega (arith, c.type_inv.m i)) l.low l.so_far c.next.ensures in
     let X = comes_of P (rw c.in-Ok-None.field-0-is at c.in-Ok-None.is) c.match-in_turn.x c.match-in_turn.way' (elim c.match-in_turn.branch [
-      | judge_members-in-Some w ↦ rw (w.way'-is, w.x-is) (l.wide, c.in_turn.ensures _ w.in-Some.is _)
+      | judge_members-in-Some w ↦ rw (w.way'-is, w.x-is) (l.wide, (c.in_turn.ensures _ w.in-Some.is).2 _)
       | judge_members-in-None+in-Ok w ↦ rw (w.way'-is, w.x-is) (w.search.ensures.0, rw (part_to_end c.args.m.now c.loop-end.at, w.in-Ok.is) at w.search.ensures.1)
     ]) in
     omega (arith, X.is.there, c.requires.ready.passes.few)
@@ -118,7 +118,7 @@ judge_members-overflow_add-at t c =
     let l = c.loop-end.invariant in
     let P = turn_of c.requires c.unpack-e.ensures c.parts-s.ensures (λ i. omega (arith, c.type_inv.m i)) l.low l.so_far c.next.ensures in
     let X = comes_of P (rw c.in-Ok-None.field-0-is at c.in-Ok-None.is) c.match-in_turn.x c.match-in_turn.way' (elim c.match-in_turn.branch [
-      | judge_members-in-Some w ↦ rw (w.way'-is, w.x-is) (l.wide, c.in_turn.ensures _ w.in-Some.is _)
+      | judge_members-in-Some w ↦ rw (w.way'-is, w.x-is) (l.wide, (c.in_turn.ensures _ w.in-Some.is).2 _)
       | judge_members-in-None+in-Ok w ↦ rw (w.way'-is, w.x-is) (w.search.ensures.0, rw (part_to_end c.args.m.now c.loop-end.at, w.in-Ok.is) at w.search.ensures.1)
     ]) in
     omega (arith, X.is.low, c.requires.short)
@@ -128,7 +128,7 @@ judge_members-judge_value-requires t c =
     let l = c.loop-end.invariant in
     let P = turn_of c.requires c.unpack-e.ensures c.parts-s.ensures (λ i. omega (arith, c.type_inv.m i)) l.low l.so_far c.next.ensures in
     let X = comes_of P (rw c.in-Ok-None.field-0-is at c.in-Ok-None.is) c.match-in_turn.x c.match-in_turn.way' (elim c.match-in_turn.branch [
-      | judge_members-in-Some w ↦ rw (w.way'-is, w.x-is) (l.wide, c.in_turn.ensures _ w.in-Some.is _)
+      | judge_members-in-Some w ↦ rw (w.way'-is, w.x-is) (l.wide, (c.in_turn.ensures _ w.in-Some.is).2 _)
       | judge_members-in-None+in-Ok w ↦ rw (w.way'-is, w.x-is) (w.search.ensures.0, rw (part_to_end c.args.m.now c.loop-end.at, w.in-Ok.is) at w.search.ensures.1)
     ]) in
     let q = c.requires in (
@@ -148,7 +148,7 @@ judge_members-returns-in_err-y t c =
     let l = c.loop-end.invariant in
     let P = turn_of c.requires c.unpack-e.ensures c.parts-s.ensures (λ i. omega (arith, c.type_inv.m i)) l.low l.so_far c.next.ensures in
     let X = comes_of P (rw c.in-Ok-None.field-0-is at c.in-Ok-None.is) c.match-in_turn.x c.match-in_turn.way' (elim c.match-in_turn.branch [
-      | judge_members-in-Some w ↦ rw (w.way'-is, w.x-is) (l.wide, c.in_turn.ensures _ w.in-Some.is _)
+      | judge_members-in-Some w ↦ rw (w.way'-is, w.x-is) (l.wide, (c.in_turn.ensures _ w.in-Some.is).2 _)
       | judge_members-in-None+in-Ok w ↦ rw (w.way'-is, w.x-is) (w.search.ensures.0, rw (part_to_end c.args.m.now c.loop-end.at, w.in-Ok.is) at w.search.ensures.1)
     ]) in
     let V : Valued X = record { deep = c.if-level-x.false; r = c.judge_value.result; said = c.judge_value.ensures.1 } in
@@ -160,7 +160,7 @@ judge_members-overflow_add-y t c =
     let l = c.loop-end.invariant in
     let P = turn_of c.requires c.unpack-e.ensures c.parts-s.ensures (λ i. omega (arith, c.type_inv.m i)) l.low l.so_far c.next.ensures in
     let X = comes_of P (rw c.in-Ok-None.field-0-is at c.in-Ok-None.is) c.match-in_turn.x c.match-in_turn.way' (elim c.match-in_turn.branch [
-      | judge_members-in-Some w ↦ rw (w.way'-is, w.x-is) (l.wide, c.in_turn.ensures _ w.in-Some.is _)
+      | judge_members-in-Some w ↦ rw (w.way'-is, w.x-is) (l.wide, (c.in_turn.ensures _ w.in-Some.is).2 _)
       | judge_members-in-None+in-Ok w ↦ rw (w.way'-is, w.x-is) (w.search.ensures.0, rw (part_to_end c.args.m.now c.loop-end.at, w.in-Ok.is) at w.search.ensures.1)
     ]) in
     let V : Valued X = record { deep = c.if-level-x.false; r = c.judge_value.result; said = c.judge_value.ensures.1 } in
@@ -171,7 +171,7 @@ judge_members-grow-total-requires t c =
     let l = c.loop-end.invariant in
     let P = turn_of c.requires c.unpack-e.ensures c.parts-s.ensures (λ i. omega (arith, c.type_inv.m i)) l.low l.so_far c.next.ensures in
     let X = comes_of P (rw c.in-Ok-None.field-0-is at c.in-Ok-None.is) c.match-in_turn.x c.match-in_turn.way' (elim c.match-in_turn.branch [
-      | judge_members-in-Some w ↦ rw (w.way'-is, w.x-is) (l.wide, c.in_turn.ensures _ w.in-Some.is _)
+      | judge_members-in-Some w ↦ rw (w.way'-is, w.x-is) (l.wide, (c.in_turn.ensures _ w.in-Some.is).2 _)
       | judge_members-in-None+in-Ok w ↦ rw (w.way'-is, w.x-is) (w.search.ensures.0, rw (part_to_end c.args.m.now c.loop-end.at, w.in-Ok.is) at w.search.ensures.1)
     ]) in
     let V : Valued X = record { deep = c.if-level-x.false; r = c.judge_value.result; said = c.judge_value.ensures.1 } in
@@ -182,7 +182,7 @@ judge_members-returns-then-holds_one t c =
     let l = c.loop-end.invariant in
     let P = turn_of c.requires c.unpack-e.ensures c.parts-s.ensures (λ i. omega (arith, c.type_inv.m i)) l.low l.so_far c.next.ensures in
     let X = comes_of P (rw c.in-Ok-None.field-0-is at c.in-Ok-None.is) c.match-in_turn.x c.match-in_turn.way' (elim c.match-in_turn.branch [
-      | judge_members-in-Some w ↦ rw (w.way'-is, w.x-is) (l.wide, c.in_turn.ensures _ w.in-Some.is _)
+      | judge_members-in-Some w ↦ rw (w.way'-is, w.x-is) (l.wide, (c.in_turn.ensures _ w.in-Some.is).2 _)
       | judge_members-in-None+in-Ok w ↦ rw (w.way'-is, w.x-is) (w.search.ensures.0, rw (part_to_end c.args.m.now c.loop-end.at, w.in-Ok.is) at w.search.ensures.1)
     ]) in
     let V : Valued X = record { deep = c.if-level-x.false; r = c.judge_value.result; said = c.judge_value.ensures.1 } in (
@@ -195,7 +195,7 @@ judge_members-loop-end-smaller t c =
     let l = c.loop-end.invariant in
     let P = turn_of c.requires c.unpack-e.ensures c.parts-s.ensures (λ i. omega (arith, c.type_inv.m i)) l.low l.so_far c.next.ensures in
     let X = comes_of P (rw c.in-Ok-None.field-0-is at c.in-Ok-None.is) c.match-in_turn.x c.match-in_turn.way' (elim c.match-in_turn.branch [
-      | judge_members-in-Some w ↦ rw (w.way'-is, w.x-is) (l.wide, c.in_turn.ensures _ w.in-Some.is _)
+      | judge_members-in-Some w ↦ rw (w.way'-is, w.x-is) (l.wide, (c.in_turn.ensures _ w.in-Some.is).2 _)
       | judge_members-in-None+in-Ok w ↦ rw (w.way'-is, w.x-is) (w.search.ensures.0, rw (part_to_end c.args.m.now c.loop-end.at, w.in-Ok.is) at w.search.ensures.1)
     ]) in
     let V : Valued X = record { deep = c.if-level-x.false; r = c.judge_value.result; said = c.judge_value.ensures.1 } in
@@ -207,7 +207,7 @@ judge_members-loop-end-preserved t c =
     let l = c.loop-end.invariant in
     let P = turn_of c.requires c.unpack-e.ensures c.parts-s.ensures (λ i. omega (arith, c.type_inv.m i)) l.low l.so_far c.next.ensures in
     let X = comes_of P (rw c.in-Ok-None.field-0-is at c.in-Ok-None.is) c.match-in_turn.x c.match-in_turn.way' (elim c.match-in_turn.branch [
-      | judge_members-in-Some w ↦ rw (w.way'-is, w.x-is) (l.wide, c.in_turn.ensures _ w.in-Some.is _)
+      | judge_members-in-Some w ↦ rw (w.way'-is, w.x-is) (l.wide, (c.in_turn.ensures _ w.in-Some.is).2 _)
       | judge_members-in-None+in-Ok w ↦ rw (w.way'-is, w.x-is) (w.search.ensures.0, rw (part_to_end c.args.m.now c.loop-end.at, w.in-Ok.is) at w.search.ensures.1)
     ]) in
     let V : Valued X = record { deep = c.if-level-x.false; r = c.judge_value.result; said = c.judge_value.ensures.1 } in

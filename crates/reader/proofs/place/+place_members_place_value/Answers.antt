@@ -10,15 +10,16 @@ use Rattle.reader.specs.Sought.{held}
 use Rattle.reader.specs.Placing.{Spotted}
 use Rattle.reader.specs.declared.tags.Inner.{Inner}
 use Rattle.reader.proofs.PlacedMembers.{Given, Started, its_few, begin_room, no_members, state_first, set_low, set_room, set_over, set_comes}
-use Rattle.reader.proofs.PlacedMembers.{other_low, finish_room, other_over, other_comes, one_comes, Coming, sound, coming_low, coming_asks, Chosen, FindsPart, picked, found_some}
-use Rattle.reader.proofs.PlacedMembers.{found_deep, found_room, found_low, state_count, chosen_node, chosen_onward, chosen_asks, chosen_one, chosen_fewer, chosen_next}
+use Rattle.reader.proofs.PlacedMembers.{other_low, finish_room, other_over, other_comes, one_comes, Coming, sound, coming_low, coming_asks, Chosen, picked, turned, found_some}
+use Rattle.reader.proofs.PlacedMembers.{found_deep, found_room, state_count, chosen_node, chosen_onward, chosen_asks, chosen_one, chosen_fewer, chosen_next}
 use Rattle.reader.proofs.PlacedValue.{Accepted, Contents, Stored, accepted_as, contents_as, stored_as, under_none, must_open, under_open}
 use Rattle.reader.proofs.PlacedValue.{read_contents, choice_contents, part_less, part_high, parts_ask, parts_stored, parts_end, leaf_asks, leaf_stored}
 use Rattle.reader.proofs.PlacedValue.{items_ask, items_end, items_stored, bare_placed, close_asks, must_close, closed_placed}
 use Rattle.reader.proofs.place.+place_members_place_value.Goals as goal
-use Rattle.reader.proofs.place.+place_members_place_value.Goals.{place_members-then-e-eq-SET, place_members-else-e-eq-SET, place_members-in-Some-in_turn, place_members-in-None+in-Ok}
+use Rattle.reader.proofs.place.+place_members_place_value.Goals.{place_members-then-e-eq-SET, place_members-else-e-eq-SET, place_members-in-Some-in_turn, place_members-in-None+in-Ok+then-has_members}
+use Rattle.reader.proofs.place.+place_members_place_value.Goals.{place_members-in-None+in-Ok+else-has_members}
 use Rattle.reader.proofs.place.+place_members_place_value.Goals.{place_members-then-e-eq-SET-2+in-Some, place_members-else-e-eq-SET-2+then-not-holds_one+else-is_over}
-use Rattle.reader.proofs.place.+place_members_place_value.Goals.{place_members-else-e-eq-SET-2+else-not-holds_one, place_members-then-has_members, place_members-else-has_members}
+use Rattle.reader.proofs.place.+place_members_place_value.Goals.{place_members-else-e-eq-SET-2+else-not-holds_one}
 use Rattle.reader.proofs.place.+place_members_place_value.Goals.{place_value-then-e-gt0+in-Ok, place_value-then-e-gt0+in_default, place_value-else-e-gt0}
 use Rattle.reader.proofs.place.+place_members_place_value.Goals.{place_value-then-e-ne-CHOICE, place_value-else-e-ne-CHOICE}
 use Rattle.reader.proofs.place.+place_members_place_value.Goals.{place_value-then-e+then-in_segments, place_value-then-e+else-in_segments, place_value-else-e}
@@ -168,8 +169,8 @@ pub place_members-search-requires : goal.place_members-search-requires
 place_members-search-requires t c =
     (sound c.loop-began.invariant.started 0, c.loop-began.invariant.ways)
 
-pub place_members-returns-in-Err : goal.place_members-returns-in-Err
-place_members-returns-in-Err t c =
+pub place_members-returns-in_default-search : goal.place_members-returns-in_default-search
+place_members-returns-in_default-search t c =
     let X = c.loop-began.invariant.started in
     let L = c.loop-began.invariant.state in
     let C : Coming X c.loop-began.count c.if-e-eq-SET-2.buf c.if-e-eq-SET-2.at c.loop-began.next c.if-e-eq-SET-2.j = elim c.if-e-eq-SET-2.branch [
@@ -181,7 +182,7 @@ place_members-returns-in-Err t c =
       | place_members-else-e-eq-SET-2+else-not-holds_one w ↦
           rw (w.buf-is, w.at-is, w.j-is) (one_comes X L w.if-e-eq-SET-2.false _ w.holds_one.ensures w.if-not-holds_one.false)
     ] in
-    absurd (found_some X _ C (rw (part_to_end c.args.m.now c.if-e-eq-SET-2.at, c.in-Err.is) at c.search.ensures.1).0)
+    absurd (found_some X _ C (rw (part_to_end c.args.m.now c.if-e-eq-SET-2.at, c.in_default-search.is) at c.search.ensures.1).0)
 
 pub place_members-put_way-next-requires : goal.place_members-put_way-next-requires
 place_members-put_way-next-requires t c =
@@ -196,12 +197,8 @@ place_members-put_way-next-requires t c =
       | place_members-else-e-eq-SET-2+else-not-holds_one w ↦
           rw (w.buf-is, w.at-is, w.j-is) (one_comes X L w.if-e-eq-SET-2.false _ w.holds_one.ensures w.if-not-holds_one.false)
     ] in
-    let F : (length c.match-in_turn.way' ≡ 128) × FindsPart X _ C c.match-in_turn.x c.match-in_turn.way' = elim c.match-in_turn.branch [
-      | place_members-in-Some-in_turn w ↦ rw (w.way'-is, w.x-is) (c.loop-began.invariant.ways, c.in_turn.ensures _ w.in-Some-in_turn.is _)
-      | place_members-in-None+in-Ok w ↦
-          rw (w.way'-is, w.x-is) (w.search.ensures.0, rw (part_to_end c.args.m.now c.if-e-eq-SET-2.at, w.in-Ok.is) at w.search.ensures.1)
-    ] in
-    (omega (arith, found_deep X _ C _ _ F.0 F.1, F.0), F.0, found_room X _ C _ _ F.0 F.1)
+    let F = rw (part_to_end c.args.m.now c.if-e-eq-SET-2.at, c.in-Ok.is) at c.search.ensures.1 in
+    (omega (arith, found_deep X _ C _ _ c.search.ensures.0 F, c.search.ensures.0), c.search.ensures.0, found_room X _ C _ _ c.search.ensures.0 F)
 
 pub place_members-put_absent-requires-then-has_members : goal.place_members-put_absent-requires-then-has_members
 place_members-put_absent-requires-then-has_members t c =
@@ -216,12 +213,8 @@ place_members-put_absent-requires-then-has_members t c =
       | place_members-else-e-eq-SET-2+else-not-holds_one w ↦
           rw (w.buf-is, w.at-is, w.j-is) (one_comes X L w.if-e-eq-SET-2.false _ w.holds_one.ensures w.if-not-holds_one.false)
     ] in
-    let F : (length c.match-in_turn.way' ≡ 128) × FindsPart X _ C c.match-in_turn.x c.match-in_turn.way' = elim c.match-in_turn.branch [
-      | place_members-in-Some-in_turn w ↦ rw (w.way'-is, w.x-is) (c.loop-began.invariant.ways, c.in_turn.ensures _ w.in-Some-in_turn.is _)
-      | place_members-in-None+in-Ok w ↦
-          rw (w.way'-is, w.x-is) (w.search.ensures.0, rw (part_to_end c.args.m.now c.if-e-eq-SET-2.at, w.in-Ok.is) at w.search.ensures.1)
-    ] in
-    let P = picked X _ C c.match-in_turn.x _ F.0 F.1 c.put_way-next.ensures.1 c.put_way-next.ensures.0 refl refl refl in
+    let F = rw (part_to_end c.args.m.now c.if-e-eq-SET-2.at, c.in-Ok.is) at c.search.ensures.1 in
+    let P = picked X _ C c.in-Ok.x _ c.search.ensures.0 F c.put_way-next.ensures.1 c.put_way-next.ensures.0 in
     P.1 (sym c.has_members.ensures ∙ c.if-has_members.true)
 
 pub place_members-put_place-requires : goal.place_members-put_place-requires
@@ -237,18 +230,19 @@ place_members-put_place-requires t c =
       | place_members-else-e-eq-SET-2+else-not-holds_one w ↦
           rw (w.buf-is, w.at-is, w.j-is) (one_comes X L w.if-e-eq-SET-2.false _ w.holds_one.ensures w.if-not-holds_one.false)
     ] in
-    let F : (length c.match-in_turn.way' ≡ 128) × FindsPart X _ C c.match-in_turn.x c.match-in_turn.way' = elim c.match-in_turn.branch [
-      | place_members-in-Some-in_turn w ↦ rw (w.way'-is, w.x-is) (c.loop-began.invariant.ways, c.in_turn.ensures _ w.in-Some-in_turn.is _)
-      | place_members-in-None+in-Ok w ↦
-          rw (w.way'-is, w.x-is) (w.search.ensures.0, rw (part_to_end c.args.m.now c.if-e-eq-SET-2.at, w.in-Ok.is) at w.search.ensures.1)
-    ] in
-    let P = picked X _ C c.match-in_turn.x _ F.0 F.1 c.put_way-next.ensures.1 c.put_way-next.ensures.0 refl refl refl in
-    let R : Chosen X c.loop-began.count c.if-e-eq-SET-2.j c.if-has_members.buf c.if-e-eq-SET-2.at c.put_way-next.result c.match-in_turn.x.place c.match-in_turn.x.«record»
-    (c.if-e-eq-SET-2.at + c.match-in_turn.x.from) = elim c.if-has_members.branch [
-      | place_members-then-has_members w ↦
-          P.2 _ (λ z. w.buf-is ∙ w.put_absent-then-has_members.ensures) (λ z. absurd (true≢false (sym w.if-has_members.true ∙ c.has_members.ensures ∙ z)))
-      | place_members-else-has_members w ↦
-          P.2 _ (λ z. absurd (true≢false (sym z ∙ sym c.has_members.ensures ∙ w.if-has_members.false))) (λ z. w.buf-is)
+    let R : Chosen X c.loop-began.count c.if-e-eq-SET-2.j c.match-in_turn.buf c.if-e-eq-SET-2.at c.match-in_turn.next c.match-in_turn.x.place c.match-in_turn.x.«record»
+    (c.if-e-eq-SET-2.at + c.match-in_turn.x.from) = elim c.match-in_turn.branch [
+      place_members-in-Some-in_turn w ↦
+          let f = c.in_turn.ensures _ w.in-Some-in_turn.is in
+          rw (w.buf-is, w.next-is, w.x-is) (turned X _ C _ _ c.loop-began.invariant.ways (f.2 _) f.0 f.1)
+    | place_members-in-None+in-Ok+then-has_members w ↦
+          let F = rw (part_to_end c.args.m.now c.if-e-eq-SET-2.at, w.in-Ok.is) at w.search.ensures.1 in
+          let P = picked X _ C w.in-Ok.x _ w.search.ensures.0 F w.put_way-next.ensures.1 w.put_way-next.ensures.0 in
+          rw (w.next-is, w.x-is) (P.2 _ (λ z. w.buf-is ∙ w.put_absent-then-has_members.ensures) (λ z. absurd (true≢false (sym w.if-has_members.true ∙ w.has_members.ensures ∙ z))))
+    | place_members-in-None+in-Ok+else-has_members w ↦
+          let F = rw (part_to_end c.args.m.now c.if-e-eq-SET-2.at, w.in-Ok.is) at w.search.ensures.1 in
+          let P = picked X _ C w.in-Ok.x _ w.search.ensures.0 F w.put_way-next.ensures.1 w.put_way-next.ensures.0 in
+          rw (w.next-is, w.x-is) (P.2 _ (λ z. absurd (true≢false (sym z ∙ sym w.has_members.ensures ∙ w.if-has_members.false))) (λ z. w.buf-is))
     ] in
     chosen_node X _ R
 
@@ -265,18 +259,19 @@ place_members-overflow_add-j t c =
       | place_members-else-e-eq-SET-2+else-not-holds_one w ↦
           rw (w.buf-is, w.at-is, w.j-is) (one_comes X L w.if-e-eq-SET-2.false _ w.holds_one.ensures w.if-not-holds_one.false)
     ] in
-    let F : (length c.match-in_turn.way' ≡ 128) × FindsPart X _ C c.match-in_turn.x c.match-in_turn.way' = elim c.match-in_turn.branch [
-      | place_members-in-Some-in_turn w ↦ rw (w.way'-is, w.x-is) (c.loop-began.invariant.ways, c.in_turn.ensures _ w.in-Some-in_turn.is _)
-      | place_members-in-None+in-Ok w ↦
-          rw (w.way'-is, w.x-is) (w.search.ensures.0, rw (part_to_end c.args.m.now c.if-e-eq-SET-2.at, w.in-Ok.is) at w.search.ensures.1)
-    ] in
-    let P = picked X _ C c.match-in_turn.x _ F.0 F.1 c.put_way-next.ensures.1 c.put_way-next.ensures.0 refl refl refl in
-    let R : Chosen X c.loop-began.count c.if-e-eq-SET-2.j c.if-has_members.buf c.if-e-eq-SET-2.at c.put_way-next.result c.match-in_turn.x.place c.match-in_turn.x.«record»
-    (c.if-e-eq-SET-2.at + c.match-in_turn.x.from) = elim c.if-has_members.branch [
-      | place_members-then-has_members w ↦
-          P.2 _ (λ z. w.buf-is ∙ w.put_absent-then-has_members.ensures) (λ z. absurd (true≢false (sym w.if-has_members.true ∙ c.has_members.ensures ∙ z)))
-      | place_members-else-has_members w ↦
-          P.2 _ (λ z. absurd (true≢false (sym z ∙ sym c.has_members.ensures ∙ w.if-has_members.false))) (λ z. w.buf-is)
+    let R : Chosen X c.loop-began.count c.if-e-eq-SET-2.j c.match-in_turn.buf c.if-e-eq-SET-2.at c.match-in_turn.next c.match-in_turn.x.place c.match-in_turn.x.«record»
+    (c.if-e-eq-SET-2.at + c.match-in_turn.x.from) = elim c.match-in_turn.branch [
+      place_members-in-Some-in_turn w ↦
+          let f = c.in_turn.ensures _ w.in-Some-in_turn.is in
+          rw (w.buf-is, w.next-is, w.x-is) (turned X _ C _ _ c.loop-began.invariant.ways (f.2 _) f.0 f.1)
+    | place_members-in-None+in-Ok+then-has_members w ↦
+          let F = rw (part_to_end c.args.m.now c.if-e-eq-SET-2.at, w.in-Ok.is) at w.search.ensures.1 in
+          let P = picked X _ C w.in-Ok.x _ w.search.ensures.0 F w.put_way-next.ensures.1 w.put_way-next.ensures.0 in
+          rw (w.next-is, w.x-is) (P.2 _ (λ z. w.buf-is ∙ w.put_absent-then-has_members.ensures) (λ z. absurd (true≢false (sym w.if-has_members.true ∙ w.has_members.ensures ∙ z))))
+    | place_members-in-None+in-Ok+else-has_members w ↦
+          let F = rw (part_to_end c.args.m.now c.if-e-eq-SET-2.at, w.in-Ok.is) at w.search.ensures.1 in
+          let P = picked X _ C w.in-Ok.x _ w.search.ensures.0 F w.put_way-next.ensures.1 w.put_way-next.ensures.0 in
+          rw (w.next-is, w.x-is) (P.2 _ (λ z. absurd (true≢false (sym z ∙ sym w.has_members.ensures ∙ w.if-has_members.false))) (λ z. w.buf-is))
     ] in
     omega (arith, chosen_onward X _ R)
 
@@ -293,12 +288,21 @@ place_members-offset_bounds-index-x t c =
       | place_members-else-e-eq-SET-2+else-not-holds_one w ↦
           rw (w.buf-is, w.at-is, w.j-is) (one_comes X L w.if-e-eq-SET-2.false _ w.holds_one.ensures w.if-not-holds_one.false)
     ] in
-    let F : (length c.match-in_turn.way' ≡ 128) × FindsPart X _ C c.match-in_turn.x c.match-in_turn.way' = elim c.match-in_turn.branch [
-      | place_members-in-Some-in_turn w ↦ rw (w.way'-is, w.x-is) (c.loop-began.invariant.ways, c.in_turn.ensures _ w.in-Some-in_turn.is _)
-      | place_members-in-None+in-Ok w ↦
-          rw (w.way'-is, w.x-is) (w.search.ensures.0, rw (part_to_end c.args.m.now c.if-e-eq-SET-2.at, w.in-Ok.is) at w.search.ensures.1)
+    let R : Chosen X c.loop-began.count c.if-e-eq-SET-2.j c.match-in_turn.buf c.if-e-eq-SET-2.at c.match-in_turn.next c.match-in_turn.x.place c.match-in_turn.x.«record»
+    (c.if-e-eq-SET-2.at + c.match-in_turn.x.from) = elim c.match-in_turn.branch [
+      place_members-in-Some-in_turn w ↦
+          let f = c.in_turn.ensures _ w.in-Some-in_turn.is in
+          rw (w.buf-is, w.next-is, w.x-is) (turned X _ C _ _ c.loop-began.invariant.ways (f.2 _) f.0 f.1)
+    | place_members-in-None+in-Ok+then-has_members w ↦
+          let F = rw (part_to_end c.args.m.now c.if-e-eq-SET-2.at, w.in-Ok.is) at w.search.ensures.1 in
+          let P = picked X _ C w.in-Ok.x _ w.search.ensures.0 F w.put_way-next.ensures.1 w.put_way-next.ensures.0 in
+          rw (w.next-is, w.x-is) (P.2 _ (λ z. w.buf-is ∙ w.put_absent-then-has_members.ensures) (λ z. absurd (true≢false (sym w.if-has_members.true ∙ w.has_members.ensures ∙ z))))
+    | place_members-in-None+in-Ok+else-has_members w ↦
+          let F = rw (part_to_end c.args.m.now c.if-e-eq-SET-2.at, w.in-Ok.is) at w.search.ensures.1 in
+          let P = picked X _ C w.in-Ok.x _ w.search.ensures.0 F w.put_way-next.ensures.1 w.put_way-next.ensures.0 in
+          rw (w.next-is, w.x-is) (P.2 _ (λ z. absurd (true≢false (sym z ∙ sym w.has_members.ensures ∙ w.if-has_members.false))) (λ z. w.buf-is))
     ] in
-    omega (arith, F.1.6.3, c.requires.ready.passes.few)
+    omega (arith, R.low, c.requires.ready.passes.few)
 
 pub place_members-bounds-index-x : goal.place_members-bounds-index-x
 place_members-bounds-index-x t c =
@@ -313,12 +317,21 @@ place_members-bounds-index-x t c =
       | place_members-else-e-eq-SET-2+else-not-holds_one w ↦
           rw (w.buf-is, w.at-is, w.j-is) (one_comes X L w.if-e-eq-SET-2.false _ w.holds_one.ensures w.if-not-holds_one.false)
     ] in
-    let F : (length c.match-in_turn.way' ≡ 128) × FindsPart X _ C c.match-in_turn.x c.match-in_turn.way' = elim c.match-in_turn.branch [
-      | place_members-in-Some-in_turn w ↦ rw (w.way'-is, w.x-is) (c.loop-began.invariant.ways, c.in_turn.ensures _ w.in-Some-in_turn.is _)
-      | place_members-in-None+in-Ok w ↦
-          rw (w.way'-is, w.x-is) (w.search.ensures.0, rw (part_to_end c.args.m.now c.if-e-eq-SET-2.at, w.in-Ok.is) at w.search.ensures.1)
+    let R : Chosen X c.loop-began.count c.if-e-eq-SET-2.j c.match-in_turn.buf c.if-e-eq-SET-2.at c.match-in_turn.next c.match-in_turn.x.place c.match-in_turn.x.«record»
+    (c.if-e-eq-SET-2.at + c.match-in_turn.x.from) = elim c.match-in_turn.branch [
+      place_members-in-Some-in_turn w ↦
+          let f = c.in_turn.ensures _ w.in-Some-in_turn.is in
+          rw (w.buf-is, w.next-is, w.x-is) (turned X _ C _ _ c.loop-began.invariant.ways (f.2 _) f.0 f.1)
+    | place_members-in-None+in-Ok+then-has_members w ↦
+          let F = rw (part_to_end c.args.m.now c.if-e-eq-SET-2.at, w.in-Ok.is) at w.search.ensures.1 in
+          let P = picked X _ C w.in-Ok.x _ w.search.ensures.0 F w.put_way-next.ensures.1 w.put_way-next.ensures.0 in
+          rw (w.next-is, w.x-is) (P.2 _ (λ z. w.buf-is ∙ w.put_absent-then-has_members.ensures) (λ z. absurd (true≢false (sym w.if-has_members.true ∙ w.has_members.ensures ∙ z))))
+    | place_members-in-None+in-Ok+else-has_members w ↦
+          let F = rw (part_to_end c.args.m.now c.if-e-eq-SET-2.at, w.in-Ok.is) at w.search.ensures.1 in
+          let P = picked X _ C w.in-Ok.x _ w.search.ensures.0 F w.put_way-next.ensures.1 w.put_way-next.ensures.0 in
+          rw (w.next-is, w.x-is) (P.2 _ (λ z. absurd (true≢false (sym z ∙ sym w.has_members.ensures ∙ w.if-has_members.false))) (λ z. w.buf-is))
     ] in
-    omega (arith, F.1.6.3, c.requires.ready.passes.few)
+    omega (arith, R.low, c.requires.ready.passes.few)
 
 pub place_members-overflow_add-at : goal.place_members-overflow_add-at
 place_members-overflow_add-at t c =
@@ -333,12 +346,21 @@ place_members-overflow_add-at t c =
       | place_members-else-e-eq-SET-2+else-not-holds_one w ↦
           rw (w.buf-is, w.at-is, w.j-is) (one_comes X L w.if-e-eq-SET-2.false _ w.holds_one.ensures w.if-not-holds_one.false)
     ] in
-    let F : (length c.match-in_turn.way' ≡ 128) × FindsPart X _ C c.match-in_turn.x c.match-in_turn.way' = elim c.match-in_turn.branch [
-      | place_members-in-Some-in_turn w ↦ rw (w.way'-is, w.x-is) (c.loop-began.invariant.ways, c.in_turn.ensures _ w.in-Some-in_turn.is _)
-      | place_members-in-None+in-Ok w ↦
-          rw (w.way'-is, w.x-is) (w.search.ensures.0, rw (part_to_end c.args.m.now c.if-e-eq-SET-2.at, w.in-Ok.is) at w.search.ensures.1)
+    let R : Chosen X c.loop-began.count c.if-e-eq-SET-2.j c.match-in_turn.buf c.if-e-eq-SET-2.at c.match-in_turn.next c.match-in_turn.x.place c.match-in_turn.x.«record»
+    (c.if-e-eq-SET-2.at + c.match-in_turn.x.from) = elim c.match-in_turn.branch [
+      place_members-in-Some-in_turn w ↦
+          let f = c.in_turn.ensures _ w.in-Some-in_turn.is in
+          rw (w.buf-is, w.next-is, w.x-is) (turned X _ C _ _ c.loop-began.invariant.ways (f.2 _) f.0 f.1)
+    | place_members-in-None+in-Ok+then-has_members w ↦
+          let F = rw (part_to_end c.args.m.now c.if-e-eq-SET-2.at, w.in-Ok.is) at w.search.ensures.1 in
+          let P = picked X _ C w.in-Ok.x _ w.search.ensures.0 F w.put_way-next.ensures.1 w.put_way-next.ensures.0 in
+          rw (w.next-is, w.x-is) (P.2 _ (λ z. w.buf-is ∙ w.put_absent-then-has_members.ensures) (λ z. absurd (true≢false (sym w.if-has_members.true ∙ w.has_members.ensures ∙ z))))
+    | place_members-in-None+in-Ok+else-has_members w ↦
+          let F = rw (part_to_end c.args.m.now c.if-e-eq-SET-2.at, w.in-Ok.is) at w.search.ensures.1 in
+          let P = picked X _ C w.in-Ok.x _ w.search.ensures.0 F w.put_way-next.ensures.1 w.put_way-next.ensures.0 in
+          rw (w.next-is, w.x-is) (P.2 _ (λ z. absurd (true≢false (sym z ∙ sym w.has_members.ensures ∙ w.if-has_members.false))) (λ z. w.buf-is))
     ] in
-    omega (arith, found_low X _ C _ _ F.0 F.1, c.requires.short)
+    omega (arith, R.headed.low, c.requires.short)
 
 pub place_members-place_value-y-requires : goal.place_members-place_value-y-requires
 place_members-place_value-y-requires t c =
@@ -353,20 +375,26 @@ place_members-place_value-y-requires t c =
       | place_members-else-e-eq-SET-2+else-not-holds_one w ↦
           rw (w.buf-is, w.at-is, w.j-is) (one_comes X L w.if-e-eq-SET-2.false _ w.holds_one.ensures w.if-not-holds_one.false)
     ] in
-    let F : (length c.match-in_turn.way' ≡ 128) × FindsPart X _ C c.match-in_turn.x c.match-in_turn.way' = elim c.match-in_turn.branch [
-      | place_members-in-Some-in_turn w ↦ rw (w.way'-is, w.x-is) (c.loop-began.invariant.ways, c.in_turn.ensures _ w.in-Some-in_turn.is _)
-      | place_members-in-None+in-Ok w ↦
-          rw (w.way'-is, w.x-is) (w.search.ensures.0, rw (part_to_end c.args.m.now c.if-e-eq-SET-2.at, w.in-Ok.is) at w.search.ensures.1)
+    let R : Chosen X c.loop-began.count c.if-e-eq-SET-2.j c.match-in_turn.buf c.if-e-eq-SET-2.at c.match-in_turn.next c.match-in_turn.x.place c.match-in_turn.x.«record»
+    (c.if-e-eq-SET-2.at + c.match-in_turn.x.from) = elim c.match-in_turn.branch [
+      place_members-in-Some-in_turn w ↦
+          let f = c.in_turn.ensures _ w.in-Some-in_turn.is in
+          rw (w.buf-is, w.next-is, w.x-is) (turned X _ C _ _ c.loop-began.invariant.ways (f.2 _) f.0 f.1)
+    | place_members-in-None+in-Ok+then-has_members w ↦
+          let F = rw (part_to_end c.args.m.now c.if-e-eq-SET-2.at, w.in-Ok.is) at w.search.ensures.1 in
+          let P = picked X _ C w.in-Ok.x _ w.search.ensures.0 F w.put_way-next.ensures.1 w.put_way-next.ensures.0 in
+          rw (w.next-is, w.x-is) (P.2 _ (λ z. w.buf-is ∙ w.put_absent-then-has_members.ensures) (λ z. absurd (true≢false (sym w.if-has_members.true ∙ w.has_members.ensures ∙ z))))
+    | place_members-in-None+in-Ok+else-has_members w ↦
+          let F = rw (part_to_end c.args.m.now c.if-e-eq-SET-2.at, w.in-Ok.is) at w.search.ensures.1 in
+          let P = picked X _ C w.in-Ok.x _ w.search.ensures.0 F w.put_way-next.ensures.1 w.put_way-next.ensures.0 in
+          rw (w.next-is, w.x-is) (P.2 _ (λ z. absurd (true≢false (sym z ∙ sym w.has_members.ensures ∙ w.if-has_members.false))) (λ z. w.buf-is))
     ] in
-    let P = picked X _ C c.match-in_turn.x _ F.0 F.1 c.put_way-next.ensures.1 c.put_way-next.ensures.0 refl refl refl in
-    let R : Chosen X c.loop-began.count c.if-e-eq-SET-2.j c.if-has_members.buf c.if-e-eq-SET-2.at c.put_way-next.result c.match-in_turn.x.place c.match-in_turn.x.«record»
-    (c.if-e-eq-SET-2.at + c.match-in_turn.x.from) = elim c.if-has_members.branch [
-      | place_members-then-has_members w ↦
-          P.2 _ (λ z. w.buf-is ∙ w.put_absent-then-has_members.ensures) (λ z. absurd (true≢false (sym w.if-has_members.true ∙ c.has_members.ensures ∙ z)))
-      | place_members-else-has_members w ↦
-          P.2 _ (λ z. absurd (true≢false (sym z ∙ sym c.has_members.ensures ∙ w.if-has_members.false))) (λ z. w.buf-is)
+    let ways : length c.match-in_turn.way' ≡ 128 = elim c.match-in_turn.branch [
+      place_members-in-Some-in_turn w ↦ rw w.way'-is c.loop-began.invariant.ways
+    | place_members-in-None+in-Ok+then-has_members w ↦ rw w.way'-is w.search.ensures.0
+    | place_members-in-None+in-Ok+else-has_members w ↦ rw w.way'-is w.search.ensures.0
     ] in
-    (omega (arith, c.decreases), chosen_asks X _ R c.put_place.ensures _ F.0)
+    (omega (arith, c.decreases), chosen_asks X _ R c.put_place.ensures _ ways)
 
 pub place_members-overflow_add-count : goal.place_members-overflow_add-count
 place_members-overflow_add-count t c =
@@ -387,18 +415,19 @@ place_members-returns-then-holds_one t c =
       | place_members-else-e-eq-SET-2+else-not-holds_one w ↦
           rw (w.buf-is, w.at-is, w.j-is) (one_comes X L w.if-e-eq-SET-2.false _ w.holds_one.ensures w.if-not-holds_one.false)
     ] in
-    let F : (length c.match-in_turn.way' ≡ 128) × FindsPart X _ C c.match-in_turn.x c.match-in_turn.way' = elim c.match-in_turn.branch [
-      | place_members-in-Some-in_turn w ↦ rw (w.way'-is, w.x-is) (c.loop-began.invariant.ways, c.in_turn.ensures _ w.in-Some-in_turn.is _)
-      | place_members-in-None+in-Ok w ↦
-          rw (w.way'-is, w.x-is) (w.search.ensures.0, rw (part_to_end c.args.m.now c.if-e-eq-SET-2.at, w.in-Ok.is) at w.search.ensures.1)
-    ] in
-    let P = picked X _ C c.match-in_turn.x _ F.0 F.1 c.put_way-next.ensures.1 c.put_way-next.ensures.0 refl refl refl in
-    let R : Chosen X c.loop-began.count c.if-e-eq-SET-2.j c.if-has_members.buf c.if-e-eq-SET-2.at c.put_way-next.result c.match-in_turn.x.place c.match-in_turn.x.«record»
-    (c.if-e-eq-SET-2.at + c.match-in_turn.x.from) = elim c.if-has_members.branch [
-      | place_members-then-has_members w ↦
-          P.2 _ (λ z. w.buf-is ∙ w.put_absent-then-has_members.ensures) (λ z. absurd (true≢false (sym w.if-has_members.true ∙ c.has_members.ensures ∙ z)))
-      | place_members-else-has_members w ↦
-          P.2 _ (λ z. absurd (true≢false (sym z ∙ sym c.has_members.ensures ∙ w.if-has_members.false))) (λ z. w.buf-is)
+    let R : Chosen X c.loop-began.count c.if-e-eq-SET-2.j c.match-in_turn.buf c.if-e-eq-SET-2.at c.match-in_turn.next c.match-in_turn.x.place c.match-in_turn.x.«record»
+    (c.if-e-eq-SET-2.at + c.match-in_turn.x.from) = elim c.match-in_turn.branch [
+      place_members-in-Some-in_turn w ↦
+          let f = c.in_turn.ensures _ w.in-Some-in_turn.is in
+          rw (w.buf-is, w.next-is, w.x-is) (turned X _ C _ _ c.loop-began.invariant.ways (f.2 _) f.0 f.1)
+    | place_members-in-None+in-Ok+then-has_members w ↦
+          let F = rw (part_to_end c.args.m.now c.if-e-eq-SET-2.at, w.in-Ok.is) at w.search.ensures.1 in
+          let P = picked X _ C w.in-Ok.x _ w.search.ensures.0 F w.put_way-next.ensures.1 w.put_way-next.ensures.0 in
+          rw (w.next-is, w.x-is) (P.2 _ (λ z. w.buf-is ∙ w.put_absent-then-has_members.ensures) (λ z. absurd (true≢false (sym w.if-has_members.true ∙ w.has_members.ensures ∙ z))))
+    | place_members-in-None+in-Ok+else-has_members w ↦
+          let F = rw (part_to_end c.args.m.now c.if-e-eq-SET-2.at, w.in-Ok.is) at w.search.ensures.1 in
+          let P = picked X _ C w.in-Ok.x _ w.search.ensures.0 F w.put_way-next.ensures.1 w.put_way-next.ensures.0 in
+          rw (w.next-is, w.x-is) (P.2 _ (λ z. absurd (true≢false (sym z ∙ sym w.has_members.ensures ∙ w.if-has_members.false))) (λ z. w.buf-is))
     ] in
     (c.place_value-y.ensures.0, chosen_one X _ R c.put_place.ensures c.place_value-y.ensures.1 _ c.holds_one-in-loop-began.ensures c.if-holds_one.true)
 
@@ -415,18 +444,19 @@ place_members-loop-began-smaller t c =
       | place_members-else-e-eq-SET-2+else-not-holds_one w ↦
           rw (w.buf-is, w.at-is, w.j-is) (one_comes X L w.if-e-eq-SET-2.false _ w.holds_one.ensures w.if-not-holds_one.false)
     ] in
-    let F : (length c.match-in_turn.way' ≡ 128) × FindsPart X _ C c.match-in_turn.x c.match-in_turn.way' = elim c.match-in_turn.branch [
-      | place_members-in-Some-in_turn w ↦ rw (w.way'-is, w.x-is) (c.loop-began.invariant.ways, c.in_turn.ensures _ w.in-Some-in_turn.is _)
-      | place_members-in-None+in-Ok w ↦
-          rw (w.way'-is, w.x-is) (w.search.ensures.0, rw (part_to_end c.args.m.now c.if-e-eq-SET-2.at, w.in-Ok.is) at w.search.ensures.1)
-    ] in
-    let P = picked X _ C c.match-in_turn.x _ F.0 F.1 c.put_way-next.ensures.1 c.put_way-next.ensures.0 refl refl refl in
-    let R : Chosen X c.loop-began.count c.if-e-eq-SET-2.j c.if-has_members.buf c.if-e-eq-SET-2.at c.put_way-next.result c.match-in_turn.x.place c.match-in_turn.x.«record»
-    (c.if-e-eq-SET-2.at + c.match-in_turn.x.from) = elim c.if-has_members.branch [
-      | place_members-then-has_members w ↦
-          P.2 _ (λ z. w.buf-is ∙ w.put_absent-then-has_members.ensures) (λ z. absurd (true≢false (sym w.if-has_members.true ∙ c.has_members.ensures ∙ z)))
-      | place_members-else-has_members w ↦
-          P.2 _ (λ z. absurd (true≢false (sym z ∙ sym c.has_members.ensures ∙ w.if-has_members.false))) (λ z. w.buf-is)
+    let R : Chosen X c.loop-began.count c.if-e-eq-SET-2.j c.match-in_turn.buf c.if-e-eq-SET-2.at c.match-in_turn.next c.match-in_turn.x.place c.match-in_turn.x.«record»
+    (c.if-e-eq-SET-2.at + c.match-in_turn.x.from) = elim c.match-in_turn.branch [
+      place_members-in-Some-in_turn w ↦
+          let f = c.in_turn.ensures _ w.in-Some-in_turn.is in
+          rw (w.buf-is, w.next-is, w.x-is) (turned X _ C _ _ c.loop-began.invariant.ways (f.2 _) f.0 f.1)
+    | place_members-in-None+in-Ok+then-has_members w ↦
+          let F = rw (part_to_end c.args.m.now c.if-e-eq-SET-2.at, w.in-Ok.is) at w.search.ensures.1 in
+          let P = picked X _ C w.in-Ok.x _ w.search.ensures.0 F w.put_way-next.ensures.1 w.put_way-next.ensures.0 in
+          rw (w.next-is, w.x-is) (P.2 _ (λ z. w.buf-is ∙ w.put_absent-then-has_members.ensures) (λ z. absurd (true≢false (sym w.if-has_members.true ∙ w.has_members.ensures ∙ z))))
+    | place_members-in-None+in-Ok+else-has_members w ↦
+          let F = rw (part_to_end c.args.m.now c.if-e-eq-SET-2.at, w.in-Ok.is) at w.search.ensures.1 in
+          let P = picked X _ C w.in-Ok.x _ w.search.ensures.0 F w.put_way-next.ensures.1 w.put_way-next.ensures.0 in
+          rw (w.next-is, w.x-is) (P.2 _ (λ z. absurd (true≢false (sym z ∙ sym w.has_members.ensures ∙ w.if-has_members.false))) (λ z. w.buf-is))
     ] in
     let less : c.unpack-e.result.kind ≡ 17 → c.loop-began.j ≤ c.if-e-eq-SET-2.j = elim c.if-e-eq-SET-2.branch [
       | place_members-then-e-eq-SET-2+in-Some w ↦ λ z. let F = rw w.in-Some.is at w.following.ensures.0 in rw w.j-is F.least
@@ -453,18 +483,19 @@ place_members-loop-began-preserved t c =
       | place_members-else-e-eq-SET-2+else-not-holds_one w ↦
           rw (w.buf-is, w.at-is, w.j-is) (one_comes X L w.if-e-eq-SET-2.false _ w.holds_one.ensures w.if-not-holds_one.false)
     ] in
-    let F : (length c.match-in_turn.way' ≡ 128) × FindsPart X _ C c.match-in_turn.x c.match-in_turn.way' = elim c.match-in_turn.branch [
-      | place_members-in-Some-in_turn w ↦ rw (w.way'-is, w.x-is) (c.loop-began.invariant.ways, c.in_turn.ensures _ w.in-Some-in_turn.is _)
-      | place_members-in-None+in-Ok w ↦
-          rw (w.way'-is, w.x-is) (w.search.ensures.0, rw (part_to_end c.args.m.now c.if-e-eq-SET-2.at, w.in-Ok.is) at w.search.ensures.1)
-    ] in
-    let P = picked X _ C c.match-in_turn.x _ F.0 F.1 c.put_way-next.ensures.1 c.put_way-next.ensures.0 refl refl refl in
-    let R : Chosen X c.loop-began.count c.if-e-eq-SET-2.j c.if-has_members.buf c.if-e-eq-SET-2.at c.put_way-next.result c.match-in_turn.x.place c.match-in_turn.x.«record»
-    (c.if-e-eq-SET-2.at + c.match-in_turn.x.from) = elim c.if-has_members.branch [
-      | place_members-then-has_members w ↦
-          P.2 _ (λ z. w.buf-is ∙ w.put_absent-then-has_members.ensures) (λ z. absurd (true≢false (sym w.if-has_members.true ∙ c.has_members.ensures ∙ z)))
-      | place_members-else-has_members w ↦
-          P.2 _ (λ z. absurd (true≢false (sym z ∙ sym c.has_members.ensures ∙ w.if-has_members.false))) (λ z. w.buf-is)
+    let R : Chosen X c.loop-began.count c.if-e-eq-SET-2.j c.match-in_turn.buf c.if-e-eq-SET-2.at c.match-in_turn.next c.match-in_turn.x.place c.match-in_turn.x.«record»
+    (c.if-e-eq-SET-2.at + c.match-in_turn.x.from) = elim c.match-in_turn.branch [
+      place_members-in-Some-in_turn w ↦
+          let f = c.in_turn.ensures _ w.in-Some-in_turn.is in
+          rw (w.buf-is, w.next-is, w.x-is) (turned X _ C _ _ c.loop-began.invariant.ways (f.2 _) f.0 f.1)
+    | place_members-in-None+in-Ok+then-has_members w ↦
+          let F = rw (part_to_end c.args.m.now c.if-e-eq-SET-2.at, w.in-Ok.is) at w.search.ensures.1 in
+          let P = picked X _ C w.in-Ok.x _ w.search.ensures.0 F w.put_way-next.ensures.1 w.put_way-next.ensures.0 in
+          rw (w.next-is, w.x-is) (P.2 _ (λ z. w.buf-is ∙ w.put_absent-then-has_members.ensures) (λ z. absurd (true≢false (sym w.if-has_members.true ∙ w.has_members.ensures ∙ z))))
+    | place_members-in-None+in-Ok+else-has_members w ↦
+          let F = rw (part_to_end c.args.m.now c.if-e-eq-SET-2.at, w.in-Ok.is) at w.search.ensures.1 in
+          let P = picked X _ C w.in-Ok.x _ w.search.ensures.0 F w.put_way-next.ensures.1 w.put_way-next.ensures.0 in
+          rw (w.next-is, w.x-is) (P.2 _ (λ z. absurd (true≢false (sym z ∙ sym w.has_members.ensures ∙ w.if-has_members.false))) (λ z. w.buf-is))
     ] in
     record {
       ways = c.place_value-y.ensures.0;
