@@ -232,14 +232,14 @@ place_members-put_place-requires t c =
     ] in
     let R : Chosen X c.loop-began.count c.if-e-eq-SET-2.j c.match-in_turn.buf c.if-e-eq-SET-2.at c.match-in_turn.next c.match-in_turn.x.place c.match-in_turn.x.«record»
     (c.if-e-eq-SET-2.at + c.match-in_turn.x.from) = elim c.match-in_turn.branch [
-      place_members-in-Some-in_turn w ↦
+      | place_members-in-Some-in_turn w ↦
           let f = c.in_turn.ensures _ w.in-Some-in_turn.is in
           rw (w.buf-is, w.next-is, w.x-is) (turned X _ C _ _ c.loop-began.invariant.ways (f.2 _) f.0 f.1)
-    | place_members-in-None+in-Ok+then-has_members w ↦
+      | place_members-in-None+in-Ok+then-has_members w ↦
           let F = rw (part_to_end c.args.m.now c.if-e-eq-SET-2.at, w.in-Ok.is) at w.search.ensures.1 in
           let P = picked X _ C w.in-Ok.x _ w.search.ensures.0 F w.put_way-next.ensures.1 w.put_way-next.ensures.0 in
           rw (w.next-is, w.x-is) (P.2 _ (λ z. w.buf-is ∙ w.put_absent-then-has_members.ensures) (λ z. absurd (true≢false (sym w.if-has_members.true ∙ w.has_members.ensures ∙ z))))
-    | place_members-in-None+in-Ok+else-has_members w ↦
+      | place_members-in-None+in-Ok+else-has_members w ↦
           let F = rw (part_to_end c.args.m.now c.if-e-eq-SET-2.at, w.in-Ok.is) at w.search.ensures.1 in
           let P = picked X _ C w.in-Ok.x _ w.search.ensures.0 F w.put_way-next.ensures.1 w.put_way-next.ensures.0 in
           rw (w.next-is, w.x-is) (P.2 _ (λ z. absurd (true≢false (sym z ∙ sym w.has_members.ensures ∙ w.if-has_members.false))) (λ z. w.buf-is))
@@ -261,14 +261,14 @@ place_members-overflow_add-j t c =
     ] in
     let R : Chosen X c.loop-began.count c.if-e-eq-SET-2.j c.match-in_turn.buf c.if-e-eq-SET-2.at c.match-in_turn.next c.match-in_turn.x.place c.match-in_turn.x.«record»
     (c.if-e-eq-SET-2.at + c.match-in_turn.x.from) = elim c.match-in_turn.branch [
-      place_members-in-Some-in_turn w ↦
+      | place_members-in-Some-in_turn w ↦
           let f = c.in_turn.ensures _ w.in-Some-in_turn.is in
           rw (w.buf-is, w.next-is, w.x-is) (turned X _ C _ _ c.loop-began.invariant.ways (f.2 _) f.0 f.1)
-    | place_members-in-None+in-Ok+then-has_members w ↦
+      | place_members-in-None+in-Ok+then-has_members w ↦
           let F = rw (part_to_end c.args.m.now c.if-e-eq-SET-2.at, w.in-Ok.is) at w.search.ensures.1 in
           let P = picked X _ C w.in-Ok.x _ w.search.ensures.0 F w.put_way-next.ensures.1 w.put_way-next.ensures.0 in
           rw (w.next-is, w.x-is) (P.2 _ (λ z. w.buf-is ∙ w.put_absent-then-has_members.ensures) (λ z. absurd (true≢false (sym w.if-has_members.true ∙ w.has_members.ensures ∙ z))))
-    | place_members-in-None+in-Ok+else-has_members w ↦
+      | place_members-in-None+in-Ok+else-has_members w ↦
           let F = rw (part_to_end c.args.m.now c.if-e-eq-SET-2.at, w.in-Ok.is) at w.search.ensures.1 in
           let P = picked X _ C w.in-Ok.x _ w.search.ensures.0 F w.put_way-next.ensures.1 w.put_way-next.ensures.0 in
           rw (w.next-is, w.x-is) (P.2 _ (λ z. absurd (true≢false (sym z ∙ sym w.has_members.ensures ∙ w.if-has_members.false))) (λ z. w.buf-is))
@@ -290,14 +290,14 @@ place_members-offset_bounds-index-x t c =
     ] in
     let R : Chosen X c.loop-began.count c.if-e-eq-SET-2.j c.match-in_turn.buf c.if-e-eq-SET-2.at c.match-in_turn.next c.match-in_turn.x.place c.match-in_turn.x.«record»
     (c.if-e-eq-SET-2.at + c.match-in_turn.x.from) = elim c.match-in_turn.branch [
-      place_members-in-Some-in_turn w ↦
+      | place_members-in-Some-in_turn w ↦
           let f = c.in_turn.ensures _ w.in-Some-in_turn.is in
           rw (w.buf-is, w.next-is, w.x-is) (turned X _ C _ _ c.loop-began.invariant.ways (f.2 _) f.0 f.1)
-    | place_members-in-None+in-Ok+then-has_members w ↦
+      | place_members-in-None+in-Ok+then-has_members w ↦
           let F = rw (part_to_end c.args.m.now c.if-e-eq-SET-2.at, w.in-Ok.is) at w.search.ensures.1 in
           let P = picked X _ C w.in-Ok.x _ w.search.ensures.0 F w.put_way-next.ensures.1 w.put_way-next.ensures.0 in
           rw (w.next-is, w.x-is) (P.2 _ (λ z. w.buf-is ∙ w.put_absent-then-has_members.ensures) (λ z. absurd (true≢false (sym w.if-has_members.true ∙ w.has_members.ensures ∙ z))))
-    | place_members-in-None+in-Ok+else-has_members w ↦
+      | place_members-in-None+in-Ok+else-has_members w ↦
           let F = rw (part_to_end c.args.m.now c.if-e-eq-SET-2.at, w.in-Ok.is) at w.search.ensures.1 in
           let P = picked X _ C w.in-Ok.x _ w.search.ensures.0 F w.put_way-next.ensures.1 w.put_way-next.ensures.0 in
           rw (w.next-is, w.x-is) (P.2 _ (λ z. absurd (true≢false (sym z ∙ sym w.has_members.ensures ∙ w.if-has_members.false))) (λ z. w.buf-is))
@@ -319,14 +319,14 @@ place_members-bounds-index-x t c =
     ] in
     let R : Chosen X c.loop-began.count c.if-e-eq-SET-2.j c.match-in_turn.buf c.if-e-eq-SET-2.at c.match-in_turn.next c.match-in_turn.x.place c.match-in_turn.x.«record»
     (c.if-e-eq-SET-2.at + c.match-in_turn.x.from) = elim c.match-in_turn.branch [
-      place_members-in-Some-in_turn w ↦
+      | place_members-in-Some-in_turn w ↦
           let f = c.in_turn.ensures _ w.in-Some-in_turn.is in
           rw (w.buf-is, w.next-is, w.x-is) (turned X _ C _ _ c.loop-began.invariant.ways (f.2 _) f.0 f.1)
-    | place_members-in-None+in-Ok+then-has_members w ↦
+      | place_members-in-None+in-Ok+then-has_members w ↦
           let F = rw (part_to_end c.args.m.now c.if-e-eq-SET-2.at, w.in-Ok.is) at w.search.ensures.1 in
           let P = picked X _ C w.in-Ok.x _ w.search.ensures.0 F w.put_way-next.ensures.1 w.put_way-next.ensures.0 in
           rw (w.next-is, w.x-is) (P.2 _ (λ z. w.buf-is ∙ w.put_absent-then-has_members.ensures) (λ z. absurd (true≢false (sym w.if-has_members.true ∙ w.has_members.ensures ∙ z))))
-    | place_members-in-None+in-Ok+else-has_members w ↦
+      | place_members-in-None+in-Ok+else-has_members w ↦
           let F = rw (part_to_end c.args.m.now c.if-e-eq-SET-2.at, w.in-Ok.is) at w.search.ensures.1 in
           let P = picked X _ C w.in-Ok.x _ w.search.ensures.0 F w.put_way-next.ensures.1 w.put_way-next.ensures.0 in
           rw (w.next-is, w.x-is) (P.2 _ (λ z. absurd (true≢false (sym z ∙ sym w.has_members.ensures ∙ w.if-has_members.false))) (λ z. w.buf-is))
@@ -348,14 +348,14 @@ place_members-overflow_add-at t c =
     ] in
     let R : Chosen X c.loop-began.count c.if-e-eq-SET-2.j c.match-in_turn.buf c.if-e-eq-SET-2.at c.match-in_turn.next c.match-in_turn.x.place c.match-in_turn.x.«record»
     (c.if-e-eq-SET-2.at + c.match-in_turn.x.from) = elim c.match-in_turn.branch [
-      place_members-in-Some-in_turn w ↦
+      | place_members-in-Some-in_turn w ↦
           let f = c.in_turn.ensures _ w.in-Some-in_turn.is in
           rw (w.buf-is, w.next-is, w.x-is) (turned X _ C _ _ c.loop-began.invariant.ways (f.2 _) f.0 f.1)
-    | place_members-in-None+in-Ok+then-has_members w ↦
+      | place_members-in-None+in-Ok+then-has_members w ↦
           let F = rw (part_to_end c.args.m.now c.if-e-eq-SET-2.at, w.in-Ok.is) at w.search.ensures.1 in
           let P = picked X _ C w.in-Ok.x _ w.search.ensures.0 F w.put_way-next.ensures.1 w.put_way-next.ensures.0 in
           rw (w.next-is, w.x-is) (P.2 _ (λ z. w.buf-is ∙ w.put_absent-then-has_members.ensures) (λ z. absurd (true≢false (sym w.if-has_members.true ∙ w.has_members.ensures ∙ z))))
-    | place_members-in-None+in-Ok+else-has_members w ↦
+      | place_members-in-None+in-Ok+else-has_members w ↦
           let F = rw (part_to_end c.args.m.now c.if-e-eq-SET-2.at, w.in-Ok.is) at w.search.ensures.1 in
           let P = picked X _ C w.in-Ok.x _ w.search.ensures.0 F w.put_way-next.ensures.1 w.put_way-next.ensures.0 in
           rw (w.next-is, w.x-is) (P.2 _ (λ z. absurd (true≢false (sym z ∙ sym w.has_members.ensures ∙ w.if-has_members.false))) (λ z. w.buf-is))
@@ -377,22 +377,22 @@ place_members-place_value-y-requires t c =
     ] in
     let R : Chosen X c.loop-began.count c.if-e-eq-SET-2.j c.match-in_turn.buf c.if-e-eq-SET-2.at c.match-in_turn.next c.match-in_turn.x.place c.match-in_turn.x.«record»
     (c.if-e-eq-SET-2.at + c.match-in_turn.x.from) = elim c.match-in_turn.branch [
-      place_members-in-Some-in_turn w ↦
+      | place_members-in-Some-in_turn w ↦
           let f = c.in_turn.ensures _ w.in-Some-in_turn.is in
           rw (w.buf-is, w.next-is, w.x-is) (turned X _ C _ _ c.loop-began.invariant.ways (f.2 _) f.0 f.1)
-    | place_members-in-None+in-Ok+then-has_members w ↦
+      | place_members-in-None+in-Ok+then-has_members w ↦
           let F = rw (part_to_end c.args.m.now c.if-e-eq-SET-2.at, w.in-Ok.is) at w.search.ensures.1 in
           let P = picked X _ C w.in-Ok.x _ w.search.ensures.0 F w.put_way-next.ensures.1 w.put_way-next.ensures.0 in
           rw (w.next-is, w.x-is) (P.2 _ (λ z. w.buf-is ∙ w.put_absent-then-has_members.ensures) (λ z. absurd (true≢false (sym w.if-has_members.true ∙ w.has_members.ensures ∙ z))))
-    | place_members-in-None+in-Ok+else-has_members w ↦
+      | place_members-in-None+in-Ok+else-has_members w ↦
           let F = rw (part_to_end c.args.m.now c.if-e-eq-SET-2.at, w.in-Ok.is) at w.search.ensures.1 in
           let P = picked X _ C w.in-Ok.x _ w.search.ensures.0 F w.put_way-next.ensures.1 w.put_way-next.ensures.0 in
           rw (w.next-is, w.x-is) (P.2 _ (λ z. absurd (true≢false (sym z ∙ sym w.has_members.ensures ∙ w.if-has_members.false))) (λ z. w.buf-is))
     ] in
     let ways : length c.match-in_turn.way' ≡ 128 = elim c.match-in_turn.branch [
-      place_members-in-Some-in_turn w ↦ rw w.way'-is c.loop-began.invariant.ways
-    | place_members-in-None+in-Ok+then-has_members w ↦ rw w.way'-is w.search.ensures.0
-    | place_members-in-None+in-Ok+else-has_members w ↦ rw w.way'-is w.search.ensures.0
+      | place_members-in-Some-in_turn w ↦ rw w.way'-is c.loop-began.invariant.ways
+      | place_members-in-None+in-Ok+then-has_members w ↦ rw w.way'-is w.search.ensures.0
+      | place_members-in-None+in-Ok+else-has_members w ↦ rw w.way'-is w.search.ensures.0
     ] in
     (omega (arith, c.decreases), chosen_asks X _ R c.put_place.ensures _ ways)
 
@@ -417,14 +417,14 @@ place_members-returns-then-holds_one t c =
     ] in
     let R : Chosen X c.loop-began.count c.if-e-eq-SET-2.j c.match-in_turn.buf c.if-e-eq-SET-2.at c.match-in_turn.next c.match-in_turn.x.place c.match-in_turn.x.«record»
     (c.if-e-eq-SET-2.at + c.match-in_turn.x.from) = elim c.match-in_turn.branch [
-      place_members-in-Some-in_turn w ↦
+      | place_members-in-Some-in_turn w ↦
           let f = c.in_turn.ensures _ w.in-Some-in_turn.is in
           rw (w.buf-is, w.next-is, w.x-is) (turned X _ C _ _ c.loop-began.invariant.ways (f.2 _) f.0 f.1)
-    | place_members-in-None+in-Ok+then-has_members w ↦
+      | place_members-in-None+in-Ok+then-has_members w ↦
           let F = rw (part_to_end c.args.m.now c.if-e-eq-SET-2.at, w.in-Ok.is) at w.search.ensures.1 in
           let P = picked X _ C w.in-Ok.x _ w.search.ensures.0 F w.put_way-next.ensures.1 w.put_way-next.ensures.0 in
           rw (w.next-is, w.x-is) (P.2 _ (λ z. w.buf-is ∙ w.put_absent-then-has_members.ensures) (λ z. absurd (true≢false (sym w.if-has_members.true ∙ w.has_members.ensures ∙ z))))
-    | place_members-in-None+in-Ok+else-has_members w ↦
+      | place_members-in-None+in-Ok+else-has_members w ↦
           let F = rw (part_to_end c.args.m.now c.if-e-eq-SET-2.at, w.in-Ok.is) at w.search.ensures.1 in
           let P = picked X _ C w.in-Ok.x _ w.search.ensures.0 F w.put_way-next.ensures.1 w.put_way-next.ensures.0 in
           rw (w.next-is, w.x-is) (P.2 _ (λ z. absurd (true≢false (sym z ∙ sym w.has_members.ensures ∙ w.if-has_members.false))) (λ z. w.buf-is))
@@ -446,14 +446,14 @@ place_members-loop-began-smaller t c =
     ] in
     let R : Chosen X c.loop-began.count c.if-e-eq-SET-2.j c.match-in_turn.buf c.if-e-eq-SET-2.at c.match-in_turn.next c.match-in_turn.x.place c.match-in_turn.x.«record»
     (c.if-e-eq-SET-2.at + c.match-in_turn.x.from) = elim c.match-in_turn.branch [
-      place_members-in-Some-in_turn w ↦
+      | place_members-in-Some-in_turn w ↦
           let f = c.in_turn.ensures _ w.in-Some-in_turn.is in
           rw (w.buf-is, w.next-is, w.x-is) (turned X _ C _ _ c.loop-began.invariant.ways (f.2 _) f.0 f.1)
-    | place_members-in-None+in-Ok+then-has_members w ↦
+      | place_members-in-None+in-Ok+then-has_members w ↦
           let F = rw (part_to_end c.args.m.now c.if-e-eq-SET-2.at, w.in-Ok.is) at w.search.ensures.1 in
           let P = picked X _ C w.in-Ok.x _ w.search.ensures.0 F w.put_way-next.ensures.1 w.put_way-next.ensures.0 in
           rw (w.next-is, w.x-is) (P.2 _ (λ z. w.buf-is ∙ w.put_absent-then-has_members.ensures) (λ z. absurd (true≢false (sym w.if-has_members.true ∙ w.has_members.ensures ∙ z))))
-    | place_members-in-None+in-Ok+else-has_members w ↦
+      | place_members-in-None+in-Ok+else-has_members w ↦
           let F = rw (part_to_end c.args.m.now c.if-e-eq-SET-2.at, w.in-Ok.is) at w.search.ensures.1 in
           let P = picked X _ C w.in-Ok.x _ w.search.ensures.0 F w.put_way-next.ensures.1 w.put_way-next.ensures.0 in
           rw (w.next-is, w.x-is) (P.2 _ (λ z. absurd (true≢false (sym z ∙ sym w.has_members.ensures ∙ w.if-has_members.false))) (λ z. w.buf-is))
@@ -485,14 +485,14 @@ place_members-loop-began-preserved t c =
     ] in
     let R : Chosen X c.loop-began.count c.if-e-eq-SET-2.j c.match-in_turn.buf c.if-e-eq-SET-2.at c.match-in_turn.next c.match-in_turn.x.place c.match-in_turn.x.«record»
     (c.if-e-eq-SET-2.at + c.match-in_turn.x.from) = elim c.match-in_turn.branch [
-      place_members-in-Some-in_turn w ↦
+      | place_members-in-Some-in_turn w ↦
           let f = c.in_turn.ensures _ w.in-Some-in_turn.is in
           rw (w.buf-is, w.next-is, w.x-is) (turned X _ C _ _ c.loop-began.invariant.ways (f.2 _) f.0 f.1)
-    | place_members-in-None+in-Ok+then-has_members w ↦
+      | place_members-in-None+in-Ok+then-has_members w ↦
           let F = rw (part_to_end c.args.m.now c.if-e-eq-SET-2.at, w.in-Ok.is) at w.search.ensures.1 in
           let P = picked X _ C w.in-Ok.x _ w.search.ensures.0 F w.put_way-next.ensures.1 w.put_way-next.ensures.0 in
           rw (w.next-is, w.x-is) (P.2 _ (λ z. w.buf-is ∙ w.put_absent-then-has_members.ensures) (λ z. absurd (true≢false (sym w.if-has_members.true ∙ w.has_members.ensures ∙ z))))
-    | place_members-in-None+in-Ok+else-has_members w ↦
+      | place_members-in-None+in-Ok+else-has_members w ↦
           let F = rw (part_to_end c.args.m.now c.if-e-eq-SET-2.at, w.in-Ok.is) at w.search.ensures.1 in
           let P = picked X _ C w.in-Ok.x _ w.search.ensures.0 F w.put_way-next.ensures.1 w.put_way-next.ensures.0 in
           rw (w.next-is, w.x-is) (P.2 _ (λ z. absurd (true≢false (sym z ∙ sym w.has_members.ensures ∙ w.if-has_members.false))) (λ z. w.buf-is))
