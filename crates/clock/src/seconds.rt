@@ -1,6 +1,5 @@
 // Days, seconds and the order of times (FORMATS, "Times"). No step grows with the year.
-ghost use Rattle.std.specs.Prelude.{◌≡◌, ◌<◌, ltb, pos, negsuc};
-ghost use Rattle.octets.specs.Tests.{if};
+ghost use Rattle.std.specs.Prelude.{◌≡◌, ◌<◌};
 ghost use Rattle.dates.specs.Calendar.{month_days};
 ghost use Rattle.dates.specs.Seconds.{sum, year_days, day_number, seconds_of, elapsed as Seconds·elapsed, order as Seconds·order};
 

@@ -8,7 +8,7 @@ pub enum TimeKind {
     Generalized,
 }
 
-// A date and a time of day.
+// A date and a time of day. Its fields stand in the order in which times are compared.
 #[derive(Clone, Copy, Debug, PartialEq, Eq, PartialOrd, Ord)]
 pub struct DateTime {
     pub year: u16,

@@ -3,16 +3,15 @@ ghost use Rattle.std.specs.Prelude.{◌≡◌, ◌<◌, ◌≤◌, ◌+◌, ◌-
 ghost use Rattle.table.specs.Syntax.{Record};
 ghost use Rattle.table.specs.Reading.{body_at};
 ghost use Rattle.records.specs.Entries.{Entered};
-ghost use Rattle.reader.specs.Weights.{weight, size_by};
+ghost use Rattle.reader.specs.Weights.{size_by};
 ghost use Rattle.std.proofs.lemmas.List.Edits.{sets};
 ghost use Rattle.octets.specs.Numbers.{octets_of, unless_zero};
 ghost use Rattle.x690.specs.Integer.{integer_of, eight_of};
 ghost use Rattle.x690.specs.BitString.{masked};
 ghost use Rattle.x690.specs.Time.{time_of, is_time};
 ghost use Rattle.dates.specs.Own.{time_octets};
-ghost use Rattle.table.specs.Syntax.{Time};
 ghost use Rattle.coding.specs.Value.{leaf_octets, flag};
-ghost use Rattle.coding.specs.Reading.{natural, decode};
+ghost use Rattle.coding.specs.Reading.{natural};
 ghost use Rattle.reader.specs.Answers.{told};
 ghost use Rattle.reader.specs.Leaves.{leaf_of, Lawful, is_in_segments, read_leaf_in, leaf_size, ToPlaceLeaf, LeafPlaced};
 

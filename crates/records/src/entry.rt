@@ -1,6 +1,6 @@
 // The entries of a table's index, one number a record: what is looked up of a record, and the places in the table to which it leads
 // (FORMATS, "Tables"). Every function is total.
-ghost use Rattle.std.specs.Prelude.{◌≡◌, true, false, not, ◌&&◌, ◌||◌, ◌<◌, ◌+◌, ◌-◌, ◌*◌, ◌^◌, eqb, leb, ltb, length, get_or};
+ghost use Rattle.std.specs.Prelude.{◌≡◌, true, false, not, ◌&&◌, ◌||◌, ◌<◌, ◌+◌, ◌-◌, ◌*◌, ◌%◌, ◌^◌, eqb, leb, ltb, length, get_or};
 ghost use Rattle.octets.specs.Numbers.{two};
 ghost use Rattle.ber.specs.Codes.{code};
 ghost use Rattle.table.specs.Reading.{numbers_at};
@@ -145,10 +145,11 @@ pub fn parts(table: &[u8], e: Entry) -> Span
     }
 }
 
-// The record number of the j-th part, whose place does not wrap; 0 for a place after the table.
+// The record number of the j-th part; after the table 0. A place that is too large for a number wraps.
 pub fn part(table: &[u8], s: Span, j: usize) -> usize
     ensures { (s.first + s.step * j < 2 ^ 64 → result ≡ get_or table.now (s.first + s.step * j) 0)
-        × (result < 256) }
+        × (result < 256)
+        × (result ≡ get_or table.now ((s.first + s.step * j) % 2 ^ 64) 0) }
 {
     octet(table, s.first.wrapping_add(s.step.wrapping_mul(j)))
 }

@@ -80,7 +80,7 @@ fn clear(v: &[u8], p: usize, e: usize, n: usize) -> bool
     v[last] % unit == 0
 }
 
-// A BOOLEAN that is shaped, and so on for each kind.
+// Each of these answers for the leaf of its kind, if it is shaped.
 fn boolean(v: &[u8], p: usize) -> Option<Extent>
     requires { p < 20000 }
     ensures { MeasuresSome 1 v.now p result }

@@ -22,7 +22,7 @@ loop-i-preserved c =
     let q = rw c.unpack-e.ensures at c.tag_count-i.ensures.0 in (
       c.grow-total.ensures.1,
       rw c.grow-total.ensures.0 (framed_turn a.table.now o (unpacked a.w) c.requires.0 _ c.loop-i.i a.j _ _ _ (omega arith) (omega arith)
-      c.loop-i.invariant.1 (rw c.unpack-e.ensures at c.tag_code.ensures) c.header_size-head.ensures),
+          c.loop-i.invariant.1 (rw c.unpack-e.ensures at c.tag_code.ensures) c.header_size-head.ensures),
     )
 
 pub returns : goal.returns

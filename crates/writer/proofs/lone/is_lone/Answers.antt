@@ -10,7 +10,6 @@ returns-then-v-gt-LONGEST_VALUE c = lone_long c.args.v.now c.if-v-gt-LONGEST_VAL
 pub returns-then-not-marked : goal.returns-then-not-marked
 returns-then-not-marked c = lone_unmarked c.args.v.now c.if-v-gt-LONGEST_VALUE.false _ c.marked.ensures c.if-not-marked.true
 
-
 pub returns-in_default : goal.returns-in_default
 returns-in_default c =
     lone_unshaped c.args.v.now c.if-v-gt-LONGEST_VALUE.false (c.marked.ensures.yes c.if-not-marked.false)
