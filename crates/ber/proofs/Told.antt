@@ -50,9 +50,6 @@ pub record Following (m : List ℕ) (i n : ℕ) : Type 0 where
   pub spells : (ds : List ℕ) → spelled 0 (hand ++ ds) ≡ spelled n ds
   pub starts : get_or (hand ++ (get_or m i 0 ∷ [])) 0 0 ≡ get_or m 1 0
 
-pub follow_none : (m : List ℕ) → Following m 1 0
-follow_none m = record { hand = []; whole = λ l. refl; spells = λ ds. refl; starts = refl }
-
 head_keeps : (ds : List ℕ) (d : ℕ) (xs : List ℕ) → get_or ((ds ++ (d ∷ [])) ++ xs) 0 0 ≡ get_or (ds ++ (d ∷ [])) 0 0
 head_keeps [] d xs = refl
 head_keeps (x ∷ ds) d xs = refl

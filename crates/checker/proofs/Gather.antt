@@ -137,11 +137,6 @@ pub record Gathers (b index nodes flags : List ℕ) (t : ℕ) : Type 0 where
   pub marks : length flags ≡ 129
   pub there : t < count_in b
 
-pub gathers_from : {b index nodes : List ℕ} {n : ℕ} → Filled b index n → StandIns (table_in b) n nodes → Named (table_in b) n → {v : List ℕ} {t : ℕ}
-    → length v ≡ 129 → t < n → Gathers b index nodes v t
-gathers_from x r m l h =
-    record { filled = rw x.count at x; ready = rw x.count at r; named = rw x.count at m; marks = l; there = rw x.count at h }
-
 -- what a walk from t needs, in the code's hands
 module _ {b index nodes v : List ℕ} {t : ℕ} (x : Gathers b index nodes v t) where
   pub stand_in : get_or nodes t 0 ≡ like (table_in b) t

@@ -22,6 +22,3 @@ pub sets_later : (vs ws b : List ℕ) (i j : ℕ) → i + length vs ≤ j → se
 sets_later [] ws b i j h = refl
 sets_later (v ∷ vs) ws b i j h =
     ap (λ (d : List ℕ). sets d (suc i) vs) (set_sets ws b i j v (omega arith)) ∙ sets_later vs ws (set b i v) (suc i) j (omega arith)
-
-pub two : (n : ℕ) → n + 2 ≡ suc (suc n)
-two n = omega arith

@@ -18,10 +18,6 @@ module _ (a m r : ℕ) (h : r < m) where
   lower : (a * m + r) % m ≡ r
   lower = mul-add-mod_self_right a m r ∙ mod-eq_of_lt h
 
-pub high_octet_below : (s : Bool) (x : ℕ) → x < 128 → high_octet s x < 256
-high_octet_below true x h = omega arith
-high_octet_below false x h = omega arith
-
 high_explicit : (s : Bool) (x : ℕ) → x < 128 → high_octet s x % 128 ≡ x
 high_explicit true x h = omega arith
 high_explicit false x h = omega arith

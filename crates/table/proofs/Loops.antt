@@ -56,13 +56,6 @@ module _ (b : List ℕ) (low p n : ℕ) (w : Bool) where
   unfolding numbers_at rising
   rising_ends e h = let q : n ≡ 0 = omega arith in rw q at e
 
--- a product that does not wrap
-pub few_times : (s n : ℕ) → s < 3 → n < 256 → s * n < 600
-few_times zero n h g = omega arith
-few_times (suc zero) n h g = omega arith
-few_times (suc (suc zero)) n h g = omega arith
-few_times (suc (suc (suc s))) n h g = absurd (omega arith)
-
 -- an element that is there has no default
 pub get_d_there : (l : List ℕ) (i d e : ℕ) → i < length l → get_or l i d ≡ get_or l i e
 get_d_there [] i d e h = absurd (omega arith)
