@@ -161,6 +161,9 @@ module _ {b index : List ℕ} {w : ℕ} {came : List ℕ} {e : Entry} {s : Span}
   pub near : (k : ℕ) → k < s.count → s.first + s.step * k < 8192
   near = spanned.near
 
+  pub within : (k : ℕ) → k < s.count → s.first + s.step * k < length b
+  within = spanned.inside
+
   is_turn : e.kind ≡ 16 → manner H ≡ in_turn
   is_turn q = turn_is (manner H) (sym (entry_of D.sound.ready w D.sound.known).sequence ∙ eq-eqb (unpacked w).kind 16 (sym kind_is ∙ q))
 

@@ -268,7 +268,7 @@ pub fn in_turn(
         × ((way : List ℕ) → let h = held table.now w in Sought table.now h (since (manner h) j) came.now (drop at m.now) way (Ok x)) }
 {
     if j < s.count && came[j] == 0 {
-        let record = part(table, s, j);
+        let record = table[s.first + s.step * j] as usize;
         if first(index[record]) == m[at] as u32 {
             return Some(Choice {
                 place: j,

@@ -1,7 +1,7 @@
 -- `reader::search::in_turn` meets its contract.
 -- Assumes nothing.
 use Rattle.std.proofs.Common.{refl, arith}
-use Rattle.reader.proofs.Searching.{parted, few, near, type_low}
+use Rattle.reader.proofs.Searching.{parted, few, near, within, type_low}
 use Rattle.reader.proofs.ItemsFound.{turn_fits}
 use Rattle.reader.proofs.search.in_turn.Goals as goal
 
@@ -11,14 +11,21 @@ offset_bounds-came-j c = omega (arith, few (parted c.requires.0 refl c.requires.
 pub bounds-came-j : goal.bounds-came-j
 bounds-came-j c = omega (arith, few (parted c.requires.0 refl c.requires.1))
 
+pub overflow_mul-record : goal.overflow_mul-record
+overflow_mul-record c = omega (arith, near (parted c.requires.0 refl c.requires.1) _ c.if-j-s.true)
+
+pub overflow_add-record : goal.overflow_add-record
+overflow_add-record c = omega (arith, near (parted c.requires.0 refl c.requires.1) _ c.if-j-s.true)
+
+pub bounds-table-s : goal.bounds-table-s
+bounds-table-s c = within (parted c.requires.0 refl c.requires.1) _ c.if-j-s.true
+
 pub bounds-index-record : goal.bounds-index-record
 bounds-index-record c =
     let D = parted c.requires.0 refl c.requires.1 in
-    let t = c.part-record.ensures.0 (omega (arith, near D _ c.if-j-s.true)) in
-    omega (arith, type_low D _ c.if-j-s.true _ t, c.requires.0.ready.passes.few)
+    omega (arith, type_low D _ c.if-j-s.true _ refl, c.requires.0.ready.passes.few)
 
 pub returns-then-first-m : goal.returns-then-first-m
 returns-then-first-m c =
     let D = parted c.requires.0 refl c.requires.1 in
-    let t = c.part-record.ensures.0 (omega (arith, near D _ c.if-j-s.true)) in
-    turn_fits D c.args.m.now (λ k. omega (arith, c.type_inv.m k)) c.args.at c.requires.2 _ c.if-j-s.true c.if-came-j-eq0.true _ _ t c.first.ensures c.if-first-m.true
+    turn_fits D c.args.m.now (λ k. omega (arith, c.type_inv.m k)) c.args.at c.requires.2 _ c.if-j-s.true c.if-came-j-eq0.true _ _ refl c.first.ensures c.if-first-m.true
